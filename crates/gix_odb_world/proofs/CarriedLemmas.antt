@@ -1,108 +1,111 @@
--- The code of a turn carries out what the work asks for: a call of the disk, or a core for its store.
-use Rattle.std.proofs.Common.{◌≡◌, ℕ, ◌+◌, true, false, List, [], ◌∷◌, ◌++◌, length, min, Option, Some, None, refl, sym, ap, ◌∙◌}
+-- The code of a turn carries out what the work asks for: a call of the disk, an event of a core, or a core for its store.
+use Rattle.std.proofs.Common.{◌≡◌, ℕ, ◌+◌, true, false, List, [], ◌∷◌, ◌++◌, length, Option, Some, None, refl, sym, ap, ◌∙◌}
 use Rattle.std.specs.Prelude.{if◌then◌else◌}
 use Rattle.odb_base.specs.Path.{Path}
 use Rattle.odb_tree.specs.Tree.{tree_of}
 use Rattle.odb_tree.specs.declared.change.Change.{Change}
 use Rattle.odb_disk.specs.MemDisk.{Volume}
-use Rattle.odb_disk.specs.Ask.{change_of_ask}
+use Rattle.odb_disk.specs.Ask.{after_ask, answer_now, change_of_ask}
 use Rattle.odb_disk.specs.declared.ask.DiskAsk.{DiskAsk}
-use Rattle.gix_odb.specs.OpenOrder.{most_slots}
+use Rattle.gix_odb.specs.OpenOrder as openings
 use Rattle.gix_odb.specs.declared.handle_state.HandleState.{HandleState}
 use Rattle.gix_odb_core.specs.History.{History}
 use Rattle.gix_odb_core.specs.declared.view.View.{View}
-use Rattle.gix_odb_world.specs.declared.record.Did.{Did}
+use Rattle.gix_odb_packs.specs.declared.answer.Answer.TheVariants as told
+use Rattle.gix_odb_packs.specs.declared.answer.PartAsk.{PartAsk}
+use Rattle.gix_odb_packs.specs.declared.answer.PartAsk.TheVariants as asks
+use Rattle.gix_odb_world.specs.declared.record.Did.TheVariants as done
+use Rattle.gix_odb_world.specs.declared.turn.Carried.{Carried}
 use Rattle.gix_odb_world.specs.declared.work.Work.{Work}
+use Rattle.gix_odb_world.specs.declared.work.Work.TheVariants.{Opening, Calling}
 use Rattle.gix_odb_world.specs.Cores.{cores_after_asked, or_before}
-use Rattle.gix_odb_world.specs.Event.{Ask, ToNewCore, answered, to_disk}
+use Rattle.gix_odb_world.specs.Event.{Ask, CoreAnswer, CoreEvent, OfCore, ToCore, ToDisk, ToNewCore, answered, part_asked}
 use Rattle.gix_odb_world.specs.Recorded.{opened_in}
 use Rattle.gix_odb_world.specs.Run.{Stand, change_asked, did_of_asked, disk_after_asked, stand, told_now}
-use Rattle.gix_odb_world.specs.Table.{AddsCore, Carries, carried_at, change_now, did_now, disk_now, state_after, told_in, work_now}
-use Rattle.gix_odb_world.specs.WorkOrder.{ask_on, asks_on, fed_after, registers_in}
+use Rattle.gix_odb_world.specs.Table.{AddsCore, Carries, CarriesEvent, carried_at, carried_unasked, change_now, did_now, own_answer, state_after, told_in}
+use Rattle.gix_odb_world.specs.WorkOrder.{ask_on, asks_on, fed_after, fed_on, registered_on, registers_in}
 use Rattle.gix_odb_world.proofs.FailedLemmas.{has_failed-now}
 use Rattle.gix_odb_world.proofs.WriteAsk.Quiet.{after_ask-change}
 
--- ---- a call of the disk
-
-module _ (at : Stand) (disk : Volume) where
-  did_now-told : (opened : Option Path) (ask : Option DiskAsk) → did_now opened disk ask ≡ did_of_asked opened at.cores (told_now at disk (to_disk ask))
-  did_now-told opened None = refl
-  did_now-told opened (Some ask) = refl
-
-  work_now-fed : (state : HandleState) (work : Work) (ask : Option DiskAsk) → work_now disk state work ask ≡ fed_after state work (answered (told_now at disk (to_disk ask)))
-  work_now-fed state work None = refl
-  work_now-fed state work (Some ask) = refl
-
-  change_now-asked : (ask : Option DiskAsk) → change_now disk ask ≡ change_asked disk (to_disk ask)
-  change_now-asked None = refl
-  change_now-asked (Some ask) = ap (λ b. if b then None else change_of_ask (tree_of disk.state) ask) (has_failed-now disk ask)
-
-  disk_now-asked : (ask : Option DiskAsk) → disk_now disk ask ≡ disk_after_asked disk (told_now at disk (to_disk ask)) (change_asked disk (to_disk ask))
-  disk_now-asked None = refl
-  disk_now-asked (Some ask) = after_ask-change disk ask
-
-  state_same : (state : HandleState) (ask : Option DiskAsk) → state ≡ state_after (told_now at disk (to_disk ask)) state
-  state_same state None = refl
-  state_same state (Some ask) = refl
-
-  cores_same : (ask : Option DiskAsk) → at.cores ≡ cores_after_asked at.cores (told_now at disk (to_disk ask))
-  cores_same None = refl
-  cores_same (Some ask) = refl
-
--- the same of any work that asks so
-carries_ask : (disk disk_then : Volume) (cores : List History) (seat : ℕ) (state : HandleState) (work left : Work) (did : Did) (change : Option Change)
-    → (ask : Option Ask) → ask ≡ asks_on state work → to_disk (ask_on state work) ≡ ask
-    → did ≡ did_now (opened_in work) disk (ask_on state work) → change ≡ change_now disk (ask_on state work)
-    → left ≡ work_now disk state work (ask_on state work) → disk_then ≡ disk_now disk (ask_on state work)
-    → Carries disk disk_then cores cores state work (told_in cores disk seat state work) (record { did = did; change = change; state = state; work = left })
-carries_ask disk disk_then cores seat state work left did change ask own call did_is change_is left_is disk_is =
-    let at : Stand = stand cores state.core seat in
-    let same : to_disk (ask_on state work) ≡ asks_on state work = call ∙ own in
-    record {
-      did = did_is ∙ (did_now-told at disk (opened_in work) (ask_on state work) ∙ ap (λ a. did_of_asked (opened_in work) cores (told_now at disk a)) same);
-      change = change_is ∙ (change_now-asked at disk (ask_on state work) ∙ ap (change_asked disk) same);
-      state_is = state_same at disk state (ask_on state work) ∙ ap (λ a. state_after (told_now at disk a) state) same;
-      work_is = left_is ∙ (work_now-fed at disk state work (ask_on state work) ∙ ap (λ a. fed_after state work (answered (told_now at disk a))) same);
-      disk_is = disk_is ∙ (disk_now-asked at disk (ask_on state work) ∙ ap (λ a. disk_after_asked disk (told_now at disk a) (change_asked disk a)) same);
-      cores_are = cores_same at disk (ask_on state work) ∙ ap (λ a. cores_after_asked cores (told_now at disk a)) same;
-    }
-
--- work that registers nobody asks for its call of the disk
-pub carries_call : (disk disk_then : Volume) (state : HandleState) (work left : Work) (did : Did) (change : Option Change) → registers_in work ≡ false
-    → did ≡ did_now (opened_in work) disk (ask_on state work) → change ≡ change_now disk (ask_on state work)
-    → left ≡ work_now disk state work (ask_on state work) → disk_then ≡ disk_now disk (ask_on state work)
-    → (cores : List History) (seat : ℕ)
-    → Carries disk disk_then cores cores state work (told_in cores disk seat state work) (record { did = did; change = change; state = state; work = left })
-carries_call disk disk_then state work left did change other did_is change_is left_is disk_is cores seat =
-    carries_ask disk disk_then cores seat state work left did change (to_disk (ask_on state work))
-    (sym (ap (λ b. if b then Some (ToNewCore (min state.store.value.slots most_slots) (length state.store.value.folders + 1)) else to_disk (ask_on state work)) other))
-    refl did_is change_is left_is disk_is
-
--- ---- a core
-
--- what work that registers its handle asks for
+-- what work asks for that has a core made
 abbrev core_asked : HandleState → Option Ask
-core_asked state = Some (ToNewCore (min state.store.value.slots most_slots) (length state.store.value.folders + 1))
+core_asked state = Some (ToNewCore state.store.value.slots (length state.store.value.folders + 1))
 
 asks_core : (state : HandleState) (work : Work) → registers_in work ≡ true → asks_on state work ≡ core_asked state
-asks_core state work is = ap (λ b. if b then core_asked state else to_disk (ask_on state work)) is
+asks_core state work is = ap (λ b. if b then core_asked state else part_asked (ask_on state work)) is
 
-pub carries_core : (disk : Volume) (cores cores_then : List History) (seat : ℕ) (state : HandleState) (work : Work) (view : View) → registers_in work ≡ true
-    → AddsCore cores cores_then seat state view
-    → Carries disk disk cores cores_then state work (told_in cores disk seat state work) (carried_at state work (length cores) view)
-carries_core disk cores cores_then seat state work view is adds =
-    let at : Stand = stand cores state.core seat in
-    let same : core_asked state ≡ asks_on state work = sym (asks_core state work is) in
-    let shown : or_before (Some view) state.view ≡ Some view = refl in
-    record {
-      did = ap (λ a. did_of_asked (opened_in work) cores (told_now at disk a)) same;
-      change = ap (change_asked disk) same;
-      state_is =
-          ap (λ v. record state { core = length cores; view = or_before v state.view }) (sym adds.made.view_is)
-          ∙ ap (λ a. state_after (told_now at disk a) state) same;
-      work_is = ap (λ a. fed_after state work (answered (told_now at disk a))) same;
-      disk_is = ap (λ a. disk_after_asked disk (told_now at disk a) (change_asked disk a)) same;
-      cores_are =
-          adds.cores_are ∙ (ap (λ c. cores ++ c ∷ []) adds.made.core_is
-          ∙ ap (λ a. cores_after_asked cores (told_now at disk a)) same);
-    }
+-- and other work asks for its call of the disk, or its event of a core
+pub asks_part : (state : HandleState) (work : Work) (ask : Option PartAsk) → registers_in work ≡ false → ask_on state work ≡ ask → part_asked ask ≡ asks_on state work
+asks_part state work ask other is =
+    sym (ap (λ b. if b then core_asked state else part_asked (ask_on state work)) other ∙ ap part_asked is)
+
+module _ (disk : Volume) (cores : List History) (seat : ℕ) (state : HandleState) (work : Work) where
+  abbrev at : Stand
+  at = stand cores state.core seat
+
+  -- what is told of something that is asked for
+  abbrev IsCarried : Volume → List History → Carried → Type 0
+  IsCarried disk_then cores_then done = Carries disk disk_then cores cores_then state work (told_in cores disk seat state work) done
+
+  carries_by : (disk_then : Volume) (cores_then : List History) (done : Carried) (ask : Option Ask) → ask ≡ asks_on state work
+      → done.did ≡ did_of_asked (opened_in work) cores (told_now at disk ask)
+      → done.change ≡ change_asked disk ask
+      → done.state ≡ state_after (told_now at disk ask) state
+      → done.work ≡ fed_after state work (answered (told_now at disk ask))
+      → disk_then ≡ disk_after_asked disk (told_now at disk ask) (change_asked disk ask)
+      → cores_then ≡ cores_after_asked cores (told_now at disk ask)
+      → IsCarried disk_then cores_then done
+  carries_by disk_then cores_then done ask same did_is change_is state_is work_is disk_is cores_are = record {
+    did = did_is ∙ ap (λ a. did_of_asked (opened_in work) cores (told_now at disk a)) same;
+    change = change_is ∙ ap (change_asked disk) same;
+    state_is = state_is ∙ ap (λ a. state_after (told_now at disk a) state) same;
+    work_is = work_is ∙ ap (λ a. fed_after state work (answered (told_now at disk a))) same;
+    disk_is = disk_is ∙ ap (λ a. disk_after_asked disk (told_now at disk a) (change_asked disk a)) same;
+    cores_are = cores_are ∙ ap (λ a. cores_after_asked cores (told_now at disk a)) same;
+  }
+
+  -- ---- nothing
+
+  pub carries_nothing : registers_in work ≡ false → ask_on state work ≡ None → IsCarried disk cores (carried_unasked state work)
+  carries_nothing other is = carries_by disk cores (carried_unasked state work) None (asks_part state work None other is) refl refl refl refl refl refl
+
+  -- ---- a call of the disk
+
+  change_of_call : (ask : DiskAsk) → change_now disk ask ≡ change_asked disk (Some (ToDisk ask))
+  change_of_call ask = ap (λ b. if b then None else change_of_ask (tree_of disk.state) ask) (has_failed-now disk ask)
+
+  pub carries_call : registers_in work ≡ false → (ask : DiskAsk) → ask_on state work ≡ Some (asks.Disk ask) → (disk_then : Volume) (done : Carried)
+      → done.did ≡ did_now (opened_in work) disk ask → done.change ≡ change_now disk ask → done.state ≡ state
+      → done.work ≡ fed_on state work (told.Disk (answer_now disk ask))
+      → disk_then ≡ after_ask disk ask
+      → IsCarried disk_then cores done
+  carries_call other ask is disk_then done did_is change_is state_is work_is disk_is =
+      carries_by disk_then cores done (Some (ToDisk ask)) (asks_part state work (Some (asks.Disk ask)) other is)
+      did_is (change_is ∙ change_of_call ask) state_is work_is (disk_is ∙ after_ask-change disk ask) refl
+
+  -- ---- an event of a core
+
+  pub carries_event : registers_in work ≡ false → (event : CoreEvent) → ask_on state work ≡ Some (asks.Core event) → (cores_then : List History) (done : Carried)
+      → CarriesEvent cores seat state work event done
+      → cores_then ≡ cores_after_asked cores (OfCore state.core seat event (own_answer cores seat state event))
+      → IsCarried disk cores_then done
+  carries_event other event is cores_then done carried cores_are =
+      carries_by disk cores_then done (Some (ToCore event)) (asks_part state work (Some (asks.Core event)) other is)
+      carried.did carried.change carried.state_is carried.work_is refl cores_are
+
+  -- ---- a core
+
+  -- work that has a core made goes on as an opening does
+  registered_fed : (work : Work) → registers_in work ≡ true → (answer : CoreAnswer) → registered_on state work ≡ fed_on state work (told.Core answer)
+  registered_fed (Opening opening) is answer = refl
+  registered_fed (Calling call) is answer = absurd (cc is)
+
+  pub carries_core : registers_in work ≡ true → (cores_then : List History) (view : View) → AddsCore cores cores_then seat state view
+      → IsCarried disk cores_then (carried_at state work (length cores) view)
+  carries_core is cores_then view adds =
+      carries_by disk cores_then (carried_at state work (length cores) view) (core_asked state) (sym (asks_core state work is))
+      refl refl
+      (ap (λ v. record state { core = length cores; view = or_before v state.view }) (sym adds.made.view_is))
+      (registered_fed work is _)
+      refl
+      (adds.cores_are ∙ ap (λ c. cores ++ c ∷ []) adds.made.core_is)

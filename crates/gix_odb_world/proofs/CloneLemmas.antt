@@ -1,5 +1,5 @@
 -- The clone of an idle handle.
-use Rattle.std.proofs.Common.{◌≡◌, ℕ, false, List, [], ◌∷◌, ◌++◌, Some, None, Option, Vec, Global, refl, sym, ◌∙◌, ap, subst}
+use Rattle.std.proofs.Common.{◌≡◌, ℕ, true, false, List, [], ◌∷◌, ◌++◌, Some, None, Option, Vec, Global, refl, sym, ◌∙◌, ap, subst}
 use Rattle.std.specs.BTreeMap.{get}
 use Rattle.gix_hash.specs.ObjectId.{id_cmp}
 use Rattle.odb_disk.specs.MemDisk.{Volume}
@@ -11,28 +11,49 @@ use Rattle.gix_odb_core.specs.declared.event.Event.TheVariants as core_events
 use Rattle.gix_odb_core.specs.declared.view.View.{View}
 use Rattle.gix_odb_calls.specs.declared.step.Step.TheVariants as steps
 use Rattle.gix_odb_calls.specs.declared.step.Outcome.TheVariants as outcomes
+use Rattle.gix_odb_calls.specs.declared.step.Why.{Why}
 use Rattle.gix_odb_world.specs.declared.record.Did.{Did}
 use Rattle.gix_odb_world.specs.declared.record.Did.TheVariants.{Core}
 use Rattle.gix_odb_world.specs.declared.handle.Handle.{Handle}
 use Rattle.gix_odb_world.specs.declared.work.Work.{Work}
 use Rattle.gix_odb_world.specs.declared.course.Course.{Course}
-use Rattle.gix_odb_world.specs.Cores.{answer_behind, cores_after, cores_after_asked, history_at, or_before}
-use Rattle.gix_odb_world.specs.Event.{Asked, CoreAnswer, Event, OfCore}
+use Rattle.gix_odb_world.specs.Cores.{cores_after, cores_after_asked, history_at, or_before}
+use Rattle.gix_odb_world.specs.Event.{Asked, Event, OfCore}
 use Rattle.gix_odb_world.specs.Headline.{LeavesDisk, asked_applied, asked_by_clone}
 use Rattle.gix_odb_world.specs.Run.{did_of_asked}
 use Rattle.gix_odb_world.specs.Running.{Runs}
 use Rattle.gix_odb_world.specs.Status.{Free, Resting, Status, Working, cloned, status_of}
-use Rattle.gix_odb_world.specs.Valid.{why_not_idle}
+use Rattle.gix_odb_world.specs.Made.{joined_answer}
+use Rattle.gix_odb_world.specs.Valid.{Phase, NoneThere, Idle, Running, why_not_clone, why_not_idle, why_not_open}
 use Rattle.gix_odb_world.specs.World.{Continues, Explains, Matches, handle_at}
-use Rattle.gix_odb_world.specs.Table.{SetsHandle, Notes, phase_of_handle, phase_of_work, why_not_now}
+use Rattle.gix_odb_world.specs.Table.{SetsHandle, Notes, phase_now, phase_of_handle, phase_of_work, why_not_now}
 use Rattle.gix_odb_world.proofs.StepLemmas.{Tells, applied_at_core}
 
--- what the registration of a handle at the core of a number answers
-abbrev joins : List History → (core number : ℕ) → CoreAnswer
-joins cores core number = answer_behind (history_at cores core) number (core_events.Register false)
+-- ---- why it isn't valid
+
+taken_by : (phase parent : Phase) (why : Why) → Some why ≡ why_not_open phase true → why_not_clone phase parent ≡ Some why
+taken_by NoneThere parent why is = absurd (cc is)
+taken_by (Idle hash) parent why is = sym is
+taken_by Running parent why is = sym is
+
+free_by : (phase parent : Phase) → None ≡ why_not_open phase true → why_not_clone phase parent ≡ why_not_idle parent
+free_by NoneThere parent free = refl
+free_by (Idle hash) parent free = absurd (cc free)
+free_by Running parent free = absurd (cc free)
+
+module _ (world : Course) (number from : ℕ) where
+  -- a number that isn't free is told first
+  pub clone_taken : (why : Why) → Some why ≡ why_not_open (phase_now world number) true → why_not_now world (steps.Clone number from) ≡ Some why
+  clone_taken why is = taken_by (phase_now world number) (phase_now world from) why is
+
+  -- for a free one the handle decides that it is to be a clone of
+  pub clone_if_free : None ≡ why_not_open (phase_now world number) true → why_not_now world (steps.Clone number from) ≡ why_not_idle (phase_now world from)
+  clone_if_free free = free_by (phase_now world number) (phase_now world from) free
+
+-- ---- its registration
 
 abbrev joining : List History → (core number : ℕ) → Asked
-joining cores core number = OfCore core number (core_events.Register false) (joins cores core number)
+joining cores core number = OfCore core number (core_events.Register false) (joined_answer cores core number)
 
 no_work : {A : Type 0} (handle : Handle) (work : Work) → why_not_idle (phase_of_handle (Some handle)) ≡ None → handle.work ≡ Some work → A
 no_work handle work idle is = absurd (cc (subst (λ (w : Option Work). why_not_idle (phase_of_work handle.state.store.value.object_hash w) ≡ None) is idle))
@@ -53,7 +74,7 @@ pub record IsSharing (parent own : HandleState) (view : View) : Type 0 where
 
 matches_cloned : (cores : List History) (number : ℕ) (status : Status) (parent : Handle) (own : HandleState) (view : View)
     → why_not_idle (phase_of_handle (Some parent)) ≡ None → Matches status (Some parent) → IsSharing parent.state own view
-    → view_in (joins cores parent.state.core number) ≡ Some view
+    → view_in (joined_answer cores parent.state.core number) ≡ Some view
     → Matches (cloned (asked_by_clone cores number status) status) (Some (record { state = own; work = None }))
 matches_cloned cores number Free parent own view idle match shares seen = absurd match
 matches_cloned cores number (Resting store modes) parent own view idle match shares seen = (
@@ -67,7 +88,7 @@ matches_cloned cores number (Resting store modes) parent own view idle match sha
     hash = ap (λ (p : StoreParts). p.object_hash) shares.store ∙ match.0.hash;
     changes = ap (λ (p : StoreParts). p.max_changes) shares.store ∙ match.0.changes;
     core = shares.core ∙ match.0.core;
-    view = shares.view_is ∙ sym (ap (λ v. or_before v modes.view) (ap (λ core. view_in (joins cores core number)) (sym match.0.core) ∙ seen));
+    view = shares.view_is ∙ sym (ap (λ v. or_before v modes.view) (ap (λ core. view_in (joined_answer cores core number)) (sym match.0.core) ∙ seen));
   },
   refl,
 )
@@ -103,20 +124,20 @@ module _ (old : Course) (number from : ℕ) (parent : Handle) (there : handle_at
   pub shared : (mid new : Course) (cores : Vec History Global) (own : HandleState) (view : View) (did : Did)
       → why_not_now old (steps.Clone number from) ≡ None → IsSharing parent.state own view
       → did ≡ Core own.core (number_behind (history_at old.cores.items own.core).entries)
-      → view_in (joins old.cores.items own.core number) ≡ Some view
+      → view_in (joined_answer old.cores.items own.core number) ≡ Some view
       → cores.items ≡ cores_after_asked old.cores.items (joining old.cores.items own.core number)
       → SetsHandle (record old { cores = cores }) mid number (Some (record { state = own; work = None })) → Notes mid new outcomes.Applied did None
       → Continues old (steps.Clone number from) new
   shared mid new cores own view did reason shares did_is seen cores_are sets notes =
       let did_here = did_is ∙ ap (λ core. Core core (number_behind (history_at old.cores.items core).entries)) shares.core in
       let cores_here = cores_are ∙ ap (λ core. cores_after_asked old.cores.items (joining old.cores.items core number)) shares.core in
-      let seen_here : view_in (joins old.cores.items parent.state.core number) ≡ Some view =
-      ap (λ core. view_in (joins old.cores.items core number)) (sym shares.core) ∙ seen in
+      let seen_here : view_in (joined_answer old.cores.items parent.state.core number) ≡ Some view =
+      ap (λ core. view_in (joined_answer old.cores.items core number)) (sym shares.core) ∙ seen in
       applied_at_core old mid new cores did (steps.Clone number from) number (Some (record { state = own; work = None }))
       (λ n asked table. cloned asked (table from))
       reason sets notes (λ turn. turn) refl (λ other turn. cc) (λ n asked table. refl)
       (λ first events explains.
       matches_cloned (cores_after events) number (status_of events from) parent own view idle (match_of first events explains) shares
-      (ap (λ cs. view_in (joins cs parent.state.core number)) (sym explains.cores) ∙ seen_here))
-      (λ first events e clones no_turn running. runs_cloned first (events ++ e ∷ []) number (asked_applied events (steps.Clone number from)) (status_of events from))
+      (ap (λ cs. view_in (joined_answer cs parent.state.core number)) (sym explains.cores) ∙ seen_here))
+      (λ first events e explains clones asked no_turn. runs_cloned first (events ++ e ∷ []) number (asked_applied events (steps.Clone number from)) (status_of events from))
       (clone_tells cores did did_here cores_here)

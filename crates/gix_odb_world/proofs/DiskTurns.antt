@@ -1,20 +1,15 @@
--- A turn calls the disk, or leaves it as it was. A turn of a write calls it.
+-- A turn calls the disk, or leaves it as it was.
 use Rattle.std.proofs.Common.{◌≡◌, ◌⊎◌, inl, inr, ℕ, List, Option, Some, None, refl, sym, ap, ◌∙◌, subst}
 use Rattle.odb_disk.specs.MemDisk.{Volume}
 use Rattle.odb_disk.specs.Ask.{answer_now, fails_now, op_of}
 use Rattle.odb_disk.specs.declared.ask.DiskAsk.{DiskAsk}
-use Rattle.gix_odb_loose.specs.LooseOrder.{disk_ask_of}
-use Rattle.gix_odb_loose.specs.declared.call.LooseCall.{LooseCall}
 use Rattle.gix_odb_world.specs.declared.record.Did.TheVariants.{Disk}
-use Rattle.gix_odb_world.specs.Event.{Ask, FromDisk, OfDisk, ToCore, ToDisk, ToNewCore, Event, answered, to_disk}
+use Rattle.gix_odb_world.specs.Event.{Ask, FromDisk, OfDisk, ToCore, ToDisk, ToNewCore, Event, answered}
 use Rattle.gix_odb_world.specs.Headline.{LeavesDisk, Works, outcome_of, stand_of}
-use Rattle.gix_odb_world.specs.Machines.{ask_in, fed_in, write_in}
+use Rattle.gix_odb_world.specs.Machines.{ask_in, fed_in}
 use Rattle.gix_odb_world.specs.Recorded.{opened_in, path_recorded}
 use Rattle.gix_odb_world.specs.Run.{NoCall, change_asked, change_by, did_asked, disk_after, told_now}
-use Rattle.gix_odb_world.specs.Running.Write.{IsWriting}
 use Rattle.gix_odb_world.specs.Status.{Running}
-use Rattle.gix_odb_world.proofs.WorkLaws.{asks_as_write}
-use Rattle.gix_odb_world.proofs.WriteTurn.{ask_at_stage}
 
 -- what a turn does that makes a call of the disk
 pub record CallsDisk (first : Volume) (past : List Event) (handle : ℕ) (running : Running) (e : Event) : Type 0 where
@@ -35,7 +30,8 @@ module _ (first : Volume) (past : List Event) (handle : ℕ) (running : Running)
   abbrev disk : Volume
   disk = disk_after first past
 
-  by_call : (ask : DiskAsk) → works.ask ≡ Some (ToDisk ask) → CallsDisk first past handle running e
+  -- one that asks for a call of it makes the call
+  pub by_call : (ask : DiskAsk) → works.ask ≡ Some (ToDisk ask) → CallsDisk first past handle running e
   by_call ask is =
       let told : e.asked ≡ OfDisk ask (answer_now disk ask) = works.told ∙ ap (told_now (stand_of past handle running) disk) is in
       record {
@@ -68,10 +64,3 @@ module _ (first : Volume) (past : List Event) (handle : ℕ) (running : Running)
 
   pub called_or_quiet : CallsDisk first past handle running e ⊎ IsQuiet e
   called_or_quiet = by_ask works.ask refl
-
-  -- a write asks in each turn what its stage does
-  pub write_calls : (call : LooseCall) → write_in running.work ≡ Some call → IsWriting first past handle running call
-      → CallsDisk first past handle running e
-  write_calls call write writes =
-      by_call (ask_at_stage writes.write writes.stage)
-      (sym works.asks ∙ (asks_as_write running.store running.work call write ∙ ap (λ f. to_disk (disk_ask_of f)) writes.is))

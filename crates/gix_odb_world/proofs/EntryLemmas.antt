@@ -19,19 +19,19 @@ use Rattle.gix_odb_calls.specs.declared.step.Outcome.{Outcome}
 use Rattle.gix_odb_calls.specs.declared.step.Outcome.TheVariants as outcomes
 use Rattle.gix_odb_calls.specs.declared.step.Step.{Step}
 use Rattle.gix_odb_calls.specs.declared.step.Step.TheVariants as steps
-use Rattle.gix_odb_world.specs.Asks.{AsksAsTask}
+use Rattle.gix_odb_world.specs.Asks.{AsksAsTask, MayAskCore}
 use Rattle.gix_odb_world.specs.Cores.{cores_after, cores_after_asked, entered, history_at}
 use Rattle.gix_odb_world.specs.Entries.{TellsEachEntry, entries_told, entry_told}
 use Rattle.gix_odb_world.specs.Event.{Ask, Asked, CoreAnswer, CoreEvent, Event, OfCore, OfDisk, OfNewCore, OfNothing, ToCore, ToDisk, ToNewCore}
 use Rattle.gix_odb_world.specs.Headline.{IsLawful, IsTurn, Law, Suits, asked_applied, asked_by_clone, asked_by_close, stand_of}
 use Rattle.gix_odb_world.specs.Run.{did_of_asked, disk_after, told_now}
-use Rattle.gix_odb_world.specs.Status.{Free, Resting, Running, Status, Working, status_after, status_of}
+use Rattle.gix_odb_world.specs.Status.{Free, MakeCall, OpenStore, Resting, Running, Status, Task, Working, status_after, status_of}
 use Rattle.gix_odb_world.specs.Valid.{misuse_of}
 use Rattle.gix_odb_world.proofs.AlongRun.{along_run}
 use Rattle.gix_odb_world.proofs.HistoryLemmas.{cores_after-push, slice_get-last}
 use Rattle.gix_odb_world.proofs.RunSteps.{turn_step}
 use Rattle.gix_odb_world.proofs.SeatLemmas.{nowhere_at_first, stands_by, worked}
-use Rattle.gix_odb_world.proofs.SeatLemmas.Applied.{Stands, no_core}
+use Rattle.gix_odb_world.proofs.SeatLemmas.Applied.{Stands, StandsAt}
 use Rattle.gix_odb_world.proofs.SeatLemmas.Elsewhere.{history_at-push, history_at-set, slice_get-set_same}
 
 -- ---- of which core an event is
@@ -67,19 +67,26 @@ module _ (past : List Event) (e : Event) (before : (handle : ℕ) → Stands pas
   of_applied (steps.Disk change) = tt
 
   module _ (first : Volume) (law : Law first past e) where
-    of_ask : (number : ℕ) (running : Running) (ask : Option Ask)
+    -- a task that asks for an event of a core is seated there
+    of_seat : (number : ℕ) (running : Running) (task : Task) (event : CoreEvent)
+        → MayAskCore past number running.store running.modes running.begun task event → StandsAt cores number running.modes running.work task
+        → (history : History) × (slice_get cores running.modes.core ≡ Some history)
+    of_seat number running OpenStore event may stands = absurd may
+    of_seat number running (MakeCall call) event may stands = (stands.history, stands.there)
+
+    of_ask : (number : ℕ) (running : Running) → StandsAt cores number running.modes running.work running.task → (ask : Option Ask)
         → AsksAsTask first past number running.store running.modes running.begun running.turns running.task ask
         → OfItsCore cores (told_now (stand_of past number running) (disk_after first past) ask)
-    of_ask number running None order = tt
-    of_ask number running (Some (ToDisk ask)) order = tt
-    of_ask number running (Some (ToCore event)) order = absurd (no_core running.task event order)
-    of_ask number running (Some (ToNewCore slots folders)) order = refl
+    of_ask number running stands None order = tt
+    of_ask number running stands (Some (ToDisk ask)) order = tt
+    of_ask number running stands (Some (ToCore event)) order = of_seat number running running.task event order stands
+    of_ask number running stands (Some (ToNewCore slots folders)) order = refl
 
     of_turn : IsTurn e.step → misuse_of e.outcome ≡ None → OfItsCore cores e.asked
     of_turn turn sound =
         let t = turn_step e.step turn in
         let w = worked past e before first law t.0 t.1 sound in
-        subst (OfItsCore cores) (sym w.2.told) (of_ask t.0 w.0 w.2.ask w.2.in_order)
+        subst (OfItsCore cores) (sym w.2.told) (of_ask t.0 w.0 (subst (Stands past t.0) w.1 (before t.0)) w.2.ask w.2.in_order)
 
     of_event : (outcome : Outcome) → e.outcome ≡ outcome → Suits e.step outcome e.asked → OfItsCore cores e.asked
     of_event outcomes.Applied out suits = subst (OfItsCore cores) (sym (law.applied out)) (of_applied e.step)

@@ -1,24 +1,47 @@
--- Where the handles of a world that some events lead to stand at its cores, by its own table.
-use Rattle.std.proofs.Common.{◌≡◌, ℕ, ◌<◌, Bool, List, length, Option, Some, None, refl, sym, ◌∙◌, subst, arith, inl, inr}
+-- Where the handles of a world that some events lead to stand at its cores, by its own table, and what they may ask there.
+use Rattle.std.proofs.Common.{◌≡◌, ℕ, ◌<◌, Bool, false, List, length, Option, Some, None, IsProp, refl, sym, ◌∙◌, subst, arith, inl, inr}
 use Rattle.std.specs.Prelude.{IsSome, unwrap_or}
 use Rattle.std.proofs.lemmas.Bool.{cases_lt}
+use Rattle.std.proofs.lemmas.Map.Keys.{IsDistinct-prop}
+use Rattle.std.proofs.Math.Logic.{∥∥₁_elim}
 use Rattle.std.proofs.lemmas.Grind.{not_there}
 use Rattle.std.proofs.lemmas.Option.{slice_get_within}
 use Rattle.gix_odb_core.specs.Handles.{registered}
 use Rattle.gix_odb_core.specs.History.{History, opened, present}
+use Rattle.gix_odb_core.specs.Replay.{CanHappen}
+use Rattle.gix_odb_core.specs.declared.event.Event.TheVariants as core_events
+use Rattle.gix_odb_core.specs.declared.shape.Shape.{Shape}
+use Rattle.gix_odb_packs.specs.declared.answer.PartAsk.{PartAsk}
+use Rattle.gix_odb_packs.specs.declared.answer.PartAsk.TheVariants as asks
+use Rattle.gix_odb_slots.specs.Slots.{same_path}
+use Rattle.gix_odb.specs.declared.handle_state.HandleState.{HandleState}
 use Rattle.gix_odb_world.specs.declared.course.Course.{Course}
 use Rattle.gix_odb_world.specs.declared.handle.Handle.{Handle}
 use Rattle.gix_odb_calls.specs.declared.step.Step.TheVariants as steps
-use Rattle.gix_odb_world.specs.Cores.{cores_after, registered_at}
-use Rattle.gix_odb_world.specs.Event.{Event}
-use Rattle.gix_odb_world.specs.Seats.{HasSeat, IsNowhere, IsSeated}
-use Rattle.gix_odb_world.specs.Status.{Free, Modes, Resting, Status, Working, status_of}
-use Rattle.gix_odb_world.specs.Table.{why_not_now}
+use Rattle.gix_odb.specs.CallOrder.{disk_part}
+use Rattle.gix_odb.specs.OpenOrder as openings
+use Rattle.odb_disk.specs.declared.ask.DiskAsk.{DiskAsk}
+use Rattle.gix_odb_world.specs.declared.work.Work.{Work}
+use Rattle.gix_odb_world.specs.declared.work.Work.TheVariants.{Opening, Calling}
+use Rattle.gix_odb_world.specs.Cores.{cores_after, history_at, registered_at}
+use Rattle.gix_odb_world.specs.Event.{CoreEvent, Event, ToCore}
+use Rattle.gix_odb_world.specs.Handle.{IsHandleOf}
+use Rattle.gix_odb_world.specs.Machines.{ask_in}
+use Rattle.gix_odb_world.specs.Running.{Runs}
+use Rattle.gix_odb_world.specs.Asks.{MayAskCore}
+use Rattle.gix_odb_world.specs.Seats.{HasSeat, HasSeatAt, IsNowhere, IsSeated}
+use Rattle.gix_odb_world.specs.Status.{Free, MakeCall, Modes, OpenStore, Resting, Running, Status, Task, Working, status_of}
+use Rattle.gix_odb_world.specs.Table.{CanHappenAt, why_not_now}
+use Rattle.gix_odb_world.specs.WorkOrder.{ask_on, asks_on, registers_in}
 use Rattle.gix_odb_world.specs.Valid.{phase_of, why_not_idle}
 use Rattle.gix_odb_world.specs.World.{HasHistory, IsExplained, Matches, handle_at}
 use Rattle.gix_odb_world.proofs.SeatLemmas.{seats_now}
 use Rattle.gix_odb_world.proofs.SeatLemmas.Applied.{is_free_for_clone}
+use Rattle.gix_odb_world.proofs.CarriedLemmas.{asks_part}
+use Rattle.gix_odb_world.proofs.MachineLaws.{TakesTurn}
 use Rattle.gix_odb_world.proofs.StepLemmas.{why_not-same}
+use Rattle.gix_odb_world.proofs.TurnLaw.Comes.{event_of, turn_of}
+use Rattle.gix_odb_world.proofs.WorkLaws.{code_asks}
 
 -- an idle handle is seated at the core that the code has for it
 pub record SitsAt (cores : List History) (core number : ℕ) : Type 0 where
@@ -67,9 +90,73 @@ module _ (world : Course) (h : HasHistory world) where
     clone_out : IsNowhere world.cores.items number
     clone_out = subst (λ cs. IsNowhere cs number) (sym explains.cores) (nowhere_free events number (status_of events number) clones.0 (seat number))
 
+  -- ---- a turn
+
+  -- a handle that may ask for an event of a core is seated at one
+  module _ (number : ℕ) (state : HandleState) (work : Work) (event : CoreEvent) where
+    may_sit : (running : Running) (task : Task) → HasSeatAt (cores_after events) number running.modes task
+        → MayAskCore events number running.store running.modes running.begun task event → running.modes.core < length (cores_after events)
+    may_sit running OpenStore has may = absurd may
+    may_sit running (MakeCall call) has may = (sits_at (cores_after events) number running.modes has).within
+
+    happens_at : (running : Running) → status_of events number ≡ Working running → IsHandleOf running.store running.modes state → Some work ≡ Some running.work
+        → asks_on state work ≡ Some (ToCore event) → (state.core < length world.cores.items) × ((shape : Shape) (seat : ℕ) → CanHappen shape seat event)
+    happens_at running status own same asked =
+        let at : work ≡ running.work = cc same in
+        let asks_it : ask_in running.store running.work ≡ Some (ToCore event) =
+        subst (λ w. ask_in running.store w ≡ Some (ToCore event)) at (sym (code_asks running.store running.modes state own work) ∙ asked) in
+        let runs : Runs first events number (Working running) = subst (Runs first events number) status (explains.running number) in
+        let has : HasSeat events number (Working running) = subst (HasSeat events number) status (seat number) in
+        let may : MayAskCore events number running.store running.modes running.begun running.task event =
+        subst (TakesTurn first events number running running.task) asks_it (turn_of first events number running running.work runs.1) in (
+          subst (λ cs. state.core < length cs) (sym explains.cores)
+              (subst (λ core. core < length (cores_after events)) (sym own.core) (may_sit running running.task has may)),
+          event_of first events number running running.work runs.1 event asks_it,
+        )
+
+    happens : (status : Status) → status_of events number ≡ status → Matches status (Some (record { state = state; work = Some work }))
+        → asks_on state work ≡ Some (ToCore event) → (state.core < length world.cores.items) × ((shape : Shape) (seat : ℕ) → CanHappen shape seat event)
+    happens Free is match asked = absurd match
+    happens (Resting store modes) is match asked = absurd (cc match.1)
+    happens (Working running) is match asked = happens_at running is match.0 match.1 asked
+
+  can_happen_call : (number : ℕ) (state : HandleState) (work : Work) → handle_at world number ≡ Some (record { state = state; work = Some work })
+      → registers_in work ≡ false → (ask : Option PartAsk) → ask_on state work ≡ ask → CanHappenAt world.cores.items number state ask
+  can_happen_call number state work there other None is = tt
+  can_happen_call number state work there other (Some (asks.Disk ask)) is = tt
+  can_happen_call number state work there other (Some (asks.Core event)) is =
+      let can =
+      happens number state work event (status_of events number) refl (subst (Matches (status_of events number)) there (explains.handles number))
+      (sym (asks_part state work (Some (asks.Core event)) other is)) in
+      (can.0, can.1 (present (history_at world.cores.items state.core)) number)
+
+  -- an opening calls the disk, if it calls anything
+  disk_happens : (number : ℕ) (state : HandleState) (ask : Option DiskAsk) → CanHappenAt world.cores.items number state (disk_part ask)
+  disk_happens number state None = tt
+  disk_happens number state (Some ask) = tt
+
+  can_happen_now : (number : ℕ) (state : HandleState) (work : Work) → handle_at world number ≡ Some (record { state = state; work = Some work })
+      → CanHappenAt world.cores.items number state (ask_on state work)
+  can_happen_now number state (Opening opening) there = disk_happens number state (openings.ask_of state.store.value.objects opening)
+  can_happen_now number state (Calling call) there = can_happen_call number state (Calling call) there refl (ask_on state (Calling call)) refl
+
 -- ---- the same of a world of which it is known that some events lead there
 
-below : (a n : ℕ) → ¬ (¬ (a < n)) → a < n
+-- nothing more is told of what can happen than that it can
+can_happen_is_so : (shape : Shape) (seat : ℕ) (event : CoreEvent) → IsProp (CanHappen shape seat event)
+can_happen_is_so shape seat (core_events.Register stable) = hlevel
+can_happen_is_so shape seat core_events.Upgrade = hlevel
+can_happen_is_so shape seat core_events.Remove = hlevel
+can_happen_is_so shape seat (core_events.Publish listing) = IsDistinct-prop same_path _
+can_happen_is_so shape seat event = hlevel
+
+can_happen_at_is_so : (cores : List History) (seat : ℕ) (state : HandleState) (ask : Option PartAsk) → IsProp (CanHappenAt cores seat state ask)
+can_happen_at_is_so cores seat state None = hlevel
+can_happen_at_is_so cores seat state (Some (asks.Disk ask)) = hlevel
+can_happen_at_is_so cores seat state (Some (asks.Core event)) =
+    let so = can_happen_is_so (present (history_at cores state.core)) seat event in hlevel
+
+pub below : (a n : ℕ) → ¬ (¬ (a < n)) → a < n
 below a n known = elim (cases_lt a n) [ inl less ↦ less | inr more ↦ absurd (known (λ less. omega (arith, less, more))) ]
 
 free_seat : (o : Option Bool) → ¬ (¬ (o ≡ None)) → o ≡ None
@@ -81,6 +168,12 @@ taken_seat None known = absurd (known (λ some. cc some))
 taken_seat (Some stable) known = refl
 
 module _ (world : Course) (explained : IsExplained world) where
+  pub turn_can_happen : (number : ℕ) (state : HandleState) (work : Work) → handle_at world number ≡ Some (record { state = state; work = Some work })
+      → CanHappenAt world.cores.items number state (ask_on state work)
+  turn_can_happen number state work there =
+      ∥∥₁_elim explained (can_happen_at_is_so world.cores.items number state (ask_on state work))
+      (λ h. can_happen_now world h number state work there)
+
   pub close_sits : (number : ℕ) (handle : Handle) → why_not_now world (steps.Close number) ≡ None → handle_at world number ≡ Some handle
       → SitsAt world.cores.items handle.state.core number
   close_sits number handle valid there = record {

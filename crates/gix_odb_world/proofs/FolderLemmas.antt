@@ -34,17 +34,10 @@ use Rattle.gix_odb_world.specs.Causes.{GaveSometime, LooseCause}
 use Rattle.gix_odb.specs.Contents.{LooseFile, folder_list, of_loose}
 use Rattle.gix_odb_calls.specs.Verdict.{job_of}
 use Rattle.gix_odb_world.specs.Status.{Store}
+use Rattle.gix_odb_looks.specs.Exchange.{Exchange}
 use Rattle.gix_odb.specs.Held.{Held}
 use Rattle.gix_odb_world.specs.Promise.{Keeps, claim_of}
-
--- a look and a read make no change
-pub look_quiet : (path : Path) (follow : Bool) (tree : Tree) → change_of_ask tree (asks.Look path follow) ≡ None
-unfolding change_of_ask
-look_quiet path follow tree = refl
-
-read_quiet : (path : Path) (tree : Tree) → change_of_ask tree (asks.Read path) ≡ None
-unfolding change_of_ask
-read_quiet path tree = refl
+use Rattle.gix_odb_world.proofs.WriteAsk.Quiet.{look_quiet, read_quiet}
 
 -- each query asks a folder with a look or a read
 pub ask_found : (limit : Option ℕ) (call : Query) (id : ObjectId) (folder : Path)
@@ -55,10 +48,10 @@ ask_found limit (Test asked) id folder = (asks.Look (loose_path folder id) true,
 
 -- What the verdict on a folder's reply says: an answer that was held or an error with its cause, a miss by a call of the disk that
 -- didn't fail, or an error with its cause that is noted.
-abbrev pub VerdictSays : (ℕ → Tree) → Type 0 → Store → ℕ → ℕ → Query → ObjectId → Path → (fails : Bool) → Verdict → Type 0
-VerdictSays trees Failed store begun now call id folder fails (verdicts.Ends reply) = Keeps trees Failed store begun now call id (claim_of call reply)
-VerdictSays trees Failed store begun now call id folder fails verdicts.Misses = (fails ≡ false) × (¬ (LeadsToFile (trees now) (loose_path folder id)))
-VerdictSays trees Failed store begun now call id folder fails (verdicts.Notes error) = LooseCause trees Failed store begun now call id error
+abbrev pub VerdictSays : (ℕ → Tree) → Type 0 → (told : List Exchange) → Store → ℕ → ℕ → Query → ObjectId → Path → (fails : Bool) → Verdict → Type 0
+VerdictSays trees Failed told store begun now call id folder fails (verdicts.Ends reply) = Keeps trees Failed told store begun now call id (claim_of call reply)
+VerdictSays trees Failed told store begun now call id folder fails verdicts.Misses = (fails ≡ false) × (¬ (LeadsToFile (trees now) (loose_path folder id)))
+VerdictSays trees Failed told store begun now call id folder fails (verdicts.Notes error) = LooseCause trees Failed store begun now call id error
 
 -- the answer to a call of the disk: that it failed, or what the tree tells
 abbrev given_by : (fails : Bool) → (told : DiskAnswer) → DiskAnswer
@@ -77,7 +70,7 @@ sound_header : (at : Path) (fails : Bool) (told : DiskAnswer) → header_by at (
 sound_header at true told e = absurd (cc e)
 sound_header at false told e = refl
 
-module _ (trees : ℕ → Tree) (Failed : Type 0) (store : Store) (begun now : ℕ) (later : begun ≤ now) (disk : Volume) (shown : trees now ≡ tree_of disk.state)
+module _ (trees : ℕ → Tree) (Failed : Type 0) (told : List Exchange) (store : Store) (begun now : ℕ) (later : begun ≤ now) (disk : Volume) (shown : trees now ≡ tree_of disk.state)
     (fails : next_fails disk ≡ true → Failed) (id : ObjectId) (folder : Path) (among : Contains (folder_list store.parts) folder) where
   abbrev at : Path
   at = loose_path folder id
@@ -86,7 +79,7 @@ module _ (trees : ℕ → Tree) (Failed : Type 0) (store : Store) (begun now : �
   SaysNow call reply = Says at store.parts.limit (job_of call id) (tree_of disk.state) (next_fails disk ≡ true) ⊥ reply
 
   abbrev SaysBy : Query → LooseReply → Type 0
-  SaysBy call reply = VerdictSays trees Failed store begun now call id folder (next_fails disk) (verdict_on call reply)
+  SaysBy call reply = VerdictSays trees Failed told store begun now call id folder (next_fails disk) (verdict_on call reply)
 
   -- what a read of the path gives now
   abbrev IsRead : Reading → Type 0

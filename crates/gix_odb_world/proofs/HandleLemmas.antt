@@ -79,7 +79,7 @@ opened old mid new number path folders hash replacements options state free good
     (λ n status. opening_at n (store_at n path folders hash replacements options))
     (ap (why_not_open (phase_of_handle (handle_at old number))) good ∙ free) sets notes (λ turn. turn) refl (λ other turn. cc) (λ n asked table. refl)
     (λ n status match. (replacements_same path folders hash replacements options n state good begun, refl))
-    (λ first events e status opens no_turn runs. runs_opening first events e number (store_at (length events + 1) path folders hash replacements options))
+    (λ first events e explains opens asked no_turn. runs_opening first events e number (store_at (length events + 1) path folders hash replacements options))
     (λ events. refl)
 
 -- a bad opening is told where the number is free
@@ -132,7 +132,7 @@ pub closed : (old mid new : Course) (cores : Vec History Global) (number : ℕ) 
     → SetsHandle (record old { cores = cores }) mid number None → Notes mid new outcomes.Applied did None → Continues old (steps.Close number) new
 closed old mid new cores number handle did reason there did_is cores_are sets notes =
     applied_at_core old mid new cores did (steps.Close number) number None (λ n asked table. Free)
-    reason sets notes (λ turn. turn) refl (λ other turn. cc) (λ n asked table. refl) (λ first events explains. tt) (λ first events e closes no_turn running. tt)
+    reason sets notes (λ turn. turn) refl (λ other turn. cc) (λ n asked table. refl) (λ first events explains. tt) (λ first events e explains closes asked no_turn. tt)
     (close_tells old cores number handle did reason there did_is cores_are)
 
 -- ---- the mode of an idle handle
@@ -162,5 +162,5 @@ ignored old mid new number reason sets notes =
     applied old mid new (steps.Ignore number) number (with_ignoring (handle_at old number)) (λ n status. ignoring_from status)
     reason sets notes (λ turn. turn) refl (λ other turn. cc) (λ n asked table. refl)
     (λ n status match. matches_ignoring status (handle_at old number) reason match)
-    (λ first events e status starts. runs_ignoring number first events e status)
+    (λ first events e explains starts asked no_turn. runs_ignoring number first events e (status_of events number) no_turn (explains.running number))
     (λ events. refl)

@@ -10,7 +10,7 @@ use Rattle.gix_odb_world.specs.Status.{Running, Status, Store, Task, Free, Resti
 use Rattle.gix_odb_world.specs.Run.{IsTurnOf}
 use Rattle.gix_odb_world.specs.Machines.{at}
 use Rattle.gix_odb_world.specs.Running.{Knows, Runs}
-use Rattle.gix_odb_world.proofs.MachineLaws.{IsSized}
+use Rattle.gix_odb_world.proofs.MachineLaws.{BeginsAs}
 use Rattle.gix_odb_world.proofs.Machines.{laws_at}
 
 module _ (first : Volume) (events : List Event) (e : Event) where
@@ -31,11 +31,12 @@ module _ (first : Volume) (events : List Event) (e : Event) where
     runs_over (Working running) runs = (omega (arith, longer, runs.0), knows_push running running.work runs.1)
 
 -- a handle whose task the event sets knows what its machine does at the beginning
-pub begins : (first : Volume) (events : List Event) (e : Event) (handle : ℕ) (store : Store) (modes : Modes) (task : Task) → IsSized task
+pub begins : (first : Volume) (events : List Event) (e : Event) (handle : ℕ) (store : Store) (modes : Modes) (task : Task)
+    → BeginsAs first (events ++ e ∷ []) handle store modes task
     → Knows first (events ++ e ∷ []) handle (running_from (length events + 1) task store modes) (begun_with store modes task)
-begins first events e handle store modes task sized =
+begins first events e handle store modes task start =
     let work : Work = begun_with store modes task in
-    (laws_at work).starts first events e handle store modes task (at work).state sized (sym (at work).is)
+    (laws_at work).starts first events e handle store modes task (at work).state start (sym (at work).is)
 
 pub runs-push : (first : Volume) (events : List Event) (e : Event) (handle : ℕ) (status : Status) → ¬ IsTurnOf handle e.step
     → Runs first events handle status → Runs first (events ++ e ∷ []) handle status

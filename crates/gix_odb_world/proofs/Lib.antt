@@ -3,7 +3,6 @@ mod BegunLemmas
 mod BoundLemmas
 mod CarriedLemmas
 mod CloneLemmas
-mod CallLemmas
 mod FailedLemmas
 mod FolderLemmas
 mod HandleLemmas
@@ -19,10 +18,10 @@ mod StandAlone
 mod SeatLemmas
 mod ExplainedLemmas
 mod ExplainedSeats
+mod ExplainedFits
 mod EntryLemmas
 mod NameSteps
 mod RunEnds
-mod QueryKept
 mod KnowsLemmas
 mod MachineLaws
 mod QuietTurn
@@ -35,6 +34,7 @@ mod StartLemmas
 mod StepLemmas
 mod TurnLaw
 mod DiskTurns
+mod WriteCalls
 mod TurnLemmas
 mod WorldLemmas
 mod WriteKept
@@ -43,3 +43,12 @@ mod WriteGoes
 mod WriteFive
 mod WriteAsk
 mod RefusedLemmas
+mod OpenFacts
+mod SettingLemmas
+mod ToldLemmas
+mod ToldWell
+mod LookPromise
+mod Stock
+mod ToldLists
+mod DiskTold
+mod Streams

@@ -1,85 +1,181 @@
 -- A query keeps the laws of a machine.
-pub mod Asks
-pub mod Begun
-pub mod Comes
-use Rattle.std.proofs.Common.{◌≡◌, ℕ, ◌+◌, ◌*◌, ◌<◌, ◌≤◌, true, false, List, [], ◌∷◌, ◌++◌, length, Option, None, Some, Ok, Err, Result, refl, sym, ◌∙◌, ap, subst, arith}
+use Rattle.std.proofs.Common.{◌≡◌, ℕ, ◌+◌, ◌*◌, ◌<◌, ◌≤◌, Bool, true, false, List, [], ◌∷◌, ◌++◌, length, Option, None, Some, Ok, Err, Result, refl, sym, ◌∙◌, ap, subst, arith}
+use Rattle.std.specs.Prelude.{slice_get, unwrap_or}
 use Rattle.std.proofs.lemmas.List.{length_push}
 use Rattle.std.proofs.Math.Nat.{mul-le-mul}
 use Rattle.odb_tree.specs.Tree.{tree_of}
-use Rattle.odb_disk.specs.MemDisk.{Volume, next_fails}
-use Rattle.odb_disk.specs.Ask.{answer_now, change_of_ask, fails_now}
-use Rattle.odb_disk.specs.StreamAsks.{is_of_streams}
-use Rattle.odb_disk.specs.declared.ask.DiskAnswer.{DiskAnswer}
+use Rattle.odb_disk.specs.MemDisk.{Volume}
+use Rattle.odb_disk.specs.Ask.{answer_now}
 use Rattle.odb_disk.specs.declared.ask.DiskAsk.{DiskAsk}
-use Rattle.gix_odb_loose.proofs.StillAskLaws.{call_asks_still}
-use Rattle.gix_odb.specs.CallOrder.{looking_result}
-use Rattle.gix_odb.specs.Contents.{folder_list}
-use Rattle.gix_odb.specs.LookOrder.{ask_at}
-use Rattle.gix_odb.specs.LookOrder as looks
+use Rattle.gix_hash.specs.ObjectId.{kind_of}
+use Rattle.gix_hash.specs.declared.object_id.ObjectId.{ObjectId}
+use Rattle.gix_odb_core.specs.History.{History, opened}
+use Rattle.gix_odb_core.specs.Replay.{CanHappen, snapshot_of, view_in}
+use Rattle.gix_odb_core.specs.declared.shape.Shape.{Shape}
+use Rattle.gix_odb_core.specs.declared.view.View.{View}
+use Rattle.gix_odb_packs.specs.declared.answer.Answer.TheVariants as told
+use Rattle.gix_odb_packs.specs.declared.answer.PartAsk.{PartAsk}
+use Rattle.gix_odb_packs.specs.declared.answer.PartAsk.TheVariants as parts
+use Rattle.gix_odb_calls.specs.Hashes.{is_of_hash}
+use Rattle.gix_odb_calls.specs.declared.call.Call.TheVariants as call_kinds
 use Rattle.gix_odb_calls.specs.declared.call.Reply.{Reply}
-use Rattle.gix_odb.specs.declared.call_state.CallState.TheVariants.{Looking}
-use Rattle.gix_odb.specs.declared.handle_state.HandleState.{HandleState}
-use Rattle.gix_odb.specs.declared.look_state.Head.{Head}
-use Rattle.gix_odb.specs.declared.look_state.LookState.{LookState}
-use Rattle.gix_odb.specs.declared.look_state.Stage.{Stage}
-use Rattle.gix_odb.specs.declared.look_state.Stage.TheVariants as stages
 use Rattle.gix_odb_calls.specs.declared.query.Query.{Query}
 use Rattle.gix_odb_calls.specs.declared.query.Query.TheVariants.{Find, Header, Test}
+use Rattle.gix_odb_looks.specs.Exchange.{AreAsked, Exchange, behind}
+use Rattle.gix_odb_looks.specs.Laps.{turns_of_look}
+use Rattle.gix_odb_looks.specs.LookUpOrder as looks
+use Rattle.gix_odb_looks.specs.LookUpOrder.{Setting, ask_of, fed, result_at, result_of}
+use Rattle.gix_odb_looks.specs.declared.look_up.LookHead.{LookHead}
+use Rattle.gix_odb_looks.specs.declared.look_up.LookStage.{LookStage}
+use Rattle.gix_odb_looks.specs.declared.look_up.LookStage.TheVariants as stages
+use Rattle.gix_odb_looks.specs.declared.look_up.LookUp.{LookUp}
+use Rattle.gix_odb_looks.proofs.CauseLaws.{a_done_look_up_asks_nothing}
+use Rattle.gix_odb_looks.proofs.HandedLaws.{look_ups_change_no_file, what_is_handed_can_happen}
+use Rattle.gix_odb_looks.proofs.TurnLaws.{a_look_up_ends_in_time}
+use Rattle.gix_odb.specs.CallOrder.{looking_result}
+use Rattle.gix_odb.specs.Contents.{folder_list, or_itself, replacement_in, sought}
+use Rattle.gix_odb.specs.HandleState.{unseen}
+use Rattle.gix_odb.specs.declared.call_state.CallState.TheVariants.{Looking}
+use Rattle.gix_odb.specs.declared.handle_state.HandleState.{HandleState}
 use Rattle.gix_odb_world.specs.declared.work.Work.TheVariants.{Calling}
-use Rattle.gix_odb_world.specs.Bound.{bound_of_call, bound_of_task, bytes_to_write, laps_without_change, turns_each, turns_of_folder, turns_of_lap}
-use Rattle.gix_odb_world.specs.AtWork.{nothing_in_front, Modes}
-use Rattle.gix_odb_world.specs.Event.{Answer, Event, FromCore, FromDisk, OfDisk}
+use Rattle.gix_odb_world.specs.Asks.{AsksInOrder}
+use Rattle.gix_odb_world.specs.AtWork.{Modes, setting_in, view_in_modes}
+use Rattle.gix_odb_world.specs.Bound.{HasAtMost, bound_of_call, bound_of_task, bytes_to_write}
+use Rattle.gix_odb_world.specs.Cores.{answer_behind, cores_after, history_at, or_before}
+use Rattle.gix_odb_world.specs.Event.{Answer, Ask, Asked, CoreEvent, Event, FromCore, FromDisk, OfCore, OfDisk, OfNothing, ToCore, ToDisk, answered, part_asked}
 use Rattle.gix_odb_world.specs.Handle.{IsHandleOf}
+use Rattle.gix_odb_world.specs.Headline.{stand_of}
 use Rattle.gix_odb_world.specs.Machine.{placed}
 use Rattle.gix_odb_world.specs.Promise.{Promise, QueryPromise}
-use Rattle.gix_odb_world.specs.Run.{FailedSince, change_by, disk_after, tree_at}
-use Rattle.gix_odb_world.specs.Running.Query.{IsLooking, Seeks, call_of, looking}
-use Rattle.gix_odb_world.specs.Status.{MakeCall, Running, Store, Task}
+use Rattle.gix_odb_world.specs.Run.{FailedSince, IsTurnOf, change_by, disk_after, told_now, tree_at}
+use Rattle.gix_odb_world.specs.Running.Query.{IsFit, IsLooking, IsToldWell, call_of, looking}
+use Rattle.gix_odb_world.specs.Seats.{IsSeated}
+use Rattle.gix_odb_world.specs.Status.{MakeCall, OpenStore, Running, Store, Task, begun_with, gone_on, running_from}
+use Rattle.gix_odb_world.specs.Told.{look_begun, look_now, told_since, view_then}
 use Rattle.gix_odb_world.specs.WorkOrder.{calling_result, fed_after, result_in}
-use Rattle.gix_odb_world.proofs.LookMachine.Asks.{in_order_query}
-use Rattle.gix_odb_world.proofs.FailedLemmas.{fails_now-still}
-use Rattle.gix_odb_world.proofs.FolderLemmas.{ask_found}
-use Rattle.gix_odb_world.proofs.LookMachine.Begun.{looking_starts}
-use Rattle.gix_odb_world.proofs.LookMachine.Comes.{LookComes, look_comes}
-use Rattle.gix_odb_world.proofs.MachineLaws.{AsksDisk, HasTurn, KeepsLaws, MachineComes, quiet_turn, same_ask, turns_by_disk, writes_nothing}
-use Rattle.gix_odb_world.proofs.QuietTurn.{failed_earlier, failed_now, shown_now}
-use Rattle.gix_odb_world.proofs.HistoryLemmas.{failed-kept, tree_at-before}
-use Rattle.gix_odb_world.proofs.QueryKept.{looking_push}
+use Rattle.gix_odb_world.proofs.HistoryLemmas.{failed_before}
+use Rattle.gix_odb_world.proofs.LookPromise.{query_promise}
+use Rattle.gix_odb_world.proofs.MachineLaws.{BeginsAs, IsRunning, IsStarted, IsTurnAsking, KeepsLaws, KeepsTurnLaws, MachineComes, TakesTurn, quiet_turn, told_after, writes_nothing}
+use Rattle.gix_odb_world.proofs.OpenFacts.{same_is}
+use Rattle.gix_odb_world.proofs.SettingLemmas.{setting_same}
+use Rattle.gix_odb_world.proofs.ToldLemmas.{asked-push, behind-push, told_first, told_kept, told_none, told_turn, view_first, view_kept}
+use Rattle.gix_odb_world.proofs.ToldWell.{no_failure, told_well_at_first, told_well_later, told_well_on_core, told_well_on_disk}
 use Rattle.gix_odb_world.proofs.WriteAsk.Quiet.{change_by-quiet}
-use Rattle.gix_odb_world.proofs.WriteTurn.Common.{IsTurnWith}
 
 -- ---- its code
 
-looking_placed : (result : Result Reply LookState) → calling_result (looking_result result) ≡ placed looking result
+looking_placed : (result : Result Reply LookUp) → calling_result (looking_result result) ≡ placed looking result
 looking_placed (Ok reply) = refl
-looking_placed (Err state) = refl
+looking_placed (Err look) = refl
 
-looking_feeds : (store : Store) (modes : Modes) (code : HandleState) → IsHandleOf store modes code → (state : LookState) (answer : Option Answer)
-    → result_in (fed_after code (Calling (Looking state)) answer) ≡ placed looking (looking.feed store state answer)
-looking_feeds store modes code own state None = looking_placed (looks.result_of state)
-looking_feeds store modes code own state (Some (FromCore answer)) = looking_placed (looks.result_of state)
-looking_feeds store modes code own state (Some (FromDisk answer)) =
-    ap (λ folders. calling_result (looking_result (looks.result_of (looks.fed folders code.store.value.alloc_limit_bytes state answer)))) own.folders
-    ∙ (ap (λ limit. calling_result (looking_result (looks.result_of (looks.fed store.parts.folders limit state answer)))) own.limit
-    ∙ looking_placed (looks.result_of (looks.fed store.parts.folders store.parts.limit state answer)))
+looking_feeds : (store : Store) (modes : Modes) (code : HandleState) → IsHandleOf store modes code → (look : LookUp) (answer : Option Answer)
+    → result_in (fed_after code (Calling (Looking look)) answer) ≡ placed looking (looking.feed store look answer)
+looking_feeds store modes code own look None = looking_placed (result_of look)
+looking_feeds store modes code own look (Some (FromDisk answer)) =
+    ap (λ setting. calling_result (looking_result (result_of (fed setting look (told.Disk answer))))) (setting_same store modes code own)
+    ∙ looking_placed (result_of (fed (setting_in store) look (told.Disk answer)))
+looking_feeds store modes code own look (Some (FromCore answer)) =
+    ap (λ setting. calling_result (looking_result (result_of (fed setting look (told.Core answer))))) (setting_same store modes code own)
+    ∙ looking_placed (result_of (fed (setting_in store) look (told.Core answer)))
 
--- ---- its bound
+-- ---- its beginning
 
--- so many folders are fewer than the turns of some laps
-few_turns : (laps slots folders entries : ℕ) → 1 ≤ laps → folders ≤ laps * turns_of_lap slots folders entries
-few_turns laps slots folders entries some =
-    let same : folders ≤ folders = omega arith in
-    let each : 1 ≤ turns_each * entries + turns_of_folder = omega arith in
-    let a : folders * 1 ≤ folders * (turns_each * entries + turns_of_folder) = mul-le-mul same each in
-    let lap : turns_of_lap slots folders entries ≤ turns_of_lap slots folders entries = omega arith in
-    let b : 1 * turns_of_lap slots folders entries ≤ laps * turns_of_lap slots folders entries = mul-le-mul some lap in
-    omega (arith, a, b)
+-- the sought id is of the store's hash
+sought_of : (store : Store) (modes : Modes) (query : Query) → is_of_hash store.hash (call_of query) ≡ true
+    → ((id other : ObjectId) → replacement_in store.parts id ≡ Some other → kind_of other ≡ store.hash)
+    → kind_of (sought store.parts modes.ignoring query) ≡ store.hash
+sought_of store modes query hashed replaced = by query hashed modes.ignoring
+  where
+    itself : (id : ObjectId) → kind_of id ≡ store.hash → (o : Option ObjectId) → replacement_in store.parts id ≡ o → kind_of (or_itself o id) ≡ store.hash
+    itself id own None is = own
+    itself id own (Some other) is = replaced id other is
 
-few_queries : (store : Store) (turns : ℕ) → turns + 1 < length (folder_list store.parts) → (entries : ℕ) → turns + 1 < bound_of_call store entries None
-few_queries store turns few entries =
-    let many = few_turns (store.max_changes + laps_without_change) store.slots (length (folder_list store.parts)) entries (omega arith) in omega (arith, few, many)
+    by : (query : Query) → is_of_hash store.hash (call_of query) ≡ true → (ignoring : Bool) → kind_of (sought store.parts ignoring query) ≡ store.hash
+    by (Find id) hashed true = same_is (kind_of id) store.hash hashed
+    by (Find id) hashed false = itself id (same_is (kind_of id) store.hash hashed) (replacement_in store.parts id) refl
+    by (Header id) hashed true = same_is (kind_of id) store.hash hashed
+    by (Header id) hashed false = itself id (same_is (kind_of id) store.hash hashed) (replacement_in store.parts id) refl
+    by (Test id) hashed ignoring = same_is (kind_of id) store.hash hashed
 
--- a query has no bytes to write
+module _ (first : Volume) (events : List Event) (e : Event) (handle : ℕ) (store : Store) (modes : Modes) where
+  abbrev begun_whole : List Event
+  begun_whole = events ++ e ∷ []
+
+  abbrev number : ℕ
+  number = length events + 1
+
+  module _ (query : Query) (start : IsStarted first begun_whole handle store modes (call_of query)) where
+    count : number ≡ length begun_whole
+    count = sym (length_push events e)
+
+    -- the snapshot of the handle is what it saw then
+    seen : view_in_modes modes ≡ view_then begun_whole handle modes.core number
+    seen =
+        let there : history_at (cores_after begun_whole) modes.core ≡ start.seated.history = ap (λ o. unwrap_or o (opened 0 0 0 0)) start.seated.there in
+        ap (λ v. unwrap_or v unseen) start.seated.snapshot
+        ∙ (ap (λ (h : History). unwrap_or (snapshot_of handle h.entries) unseen) (sym there)
+        ∙ (sym (view_first begun_whole handle modes.core) ∙ ap (view_then begun_whole handle modes.core) (sym count)))
+
+    nothing_told : told_since begun_whole handle number ≡ []
+    nothing_told = ap (told_since begun_whole handle) count ∙ told_first begun_whole handle
+
+    begins : (look : LookUp) → looks.started (setting_in store) (view_in_modes modes) query (sought store.parts modes.ignoring query) ≡ look
+        → IsLooking first begun_whole handle (running_from number (MakeCall (call_of query)) store modes) look
+    begins look is = record {
+      query = query;
+      task = refl;
+      since = omega (arith, count);
+      fits = record { distinct = start.distinct; hashed = sought_of store modes query start.hashed start.replaced };
+      is =
+          sym is
+          ∙ (ap (λ v. looks.started (setting_in store) v query (sought store.parts modes.ignoring query)) seen
+          ∙ ap (behind (setting_in store) (look_begun begun_whole handle store modes number query)) (sym nothing_told));
+      asked = subst (AreAsked (setting_in store) (look_begun begun_whole handle store modes number query)) (sym nothing_told) tt;
+      turns = ap length (sym nothing_told);
+      well = told_well_at_first first events e handle store modes (call_of query) start;
+    }
+
+  looking_starts : (task : Task) (look : LookUp) → BeginsAs first begun_whole handle store modes task → begun_with store modes task ≡ Calling (Looking look)
+      → IsLooking first begun_whole handle (running_from number task store modes) look
+  looking_starts OpenStore look start is = absurd (cc is)
+  looking_starts (MakeCall (call_kinds.Find id)) look start is = begins (Find id) start look (cc is)
+  looking_starts (MakeCall (call_kinds.Header id)) look start is = begins (Header id) start look (cc is)
+  looking_starts (MakeCall (call_kinds.Test id)) look start is = begins (Test id) start look (cc is)
+  looking_starts (MakeCall (call_kinds.Write kind size bytes known)) look start is = absurd (cc is)
+
+-- ---- an event that isn't its turn
+
+looking_kept : (first : Volume) (events : List Event) (e : Event) (handle : ℕ) (running : Running) (look : LookUp) → ¬ (IsTurnOf handle e.step)
+    → IsLooking first events handle running look → IsLooking first (events ++ e ∷ []) handle running look
+looking_kept first events e handle running look other knows =
+    let whole : List Event = events ++ e ∷ [] in
+    let told_is = told_kept events e handle running.begun knows.since other in
+    let view_is = view_kept events e handle running.begun knows.since running.modes.core in
+    let setting = setting_in running.store in
+    let begun_is : look_begun events handle running.store running.modes running.begun knows.query ≡ look_begun whole handle running.store running.modes running.begun knows.query =
+    ap (λ v. looks.started setting v knows.query (sought running.store.parts running.modes.ignoring knows.query)) (sym view_is) in
+    let longer = length_push events e in
+    let since = knows.since in
+    record {
+      query = knows.query;
+      task = knows.task;
+      since = omega (arith, since, longer);
+      fits = knows.fits;
+      is =
+          knows.is
+          ∙ (ap (behind setting (look_begun events handle running.store running.modes running.begun knows.query)) (sym told_is)
+          ∙ ap (λ l. behind setting l (told_since whole handle running.begun)) begun_is);
+      asked =
+          subst (λ l. AreAsked setting l (told_since whole handle running.begun)) begun_is
+          (subst (AreAsked setting (look_begun events handle running.store running.modes running.begun knows.query)) (sym told_is) knows.asked);
+      turns = knows.turns ∙ ap length (sym told_is);
+      well = told_well_later first events e handle running.store running.modes running.begun told_is
+          (failed_before events e handle running.begun (λ turn failed. absurd (other turn))) knows.since knows.well;
+    }
+
+-- ---- what it asks for
+
+-- no bytes are written by a query
 no_bytes : (query : Query) → None ≡ bytes_to_write (call_of query)
 no_bytes (Find id) = refl
 no_bytes (Header id) = refl
@@ -90,112 +186,267 @@ looking_bounded : (store : Store) (task : Task) (query : Query) → task ≡ Mak
 looking_bounded store task query is entries =
     subst (λ t. bound_of_call store entries None ≡ bound_of_task store t entries) (sym is) (ap (bound_of_call store entries) (no_bytes query))
 
--- ---- its call of the disk
+nothing_asked : (asked : Option PartAsk) → part_asked asked ≡ None → asked ≡ None
+nothing_asked None is = refl
+nothing_asked (Some (parts.Disk ask)) is = absurd (cc is)
+nothing_asked (Some (parts.Core event)) is = absurd (cc is)
 
--- which isn't of streams
-looking_still : (stage : Stage) (ask : DiskAsk) → ask_at stage ≡ Some ask → is_of_streams ask ≡ false
-looking_still (stages.Loose round call) ask is = call_asks_still call ask is
-looking_still (stages.Done reply) ask is = absurd (cc is)
+event_asked : (asked : Option PartAsk) (event : CoreEvent) → part_asked asked ≡ Some (ToCore event) → asked ≡ Some (parts.Core event)
+event_asked None event is = absurd (cc is)
+event_asked (Some (parts.Disk ask)) event is = absurd (cc is)
+event_asked (Some (parts.Core own)) event is = let same : own ≡ event = cc is in ap (λ e. Some (parts.Core e)) same
 
-module _ (first : Volume) (events : List Event) (handle : ℕ) (running : Running) (state : LookState) (knows : IsLooking first events handle running nothing_in_front state) where
-  -- the call of the folder that it asks
-  looking_names : (ask : DiskAsk) × (ask_at state.stage ≡ Some ask)
-  looking_names =
-      let found = ask_found running.store.parts.limit state.head.query state.head.id knows.seeks.folder in
-      (found.0, ap ask_at knows.seeks.stage_is ∙ found.1)
+call_asked : (asked : Option PartAsk) (ask : DiskAsk) → part_asked asked ≡ Some (ToDisk ask) → asked ≡ Some (parts.Disk ask)
+call_asked None ask is = absurd (cc is)
+call_asked (Some (parts.Disk own)) ask is = let same : own ≡ ask = cc is in ap (λ a. Some (parts.Disk a)) same
+call_asked (Some (parts.Core event)) ask is = absurd (cc is)
 
-  module _ (ask : DiskAsk) (is : ask_at state.stage ≡ Some ask) where
-    looking_quiet : change_by (disk_after first events) ask ≡ None
-    looking_quiet =
-        let found = ask_found running.store.parts.limit state.head.query state.head.id knows.seeks.folder in
-        let same_ask : found.0 ≡ ask = cc (found.1, ap ask_at knows.seeks.stage_is, is) in
-        change_by-quiet (disk_after first events) ask
-        (subst (λ a. change_of_ask (tree_of (disk_after first events).state) a ≡ None) same_ask (found.2 (tree_of (disk_after first events).state)))
+-- what is left of a look-up that isn't done is the look-up
+left_is : (head : LookHead) (stage : LookStage) (next : LookUp) → result_at head stage ≡ Err next → next ≡ record { head = head; stage = stage }
+left_is head (stages.Done reply) next is = absurd (cc is)
+left_is head (stages.Trying trier part) next is = cc is
+left_is head (stages.Loose round call) next is = cc is
+left_is head (stages.Looking purpose notes) next is = cc is
+left_is head (stages.Listing lister base notes) next is = cc is
+left_is head (stages.Publishing listing notes) next is = cc is
 
-    looking_takes : HasTurn first events handle running running.task ask
-    looking_takes =
-        subst (λ task. HasTurn first events handle running task ask) (sym knows.task)
-        (quiet_turn first events handle running (MakeCall (call_of state.head.query)) ask
-        (in_order_query first events handle running.store running.modes running.begun running.turns state ask knows.place knows.turns knows.seeks_id knows.seeks is) looking_quiet)
+module _ (first : Volume) (events : List Event) (handle : ℕ) (running : Running) (look : LookUp) (knows : IsLooking first events handle running look) where
+  abbrev store : Store
+  store = running.store
 
-    -- ---- what its turn comes to
+  abbrev setting : Setting
+  setting = setting_in store
 
-    module _ (e : Event) (since : running.begun ≤ length events) (turn : IsTurnWith first events e handle ask) where
-      abbrev whole : List Event
-      whole = events ++ e ∷ []
+  abbrev query : Query
+  query = knows.query
 
-      count : length events + 1 ≡ length whole
-      count = sym (length_push events e)
+  abbrev id : ObjectId
+  id = sought store.parts running.modes.ignoring query
 
-      counted : fails_now (disk_after first events) ask ≡ next_fails (disk_after first events)
-      counted = fails_now-still (disk_after first events) ask (looking_still state.stage ask is)
+  abbrev view : View
+  view = view_then events handle running.modes.core running.begun
 
-      broke : next_fails (disk_after first events) ≡ true → FailedSince whole handle running.begun
-      broke fails = failed_now first events e handle running since ask turn (counted ∙ fails)
+  abbrev exchanges : List Exchange
+  exchanges = told_since events handle running.begun
 
-      worked : next_fails (disk_after first events) ≡ false → FailedSince whole handle running.begun → FailedSince events handle running.begun
-      worked works = failed_earlier first events e handle running since ask turn (counted ∙ works)
+  abbrev now_at : LookUp
+  now_at = look_now events handle store running.modes running.begun query
 
-      abbrev Comes : Result Reply LookState → Type 0
-      Comes result =
-          LookComes (tree_at first events) (tree_at first whole) (FailedSince events handle running.begun)
-          (FailedSince whole handle running.begun) running.store running.modes running.begun (length events) since
-          (tree_at-before first events e) (failed-kept events e handle running.begun) (disk_after first events) (shown_now first events e handle running since ask turn looking_quiet)
-          broke worked knows.place state.head result
+  module _ (asked : Option PartAsk) (is : ask_of look ≡ asked) where
+    asked_now : ask_of now_at ≡ asked
+    asked_now = ap ask_of (sym knows.is) ∙ is
 
-      by_query : (query : Query) (reply : Reply)
-          → QueryPromise (tree_at first whole) (FailedSince whole handle running.begun) running.store running.modes running.begun (length whole) query reply
-          → Promise first whole handle running.store running.modes running.begun (MakeCall (call_of query)) reply
-      by_query (Find id) reply p = p
-      by_query (Header id) reply p = p
-      by_query (Test id) reply p = p
+  quiet : (ask : DiskAsk) → ask_of look ≡ Some (parts.Disk ask) → change_by (disk_after first events) ask ≡ None
+  quiet ask is =
+      change_by-quiet (disk_after first events) ask
+      (look_ups_change_no_file setting view query id exchanges knows.asked ask (asked_now (Some (parts.Disk ask)) is) (tree_of (disk_after first events).state))
 
-      from_look : (result : Result Reply LookState) → Comes result → MachineComes first events e handle running looking (OfDisk ask (answer_now (disk_after first events) ask)) result
-      from_look (Ok reply) c =
-          subst (λ task. Promise first whole handle running.store running.modes running.begun task reply) (sym knows.task)
-          (by_query state.head.query reply
-          (subst (λ n. QueryPromise (tree_at first whole) (FailedSince whole handle running.begun) running.store running.modes running.begun n state.head.query reply) count c))
-      from_look (Err after) c = let had = knows.turns in (
-        record {
-          task = knows.task ∙ ap (λ (h : Head). MakeCall (call_of h.query)) (sym c.0);
-          place = knows.place + 1;
-          turns = omega (arith, had);
-          seeks_id = c.1;
-          seeks = subst (λ n. Seeks (tree_at first whole) (FailedSince whole handle running.begun) running.store running.begun n
-              (knows.place + 1) after.head.query after.head.id after.stage) count c.2;
-        },
-        few_queries running.store running.turns (let few = c.3 in omega (arith, had, few)),
-      )
+  -- the call of the disk comes in the order of the task
+  in_order : (call : Query) → query ≡ call → (ask : DiskAsk) → ask_of now_at ≡ Some (parts.Disk ask)
+      → AsksInOrder first events handle store running.modes running.begun running.turns (MakeCall (call_of call)) ask
+  in_order (Find asked) same ask is = subst (λ q. ask_of (look_now events handle store running.modes running.begun q) ≡ Some (parts.Disk ask)) same is
+  in_order (Header asked) same ask is = subst (λ q. ask_of (look_now events handle store running.modes running.begun q) ≡ Some (parts.Disk ask)) same is
+  in_order (Test asked) same ask is = subst (λ q. ask_of (look_now events handle store running.modes running.begun q) ≡ Some (parts.Disk ask)) same is
 
-      looking_comes : MachineComes first events e handle running looking (OfDisk ask (answer_now (disk_after first events) ask))
-          (looks.result_of (looks.fed running.store.parts.folders running.store.parts.limit state (answer_now (disk_after first events) ask)))
-      looking_comes =
-          from_look (looks.result_of (looks.fed running.store.parts.folders running.store.parts.limit state (answer_now (disk_after first events) ask)))
-          (look_comes (tree_at first events) (tree_at first whole) (FailedSince events handle running.begun)
-          (FailedSince whole handle running.begun) running.store running.modes running.begun (length events) since
-          (tree_at-before first events e) (failed-kept events e handle running.begun) (disk_after first events) (shown_now first events e handle running since ask turn looking_quiet)
-          broke worked knows.place state ask knows.seeks_id knows.seeks is)
+  takes_part : (call : Query) → query ≡ call → (asked : Option PartAsk) → ask_of look ≡ asked
+      → TakesTurn first events handle running (MakeCall (call_of call)) (part_asked asked)
+  takes_part call same (Some (parts.Disk ask)) is =
+      quiet_turn first events handle running (MakeCall (call_of call)) ask (in_order call same ask (asked_now (Some (parts.Disk ask)) is)) (quiet ask is)
+  takes_part (Find asked) same None is = subst (λ q. ask_of (look_now events handle store running.modes running.begun q) ≡ None) same (asked_now None is)
+  takes_part (Header asked) same None is = subst (λ q. ask_of (look_now events handle store running.modes running.begun q) ≡ None) same (asked_now None is)
+  takes_part (Test asked) same None is = subst (λ q. ask_of (look_now events handle store running.modes running.begun q) ≡ None) same (asked_now None is)
+  takes_part (Find asked) same (Some (parts.Core event)) is =
+      subst (λ q. ask_of (look_now events handle store running.modes running.begun q) ≡ Some (parts.Core event)) same (asked_now (Some (parts.Core event)) is)
+  takes_part (Header asked) same (Some (parts.Core event)) is =
+      subst (λ q. ask_of (look_now events handle store running.modes running.begun q) ≡ Some (parts.Core event)) same (asked_now (Some (parts.Core event)) is)
+  takes_part (Test asked) same (Some (parts.Core event)) is =
+      subst (λ q. ask_of (look_now events handle store running.modes running.begun q) ≡ Some (parts.Core event)) same (asked_now (Some (parts.Core event)) is)
+
+  takes : TakesTurn first events handle running running.task (part_asked (ask_of look))
+  takes = subst (λ task. TakesTurn first events handle running task (part_asked (ask_of look))) (sym knows.task) (takes_part query refl (ask_of look) refl)
+
+  ends : part_asked (ask_of look) ≡ None → (reply : Reply) × (result_of look ≡ Ok reply)
+  ends none =
+      let done = (a_done_look_up_asks_nothing setting view query id exchanges).0 (asked_now None (nothing_asked (ask_of look) none)) in
+      (done.0, ap result_of knows.is ∙ done.1)
+
+  happens : (event : CoreEvent) → part_asked (ask_of look) ≡ Some (ToCore event) → (shape : Shape) (seat : ℕ) → CanHappen shape seat event
+  happens event is shape seat =
+      what_is_handed_can_happen setting knows.fits.distinct view query id exchanges knows.asked event
+      (asked_now (Some (parts.Core event)) (event_asked (ask_of look) event is)) shape seat
+
+  -- ---- what its turn comes to
+
+  module _ (e : Event) (ran : IsRunning first events handle running) where
+    abbrev whole : List Event
+    whole = events ++ e ∷ []
+
+    by_query : (call : Query) (reply : Reply)
+        → QueryPromise (tree_at first whole) (FailedSince whole handle running.begun) (told_since whole handle running.begun) store running.modes running.begun (length whole) call reply
+        → Promise first whole handle store running.modes running.begun (MakeCall (call_of call)) reply
+    by_query (Find asked) reply keeps = keeps
+    by_query (Header asked) reply keeps = keeps
+    by_query (Test asked) reply keeps = keeps
+
+    promised : (reply : Reply)
+        → QueryPromise (tree_at first whole) (FailedSince whole handle running.begun) (told_since whole handle running.begun) store running.modes running.begun (length whole) query reply
+        → Promise first whole handle store running.modes running.begun running.task reply
+    promised reply keeps = subst (λ task. Promise first whole handle store running.modes running.begun task reply) (sym knows.task) (by_query query reply keeps)
+
+    abbrev begun_now : LookUp
+    begun_now = look_begun whole handle store running.modes running.begun query
+
+    -- it begins as it did
+    begins_same : look_begun events handle store running.modes running.begun query ≡ begun_now
+    begins_same = ap (λ v. looks.started setting v query id) (sym (view_kept events e handle running.begun knows.since running.modes.core))
+
+    module _ (told_now_is : List Exchange) (told_is : told_since whole handle running.begun ≡ told_now_is)
+        (well : IsToldWell first whole handle store running.modes running.begun) where
+      -- a reply of the look-up behind what is told then
+      replies : (reply : Reply) → AreAsked setting (look_begun events handle store running.modes running.begun query) told_now_is
+          → result_of (behind setting (look_begun events handle store running.modes running.begun query) told_now_is) ≡ Ok reply
+          → Promise first whole handle store running.modes running.begun running.task reply
+      replies reply asked is =
+          promised reply
+          (query_promise first whole handle store running.modes running.begun query knows.fits
+          (subst (λ l. AreAsked setting l (told_since whole handle running.begun)) begins_same
+          (subst (AreAsked setting (look_begun events handle store running.modes running.begun query)) (sym told_is) asked))
+          well reply
+          (ap (λ l. result_of (behind setting l (told_since whole handle running.begun))) (sym begins_same)
+          ∙ (ap (λ xs. result_of (behind setting (look_begun events handle store running.modes running.begun query) xs)) told_is ∙ is)))
+
+    -- what it comes to with another snapshot
+    abbrev ComesWith : Option View → Result Reply LookUp → Type 0
+    ComesWith view_now (Ok reply) = Promise first whole handle store running.modes running.begun running.task reply
+    ComesWith view_now (Err next) =
+        IsLooking first whole handle (record running { modes = record running.modes { view = view_now }; turns = running.turns + 1; work = Calling (Looking next) }) next
+        × ((entries : ℕ) → HasAtMost (tree_at first whole) store.parts running.begun (length events + 1) entries → running.turns + 1 < bound_of_call store entries None)
+
+    -- ---- a turn in which it was told something
+
+    module _ (exchange : Exchange) (asked : ask_of look ≡ Some exchange.ask)
+        (told_is : told_since whole handle running.begun ≡ exchanges ++ exchange ∷ [])
+        (well : IsToldWell first whole handle store running.modes running.begun) where
+      abbrev fed_now : LookUp
+      fed_now = fed setting look exchange.answer
+
+      stands_on : fed_now ≡ behind setting (look_begun events handle store running.modes running.begun query) (exchanges ++ exchange ∷ [])
+      stands_on = ap (λ l. fed setting l exchange.answer) knows.is ∙ sym (behind-push setting (look_begun events handle store running.modes running.begun query) exchanges exchange)
+
+      all_asked : AreAsked setting (look_begun events handle store running.modes running.begun query) (exchanges ++ exchange ∷ [])
+      all_asked = asked-push setting (look_begun events handle store running.modes running.begun query) exchanges exchange knows.asked (asked_now (Some exchange.ask) asked)
+
+      longer : length (told_since whole handle running.begun) ≡ running.turns + 1
+      longer =
+          let had = knows.turns in
+          let more = length_push exchanges exchange in
+          ap length told_is ∙ omega (arith, had, more)
+
+      -- it stands behind what its handle was told by then
+      knows_on : (view_now : Option View)
+          → IsLooking first whole handle (record running { modes = record running.modes { view = view_now }; turns = running.turns + 1; work = Calling (Looking fed_now) }) fed_now
+      knows_on view_now = record {
+        query = query;
+        task = knows.task;
+        since = let begun = knows.since in let more = length_push events e in omega (arith, begun, more);
+        fits = record { distinct = knows.fits.distinct; hashed = knows.fits.hashed };
+        is =
+            stands_on
+            ∙ (ap (behind setting (look_begun events handle store running.modes running.begun query)) (sym told_is)
+            ∙ ap (λ l. behind setting l (told_since whole handle running.begun)) begins_same);
+        asked =
+            subst (λ l. AreAsked setting l (told_since whole handle running.begun)) begins_same
+            (subst (AreAsked setting (look_begun events handle store running.modes running.begun query)) (sym told_is) all_asked);
+        turns = sym longer;
+        well = record {
+          opened = well.opened;
+          snapshot = well.snapshot;
+          few = well.few;
+          place = well.place;
+          truth = well.truth;
+          answered = well.answered;
+          numbered = well.numbered;
+          no_later = well.no_later;
+          within = well.within;
+          given = well.given;
+          failures = well.failures;
+        };
+      }
+
+      -- and is within its bound where it goes on
+      in_time : ((reply : Reply) → ¬ (result_of fed_now ≡ Ok reply)) → (entries : ℕ)
+          → HasAtMost (tree_at first whole) store.parts running.begun (length events + 1) entries → running.turns + 1 < bound_of_call store entries None
+      in_time on entries most =
+          let long = longer in
+          let more = length_push events e in
+          let few =
+          a_look_up_ends_in_time setting (view_then whole handle running.modes.core running.begun) query id (told_since whole handle running.begun) store.slots entries well.few
+          (subst (λ l. AreAsked setting l (told_since whole handle running.begun)) begins_same
+          (subst (AreAsked setting (look_begun events handle store running.modes running.begun query)) (sym told_is) all_asked))
+          well.numbered
+          (well.within entries (subst (λ n. HasAtMost (tree_at first whole) store.parts running.begun n entries) (sym more) most))
+          well.answered
+          (λ reply is. on reply
+          (ap result_of stands_on
+          ∙ (ap (λ xs. result_of (behind setting (look_begun events handle store running.modes running.begun query) xs)) (sym told_is)
+          ∙ (ap (λ l. result_of (behind setting l (told_since whole handle running.begun))) begins_same ∙ is)))) in
+          omega (arith, long, few)
+
+      goes : (view_now : Option View) (result : Result Reply LookUp) → result_of fed_now ≡ result
+          → ComesWith view_now result
+      goes view_now (Ok reply) is = replies (exchanges ++ exchange ∷ []) told_is well reply all_asked (ap result_of (sym stands_on) ∙ is)
+      goes view_now (Err next) is =
+          let same : next ≡ fed_now = left_is fed_now.head fed_now.stage next is in
+          subst (λ l. IsLooking first whole handle (record running { modes = record running.modes { view = view_now }; turns = running.turns + 1; work = Calling (Looking l) }) l
+          × ((entries : ℕ) → HasAtMost (tree_at first whole) store.parts running.begun (length events + 1) entries → running.turns + 1 < bound_of_call store entries None))
+          (sym same)
+          (knows_on view_now, in_time (λ reply ok. cc (sym ok ∙ is)))
+
+    -- ---- any turn
+
+    comes_part : (asked : Option PartAsk) → ask_of look ≡ asked → IsTurnAsking first events e handle running (part_asked asked)
+        → MachineComes first events e handle running looking (told_after first events handle running (part_asked asked))
+        (looking.feed store look (answered (told_after first events handle running (part_asked asked))))
+    comes_part None is turn =
+        let end = ends (ap part_asked is) in
+        let same = told_none events e handle running.begun knows.since turn.turn OfNothing turn.asked refl in
+        let well = told_well_later first events e handle store running.modes running.begun same
+        (failed_before events e handle running.begun (λ turn_it failed. no_failure e.entry.did turn.did failed)) knows.since knows.well in
+        subst (λ r. MachineComes first events e handle running looking OfNothing r) (sym end.1)
+        (replies exchanges same well end.0 knows.asked (ap result_of (sym knows.is) ∙ end.1))
+    comes_part (Some (parts.Disk ask)) is turn =
+        let answer = answer_now (disk_after first events) ask in
+        let exchange : Exchange = record { ask = parts.Disk ask; answer = told.Disk answer } in
+        let more = told_turn events e handle running.begun knows.since turn.turn (OfDisk ask answer) turn.asked exchange refl in
+        goes exchange is more (told_well_on_disk first events e handle running look knows ran ask is turn) running.modes.view (result_of (fed setting look (told.Disk answer))) refl
+    comes_part (Some (parts.Core event)) is turn =
+        let place = stand_of events handle running in
+        let answer = answer_behind (history_at place.cores place.store) place.seat event in
+        let exchange : Exchange = record { ask = parts.Core event; answer = told.Core answer } in
+        let more = told_turn events e handle running.begun knows.since turn.turn (OfCore place.store place.seat event answer) turn.asked exchange refl in
+        goes exchange is more (told_well_on_core first events e handle running look knows ran event is turn) (or_before (view_in answer) running.modes.view)
+        (result_of (fed setting look (told.Core answer))) refl
 
 -- ---- its laws
 
-looking_turns : AsksDisk looking (λ store state. looks.ask_of state)
+looking_turns : KeepsTurnLaws looking
 looking_turns = record {
-  is = λ store state. refl;
-  some = looking_names;
-  takes = looking_takes;
-  comes = looking_comes;
+  takes = takes;
+  ends = ends;
+  happens = happens;
+  comes = λ first events e handle running since ran look knows turn. comes_part first events handle running look knows e ran (ask_of look) refl turn;
 }
 
 pub looking_laws : KeepsLaws looking
 looking_laws = record {
-  at_home = λ state. refl;
-  asks = λ store modes code own state. refl;
+  at_home = λ look. refl;
+  asks = λ store modes code own look. refl;
   feeds = looking_feeds;
   starts = looking_starts;
-  tasked = λ first events handle running state knows. knows.task;
-  bounded = λ store task state is entries. looking_bounded store task state.head.query is entries;
-  kept = λ first events e handle running state other knows. looking_push first events e handle running state other nothing_in_front knows;
-  turns = turns_by_disk looking (λ store state. looks.ask_of state) looking_turns;
-  writes = writes_nothing looking (λ state. refl)
-      (λ first events handle running state ask knows is. looking_quiet first events handle running state knows ask (same_ask (looks.ask_of state) ask is));
+  tasked = λ first events handle running look knows. (knows.query, knows.task);
+  bounded = λ store task look is entries. looking_bounded store task is.0 is.1 entries;
+  kept = looking_kept;
+  turns = looking_turns;
+  writes = writes_nothing looking (λ look. refl)
+      (λ first events handle running look ask knows is. quiet first events handle running look knows ask (call_asked (ask_of look) ask is));
 }

@@ -6,8 +6,17 @@ use Rattle.odb_disk.specs.Ask.{answer_now}
 use Rattle.odb_tree.specs.Tree.{IsTree, tree_of}
 use Rattle.odb_disk.specs.declared.ask.DiskAsk.{DiskAsk}
 use Rattle.odb_disk.specs.declared.ask.DiskAnswer.{DiskAnswer}
-use Rattle.gix_odb.specs.CallOrder.{HasSize, result_of_write}
+use Rattle.gix_odb.specs.CallOrder.{HasSize, IsOfHash, result_of_write}
+use Rattle.gix_odb.specs.Contents.{folder_list, replacement_in}
+use Rattle.gix_odb_calls.specs.declared.call.Call.{Call}
+use Rattle.gix_odb_slots.specs.Slots.{same_path}
+use Rattle.gix_hash.specs.ObjectId.{kind_of}
+use Rattle.gix_hash.specs.declared.object_id.ObjectId.{ObjectId}
+use Rattle.std.specs.List.{IsDistinct}
 use Rattle.gix_odb_calls.specs.declared.call.Reply.{Reply}
+use Rattle.gix_odb_core.specs.Replay.{CanHappen}
+use Rattle.gix_odb_core.specs.declared.shape.Shape.{Shape}
+use Rattle.gix_odb.specs.CallOrder.{disk_part}
 use Rattle.gix_odb.specs.declared.handle_state.HandleState.{HandleState}
 use Rattle.gix_odb_loose.specs.LooseOrder.{disk_ask_of}
 use Rattle.gix_odb_loose.specs.LooseOrder as loose_order
@@ -15,20 +24,23 @@ use Rattle.gix_odb_loose.specs.declared.call.LooseCall.{LooseCall}
 use Rattle.gix_odb_loose.specs.declared.write_order.WriteStage.TheVariants.{Making}
 use Rattle.gix_odb_world.specs.declared.work.Work.{Work}
 use Rattle.gix_odb_world.specs.Asks.{AsksInOrder, MayAskCore, MayAskNewCore, MayEndUnasked}
-use Rattle.gix_odb_world.specs.Bound.{bound_of_task}
+use Rattle.gix_odb_world.specs.Bound.{HasAtMost, bound_of_task}
+use Rattle.gix_odb_world.specs.Cores.{cores_after}
+use Rattle.gix_odb_world.specs.Seats.{IsSeated}
 use Rattle.gix_odb_world.specs.Changes.{ChangesInTask}
-use Rattle.gix_odb_world.specs.Event.{Answer, Ask, Asked, Event, FromDisk, OfDisk, ToCore, ToDisk, ToNewCore, answered, to_disk}
+use Rattle.gix_odb_world.specs.Event.{Answer, Ask, Asked, CoreEvent, Event, FromDisk, OfDisk, ToCore, ToDisk, ToNewCore, answered, part_asked, to_disk}
 use Rattle.gix_odb_world.specs.Handle.{IsHandleOf}
-use Rattle.gix_odb_world.specs.Headline.{stand_of}
+use Rattle.gix_odb_world.specs.Headline.{IsLawful, stand_of}
 use Rattle.gix_odb_world.specs.Machine.{At, Machine, placed}
 use Rattle.gix_odb_world.specs.Machines.{at}
 use Rattle.gix_odb_world.specs.Promise.{Promise}
-use Rattle.gix_odb_world.specs.Run.{IsTurnOf, NoCall, change_by, disk_after, told_now}
-use Rattle.gix_odb_world.specs.Running.{Knows}
+use Rattle.gix_odb_world.specs.Run.{IsTurnOf, NoCall, change_by, disk_after, told_now, tree_at}
+use Rattle.gix_odb_world.specs.Running.{Knows, RunsThroughout}
 use Rattle.gix_odb_world.specs.Running.Write.{IsWriting, write_at}
 use Rattle.gix_odb_world.specs.Writing.{ToWrite}
-use Rattle.gix_odb_world.specs.Status.{MakeCall, OpenStore, Running, Store, Task, begun_with, gone_on, running_from, Modes}
+use Rattle.gix_odb_world.specs.Status.{MakeCall, OpenStore, Running, Store, Task, Working, begun_with, gone_on, running_from, status_of, Modes}
 use Rattle.gix_odb_world.specs.WorkOrder.{asks_on, fed_after, result_in}
+use Rattle.gix_odb_world.proofs.Stock.OneCore.{IsStocked}
 use Rattle.gix_odb_world.proofs.WriteTurn.Common.{IsTurnWith}
 
 -- the turn of a task's call of the disk, and the change that this makes
@@ -38,9 +50,9 @@ pub record HasTurn (first : Volume) (events : List Event) (handle : ℕ) (runnin
 
 -- what a turn asks for comes in the order of its task, and makes a change that the task may make
 abbrev pub TakesTurn : Volume → List Event → (handle : ℕ) → Running → Task → Option Ask → Type 0
-TakesTurn first events handle running task None = MayEndUnasked task
+TakesTurn first events handle running task None = MayEndUnasked events handle running.store running.modes running.begun task
 TakesTurn first events handle running task (Some (ToDisk ask)) = HasTurn first events handle running task ask
-TakesTurn first events handle running task (Some (ToCore event)) = MayAskCore task event
+TakesTurn first events handle running task (Some (ToCore event)) = MayAskCore events handle running.store running.modes running.begun task event
 TakesTurn first events handle running task (Some (ToNewCore slots folders)) = MayAskNewCore running.store running.turns task slots folders
 
 -- the last event is a turn of the handle that asked so, and made no call of the disk
@@ -63,10 +75,29 @@ IsTurnAsking first events e handle running (Some (ToNewCore slots folders)) =
 abbrev pub told_after : Volume → List Event → (handle : ℕ) → Running → Option Ask → Asked
 told_after first events handle running ask = told_now (stand_of events handle running) (disk_after first events) ask
 
--- the size of what a task is to write has 64 bits
-abbrev pub IsSized : Task → Type 0
-IsSized OpenStore = Unit {0}
-IsSized (MakeCall call) = HasSize call
+-- What holds where a call begins: its handle is seated, the ids that it names are of the store's hash, as all that replace others are, the
+-- size of what it is to write has 64 bits, no folder of the store comes twice, the store was opened before,
+-- and the handle's core is that of the store.
+pub record IsStarted (first : Volume) (events : List Event) (handle : ℕ) (store : Store) (modes : Modes) (call : Call) : Type 0 where
+  pub seated : IsSeated (cores_after events) handle modes
+  pub sized : HasSize call
+  pub hashed : IsOfHash store.hash call
+  pub replaced : (id other : ObjectId) → replacement_in store.parts id ≡ Some other → kind_of other ≡ store.hash
+  pub distinct : IsDistinct same_path (folder_list store.parts)
+  pub opened : store.opened ≤ length events
+  pub stocked : IsStocked first events modes.core store
+
+-- what holds where a task begins
+abbrev pub BeginsAs : Volume → List Event → (handle : ℕ) → Store → Modes → Task → Type 0
+BeginsAs first events handle store modes OpenStore = Unit {0}
+BeginsAs first events handle store modes (MakeCall call) = IsStarted first events handle store modes call
+
+-- what is known of the run before a turn of a handle that is at work
+pub record IsRunning (first : Volume) (events : List Event) (handle : ℕ) (running : Running) : Type 0 where
+  pub lawful : IsLawful first events
+  pub throughout : RunsThroughout first events
+  pub start : IsTree (tree_of first.state)
+  pub status : status_of events handle ≡ Working running
 
 -- ---- what a turn comes to
 
@@ -78,9 +109,11 @@ module _ (first : Volume) (events : List Event) (e : Event) (handle : ℕ) (runn
   abbrev pub Keeps : Reply → Type 0
   Keeps reply = Promise first whole handle running.store running.modes running.begun running.task reply
 
-  -- a bound isn't reached
+  -- a bound isn't reached, where no folder that may be listed has more entries than so many
   abbrev pub InTime : (bound : Store → Task → (entries : ℕ) → ℕ) → Type 0
-  InTime bound = (entries : ℕ) → running.turns + 1 < bound running.store running.task entries
+  InTime bound =
+      (entries : ℕ) → HasAtMost (tree_at first whole) running.store.parts running.begun (length events + 1) entries
+      → running.turns + 1 < bound running.store running.task entries
 
   -- the reply of a turn that asked so keeps its promise, or the machine goes on, knows as much and is within its bound
   abbrev pub MachineComes : (m : Machine) → Asked → Result Reply m.State → Type 0
@@ -130,9 +163,12 @@ pub record KeepsTurnLaws (m : Machine) : Type 1 where
   -- where it asks for nothing, it has its reply
   pub ends : (first : Volume) (events : List Event) (handle : ℕ) (running : Running) (state : m.State) → m.Knows first events handle running state
       → m.ask running.store state ≡ None → (reply : Reply) × (m.feed running.store state None ≡ Ok reply)
+  -- an event of a core that it asks for can happen there
+  pub happens : (first : Volume) (events : List Event) (handle : ℕ) (running : Running) (state : m.State) → m.Knows first events handle running state
+      → (event : CoreEvent) → m.ask running.store state ≡ Some (ToCore event) → (shape : Shape) (seat : ℕ) → CanHappen shape seat event
   -- the turn leads to a reply that keeps the promise of the task, or on
   pub comes : (first : Volume) (events : List Event) (e : Event) (handle : ℕ) (running : Running) → running.begun ≤ length events
-      → (state : m.State) → m.Knows first events handle running state → IsTurnAsking first events e handle running (m.ask running.store state)
+      → IsRunning first events handle running → (state : m.State) → m.Knows first events handle running state → IsTurnAsking first events e handle running (m.ask running.store state)
       → MachineComes first events e handle running m (told_after first events handle running (m.ask running.store state))
       (m.feed running.store state (answered (told_after first events handle running (m.ask running.store state))))
 
@@ -146,7 +182,7 @@ pub record KeepsLaws (m : Machine) : Type 1 where
       → result_in (fed_after code (m.work state) answer) ≡ placed m (m.feed store state answer)
   -- where a task begins at a state, that is all that it knows
   pub starts : (first : Volume) (events : List Event) (e : Event) (handle : ℕ) (store : Store) (modes : Modes) (task : Task) (state : m.State)
-      → IsSized task
+      → BeginsAs first (events ++ e ∷ []) handle store modes task
       → begun_with store modes task ≡ m.work state
       → m.Knows first (events ++ e ∷ []) handle (running_from (length events + 1) task store modes) state
   -- the task of a state is one that it may be at, and has the machine's bound
@@ -161,6 +197,16 @@ pub record KeepsLaws (m : Machine) : Type 1 where
   pub writes : KeepsWriteLaws m
 
 -- ---- machines that ask the disk in each turn
+
+-- what is asked of the disk is the same among all that is asked for
+pub of_disk_part : (asked : Option DiskAsk) → part_asked (disk_part asked) ≡ to_disk asked
+of_disk_part None = refl
+of_disk_part (Some ask) = refl
+
+-- what is asked of the disk is no event of a core
+pub no_event : (asked : Option DiskAsk) (event : CoreEvent) → ¬ (to_disk asked ≡ Some (ToCore event))
+no_event None event is = cc is
+no_event (Some ask) event is = cc is
 
 -- what is asked of the disk is that call
 pub same_ask : (asked : Option DiskAsk) (ask : DiskAsk) → to_disk asked ≡ Some (ToDisk ask) → asked ≡ Some ask
@@ -197,6 +243,9 @@ module _ (m : Machine) (call : Store → m.State → Option DiskAsk) (disk : Ask
     never_ends : m.ask running.store state ≡ None → ⊥
     never_ends none = let both : None ≡ Some (ToDisk some.0) = sym none ∙ asked in cc both
 
+    calls_disk : (event : CoreEvent) → ¬ (m.ask running.store state ≡ Some (ToCore event))
+    calls_disk event is = no_event (call running.store state) event (sym (disk.is running.store state) ∙ is)
+
     comes : (e : Event) → running.begun ≤ length events → IsTurnAsking first events e handle running (m.ask running.store state)
         → MachineComes first events e handle running m (told_after first events handle running (m.ask running.store state))
         (m.feed running.store state (answered (told_after first events handle running (m.ask running.store state))))
@@ -209,7 +258,8 @@ module _ (m : Machine) (call : Store → m.State → Option DiskAsk) (disk : Ask
   turns_by_disk = record {
     takes = takes;
     ends = λ first events handle running state knows none. absurd (never_ends first events handle running state knows none);
-    comes = λ first events e handle running since state knows. comes first events handle running state knows e since;
+    happens = λ first events handle running state knows event is shape seat. absurd (calls_disk first events handle running state knows event is);
+    comes = λ first events e handle running since ran state knows. comes first events handle running state knows e since;
   }
 
 -- ---- machines that make no change

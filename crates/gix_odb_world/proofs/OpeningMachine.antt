@@ -1,6 +1,6 @@
 -- An opening keeps the laws of a machine.
 pub mod Look
-use Rattle.std.proofs.Common.{◌≡◌, ℕ, ◌+◌, ◌<◌, ◌≤◌, Bool, true, false, cond, List, [], ◌∷◌, ◌++◌, length, min, Option, Some, None, refl, sym, ◌∙◌, ap, subst, arith, Ok, Err, Result}
+use Rattle.std.proofs.Common.{◌≡◌, ℕ, ◌+◌, ◌<◌, ◌≤◌, Bool, true, false, cond, List, [], ◌∷◌, ◌++◌, length, Option, Some, None, refl, sym, ◌∙◌, ap, subst, arith, Ok, Err, Result}
 use Rattle.std.proofs.lemmas.List.{length_push}
 use Rattle.odb_tree.specs.Tree.{tree_of}
 use Rattle.odb_tree.specs.declared.disk_error.DiskError.TheVariants as disk_errors
@@ -13,7 +13,7 @@ use Rattle.odb_disk.specs.declared.ask.DiskAsk.TheVariants as asks
 use Rattle.odb_base.specs.Path.{Path}
 use Rattle.gix_odb.specs.Contents.{folder_list}
 use Rattle.gix_odb.specs.OpenOrder as openings
-use Rattle.gix_odb.specs.OpenOrder.{looked, most_slots}
+use Rattle.gix_odb.specs.OpenOrder.{looked}
 use Rattle.gix_odb_calls.specs.declared.call.Reply.{Reply}
 use Rattle.gix_odb_calls.specs.declared.call.Reply.TheVariants as replies
 use Rattle.gix_odb.specs.declared.handle_state.HandleState.{HandleState}
@@ -22,7 +22,7 @@ use Rattle.gix_odb.specs.declared.open_state.OpenState.TheVariants as opens
 use Rattle.gix_odb_world.specs.declared.work.Work.TheVariants.{Opening}
 use Rattle.gix_odb_world.specs.Bound.{bound_of_task, turn_bound}
 use Rattle.gix_odb_world.specs.Causes.{Sometime, ShowsDirectory}
-use Rattle.gix_odb_world.specs.Event.{Answer, Ask, Event, FromCore, FromDisk, OfDisk, ToDisk, ToNewCore, answered}
+use Rattle.gix_odb_world.specs.Event.{Answer, Ask, CoreEvent, Event, FromCore, FromDisk, OfDisk, ToCore, ToDisk, ToNewCore, answered}
 use Rattle.gix_odb_world.specs.Handle.{IsHandleOf}
 use Rattle.gix_odb_world.specs.Machine.{placed}
 use Rattle.gix_odb_core.specs.History.{opened}
@@ -33,8 +33,8 @@ use Rattle.gix_odb_world.specs.Run.{FailedSince, IsTurnOf, change_by, disk_after
 use Rattle.gix_odb_world.specs.Running.Opening.{HasSeen, IsLookingAt, IsOpening, IsRegistering, opening, opening_ask, opening_fed}
 use Rattle.gix_odb_world.specs.Status.{MakeCall, OpenStore, Running, Store, Task, begun_with, running_from, Modes}
 use Rattle.gix_odb_world.specs.WorkOrder.{asks_on, fed_after, opening_result, result_in}
-use Rattle.gix_odb_world.proofs.FolderLemmas.{look_quiet}
-use Rattle.gix_odb_world.proofs.MachineLaws.{HasTurn, IsSized, IsTurnAsking, IsTurnWithoutCall, KeepsLaws, KeepsTurnLaws, MachineComes, TakesTurn, quiet_turn, told_after, writes_nothing}
+use Rattle.gix_odb_world.proofs.WriteAsk.Quiet.{look_quiet}
+use Rattle.gix_odb_world.proofs.MachineLaws.{HasTurn, BeginsAs, IsTurnAsking, IsTurnWithoutCall, KeepsLaws, KeepsTurnLaws, MachineComes, TakesTurn, quiet_turn, told_after, writes_nothing}
 use Rattle.gix_odb_world.proofs.OpeningMachine.Look.{Looks, look_keeps}
 use Rattle.gix_odb_world.proofs.QuietTurn.{failed_now, shown_now}
 use Rattle.gix_odb_world.proofs.HistoryLemmas.{failed_before, none_failed_yet, tree_at-before}
@@ -52,8 +52,7 @@ opening_asks : (store : Store) (modes : Modes) (code : HandleState) → IsHandle
 opening_asks store modes code own opens.Looking = ap (λ objects. Some (ToDisk (asks.Look objects true))) own.objects
 opening_asks store modes code own opens.Registering =
     let folders : length code.store.value.folders + 1 ≡ length (folder_list store.parts) = let same = ap length own.folders in omega (arith, same) in
-    ap (λ slots. Some (ToNewCore (min slots most_slots) (length code.store.value.folders + 1))) own.slots
-    ∙ ap (λ n. Some (ToNewCore (min store.slots most_slots) n)) folders
+    ap (λ slots. Some (ToNewCore slots (length code.store.value.folders + 1))) own.slots ∙ ap (λ n. Some (ToNewCore store.slots n)) folders
 opening_asks store modes code own (opens.Done reply) = refl
 
 opening_feeds : (store : Store) (modes : Modes) (code : HandleState) → IsHandleOf store modes code → (state : OpenState) (answer : Option Answer)
@@ -69,16 +68,16 @@ opening_feeds store modes code own state (Some (FromCore answer)) =
 -- ---- its beginning
 
 opening_starts : (first : Volume) (events : List Event) (e : Event) (handle : ℕ) (store : Store) (modes : Modes) (task : Task) (state : OpenState)
-    → IsSized task
+    → BeginsAs first (events ++ e ∷ []) handle store modes task
     → begun_with store modes task ≡ Opening state
     → IsOpening first (events ++ e ∷ []) handle (running_from (length events + 1) task store modes) state
-opening_starts first events e handle store modes OpenStore state sized is =
+opening_starts first events e handle store modes OpenStore state start is =
     let same : opens.Looking ≡ state = cc is in
     let whole : length (events ++ e ∷ []) ≡ length events + 1 = length_push events e in
     let seen : IsLookingAt (events ++ e ∷ []) handle (running_from (length events + 1) OpenStore store modes) =
     record { turns = refl; no_failure = none_failed_yet (events ++ e ∷ []) handle (length events + 1) (omega (arith, whole)) } in
     record { task = refl; seen = subst (HasSeen first (events ++ e ∷ []) handle (running_from (length events + 1) OpenStore store modes)) same seen }
-opening_starts first events e handle store modes (MakeCall call) state sized is = absurd (cc is)
+opening_starts first events e handle store modes (MakeCall call) state start is = absurd (cc is)
 
 -- what was so at some moment before an event was so before and with it
 module _ (first : Volume) (events : List Event) (e : Event) where
@@ -103,9 +102,6 @@ module _ (first : Volume) (events : List Event) (e : Event) where
   seen_kept handle running (opens.Done reply) other seen = absurd seen
 
 -- ---- its look
-
-min_few : (slots : ℕ) → slots ≤ most_slots → min slots most_slots ≡ slots
-min_few slots few = grind (arith, few)
 
 module _ (first : Volume) (events : List Event) (handle : ℕ) (running : Running) (task : running.task ≡ OpenStore) where
   abbrev objects : Path
@@ -164,7 +160,7 @@ module _ (first : Volume) (events : List Event) (handle : ℕ) (running : Runnin
                 directory = subst (λ n. Sometime running.begun n (λ moment. ShowsDirectory (tree_at first whole moment) objects)) (sym count) comes.1;
               };
             },
-            λ entries. omega (arith, none),
+            λ entries most. omega (arith, none),
           )
       from_look none (opens.Done reply) comes =
           keeps reply
@@ -186,11 +182,11 @@ module _ (first : Volume) (events : List Event) (handle : ℕ) (running : Runnin
       asked = turn.asked;
     }
 
-    registered : IsRegistering first events running → IsTurnWithoutCall first events e handle running (Some (ToNewCore (min running.store.slots most_slots) folders))
+    registered : IsRegistering first events running → IsTurnWithoutCall first events e handle running (Some (ToNewCore running.store.slots folders))
         → Promised (replies.Opened running.store.slots)
     registered seen turn = record {
       as_asked = refl;
-      core = subst (λ slots. MadeCore whole slots folders) (min_few running.store.slots seen.few) (made (min running.store.slots most_slots) turn);
+      core = made running.store.slots turn;
       not_too_many = seen.few;
       directory = shown_before first events e running.begun objects seen.directory;
     }
@@ -202,10 +198,8 @@ opening_takes : (first : Volume) (events : List Event) (handle : ℕ) (running :
     → TakesTurn first events handle running running.task (opening_ask running.store state)
 opening_takes first events handle running task opens.Looking seen = look_takes first events handle running task seen.turns
 opening_takes first events handle running task opens.Registering seen =
-    let same = min_few running.store.slots seen.few in
-    let few = seen.few in
     subst (λ t. TakesTurn first events handle running t (opening_ask running.store opens.Registering)) (sym task)
-    (seen.turns, same, omega (arith, same, few), refl)
+    (seen.turns, refl, seen.few, refl)
 opening_takes first events handle running task (opens.Done reply) seen = absurd seen
 
 opening_ends : (first : Volume) (events : List Event) (handle : ℕ) (running : Running) (state : OpenState) → HasSeen first events handle running state
@@ -225,11 +219,17 @@ opening_comes first events e handle running since task opens.Registering seen tu
     keeps first events handle running task e since (replies.Opened running.store.slots) (registered first events handle running task e since seen turn)
 opening_comes first events e handle running since task (opens.Done reply) seen turn = absurd seen
 
+asks_no_event : (store : Store) (state : OpenState) (event : CoreEvent) → ¬ (opening_ask store state ≡ Some (ToCore event))
+asks_no_event store opens.Looking event is = cc is
+asks_no_event store opens.Registering event is = cc is
+asks_no_event store (opens.Done reply) event is = cc is
+
 opening_turns : KeepsTurnLaws opening
 opening_turns = record {
   takes = λ first events handle running state knows. opening_takes first events handle running knows.task state knows.seen;
   ends = λ first events handle running state knows none. opening_ends first events handle running state knows.seen none;
-  comes = λ first events e handle running since state knows turn. opening_comes first events e handle running since knows.task state knows.seen turn;
+  happens = λ first events handle running state knows event is shape seat. absurd (asks_no_event running.store state event is);
+  comes = λ first events e handle running since ran state knows turn. opening_comes first events e handle running since knows.task state knows.seen turn;
 }
 
 -- ---- its laws

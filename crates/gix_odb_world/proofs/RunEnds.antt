@@ -7,15 +7,18 @@ use Rattle.gix_odb_core.specs.Steps.{last_state}
 use Rattle.gix_odb_core.specs.declared.journal.Journal.{Journal}
 use Rattle.odb_disk.specs.MemDisk.{Volume}
 use Rattle.gix_odb_world.specs.declared.course.Course.{Course}
+use Rattle.gix_odb_world.specs.Cores.{cores_after}
 use Rattle.gix_odb_world.specs.Event.{Event}
 use Rattle.gix_odb_world.specs.Headline.{Headline, IsJournal, IsRun}
 use Rattle.gix_odb_world.specs.declared.record.Run.{Run}
 use Rattle.gix_odb_calls.specs.declared.step.Step.{Step}
+use Rattle.gix_odb_world.specs.Seats.{HasSeatThroughout}
 use Rattle.gix_odb_world.specs.World.{Explains, IsRunOf}
 use Rattle.gix_odb_world.proofs.EntryLemmas.{each_entry_told}
 use Rattle.gix_odb_world.proofs.NameSteps.{names_stay_whole}
 use Rattle.gix_odb_world.proofs.LawfulRun.{LawfulRun}
-use Rattle.gix_odb_world.proofs.SeatLemmas.{registers_own, seats_now}
+use Rattle.gix_odb_world.proofs.SeatLemmas.{registers_own_throughout, seats_throughout}
+use Rattle.gix_odb_world.proofs.SeatLemmas.Snapshots.{snapshots_never_fall}
 use Rattle.gix_odb_world.proofs.StandAlone.{writes_stand_alone}
 
 -- what led to the world is its run
@@ -26,16 +29,19 @@ pub is_run : (world : Course) (journals : List Journal) → map entries_of journ
 is_run world journals entries each few first events explains =
     let lawful_run : LawfulRun =
     record { first = first; events = events; start = explains.start; lawful = explains.lawful; throughout = explains.throughout } in
+    let each_here : All IsJournal (cores_after events) = subst (All IsJournal) explains.cores each in
+    let seats : HasSeatThroughout events = seats_throughout first events explains.lawful in
     record {
       outcomes_are = explains.outcomes;
       records_are = explains.records;
       lawful = explains.lawful;
       disk = explains.disk;
       journals_are = entries ∙ ap (map (λ (h : History). h.entries)) explains.cores;
-      journals = subst (All IsJournal) explains.cores each;
+      journals = each_here;
       entries = each_entry_told first events world.records explains.lawful explains.records few;
-      seats = seats_now first events explains.lawful;
-      registers_own = registers_own first events explains.lawful;
+      seats = seats;
+      registers_own = registers_own_throughout first events explains.lawful;
+      snapshots = snapshots_never_fall events each_here seats;
       alone = writes_stand_alone lawful_run;
       names = names_stay_whole lawful_run;
     }

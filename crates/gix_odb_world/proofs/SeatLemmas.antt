@@ -4,14 +4,17 @@ pub mod Elsewhere
 pub mod Entered
 pub mod Opened
 pub mod Applied
-use Rattle.std.proofs.Common.{◌≡◌, ◌≢◌, ℕ, ◌+◌, Bool, true, false, List, [], ◌∷◌, ◌++◌, length, min, Option, Some, None, Ok, Err, Result, refl, sym, ◌∙◌, ap, subst}
+pub mod Grown
+pub mod Snapshots
+pub mod Looked
+use Rattle.std.proofs.Common.{◌≡◌, ◌≢◌, ℕ, ◌+◌, Bool, true, false, List, [], ◌∷◌, ◌++◌, length, take, Option, Some, None, Ok, Err, Result, refl, sym, ◌∙◌, ap, subst, arith}
 use Rattle.std.specs.Prelude.{◌==◌, ◌↔◌, IsSome, if◌then◌else◌, unwrap_or}
 use Rattle.std.proofs.lemmas.Bool.{eqb-true, eqb-false}
 use Rattle.odb_disk.specs.MemDisk.{Volume}
 use Rattle.odb_disk.specs.Ask.{answer_now}
 use Rattle.odb_disk.specs.declared.ask.DiskAsk.TheVariants as asks
 use Rattle.gix_odb.specs.Contents.{folder_list}
-use Rattle.gix_odb.specs.OpenOrder.{looked, most_slots}
+use Rattle.gix_odb.specs.OpenOrder.{looked}
 use Rattle.gix_odb_calls.specs.declared.call.Call.{Call}
 use Rattle.gix_odb_calls.specs.declared.call.Call.TheVariants as calls
 use Rattle.gix_odb_calls.specs.declared.call.CallError.TheVariants as call_errors
@@ -41,17 +44,19 @@ use Rattle.gix_odb_world.specs.Headline.{IsLawful, IsTurn, Law, Suits, Turns, Wo
 use Rattle.gix_odb_world.specs.Machines.{ask_in, fed_in}
 use Rattle.gix_odb_world.specs.Run.{disk_after, told_now}
 use Rattle.gix_odb_world.specs.Promise.{Promise}
-use Rattle.gix_odb_world.specs.Seats.{HasSeat, HasSeatAt, IsNowhere, IsOpenAt, IsOpenAtTask, IsSeated, RegistersOwn}
+use Rattle.gix_odb_world.specs.Seats.{HasSeat, HasSeatAt, HasSeatThroughout, IsNowhere, IsOpenAt, IsOpenAtTask, IsSeated, RegistersOwn, RegistersOwnThroughout}
 use Rattle.gix_odb_world.specs.Status.{Free, MakeCall, Modes, OpenStore, Resting, Running, Status, Store, Task, Working, cloned, come_to, ignoring_from, modes_after, refuses_opening}
 use Rattle.gix_odb_world.specs.Status.{replied, started, status_after, status_of, turned, with_status}
 use Rattle.gix_odb_world.specs.Valid.{misuse_of, phase_of, why_not_after, why_not_running}
 use Rattle.gix_odb_world.proofs.AlongRun.{along_run}
 use Rattle.gix_odb_world.proofs.HistoryLemmas.{cores_after-push}
+use Rattle.gix_odb_world.proofs.OpenFacts.{lawful_front}
 use Rattle.gix_odb_world.proofs.RunSteps.{at_work, turn_step}
 use Rattle.gix_odb_world.proofs.SeatLemmas.Elsewhere.{out_new}
 use Rattle.gix_odb_world.proofs.SeatLemmas.Entered.{seated_more, seated_new}
+use Rattle.gix_odb_world.proofs.SeatLemmas.Looked.{out_looked, seated_looked, seated_looking}
 use Rattle.gix_odb_world.proofs.SeatLemmas.Opened.{IsOn, left_of, looked_refuses, on_by, opened_by, reply_of}
-use Rattle.gix_odb_world.proofs.SeatLemmas.Applied.{Carries, Stands, StandsAt, applied_by, carry_by, carry_nothing, kept, no_core, nowhere_now, set, to_now}
+use Rattle.gix_odb_world.proofs.SeatLemmas.Applied.{Carries, Stands, StandsAt, applied_by, asks_of_looks, carry_by, carry_nothing, kept, nowhere_now, set, to_now}
 
 -- ---- replies that refuse an opening
 
@@ -94,7 +99,11 @@ module _ (past : List Event) (e : Event) where
           → AsksAsTask first past number running.store running.modes running.begun running.turns running.task ask → (handle : ℕ) → handle ≢ number → Carries past e handle
       carry_ask None is order handle apart = carry_nothing past e is handle
       carry_ask (Some (ToDisk ask)) is order handle apart = carry_by past e _ is handle (λ modes was. was) (λ store was. was)
-      carry_ask (Some (ToCore event)) is order handle apart = absurd (no_core running.task event order)
+      carry_ask (Some (ToCore event)) is order handle apart =
+          let of = asks_of_looks past number running.store running.modes running.begun running.task event order in
+          let answer = answer_behind (history_at before_it running.modes.core) number event in
+          carry_by past e _ is handle (λ modes was. seated_looked before_it running.modes.core number event answer of handle modes apart was)
+          (out_looked before_it running.modes.core number event answer of handle)
       carry_ask (Some (ToNewCore slots folders)) is order handle apart =
           let h : History = opened slots folders 0 0 in
           let view : View = view_of (after (present h) number (core_events.Register false)) (number_behind h.entries) in
@@ -112,7 +121,11 @@ module _ (past : List Event) (e : Event) where
           subst (λ a. IsSeated (cores_after now) number (modes_after a running.modes)) (sym is) (to_now past e _ is number running.modes seated)
       call_kept (Some (ToDisk ask)) call is order seated =
           subst (λ a. IsSeated (cores_after now) number (modes_after a running.modes)) (sym is) (to_now past e _ is number running.modes seated)
-      call_kept (Some (ToCore event)) call is order seated = absurd order
+      call_kept (Some (ToCore event)) call is order seated =
+          let of = asks_of_looks past number running.store running.modes running.begun (MakeCall call) event order in
+          let answer = answer_behind (history_at before_it running.modes.core) number event in
+          subst (λ a. IsSeated (cores_after now) number (modes_after a running.modes)) (sym is)
+          (to_now past e _ is number (modes_after (told (Some (ToCore event))) running.modes) (seated_looking before_it number running.modes event answer of seated))
       call_kept (Some (ToNewCore slots folders)) call is order seated = absurd order
 
       -- ---- an opening
@@ -121,7 +134,7 @@ module _ (past : List Event) (e : Event) where
       look = ToDisk (asks.Look running.store.parts.objects true)
 
       abbrev new_core : Ask
-      new_core = ToNewCore (min running.store.slots most_slots) (length (folder_list running.store.parts))
+      new_core = ToNewCore running.store.slots (length (folder_list running.store.parts))
 
       asked_by : (state : OpenState) (ask : Ask) → running.work ≡ Opening state → ask_in running.store (Opening state) ≡ Some ask → e.asked ≡ told (Some ask)
       asked_by state ask at asks_it = works.told ∙ ap told (sym works.asks ∙ (ap (ask_in running.store) at ∙ asks_it))
@@ -149,7 +162,7 @@ module _ (past : List Event) (e : Event) where
           let refuses = looked_refuses running.store.slots given reply (opened_by (looked running.store.slots given) reply fed) in
           absurd (cc (refuses, sound))
       opened_seat opens.Registering at on nowhere reply out sound =
-          let slots = min running.store.slots most_slots in
+          let slots = running.store.slots in
           let folders = length (folder_list running.store.parts) in
           let is : e.asked ≡ told (Some new_core) = asked_by opens.Registering new_core at refl in
           let h : History = opened slots folders 0 0 in
@@ -296,3 +309,11 @@ own_by events store seat (Working running) has = own_at (cores_after events) sto
 
 pub registers_own : (first : Volume) (events : List Event) → IsLawful first events → RegistersOwn events
 registers_own first events lawful store seat = own_by events store seat (status_of events seat) (seats_now first events lawful seat)
+
+-- ---- after each of the events
+
+pub seats_throughout : (first : Volume) (events : List Event) → IsLawful first events → HasSeatThroughout events
+seats_throughout first events lawful now handle within = seats_now first (take now events) (lawful_front first events now lawful) handle
+
+pub registers_own_throughout : (first : Volume) (events : List Event) → IsLawful first events → RegistersOwnThroughout events
+registers_own_throughout first events lawful now within = registers_own first (take now events) (lawful_front first events now lawful)

@@ -1,5 +1,5 @@
 -- The start of a call on an idle handle.
-use Rattle.std.proofs.Common.{◌≡◌, ℕ, ◌+◌, List, [], ◌∷◌, ◌++◌, length, Some, None, Option, refl, sym, ◌∙◌, ap, subst, arith}
+use Rattle.std.proofs.Common.{◌≡◌, ℕ, ◌+◌, Bool, true, false, List, [], ◌∷◌, ◌++◌, length, Some, None, Option, refl, sym, ◌∙◌, ap, subst, arith}
 use mathlib.Core.Path.{fun_ext}
 use Rattle.std.proofs.lemmas.List.{length_push}
 use Rattle.odb_disk.specs.MemDisk.{Volume}
@@ -15,50 +15,112 @@ use Rattle.gix_odb_world.specs.declared.course.Course.{Course}
 use Rattle.gix_odb.specs.CallOrder as calls
 use Rattle.gix_odb.specs.CallOrder.{HasSize}
 use Rattle.gix_odb.specs.Contents.{sought, sought_with}
-use Rattle.gix_odb_world.specs.Event.{Event}
-use Rattle.gix_odb_world.specs.Status.{MakeCall, Store, Status, Free, Resting, Working, begun_with, started, Modes}
+use Rattle.gix_odb_world.specs.Event.{Event, OfNothing}
+use Rattle.gix_odb_world.specs.Status.{MakeCall, Store, Status, Free, Resting, Working, begun_with, setting_in, started, status_of, view_in_modes, Modes}
 use Rattle.gix_odb_world.specs.Handle.{IsHandleOf}
-use Rattle.gix_odb.specs.HandleState.{replacement_of, sought_by}
+use Rattle.gix_odb.specs.HandleState.{replacement_of, setting_at, sought_by, unseen, view_at}
 use Rattle.gix_odb_world.specs.Run.{IsTurnOf}
-use Rattle.gix_odb_world.specs.Running.{Runs}
-use Rattle.gix_odb_world.specs.Valid.{why_not_start}
-use Rattle.gix_odb_world.specs.World.{Continues, Matches, handle_at}
+use Rattle.gix_odb_world.specs.Running.{Runs, RunsThroughout}
+use Rattle.gix_odb_world.specs.Valid.{phase_of, why_not_of_hash, why_not_start}
+use Rattle.gix_odb_world.specs.World.{Continues, Explains, Matches, handle_at}
 use Rattle.gix_odb_world.specs.Table.{SetsHandle, Notes, phase_of_handle, phase_of_work, why_not_now, with_work}
-use Rattle.gix_odb_world.proofs.StepLemmas.{applied}
+use Rattle.std.specs.Prelude.{slice_get, unwrap_or}
+use Rattle.odb_tree.specs.Tree.{IsTree, tree_of}
+use Rattle.gix_odb_calls.specs.Hashes.{is_of_hash}
+use Rattle.gix_odb_world.specs.Begun.{HoldsStore}
+use Rattle.gix_odb_world.specs.Cores.{cores_after, cores_after_asked}
+use Rattle.gix_odb_world.specs.Headline.{IsLawful}
+use Rattle.gix_odb_world.specs.Seats.{HasSeat, IsSeated}
+use Rattle.gix_odb_world.proofs.BegunLemmas.{stems_now}
+use Rattle.gix_odb_world.proofs.BegunLemmas.OneEvent.{Stems}
+use Rattle.gix_odb_world.proofs.HistoryLemmas.{cores_after-push}
+use Rattle.gix_odb_world.proofs.MachineLaws.{IsStarted}
+use Rattle.gix_odb_world.proofs.OpenFacts.{openable}
+use Rattle.gix_odb_world.proofs.SeatLemmas.{seats_now}
+use Rattle.gix_odb_world.proofs.SettingLemmas.{setting_same}
+use Rattle.gix_odb_world.proofs.Stock.{HasStock}
+use Rattle.gix_odb_world.proofs.Stock as stocks
+use Rattle.gix_odb_world.proofs.Stock.OneCore.{IsStocked, of_store_later}
+use Rattle.gix_odb_world.proofs.StepLemmas.{applied, why_not-same}
 use Rattle.gix_odb_world.proofs.KnowsLemmas.{begins, runs-push}
 
 -- the work of the code is that of the store
 work_started : (store : Store) (modes : Modes) (state : HandleState) (call : Call) → IsHandleOf store modes state
-    → Calling (calls.started state.store.value.objects state.store.value.object_hash state.store.value.alloc_limit_bytes (sought_by state) call) ≡ begun_with store modes (MakeCall call)
+    → Calling (calls.started (setting_at state) state.store.value.object_hash (view_at state) (sought_by state) call) ≡ begun_with store modes (MakeCall call)
 work_started store modes state call own =
-    ap (λ objects. Calling (calls.started objects state.store.value.object_hash state.store.value.alloc_limit_bytes (sought_by state) call)) own.objects
-    ∙ (ap (λ hash. Calling (calls.started store.parts.objects hash state.store.value.alloc_limit_bytes (sought_by state) call)) own.hash
-    ∙ (ap (λ limit. Calling (calls.started store.parts.objects store.hash limit (sought_by state) call)) own.limit
-    ∙ ap (λ seeks. Calling (calls.started store.parts.objects store.hash store.parts.limit seeks call)) sought_same))
+    ap (λ setting. Calling (calls.started setting state.store.value.object_hash (view_at state) (sought_by state) call)) (setting_same store modes state own)
+    ∙ (ap (λ hash. Calling (calls.started (setting_in store) hash (view_at state) (sought_by state) call)) own.hash
+    ∙ (ap (λ view. Calling (calls.started (setting_in store) store.hash (unwrap_or view unseen) (sought_by state) call)) own.view
+    ∙ ap (λ seeks. Calling (calls.started (setting_in store) store.hash (view_in_modes modes) seeks call)) sought_same))
   where
     -- the handle seeks what its store does
     sought_same : sought_by state ≡ sought store.parts modes.ignoring
     sought_same = ap (λ ignoring. sought_with (replacement_of state) ignoring) own.ignoring ∙ ap (λ replacement. sought_with replacement modes.ignoring) (fun_ext own.replacements)
 
 matches_started : (n : ℕ) (call : Call) (status : Status) (handle : Handle) (work : Work) → why_not_start (phase_of_handle (Some handle)) call ≡ None
-    → work ≡ Calling (calls.started handle.state.store.value.objects handle.state.store.value.object_hash handle.state.store.value.alloc_limit_bytes (sought_by handle.state) call)
+    → work ≡ Calling (calls.started (setting_at handle.state) handle.state.store.value.object_hash (view_at handle.state) (sought_by handle.state) call)
     → Matches status (Some handle) → Matches (started n call status) (with_work (Some work) (Some handle))
 matches_started n call Free handle work idle is match = absurd match
 matches_started n call (Resting store modes) handle work idle is match = (match.0, ap Some (is ∙ work_started store modes handle.state call match.0))
 matches_started n call (Working running) handle work idle is match =
     absurd (cc (subst (λ (w : Option Work). why_not_start (phase_of_work handle.state.store.value.object_hash w) call ≡ None) match.1 idle))
 
-runs_started : (number : ℕ) (call : Call) → HasSize call → (first : Volume) (events : List Event) (e : Event) (status : Status)
-    → e.step ≡ steps.Start number call → ((other : ℕ) → ¬ IsTurnOf other e.step)
-    → Runs first events number status → Runs first (events ++ e ∷ []) number (started (length events + 1) call status)
-runs_started number call sized first events e Free starts no_turn runs = tt
-runs_started number call sized first events e (Resting store modes) starts no_turn runs =
-    let whole : length (events ++ e ∷ []) ≡ length events + 1 = length_push events e in (omega (arith, whole), begins first events e number store modes (MakeCall call) sized)
-runs_started number call sized first events e (Working running) starts no_turn runs = runs-push first events e number (Working running) (no_turn number) runs
+-- ---- what holds where a call begins
+
+valid_idle : (status : Status) (call : Call) → None ≡ why_not_start (phase_of status) call → (store : Store) (modes : Modes) → status ≡ Resting store modes
+    → is_of_hash store.hash call ≡ true
+valid_idle status call valid store modes is = by (is_of_hash store.hash call) refl (valid ∙ ap (λ s. why_not_start (phase_of s) call) is)
+  where
+    by : (b : Bool) → is_of_hash store.hash call ≡ b → None ≡ why_not_of_hash (is_of_hash store.hash call) → is_of_hash store.hash call ≡ true
+    by true is valid = is
+    by false is valid = absurd (cc (valid ∙ ap why_not_of_hash is))
+
+starts_well : (first : Volume) (events : List Event) (e : Event) (number : ℕ) (store : Store) (modes : Modes) (call : Call) → IsLawful first events
+    → status_of events number ≡ Resting store modes → e.asked ≡ OfNothing → HasSize call → is_of_hash store.hash call ≡ true
+    → RunsThroughout first events → IsTree (tree_of first.state) → IsStarted first (events ++ e ∷ []) number store modes call
+starts_well first events e number store modes call lawful status asked sized hashed throughout start =
+    let cores : cores_after (events ++ e ∷ []) ≡ cores_after events = cores_after-push events e ∙ ap (cores_after_asked (cores_after events)) asked in
+    let seated : IsSeated (cores_after events) number modes = subst (HasSeat events number) status (seats_now first events lawful number) in
+    let holds : HoldsStore events number store modes = subst (Stems events number) status (stems_now first events lawful number) in
+    let facts = openable first events number store modes lawful holds in
+    let early = facts.opened in
+    let stock : IsStocked first events modes.core store = subst (HasStock first events) status (stocks.stocked first events lawful throughout number) in
+    let longer = length_push events e in
+    record {
+      seated = subst (λ cs. IsSeated cs number modes) (sym cores) seated;
+      sized = sized;
+      hashed = hashed;
+      replaced = facts.replaced;
+      distinct = facts.distinct;
+      opened = omega (arith, early, longer);
+      stocked = record {
+        history = stock.history;
+        there = ap (λ cs. slice_get cs modes.core) cores ∙ stock.there;
+        of = of_store_later first events e store stock.history stock.of;
+      };
+    }
+
+runs_started : (old : Course) (number : ℕ) (call : Call) → HasSize call → why_not_now old (steps.Start number call) ≡ None → (first : Volume) (events : List Event) (e : Event)
+    → Explains first events old → e.step ≡ steps.Start number call → e.asked ≡ OfNothing → ((other : ℕ) → ¬ IsTurnOf other e.step)
+    → Runs first (events ++ e ∷ []) number (started (length events + 1) call (status_of events number))
+runs_started old number call sized reason first events e explains starts asked no_turn = by (status_of events number) refl (explains.running number)
+  where
+    valid : None ≡ why_not_start (phase_of (status_of events number)) call
+    valid = sym (why_not-same first events old (steps.Start number call) explains ∙ reason)
+
+    by : (status : Status) → status_of events number ≡ status → Runs first events number status → Runs first (events ++ e ∷ []) number (started (length events + 1) call status)
+    by Free is runs = tt
+    by (Resting store modes) is runs =
+        let whole : length (events ++ e ∷ []) ≡ length events + 1 = length_push events e in (
+          omega (arith, whole),
+          begins first events e number store modes (MakeCall call)
+              (starts_well first events e number store modes call explains.lawful is asked sized (valid_idle (status_of events number) call valid store modes is) explains.throughout explains.start),
+        )
+    by (Working running) is runs = runs-push first events e number (Working running) (no_turn number) runs
 
 pub begun : (old mid new : Course) (number : ℕ) (call : Call) (handle : Handle) (work : Work) → HasSize call
     → why_not_now old (steps.Start number call) ≡ None → handle_at old number ≡ Some handle
-    → work ≡ Calling (calls.started handle.state.store.value.objects handle.state.store.value.object_hash handle.state.store.value.alloc_limit_bytes (sought_by handle.state) call)
+    → work ≡ Calling (calls.started (setting_at handle.state) handle.state.store.value.object_hash (view_at handle.state) (sought_by handle.state) call)
     → SetsHandle old mid number (with_work (Some work) (handle_at old number)) → Notes mid new outcomes.Applied Nothing None
     → Continues old (steps.Start number call) new
 begun old mid new number call handle work sized reason there is sets notes =
@@ -67,5 +129,5 @@ begun old mid new number call handle work sized reason there is sets notes =
     (λ n status match.
     subst (λ (h : Option Handle). Matches (started n call status) (with_work (Some work) h)) (sym there)
     (matches_started n call status handle work (subst (λ (h : Option Handle). why_not_start (phase_of_handle h) call ≡ None) there reason) is (subst (Matches status) there match)))
-    (runs_started number call sized)
+    (λ first events e explains is asked others. runs_started old number call sized reason first events e explains is asked others)
     (λ events. refl)

@@ -135,8 +135,8 @@ pub applied_at_core : (old mid new : Course) (cores : Vec History Global) (did :
     → ¬ (IsTurn step) → ChangesAs step outcomes.Applied None → ((other : ℕ) → ¬ IsTurnOf other step)
     → ((n : ℕ) (asked : Asked) (table : ℕ → Status) → status_after n step outcomes.Applied asked table ≡ with_status table number (next n asked table))
     → ((first : Volume) (events : List Event) → Explains first events old → Matches (next (length events + 1) (asked_applied events step) (status_of events)) handle)
-    → ((first : Volume) (events : List Event) (e : Event) → e.step ≡ step → ((other : ℕ) → ¬ IsTurnOf other e.step)
-    → ((other : ℕ) → Runs first events other (status_of events other))
+    → ((first : Volume) (events : List Event) (e : Event) → Explains first events old → e.step ≡ step → e.asked ≡ asked_applied events step
+    → ((other : ℕ) → ¬ IsTurnOf other e.step)
     → Runs first (events ++ e ∷ []) number (next (length events + 1) (asked_applied events step) (status_of events)))
     → ((first : Volume) (events : List Event) → Explains first events old → Tells events old cores step did)
     → Continues old step new
@@ -159,7 +159,7 @@ applied_at_core old mid new cores did step number handle next reason sets notes 
           (table_noted (record old { cores = cores }) mid new number handle outcomes.Applied did None sets notes) (matches first events explains) other))
           (λ other. rw (after (length events + 1) asked table)
           (runs_set first events e table number (next (length events + 1) asked table) explains.running (λ o apart. no_turn o)
-          (runs first events e refl no_turn explains.running) other)),
+          (runs first events e explains refl refl no_turn) other)),
     )
 
 -- the same of a step that asks for nothing
@@ -168,8 +168,8 @@ pub applied : (old mid new : Course) (step : Step) (number : ℕ) (handle : Opti
     → ¬ (IsTurn step) → ChangesAs step outcomes.Applied None → ((other : ℕ) → ¬ IsTurnOf other step)
     → ((n : ℕ) (asked : Asked) (table : ℕ → Status) → status_after n step outcomes.Applied asked table ≡ with_status table number (next n (table number)))
     → ((n : ℕ) (status : Status) → Matches status (handle_at old number) → Matches (next n status) handle)
-    → ((first : Volume) (events : List Event) (e : Event) (status : Status) → e.step ≡ step → ((other : ℕ) → ¬ IsTurnOf other e.step) → Runs first events number status
-    → Runs first (events ++ e ∷ []) number (next (length events + 1) status))
+    → ((first : Volume) (events : List Event) (e : Event) → Explains first events old → e.step ≡ step → e.asked ≡ OfNothing → ((other : ℕ) → ¬ IsTurnOf other e.step)
+    → Runs first (events ++ e ∷ []) number (next (length events + 1) (status_of events number)))
     → ((events : List Event) → OfNothing ≡ asked_applied events step)
     → Continues old step new
 applied old mid new step number handle next reason sets notes other_step made no_turn after matches runs nothing =
@@ -177,7 +177,7 @@ applied old mid new step number handle next reason sets notes other_step made no
     (record { table = sets.table; disk = sets.disk; cores = sets.cores; outcomes = sets.outcomes; records = sets.records })
     notes other_step made no_turn after
     (λ first events explains. matches (length events + 1) (status_of events number) (explains.handles number))
-    (λ first events e is others running. runs first events e (status_of events number) is others (running number))
+    (λ first events e explains is asked others. runs first events e explains is (asked ∙ sym (nothing events)) others)
     (λ first events explains. record {
       did_is = ap (did_of_asked None (cores_after events)) (nothing events);
       cores_are = ap (cores_after_asked old.cores.items) (nothing events);

@@ -14,11 +14,11 @@ use Rattle.gix_odb_calls.specs.declared.call.Reply.{Reply}
 use Rattle.gix_odb.specs.declared.handle_state.HandleState.{HandleState}
 use Rattle.gix_odb_world.specs.declared.work.Work.{Work}
 use Rattle.gix_odb_world.specs.declared.course.Course.{Course}
-use Rattle.gix_odb_world.specs.Bound.{bound_of_task}
+use Rattle.gix_odb_world.specs.Bound.{HasAtMost, bound_of_task}
 use Rattle.gix_odb_world.specs.Event.{Ask, Asked, OfNothing, Event, answered}
 use Rattle.gix_odb_world.specs.Status.{Free, Resting, Running, Status, Task, Working, come_to, modes_after, refuses_opening, replied, status_of, turned}
 use Rattle.gix_odb_world.specs.Handle.{IsHandleOf}
-use Rattle.gix_odb_world.specs.Run.{Stand, change_asked, did_asked, did_of_asked, disk_after, disk_after_asked, told_now}
+use Rattle.gix_odb_world.specs.Run.{Stand, change_asked, did_asked, did_of_asked, disk_after, disk_after_asked, told_now, tree_at}
 use Rattle.gix_odb_world.specs.Begun.{BegunAs}
 use Rattle.gix_odb_world.specs.Recorded.{opened_in}
 use Rattle.gix_odb_world.specs.Running.{Runs}
@@ -114,7 +114,8 @@ module _ (first : Volume) (events : List Event) (old : Course) (number : ℕ) (r
     pub come : WorkNow after
     come =
         subst (λ d. ComesTo first events event number running (told_now at d ask) (fed_in running.store running.work (answered (told_now at d ask)))) (sym explains.disk)
-        (come_of first events event number running runs.0 running.work runs.1 turn_is)
+        (come_of first events event number running runs.0
+        (record { lawful = explains.lawful; throughout = explains.throughout; start = explains.start; status = status }) running.work runs.1 turn_is)
 
     -- ---- its law
 
@@ -131,10 +132,14 @@ module _ (first : Volume) (events : List Event) (old : Course) (number : ℕ) (r
         subst (Promise first whole number running.store running.modes running.begun running.task) same now
     promised (Err left) now reply is = absurd (cc is)
 
-    timed : (result : Result Reply Work) → WorkNow result → outcome_of result ≡ outcomes.Pending → (entries : ℕ)
+    -- no folder that the store lists has more entries since the task was set
+    abbrev Most : Running → (entries : ℕ) → Type 0
+    Most other entries = HasAtMost (tree_at first whole) other.store.parts other.begun (length events + 1) entries
+
+    timed : (result : Result Reply Work) → WorkNow result → outcome_of result ≡ outcomes.Pending → (entries : ℕ) → Most running entries
         → running.turns + 1 < bound_of_task running.store running.task entries
-    timed (Ok own) now is entries = absurd (cc is)
-    timed (Err left) now is entries = now.1 entries
+    timed (Ok own) now is entries most = absurd (cc is)
+    timed (Err left) now is entries most = now.1 entries most
 
     turns : TakesTurn first events number running running.task ask
     turns = turn_of first events number running running.work runs.1
@@ -181,8 +186,8 @@ module _ (first : Volume) (events : List Event) (old : Course) (number : ℕ) (r
               of_turn (λ h r. (k : Task) → BegunAs events h r.begun r.store k → (o : Reply) → outcome_of after ≡ outcomes.Reply o → Promise first whole h r.store r.modes r.begun k o)
               (λ k b o told. of_task (λ k. Promise first whole number running.store running.modes running.begun k o) (promised after come o told) k b) handle other turns_it task began reply is;
           in_time = λ handle other task entries turns_it began is most.
-              of_turn (λ h r. (k : Task) → BegunAs events h r.begun r.store k → outcome_of after ≡ outcomes.Pending → (n : ℕ) → r.turns + 1 < bound_of_task r.store k n)
-              (λ k b told n. of_task (λ k. running.turns + 1 < bound_of_task running.store k n) (timed after come told n) k b) handle other turns_it task began is entries;
+              of_turn (λ h r. (k : Task) → BegunAs events h r.begun r.store k → outcome_of after ≡ outcomes.Pending → (n : ℕ) → Most r n → r.turns + 1 < bound_of_task r.store k n)
+              (λ k b told n few. of_task (λ k. running.turns + 1 < bound_of_task running.store k n) (timed after come told n few) k b) handle other turns_it task began is entries most;
         }
 
     -- ---- the handle after it

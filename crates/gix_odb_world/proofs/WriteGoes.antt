@@ -101,7 +101,7 @@ module _ (first : Volume) (events : List Event) (e : Event) (handle : ℕ) (runn
     own = at.writing
 
     in_time : own.own + 1 ≤ calls_beside_pieces + pieces_of (length own.write.bytes) → laws.InTime first events e handle running bound_of_task
-    in_time few entries =
+    in_time few entries most =
         let had = at.turns in
         subst (λ task. running.turns + 1 < bound_of_task running.store task entries) (sym at.task)
         (few_writes running.turns (pieces_of (length own.write.bytes))

@@ -23,7 +23,7 @@ use Rattle.gix_odb_world.specs.Running.Write.{IsAtOwnWrite, IsWriting, writing}
 use Rattle.gix_odb_world.specs.Status.{MakeCall, OpenStore, Running, Store, Task, begun_with, running_from}
 use Rattle.gix_odb_world.specs.WorkOrder.{calling_result, fed_after, result_in}
 use Rattle.gix_odb_world.proofs.WriteMachine.Asks.{in_order_write}
-use Rattle.gix_odb_world.proofs.MachineLaws.{AsksDisk, HasTurn, IsSized, KeepsLaws, KeepsWriteLaws, MachineComes, turns_by_disk}
+use Rattle.gix_odb_world.proofs.MachineLaws.{AsksDisk, HasTurn, BeginsAs, KeepsLaws, KeepsWriteLaws, MachineComes, of_disk_part, turns_by_disk}
 use Rattle.gix_odb_world.proofs.WriteFive.{five_written}
 use Rattle.gix_odb_world.proofs.WriteGoes.{write_comes}
 use Rattle.gix_odb_world.proofs.WriteKept.{writing_begun, writing_push}
@@ -42,15 +42,15 @@ write_feeds store code call (Some (FromDisk answer)) = write_placed (result_of_w
 
 -- a state at which a task begins is that of its write
 write_starts : (first : Volume) (events : List Event) (e : Event) (handle : ℕ) (store : Store) (modes : Modes) (task : Task) (call : LooseCall)
-    → IsSized task
+    → BeginsAs first (events ++ e ∷ []) handle store modes task
     → begun_with store modes task ≡ Calling (Writing call)
     → IsAtOwnWrite first (events ++ e ∷ []) handle (running_from (length events + 1) task store modes) nothing_in_front call
-write_starts first events e handle store modes OpenStore call sized at = absurd (cc at)
-write_starts first events e handle store modes (MakeCall (call_kinds.Write kind size bytes id)) call sized at =
+write_starts first events e handle store modes OpenStore call start at = absurd (cc at)
+write_starts first events e handle store modes (MakeCall (call_kinds.Write kind size bytes id)) call start at =
     let same : calls.writing store.parts.objects store.hash kind size bytes id ≡ call = cc at in
     subst (IsAtOwnWrite first (events ++ e ∷ []) handle (running_from (length events + 1) (MakeCall (call_kinds.Write kind size bytes id)) store modes) nothing_in_front) same
-    (writing_begun first events e handle store modes kind size bytes id sized)
-write_starts first events e handle store modes (MakeCall other) call sized at = absurd (cc at)
+    (writing_begun first events e handle store modes kind size bytes id start.sized)
+write_starts first events e handle store modes (MakeCall other) call start at = absurd (cc at)
 
 module _ (first : Volume) (events : List Event) (handle : ℕ) (running : Running) (call : LooseCall) (ask : DiskAsk)
     (knows : IsAtOwnWrite first events handle running nothing_in_front call) (is : disk_ask_of call ≡ Some ask) where
@@ -119,7 +119,7 @@ writing_turns = record {
 pub writing_laws : KeepsLaws writing
 writing_laws = record {
   at_home = λ call. refl;
-  asks = λ store modes code own call. refl;
+  asks = λ store modes code own call. of_disk_part (disk_ask_of call);
   feeds = λ store modes code own call answer. write_feeds store code call answer;
   starts = write_starts;
   tasked = λ first events handle running call knows. record { write = knows.writing.write; task_is = knows.task; stage = knows.writing.stage; is = knows.writing.is };

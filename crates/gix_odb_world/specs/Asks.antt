@@ -1,6 +1,5 @@
 -- Which call of the disk or event of a core a turn makes, by the task of its handle and the turns that its work has had before.
-use Rattle.std.specs.Prelude.{◌≡◌, ℕ, ◌+◌, ◌*◌, ◌<◌, ◌≤◌, true, List, length, slice_get, Option, Some, None}
-use Rattle.odb_base.specs.Path.{Path}
+use Rattle.std.specs.Prelude.{◌≡◌, ℕ, ◌+◌, ◌*◌, ◌<◌, ◌≤◌, true, List, length, Option, Some, None}
 use Rattle.odb_disk.specs.MemDisk.{Volume}
 use Rattle.odb_disk.specs.declared.ask.DiskAsk.{DiskAsk}
 use Rattle.odb_disk.specs.declared.ask.DiskAsk.TheVariants as asks
@@ -10,12 +9,17 @@ use Rattle.gix_odb_loose.specs.WriteJobs.{piece_at, pieces_of}
 use Rattle.gix_odb_loose.specs.WriteOrder.{prefix_path, temp_names, temp_path}
 use Rattle.gix_odb_loose.specs.WritePieces.{piece_size}
 use Rattle.gix_odb_calls.specs.declared.call.Call.TheVariants as calls
+use Rattle.gix_odb_calls.specs.declared.query.Query.{Query}
 use Rattle.gix_odb_calls.specs.declared.query.Query.TheVariants.{Find, Header, Test}
-use Rattle.gix_odb.specs.Contents.{folder_list, sought}
-use Rattle.gix_odb.specs.OpenOrder.{most_slots}
+use Rattle.gix_odb_looks.specs.LookUpOrder.{ask_of}
+use Rattle.gix_odb_packs.specs.declared.answer.PartAsk.{PartAsk}
+use Rattle.gix_odb_packs.specs.declared.answer.PartAsk.TheVariants as parts
+use Rattle.gix_odb.specs.Contents.{folder_list}
+use Rattle.gix_odb_slots.specs.PackId.{most_slots}
 use Rattle.gix_odb_world.specs.AtWork.{nothing_in_front, Modes}
 use Rattle.gix_odb_world.specs.Event.{Ask, CoreEvent, Event, ToCore, ToDisk, ToNewCore}
 use Rattle.gix_odb_world.specs.Status.{Store, MakeCall, OpenStore, Task}
+use Rattle.gix_odb_world.specs.Told.{look_now}
 use Rattle.gix_odb_world.specs.Writing.{DoneSince, ToWrite, name_to_write, to_write}
 
 -- Work behind so many turns of its task asks so in its own turns, which are counted from 0.
@@ -24,11 +28,9 @@ pub record AsksBehind (front turns : ℕ) (Asks : (own : ℕ) → Type 0) : Type
   pub turn : turns ≡ front + own
   pub asks : Asks own
 
--- In its own turn t a query asks the t-th folder of the store.
-pub record AsksFolder (store : Store) (own : ℕ) (of : Path → DiskAsk) (ask : DiskAsk) : Type 0 where
-  pub folder : Path
-  pub place : slice_get (folder_list store.parts) own ≡ Some folder
-  pub is : ask ≡ of folder
+-- What a query asks for: what the order of work of look-ups asks for behind all that the handle was told since the query began.
+abbrev pub AsksAsLook : List Event → (handle : ℕ) → Store → (modes : Modes) → (begun : ℕ) → Query → Option PartAsk → Type 0
+AsksAsLook past handle store modes begun query ask = ask_of (look_now past handle store modes begun query) ≡ ask
 
 -- the write has made its temporary file with this number
 abbrev pub HasMadeFile : Volume → List Event → (handle begun : ℕ) → ToWrite → (number : ℕ) → Type 0
@@ -51,17 +53,13 @@ pub data AsksToWrite (first : Volume) (past : List Event) (handle begun own : �
   Removes : (number : ℕ) (made : HasMadeFile first past handle begun w number)
       → AsksToWrite first past handle begun own w (asks.Remove (temp_path w.objects number))
 
--- What a turn asks, where its handle has had so many turns since the step that set its task: an opening looks at the objects
--- directory in its first; a find and a header read, and a test looks at, the loose path of the sought id in the folder of that number. Nothing
--- comes in front of a query or a write here.
+-- Which call of the disk a turn makes, where its handle has had so many turns since the step that set its task: an opening looks at the
+-- objects directory in its first; a query makes the one that its look-up asks for; a write has nothing in front of it here.
 abbrev pub AsksInOrder : Volume → List Event → (handle : ℕ) → Store → (modes : Modes) → (begun turns : ℕ) → Task → DiskAsk → Type 0
 AsksInOrder first past handle store modes begun turns OpenStore ask = (turns ≡ 0) × (ask ≡ asks.Look store.parts.objects true)
-AsksInOrder first past handle store modes begun turns (MakeCall (calls.Find id)) ask =
-    AsksBehind nothing_in_front turns (λ own. AsksFolder store own (λ folder. asks.Read (loose_path folder (sought store.parts modes.ignoring (Find id)))) ask)
-AsksInOrder first past handle store modes begun turns (MakeCall (calls.Header id)) ask =
-    AsksBehind nothing_in_front turns (λ own. AsksFolder store own (λ folder. asks.Read (loose_path folder (sought store.parts modes.ignoring (Header id)))) ask)
-AsksInOrder first past handle store modes begun turns (MakeCall (calls.Test id)) ask =
-    AsksBehind nothing_in_front turns (λ own. AsksFolder store own (λ folder. asks.Look (loose_path folder (sought store.parts modes.ignoring (Test id))) true) ask)
+AsksInOrder first past handle store modes begun turns (MakeCall (calls.Find id)) ask = AsksAsLook past handle store modes begun (Find id) (Some (parts.Disk ask))
+AsksInOrder first past handle store modes begun turns (MakeCall (calls.Header id)) ask = AsksAsLook past handle store modes begun (Header id) (Some (parts.Disk ask))
+AsksInOrder first past handle store modes begun turns (MakeCall (calls.Test id)) ask = AsksAsLook past handle store modes begun (Test id) (Some (parts.Disk ask))
 AsksInOrder first past handle store modes begun turns (MakeCall (calls.Write kind size bytes known)) ask =
     AsksBehind nothing_in_front turns (λ own. AsksToWrite first past handle begun own (to_write store.parts.objects store.hash kind size bytes known) ask)
 
@@ -71,19 +69,25 @@ MayAskNewCore store turns OpenStore slots folders =
     (turns ≡ 1) × (slots ≡ store.slots) × (slots ≤ most_slots) × (folders ≡ length (folder_list store.parts))
 MayAskNewCore store turns (MakeCall call) slots folders = ⊥
 
--- Whether a task may end in a turn that asks for nothing, since its work has ended before it asks: none of these does.
-abbrev pub MayEndUnasked : Task → Type 0
-MayEndUnasked OpenStore = ⊥
-MayEndUnasked (MakeCall call) = ⊥
+-- Whether a task may end in a turn that asks for nothing: a query does whose look-up is done, since the snapshot had all that it took.
+abbrev pub MayEndUnasked : List Event → (handle : ℕ) → Store → (modes : Modes) → (begun : ℕ) → Task → Type 0
+MayEndUnasked past handle store modes begun OpenStore = ⊥
+MayEndUnasked past handle store modes begun (MakeCall (calls.Find id)) = AsksAsLook past handle store modes begun (Find id) None
+MayEndUnasked past handle store modes begun (MakeCall (calls.Header id)) = AsksAsLook past handle store modes begun (Header id) None
+MayEndUnasked past handle store modes begun (MakeCall (calls.Test id)) = AsksAsLook past handle store modes begun (Test id) None
+MayEndUnasked past handle store modes begun (MakeCall (calls.Write kind size bytes known)) = ⊥
 
--- Whether a task may ask for an event of a core: none of these does.
-abbrev pub MayAskCore : Task → CoreEvent → Type 0
-MayAskCore OpenStore event = ⊥
-MayAskCore (MakeCall call) event = ⊥
+-- Which event of the core of its store a task may ask for: a query asks for the one that its look-up asks for.
+abbrev pub MayAskCore : List Event → (handle : ℕ) → Store → (modes : Modes) → (begun : ℕ) → Task → CoreEvent → Type 0
+MayAskCore past handle store modes begun OpenStore event = ⊥
+MayAskCore past handle store modes begun (MakeCall (calls.Find id)) event = AsksAsLook past handle store modes begun (Find id) (Some (parts.Core event))
+MayAskCore past handle store modes begun (MakeCall (calls.Header id)) event = AsksAsLook past handle store modes begun (Header id) (Some (parts.Core event))
+MayAskCore past handle store modes begun (MakeCall (calls.Test id)) event = AsksAsLook past handle store modes begun (Test id) (Some (parts.Core event))
+MayAskCore past handle store modes begun (MakeCall (calls.Write kind size bytes known)) event = ⊥
 
 -- What a turn asks for, if it asks for anything.
 abbrev pub AsksAsTask : Volume → List Event → (handle : ℕ) → Store → (modes : Modes) → (begun turns : ℕ) → Task → Option Ask → Type 0
-AsksAsTask first past handle store modes begun turns task None = MayEndUnasked task
+AsksAsTask first past handle store modes begun turns task None = MayEndUnasked past handle store modes begun task
 AsksAsTask first past handle store modes begun turns task (Some (ToDisk ask)) = AsksInOrder first past handle store modes begun turns task ask
-AsksAsTask first past handle store modes begun turns task (Some (ToCore event)) = MayAskCore task event
+AsksAsTask first past handle store modes begun turns task (Some (ToCore event)) = MayAskCore past handle store modes begun task event
 AsksAsTask first past handle store modes begun turns task (Some (ToNewCore slots folders)) = MayAskNewCore store turns task slots folders

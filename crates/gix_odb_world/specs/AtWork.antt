@@ -1,8 +1,10 @@
 -- What a handle is at: a task in a store, and the work that is left of it.
-use Rattle.std.specs.Prelude.{ℕ, Bool, true, false, Option, None}
+use Rattle.std.specs.Prelude.{ℕ, Bool, true, false, Option, None, unwrap_or}
 use Rattle.gix_hash.specs.declared.kind.Kind.{Kind as HashKind}
 use Rattle.gix_odb_core.specs.declared.view.View.{View}
 use Rattle.gix_odb.specs.Contents.{StoreData}
+use Rattle.gix_odb.specs.HandleState.{unseen}
+use Rattle.gix_odb_looks.specs.LookUpOrder.{Setting}
 use Rattle.gix_odb_calls.specs.declared.call.Call.{Call}
 use Rattle.gix_odb_core.specs.Replay.{view_in}
 use Rattle.gix_odb_world.specs.Cores.{or_before}
@@ -17,6 +19,10 @@ pub record Store : Type 0 where
   pub hash : HashKind
   pub max_changes : ℕ
   pub parts : StoreData
+
+-- what a look-up is told of a store
+abbrev pub setting_in : Store → Setting
+setting_in store = record { objects = store.parts.objects; folders = store.parts.folders; limit = store.parts.limit; most = store.max_changes }
 
 -- what a handle at work is to do: to open its store, or to make a call
 pub data Task : Type 0 where
@@ -34,6 +40,10 @@ pub record Modes : Type 0 where
   pub ignoring : Bool
   pub core : ℕ
   pub view : Option View
+
+-- what a handle sees in these: its snapshot, if it has one
+abbrev pub view_in_modes : Modes → View
+view_in_modes modes = unwrap_or modes.view unseen
 
 -- those of a handle whose store is opened
 abbrev pub modes_at_opening : Modes

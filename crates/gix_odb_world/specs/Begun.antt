@@ -10,6 +10,7 @@ use Rattle.gix_odb_calls.specs.declared.step.Step.{Step}
 use Rattle.gix_odb_calls.specs.declared.step.Step.TheVariants as steps
 use Rattle.gix_odb_calls.specs.declared.step.Outcome.TheVariants as outcomes
 use Rattle.gix_odb_world.specs.Event.{Event}
+pub use Rattle.gix_odb_world.specs.Turned.{is_turn_of}
 use Rattle.gix_odb_world.specs.Status.{MakeCall, OpenStore, Store, Task, Modes}
 
 -- the event that has the number `begun` was applied, and started a call on a handle
@@ -99,11 +100,6 @@ abbrev pub HoldsStore : List Event → (handle : ℕ) → Store → (modes : Mod
 HoldsStore events handle store modes = Holds store events handle modes
 
 -- ---- the turns of a handle
-
--- whether a step is a turn of the handle
-abbrev pub is_turn_of : (handle : ℕ) → Step → Bool
-is_turn_of handle (steps.Turn other) = handle == other
-is_turn_of handle step = false
 
 -- how many turns the handle took after the event that has a number
 abbrev pub turns_since : List Event → (handle number : ℕ) → ℕ

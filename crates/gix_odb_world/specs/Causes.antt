@@ -1,5 +1,5 @@
 -- Why an opening or a call is refused: each error, and what the run shows where it is given.
-use Rattle.std.specs.Prelude.{◌≡◌, ℕ, ◌<◌, true, Contains, Result, Ok, Err}
+use Rattle.std.specs.Prelude.{◌≡◌, ℕ, ◌<◌, true, List, Contains, Result, Ok, Err}
 use Rattle.odb_base.specs.Path.{Path}
 use Rattle.odb_tree.specs.Tree.{Tree}
 use Rattle.odb_tree.specs.Tree.Follow.{Refusal, looked, read_of}
@@ -16,9 +16,12 @@ use Rattle.gix_odb_calls.specs.declared.find.Error as finding
 use Rattle.gix_odb_calls.specs.declared.find.Error.TheVariants as find_errors
 pub use Rattle.gix_odb.specs.Moments.{Sometime}
 use Rattle.gix_odb.specs.Contents.{folder_list}
+use Rattle.gix_odb.specs.Held.{WasShownAt}
+use Rattle.gix_odb_looks.specs.Caused.{IsCaused}
+use Rattle.gix_odb_looks.specs.Exchange.{Exchange}
 use Rattle.gix_odb_calls.specs.Verdict.{job_of}
-use Rattle.gix_odb_world.specs.AtWork.{Store}
-use Rattle.gix_odb.specs.OpenOrder.{most_slots}
+use Rattle.gix_odb_world.specs.AtWork.{Store, setting_in}
+use Rattle.gix_odb_slots.specs.PackId.{most_slots}
 
 abbrev pub IsDirectoryMeta : Result Meta Refusal → Type 0
 IsDirectoryMeta (Ok meta) = meta.kind ≡ kinds.Dir
@@ -46,8 +49,9 @@ pub record LooseCause (trees : ℕ → Tree) (Failed : Type 0) (store : Store) (
   pub among : Contains (folder_list store.parts) folder
   pub cause : Cause (job_of call id) (loose_path folder id) store.parts.limit (GaveSometime trees begun now (loose_path folder id)) Failed ⊥ error
 
--- What each error of a call says, where `Failed` says that a call of the disk failed in it. Calls that ask loose folders alone end
--- with no other.
-abbrev pub FindCause : (ℕ → Tree) → Type 0 → Store → ℕ → ℕ → Query → ObjectId → finding.Error → Type 0
-FindCause trees Failed store begun now call id (find_errors.Loose error) = LooseCause trees Failed store begun now call id error
-FindCause trees Failed store begun now call id error = ⊥
+-- What each error of a query says, where `Failed` says that a call of the disk failed in it, and where the handle was told so since it
+-- began: an error of the loose objects of a folder was given by what these read; any other one by what was shown since the store was opened,
+-- or by what was asked and answered.
+abbrev pub FindCause : (ℕ → Tree) → Type 0 → (told : List Exchange) → Store → ℕ → ℕ → Query → ObjectId → finding.Error → Type 0
+FindCause trees Failed told store begun now call id (find_errors.Loose error) = LooseCause trees Failed store begun now call id error
+FindCause trees Failed told store begun now call id error = IsCaused (WasShownAt trees store.opened now) (setting_in store) store.hash id call told error

@@ -3,6 +3,8 @@ use Rattle.std.specs.Prelude.{ℕ, Option, Some, None}
 use Rattle.odb_disk.specs.declared.ask.DiskAnswer.{DiskAnswer}
 use Rattle.odb_disk.specs.declared.ask.DiskAsk.{DiskAsk}
 use Rattle.gix_odb_core.specs.Replay as replays
+use Rattle.gix_odb_packs.specs.declared.answer.PartAsk.{PartAsk}
+use Rattle.gix_odb_packs.specs.declared.answer.PartAsk.TheVariants as parts
 use Rattle.gix_odb_core.specs.declared.event.Event as core
 use Rattle.gix_odb_calls.specs.declared.step.Step.{Step}
 use Rattle.gix_odb_calls.specs.declared.step.Outcome.{Outcome}
@@ -30,6 +32,12 @@ pub data Answer : Type 0 where
 abbrev pub to_disk : Option DiskAsk → Option Ask
 to_disk None = None
 to_disk (Some ask) = Some (ToDisk ask)
+
+-- a call of the disk, or an event of the core of its handle's store, among all that is asked for
+abbrev pub part_asked : Option PartAsk → Option Ask
+part_asked None = None
+part_asked (Some (parts.Disk ask)) = Some (ToDisk ask)
+part_asked (Some (parts.Core event)) = Some (ToCore event)
 
 abbrev pub from_disk : Option DiskAnswer → Option Answer
 from_disk None = None

@@ -23,7 +23,7 @@ use Rattle.gix_odb_world.specs.Event.{Ask, Asked, OfNothing, OfDisk, OfCore, OfN
 use Rattle.gix_odb_world.specs.Cores.{answer_behind, cores_after, history_at}
 use Rattle.gix_odb_world.specs.Entries.{TellsEachEntry}
 use Rattle.gix_odb_world.specs.Recorded.{opened_in}
-use Rattle.gix_odb_world.specs.Seats.{HasSeat, RegistersOwn}
+use Rattle.gix_odb_world.specs.Seats.{HasSeatThroughout, RegistersOwnThroughout, SnapshotsNeverFall}
 use Rattle.gix_odb_world.specs.Status.{Resting, Running, Status, Task, Working, status_of}
 use Rattle.gix_odb_world.specs.Run.{Stand, change_asked, did_asked, did_of_asked, disk_after, has_failed, stand, told_now, tree_at}
 use Rattle.gix_odb_world.specs.Begun.{BegunAs, HoldsStore, IsTaskOf, NoneSince, turns_since}
@@ -181,10 +181,12 @@ pub record IsRun (first : Volume) (events : List Event) (run : Run) : Type 0 whe
   pub journals : All IsJournal (cores_after events)
   -- the records that tell an event of a store's core name the entries of its journal, in order and each once
   pub entries : TellsEachEntry (cores_after events) run.records
-  -- each handle of an open store is registered at the core of its store, and its snapshot is the one that the core's journal tells;
-  -- nothing else is registered at a core
-  pub seats : (handle : ℕ) → HasSeat events handle (status_of events handle)
-  pub registers_own : RegistersOwn events
+  -- after each of the events each handle of an open store is registered at the core of its store, and its snapshot is the one that the
+  -- core's journal tells; and nothing else is registered at a core
+  pub seats : HasSeatThroughout events
+  pub registers_own : RegistersOwnThroughout events
+  -- a handle's snapshot is never older than an earlier one that it had from the same core
+  pub snapshots : SnapshotsNeverFall events
   -- where the run is undisturbed, no write touches the temporary file of another, and a name that a write made stays whole
   pub alone : WritesStandAlone first events
   pub names : NamesStayWhole first events

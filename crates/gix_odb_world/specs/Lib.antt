@@ -1,6 +1,8 @@
 pub mod Event
 pub mod Cores
+pub mod Turned
 pub mod AtWork
+pub mod Told
 pub mod Status
 pub mod Recorded
 pub mod Run

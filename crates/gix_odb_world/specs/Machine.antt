@@ -2,6 +2,8 @@
 use Rattle.std.specs.Prelude.{◌≡◌, ℕ, List, Option, Some, None, Result, Ok, Err}
 use Rattle.odb_disk.specs.MemDisk.{Volume}
 use Rattle.odb_disk.specs.declared.ask.DiskAnswer.{DiskAnswer}
+use Rattle.gix_odb_packs.specs.declared.answer.Answer as parts
+use Rattle.gix_odb_packs.specs.declared.answer.Answer.TheVariants as told
 use Rattle.gix_odb_calls.specs.declared.call.Reply.{Reply}
 use Rattle.gix_odb_loose.specs.declared.call.LooseCall.{LooseCall}
 use Rattle.gix_odb_world.specs.declared.work.Work.{Work}
@@ -30,6 +32,12 @@ abbrev pub by_answer : {R : Type 0} → (unasked : R) → (DiskAnswer → R) →
 by_answer unasked fed None = unasked
 by_answer unasked fed (Some (FromDisk answer)) = fed answer
 by_answer unasked fed (Some (FromCore answer)) = unasked
+
+-- the same of work that asks the disk or the core of its handle's store
+abbrev pub by_part : {R : Type 0} → (unasked : R) → (parts.Answer → R) → Option Answer → R
+by_part unasked fed None = unasked
+by_part unasked fed (Some (FromDisk answer)) = fed (told.Disk answer)
+by_part unasked fed (Some (FromCore answer)) = fed (told.Core answer)
 
 -- some work is that of a machine at a state
 pub record At (work : Work) : Type 1 where

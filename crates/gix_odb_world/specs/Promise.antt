@@ -12,13 +12,15 @@ use Rattle.gix_odb_calls.specs.declared.find.Error as finding
 use Rattle.gix_odb_calls.specs.declared.call.Call.TheVariants as calls
 use Rattle.gix_odb.specs.Contents.{Answer, Object, HeaderOf, Presence, folder_list, sought}
 use Rattle.gix_odb.specs.Held.{Held, Still}
+use Rattle.gix_odb_looks.specs.Exchange.{Exchange}
 use Rattle.gix_odb_world.specs.Event.{CoreAnswer, Event, OfNewCore}
+use Rattle.gix_odb_world.specs.Told.{told_since}
 use Rattle.gix_odb_world.specs.Status.{Store, Task, OpenStore, MakeCall, Modes}
 use Rattle.gix_odb_world.specs.Run.{tree_at, FailedSince}
 use Rattle.gix_odb_world.specs.Writing.{to_write}
 use Rattle.gix_odb_world.specs.Written.{PromiseOfWrite}
 use Rattle.gix_odb_world.specs.Causes.{Sometime, ShowsDirectory, OpeningCause, FindCause}
-use Rattle.gix_odb.specs.OpenOrder.{most_slots}
+use Rattle.gix_odb_slots.specs.PackId.{most_slots}
 
 -- The last of the events made a core with so many slots, of a store with so many folders.
 pub record MadeCore (events : List Event) (slots folders : ℕ) : Type 0 where
@@ -62,12 +64,13 @@ claim_of (Test id) (replies.Tested false) = Missing
 claim_of call (replies.Refused (call_errors.Find error)) = Caused error
 claim_of call reply = Never
 
--- What a claim says, of the sought id. The store was opened at the moment after its open step.
-abbrev pub Keeps : (ℕ → Tree) → Type 0 → Store → ℕ → ℕ → Query → ObjectId → Claim → Type 0
-Keeps trees Failed store begun now call id (Holding answer) = Held trees store.parts store.opened begun now call id answer
-Keeps trees Failed store begun now call id Missing = Misses trees Failed store begun now call id
-Keeps trees Failed store begun now call id (Caused error) = FindCause trees Failed store begun now call id error
-Keeps trees Failed store begun now call id Never = ⊥
+-- What a claim says, of the sought id, of a query whose handle was told so since it began. The store was opened at the moment after its open
+-- step.
+abbrev pub Keeps : (ℕ → Tree) → Type 0 → (told : List Exchange) → Store → ℕ → ℕ → Query → ObjectId → Claim → Type 0
+Keeps trees Failed told store begun now call id (Holding answer) = Held trees store.parts store.opened begun now call id answer
+Keeps trees Failed told store begun now call id Missing = Misses trees Failed store begun now call id
+Keeps trees Failed told store begun now call id (Caused error) = FindCause trees Failed told store begun now call id error
+Keeps trees Failed told store begun now call id Never = ⊥
 
 -- What a reply to an opening promises. A reply that an opening never ends with promises what nothing can keep.
 abbrev pub OpeningPromise : List Event → (ℕ → Tree) → Type 0 → Store → ℕ → ℕ → Reply → Type 0
@@ -76,18 +79,18 @@ OpeningPromise events trees Failed store begun now (replies.Refused (call_errors
 OpeningPromise events trees Failed store begun now reply = ⊥
 
 -- What the reply to a query promises, of the id that it seeks.
-abbrev pub QueryPromise : (ℕ → Tree) → Type 0 → Store → (modes : Modes) → ℕ → ℕ → Query → Reply → Type 0
-QueryPromise trees Failed store modes begun now query reply = Keeps trees Failed store begun now query (sought store.parts modes.ignoring query) (claim_of query reply)
+abbrev pub QueryPromise : (ℕ → Tree) → Type 0 → (told : List Exchange) → Store → (modes : Modes) → ℕ → ℕ → Query → Reply → Type 0
+QueryPromise trees Failed told store modes begun now query reply = Keeps trees Failed told store begun now query (sought store.parts modes.ignoring query) (claim_of query reply)
 
 -- What a reply that the last event gives promises, by the task that the handle was begun with.
 abbrev pub Promise : Volume → List Event → (handle : ℕ) → Store → (modes : Modes) → ℕ → Task → Reply → Type 0
 Promise first events handle store modes begun OpenStore reply =
     OpeningPromise events (tree_at first events) (FailedSince events handle begun) store begun (length events) reply
 Promise first events handle store modes begun (MakeCall (calls.Find id)) reply =
-    QueryPromise (tree_at first events) (FailedSince events handle begun) store modes begun (length events) (Find id) reply
+    QueryPromise (tree_at first events) (FailedSince events handle begun) (told_since events handle begun) store modes begun (length events) (Find id) reply
 Promise first events handle store modes begun (MakeCall (calls.Header id)) reply =
-    QueryPromise (tree_at first events) (FailedSince events handle begun) store modes begun (length events) (Header id) reply
+    QueryPromise (tree_at first events) (FailedSince events handle begun) (told_since events handle begun) store modes begun (length events) (Header id) reply
 Promise first events handle store modes begun (MakeCall (calls.Test id)) reply =
-    QueryPromise (tree_at first events) (FailedSince events handle begun) store modes begun (length events) (Test id) reply
+    QueryPromise (tree_at first events) (FailedSince events handle begun) (told_since events handle begun) store modes begun (length events) (Test id) reply
 Promise first events handle store modes begun (MakeCall (calls.Write kind size bytes known)) reply =
     PromiseOfWrite first events handle begun (to_write store.parts.objects store.hash kind size bytes known) reply

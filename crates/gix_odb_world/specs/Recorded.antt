@@ -3,14 +3,15 @@ use Rattle.std.specs.Prelude.{[], Option, None, unwrap_or}
 use Rattle.odb_base.specs.Path.{Path}
 use Rattle.odb_disk.specs.Ask.{path_asked}
 use Rattle.odb_disk.specs.declared.ask.DiskAsk.{DiskAsk}
+use Rattle.gix_odb.specs.CallOrder as calls
 use Rattle.gix_odb_world.specs.declared.work.Work.{Work}
 use Rattle.gix_odb_world.specs.declared.work.Work.TheVariants.{Opening, Calling}
 
 -- The path with which the stream was opened that the next call of work is on, where it is on one: whoever opened a stream knows it.
--- No work of these makes such a call.
+-- Of the work here only a look-up makes such a call.
 abbrev pub opened_in : Work → Option Path
 opened_in (Opening state) = None
-opened_in (Calling state) = None
+opened_in (Calling state) = calls.opened_in state
 
 -- The path that the call names, of a rename its source; or that with which its stream was opened, since a call on an open stream
 -- names none.

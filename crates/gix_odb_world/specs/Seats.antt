@@ -1,8 +1,9 @@
 -- Where the handles of open stores stand at the cores of these.
-use Rattle.std.specs.Prelude.{◌≡◌, ◌≢◌, ◌↔◌, ℕ, List, IsSome, slice_get, None, Some}
+use Rattle.std.specs.Prelude.{◌≡◌, ◌≢◌, ◌↔◌, ◌≤◌, ℕ, List, IsSome, length, slice_get, take, Option, None, Some}
 use Rattle.gix_odb_core.specs.Handles.{IsRegistered}
 use Rattle.gix_odb_core.specs.History.{History, present}
 use Rattle.gix_odb_core.specs.Replay.{snapshot_of}
+use Rattle.gix_odb_core.specs.declared.view.View.{View}
 use Rattle.gix_odb_world.specs.Cores.{cores_after, registered_at}
 use Rattle.gix_odb_world.specs.Event.{Event}
 use Rattle.gix_odb_world.specs.Status.{Free, MakeCall, Modes, OpenStore, Resting, Status, Task, Working, status_of}
@@ -44,3 +45,37 @@ IsOpenAt core (Working running) = IsOpenAtTask core running.modes running.task
 abbrev pub RegistersOwn : List Event → Type 0
 RegistersOwn events =
     (store seat : ℕ) → IsSome (registered_at (cores_after events) store seat) ↔ IsOpenAt store (status_of events seat)
+
+-- ---- after each of the events
+
+abbrev pub HasSeatThroughout : List Event → Type 0
+HasSeatThroughout events = (now handle : ℕ) → now ≤ length events → HasSeat (take now events) handle (status_of (take now events) handle)
+
+abbrev pub RegistersOwnThroughout : List Event → Type 0
+RegistersOwnThroughout events = (now : ℕ) → now ≤ length events → RegistersOwn (take now events)
+
+-- ---- snapshots
+
+-- a view is no older than another: neither its list number, nor its state number, nor its generation is less
+pub record IsNoOlder (before now : View) : Type 0 where
+  pub list_no : before.list_no ≤ now.list_no
+  pub state_id : before.snapshot.marker.state_id ≤ now.snapshot.marker.state_id
+  pub generation : before.snapshot.marker.generation ≤ now.snapshot.marker.generation
+
+-- the modes of a handle of an open store
+abbrev pub open_modes_at : Modes → Task → Option Modes
+open_modes_at modes OpenStore = None
+open_modes_at modes (MakeCall call) = Some modes
+
+abbrev pub open_modes : Status → Option Modes
+open_modes Free = None
+open_modes (Resting store modes) = Some modes
+open_modes (Working running) = open_modes_at running.modes running.task
+
+-- At two moments of a run at which a handle has a number that is one of an open store, and the store is the same, the later snapshot is there
+-- where the earlier one was, and is no older. So it is too where the handle was closed and another one of the store began under its number.
+abbrev pub SnapshotsNeverFall : List Event → Type 0
+SnapshotsNeverFall events =
+    (earlier later handle : ℕ) (was is : Modes) (before : View) → earlier ≤ later → later ≤ length events
+    → open_modes (status_of (take earlier events) handle) ≡ Some was → open_modes (status_of (take later events) handle) ≡ Some is
+    → is.core ≡ was.core → was.view ≡ Some before → (now : View) × (is.view ≡ Some now) × IsNoOlder before now

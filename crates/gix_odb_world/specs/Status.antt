@@ -13,7 +13,7 @@ use Rattle.gix_odb_calls.specs.declared.call.Reply.{Reply}
 use Rattle.gix_odb_calls.specs.declared.call.Reply.TheVariants as replies
 use Rattle.gix_odb_calls.specs.declared.init.Options.{Options}
 use Rattle.gix_odb.specs.declared.open_state.OpenState.TheVariants.{Looking}
-pub use Rattle.gix_odb_world.specs.AtWork.{Store, Task, OpenStore, MakeCall, Modes, Running, modes_after, modes_at_opening, now_ignoring}
+pub use Rattle.gix_odb_world.specs.AtWork.{Store, Task, OpenStore, MakeCall, Modes, Running, modes_after, modes_at_opening, now_ignoring, setting_in, view_in_modes}
 use Rattle.gix_odb_world.specs.Machines.{fed_in, write_in}
 use Rattle.gix_odb_calls.specs.declared.step.Step.{Step}
 use Rattle.gix_odb_calls.specs.declared.step.Step.TheVariants as steps
@@ -48,7 +48,7 @@ store_at number path folders hash replacements options = record {
 -- the work with which a task of a store's handle begins
 abbrev pub begun_with : Store → (modes : Modes) → Task → Work
 begun_with store modes OpenStore = Opening Looking
-begun_with store modes (MakeCall call) = Calling (calls.started store.parts.objects store.hash store.parts.limit (sought store.parts modes.ignoring) call)
+begun_with store modes (MakeCall call) = Calling (calls.started (setting_in store) store.hash (view_in_modes modes) (sought store.parts modes.ignoring) call)
 
 -- what a store's handle is at whose task is set by the event that has a number
 abbrev pub running_from : ℕ → Task → Store → (modes : Modes) → Running

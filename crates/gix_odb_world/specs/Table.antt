@@ -1,7 +1,7 @@
 -- What the code of a world does with its table of handles and its lists. No public clause cites this.
-use Rattle.std.specs.Prelude.{◌≡◌, ℕ, ◌+◌, ◌==◌, length, min, true, [], ◌∷◌, ◌++◌, List, Option, Some, None, Result, Ok, Err, if◌then◌else◌}
+use Rattle.std.specs.Prelude.{◌≡◌, ℕ, ◌+◌, ◌≤◌, ◌<◌, ◌==◌, length, true, [], ◌∷◌, ◌++◌, List, Option, Some, None, Result, Ok, Err, if◌then◌else◌}
 use Rattle.odb_base.specs.Path.{Path}
-use Rattle.odb_disk.specs.Ask.{answer_now, after_ask, change_of_ask}
+use Rattle.odb_disk.specs.Ask.{answer_now, change_of_ask}
 use Rattle.odb_tree.specs.Tree.{tree_of}
 use Rattle.odb_disk.specs.MemDisk.{Volume}
 use Rattle.odb_disk.specs.declared.ask.DiskAsk.{DiskAsk}
@@ -17,12 +17,15 @@ use Rattle.gix_odb_world.specs.declared.record.Did.TheVariants as done
 use Rattle.gix_odb_world.specs.declared.handle.Handle.{Handle}
 use Rattle.gix_odb.specs.declared.handle_state.HandleState.{HandleState}
 use Rattle.gix_odb_world.specs.declared.work.Work.{Work}
-use Rattle.gix_odb_core.specs.History.{History}
-use Rattle.gix_odb_core.specs.Replay.{view_in}
+use Rattle.gix_odb_core.specs.History.{History, present}
+use Rattle.gix_odb_core.specs.Replay.{CanHappen, view_in}
+use Rattle.gix_odb_packs.specs.declared.answer.Answer.TheVariants as told
+use Rattle.gix_odb_packs.specs.declared.answer.PartAsk.{PartAsk}
+use Rattle.gix_odb_packs.specs.declared.answer.PartAsk.TheVariants as asks
 use Rattle.gix_odb_world.specs.declared.turn.Carried.{Carried}
-use Rattle.gix_odb_world.specs.Cores.{cores_after_asked, or_before}
-use Rattle.gix_odb_world.specs.Event.{Asked, OfCore, OfDisk, OfNewCore, OfNothing, answered}
-use Rattle.gix_odb.specs.OpenOrder.{most_slots}
+use Rattle.gix_odb_world.specs.Cores.{answer_behind, cores_after_asked, history_at, or_before}
+use Rattle.gix_odb_world.specs.Event.{Asked, CoreAnswer, CoreEvent, OfCore, OfDisk, OfNewCore, OfNothing, answered}
+use Rattle.gix_odb_slots.specs.PackId.{most_slots}
 use Rattle.gix_odb_core.specs.declared.view.View.{View}
 use Rattle.gix_odb_world.specs.Made.{MakesCore}
 use Rattle.gix_odb_world.specs.Recorded.{opened_in}
@@ -31,7 +34,7 @@ use Rattle.gix_odb_world.specs.Status.{after_reply}
 use Rattle.gix_odb_world.specs.WorkOrder.{asks_on, fed_after, fed_on, registered_on}
 use Rattle.gix_odb_world.specs.declared.course.Course.{Course}
 use Rattle.gix_odb_world.specs.World.{handle_at}
-use Rattle.gix_odb_world.specs.Valid.{Phase, NoneThere, Idle, Running, is_openable, why_not_change, why_not_idle, why_not_open, why_not_running, why_not_clone, why_not_start}
+use Rattle.gix_odb_world.specs.Valid.{Phase, NoneThere, Idle, Running, is_openable, most_folders, why_not_change, why_not_idle, why_not_open, why_not_running, why_not_clone, why_not_start}
 
 abbrev pub phase_of_work : HashKind → Option Work → Phase
 phase_of_work hash None = Idle hash
@@ -101,41 +104,38 @@ pub record Settles (old new : Course) (number : ℕ) (handle : Option Handle) (o
 abbrev pub HasOneMore : Course → Course → Type 0
 HasOneMore old new = (outcome : Outcome) × (new.outcomes ≡ old.outcomes ++ outcome ∷ [])
 
--- what a turn did whose work asked so, of a stream that was opened with a path if it is on one
-abbrev pub did_now : (opened : Option Path) → Volume → Option DiskAsk → Did
-did_now opened disk None = done.Nothing
-did_now opened disk (Some ask) = did_of opened ask (answer_now disk ask)
+-- what a turn did whose work made this call of the disk, of a stream that was opened with a path if it is on one
+abbrev pub did_now : (opened : Option Path) → Volume → DiskAsk → Did
+did_now opened disk ask = did_of opened ask (answer_now disk ask)
 
--- the change of a turn whose work asked so: none where the call failed
-abbrev pub change_now : Volume → Option DiskAsk → Option Change
-change_now disk None = None
-change_now disk (Some ask) = if has_failed (answer_now disk ask) then None else change_of_ask (tree_of disk.state) ask
+-- the change of a turn whose work made this call: none where it failed
+abbrev pub change_now : Volume → DiskAsk → Option Change
+change_now disk ask = if has_failed (answer_now disk ask) then None else change_of_ask (tree_of disk.state) ask
 
--- the work of a handle after a turn in which it asked so
-abbrev pub work_now : Volume → HandleState → Work → Option DiskAsk → Work
-work_now disk state work None = work
-work_now disk state work (Some ask) = fed_on state work (answer_now disk ask)
-
--- the disk after a turn in which it was asked so
-abbrev pub disk_now : Volume → Option DiskAsk → Volume
-disk_now disk None = disk
-disk_now disk (Some ask) = after_ask disk ask
+-- the handle to which a view was handed over, if one was
+abbrev pub seeing : HandleState → Option View → HandleState
+seeing state view = record state { view = or_before view state.view }
 
 -- the handle after a turn that asked so
 abbrev pub state_after : Asked → HandleState → HandleState
 state_after OfNothing state = state
 state_after (OfDisk ask answer) state = state
-state_after (OfCore store seat event answer) state = record state { view = or_before (view_in answer) state.view }
+state_after (OfCore store seat event answer) state = seeing state (view_in answer)
 state_after (OfNewCore slots folders store seat answer) state = record state { core = store; view = or_before (view_in answer) state.view }
 
 -- what a turn of a handle that has a seat asked so, with the answer
 abbrev pub told_in : List History → Volume → (seat : ℕ) → HandleState → Work → Asked
 told_in cores disk seat state work = told_now (stand cores state.core seat) disk (asks_on state work)
 
+-- a core can be made for the store of a handle: the store has no more slots than a core may have, and few folders
+pub record FitsCore (state : HandleState) : Type 0 where
+  pub slots : state.store.value.slots ≤ most_slots
+  pub folders : length state.store.value.folders ≤ most_folders
+
 -- a core was added for the store of a handle, and the handle registered there, which handed over a view
 pub record AddsCore (cores cores_then : List History) (seat : ℕ) (state : HandleState) (view : View) : Type 0 where
   pub core : History
-  pub made : MakesCore (min state.store.value.slots most_slots) (length state.store.value.folders + 1) seat core view
+  pub made : MakesCore state.store.value.slots (length state.store.value.folders + 1) seat core view
   pub cores_are : cores_then ≡ cores ++ core ∷ []
 
 -- what a turn comes to that registered its handle at the core of a number
@@ -146,6 +146,27 @@ carried_at state work store view = record {
   state = record state { core = store; view = Some view };
   work = registered_on state work;
 }
+
+-- what a turn comes to whose work asked for nothing
+abbrev pub carried_unasked : HandleState → Work → Carried
+carried_unasked state work = record { did = done.Nothing; change = None; state = state; work = work }
+
+-- an event that work asks for can happen at the core of its handle's store, which is there
+abbrev pub CanHappenAt : List History → (seat : ℕ) → HandleState → Option PartAsk → Type 0
+CanHappenAt cores seat state None = Unit {0}
+CanHappenAt cores seat state (Some (asks.Disk ask)) = Unit {0}
+CanHappenAt cores seat state (Some (asks.Core event)) = (state.core < length cores) × CanHappen (present (history_at cores state.core)) seat event
+
+-- what the event of the core of a handle's store answers
+abbrev pub own_answer : List History → (seat : ℕ) → HandleState → CoreEvent → CoreAnswer
+own_answer cores seat state event = answer_behind (history_at cores state.core) seat event
+
+-- what a turn came to whose work made this event of the core of its handle's store
+pub record CarriesEvent (cores : List History) (seat : ℕ) (state : HandleState) (work : Work) (event : CoreEvent) (done : Carried) : Type 0 where
+  pub did : done.did ≡ did_of_asked (opened_in work) cores (OfCore state.core seat event (own_answer cores seat state event))
+  pub change : done.change ≡ None
+  pub state_is : done.state ≡ seeing state (view_in (own_answer cores seat state event))
+  pub work_is : done.work ≡ fed_on state work (told.Core (own_answer cores seat state event))
 
 -- A turn that asked so was carried out, on the disk and on the cores.
 pub record Carries (disk disk_then : Volume) (cores cores_then : List History) (state : HandleState) (work : Work) (asked : Asked) (done : Carried) : Type 0 where

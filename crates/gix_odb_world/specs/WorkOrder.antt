@@ -1,37 +1,44 @@
 -- What the code of a handle's work asks, and what an answer makes of it. No public clause cites this.
-use Rattle.std.specs.Prelude.{◌+◌, Bool, false, length, min, Option, Some, None, Result, Ok, Err, if◌then◌else◌}
-use Rattle.odb_disk.specs.declared.ask.DiskAsk.{DiskAsk}
-use Rattle.odb_disk.specs.declared.ask.DiskAnswer.{DiskAnswer}
+use Rattle.std.specs.Prelude.{◌+◌, Bool, false, length, Option, Some, None, Result, Ok, Err, if◌then◌else◌}
+use Rattle.gix_odb_packs.specs.declared.answer.Answer as parts
+use Rattle.gix_odb_packs.specs.declared.answer.Answer.TheVariants as told
+use Rattle.gix_odb_packs.specs.declared.answer.PartAsk.{PartAsk}
 use Rattle.gix_odb.specs.CallOrder as calls
+use Rattle.gix_odb.specs.CallOrder.{disk_part}
+use Rattle.gix_odb.specs.HandleState.{setting_at}
 use Rattle.gix_odb.specs.OpenOrder as openings
-use Rattle.gix_odb.specs.OpenOrder.{most_slots}
 use Rattle.gix_odb_calls.specs.declared.call.Reply.{Reply}
 use Rattle.gix_odb.specs.declared.call_state.CallState.{CallState}
 use Rattle.gix_odb.specs.declared.handle_state.HandleState.{HandleState}
 use Rattle.gix_odb.specs.declared.open_state.OpenState.{OpenState}
-use Rattle.gix_odb_world.specs.Event.{Answer, Ask, FromCore, FromDisk, ToNewCore, to_disk}
+use Rattle.gix_odb_world.specs.Event.{Answer, Ask, FromCore, FromDisk, ToNewCore, part_asked}
 use Rattle.gix_odb_world.specs.declared.work.Work.{Work}
 use Rattle.gix_odb_world.specs.declared.work.Work.TheVariants.{Opening, Calling}
 
--- the call of the disk that the work of a handle names next, if there is one
-abbrev pub ask_on : HandleState → Work → Option DiskAsk
-ask_on handle (Opening state) = openings.ask_of handle.store.value.objects state
+-- the call of the disk or the event of a core that the work of a handle names next, if it names one
+abbrev pub ask_on : HandleState → Work → Option PartAsk
+ask_on handle (Opening state) = disk_part (openings.ask_of handle.store.value.objects state)
 ask_on handle (Calling state) = calls.ask_of state
 
--- the work of a handle after the answer to its call of the disk
-abbrev pub fed_on : HandleState → Work → DiskAnswer → Work
-fed_on handle (Opening state) answer = Opening (openings.fed handle.store.value.slots state answer)
-fed_on handle (Calling state) answer = Calling (calls.fed handle.store.value.folders handle.store.value.alloc_limit_bytes state answer)
+-- an opening after an answer of the disk, or of the core that it had made
+abbrev pub opening_fed : HandleState → OpenState → parts.Answer → OpenState
+opening_fed handle state (told.Disk answer) = openings.fed handle.store.value.slots state answer
+opening_fed handle state (told.Core answer) = openings.registered handle.store.value.slots state
+
+-- the work of a handle after the answer to what it asked for
+abbrev pub fed_on : HandleState → Work → parts.Answer → Work
+fed_on handle (Opening state) answer = Opening (opening_fed handle state answer)
+fed_on handle (Calling state) answer = Calling (calls.fed (setting_at handle) state answer)
 
 -- whether the work of a handle is to register it at a core for its store
 abbrev pub registers_in : Work → Bool
 registers_in (Opening state) = openings.registers state
 registers_in (Calling state) = false
 
--- what the work of a handle asks for: a call of the disk, or a core for its store
+-- what the work of a handle asks for: a call of the disk, an event of the core of its store, or a core for its store
 abbrev pub asks_on : HandleState → Work → Option Ask
 asks_on handle work =
-    if registers_in work then Some (ToNewCore (min handle.store.value.slots most_slots) (length handle.store.value.folders + 1)) else to_disk (ask_on handle work)
+    if registers_in work then Some (ToNewCore handle.store.value.slots (length handle.store.value.folders + 1)) else part_asked (ask_on handle work)
 
 -- the work of a handle after it was registered
 abbrev pub registered_on : HandleState → Work → Work
@@ -41,8 +48,8 @@ registered_on handle (Calling state) = Calling state
 -- the work of a handle after a turn, where it asked for nothing or had its answer
 abbrev pub fed_after : HandleState → Work → Option Answer → Work
 fed_after handle work None = work
-fed_after handle work (Some (FromDisk answer)) = fed_on handle work answer
-fed_after handle work (Some (FromCore answer)) = registered_on handle work
+fed_after handle work (Some (FromDisk answer)) = fed_on handle work (told.Disk answer)
+fed_after handle work (Some (FromCore answer)) = fed_on handle work (told.Core answer)
 
 abbrev pub opening_result : Result Reply OpenState → Result Reply Work
 opening_result (Ok reply) = Ok reply

@@ -1,10 +1,10 @@
-//! The cores of a world's stores: how they are made, what closes do to them, and the journals that they leave.
-ghost use Rattle.std.specs.Prelude.{◌≡◌, ◌<◌, All, IfOk, IsSome, None, OnOk, Some, false, length, map, min};
+//! The cores of a world's stores: how they are made, what clones and closes do to them, and the journals that they leave.
+ghost use Rattle.std.specs.Prelude.{◌≡◌, ◌<◌, ◌≤◌, All, IfOk, IsSome, None, OnOk, Some, false, length, map};
 ghost use Rattle.gix_odb_core.specs.Handles.{IsRegistered, registered};
 ghost use Rattle.gix_odb_core.specs.History.{History, present};
 ghost use Rattle.gix_odb_core.specs.Journal.{entries_of};
-ghost use Rattle.gix_odb_core.specs.Replay.{number_behind, view_in};
-ghost use Rattle.gix_odb.specs.OpenOrder.{most_slots};
+ghost use Rattle.gix_odb_core.specs.Replay.{CanHappen, number_behind, view_in};
+ghost use Rattle.gix_odb_slots.specs.PackId.{most_slots};
 ghost use Rattle.gix_odb_world.specs.Cores.{answer_behind, cores_after_asked, entered, history_at, registered_at};
 ghost use Rattle.gix_odb_world.specs.Event.{OfCore};
 ghost use Rattle.gix_odb_world.specs.Headline.{IsJournal};
@@ -18,9 +18,6 @@ use std::alloc::Global;
 /// The journals of the cores of a run, one for each store that was opened.
 pub type JournalList = Sequence<Journal>;
 
-/// The most slots that a core may have.
-const MAX_SLOTS: u16 = 32767;
-
 /// A core for a store with so many slots and folders, at which a handle is registered; and the view that this handed over.
 pub fn core_with(
     alloc: Global,
@@ -28,9 +25,10 @@ pub fn core_with(
     folders: usize,
     seat: u32,
 ) -> Result<(Core, View), NoMemory>
-    ensures makes { IfOk result (λ made. MakesCore (min slots most_slots) folders seat made.0 made.1) }
+    requires few { slots ≤ most_slots }
+    ensures makes { IfOk result (λ made. MakesCore slots folders seat made.0 made.1) }
 {
-    let mut core = Core::new(alloc, slots.min(MAX_SLOTS), folders)?;
+    let mut core = Core::new(alloc, slots, folders)?;
     match register(alloc, &mut core, seat) {
         Ok(view) => Ok((core, view)),
         Err(error) => {
@@ -102,6 +100,55 @@ fn remove(alloc: Global, core: &mut Core, seat: u32)
         Ok(effect) => drop(effect),
         // A removal is never refused.
         Err(_) => unreachable!(),
+    }
+}
+
+/// What an event of a core did, with the answer.
+#[derive(Drop)]
+pub struct EventDone {
+    pub did: Did,
+    pub answer: Result<Effect, Refusal>,
+}
+
+/// Makes an event of the core of a store, which the handle of a seat asks for: what that did, and the answer.
+pub fn applied(
+    alloc: Global,
+    cores: &mut Vec<Core>,
+    store: usize,
+    seat: u32,
+    event: Event,
+) -> Result<EventDone, NoMemory>
+    requires there { store < length cores.old.items }
+    requires can_happen { CanHappen (present (history_at cores.old.items store)) seat event }
+    ensures did { IfOk result (λ applied. applied.did ≡ Did.Core store (number_behind (history_at cores.old.items store).entries)) }
+    ensures answer { IfOk result (λ applied. applied.answer ≡ answer_behind (history_at cores.old.items store) seat event) }
+    ensures cores { OnOk result (cores.new.items ≡ cores_after_asked cores.old.items (OfCore store seat event (answer_behind (history_at cores.old.items store) seat event))) }
+{
+    let core = &mut cores[store];
+    let entry = next_entry(core);
+    let answer = answered(alloc, core, seat, event)?;
+    let did = Did::Core {
+        store: store as u64,
+        entry,
+    };
+    Ok(EventDone { did, answer })
+}
+
+/// The answer of a core to an event, unless memory ran out.
+fn answered(
+    alloc: Global,
+    core: &mut Core,
+    seat: u32,
+    event: Event,
+) -> Result<Result<Effect, Refusal>, NoMemory>
+    requires can_happen { CanHappen (present core.old) seat event }
+    ensures answer { IfOk result (λ answer. answer ≡ answer_behind core.old seat event) }
+    ensures entered { OnOk result (core.new ≡ entered core.old seat event (answer_behind core.old seat event)) }
+{
+    match core.apply(alloc, seat, event) {
+        Ok(effect) => Ok(Ok(effect)),
+        Err(Refusal::NoMemory) => Err(NoMemory),
+        Err(refusal) => Ok(Err(refusal)),
     }
 }
 

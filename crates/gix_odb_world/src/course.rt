@@ -26,6 +26,9 @@ use std::collections::BTreeMap;
 mod handles;
 
 /// A disk, the handles on it, the cores of their stores, and what has come of the steps so far.
+///
+/// In mid-step no events need lead to it: a core has its entry before the record tells it, and a handle is taken out of the
+/// table for its turn. So what holds of a world between two steps is said of `World`, and not of this type.
 #[derive(Drop)]
 pub struct Course {
     disk: MemDisk,
@@ -40,7 +43,7 @@ impl Course {
     pub fn new(alloc: Global, disk: MemDisk) -> Course
         ensures explained { Explains disk [] result }
     {
-        // A disk shows a tree: each node lies in a directory.
+        // The proof takes from this call that the disk shows a tree, each node of which lies in a directory: runs begin so.
         let _ = disk.tree();
         Course {
             disk,
@@ -59,6 +62,7 @@ impl Course {
         self.cores = Vec::new(alloc);
         self.outcomes = OutcomeList::new(alloc);
         self.records = RecordList::new(alloc);
+        // The proof takes from this call that the disk shows a tree, as a run's first disk does.
         let _ = self.disk.tree();
     }
 
@@ -189,7 +193,7 @@ impl Course {
         ensures continues { OnOk result (Continues self.old (Step.Clone number from) self.new) }
         ensures noted { OnOk result (HasOneMore self.old self.new) }
     {
-        if let Some(why) = self.why_not_clone(number, from) {
+        if let Some(why) = self.why_not_free(number) {
             return self.misuse(why);
         }
         let mut state = match self.idle(from) {
@@ -245,6 +249,7 @@ impl Course {
 
     /// Lets a handle carry out the one thing that its work asks for.
     fn turn(&mut self, alloc: Global, number: u32) -> Result<(), NoMemory>
+        requires explained { IsExplained self.old }
         ensures continues { OnOk result (Continues self.old (Step.Turn number) self.new) }
         ensures noted { OnOk result (HasOneMore self.old self.new) }
     {

@@ -45,7 +45,7 @@ fn play_next(
     last: &mut Sequence<usize>,
     line: &Line,
 ) -> Result<(), NoMemory>
-    ensures plays { OnOk result (PlaysLine world.old.course world.new.course steps.old steps.new line.now) }
+    ensures plays { OnOk result (PlaysLine world.old world.new steps.old steps.new line.now) }
     ensures placed { OnOk result (last.new ≡ last.old ++ (length steps.new - 1) ∷ []) }
 {
     play_line(alloc, world, steps, line)?;
@@ -60,7 +60,7 @@ fn play_line(
     steps: &mut Sequence<Step>,
     line: &Line,
 ) -> Result<(), NoMemory>
-    ensures plays { OnOk result (PlaysLine world.old.course world.new.course steps.old steps.new line.now) }
+    ensures plays { OnOk result (PlaysLine world.old world.new steps.old steps.new line.now) }
 {
     match line {
         Line::One(step) => {
@@ -78,7 +78,7 @@ fn play_turns(
     steps: &mut Sequence<Step>,
     handle: u32,
 ) -> Result<(), NoMemory>
-    ensures plays { OnOk result (PlaysLine world.old.course world.new.course steps.old steps.new (Line.Finish handle)) }
+    ensures plays { OnOk result (PlaysLine world.old world.new steps.old steps.new (Line.Finish handle)) }
 {
     'turning: loop {
         make(alloc, world, steps, Step::Turn { handle })?;
@@ -95,7 +95,7 @@ fn make(
     steps: &mut Sequence<Step>,
     step: Step,
 ) -> Result<(), NoMemory>
-    ensures makes { OnOk result (MakesOne world.old.course world.new.course steps.old steps.new step) }
+    ensures makes { OnOk result (MakesOne world.old world.new steps.old steps.new step) }
 {
     steps.push(step)?;
     let made = steps.as_slice();

@@ -1,24 +1,29 @@
 //! A turn of a handle: the one call of the disk or event of a core that its work names, and what the turn comes to.
-ghost use Rattle.std.specs.Prelude.{if◌then◌else◌, ◌≡◌, ℕ, List, true, false, IfOk, OnOk, None, Some};
+ghost use Rattle.std.specs.Prelude.{if◌then◌else◌, ◌≡◌, ◌<◌, ℕ, List, length, true, false, IfOk, OnOk, None};
 ghost use Rattle.std.specs.Option.{option_map};
-ghost use Rattle.odb_disk.specs.Ask.{answer_now};
+ghost use Rattle.odb_disk.specs.Ask.{after_ask, answer_now};
 ghost use Rattle.odb_disk.specs.MemDisk.{Volume};
-ghost use Rattle.gix_odb_core.specs.History.{History};
+ghost use Rattle.gix_odb_core.specs.History.{present};
+ghost use Rattle.gix_odb_core.specs.Replay.{CanHappen, view_in};
+ghost use Rattle.gix_odb_packs.specs.declared.answer.Answer.TheVariants as told;
+ghost use Rattle.gix_odb_world.specs.Cores.{answer_behind, cores_after_asked, history_at};
+ghost use Rattle.gix_odb_world.specs.Event.{OfCore};
 ghost use Rattle.gix_odb_world.specs.Recorded.{opened_in};
 ghost use Rattle.gix_odb_world.specs.Run.{has_failed};
 ghost use Rattle.gix_odb_world.specs.Status.{after_reply};
 ghost use Rattle.gix_odb_world.specs.Headline.{outcome_of};
 ghost use Rattle.gix_odb_world.specs.WorkOrder.{ask_on, fed_on, registers_in, result_in};
 ghost use Rattle.gix_odb_world.specs.Table as tables;
-ghost use Rattle.gix_odb_world.specs.Table.{AddsCore, Carries, after_turn, carried_at, change_now, did_now, disk_now, told_in, work_now};
+ghost use Rattle.gix_odb_world.specs.Table.{AddsCore, CanHappenAt, Carries, CarriesEvent, FitsCore, after_turn, carried_at, carried_unasked, change_now, did_now, told_in};
 
-use crate::cores::core_with;
+use crate::cores::{EventDone, applied, core_with};
 use crate::handle::Handle;
 use crate::record::Did;
 use crate::work::Work;
 use gix_odb::HandleState;
 use gix_odb_calls::{CallError, Outcome, Reply};
-use gix_odb_core::{Core, View};
+use gix_odb_core::{Core, Effect, Event, Refusal, View};
+use gix_odb_packs::{Answer, PartAsk};
 use odb_base::NoMemory;
 use odb_disk::{Change, DiskAnswer, DiskAsk, DiskError, MemDisk, PathText};
 use std::alloc::Global;
@@ -41,12 +46,14 @@ pub fn carried_out(
     state: HandleState,
     work: Work,
 ) -> Result<Carried, NoMemory>
+    requires fits { registers_in work ≡ true → FitsCore state }
+    requires can_happen { CanHappenAt cores.old.items seat state (ask_on state work) }
     ensures carried { IfOk result (Carries disk.old disk.new cores.old.items cores.new.items state work (told_in cores.old.items disk.old seat state work)) }
 {
     if work.registers() {
         registered(alloc, cores, seat, state, work)
     } else {
-        turned(alloc, disk, state, work)
+        turned(alloc, disk, cores, seat, state, work)
     }
 }
 
@@ -59,6 +66,7 @@ fn registered(
     work: Work,
 ) -> Result<Carried, NoMemory>
     requires registers { registers_in work ≡ true }
+    requires fits { FitsCore state }
     ensures carried { IfOk result (λ done. (disk : Volume) → Carries disk disk cores.old.items cores.new.items state work (told_in cores.old.items disk seat state work) done) }
 {
     let store = cores.len();
@@ -78,123 +86,233 @@ fn added(
     seat: u32,
     state: &HandleState,
 ) -> Result<View, NoMemory>
+    requires fits { FitsCore state.now }
     ensures added { IfOk result (AddsCore cores.old.items cores.new.items seat state.now) }
 {
     let parts = state.parts();
-    // A list of as many paths as an address has values fits into no memory.
-    let Some(folders) = parts.folders.len().checked_add(1) else {
-        return Err(NoMemory);
-    };
+    // The objects directory is a folder too.
+    let folders = parts.folders.len() + 1;
     let (core, view) = core_with(alloc, parts.slots, folders, seat)?;
     cores.push(core)?;
     Ok(view)
 }
 
 /// A handle after its registration at the core of a number.
-fn at_core(state: HandleState, work: Work, store: usize, view: View) -> Carried
+fn at_core(mut state: HandleState, work: Work, store: usize, view: View) -> Carried
     ensures carried { result ≡ carried_at state work store view }
 {
     let work = work.registered(&state);
+    state.core = store;
+    state.view = Some(view);
     Carried {
         did: Did::Core {
             store: store as u64,
             entry: 1,
         },
         change: None,
-        state: HandleState {
-            store: state.store,
-            ignore_replacements: state.ignore_replacements,
-            core: store,
-            view: Some(view),
-        },
+        state,
         work,
     }
 }
 
-/// Carries out the one call of the disk that a piece of work names, if it names one.
+/// Carries out the call of the disk or the event of its handle's core that a piece of work names, if it names one.
 fn turned(
     alloc: Global,
     disk: &mut MemDisk,
+    cores: &mut Vec<Core>,
+    seat: u32,
     state: HandleState,
     work: Work,
 ) -> Result<Carried, NoMemory>
     requires other { registers_in work ≡ false }
-    ensures carried { IfOk result (λ done. (cores : List History) (seat : ℕ) → Carries disk.old disk.new cores cores state work (told_in cores disk.old seat state work) done) }
+    requires can_happen { CanHappenAt cores.old.items seat state (ask_on state work) }
+    ensures carried { IfOk result (Carries disk.old disk.new cores.old.items cores.new.items state work (told_in cores.old.items disk.old seat state work)) }
 {
-    match on_disk(alloc, disk, &state, work) {
-        Ok((did, change, work)) => Ok(Carried {
+    match work.ask(alloc, &state) {
+        Ok(None) => Ok(unasked(state, work)),
+        Ok(Some(PartAsk::Disk(ask))) => on_disk(alloc, disk, state, work, &ask),
+        Ok(Some(PartAsk::Core(event))) => at_own_core(alloc, cores, seat, state, work, event),
+        Err(error) => {
+            drop((state, work));
+            Err(error)
+        }
+    }
+}
+
+/// A turn whose work asks for nothing.
+fn unasked(state: HandleState, work: Work) -> Carried
+    ensures same { result ≡ carried_unasked state work }
+{
+    Carried {
+        did: Did::Nothing,
+        change: None,
+        state,
+        work,
+    }
+}
+
+/// Carries out the call of the disk that a piece of work asks for.
+fn on_disk(
+    alloc: Global,
+    disk: &mut MemDisk,
+    state: HandleState,
+    work: Work,
+    ask: &DiskAsk,
+) -> Result<Carried, NoMemory>
+    ensures did { IfOk result (λ done. done.did ≡ did_now (opened_in work) disk.old ask.now) }
+    ensures change { IfOk result (λ done. done.change ≡ change_now disk.old ask.now) }
+    ensures state { IfOk result (λ done. done.state ≡ state) }
+    ensures work { IfOk result (λ done. done.work ≡ fed_on state work (told.Disk (answer_now disk.old ask.now))) }
+    ensures left { OnOk result (disk.new ≡ after_ask disk.old ask.now) }
+{
+    match called(alloc, disk, work.opened(), ask) {
+        Ok((did, change, answer)) => fed(alloc, state, work, did, change, Answer::Disk(answer)),
+        Err(error) => {
+            drop((state, work));
+            Err(error)
+        }
+    }
+}
+
+/// What a turn comes to whose work was answered.
+fn fed(
+    alloc: Global,
+    state: HandleState,
+    work: Work,
+    did: Did,
+    change: Option<Change>,
+    answer: Answer,
+) -> Result<Carried, NoMemory>
+    ensures did { IfOk result (λ done. done.did ≡ did) }
+    ensures change { IfOk result (λ done. done.change ≡ change) }
+    ensures state { IfOk result (λ done. done.state ≡ state) }
+    ensures work { IfOk result (λ done. done.work ≡ fed_on state work answer) }
+{
+    match work.feed(alloc, &state, answer) {
+        Ok(work) => Ok(Carried {
             did,
             change,
             state,
             work,
         }),
         Err(error) => {
-            drop(state);
+            drop((state, did, change));
             Err(error)
         }
     }
 }
 
-/// Carries out the one call of the disk that a piece of work names: what it did, the change that it made, and the work
-/// after the answer.
-fn on_disk(
+/// Carries out the event of the core of its handle's store that a piece of work asks for.
+fn at_own_core(
     alloc: Global,
-    disk: &mut MemDisk,
-    state: &HandleState,
+    cores: &mut Vec<Core>,
+    seat: u32,
+    state: HandleState,
     work: Work,
-) -> Result<(Did, Option<Change>, Work), NoMemory>
-    ensures did { IfOk result (λ done. done.0 ≡ did_now (opened_in work) disk.old (ask_on state.now work)) }
-    ensures change { IfOk result (λ done. done.1 ≡ change_now disk.old (ask_on state.now work)) }
-    ensures work { IfOk result (λ done. done.2 ≡ work_now disk.old state.now work (ask_on state.now work)) }
-    ensures left { OnOk result (disk.new ≡ disk_now disk.old (ask_on state.now work)) }
+    event: Event,
+) -> Result<Carried, NoMemory>
+    requires there { state.core < length cores.old.items }
+    requires can_happen { CanHappen (present (history_at cores.old.items state.core)) seat event }
+    ensures carried { IfOk result (CarriesEvent cores.old.items seat state work event) }
+    ensures cores { OnOk result (cores.new.items ≡ cores_after_asked cores.old.items (OfCore state.core seat event (answer_behind (history_at cores.old.items state.core) seat event))) }
 {
-    match work.disk_ask(alloc, state) {
-        Ok(Some(ask)) => asked(alloc, disk, state, work, &ask),
-        Ok(None) => Ok((Did::Nothing, None, work)),
+    match applied(alloc, cores, state.core, seat, event) {
+        Ok(applied) => answered_by_core(alloc, state, work, applied),
         Err(error) => {
-            drop(work);
+            drop((state, work));
             Err(error)
         }
     }
 }
 
-/// Carries out the call of the disk that a piece of work asked for.
-fn asked(
+/// What a turn comes to whose work was answered by a core: the handle has the view that was handed over.
+fn answered_by_core(
     alloc: Global,
-    disk: &mut MemDisk,
-    state: &HandleState,
+    state: HandleState,
     work: Work,
-    ask: &DiskAsk,
-) -> Result<(Did, Option<Change>, Work), NoMemory>
-    ensures did { IfOk result (λ done. done.0 ≡ did_now (opened_in work) disk.old (Some ask.now)) }
-    ensures change { IfOk result (λ done. done.1 ≡ change_now disk.old (Some ask.now)) }
-    ensures work { IfOk result (λ done. done.2 ≡ work_now disk.old state.now work (Some ask.now)) }
-    ensures left { OnOk result (disk.new ≡ disk_now disk.old (Some ask.now)) }
+    applied: EventDone,
+) -> Result<Carried, NoMemory>
+    ensures did { IfOk result (λ done. done.did ≡ applied.did) }
+    ensures change { IfOk result (λ done. done.change ≡ None) }
+    ensures state { IfOk result (λ done. done.state ≡ tables.seeing state (view_in applied.answer)) }
+    ensures work { IfOk result (λ done. done.work ≡ fed_on state work (told.Core applied.answer)) }
 {
-    match called(alloc, disk, work.opened(), ask) {
-        Ok((did, change, answer)) => fed(alloc, state, work, did, change, answer),
+    let EventDone { did, answer } = applied;
+    match shown(&answer) {
+        Ok(view) => fed_by_core(alloc, state, work, did, view, answer),
         Err(error) => {
-            drop(work);
+            drop((state, work, did, answer));
             Err(error)
         }
     }
 }
 
-/// The work after the answer, beside what the call did and the change that it made.
-fn fed(
+/// The view that the answer of a core hands over.
+fn shown(answer: &Result<Effect, Refusal>) -> Result<Option<View>, NoMemory>
+    ensures shown { IfOk result (λ view. view ≡ view_in answer.now) }
+{
+    match answer {
+        Ok(effect) => match effect.view() {
+            Some(view) => Ok(Some(view.try_clone()?)),
+            None => Ok(None),
+        },
+        Err(_) => Ok(None),
+    }
+}
+
+fn fed_by_core(
     alloc: Global,
-    state: &HandleState,
+    state: HandleState,
     work: Work,
     did: Did,
-    change: Option<Change>,
-    answer: DiskAnswer,
-) -> Result<(Did, Option<Change>, Work), NoMemory>
-    ensures did { IfOk result (λ done. done.0 ≡ did) }
-    ensures change { IfOk result (λ done. done.1 ≡ change) }
-    ensures work { IfOk result (λ done. done.2 ≡ fed_on state.now work answer) }
+    view: Option<View>,
+    answer: Result<Effect, Refusal>,
+) -> Result<Carried, NoMemory>
+    ensures did { IfOk result (λ done. done.did ≡ did) }
+    ensures change { IfOk result (λ done. done.change ≡ None) }
+    ensures state { IfOk result (λ done. done.state ≡ tables.seeing state view) }
+    ensures work { IfOk result (λ done. done.work ≡ fed_on state work (told.Core answer)) }
 {
-    let work = work.feed(alloc, state, answer)?;
-    Ok((did, change, work))
+    match fed(alloc, state, work, did, None, Answer::Core(answer)) {
+        Ok(done) => Ok(shown_to(done, view)),
+        Err(error) => {
+            drop(view);
+            Err(error)
+        }
+    }
+}
+
+/// What a turn came to, with the handle that has a view, if one was handed over.
+fn shown_to(done: Carried, view: Option<View>) -> Carried
+    ensures shown { result ≡ record done { state = tables.seeing done.state view } }
+{
+    let Carried {
+        did,
+        change,
+        state,
+        work,
+    } = done;
+    Carried {
+        did,
+        change,
+        state: seeing(state, view),
+        work,
+    }
+}
+
+/// A handle with a view, if one was handed over.
+fn seeing(state: HandleState, view: Option<View>) -> HandleState
+    ensures seeing { result ≡ tables.seeing state view }
+{
+    match view {
+        None => state,
+        Some(view) => HandleState {
+            store: state.store,
+            ignore_replacements: state.ignore_replacements,
+            core: state.core,
+            view: Some(view),
+        },
+    }
 }
 
 /// Makes a call of the disk: what it did, the change that it made, and the answer.
@@ -204,10 +322,10 @@ fn called(
     opened: Option<&PathText>,
     ask: &DiskAsk,
 ) -> Result<(Did, Option<Change>, DiskAnswer), NoMemory>
-    ensures did { IfOk result (λ called. called.0 ≡ did_now (option_map (λ path. path.now) opened.entry) disk.old (Some ask.now)) }
-    ensures change { IfOk result (λ called. called.1 ≡ change_now disk.old (Some ask.now)) }
+    ensures did { IfOk result (λ called. called.0 ≡ did_now (option_map (λ path. path.now) opened.entry) disk.old ask.now) }
+    ensures change { IfOk result (λ called. called.1 ≡ change_now disk.old ask.now) }
     ensures answer { IfOk result (λ called. called.2 ≡ answer_now disk.old ask.now) }
-    ensures left { OnOk result (disk.new ≡ disk_now disk.old (Some ask.now)) }
+    ensures left { OnOk result (disk.new ≡ after_ask disk.old ask.now) }
 {
     let change = disk.change_of(alloc, ask)?;
     let (did, answer) = answered(alloc, disk, opened, ask)?;
@@ -222,9 +340,9 @@ fn answered(
     opened: Option<&PathText>,
     ask: &DiskAsk,
 ) -> Result<(Did, DiskAnswer), NoMemory>
-    ensures did { IfOk result (λ answered. answered.0 ≡ did_now (option_map (λ path. path.now) opened.entry) disk.old (Some ask.now)) }
+    ensures did { IfOk result (λ answered. answered.0 ≡ did_now (option_map (λ path. path.now) opened.entry) disk.old ask.now) }
     ensures answer { IfOk result (λ answered. answered.1 ≡ answer_now disk.old ask.now) }
-    ensures left { OnOk result (disk.new ≡ disk_now disk.old (Some ask.now)) }
+    ensures left { OnOk result (disk.new ≡ after_ask disk.old ask.now) }
 {
     let answer = disk.carry_out(alloc, ask)?;
     let did = Did::of(alloc, opened, ask, &answer)?;

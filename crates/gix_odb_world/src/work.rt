@@ -2,12 +2,16 @@
 ghost use Rattle.std.specs.Prelude.{◌≡◌, IfOk};
 ghost use Rattle.std.specs.Option.{option_map};
 ghost use Rattle.gix_odb_world.specs.Recorded.{opened_in};
-ghost use Rattle.gix_odb_world.specs.WorkOrder.{ask_on, fed_on, registered_on, registers_in, result_in};
+ghost use Rattle.gix_odb.specs.CallOrder.{disk_part};
+ghost use Rattle.gix_odb.specs.HandleState.{objects_of};
+ghost use Rattle.gix_odb.specs.OpenOrder as openings;
+ghost use Rattle.gix_odb_world.specs.WorkOrder.{ask_on, fed_on, opening_fed, registered_on, registers_in, result_in};
 
 use gix_odb::{CallState, HandleState, OpenState};
 use gix_odb_calls::Reply;
+use gix_odb_packs::{Answer, PartAsk};
 use odb_base::NoMemory;
-use odb_disk::{DiskAnswer, DiskAsk, PathText};
+use odb_disk::PathText;
 use std::alloc::Global;
 
 /// What a handle is at work on.
@@ -18,13 +22,14 @@ pub enum Work {
 }
 
 impl Work {
-    /// The call of the disk that comes next; there is none where the work is done.
-    pub fn disk_ask(&self, alloc: Global, handle: &HandleState) -> Result<Option<DiskAsk>, NoMemory>
+    /// What comes next, a call of the disk or an event of the core of the handle's store; there is none where the work is
+    /// done, or is to have a core made.
+    pub fn ask(&self, alloc: Global, handle: &HandleState) -> Result<Option<PartAsk>, NoMemory>
         ensures asked { IfOk result (λ ask. ask ≡ ask_on handle.now self.now) }
     {
         match self {
-            Work::Opening(state) => state.disk_ask(alloc, handle),
-            Work::Calling(state) => state.disk_ask(alloc),
+            Work::Opening(state) => opening_ask(alloc, handle, state),
+            Work::Calling(state) => state.ask(alloc),
         }
     }
 
@@ -48,28 +53,22 @@ impl Work {
         }
     }
 
-    /// The path with which the stream was opened that its call of the disk is on, where it is on one: no work of these makes
-    /// such a call.
+    /// The path with which the stream was opened that its call of the disk is on, where it is on one.
     pub fn opened(&self) -> Option<&PathText>
         ensures opened { option_map (λ path. path.now) result ≡ opened_in self.now }
     {
         match self {
             Work::Opening(_) => None,
-            Work::Calling(_) => None,
+            Work::Calling(state) => state.opened(),
         }
     }
 
-    /// The work after the answer to its call of the disk.
-    pub fn feed(
-        self,
-        alloc: Global,
-        handle: &HandleState,
-        answer: DiskAnswer,
-    ) -> Result<Work, NoMemory>
+    /// The work after the answer to what it asked for.
+    pub fn feed(self, alloc: Global, handle: &HandleState, answer: Answer) -> Result<Work, NoMemory>
         ensures fed { IfOk result (λ work. work ≡ fed_on handle.now self answer) }
     {
         match self {
-            Work::Opening(state) => Ok(Work::Opening(state.feed(handle.parts().slots, &answer))),
+            Work::Opening(state) => Ok(Work::Opening(opening_fed(handle, state, &answer))),
             Work::Calling(state) => Ok(Work::Calling(state.feed(alloc, handle, answer)?)),
         }
     }
@@ -88,5 +87,30 @@ impl Work {
                 Err(state) => Err(Work::Calling(state)),
             },
         }
+    }
+}
+
+/// What an opening asks of the disk.
+fn opening_ask(
+    alloc: Global,
+    handle: &HandleState,
+    state: &OpenState,
+) -> Result<Option<PartAsk>, NoMemory>
+    ensures asked { IfOk result (λ ask. ask ≡ disk_part (openings.ask_of (objects_of handle.now) state.now)) }
+{
+    match state.disk_ask(alloc, handle)? {
+        None => Ok(None),
+        Some(ask) => Ok(Some(PartAsk::Disk(ask))),
+    }
+}
+
+/// An opening after an answer: of the disk, or of the core that it had made.
+fn opening_fed(handle: &HandleState, state: OpenState, answer: &Answer) -> OpenState
+    ensures fed { result ≡ opening_fed handle.now state answer.now }
+{
+    let slots = handle.parts().slots;
+    match answer {
+        Answer::Disk(answer) => state.feed(slots, answer),
+        Answer::Core(_) => state.registered(slots),
     }
 }

@@ -5,7 +5,7 @@ ghost use Rattle.gix_odb_world.specs.Event.{Event};
 ghost use Rattle.gix_odb_world.specs.Headline.{Headline, IsRun};
 ghost use Rattle.gix_odb_world.specs.Table.{HasOneMore};
 ghost use Rattle.gix_odb_world.specs.Valid.{why_not_after};
-ghost use Rattle.gix_odb_world.specs.World.{Continues, Explains, GoesOn, IsExplained};
+ghost use Rattle.gix_odb_world.specs.World.{Continues, Explains, GoesOn};
 
 use crate::course::Course;
 use crate::record::Run;
@@ -13,17 +13,32 @@ use gix_odb_calls::{Outcome, Step, Why};
 use odb_base::NoMemory;
 use odb_disk::MemDisk;
 use std::alloc::Global;
+use std::marker::Model;
 
 /// A disk, the handles on it, and what has come of the steps so far. Some events lead there, from some first disk.
 #[derive(Drop)]
 pub struct World {
     course: Course,
-    ghost explained: { IsExplained course },
+}
+
+impl Model for World {
+    ghost use Rattle.gix_odb_world.specs.declared.course.Course.{Course};
+    ghost use Rattle.gix_odb_world.specs.contracts.course.Course as course_type;
+
+    ghost Value = { Course };
+
+    ghost coded = { course_type.the_row.coded };
+
+    ghost use Rattle.gix_odb_world.specs.World.{IsExplained};
+
+    ghost view = { λ world. world.course };
+
+    ghost invariant = { λ world. IsExplained world.course };
 }
 
 /// The first reason why a step isn't valid now, or `None` where it is.
 pub fn is_valid(alloc: Global, world: &World, step: &Step) -> Result<Option<Why>, NoMemory>
-    ensures reason { IfOk result (λ why. (first : Volume) (events : List Event) → Explains first events world.now.course → why ≡ why_not_after first events step.now) }
+    ensures reason { IfOk result (λ why. (first : Volume) (events : List Event) → Explains first events world.now → why ≡ why_not_after first events step.now) }
 {
     world.course.why_not(alloc, step)
 }
@@ -31,7 +46,7 @@ pub fn is_valid(alloc: Global, world: &World, step: &Step) -> Result<Option<Why>
 impl World {
     /// A world at its first state: nothing open, and no step made.
     pub fn new(alloc: Global, disk: MemDisk) -> World
-        ensures explained { Explains disk [] result.course }
+        ensures explained { Explains disk [] result }
     {
         World {
             course: Course::new(alloc, disk),
@@ -53,8 +68,8 @@ impl World {
     /// Makes one step, and gives what it came to. Where memory runs out, the steps so far are forgotten, and the world is a new one
     /// on its disk as it is then.
     pub fn step(&mut self, alloc: Global, step: &Step) -> Result<Outcome, NoMemory>
-        ensures goes_on { IfOk result (λ outcome. (first : Volume) (events : List Event) → Explains first events self.old.course → GoesOn first events step.now outcome self.new.course) }
-        ensures anew { OnErr result (Explains self.new.course.disk [] self.new.course) }
+        ensures goes_on { IfOk result (λ outcome. (first : Volume) (events : List Event) → Explains first events self.old → GoesOn first events step.now outcome self.new) }
+        ensures anew { OnErr result (Explains self.new.disk [] self.new) }
     {
         self.advance(alloc, step)?;
         match self.course.last_outcome(alloc) {
@@ -68,7 +83,7 @@ impl World {
 
     /// The run of the steps so far. Every history that leads to the world is its own.
     pub fn finish(self, alloc: Global) -> Result<Run, NoMemory>
-        ensures run { IfOk result (λ run. (first : Volume) (events : List Event) → Explains first events self.course → IsRun first events run) }
+        ensures run { IfOk result (λ run. (first : Volume) (events : List Event) → Explains first events self → IsRun first events run) }
     {
         let World { course } = self;
         course.finish(alloc)
@@ -76,9 +91,9 @@ impl World {
 
     /// Makes one step.
     pub(crate) fn advance(&mut self, alloc: Global, step: &Step) -> Result<(), NoMemory>
-        ensures continues { OnOk result (Continues self.old.course step.now self.new.course) }
-        ensures noted { OnOk result (HasOneMore self.old.course self.new.course) }
-        ensures anew { OnErr result (Explains self.new.course.disk [] self.new.course) }
+        ensures continues { OnOk result (Continues self.old step.now self.new) }
+        ensures noted { OnOk result (HasOneMore self.old self.new) }
+        ensures anew { OnErr result (Explains self.new.disk [] self.new) }
     {
         match self.course.advance(alloc, step) {
             Ok(()) => Ok(()),
@@ -91,8 +106,8 @@ impl World {
 
     /// Whether the last step was a turn after which its call goes on.
     pub(crate) fn is_pending(&self) -> bool
-        ensures pending { (before : List Outcome) (outcome : Outcome) → self.now.course.outcomes ≡ before ++ outcome ∷ [] → IsTrue result ↔ (outcome ≡ Outcome.Pending) }
-        ensures fits { length self.now.course.outcomes < 2 ^ 64 }
+        ensures pending { (before : List Outcome) (outcome : Outcome) → self.now.outcomes ≡ before ++ outcome ∷ [] → IsTrue result ↔ (outcome ≡ Outcome.Pending) }
+        ensures fits { length self.now.outcomes < 2 ^ 64 }
     {
         self.course.is_pending()
     }

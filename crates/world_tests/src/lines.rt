@@ -50,7 +50,7 @@ fn places_shown(alloc: Global, play: &Play) -> Result<String, Fail> {
     Ok(format!(in alloc; "{count} {last:?}")?)
 }
 
-// The second folder isn't there, so that a find takes two turns.
+// There are two folders and no packs, so that a find that misses takes seven turns.
 const LINES: &str = "\
     make /o\n\
     open 0 /o folder=/p\n\
@@ -63,10 +63,11 @@ const LINES: &str = "\
     close 0";
 
 const LINE_OUTCOMES: &str = "\
-    applied; applied; pending; 32 slots; applied; pending; not found; misuse NotRunning; applied; pending; pending; pending; \
+    applied; applied; pending; 32 slots; applied; pending; pending; pending; pending; pending; pending; not found; \
+    misuse NotRunning; applied; pending; pending; pending; \
     wrote e69de29bb2d1d6434b8b29ae775ad8c2e48c5391; applied; ";
 
-const LINE_PLACES: &str = "14 [0, 1, 3, 4, 6, 7, 8, 12, 13]";
+const LINE_PLACES: &str = "19 [0, 1, 3, 4, 11, 12, 13, 17, 18]";
 
 fn check_outcomes(alloc: Global, play: &Play) -> Result<(), Fail> {
     let found = outcomes_shown(alloc, &play.run.outcomes)?;

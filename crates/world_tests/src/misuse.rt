@@ -10,7 +10,7 @@ pub(crate) const MISUSES: &str = "\
     close 0; ignore 0; find 0 E; write 0 0 -|misuse Busy; misuse Busy; misuse Busy; misuse Busy\n\
     clone 0 0; clone 0 1; clone 1 0|misuse HandleTaken; misuse HandleTaken; misuse Busy\n\
     turn 0; turn 0; turn 0|pending; 32 slots; misuse NotRunning\n\
-    find 0 E; close 0; take /o:E; turn 0|misuse Busy; not found\n\
+    find 0 E; close 0; take /o:E; finish 0|misuse Busy; 5: not found\n\
     take /o:E; make /o/e6; make /x/y; put /o x; move /x /y|misuse ImpossibleChange; misuse ImpossibleChange; \
     misuse ImpossibleChange; misuse ImpossibleChange; misuse ImpossibleChange\n\
     ignore 0; put /o:E blob 0~; write 0 0 -; turn 0; write 0 0 -; close 0; ignore 0|\
@@ -20,4 +20,5 @@ pub(crate) const MISUSES: &str = "\
     open 0 /o:E; turn 0|the objects directory is not a directory\n\
     open 0 /o slots=32768; turn 0|32768 slots are too many\n\
     open 0 /o slots=32767; turn 0; turn 0|pending; 32767 slots\n\
-    clone 1 0; clone 1 0; close 0; test 1 E; turn 1; clone 0 1; close 1; test 0 E; turn 0|misuse HandleTaken; true; true";
+    clone 1 0; clone 1 0; close 0; test 1 E; finish 1; clone 0 1; close 1; test 0 E; turn 0|\
+    misuse HandleTaken; 4: true; true";

@@ -24,7 +24,7 @@ pub(crate) const OPENINGS: &str = "\
 pub(crate) const HASHES: &str = "\
     make /o; make /o/8a; put /o:S blob 5~hello; open 0 /o hash=sha256; finish 0|2: 32 slots\n\
     find 0 S; finish 0; header 0 S; finish 0; test 0 S; finish 0|\
-    1: Blob hello; 1: Loose { kind: Blob, size: 5 }; 1: true\n\
+    4: Blob hello; 1: Loose { kind: Blob, size: 5 }; 1: true\n\
     take /o:S; take /o/8a; write 0 5 - hello; finish 0; find 0 S; finish 0|\
     5: wrote 8aec4e4876f854f688d0ebfc8f37598f38e5fd6903cccc850ca36591175aeb60; 1: Blob hello\n\
     write 0 5 S hello; finish 0|5: wrote 8aec4e4876f854f688d0ebfc8f37598f38e5fd6903cccc850ca36591175aeb60\n\

@@ -44,7 +44,8 @@ const RECORDS: &str = "\
     turn 1|Look /o false false 1\n\
     turn 1|core 1 1 false 1\n\
     find 0 E|- false 1\n\
-    turn 0|Read /o/e6/9de29bb2d1d6434b8b29ae775ad8c2e48c5391 true false 2\n\
+    turn 0|core 0 2 false 1\n\
+    turn 0|OpenDir /o/pack true false 2\n\
     write 0 0 -|- false 2\n\
     write 1 1 - x|- false 2\n\
     turn 0|NewFile /o/tmp_obj_0 false true 2\n\
@@ -58,19 +59,30 @@ const RECORDS: &str = "\
     turn 1|Append /o/tmp_obj_1 false true 3\n\
     turn 1|MakeDir /o/c1 false true 3\n\
     turn 1|Rename /o/tmp_obj_1 false true 3\n\
-    clone 2 1|core 1 2 false 3\n\
-    close 0|core 0 2 false 3\n\
-    close 1|core 1 3 false 3";
+    make /o/pack|- true 3\n\
+    find 1 Z|- false 3\n\
+    turn 1|core 1 2 false 3\n\
+    turn 1|OpenDir /o/pack false false 3\n\
+    turn 1|NextEntry /o/pack false false 3\n\
+    turn 1|CloseDir /o/pack false false 3\n\
+    turn 1|core 1 3 false 3\n\
+    turn 1|Read /o/00/00000000000000000000000000000000000001 false false 3\n\
+    turn 1|core 1 4 false 3\n\
+    clone 2 1|core 1 5 false 3\n\
+    close 0|core 0 3 false 3\n\
+    close 1|core 1 6 false 3";
 
 /// The entries of the journals of that run, a row for each journal: their numbers, seats, events and answers.
 const JOURNALS: &str = "\
-    1 0 register seen; 2 0 remove removed\n\
-    1 1 register seen; 2 2 register seen; 3 1 remove removed";
+    1 0 register seen; 2 0 look seen; 3 0 remove removed\n\
+    1 1 register seen; 2 1 look seen; 3 1 publish published; 4 1 look seen; 5 2 register seen; 6 1 remove removed";
 
 fn event_shown(event: &Event) -> &'static str {
     match event {
         Event::Register { stable: false } => "register",
         Event::Remove => "remove",
+        Event::Look => "look",
+        Event::Publish(_) => "publish",
         _ => "another event",
     }
 }
@@ -79,6 +91,7 @@ fn answer_shown(answer: &Result<Effect, Refusal>) -> &'static str {
     match answer {
         Ok(Effect::Seen(_)) => "seen",
         Ok(Effect::Removed) => "removed",
+        Ok(Effect::Published(_)) => "published",
         _ => "another answer",
     }
 }
@@ -111,12 +124,13 @@ fn check_journals(alloc: Global, run: &Run, rows: &str) -> Result<(), Fail> {
     Ok(())
 }
 
-// A failed call that is counted twice or makes its change, a path of another call, or a change that is lost; an entry of
+// A failed call that is counted twice or makes its change, a path of another call, a call on a stream that is told without the path
+// of its folder, or a change that is lost; an entry of
 // another store's journal, or one of another handle.
 #[test]
 fn records_what_each_step_did(rt: HostRuntime) -> Result<(), Fail> {
     let run = run_of(rt.alloc(), &[1, 4, 9], RECORDS)?;
-    assert!(rt; run.records.len() == 27 && run.outcomes.len() == 27 && run.journals.len() == 2);
+    assert!(rt; run.records.len() == 37 && run.outcomes.len() == 37 && run.journals.len() == 2);
     check_records(rt.alloc(), &run, RECORDS)?;
     check_journals(rt.alloc(), &run, JOURNALS)
 }

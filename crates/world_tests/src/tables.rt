@@ -7,13 +7,13 @@ use std::test::Fail;
 #[test]
 fn steps_in_turn(rt: HostRuntime) -> Result<(), Fail> {
     for (rows, calls) in [
-        (finds::FOUND, 2),
-        (finds::FOLDERS, 26),
-        (finds::REPLACED, 16),
-        (writes::WRITES, 39),
-        (others::READER, 10),
-        (misuse::MISUSES, 12),
-        (openings::HASHES, 17),
+        (finds::FOUND, 4),
+        (finds::FOLDERS, 45),
+        (finds::REPLACED, 27),
+        (writes::WRITES, 40),
+        (others::READER, 13),
+        (misuse::MISUSES, 14),
+        (openings::HASHES, 18),
     ] {
         let run = check_run(rt.alloc(), rows)?;
         assert!(rt; run.disk.calls() == calls);

@@ -9,7 +9,8 @@ use Rattle.odb_tree.specs.declared.meta.Meta.{Meta}
 use Rattle.odb_disk.specs.Ask.{answer_of, meta_answer}
 use Rattle.odb_disk.specs.declared.ask.DiskAnswer.TheVariants as answers
 use Rattle.odb_disk.specs.declared.ask.DiskAsk.TheVariants as asks
-use Rattle.gix_odb.specs.OpenOrder.{looked as after_look, most_slots, refused, shown as after_kind}
+use Rattle.gix_odb.specs.OpenOrder.{looked as after_look, refused, shown as after_kind}
+use Rattle.gix_odb_slots.specs.PackId.{most_slots}
 use Rattle.gix_odb.specs.declared.open_state.OpenState.{OpenState}
 use Rattle.gix_odb.specs.declared.open_state.OpenState.TheVariants as opens
 use Rattle.gix_odb_calls.specs.declared.init.Error.TheVariants as opening_errors

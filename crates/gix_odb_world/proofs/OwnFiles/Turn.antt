@@ -26,7 +26,8 @@ use Rattle.gix_odb_world.specs.Running.Write.{IsWriting, write_at}
 use Rattle.gix_odb_world.specs.Undisturbed.{HasMade}
 use Rattle.gix_odb_world.specs.Writing.{IsRename}
 use Rattle.gix_odb_world.proofs.LawfulRun.{LawfulRun}
-use Rattle.gix_odb_world.proofs.DiskTurns.{CallsDisk, write_calls}
+use Rattle.gix_odb_world.proofs.DiskTurns.{CallsDisk}
+use Rattle.gix_odb_world.proofs.WriteCalls.{write_calls}
 use Rattle.gix_odb_world.proofs.FileSteps.{WriterMoves, does_nothing}
 use Rattle.gix_odb_world.proofs.RunSteps.{there_in_front}
 use Rattle.gix_odb_world.proofs.WorkLaws.{ends_as_write}

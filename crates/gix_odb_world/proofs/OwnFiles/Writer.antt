@@ -36,7 +36,8 @@ use Rattle.gix_odb_world.specs.Running.Write.{IsWriting, write_at, job_to_write}
 use Rattle.gix_odb_world.specs.Undisturbed.{HasMade}
 use Rattle.gix_odb_world.specs.Writing.{AskedAt, IsMaking, IsNewFile, head_to_write}
 use Rattle.gix_odb_world.proofs.LawfulRun.{LawfulRun}
-use Rattle.gix_odb_world.proofs.DiskTurns.{CallsDisk, write_calls}
+use Rattle.gix_odb_world.proofs.DiskTurns.{CallsDisk}
+use Rattle.gix_odb_world.proofs.WriteCalls.{write_calls}
 use Rattle.gix_odb_world.proofs.FileSteps.{IsNewAt, WriterMoves, new_at, writer_moves}
 use Rattle.gix_odb_world.proofs.OwnFiles.Ends.{moving_ends}
 use Rattle.gix_odb_world.proofs.RunSteps.{IsTurned, front_of_front, is_tree_at, there_in_front, there_in_whole}

@@ -3,7 +3,7 @@ use Rattle.std.proofs.Common.{◌≡◌, ◌⊎◌, inl, inr, ℕ, zero, suc, �
 use Rattle.std.specs.Prelude.{slice_get}
 use Rattle.gix_odb_world.specs.Event.{Event}
 
-take_suc : {A : Type 0} (xs : List A) (place : ℕ) (x : A) → slice_get xs place ≡ Some x → take (suc place) xs ≡ take place xs ++ x ∷ []
+pub take_suc : {A : Type 0} (xs : List A) (place : ℕ) (x : A) → slice_get xs place ≡ Some x → take (suc place) xs ≡ take place xs ++ x ∷ []
 take_suc [] place x is = absurd (cc)
 take_suc (z ∷ zs) zero x is = let same : z ≡ x = cc in ap (λ y. y ∷ []) same
 take_suc (z ∷ zs) (suc place) x is = ap (λ ys. z ∷ ys) (take_suc zs place x is)

@@ -4,6 +4,10 @@ use Rattle.std.specs.Prelude.{◌==◌, if◌then◌else◌}
 use Rattle.std.proofs.lemmas.Bool.{eqb-true, eqb-false}
 use Rattle.odb_disk.specs.MemDisk.{Volume}
 use Rattle.gix_odb_calls.specs.declared.call.Call.{Call}
+use Rattle.gix_odb_calls.specs.declared.call.Call.TheVariants as calls
+use Rattle.gix_odb_calls.specs.declared.query.Query.TheVariants.{Find, Header, Test}
+use Rattle.gix_odb_looks.proofs.HandedLaws.{IsOfLooks, look_ups_ask_these_events_alone}
+use Rattle.gix_odb_world.specs.Told.{look_now}
 use Rattle.gix_odb.specs.declared.open_state.OpenState.{OpenState}
 use Rattle.gix_odb.specs.declared.open_state.OpenState.TheVariants as opens
 use Rattle.gix_odb_core.specs.History.{History, present}
@@ -24,7 +28,7 @@ use Rattle.gix_odb_world.specs.Cores.{cores_after, cores_after_asked, history_at
 use Rattle.gix_odb_world.specs.Event.{Asked, CoreEvent, Event, OfCore, OfNothing}
 use Rattle.gix_odb_world.specs.Headline.{IsTurn, asked_applied, asked_by_clone, asked_by_close}
 use Rattle.gix_odb_world.specs.Seats.{IsNowhere, IsSeated}
-use Rattle.gix_odb_world.specs.Status.{Free, MakeCall, Modes, OpenStore, Resting, Status, Task, Working, cloned, ignoring_from, modes_after}
+use Rattle.gix_odb_world.specs.Status.{Free, MakeCall, Modes, OpenStore, Resting, Status, Store, Task, Working, cloned, ignoring_from, modes_after}
 use Rattle.gix_odb_world.specs.Status.{started, status_after, status_of, with_status}
 use Rattle.gix_odb_world.proofs.HistoryLemmas.{cores_after-push}
 use Rattle.gix_odb_world.specs.Valid.{is_openable, phase_of, why_not_after, why_not_clone, why_not_idle, why_not_open}
@@ -53,9 +57,17 @@ is_free_for_clone Free parent valid = (refl, valid)
 is_free_for_clone (Resting store modes) parent valid = absurd (cc valid)
 is_free_for_clone (Working running) parent valid = absurd (cc valid)
 
-pub no_core : (task : Task) (event : CoreEvent) → ¬ (MayAskCore task event)
-no_core OpenStore event asks = asks
-no_core (MakeCall call) event asks = asks
+-- a task asks a core for nothing but what look-ups ask for
+pub asks_of_looks : (past : List Event) (handle : ℕ) (store : Store) (modes : Modes) (begun : ℕ) (task : Task) (event : CoreEvent)
+    → MayAskCore past handle store modes begun task event → IsOfLooks event
+asks_of_looks past handle store modes begun OpenStore event asks = absurd asks
+asks_of_looks past handle store modes begun (MakeCall (calls.Find id)) event asks =
+    look_ups_ask_these_events_alone (look_now past handle store modes begun (Find id)) event asks
+asks_of_looks past handle store modes begun (MakeCall (calls.Header id)) event asks =
+    look_ups_ask_these_events_alone (look_now past handle store modes begun (Header id)) event asks
+asks_of_looks past handle store modes begun (MakeCall (calls.Test id)) event asks =
+    look_ups_ask_these_events_alone (look_now past handle store modes begun (Test id)) event asks
+asks_of_looks past handle store modes begun (MakeCall (calls.Write kind size bytes known)) event asks = absurd asks
 
 module _ (past : List Event) (e : Event) where
   abbrev pub now : List Event

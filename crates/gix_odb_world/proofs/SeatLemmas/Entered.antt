@@ -27,10 +27,10 @@ last_or-append : {X : Type 0} (o : Option X) (xs ys : List X) → last_or o (xs 
 last_or-append o [] ys = refl
 last_or-append o (x ∷ xs) ys = last_or-append (Some x) xs ys
 
-snapshot-push : (seat : ℕ) (entries : List Entry) (entry : Entry) → snapshot_of seat (entries ++ entry ∷ []) ≡ last_or (snapshot_of seat entries) (handed_to seat (entry ∷ []))
+pub snapshot-push : (seat : ℕ) (entries : List Entry) (entry : Entry) → snapshot_of seat (entries ++ entry ∷ []) ≡ last_or (snapshot_of seat entries) (handed_to seat (entry ∷ []))
 snapshot-push seat entries entry = ap (last_or None) (handed-append seat entries (entry ∷ [])) ∙ last_or-append None (handed_to seat entries) (handed_to seat (entry ∷ []))
 
-handed_by : (seat : ℕ) (entry : Entry) (b : Bool) → (entry.seat == seat) ≡ b
+pub handed_by : (seat : ℕ) (entry : Entry) (b : Bool) → (entry.seat == seat) ≡ b
     → handed_to seat (entry ∷ []) ≡ filter_map (λ (e : Entry). view_in e.answer) (cond b (entry ∷ []) [])
 handed_by seat entry b is = ap (λ (c : Bool). filter_map (λ (e : Entry). view_in e.answer) (cond c (entry ∷ []) [])) is
 
@@ -42,13 +42,13 @@ module _ (h : History) (seat : ℕ) (event : CoreEvent) (answer : CoreAnswer) wh
   abbrev entry : Entry
   entry = entry_of h seat event answer
 
-  snapshot_own : snapshot_of seat (entered h seat event answer).entries ≡ or_before (view_in answer) (snapshot_of seat h.entries)
+  pub snapshot_own : snapshot_of seat (entered h seat event answer).entries ≡ or_before (view_in answer) (snapshot_of seat h.entries)
   snapshot_own =
       let same : (seat == seat) ≡ true = grind arith in
       snapshot-push seat h.entries entry
       ∙ (ap (last_or (snapshot_of seat h.entries)) (handed_by seat entry true same) ∙ last_handed (view_in answer) (snapshot_of seat h.entries))
 
-  snapshot_other : (other : ℕ) → (seat == other) ≡ false → snapshot_of other (entered h seat event answer).entries ≡ snapshot_of other h.entries
+  pub snapshot_other : (other : ℕ) → (seat == other) ≡ false → snapshot_of other (entered h seat event answer).entries ≡ snapshot_of other h.entries
   snapshot_other other apart = snapshot-push other h.entries entry ∙ ap (last_or (snapshot_of other h.entries)) (handed_by other entry false apart)
 
 -- an event that isn't refused leaves every other handle registered

@@ -6,7 +6,8 @@ use Rattle.odb_disk.specs.declared.ask.DiskAnswer.TheVariants as answers
 use Rattle.odb_tree.specs.declared.disk_error.DiskError.TheVariants as disk_errors
 use Rattle.odb_tree.specs.declared.meta.Kind.{Kind}
 use Rattle.odb_tree.specs.declared.meta.Kind.TheVariants as kinds
-use Rattle.gix_odb.specs.OpenOrder.{looked, most_slots, refused, result_of, shown}
+use Rattle.gix_odb.specs.OpenOrder.{looked, refused, result_of, shown}
+use Rattle.gix_odb_slots.specs.PackId.{most_slots}
 use Rattle.gix_odb_calls.specs.declared.call.CallError.TheVariants as call_errors
 use Rattle.gix_odb_calls.specs.declared.call.Reply.{Reply}
 use Rattle.gix_odb_calls.specs.declared.call.Reply.TheVariants as replies

@@ -1,15 +1,17 @@
 -- What a turn of any work comes to: its reply keeps its promise, or the work goes on and knows as much. All of it is what the laws of
 -- its machine say.
-use Rattle.std.proofs.Common.{◌≡◌, ℕ, ◌+◌, ◌<◌, ◌≤◌, List, [], ◌∷◌, ◌++◌, length, None, Ok, Err, Result, sym, ap, subst}
+use Rattle.std.proofs.Common.{◌≡◌, ℕ, ◌+◌, ◌<◌, ◌≤◌, List, [], ◌∷◌, ◌++◌, length, None, Some, Ok, Err, Result, sym, ap, subst}
 use Rattle.odb_disk.specs.MemDisk.{Volume}
 use Rattle.gix_odb_calls.specs.declared.call.Reply.{Reply}
+use Rattle.gix_odb_core.specs.Replay.{CanHappen}
+use Rattle.gix_odb_core.specs.declared.shape.Shape.{Shape}
 use Rattle.gix_odb_world.specs.declared.work.Work.{Work}
-use Rattle.gix_odb_world.specs.Event.{Asked, Event, answered}
+use Rattle.gix_odb_world.specs.Event.{Asked, CoreEvent, Event, ToCore, answered}
 use Rattle.gix_odb_world.specs.Machine.{At, Machine, placed}
 use Rattle.gix_odb_world.specs.Machines.{at, ask_in, fed_in}
 use Rattle.gix_odb_world.specs.Status.{Running, gone_on}
 use Rattle.gix_odb_world.specs.Running.{Knows}
-use Rattle.gix_odb_world.proofs.MachineLaws.{ComesTo, IsTurnAsking, KeepsLaws, MachineComes, TakesTurn, told_after}
+use Rattle.gix_odb_world.proofs.MachineLaws.{ComesTo, IsRunning, IsTurnAsking, KeepsLaws, MachineComes, TakesTurn, told_after}
 use Rattle.gix_odb_world.proofs.Machines.{laws_at}
 
 module _ (first : Volume) (events : List Event) (handle : ℕ) (running : Running) (work : Work) (knows : Knows first events handle running work) where
@@ -21,6 +23,10 @@ module _ (first : Volume) (events : List Event) (handle : ℕ) (running : Runnin
   pub end_of : ask_in running.store work ≡ None → (reply : Reply) × (fed_in running.store work None ≡ Ok reply)
   end_of none = let ends = (laws_at work).turns.ends first events handle running (at work).state knows none in (ends.0, ap (placed (at work).machine) ends.1)
 
+  -- an event of a core that it asks for can happen there
+  pub event_of : (event : CoreEvent) → ask_in running.store work ≡ Some (ToCore event) → (shape : Shape) (seat : ℕ) → CanHappen shape seat event
+  event_of event is shape seat = (laws_at work).turns.happens first events handle running (at work).state knows event is shape seat
+
 -- what a machine comes to, among all work
 placed_comes : (first : Volume) (events : List Event) (e : Event) (handle : ℕ) (running : Running) (m : Machine) → KeepsLaws m
     → (asked : Asked) (result : Result Reply m.State)
@@ -29,17 +35,17 @@ placed_comes first events e handle running m laws asked (Ok reply) comes = comes
 placed_comes first events e handle running m laws asked (Err state) comes =
     let task_is = laws.tasked first (events ++ e ∷ []) handle (gone_on asked running (m.work state)) state comes.0 in (
       subst (λ (a : At (m.work state)). a.machine.Knows first (events ++ e ∷ []) handle (gone_on asked running (m.work state)) a.state) (sym (laws.at_home state)) comes.0,
-      λ entries. subst (λ bound. running.turns + 1 < bound) (laws.bounded running.store running.task state task_is entries) (comes.1 entries),
+      λ entries most. subst (λ bound. running.turns + 1 < bound) (laws.bounded running.store running.task state task_is entries) (comes.1 entries most),
     )
 
 -- the whole turn of any work
 pub come_of : (first : Volume) (events : List Event) (e : Event) (handle : ℕ) (running : Running) → running.begun ≤ length events
-    → (work : Work) (knows : Knows first events handle running work)
+    → IsRunning first events handle running → (work : Work) (knows : Knows first events handle running work)
     → IsTurnAsking first events e handle running (ask_in running.store work)
     → ComesTo first events e handle running (told_after first events handle running (ask_in running.store work))
     (fed_in running.store work (answered (told_after first events handle running (ask_in running.store work))))
-come_of first events e handle running since work knows is =
+come_of first events e handle running since ran work knows is =
     placed_comes first events e handle running (at work).machine (laws_at work)
     (told_after first events handle running (ask_in running.store work))
     ((at work).machine.feed running.store (at work).state (answered (told_after first events handle running (ask_in running.store work))))
-    ((laws_at work).turns.comes first events e handle running since (at work).state knows is)
+    ((laws_at work).turns.comes first events e handle running since ran (at work).state knows is)

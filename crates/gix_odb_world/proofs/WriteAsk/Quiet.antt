@@ -109,3 +109,12 @@ pub after_ask-change : (disk : Volume) (ask : DiskAsk)
     → after_ask disk ask ≡ record (after_ask disk ask) { state = written disk.state (change_by disk ask) }
 unfolding after_ask
 after_ask-change disk ask = ap (λ (s : State). record (after_ask disk ask) { state = s }) (sym (after_either disk (change_of_ask (tree_of disk.state) ask) (fails_now disk ask)))
+
+-- a look and a read make no change
+pub look_quiet : (path : Path) (follow : Bool) (tree : Tree) → change_of_ask tree (asks.Look path follow) ≡ None
+unfolding change_of_ask
+look_quiet path follow tree = refl
+
+pub read_quiet : (path : Path) (tree : Tree) → change_of_ask tree (asks.Read path) ≡ None
+unfolding change_of_ask
+read_quiet path tree = refl

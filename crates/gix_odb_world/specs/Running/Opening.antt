@@ -1,10 +1,10 @@
 -- What an opening knows, and its machine, of which a public clause needs what it asks and where an answer leads it.
-use Rattle.std.specs.Prelude.{◌≡◌, ℕ, ◌≤◌, List, length, min, true, Option, Some, None}
+use Rattle.std.specs.Prelude.{◌≡◌, ℕ, ◌≤◌, List, length, true, Option, Some, None}
 use Rattle.odb_disk.specs.MemDisk.{Volume}
 use Rattle.odb_disk.specs.declared.ask.DiskAsk.TheVariants as asks
 use Rattle.gix_odb.specs.Contents.{folder_list}
 use Rattle.gix_odb.specs.OpenOrder as openings
-use Rattle.gix_odb.specs.OpenOrder.{most_slots}
+use Rattle.gix_odb_slots.specs.PackId.{most_slots}
 use Rattle.gix_odb.specs.declared.open_state.OpenState.{OpenState}
 use Rattle.gix_odb.specs.declared.open_state.OpenState.TheVariants as opens
 use Rattle.gix_odb_world.specs.declared.work.Work.TheVariants.{Opening}
@@ -38,10 +38,10 @@ pub record IsOpening (first : Volume) (events : List Event) (handle : ℕ) (runn
 
 -- ---- its machine
 
--- it asks for a core with the store's slots, of which a core has at most `most_slots`, and with the store's folders
+-- it asks for a core with the store's slots and folders
 abbrev pub opening_ask : Store → OpenState → Option Ask
 opening_ask store opens.Looking = Some (ToDisk (asks.Look store.parts.objects true))
-opening_ask store opens.Registering = Some (ToNewCore (min store.slots most_slots) (length (folder_list store.parts)))
+opening_ask store opens.Registering = Some (ToNewCore store.slots (length (folder_list store.parts)))
 opening_ask store (opens.Done reply) = None
 
 abbrev pub opening_fed : Store → OpenState → Option Answer → OpenState

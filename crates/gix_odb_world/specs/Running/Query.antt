@@ -1,80 +1,97 @@
--- What a query has seen since it began, and its machine, of which a public clause needs what it asks and where an answer leads it.
-use Rattle.std.specs.Prelude.{◌≡◌, ◌⊎◌, ℕ, ◌+◌, List, drop, length, slice_get, Contains, Option, Some, None}
-use Rattle.odb_base.specs.Path.{Path}
+-- What a query knows since it began, and its machine, of which a public clause needs what it asks and where an answer leads it.
+use Rattle.std.specs.Prelude.{◌≡◌, ℕ, ◌<◌, ◌≤◌, true, List, [], ◌∷◌, length, Contains, None}
+use Rattle.std.specs.List.{IsDistinct}
+use Rattle.odb_disk.specs.Ask.{answer_now, fails_now}
 use Rattle.odb_disk.specs.MemDisk.{Volume}
-use Rattle.odb_tree.specs.Tree.{Tree}
-use Rattle.gix_hash.specs.declared.object_id.ObjectId.{ObjectId}
-use Rattle.gix_odb_loose.specs.LooseFile.{LeadsToFile, loose_path}
-use Rattle.gix_odb_loose.specs.declared.find.Error as loose
-use Rattle.gix_odb_calls.specs.declared.call.Call.{Call}
-use Rattle.gix_odb_calls.specs.declared.call.Call.TheVariants as calls
+use Rattle.odb_disk.specs.declared.ask.DiskAnswer.{DiskAnswer}
+use Rattle.odb_disk.specs.declared.ask.DiskAsk.{DiskAsk}
+use Rattle.odb_tree.specs.Tree.{tree_of}
+use Rattle.gix_hash.specs.ObjectId.{kind_of}
 use Rattle.gix_odb_calls.specs.declared.query.Query.{Query}
-use Rattle.gix_odb_calls.specs.declared.query.Query.TheVariants.{Find, Header, Test}
-use Rattle.gix_odb.specs.declared.call_state.CallState.TheVariants.{Looking}
-use Rattle.gix_odb.specs.declared.look_state.Stage.{Stage}
-use Rattle.gix_odb.specs.declared.look_state.Stage.TheVariants as stages
-use Rattle.gix_odb.specs.declared.look_state.LookState.{LookState}
-use Rattle.gix_odb_world.specs.declared.work.Work.TheVariants.{Calling}
-use Rattle.gix_odb.specs.LookOrder.{round_at}
-use Rattle.gix_odb_calls.specs.Verdict.{asking}
-use Rattle.gix_odb.specs.LookOrder as looks
+use Rattle.gix_odb_core.specs.History.{present}
+use Rattle.gix_odb_packs.specs.declared.answer.Answer.TheVariants as told
+use Rattle.gix_odb_packs.specs.declared.answer.PartAsk.TheVariants as asks
+use Rattle.gix_odb_slots.specs.Slots.{same_path}
+use Rattle.gix_odb_looks.specs.Exchange.{AreAnswered, AreAsked, Exchange, HasFailed, WasTold}
+use Rattle.gix_odb_looks.specs.Laps.{AreNumbered, AreWithin, number_by}
+use Rattle.gix_odb_looks.specs.LookUpOrder as looks
+use Rattle.gix_odb_looks.specs.Shown.{IsShownView}
+use Rattle.gix_odb_looks.specs.True.{AreTrue}
+use Rattle.gix_odb_looks.specs.declared.look_up.LookUp.{LookUp}
 use Rattle.gix_odb.specs.Contents.{folder_list, sought}
-use Rattle.gix_odb_world.specs.Causes.{Sometime, LooseCause}
-use Rattle.gix_odb_world.specs.Event.{Event, to_disk}
-use Rattle.gix_odb_world.specs.Machine.{Machine, by_answer}
-use Rattle.gix_odb_world.specs.Run.{tree_at, FailedSince}
-use Rattle.gix_odb_world.specs.AtWork.{MakeCall, Running, Store, nothing_in_front}
-use Rattle.gix_odb_world.specs.Bound.{bound_of_call}
+use Rattle.gix_odb.specs.Held.{WasShownAt}
+use Rattle.gix_odb.specs.declared.call_state.CallState.TheVariants.{Looking}
+use Rattle.gix_odb_world.specs.declared.work.Work.TheVariants.{Calling}
+use Rattle.gix_odb_world.specs.AtWork.{MakeCall, Modes, Running, Store, setting_in}
+use Rattle.gix_odb_world.specs.Bound.{HasAtMost, bound_of_call}
+use Rattle.gix_odb_world.specs.Cores.{cores_after, history_at}
+use Rattle.gix_odb_world.specs.Event.{Event, part_asked}
+use Rattle.gix_odb_world.specs.Machine.{Machine, by_part}
+use Rattle.gix_odb_world.specs.Run.{FailedSince, tree_at}
+pub use Rattle.gix_odb_world.specs.Told.{call_of}
+use Rattle.gix_odb_world.specs.Told.{look_begun, look_now, told_since, view_then}
 
--- a folder was passed: at some moment its loose path led to no file
-abbrev pub Passed : (ℕ → Tree) → ℕ → ℕ → ObjectId → Path → Type 0
-Passed trees begun now id folder = Sometime begun now (λ moment. ¬ LeadsToFile (trees moment) (loose_path folder id))
+-- ---- what its handle was told
 
--- Each folder of a store was passed, or is the one that is asked, or one of those ahead.
-abbrev pub Leaves : (ℕ → Tree) → Store → ℕ → ℕ → ObjectId → Path → List Path → Type 0
-Leaves trees store begun now id asked ahead =
-    (folder : Path) → Contains (folder_list store.parts) folder → Passed trees begun now id folder ⊎ ((folder ≡ asked) ⊎ Contains ahead folder)
+-- the disk gave this answer at some moment since the query began, as it was then
+pub record IsGiven (first : Volume) (events : List Event) (handle begun : ℕ) (ask : DiskAsk) (answer : DiskAnswer) : Type 0 where
+  pub moment : ℕ
+  pub from : begun ≤ moment
+  pub to : moment ≤ length events
+  pub disk : Volume
+  pub shown : tree_at first events moment ≡ tree_of disk.state
+  pub is : answer ≡ answer_now disk ask
+  pub failed : fails_now disk ask ≡ true → FailedSince events handle begun
 
--- What a call noted: an error with its cause; or nothing, and then no call of the disk failed, and the folders that
--- were asked are passed.
-abbrev pub Noted : (ℕ → Tree) → Type 0 → Store → ℕ → ℕ → Query → ObjectId → Path → List Path → Option loose.Error → Type 0
-Noted trees Failed store begun now call id asked ahead (Some error) = LooseCause trees Failed store begun now call id error
-Noted trees Failed store begun now call id asked ahead None = (¬ Failed) × Leaves trees store begun now id asked ahead
+-- the number of the list behind exchanges
+abbrev pub number_after : (before : ℕ) → List Exchange → ℕ
+number_after before [] = before
+number_after before (exchange ∷ exchanges) = number_after (number_by before exchange.answer) exchanges
 
--- what a query has seen that asks the folder at a place of its store
-pub record Seeks (trees : ℕ → Tree) (Failed : Type 0) (store : Store) (begun now place : ℕ) (call : Query) (id : ObjectId) (stage : Stage) : Type 0 where
-  pub noted : Option loose.Error
-  pub folder : Path
-  pub among : Contains (folder_list store.parts) folder
-  pub there : slice_get (folder_list store.parts) place ≡ Some folder
-  pub stage_is : stage ≡ stages.Loose (round_at place noted) (asking store.parts.limit call id folder)
-  pub seen : Noted trees Failed store begun now call id folder (drop place store.parts.folders) noted
+-- all that its handle was told since it began is true of the run
+pub record IsToldWell (first : Volume) (events : List Event) (handle : ℕ) (store : Store) (modes : Modes) (begun : ℕ) : Type 0 where
+  pub opened : store.opened ≤ begun
+  pub snapshot : IsShownView (WasShownAt (tree_at first events) store.opened (length events)) (setting_in store) store.hash (view_then events handle modes.core begun)
+  pub few : length (view_then events handle modes.core begun).snapshot.indices ≤ store.slots
+  pub place : modes.core < length (cores_after events)
+  pub truth : AreTrue (WasShownAt (tree_at first events) store.opened (length events)) (setting_in store) store.hash (told_since events handle begun)
+  pub answered : AreAnswered (told_since events handle begun)
+  pub numbered : AreNumbered store.slots 0 (told_since events handle begun)
+  pub no_later : number_after 0 (told_since events handle begun) ≤ (present (history_at (cores_after events) modes.core)).list_no
+  pub within : (entries : ℕ) → HasAtMost (tree_at first events) store.parts begun (length events) entries → AreWithin entries None (told_since events handle begun)
+  pub given : (ask : DiskAsk) (answer : DiskAnswer) → WasTold (told_since events handle begun) (asks.Disk ask) (told.Disk answer)
+      → IsGiven first events handle begun ask answer
+  pub failures : FailedSince events handle begun → HasFailed (told_since events handle begun)
 
--- the call that makes a query
-abbrev pub call_of : Query → Call
-call_of (Find id) = calls.Find id
-call_of (Header id) = calls.Header id
-call_of (Test id) = calls.Test id
+-- ---- what it knows
 
--- What a query knows that comes behind so many turns of its task. Its place among its folders is the number of its own turns.
-pub record IsLooking (first : Volume) (events : List Event) (handle : ℕ) (running : Running) (front : ℕ) (state : LookState) : Type 0 where
-  pub task : running.task ≡ MakeCall (call_of state.head.query)
-  pub place : ℕ
-  pub turns : running.turns ≡ front + place
-  pub seeks_id : state.head.id ≡ sought running.store.parts running.modes.ignoring state.head.query
-  pub seeks : Seeks (tree_at first events) (FailedSince events handle running.begun) running.store running.begun (length events) place state.head.query state.head.id state.stage
+-- what the store of a query is: no folder of it comes twice, and the sought id is of its hash
+pub record IsFit (store : Store) (modes : Modes) (query : Query) : Type 0 where
+  pub distinct : IsDistinct same_path (folder_list store.parts)
+  pub hashed : kind_of (sought store.parts modes.ignoring query) ≡ store.hash
+
+-- A query stands behind what its handle was told since it began, each of which answered what it asked then, and had a turn for each.
+pub record IsLooking (first : Volume) (events : List Event) (handle : ℕ) (running : Running) (look : LookUp) : Type 0 where
+  pub query : Query
+  pub task : running.task ≡ MakeCall (call_of query)
+  pub since : running.begun ≤ length events
+  pub fits : IsFit running.store running.modes query
+  pub is : look ≡ look_now events handle running.store running.modes running.begun query
+  pub asked : AreAsked (setting_in running.store) (look_begun events handle running.store running.modes running.begun query) (told_since events handle running.begun)
+  pub turns : running.turns ≡ length (told_since events handle running.begun)
+  pub well : IsToldWell first events handle running.store running.modes running.begun
 
 -- ---- its machine
 
--- a query as a machine, with nothing in front of it: one folder after another
+-- a query as a machine
 abbrev pub looking : Machine
 looking = record {
-  State = LookState;
-  work = λ state. Calling (Looking state);
-  ask = λ store state. to_disk (looks.ask_of state);
-  feed = λ store state answer. by_answer (looks.result_of state) (λ told. looks.result_of (looks.fed store.parts.folders store.parts.limit state told)) answer;
-  writes = λ state. None;
-  IsFor = λ task state. task ≡ MakeCall (call_of state.head.query);
+  State = LookUp;
+  work = λ look. Calling (Looking look);
+  ask = λ store look. part_asked (looks.ask_of look);
+  feed = λ store look answer. by_part (looks.result_of look) (λ given. looks.result_of (looks.fed (setting_in store) look given)) answer;
+  writes = λ look. None;
+  IsFor = λ task look. (query : Query) × (task ≡ MakeCall (call_of query));
   bound = λ store task entries. bound_of_call store entries None;
-  Knows = λ first events handle running state. IsLooking first events handle running nothing_in_front state;
+  Knows = λ first events handle running look. IsLooking first events handle running look;
 }

@@ -14,7 +14,7 @@ returns c =
     let same = last_is c.args.steps.now c.as_slice-made.result.now c.args.step c.index-made-made.result (c.as_slice-made.ensures.value ∙ c.in_ok-push.ensures.ok) c.index-made-made.is in
     record {
       makes = on_ok_both c.advance.result
-          (λ noted continues. makes_one c.args.world.now.course c.advance.new.self.course c.args.steps.now c.push.new.self c.args.step c.in_ok-push.ensures.ok noted
-          (subst (λ (step : Step). Continues c.args.world.now.course step c.advance.new.self.course) same continues))
+          (λ noted continues. makes_one c.args.world.now c.advance.new.self c.args.steps.now c.push.new.self c.args.step c.in_ok-push.ensures.ok noted
+          (subst (λ (step : Step). Continues c.args.world.now step c.advance.new.self) same continues))
           c.advance.ensures.noted c.advance.ensures.continues;
     }

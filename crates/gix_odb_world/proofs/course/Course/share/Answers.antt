@@ -1,17 +1,25 @@
-use Rattle.std.proofs.Common.{◌≡◌, ◌<◌, None, Some, Option, length, refl, sym, subst}
+use Rattle.std.proofs.Common.{◌≡◌, ◌<◌, None, Some, Option, length, refl, sym, ◌∙◌, subst}
 use Rattle.std.proofs.lemmas.Result.{on_ok_weaker}
 use Rattle.gix_odb_world.specs.Table.{phase_of_handle}
 use Rattle.gix_odb_world.specs.Valid.{why_not_idle}
 use Rattle.gix_odb_world.specs.declared.handle.Handle.{Handle}
 use Rattle.gix_odb_calls.specs.declared.step.Step.TheVariants as steps
-use Rattle.gix_odb_world.proofs.CloneLemmas.{shared}
+use Rattle.gix_odb_world.proofs.CloneLemmas.{clone_if_free, clone_taken, shared}
 use Rattle.gix_odb_world.proofs.ExplainedSeats.{clone_free, clone_within}
 use Rattle.gix_odb_world.proofs.StepLemmas.{misused}
 use Rattle.gix_odb_world.proofs.course.Course.share.Goals as goal
 
+-- the number isn't free
 pub returns-in-Some-clause-continues : goal.returns-in-Some-clause-continues
 returns-in-Some-clause-continues c = on_ok_weaker c.misuse.result
-    (misused c.args.self.now c.misuse.new.self (steps.Clone c.args.number c.args.from) c.in-Some.why (sym c.in-Some.ensures.why)) c.misuse.ensures.notes
+    (misused c.args.self.now c.misuse.new.self (steps.Clone c.args.number c.args.from) c.in-Some.why
+    (clone_taken c.args.self.now c.args.number c.args.from c.in-Some.why c.in-Some.ensures.why)) c.misuse.ensures.notes
+
+-- the other handle isn't idle
+pub returns-in-Err-clause-continues : goal.returns-in-Err-clause-continues
+returns-in-Err-clause-continues c = on_ok_weaker c.misuse-in-Err.result
+    (misused c.args.self.now c.misuse-in-Err.new.self (steps.Clone c.args.number c.args.from) c.in-Err.why
+    (clone_if_free c.args.self.now c.args.number c.args.from c.in_default.ensures.why ∙ sym c.in-Err.ensures.why)) c.misuse-in-Err.ensures.notes
 
 pub returns-clause-continues : goal.returns-clause-continues
 returns-clause-continues c =
@@ -19,7 +27,7 @@ returns-clause-continues c =
     (shared c.args.self.now c.args.number c.args.from c.in-Ok.parent.now c.in-Ok.ensures.handle
     (subst (λ (h : Option Handle). why_not_idle (phase_of_handle h) ≡ None) c.in-Ok.ensures.handle (sym c.in-Ok.ensures.why))
     c.put.new.self c.note.new.self c.joined.new.cores (record c.in_ok-state-in-Ok.state { view = Some c.in_ok-did.view }) c.in_ok-did.view c.in_ok-did.did
-    (sym c.in_default.ensures.why)
+    (clone_if_free c.args.self.now c.args.number c.args.from c.in_default.ensures.why ∙ sym c.in-Ok.ensures.why)
     (record { store = c.in_ok-state-in-Ok.ensures.store; ignoring = c.in_ok-state-in-Ok.ensures.mode; core = c.in_ok-state-in-Ok.ensures.core; view_is = refl })
     c.in_ok-did.ensures.did c.in_ok-did.ensures.view c.in_ok-did.ensures.cores c.in_ok-put.ensures.sets) c.note.ensures.notes
 
@@ -27,8 +35,10 @@ returns-clause-continues c =
 pub joined-requires-clause-there : goal.joined-requires-clause-there
 joined-requires-clause-there c =
     subst (λ core. core < length c.args.self.now.cores.items) (sym c.in_ok-state-in-Ok.ensures.core)
-    (clone_within c.args.self.now c.requires.explained c.args.number c.args.from (sym c.in_default.ensures.why) c.in-Ok.parent.now c.in-Ok.ensures.handle)
+    (clone_within c.args.self.now c.requires.explained c.args.number c.args.from
+    (clone_if_free c.args.self.now c.args.number c.args.from c.in_default.ensures.why ∙ sym c.in-Ok.ensures.why) c.in-Ok.parent.now c.in-Ok.ensures.handle)
 
 pub joined-requires-clause-free : goal.joined-requires-clause-free
 joined-requires-clause-free c =
-    clone_free c.args.self.now c.requires.explained c.args.number c.args.from (sym c.in_default.ensures.why) c.in_ok-state-in-Ok.state.core
+    clone_free c.args.self.now c.requires.explained c.args.number c.args.from
+    (clone_if_free c.args.self.now c.args.number c.args.from c.in_default.ensures.why ∙ sym c.in-Ok.ensures.why) c.in_ok-state-in-Ok.state.core

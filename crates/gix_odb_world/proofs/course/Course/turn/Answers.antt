@@ -1,12 +1,15 @@
-use Rattle.std.proofs.Common.{[], ◌∷◌, ◌++◌, None, refl, sym, ap, ◌∙◌, subst}
+use Rattle.std.proofs.Common.{[], ◌∷◌, ◌++◌, None, refl, sym, ap, ◌∙◌, subst, Vec, Global}
+use Rattle.gix_odb_core.specs.History.{History}
 use Rattle.std.proofs.lemmas.Result.{on_ok_weaker}
 use Rattle.gix_odb_world.specs.declared.record.Did.TheVariants.{Nothing}
 use Rattle.gix_odb_calls.specs.declared.step.Outcome.TheVariants.{Misuse}
 use Rattle.gix_odb_calls.specs.declared.step.Step.TheVariants as steps
 use Rattle.gix_odb_world.specs.declared.course.Course.{Course}
 use Rattle.gix_odb_world.specs.Headline.{outcome_of}
-use Rattle.gix_odb_world.specs.Table.{Notes}
-use Rattle.gix_odb_world.specs.WorkOrder.{result_in}
+use Rattle.gix_odb_world.specs.Table.{CanHappenAt, Notes}
+use Rattle.gix_odb_world.specs.WorkOrder.{ask_on, result_in}
+use Rattle.gix_odb_world.proofs.ExplainedFits.{fits_core}
+use Rattle.gix_odb_world.proofs.ExplainedSeats.{turn_can_happen}
 use Rattle.gix_odb_world.proofs.StepLemmas.{misused}
 use Rattle.gix_odb_world.proofs.TurnLemmas.{turned_on}
 use Rattle.gix_odb_world.proofs.course.Course.turn.Goals as goal
@@ -33,3 +36,12 @@ returns-clause-noted c =
       outcome_of (result_in c.in_ok-carried.carried.work),
       settles.notes.outcomes ∙ ap (λ outcomes. outcomes ++ outcome_of (result_in c.in_ok-carried.carried.work) ∷ []) (settles.sets.outcomes ∙ c.in-Ok.ensures.sets.outcomes),
     )) c.settle.ensures.settles
+
+-- for a store whose handle is to be registered a core can be made, and an event of a core that the work asks for can happen
+pub carried_out-requires : goal.carried_out-requires
+carried_out-requires c = record {
+  fits = λ registers. fits_core c.args.self.now c.args.number c.in-Ok.taken.0 c.in-Ok.taken.1 c.in-Ok.ensures.taken registers c.requires.explained;
+  can_happen = subst (λ (cores : Vec History Global). CanHappenAt cores.items c.args.number c.in-Ok.taken.0 (ask_on c.in-Ok.taken.0 c.in-Ok.taken.1))
+      (sym c.in-Ok.ensures.sets.cores)
+      (turn_can_happen c.args.self.now c.requires.explained c.args.number c.in-Ok.taken.0 c.in-Ok.taken.1 c.in-Ok.ensures.taken);
+}

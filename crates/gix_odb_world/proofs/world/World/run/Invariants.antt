@@ -4,4 +4,4 @@ use Rattle.gix_odb_world.proofs.world.World.run.Given as goal
 
 -- the world has made the steps so far
 abbrev pub invariant-loop-step : goal.invariant-loop-step
-invariant-loop-step l = IsRunOf l.fn.disk (take l.step-index l.steps) l.world.course
+invariant-loop-step l = IsRunOf l.fn.disk (take l.step-index l.steps) l.world

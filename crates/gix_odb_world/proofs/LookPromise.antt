@@ -1,0 +1,276 @@
+-- The reply of a query keeps its promise, where all that its handle was told is true of the run.
+use Rattle.std.proofs.Common.{◌≡◌, ◌⊎◌, ℕ, ◌≤◌, Bool, true, false, List, [], ◌∷◌, ◌++◌, length, Contains, Option, Some, None, Ok, Err, inl, inr, refl, sym, ◌∙◌, ap, subst, arith}
+use Rattle.odb_base.specs.Path.{Path}
+use Rattle.odb_tree.specs.Tree.{Tree}
+use Rattle.odb_disk.specs.Ask.{answer_now}
+use Rattle.odb_disk.specs.MemDisk.{Volume, next_fails}
+use Rattle.gix_hash.specs.ObjectId.{kind_of}
+use Rattle.gix_hash.specs.declared.object_id.ObjectId.{ObjectId}
+use Rattle.gix_odb_core.specs.declared.view.View.{View}
+use Rattle.gix_odb_loose.specs.Causes.{Cause}
+use Rattle.gix_odb_loose.proofs.CauseLaws.{Cause-wider}
+use Rattle.gix_odb_loose.specs.LooseFile.{LeadsToFile, Reading, loose_path}
+use Rattle.gix_odb_loose.specs.LooseOrder.{reply_of}
+use Rattle.gix_odb_loose.proofs.StillAskLaws.{call_asks_still}
+use Rattle.gix_odb_loose.specs.declared.find.Error as loose
+use Rattle.gix_odb_calls.specs.Verdict.{asking, job_of, refused, verdict_on}
+use Rattle.gix_odb_calls.specs.declared.call.CallError.{CallError}
+use Rattle.gix_odb_calls.specs.declared.call.CallError.TheVariants as call_errors
+use Rattle.gix_odb_calls.specs.declared.call.Reply.{Reply}
+use Rattle.gix_odb_calls.specs.declared.call.Reply.TheVariants as replies
+use Rattle.gix_odb_calls.specs.declared.find.Error as finding
+use Rattle.gix_odb_calls.specs.declared.find.Error.TheVariants as errors
+use Rattle.gix_odb_calls.specs.declared.find.Header.TheVariants as headers
+use Rattle.gix_odb_calls.specs.declared.query.Query.{Query}
+use Rattle.gix_odb_calls.specs.declared.query.Query.TheVariants.{Find, Header, Test}
+use Rattle.gix_odb_calls.specs.declared.verdict.Verdict.{Verdict}
+use Rattle.gix_odb_calls.specs.declared.verdict.Verdict.TheVariants as verdicts
+use Rattle.gix_odb_slots.specs.PackPath.{pack_path}
+use Rattle.gix_pack_files.specs.Pack.{entry_at, header_at, is_pack}
+use Rattle.gix_odb_looks.specs.Caused.{IsCaused}
+use Rattle.gix_odb_looks.specs.Exchange.{AreAsked, Exchange, HasVerdict}
+use Rattle.gix_odb_looks.specs.Found.{Gives, IsEntryReply, IsFound, IsHeaderReply, IsInIndex, IsInPack}
+use Rattle.gix_odb_looks.specs.LookUpOrder.{Setting, loose_fed, not_found, result_of}
+use Rattle.gix_odb_looks.specs.Reply.{IsAnswer, IsReplyTo}
+use Rattle.gix_odb_looks.specs.declared.look_up.LookUp.{LookUp}
+use Rattle.gix_odb_looks.proofs.CauseLaws.{each_refusal_has_its_cause, replies_are_of_the_query}
+use Rattle.gix_odb_looks.proofs.FoundLaws.{what_is_found_was_shown}
+use Rattle.gix_odb_looks.proofs.MissLaws.{not_found_had_no_failure, not_found_missed_in_each_folder}
+use Rattle.gix_odb.specs.Contents.{Answer, Contents, HeaderOf, Holds, HoldsEntry, InIndex, InPack, LooseFile, Object, Presence, folder_list, sought}
+use Rattle.gix_odb.specs.Held.{Held, InLooseFile, LiesAt, Place, Still, WasShown, WasShownAt}
+use Rattle.gix_odb_world.specs.AtWork.{Modes, Store, setting_in}
+use Rattle.gix_odb_world.specs.Causes.{FindCause, GaveSometime, LooseCause, Sometime}
+use Rattle.gix_odb_world.specs.Event.{Event}
+use Rattle.gix_odb_world.specs.Promise.{Claim, Keeps, QueryPromise, claim_of}
+use Rattle.gix_odb_world.specs.Run.{FailedSince, tree_at}
+use Rattle.gix_odb_world.specs.Running.Query.{IsFit, IsGiven, IsToldWell}
+use Rattle.gix_odb_world.specs.Told.{look_begun, look_now, told_since, view_then}
+use Rattle.gix_odb_world.proofs.FailedLemmas.{fails_now-still}
+use Rattle.gix_odb_world.proofs.FolderLemmas.{VerdictSays, ask_found, folder_says}
+
+-- what was so at some moment was so until later
+sometime_later : (begun moment now : ℕ) → moment ≤ now → (P : ℕ → Type 0) → Sometime begun moment P → Sometime begun now P
+sometime_later begun moment now to P was =
+    let own = was.to in record { moment = was.moment; from = was.from; to = omega (arith, own, to); was = was.was }
+
+module _ (first : Volume) (events : List Event) (handle : ℕ) (store : Store) (modes : Modes) (begun : ℕ) (query : Query) (fits : IsFit store modes query)
+    (asked : AreAsked (setting_in store) (look_begun events handle store modes begun query) (told_since events handle begun))
+    (well : IsToldWell first events handle store modes begun) where
+  abbrev trees : ℕ → Tree
+  trees = tree_at first events
+
+  abbrev now : ℕ
+  now = length events
+
+  abbrev Failed : Type 0
+  Failed = FailedSince events handle begun
+
+  abbrev told : List Exchange
+  told = told_since events handle begun
+
+  abbrev id : ObjectId
+  id = sought store.parts modes.ignoring query
+
+  abbrev view : View
+  view = view_then events handle modes.core begun
+
+  abbrev setting : Setting
+  setting = setting_in store
+
+  abbrev Shown : Path → List ℕ → Type 0
+  Shown path bytes = WasShownAt trees store.opened now path bytes
+
+  abbrev look : LookUp
+  look = look_now events handle store modes begun query
+
+  abbrev Says : Claim → Type 0
+  Says claim = Keeps trees Failed told store begun now query id claim
+
+  abbrev IsHeld : Answer → Type 0
+  IsHeld answer = Held trees store.parts store.opened begun now query id answer
+
+  -- ---- what was so of a moment of the query is so of the query
+
+  module _ (moment : ℕ) (to : moment ≤ now) where
+    shown_later : (folder : Path) (contents : Contents) → WasShown trees store.opened begun moment folder id contents
+        → WasShown trees store.opened begun now folder id contents
+    shown_later folder (LooseFile bytes) was = sometime_later begun moment now to _ was
+    shown_later folder (InIndex name index offset) was = (was.0, sometime_later store.opened moment now to _ was.1)
+    shown_later folder (InPack name index pack offset) was =
+        (was.0, sometime_later store.opened moment now to _ was.1, sometime_later store.opened moment now to _ was.2)
+
+    held_later : (answer : Answer) → Held trees store.parts store.opened begun moment query id answer → IsHeld answer
+    held_later answer held =
+        record { folder = held.folder; among = held.among; contents = held.contents; shown = shown_later held.folder held.contents held.shown; holds = held.holds }
+
+    cause_later : (error : loose.Error) → LooseCause trees Failed store begun moment query id error → LooseCause trees Failed store begun now query id error
+    cause_later error caused = record {
+      folder = caused.folder;
+      among = caused.among;
+      cause =
+          Cause-wider (GaveSometime trees begun moment (loose_path caused.folder id)) (GaveSometime trees begun now (loose_path caused.folder id))
+          (λ read was. sometime_later begun moment now to _ was) Failed Failed ⊥ ⊥ (λ failed. failed) (λ never. never)
+          (job_of query id) (loose_path caused.folder id) store.parts.limit error caused.cause;
+    }
+
+  -- ---- what the loose objects of a folder said
+
+  module _ (folder : Path) (among : Contains (folder_list store.parts) folder) (verdict : Verdict) (has : HasVerdict setting query id told folder verdict) where
+    given : IsGiven first events handle begun has.ask has.answer
+    given = well.given has.ask has.answer has.told
+
+    -- a failed call of the folder is one of the query
+    fails : next_fails given.disk ≡ true → Failed
+    fails is = given.failed (fails_now-still given.disk has.ask (call_asks_still (asking store.parts.limit query id folder) has.ask has.asked) ∙ is)
+
+    said : VerdictSays trees Failed told store begun given.moment query id folder (next_fails given.disk) verdict
+    said =
+        let says = folder_says trees Failed told store begun given.moment given.from given.disk given.shown fails id folder among query in
+        let own = ask_found store.parts.limit query id folder in
+        let same_ask : own.0 ≡ has.ask = cc (own.1, has.asked) in
+        let same_reply : Some says.0 ≡ Some has.reply =
+        sym says.1
+        ∙ (ap (λ a. reply_of (loose_fed (asking store.parts.limit query id folder) (answer_now given.disk a))) same_ask
+        ∙ (ap (λ a. reply_of (loose_fed (asking store.parts.limit query id folder) a)) (sym given.is) ∙ has.replied)) in
+        let same : says.0 ≡ has.reply = cc same_reply in
+        subst (VerdictSays trees Failed told store begun given.moment query id folder (next_fails given.disk)) (ap (verdict_on query) same ∙ has.is) says.2
+
+  -- what a folder's loose objects said of a reply, and so of a claim
+  claim_later : (moment : ℕ) → moment ≤ now → (reply : Reply) → IsAnswer reply
+      → Keeps trees Failed told store begun moment query id (claim_of query reply) → Says (claim_of query reply)
+  claim_later moment to reply answer keeps = by query reply answer keeps
+    where
+      by : (call : Query) (reply : Reply) → IsAnswer reply → Keeps trees Failed told store begun moment query id (claim_of call reply) → Says (claim_of call reply)
+      by (Find asked) (replies.Found kind bytes) answer keeps = held_later moment to (Object kind bytes) keeps
+      by (Find asked) (replies.Header header) answer keeps = keeps
+      by (Find asked) (replies.Tested true) answer keeps = keeps
+      by (Header asked) (replies.Header header) answer keeps = held_later moment to (HeaderOf header) keeps
+      by (Header asked) (replies.Found kind bytes) answer keeps = keeps
+      by (Header asked) (replies.Tested true) answer keeps = keeps
+      by (Test asked) (replies.Tested true) answer keeps = held_later moment to Presence keeps
+      by (Test asked) (replies.Found kind bytes) answer keeps = keeps
+      by (Test asked) (replies.Header header) answer keeps = keeps
+      by call (replies.Tested false) answer keeps = absurd answer
+      by call replies.NotFound answer keeps = absurd answer
+      by call (replies.Refused error) answer keeps = absurd answer
+      by call (replies.Wrote id) answer keeps = absurd answer
+      by call (replies.Opened slots) answer keeps = absurd answer
+
+  -- ---- what was found in packs
+
+  module _ (path : Path) (offset : ℕ) (row : IsInIndex Shown setting store.hash id path offset) where
+    -- a row of an index answers a test
+    row_held : (asked : ObjectId) → query ≡ Test asked → IsHeld Presence
+    row_held asked is = record {
+      folder = row.at.folder;
+      among = row.at.among;
+      contents = InIndex row.at.name row.bytes offset;
+      shown = (row.at.named, subst (λ p. WasShownAt trees store.opened now p row.bytes) row.at.is row.shown);
+      holds =
+          subst (λ q. Holds store.parts q id (InIndex row.at.name row.bytes offset) Presence) (sym is)
+          (subst (λ hash. Gives hash row.bytes id offset) (sym fits.hashed) row.gives, refl);
+    }
+
+  -- an index and its pack hold what the pack has at the offset
+  module _ (Content : (pack : List ℕ) (offset : ℕ) → Type 0) (in_pack : IsInPack Shown setting store.hash id Content) where
+    pack_held : (answer : Answer) → HoldsEntry store.parts query (kind_of id) in_pack.pack in_pack.offset answer → IsHeld answer
+    pack_held answer holds =
+        let row = in_pack.index in
+        record {
+          folder = row.at.folder;
+          among = row.at.among;
+          contents = InPack row.at.name row.bytes in_pack.pack in_pack.offset;
+          shown = (
+            row.at.named,
+            subst (λ p. WasShownAt trees store.opened now p row.bytes) row.at.is row.shown,
+            subst (λ p. WasShownAt trees store.opened now (pack_path p) in_pack.pack) row.at.is in_pack.shown,
+          );
+          holds = (
+            subst (λ hash. Gives hash row.bytes id in_pack.offset) (sym fits.hashed) row.gives,
+            subst (λ hash. is_pack hash in_pack.pack ≡ true) (sym fits.hashed) in_pack.parsed,
+            holds,
+          );
+        }
+
+  found : (call : Query) (reply : Reply) → query ≡ call → IsFound Shown setting store.hash id call reply → Says (claim_of call reply)
+  found (Find asked) reply is in_pack =
+      let own = in_pack.content in
+      subst (λ r. Says (claim_of (Find asked) r)) (sym own.is)
+      (pack_held (λ pack offset. IsEntryReply store.hash setting.limit pack offset reply) in_pack (Object own.entry.kind own.entry.bytes)
+      (subst (λ q. HoldsEntry store.parts q (kind_of id) in_pack.pack in_pack.offset (Object own.entry.kind own.entry.bytes)) (sym is)
+      (own.entry, ap (λ hash. entry_at hash in_pack.pack in_pack.offset store.parts.limit) fits.hashed ∙ own.there, refl)))
+  found (Header asked) reply is in_pack =
+      let own = in_pack.content in
+      subst (λ r. Says (claim_of (Header asked) r)) (sym own.is)
+      (pack_held (λ pack offset. IsHeaderReply store.hash pack offset reply) in_pack (HeaderOf (headers.Packed own.header.kind own.header.size))
+      (subst (λ q. HoldsEntry store.parts q (kind_of id) in_pack.pack in_pack.offset (HeaderOf (headers.Packed own.header.kind own.header.size))) (sym is)
+      (own.header, ap (λ hash. header_at hash in_pack.pack in_pack.offset) fits.hashed ∙ own.there, refl)))
+  found (Test asked) reply is row =
+      subst (λ r. Says (claim_of (Test asked) r)) (sym row.3) (row_held row.0 row.1 row.2 asked is)
+
+  -- ---- the promise
+
+  answered : (reply : Reply) → result_of look ≡ Ok reply → IsAnswer reply → Says (claim_of query reply)
+  answered reply is answer =
+      elim (what_is_found_was_shown Shown setting store.hash query id fits.hashed view well.snapshot told asked well.truth reply is answer) [
+        | inl in_packs ↦ found query reply refl in_packs
+        | inr loose ↦
+            let at = given loose.0 loose.1 (verdicts.Ends reply) loose.2 in
+            claim_later at.moment at.to reply answer (said loose.0 loose.1 (verdicts.Ends reply) loose.2)
+      ]
+
+  -- nothing was found
+  missed : result_of look ≡ Ok (not_found query) → (¬ Failed) × (¬ (Still trees store.parts begun now query id))
+  missed is = (
+    λ failed. not_found_had_no_failure setting query id Shown store.hash view told asked well.truth is (well.failures failed),
+    λ still.
+        let has = not_found_missed_in_each_folder setting query id view told asked is still.folder still.among in
+        let at = given still.folder still.among verdicts.Misses has in
+        let passed = said still.folder still.among verdicts.Misses has in
+        lies still.folder (trees at.moment) still.place (still.always at.moment at.from at.to) passed.1,
+  )
+    where
+      lies : (folder : Path) (tree : Tree) (place : Place) → LiesAt store.parts query tree folder id place → ¬ (¬ (LeadsToFile tree (loose_path folder id)))
+      lies folder tree InLooseFile here passed = passed (record { bytes = here.0; time = here.1.0; given = here.1.1; holds = tt })
+
+  refusal : (error : finding.Error) → result_of look ≡ Ok (replies.Refused (call_errors.Find error)) → FindCause trees Failed told store begun now query id error
+  refusal error is = by error (each_refusal_has_its_cause Shown setting store.hash query id fits.hashed view well.snapshot told asked well.truth store.slots 0 well.numbered error is)
+    where
+      refused_says : (moment : ℕ) (call : Query) (error : loose.Error) → Keeps trees Failed told store begun moment query id (claim_of call (refused error))
+          → LooseCause trees Failed store begun moment query id error
+      refused_says moment (Find asked) error caused = caused
+      refused_says moment (Header asked) error caused = caused
+      refused_says moment (Test asked) error caused = caused
+
+      by : (error : finding.Error) → IsCaused Shown setting store.hash id query told error → FindCause trees Failed told store begun now query id error
+      by (errors.Loose error) caused =
+          let at = given caused.0 caused.1 (verdicts.Ends (refused error)) caused.2 in
+          cause_later at.moment at.to error (refused_says at.moment query error (said caused.0 caused.1 (verdicts.Ends (refused error)) caused.2))
+      by (errors.LoadIndex error) caused = caused
+      by errors.LoadPack caused = caused
+      by errors.Pack caused = caused
+      by (errors.EntryType code) caused = caused
+      by errors.DeltaEntry caused = caused
+      by (errors.OutOfMemory size) caused = caused
+      by errors.NoMemory caused = caused
+
+  pub query_promise : (reply : Reply) → result_of look ≡ Ok reply → QueryPromise trees Failed told store modes begun now query reply
+  query_promise reply is = by query reply refl (replies_are_of_the_query setting view query id told reply is) is
+    where
+      missing : (reply : Reply) → result_of look ≡ Ok reply → reply ≡ not_found query → (¬ Failed) × (¬ (Still trees store.parts begun now query id))
+      missing reply is same = missed (is ∙ ap Ok same)
+
+      by : (call : Query) (reply : Reply) → query ≡ call → IsReplyTo call reply → result_of look ≡ Ok reply → Says (claim_of call reply)
+      by (Find asked) (replies.Found kind bytes) same of is = subst (λ q. Says (claim_of q (replies.Found kind bytes))) same (answered (replies.Found kind bytes) is tt)
+      by (Find asked) replies.NotFound same of is =
+          let none = missing replies.NotFound is (sym (ap not_found same)) in record { no_failure = none.0; none_still = none.1 }
+      by (Find asked) (replies.Refused (call_errors.Find error)) same of is = refusal error is
+      by (Header asked) (replies.Header header) same of is = subst (λ q. Says (claim_of q (replies.Header header))) same (answered (replies.Header header) is tt)
+      by (Header asked) replies.NotFound same of is =
+          let none = missing replies.NotFound is (sym (ap not_found same)) in record { no_failure = none.0; none_still = none.1 }
+      by (Header asked) (replies.Refused (call_errors.Find error)) same of is = refusal error is
+      by (Test asked) (replies.Tested true) same of is = subst (λ q. Says (claim_of q (replies.Tested true))) same (answered (replies.Tested true) is tt)
+      by (Test asked) (replies.Tested false) same of is =
+          let none = missing (replies.Tested false) is (sym (ap not_found same)) in record { no_failure = none.0; none_still = none.1 }
+      by (Test asked) (replies.Refused (call_errors.Find error)) same of is = refusal error is
+      by call reply same of is = absurd of

@@ -1,0 +1,82 @@
+-- One core: what holds of it stays so over each event, and over an entry more that hands it what was read.
+use Rattle.std.proofs.Common.{◌≡◌, ℕ, ◌+◌, ◌≤◌, List, [], ◌∷◌, ◌++◌, length, min, Contains, Some, Ok, inr, refl, sym, ◌∙◌, ap, subst, arith}
+use Rattle.std.specs.Prelude.{slice_get}
+use Rattle.std.proofs.lemmas.List.{length_push}
+use Rattle.odb_base.specs.Path.{Path}
+use Rattle.odb_disk.specs.MemDisk.{Volume}
+use Rattle.odb_tree.specs.Tree.Follow.{read_of}
+use Rattle.gix_odb_core.specs.History.{History, opened, present}
+use Rattle.gix_odb_core.specs.Possible.{IsPossible}
+use Rattle.gix_odb_core.specs.Replay.{CanHappen, IsLegal}
+use Rattle.gix_odb_core.specs.declared.journal.Entry.{Entry}
+use Rattle.gix_odb_core.proofs.ShapeLaws.{possible_journal_grows}
+use Rattle.gix_odb_looks.specs.Shown.{IsHanded}
+use Rattle.gix_odb_looks.proofs.CoreLaws.Journals.{each_of_grown, legal_journal_grows}
+use Rattle.gix_odb_looks.proofs.CoreLaws.Wider.{IsHanded-wider}
+use Rattle.gix_odb.specs.Contents.{folder_list}
+use Rattle.gix_odb.specs.Held.{WasShownAt}
+use Rattle.gix_odb_world.specs.AtWork.{Store, setting_in}
+use Rattle.gix_odb_world.specs.Cores.{answer_behind, cores_after, entered, entry_of}
+use Rattle.gix_odb_world.specs.Event.{CoreAnswer, CoreEvent, Event}
+use Rattle.gix_odb_world.specs.Run.{tree_at}
+use Rattle.gix_odb_world.proofs.HistoryLemmas.{tree_at-before}
+
+-- a file with these bytes was shown at a path since a store was opened
+abbrev pub ShownSince : Volume → List Event → Store → Path → List ℕ → Type 0
+ShownSince first events store path bytes = WasShownAt (tree_at first events) store.opened (length events) path bytes
+
+-- the history of a core of a store
+pub record IsOfStore (first : Volume) (events : List Event) (store : Store) (history : History) : Type 0 where
+  pub opening : history.opening ≡ (opened store.slots (length (folder_list store.parts)) 0 0).opening
+  pub legal : IsLegal history.opening history.entries
+  pub possible : IsPossible history.opening history.entries
+  pub handed : (entry : Entry) → Contains history.entries entry → IsHanded (ShownSince first events store) (setting_in store) store.hash entry.event
+
+-- the core of a number is that of a store
+pub record IsStocked (first : Volume) (events : List Event) (core : ℕ) (store : Store) : Type 0 where
+  pub history : History
+  pub there : slice_get (cores_after events) core ≡ Some history
+  pub of : IsOfStore first events store history
+
+module _ (first : Volume) (events : List Event) (e : Event) (store : Store) where
+  abbrev whole : List Event
+  whole = events ++ e ∷ []
+
+  -- what was shown before an event was shown before and with it
+  pub shown_later : (path : Path) (bytes : List ℕ) → ShownSince first events store path bytes → ShownSince first whole store path bytes
+  shown_later path bytes was =
+      let longer = length_push events e in
+      let to = was.to in
+      record {
+        moment = was.moment;
+        from = was.from;
+        to = omega (arith, to, longer);
+        was = subst (λ tree. (time : ℕ) × (read_of tree path ≡ Ok (bytes, time))) (sym (tree_at-before first events e was.moment was.to)) was.was;
+      }
+
+  -- it stays so
+  pub of_store_later : (history : History) → IsOfStore first events store history → IsOfStore first whole store history
+  of_store_later history of = record {
+    opening = of.opening;
+    legal = of.legal;
+    possible = of.possible;
+    handed = λ entry among.
+        IsHanded-wider (ShownSince first events store) (ShownSince first whole store) shown_later (setting_in store) store.hash entry.event (of.handed entry among);
+  }
+
+  -- with an entry more
+  pub of_store_grown : (history : History) (seat : ℕ) (event : CoreEvent) (answer : CoreAnswer) → answer ≡ answer_behind history seat event
+      → CanHappen (present history) seat event
+      → IsHanded (ShownSince first events store) (setting_in store) store.hash event → IsOfStore first events store history
+      → IsOfStore first whole store (entered history seat event answer)
+  of_store_grown history seat event answer answered can handed of =
+      let entry : Entry = entry_of history seat event answer in
+      let later = of_store_later history of in
+      record {
+        opening = of.opening;
+        legal = legal_journal_grows history.entries entry history.opening of.legal (record { numbered = refl; answered = inr answered });
+        possible = possible_journal_grows history.entries history.opening entry of.possible can;
+        handed =
+            each_of_grown history.entries entry (λ (one : Entry). IsHanded (ShownSince first whole store) (setting_in store) store.hash one.event) later.handed
+            (IsHanded-wider (ShownSince first events store) (ShownSince first whole store) shown_later (setting_in store) store.hash event handed);
+      }

@@ -1,0 +1,469 @@
+-- What one event makes of the cores of stores, and of whose cores they are.
+use Rattle.std.proofs.Common.{◌≡◌, ◌≢◌, ℕ, ◌+◌, ◌≤◌, Bool, true, false, List, [], ◌∷◌, ◌++◌, length, min, Contains, Option, Some, None, Ok, Err, Result, inl, inr, refl, sym, ◌∙◌, ap, subst, arith}
+use Rattle.std.specs.Prelude.{◌==◌, slice_get, unwrap_or, if◌then◌else◌}
+use Rattle.std.specs.List.{last_or}
+use Rattle.std.proofs.lemmas.Bool.{eqb-true, eqb-false}
+use Rattle.std.proofs.lemmas.List.{length_push}
+use Rattle.odb_disk.specs.MemDisk.{Volume}
+use Rattle.gix_odb_core.specs.Handles.{registered}
+use Rattle.gix_odb_core.specs.History.{History, opened, present}
+use Rattle.gix_odb_core.specs.Replay.{CanHappen}
+use Rattle.gix_odb_core.specs.declared.event.Event.TheVariants as core_events
+use Rattle.gix_odb_packs.specs.declared.answer.PartAsk.{PartAsk}
+use Rattle.gix_odb_packs.specs.declared.answer.PartAsk.TheVariants as parts
+use Rattle.odb_disk.specs.declared.ask.DiskAsk.{DiskAsk}
+use Rattle.gix_odb_calls.specs.declared.call.Reply.{Reply}
+use Rattle.gix_odb_calls.specs.declared.call.Reply.TheVariants as replies
+use Rattle.gix_odb_calls.specs.declared.call.CallError.TheVariants as call_errors
+use Rattle.gix_odb_calls.specs.declared.step.Step.{Step}
+use Rattle.gix_odb_calls.specs.declared.step.Step.TheVariants as steps
+use Rattle.gix_odb_calls.specs.declared.step.Outcome.{Outcome}
+use Rattle.gix_odb_calls.specs.declared.step.Outcome.TheVariants as outcomes
+use Rattle.gix_odb_looks.specs.LookUpOrder as looks
+use Rattle.gix_odb_looks.specs.Shown.{IsHanded}
+use Rattle.gix_odb_looks.specs.declared.look_up.LookUp.{LookUp}
+use Rattle.gix_odb_looks.proofs.FoundLaws.{what_is_handed_was_shown}
+use Rattle.gix_odb_looks.proofs.HandedLaws.{what_is_handed_can_happen}
+use Rattle.gix_odb.specs.Contents.{folder_list, sought}
+use Rattle.gix_odb.specs.declared.call_state.CallState.TheVariants.{Looking, Writing}
+use Rattle.gix_odb.specs.declared.open_state.OpenState.{OpenState}
+use Rattle.gix_odb.specs.declared.open_state.OpenState.TheVariants as opens
+use Rattle.gix_odb_loose.specs.LooseOrder.{disk_ask_of}
+use Rattle.gix_odb_world.specs.declared.work.Work.{Work}
+use Rattle.gix_odb_world.specs.declared.work.Work.TheVariants.{Opening, Calling}
+use Rattle.gix_odb_world.specs.Asks.{AsksAsTask, MayAskCore, MayAskNewCore}
+use Rattle.gix_odb_world.specs.AtWork.{MakeCall, Modes, OpenStore, Running, Store, Task, modes_after, setting_in}
+use Rattle.gix_odb_world.specs.Begun.{BegunAs}
+use Rattle.gix_odb_world.specs.Cores.{answer_behind, cores_after, cores_after_asked, entered, history_at, registered_at}
+use Rattle.gix_odb_world.specs.Event.{Ask, Asked, CoreAnswer, CoreEvent, Event, OfCore, OfDisk, OfNewCore, OfNothing, ToCore, ToDisk, ToNewCore, answered, part_asked, to_disk}
+use Rattle.gix_odb_world.specs.Headline.{IsLawful, IsTurn, Law, Suits, Turns, Works, asked_applied, asked_by_clone, asked_by_close, outcome_of, stand_of}
+use Rattle.gix_odb_world.specs.Machines.{ask_in, fed_in}
+use Rattle.gix_odb_world.specs.Promise.{Promise}
+use Rattle.gix_odb_world.specs.Run.{disk_after, told_now}
+use Rattle.gix_odb_world.specs.Running.{Knows, Runs}
+use Rattle.gix_odb_world.specs.Running.Query.{IsLooking}
+use Rattle.gix_odb_world.specs.Seats.{HasSeat, IsNowhere, IsSeated}
+use Rattle.gix_odb_world.specs.Status.{Free, Resting, Status, Working, after_reply, cloned, come_to, ignoring_from, refuses_opening, replied, started, status_after, status_of, turned, with_status}
+use Rattle.gix_odb_world.specs.Told.{look_now, told_since, view_then}
+use Rattle.gix_odb_world.specs.Valid.{misuse_of, phase_of, why_not_after, why_not_idle}
+use Rattle.gix_odb_world.proofs.HistoryLemmas.{cores_after-push, slice_get-kept, slice_get-last, slice_get-push, status_of-push}
+use Rattle.gix_odb_world.proofs.SeatLemmas.{seats_now}
+use Rattle.gix_odb_world.proofs.SeatLemmas.Applied.{is_free_for_clone}
+use Rattle.gix_odb_world.proofs.SeatLemmas.Elsewhere.{slice_get-set_other, slice_get-set_same}
+use Rattle.gix_odb_world.proofs.SeatLemmas.Opened.{left_of}
+use Rattle.gix_odb_world.proofs.RunSteps.{at_work, turn_step}
+use Rattle.gix_odb_world.proofs.Stock.OneCore.{IsOfStore, IsStocked, ShownSince, of_store_grown, of_store_later}
+use Rattle.gix_odb_world.proofs.Stock.Owned.{AreStocked, Owns, OwnsAt}
+use Rattle.gix_odb_world.proofs.ToldLists.{length-slice_set}
+
+-- the last of a list
+last_is : {A : Type 0} (xs : List A) (x : A) (o : Option A) → last_or o (xs ++ x ∷ []) ≡ Some x
+last_is [] x o = refl
+last_is (y ∷ xs) x o = last_is xs x (Some y)
+
+module _ (first : Volume) (past : List Event) (e : Event) (lawful : IsLawful first past) (runs : (handle : ℕ) → Runs first past handle (status_of past handle))
+    (law : Law first past e) (before : AreStocked first past) where
+  abbrev now : List Event
+  now = past ++ e ∷ []
+
+  abbrev cores : List History
+  cores = cores_after past
+
+  abbrev table : ℕ → Status
+  table = status_of past
+
+  seat : (handle : ℕ) → HasSeat past handle (table handle)
+  seat handle = seats_now first past lawful handle
+
+  -- ---- the cores
+
+  -- the cores are those of these stores then, and each that was one is
+  record GrowsTo (stores : List Store) : Type 0 where
+    long : length stores ≡ length (cores_after now)
+    each : (core : ℕ) (store : Store) → slice_get stores core ≡ Some store → IsStocked first now core store
+    keeps : (core : ℕ) (store : Store) → slice_get before.stores core ≡ Some store → slice_get stores core ≡ Some store
+
+  now_is : (asked : Asked) → e.asked ≡ asked → cores_after now ≡ cores_after_asked cores asked
+  now_is asked is = cores_after-push past e ∙ ap (cores_after_asked cores) is
+
+  grown_same : (asked : Asked) → e.asked ≡ asked → cores_after_asked cores asked ≡ cores → GrowsTo before.stores
+  grown_same asked is same =
+      let cores_are : cores_after now ≡ cores = now_is asked is ∙ same in
+      record {
+        long = before.long ∙ ap length (sym cores_are);
+        each = λ core store has.
+            let stock = before.each core store has in
+            record { history = stock.history; there = ap (λ cs. slice_get cs core) cores_are ∙ stock.there; of = of_store_later first past e store stock.history stock.of };
+        keeps = λ core store has. has;
+      }
+
+  -- an event of a core that can happen, and hands it what was read
+  grown_core : (core handle : ℕ) (event : CoreEvent) → e.asked ≡ OfCore core handle event (answer_behind (history_at cores core) handle event)
+      → CanHappen (present (history_at cores core)) handle event
+      → ((store : Store) → slice_get before.stores core ≡ Some store → IsHanded (ShownSince first past store) (setting_in store) store.hash event)
+      → GrowsTo before.stores
+  grown_core core handle event is can handed =
+      let answer = answer_behind (history_at cores core) handle event in
+      let new : History = entered (history_at cores core) handle event answer in
+      let grown : cores_after now ≡ cores_after_asked cores (OfCore core handle event answer) = now_is _ is in
+      record {
+        long = before.long ∙ (sym (length-slice_set cores core new) ∙ ap length (sym grown));
+        each = λ place store has. by place store has (place == core) refl;
+        keeps = λ place store has. has;
+      }
+    where
+      by : (place : ℕ) (store : Store) → slice_get before.stores place ≡ Some store → (b : Bool) → (place == core) ≡ b → IsStocked first now place store
+      by place store has true is_here =
+          let same : place ≡ core = eqb-true place core is_here in
+          let answer = answer_behind (history_at cores core) handle event in
+          let own : slice_get before.stores core ≡ Some store = ap (slice_get before.stores) (sym same) ∙ has in
+          let stock = before.each core store own in
+          let there : history_at cores core ≡ stock.history = ap (λ o. unwrap_or o (opened 0 0 0 0)) stock.there in
+          record {
+            history = entered stock.history handle event answer;
+            there =
+                ap (λ cs. slice_get cs place) (now_is _ is)
+                ∙ (ap (slice_get (cores_after_asked cores (OfCore core handle event answer))) same
+                ∙ (slice_get-set_same cores core (entered (history_at cores core) handle event answer) stock.history stock.there
+                ∙ ap (λ h. Some (entered h handle event answer)) there));
+            of =
+                of_store_grown first past e store stock.history handle event answer (ap (λ h. answer_behind h handle event) there)
+                (subst (λ h. CanHappen (present h) handle event) there can) (handed store own) stock.of;
+          }
+      by place store has false is_other =
+          let answer = answer_behind (history_at cores core) handle event in
+          let stock = before.each place store has in
+          record {
+            history = stock.history;
+            there =
+                ap (λ cs. slice_get cs place) (now_is _ is)
+                ∙ (slice_get-set_other cores core place (entered (history_at cores core) handle event answer) (eqb-false place core is_other) ∙ stock.there);
+            of = of_store_later first past e store stock.history stock.of;
+          }
+
+  -- a core that was made for a store
+  grown_new : (store : Store) (slots folders handle : ℕ) → slots ≡ store.slots → folders ≡ length (folder_list store.parts)
+      → e.asked ≡ OfNewCore slots folders (length cores) handle (answer_behind (opened slots folders 0 0) handle (core_events.Register false))
+      → GrowsTo (before.stores ++ store ∷ [])
+  grown_new store slots folders handle slots_are folders_are is =
+      let h : History = opened slots folders 0 0 in
+      let answer = answer_behind h handle (core_events.Register false) in
+      let new : History = entered h handle (core_events.Register false) answer in
+      let grown : cores_after now ≡ cores ++ new ∷ [] = now_is _ is in
+      let long = before.long in
+      let none : IsOfStore first past store h = record {
+        opening = ap (λ n. (opened n folders 0 0).opening) slots_are ∙ ap (λ n. (opened store.slots n 0 0).opening) folders_are;
+        legal = λ i entry there. absurd (cc there);
+        possible = tt;
+        handed = λ entry among. absurd (nothing_in entry among);
+      } in
+      record {
+        long =
+            let more = length_push before.stores store in
+            let mores = length_push cores new in
+            let same = ap length grown in
+            omega (arith, more, mores, same, long);
+        each = λ place other has.
+            elim (slice_get-push before.stores store place other has) [
+              | inl old ↦
+                  let stock = before.each place other old.1 in
+                  record {
+                    history = stock.history;
+                    there = ap (λ cs. slice_get cs place) grown ∙ slice_get-kept cores new place stock.history stock.there;
+                    of = of_store_later first past e other stock.history stock.of;
+                  }
+              | inr last ↦
+                  let here : place ≡ length cores = last.0 ∙ long in
+                  record {
+                    history = new;
+                    there = ap (λ cs. slice_get cs place) grown ∙ (ap (slice_get (cores ++ new ∷ [])) here ∙ slice_get-last cores new);
+                    of =
+                        subst (λ (o : Store). IsOfStore first now o new) last.1
+                        (of_store_grown first past e store h handle (core_events.Register false) answer refl refl tt none);
+                  }
+            ];
+        keeps = λ place other has. slice_get-kept before.stores store place other has;
+      }
+    where
+      nothing_in : {A : Type 0} (x : A) → ¬ (Contains [] x)
+      nothing_in x (k, within, is) = omega (arith, within)
+
+  -- ---- whose they are
+
+  owns_kept : (stores : List Store) → GrowsTo stores → (status : Status) → Owns before.stores status → Owns stores status
+  owns_kept stores grows Free owns = tt
+  owns_kept stores grows (Resting store modes) owns = grows.keeps modes.core store owns
+  owns_kept stores grows (Working running) owns = by running.task owns
+    where
+      by : (task : Task) → OwnsAt before.stores running.store running.modes task → OwnsAt stores running.store running.modes task
+      by OpenStore owns = tt
+      by (MakeCall call) owns = grows.keeps running.modes.core running.store owns
+
+  kept : (stores : List Store) → GrowsTo stores → (handle : ℕ) → Owns stores (table handle)
+  kept stores grows handle = owns_kept stores grows (table handle) (before.owned handle)
+
+  set : (stores : List Store) → GrowsTo stores → (number : ℕ) (status : Status) → Owns stores status → (handle : ℕ) → Owns stores (with_status table number status handle)
+  set stores grows number status here handle = by (handle == number)
+    where
+      by : (b : Bool) → Owns stores (if b then status else table handle)
+      by true = here
+      by false = kept stores grows handle
+
+  finish : (stores : List Store) → GrowsTo stores → ((handle : ℕ) → Owns stores (status_after (length past + 1) e.step e.outcome e.asked table handle)) → AreStocked first now
+  finish stores grows owned = record {
+    stores = stores;
+    long = grows.long;
+    each = grows.each;
+    owned = λ handle. subst (λ (t : ℕ → Status). Owns stores (t handle)) (sym (status_of-push past e)) (owned handle);
+  }
+
+  after_is : (step : Step) (outcome : Outcome) → e.step ≡ step → e.outcome ≡ outcome → (handle : ℕ) → (stores : List Store)
+      → Owns stores (status_after (length past + 1) step outcome e.asked table handle) → Owns stores (status_after (length past + 1) e.step e.outcome e.asked table handle)
+  after_is step outcome step_is out handle stores owns =
+      subst (λ s. Owns stores (status_after (length past + 1) s e.outcome e.asked table handle)) (sym step_is)
+      (subst (λ o. Owns stores (status_after (length past + 1) step o e.asked table handle)) (sym out) owns)
+
+  -- ---- a step that was applied
+
+  owns_ignoring : (stores : List Store) (status : Status) → Owns stores status → Owns stores (ignoring_from status)
+  owns_ignoring stores Free owns = tt
+  owns_ignoring stores (Resting store modes) owns = owns
+  owns_ignoring stores (Working running) owns = owns
+
+  applied : (step : Step) → e.step ≡ step → e.outcome ≡ outcomes.Applied → e.asked ≡ asked_applied past step → None ≡ why_not_after first past step → AreStocked first now
+  applied (steps.Open number path folders hash replacements options) step out is valid =
+      let grows = grown_same OfNothing is refl in
+      finish before.stores grows (λ handle. after_is _ _ step out handle before.stores (set before.stores grows number _ tt handle))
+  applied (steps.Ignore number) step out is valid =
+      let grows = grown_same OfNothing is refl in
+      finish before.stores grows
+      (λ handle. after_is _ _ step out handle before.stores (set before.stores grows number _ (owns_ignoring before.stores (table number) (kept before.stores grows number)) handle))
+  applied (steps.Start number call) step out is valid =
+      let grows = grown_same OfNothing is refl in
+      finish before.stores grows (λ handle. after_is _ _ step out handle before.stores (set before.stores grows number _ (by (table number) (kept before.stores grows number)) handle))
+    where
+      by : (status : Status) → Owns before.stores status → Owns before.stores (started (length past + 1) call status)
+      by Free owns = tt
+      by (Resting store modes) owns = owns
+      by (Working running) owns = owns
+  applied (steps.Turn number) step out is valid =
+      let grows = grown_same OfNothing is refl in
+      finish before.stores grows (λ handle. after_is _ _ step out handle before.stores (kept before.stores grows handle))
+  applied (steps.Disk change) step out is valid =
+      let grows = grown_same OfNothing is refl in
+      finish before.stores grows (λ handle. after_is _ _ step out handle before.stores (kept before.stores grows handle))
+  applied (steps.Close number) step out is valid = by (table number) refl (seat number) is
+    where
+      by : (status : Status) → table number ≡ status → HasSeat past number status → e.asked ≡ asked_by_close cores number status → AreStocked first now
+      by Free at has is =
+          let grows = grown_same OfNothing is refl in
+          finish before.stores grows (λ handle. after_is _ _ step out handle before.stores (set before.stores grows number Free tt handle))
+      by (Working running) at has is =
+          let grows = grown_same OfNothing is refl in
+          finish before.stores grows (λ handle. after_is _ _ step out handle before.stores (set before.stores grows number Free tt handle))
+      by (Resting store modes) at has is =
+          let there : history_at cores modes.core ≡ has.history = ap (λ o. unwrap_or o (opened 0 0 0 0)) has.there in
+          let grows = grown_core modes.core number core_events.Remove is (subst (λ h. CanHappen (present h) number core_events.Remove) (sym there) has.registered) (λ own has. tt) in
+          finish before.stores grows (λ handle. after_is _ _ step out handle before.stores (set before.stores grows number Free tt handle))
+  applied (steps.Clone number from) step out is valid = by (table from) refl (seat number) (before.owned from) is
+    where
+      free : table number ≡ Free
+      free = (is_free_for_clone (table number) (table from) valid).0
+
+      by : (parent : Status) → table from ≡ parent → HasSeat past number (table number) → Owns before.stores (table from) → e.asked ≡ asked_by_clone cores number parent → AreStocked first now
+      by Free at has owns is =
+          let grows = grown_same OfNothing is refl in
+          finish before.stores grows (λ handle. after_is _ _ step out handle before.stores
+          (set before.stores grows number _ (subst (λ s. Owns before.stores (cloned e.asked s)) (sym at) tt) handle))
+      by (Working running) at has owns is =
+          let grows = grown_same OfNothing is refl in
+          finish before.stores grows (λ handle. after_is _ _ step out handle before.stores
+          (set before.stores grows number _ (subst (λ s. Owns before.stores (cloned e.asked s)) (sym at) tt) handle))
+      by (Resting store modes) at has owns is =
+          let nowhere : IsNowhere cores number = subst (HasSeat past number) free has in
+          let own : slice_get before.stores modes.core ≡ Some store = subst (Owns before.stores) at owns in
+          let grows = grown_core modes.core number (core_events.Register false) is (nowhere modes.core) (λ other has. tt) in
+          finish before.stores grows (λ handle. after_is _ _ step out handle before.stores
+          (set before.stores grows number _
+          (subst (λ s. Owns before.stores (cloned e.asked s)) (sym at)
+          (subst (λ a. slice_get before.stores (modes_after a modes).core ≡ Some store) (sym is) own)) handle))
+
+  -- ---- a turn
+
+  module _ (number : ℕ) (running : Running) (step : e.step ≡ steps.Turn number) (status : table number ≡ Working running) (works : Works first past number running e) where
+    abbrev told : Option Ask → Asked
+    told ask = told_now (stand_of past number running) (disk_after first past) ask
+
+    owned_now : OwnsAt before.stores running.store running.modes running.task
+    owned_now = subst (Owns before.stores) status (before.owned number)
+
+    knows : Knows first past number running running.work
+    knows = (subst (Runs first past number) status (runs number)).1
+
+    -- what work asks a core for can happen, and is what was read
+    module _ (event : CoreEvent) where
+      handed_by : (work : Work) → ask_in running.store work ≡ Some (ToCore event) → Knows first past number running work
+          → IsHanded (ShownSince first past running.store) (setting_in running.store) running.store.hash event × CanHappen (present (history_at cores running.modes.core)) number event
+      handed_by (Opening opens.Looking) is knows = absurd (cc is)
+      handed_by (Opening opens.Registering) is knows = absurd (cc is)
+      handed_by (Opening (opens.Done reply)) is knows = absurd (cc is)
+      handed_by (Calling (Writing call)) is knows = absurd (no_event (disk_ask_of call) is)
+        where
+          no_event : (asked : Option DiskAsk) → ¬ (to_disk asked ≡ Some (ToCore event))
+          no_event None is = cc is
+          no_event (Some ask) is = cc is
+      handed_by (Calling (Looking look)) is knows =
+          let asked = ap looks.ask_of (sym knows.is) ∙ event_of (looks.ask_of look) is in
+          let setting = setting_in running.store in
+          let id = sought running.store.parts running.modes.ignoring knows.query in
+          let view = view_then past number running.modes.core running.begun in
+          let exchanges = told_since past number running.begun in (
+            what_is_handed_was_shown (ShownSince first past running.store) setting running.store.hash knows.query id knows.fits.hashed view knows.well.snapshot exchanges
+                knows.asked knows.well.truth (parts.Core event) asked,
+            what_is_handed_can_happen setting knows.fits.distinct view knows.query id exchanges knows.asked event asked (present (history_at cores running.modes.core)) number,
+          )
+        where
+          event_of : (asked : Option PartAsk) → part_asked asked ≡ Some (ToCore event) → asked ≡ Some (parts.Core event)
+          event_of None is = absurd (cc is)
+          event_of (Some (parts.Disk ask)) is = absurd (cc is)
+          event_of (Some (parts.Core own)) is = let same : own ≡ event = cc is in ap (λ x. Some (parts.Core x)) same
+
+    -- an open store's opening told the core that it made
+    opening_made : (task : Task) → running.task ≡ task → task ≡ OpenStore → (reply : Reply) → e.outcome ≡ outcomes.Reply reply → refuses_opening reply ≡ false
+        → (slots : ℕ) × (folders : ℕ) × (core : ℕ) × (seat : ℕ) × (answer : CoreAnswer) × (e.asked ≡ OfNewCore slots folders core seat answer)
+    opening_made task task_is opens_it reply out sound =
+        by reply sound
+        (subst (λ t. Promise first now number running.store running.modes running.begun t reply) (task_is ∙ opens_it)
+        (law.promise number running running.task reply (record { step = step; status = status }) works.begins out))
+      where
+        by : (reply : Reply) → refuses_opening reply ≡ false → Promise first now number running.store running.modes running.begun OpenStore reply
+            → (slots : ℕ) × (folders : ℕ) × (core : ℕ) × (seat : ℕ) × (answer : CoreAnswer) × (e.asked ≡ OfNewCore slots folders core seat answer)
+        by (replies.Opened slots) sound promise =
+            let made = promise.core in
+            let same : Some made.event ≡ Some e = sym (last_is made.past made.event None) ∙ (ap (last_or None) (sym made.last) ∙ last_is past e None) in
+            let is : made.event ≡ e = cc same in
+            (_, _, made.core, made.seat, made.answer, ap (λ (x : Event). x.asked) (sym is) ∙ made.asked)
+        by (replies.Refused (call_errors.Open error)) sound promise = absurd (cc sound)
+        by reply sound promise = absurd promise
+
+    -- a turn that makes no core leaves the handle at its own
+    rests_by : (asked : Asked) → e.asked ≡ asked → (modes_after asked running.modes).core ≡ running.modes.core
+        → ((slots folders core seat : ℕ) (answer : CoreAnswer) → ¬ (asked ≡ OfNewCore slots folders core seat answer))
+        → (task : Task) → running.task ≡ task → OwnsAt before.stores running.store running.modes task
+        → (reply : Reply) → e.outcome ≡ outcomes.Reply reply → refuses_opening reply ≡ false
+        → slice_get before.stores (modes_after e.asked running.modes).core ≡ Some running.store
+    rests_by asked is same other OpenStore task_is owns reply out sound =
+        let made = opening_made OpenStore task_is refl reply out sound in absurd (other made.0 made.1 made.2 made.3 made.4 (sym is ∙ made.5))
+    rests_by asked is same other (MakeCall call) task_is owns reply out sound =
+        ap (λ a. slice_get before.stores (modes_after a running.modes).core) is ∙ (ap (slice_get before.stores) same ∙ owns)
+
+    goes_by : (asked : Asked) → e.asked ≡ asked → (modes_after asked running.modes).core ≡ running.modes.core → (task : Task)
+        → OwnsAt before.stores running.store running.modes task → OwnsAt before.stores running.store (modes_after e.asked running.modes) task
+    goes_by asked is same OpenStore owns = tt
+    goes_by asked is same (MakeCall call) owns = ap (λ a. slice_get before.stores (modes_after a running.modes).core) is ∙ (ap (slice_get before.stores) same ∙ owns)
+
+    -- how the cores grow by what was asked, and whose core the handle has then
+    record TurnGrows : Type 0 where
+      stores : List Store
+      grows : GrowsTo stores
+      rests : (reply : Reply) → e.outcome ≡ outcomes.Reply reply → refuses_opening reply ≡ false → slice_get stores (modes_after e.asked running.modes).core ≡ Some running.store
+      goes : OwnsAt stores running.store (modes_after e.asked running.modes) running.task
+
+    grown_by_new : (slots folders : ℕ) → e.asked ≡ told (Some (ToNewCore slots folders)) → (task : Task) → running.task ≡ task
+        → MayAskNewCore running.store running.turns task slots folders → TurnGrows
+    grown_by_new slots folders is (MakeCall call) task_is may = absurd may
+    grown_by_new slots folders is OpenStore task_is may =
+        let long = before.long in
+        record {
+          stores = before.stores ++ running.store ∷ [];
+          grows = grown_new running.store slots folders number may.1 may.3 is;
+          rests = λ reply out sound.
+              ap (λ a. slice_get (before.stores ++ running.store ∷ []) (modes_after a running.modes).core) is
+              ∙ (ap (slice_get (before.stores ++ running.store ∷ [])) (sym long) ∙ slice_get-last before.stores running.store);
+          goes = subst (OwnsAt (before.stores ++ running.store ∷ []) running.store (modes_after e.asked running.modes)) (sym task_is) tt;
+        }
+
+    turn_grows : (ask : Option Ask) → e.asked ≡ told ask → ask_in running.store running.work ≡ ask
+        → AsksAsTask first past number running.store running.modes running.begun running.turns running.task ask → TurnGrows
+    turn_grows None is asks order = record {
+      stores = before.stores;
+      grows = grown_same OfNothing is refl;
+      rests = rests_by OfNothing is refl (λ slots folders core seat answer same. cc same) running.task refl owned_now;
+      goes = goes_by OfNothing is refl running.task owned_now;
+    }
+    turn_grows (Some (ToDisk ask)) is asks order = record {
+      stores = before.stores;
+      grows = grown_same (told (Some (ToDisk ask))) is refl;
+      rests = rests_by (told (Some (ToDisk ask))) is refl (λ slots folders core seat answer same. cc same) running.task refl owned_now;
+      goes = goes_by (told (Some (ToDisk ask))) is refl running.task owned_now;
+    }
+    turn_grows (Some (ToCore event)) is asks order =
+        let own = handed_by event running.work asks knows in
+        record {
+          stores = before.stores;
+          grows = grown_core running.modes.core number event is own.1 (λ store has. one_store store has order own.0);
+          rests = rests_by (told (Some (ToCore event))) is refl (λ slots folders core seat answer same. cc same) running.task refl owned_now;
+          goes = goes_by (told (Some (ToCore event))) is refl running.task owned_now;
+        }
+      where
+        -- the core of the handle is that of its own store alone
+        one_store : (store : Store) → slice_get before.stores running.modes.core ≡ Some store
+            → MayAskCore past number running.store running.modes running.begun running.task event
+            → IsHanded (ShownSince first past running.store) (setting_in running.store) running.store.hash event
+            → IsHanded (ShownSince first past store) (setting_in store) store.hash event
+        one_store store has may handed =
+            let both : Some running.store ≡ Some store = sym (owned_by running.task may owned_now) ∙ has in
+            let same : running.store ≡ store = cc both in
+            subst (λ (o : Store). IsHanded (ShownSince first past o) (setting_in o) o.hash event) same handed
+          where
+            owned_by : (task : Task) → MayAskCore past number running.store running.modes running.begun task event → OwnsAt before.stores running.store running.modes task
+                → slice_get before.stores running.modes.core ≡ Some running.store
+            owned_by OpenStore may owns = absurd may
+            owned_by (MakeCall call) may owns = owns
+    turn_grows (Some (ToNewCore slots folders)) is asks order = grown_by_new slots folders is running.task refl order
+
+    grown : TurnGrows
+    grown = turn_grows works.ask works.told works.asks works.in_order
+
+    pending : e.outcome ≡ outcomes.Pending → AreStocked first now
+    pending out =
+        let left = left_of (fed_in running.store running.work (answered e.asked)) (sym works.goes ∙ out) in
+        finish grown.stores grown.grows
+        (λ handle. after_is (steps.Turn number) outcomes.Pending step out handle grown.stores
+        (set grown.stores grown.grows number (turned e.asked (table number))
+        (subst (λ s. Owns grown.stores (turned e.asked s)) (sym status)
+        (subst (λ r. Owns grown.stores (come_to e.asked running r)) (sym left.1) grown.goes)) handle))
+
+    replying : (reply : Reply) → e.outcome ≡ outcomes.Reply reply → AreStocked first now
+    replying reply out =
+        finish grown.stores grown.grows
+        (λ handle. after_is (steps.Turn number) (outcomes.Reply reply) step out handle grown.stores
+        (set grown.stores grown.grows number (replied e.asked reply (table number))
+        (subst (λ s. Owns grown.stores (replied e.asked reply s)) (sym status) (by (refuses_opening reply) refl)) handle))
+      where
+        by : (b : Bool) → refuses_opening reply ≡ b
+            → Owns grown.stores (if b then Free else Resting running.store (modes_after e.asked running.modes))
+        by true is = tt
+        by false is = grown.rests reply out is
+
+  -- ---- any event
+
+  turn_of : IsTurn e.step → misuse_of e.outcome ≡ None
+      → (number : ℕ) × (e.step ≡ steps.Turn number) × (running : Running) × (table number ≡ Working running) × Works first past number running e
+  turn_of turn sound =
+      let t = turn_step e.step turn in
+      let valid = sym sound ∙ (law.valid ∙ ap (why_not_after first past) t.1) in
+      let a = at_work (table t.0) valid in
+      (t.0, t.1, a.0, a.1, law.worked t.0 a.0 (record { step = t.1; status = a.1 }))
+
+  by_outcome : (outcome : Outcome) → e.outcome ≡ outcome → Suits e.step outcome e.asked → AreStocked first now
+  by_outcome outcomes.Applied out suits = applied e.step refl out (law.applied out) (sym (ap misuse_of out) ∙ law.valid)
+  by_outcome outcomes.Pending out suits = let t = turn_of suits.0 (ap misuse_of out) in pending t.0 t.2 t.1 t.3 t.4 out
+  by_outcome (outcomes.Reply reply) out suits = let t = turn_of suits (ap misuse_of out) in replying t.0 t.2 t.1 t.3 t.4 reply out
+  by_outcome (outcomes.Misuse why) out suits =
+      let grows = grown_same OfNothing suits refl in
+      finish before.stores grows (λ handle. subst (λ o. Owns before.stores (status_after (length past + 1) e.step o e.asked table handle)) (sym out) (kept before.stores grows handle))
+
+  -- one event more
+  pub stocked_on : AreStocked first now
+  stocked_on = by_outcome e.outcome refl law.suits

@@ -1,0 +1,123 @@
+-- Along a run the streams of queries stand open, and no two handles read one.
+use Rattle.std.proofs.Common.{◌≡◌, ◌≢◌, ◌⊎◌, ℕ, zero, suc, ◌+◌, ◌≤◌, Bool, true, false, List, [], ◌∷◌, ◌++◌, length, take, Contains, Option, Some, None, inl, inr, refl, sym, ◌∙◌, ap, subst, arith}
+use Rattle.std.specs.Prelude.{◌==◌, slice_get}
+use Rattle.std.proofs.lemmas.Bool.{eqb-true, eqb-false}
+use Rattle.std.proofs.lemmas.List.{length_push, take-length}
+use Rattle.odb_base.specs.Path.{Path}
+use Rattle.odb_tree.specs.Tree.{tree_of}
+use Rattle.odb_disk.specs.Ask.{after_ask, answer_now}
+use Rattle.odb_disk.specs.MemDisk.{Volume}
+use Rattle.odb_disk.specs.StreamAsks.{is_of_streams}
+use Rattle.odb_disk.specs.declared.ask.DiskAnswer.{DiskAnswer}
+use Rattle.odb_disk.specs.declared.ask.DiskAnswer.TheVariants as answers
+use Rattle.odb_disk.specs.declared.ask.DiskAsk.{DiskAsk}
+use Rattle.odb_disk.specs.declared.ask.DiskAsk.TheVariants as asks
+use Rattle.gix_odb_calls.specs.declared.step.Step.TheVariants as steps
+use Rattle.gix_odb_loose.specs.LooseOrder.{disk_ask_of}
+use Rattle.gix_odb_loose.specs.declared.call.LooseCall.{LooseCall}
+use Rattle.gix_odb_loose.proofs.StillAskLaws.{call_asks_still}
+use Rattle.gix_odb_packs.specs.PackFolder.{pack_folder}
+use Rattle.gix_odb_packs.specs.declared.answer.Answer.TheVariants as told
+use Rattle.gix_odb_packs.specs.declared.answer.PartAsk.{PartAsk}
+use Rattle.gix_odb_packs.specs.declared.answer.PartAsk.TheVariants as parts
+use Rattle.gix_odb_looks.specs.Exchange.{Exchange}
+use Rattle.gix_odb_looks.specs.LookUpOrder as looks
+use Rattle.gix_odb_looks.specs.OpenStream.{IsOnStream, IsStreamOf}
+use Rattle.gix_odb_looks.specs.Stream.{Stream, stream_by, stream_in}
+use Rattle.gix_odb_looks.proofs.HandedLaws.{streams_of_look_ups_are_their_own}
+use Rattle.gix_odb_looks.proofs.OpenLaws.{look_ups_open_folders_of_packs}
+use Rattle.gix_odb.specs.Contents.{folder_list, sought}
+use Rattle.gix_odb.specs.declared.call_state.CallState.TheVariants.{Looking, Writing}
+use Rattle.gix_odb.specs.declared.open_state.OpenState.TheVariants as opens
+use Rattle.gix_odb_world.specs.declared.work.Work.{Work}
+use Rattle.gix_odb_world.specs.declared.work.Work.TheVariants.{Opening, Calling}
+use Rattle.gix_odb_world.specs.AtWork.{Running, setting_in}
+use Rattle.gix_odb_world.specs.Event.{Asked, Event, OfDisk, ToDisk, part_asked, to_disk}
+use Rattle.gix_odb_world.specs.Machines.{ask_in}
+use Rattle.gix_odb_world.specs.Run.{disk_after}
+use Rattle.gix_odb_world.specs.Running.{Knows}
+use Rattle.gix_odb_world.specs.Status.{Working, status_of}
+use Rattle.gix_odb_world.specs.Told.{look_now, told_since, view_then}
+use Rattle.gix_odb_world.proofs.Stock.OneCore.{ShownSince}
+use Rattle.gix_odb_world.proofs.Streams.OneEvent.{StandsOpen}
+
+-- ---- what a handle at work asks of streams
+
+-- the call of the disk of a handle that is at work: it opens folders of packs alone, and reads and closes its own stream alone
+pub record AsksOwn (events : List Event) (handle : ℕ) (running : Running) (ask : DiskAsk) : Type 0 where
+  pub opens : (path : Path) → ask ≡ asks.OpenDir path → (folder : Path) × Contains (folder_list running.store.parts) folder × (path ≡ pack_folder folder)
+  pub on : (dir : ℕ) → IsOnStream dir ask → (stream : Stream) × (stream_in (told_since events handle running.begun) ≡ Some stream) × (stream.dir ≡ dir)
+
+-- a call that isn't of streams is on none
+still_asks : (events : List Event) (handle : ℕ) (running : Running) (ask : DiskAsk) → is_of_streams ask ≡ false → AsksOwn events handle running ask
+still_asks events handle running ask still = record {
+  opens = λ path is. let none : is_of_streams (asks.OpenDir path) ≡ false = ap is_of_streams (sym is) ∙ still in absurd (cc none);
+  on = λ dir is. absurd (on_none ask still dir is);
+}
+  where
+    on_none : (ask : DiskAsk) → is_of_streams ask ≡ false → (dir : ℕ) → ¬ (IsOnStream dir ask)
+    on_none (asks.NextEntry other) still dir is = cc still
+    on_none (asks.CloseDir other) still dir is = cc still
+    on_none (asks.OpenDir path) still dir is = is
+    on_none (asks.Look path follow) still dir is = is
+    on_none (asks.Read path) still dir is = is
+    on_none (asks.MakeDir path) still dir is = is
+    on_none (asks.NewFile path) still dir is = is
+    on_none (asks.Append path bytes) still dir is = is
+    on_none (asks.Rename from to) still dir is = is
+    on_none (asks.Remove path) still dir is = is
+
+call_of_part : (asked : Option PartAsk) (ask : DiskAsk) → part_asked asked ≡ Some (ToDisk ask) → asked ≡ Some (parts.Disk ask)
+call_of_part None ask is = absurd (cc is)
+call_of_part (Some (parts.Disk own)) ask is = let same : own ≡ ask = cc is in ap (λ a. Some (parts.Disk a)) same
+call_of_part (Some (parts.Core event)) ask is = absurd (cc is)
+
+call_of_disk : (asked : Option DiskAsk) (ask : DiskAsk) → to_disk asked ≡ Some (ToDisk ask) → asked ≡ Some ask
+call_of_disk None ask is = absurd (cc is)
+call_of_disk (Some own) ask is = let same : own ≡ ask = cc is in ap (λ a. Some a) same
+
+pub asks_own : (first : Volume) (events : List Event) (handle : ℕ) (running : Running) (work : Work) → Knows first events handle running work → (ask : DiskAsk)
+    → ask_in running.store work ≡ Some (ToDisk ask) → AsksOwn events handle running ask
+asks_own first events handle running (Opening opens.Looking) knows ask is =
+    let same : asks.Look running.store.parts.objects true ≡ ask = cc is in still_asks events handle running ask (ap is_of_streams (sym same))
+asks_own first events handle running (Opening opens.Registering) knows ask is = absurd (cc is)
+asks_own first events handle running (Opening (opens.Done reply)) knows ask is = absurd (cc is)
+asks_own first events handle running (Calling (Writing call)) knows ask is =
+    still_asks events handle running ask (call_asks_still call ask (call_of_disk (disk_ask_of call) ask is))
+asks_own first events handle running (Calling (Looking look)) knows ask is =
+    let asked : looks.ask_of (look_now events handle running.store running.modes running.begun knows.query) ≡ Some (parts.Disk ask) =
+    ap looks.ask_of (sym knows.is) ∙ call_of_part (looks.ask_of look) ask is in
+    record {
+      opens = λ path same.
+          look_ups_open_folders_of_packs (ShownSince first events running.store) (setting_in running.store) running.store.hash knows.query
+          (sought running.store.parts running.modes.ignoring knows.query) knows.fits.hashed (view_then events handle running.modes.core running.begun) knows.well.snapshot
+          (told_since events handle running.begun) knows.asked knows.well.truth path (asked ∙ ap (λ a. Some (parts.Disk a)) same);
+      on = λ dir on_it.
+          let own = streams_of_look_ups_are_their_own (setting_in running.store) (view_then events handle running.modes.core running.begun) knows.query
+          (sought running.store.parts running.modes.ignoring knows.query) (told_since events handle running.begun) knows.asked dir (on_by ask asked dir on_it) in
+          (own.stream, own.told, own.number);
+    }
+  where
+    on_by : (ask : DiskAsk) → looks.ask_of (look_now events handle running.store running.modes running.begun knows.query) ≡ Some (parts.Disk ask) → (dir : ℕ) → IsOnStream dir ask
+        → (looks.ask_of (look_now events handle running.store running.modes running.begun knows.query) ≡ Some (parts.Disk (asks.NextEntry dir)))
+        ⊎ (looks.ask_of (look_now events handle running.store running.modes running.begun knows.query) ≡ Some (parts.Disk (asks.CloseDir dir)))
+    on_by (asks.NextEntry other) asked dir same = inl (asked ∙ ap (λ n. Some (parts.Disk (asks.NextEntry n))) same)
+    on_by (asks.CloseDir other) asked dir same = inr (asked ∙ ap (λ n. Some (parts.Disk (asks.CloseDir n))) same)
+    on_by (asks.OpenDir path) asked dir never = absurd never
+    on_by (asks.Look path follow) asked dir never = absurd never
+    on_by (asks.Read path) asked dir never = absurd never
+    on_by (asks.MakeDir path) asked dir never = absurd never
+    on_by (asks.NewFile path) asked dir never = absurd never
+    on_by (asks.Append path bytes) asked dir never = absurd never
+    on_by (asks.Rename from to) asked dir never = absurd never
+    on_by (asks.Remove path) asked dir never = absurd never
+
+-- ---- all streams
+
+-- the stream of each handle at work stands open, and those of two handles have two numbers
+pub record AreOpen (first : Volume) (events : List Event) : Type 0 where
+  pub stands : (handle : ℕ) (running : Running) → status_of events handle ≡ Working running → (stream : Stream)
+      → stream_in (told_since events handle running.begun) ≡ Some stream → StandsOpen first events running stream
+  pub apart : (handle other : ℕ) (running further : Running) → handle ≢ other → status_of events handle ≡ Working running → status_of events other ≡ Working further
+      → (one two : Stream) → stream_in (told_since events handle running.begun) ≡ Some one → stream_in (told_since events other further.begun) ≡ Some two
+      → one.dir ≢ two.dir

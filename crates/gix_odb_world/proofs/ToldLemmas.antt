@@ -1,0 +1,120 @@
+-- What the handle of a query was told, and where its look-up stands, after one event more.
+use Rattle.std.proofs.Common.{◌≡◌, ℕ, zero, suc, ◌+◌, ◌≤◌, Bool, true, false, List, [], ◌∷◌, ◌++◌, length, drop, take, Option, Some, None, refl, sym, ◌∙◌, ap, subst, arith}
+use Rattle.std.specs.Prelude.{◌==◌, unwrap_or, if◌then◌else◌}
+use Rattle.std.specs.List.{cons_option, filter_map}
+use Rattle.std.proofs.lemmas.Bool.{eqb-true}
+use Rattle.std.proofs.lemmas.List.{append-nil, take-length}
+use Rattle.std.proofs.lemmas.List.Elements.{filter_map-append}
+use Rattle.gix_odb_core.specs.Replay.{snapshot_of}
+use Rattle.gix_odb_core.specs.declared.view.View.{View}
+use Rattle.gix_odb_calls.specs.declared.step.Step.{Step}
+use Rattle.gix_odb_calls.specs.declared.step.Step.TheVariants as steps
+use Rattle.gix_odb_looks.specs.Exchange.{AreAsked, Exchange, behind}
+use Rattle.gix_odb_looks.specs.LookUpOrder.{Setting, ask_of, fed}
+use Rattle.gix_odb_looks.specs.declared.look_up.LookUp.{LookUp}
+use Rattle.gix_odb.specs.HandleState.{unseen}
+use Rattle.gix_odb_world.specs.Cores.{cores_after, history_at}
+use Rattle.gix_odb_world.specs.Event.{Asked, Event}
+use Rattle.gix_odb_world.specs.Run.{IsTurnOf}
+use Rattle.gix_odb_world.specs.Told.{exchange_in, exchange_of, told_since, view_then}
+use Rattle.gix_odb_world.specs.Turned.{is_turn_of}
+
+-- ---- a look-up behind one exchange more
+
+pub behind-push : (setting : Setting) (look : LookUp) (exchanges : List Exchange) (exchange : Exchange)
+    → behind setting look (exchanges ++ exchange ∷ []) ≡ fed setting (behind setting look exchanges) exchange.answer
+behind-push setting look [] exchange = refl
+behind-push setting look (one ∷ exchanges) exchange = behind-push setting (fed setting look one.answer) exchanges exchange
+
+pub asked-push : (setting : Setting) (look : LookUp) (exchanges : List Exchange) (exchange : Exchange) → AreAsked setting look exchanges
+    → ask_of (behind setting look exchanges) ≡ Some exchange.ask → AreAsked setting look (exchanges ++ exchange ∷ [])
+asked-push setting look [] exchange asked is = (is, tt)
+asked-push setting look (one ∷ exchanges) exchange asked is = (asked.0, asked-push setting (fed setting look one.answer) exchanges exchange asked.1 is)
+
+-- ---- lists
+
+drop-push : {A : Type 0} (xs : List A) (x : A) (n : ℕ) → n ≤ length xs → drop n (xs ++ x ∷ []) ≡ drop n xs ++ x ∷ []
+drop-push [] x zero within = refl
+drop-push [] x (suc n) within = absurd (omega (arith, within))
+drop-push (y ∷ xs) x zero within = refl
+drop-push (y ∷ xs) x (suc n) within = drop-push xs x n (omega (arith, within))
+
+take-push : {A : Type 0} (xs : List A) (x : A) (n : ℕ) → n ≤ length xs → take n (xs ++ x ∷ []) ≡ take n xs
+take-push [] x zero within = refl
+take-push [] x (suc n) within = absurd (omega (arith, within))
+take-push (y ∷ xs) x zero within = refl
+take-push (y ∷ xs) x (suc n) within = ap (λ ys. y ∷ ys) (take-push xs x n (omega (arith, within)))
+
+drop-all : {A : Type 0} (xs : List A) → drop (length xs) xs ≡ []
+drop-all [] = refl
+drop-all (x ∷ xs) = drop-all xs
+
+-- ---- a turn of the handle, and any other step
+
+turned_by : (handle : ℕ) (step : Step) → IsTurnOf handle step → is_turn_of handle step ≡ true
+turned_by handle step is = ap (is_turn_of handle) is ∙ same
+  where
+    same : (handle == handle) ≡ true
+    same = grind arith
+
+not_turned : (handle : ℕ) (step : Step) → ¬ (IsTurnOf handle step) → is_turn_of handle step ≡ false
+not_turned handle (steps.Turn other) no = by (handle == other) refl
+  where
+    by : (b : Bool) → (handle == other) ≡ b → (handle == other) ≡ false
+    by true is = absurd (no (ap steps.Turn (sym (eqb-true handle other is))))
+    by false is = is
+not_turned handle (steps.Open other path folders hash replacements options) no = refl
+not_turned handle (steps.Clone other from) no = refl
+not_turned handle (steps.Close other) no = refl
+not_turned handle (steps.Ignore other) no = refl
+not_turned handle (steps.Start other call) no = refl
+not_turned handle (steps.Disk change) no = refl
+
+-- ---- what it was told
+
+module _ (events : List Event) (e : Event) (handle begun : ℕ) (since : begun ≤ length events) where
+  abbrev whole : List Event
+  whole = events ++ e ∷ []
+
+  told-push : told_since whole handle begun ≡ told_since events handle begun ++ cons_option (exchange_in handle e) []
+  unfolding told_since
+  told-push =
+      ap (filter_map (exchange_in handle)) (drop-push events e begun since)
+      ∙ filter_map-append (exchange_in handle) (drop begun events) (e ∷ [])
+
+  -- by what it was told, if it was told anything
+  pub told_by : (o : Option Exchange) → exchange_in handle e ≡ o → told_since whole handle begun ≡ told_since events handle begun ++ cons_option o []
+  told_by o is = told-push ∙ ap (λ x. told_since events handle begun ++ cons_option x []) is
+
+  none_told : exchange_in handle e ≡ None → told_since whole handle begun ≡ told_since events handle begun
+  none_told is = told_by None is ∙ append-nil (told_since events handle begun)
+
+  -- an event that isn't its turn tells it nothing
+  pub told_kept : ¬ (IsTurnOf handle e.step) → told_since whole handle begun ≡ told_since events handle begun
+  told_kept other = none_told (ap (λ b. if b then exchange_of e.asked else None) (not_turned handle e.step other))
+
+  -- its turn tells it what was asked and answered
+  pub told_turn : IsTurnOf handle e.step → (asked : Asked) → e.asked ≡ asked → (exchange : Exchange) → exchange_of asked ≡ Some exchange
+      → told_since whole handle begun ≡ told_since events handle begun ++ exchange ∷ []
+  told_turn turn asked asked_is exchange is =
+      told_by (Some exchange) (ap (λ b. if b then exchange_of e.asked else None) (turned_by handle e.step turn) ∙ (ap exchange_of asked_is ∙ is))
+
+  pub told_none : IsTurnOf handle e.step → (asked : Asked) → e.asked ≡ asked → exchange_of asked ≡ None
+      → told_since whole handle begun ≡ told_since events handle begun
+  told_none turn asked asked_is is =
+      none_told (ap (λ b. if b then exchange_of e.asked else None) (turned_by handle e.step turn) ∙ (ap exchange_of asked_is ∙ is))
+
+  -- what it saw then stays
+  pub view_kept : (core : ℕ) → view_then whole handle core begun ≡ view_then events handle core begun
+  unfolding view_then
+  view_kept core = ap (λ past. unwrap_or (snapshot_of handle (history_at (cores_after past) core).entries) unseen) (take-push events e begun since)
+
+-- where it begins it was told nothing
+pub told_first : (events : List Event) (handle : ℕ) → told_since events handle (length events) ≡ []
+unfolding told_since
+told_first events handle = ap (filter_map (exchange_in handle)) (drop-all events)
+
+pub view_first : (events : List Event) (handle core : ℕ)
+    → view_then events handle core (length events) ≡ unwrap_or (snapshot_of handle (history_at (cores_after events) core).entries) unseen
+unfolding view_then
+view_first events handle core = ap (λ past. unwrap_or (snapshot_of handle (history_at (cores_after past) core).entries) unseen) (take-length events)

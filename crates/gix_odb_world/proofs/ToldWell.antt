@@ -1,0 +1,402 @@
+-- What the handle of a query was told is true of the run: where the query begins, and after one event more.
+use Rattle.std.proofs.Common.{◌≡◌, ◌⊎◌, ℕ, ◌+◌, ◌<◌, ◌≤◌, true, false, List, [], ◌∷◌, ◌++◌, length, min, Contains, Option, Some, None, Ok, Err, inl, inr, refl, sym, ◌∙◌, ap, subst, arith}
+use Rattle.std.specs.Prelude.{slice_get, unwrap_or}
+use Rattle.std.proofs.lemmas.List.{length_push, take-length}
+use Rattle.std.proofs.lemmas.Option.{slice_get_within}
+use Rattle.odb_base.specs.Path.{Path}
+use Rattle.odb_tree.specs.Tree.{tree_of}
+use Rattle.odb_tree.specs.Tree.Follow.{listed, read_of}
+use Rattle.odb_tree.specs.declared.disk_error.DiskError.TheVariants as errors
+use Rattle.odb_disk.specs.Ask.{answer_now, fails_now}
+use Rattle.odb_disk.specs.MemDisk.{Volume}
+use Rattle.odb_disk.specs.declared.ask.DiskAnswer.{DiskAnswer}
+use Rattle.odb_disk.specs.declared.ask.DiskAnswer.TheVariants as answers
+use Rattle.odb_disk.specs.declared.ask.DiskAsk.{DiskAsk}
+use Rattle.gix_odb_core.specs.History.{History, opened, present}
+use Rattle.gix_odb_core.specs.Replay.{CanHappen, replay, snapshot_of}
+use Rattle.gix_odb_core.specs.Steps.{last_state}
+use Rattle.gix_odb_core.specs.declared.journal.Entry.{Entry}
+use Rattle.gix_odb_core.specs.declared.shape.Shape.{Shape}
+use Rattle.gix_odb_core.specs.declared.view.View.{View}
+use Rattle.gix_odb_core.proofs.NumberLaws.{entries_lower_no_number}
+use Rattle.gix_odb_core.proofs.OrderLaws.{replay_of_joined_journals}
+use Rattle.gix_odb_packs.specs.declared.answer.Answer.TheVariants as told
+use Rattle.gix_odb_packs.specs.declared.answer.PartAsk.TheVariants as parts
+use Rattle.gix_odb_calls.specs.declared.call.Call.{Call}
+use Rattle.gix_odb_looks.specs.Exchange.{AreAnswered, Exchange, HasFailed, IsAnswerTo, WasTold}
+use Rattle.gix_odb_looks.specs.Laps as streams
+use Rattle.gix_odb_looks.specs.Laps.{AreNumbered, AreWithin, IsNumbered, number_by}
+use Rattle.gix_odb_looks.specs.LookUpOrder.{Setting, ask_of}
+use Rattle.gix_odb_looks.specs.Shown.{IsHanded, IsShownView}
+use Rattle.gix_odb_looks.specs.Stream.{stream_by, stream_in}
+use Rattle.gix_odb_looks.specs.True.{AreTrue, IsTrue}
+use Rattle.gix_odb_looks.specs.declared.look_up.LookUp.{LookUp}
+use Rattle.gix_odb_looks.proofs.CoreLaws.{core_answers_are_numbered, core_answers_are_true, core_answers_suit_their_events, core_answers_tell_no_later_number}
+use Rattle.gix_odb_looks.proofs.CoreLaws.Wider.{AreTrue-wider, IsHanded-wider, IsShownView-wider}
+use Rattle.gix_odb_looks.proofs.FoundLaws.{what_is_handed_was_shown}
+use Rattle.gix_odb_looks.proofs.HandedLaws.{what_is_handed_can_happen}
+use Rattle.gix_odb.specs.Contents.{sought}
+use Rattle.gix_odb.specs.HandleState.{unseen}
+use Rattle.gix_odb_world.specs.declared.record.Did.{Did}
+use Rattle.gix_odb_world.specs.declared.record.Did.TheVariants.{Nothing, Disk, Core}
+use Rattle.gix_odb_world.specs.AtWork.{Modes, Running, Store, setting_in}
+use Rattle.gix_odb_world.specs.Bound.{HasAtMost}
+use Rattle.gix_odb_world.specs.Cores.{answer_behind, cores_after, cores_after_asked, entered, entry_of, history_at}
+use Rattle.gix_odb_world.specs.Event.{Asked, CoreAnswer, CoreEvent, Event, OfCore, OfDisk, OfNewCore, OfNothing, ToCore, ToDisk}
+use Rattle.gix_odb_world.specs.Run.{Fails, FailedSince, NoCall, disk_after, tree_at}
+use Rattle.gix_odb_world.specs.Running.Query.{IsGiven, IsLooking, IsToldWell, number_after}
+use Rattle.gix_odb_world.specs.Told.{look_now, told_since, view_then}
+use Rattle.gix_odb_world.proofs.DiskTold.{failed_or_told, is_true, suits}
+use Rattle.gix_odb_world.proofs.HistoryLemmas.{cores_after-push, failed-kept, failed_before, none_failed_yet, tree_at-before}
+use Rattle.gix_odb_world.proofs.MachineLaws.{IsRunning, IsStarted, IsTurnAsking}
+use Rattle.gix_odb_world.proofs.QuietTurn.{failed_now}
+use Rattle.gix_odb_world.proofs.SeatLemmas.Elsewhere.{history_at-push, history_at-set, slice_get-set_same}
+use Rattle.gix_odb_world.proofs.Stock.{HasStock, HasStockAt, stocked}
+use Rattle.gix_odb_world.proofs.Stock.OneCore.{IsOfStore, IsStocked, ShownSince, shown_later}
+use Rattle.gix_odb_world.proofs.Stock.Snapshots.{Shows, is_opened, slots_are, snapshot_shows}
+use Rattle.gix_odb_world.proofs.Streams.{next_entry_suits, streams_are_short}
+use Rattle.gix_odb_world.proofs.ToldLemmas.{told_first, told_turn, view_first, view_kept}
+use Rattle.gix_odb_world.proofs.ToldLists.{length-slice_set, AreAnswered-push, AreNumbered-push, AreWithin-push, among_more, last_among, nothing_among, number_after-push, one_of_more, within_last}
+
+-- a record that tells no call tells no failure
+pub no_failure : (did : Did) → NoCall did → ¬ (Fails did)
+no_failure Nothing none failed = failed
+no_failure (Disk op path failed) none fails = none
+no_failure (Core store entry) none failed = failed
+
+-- ---- the numbers of a core's list
+
+entry_raises : (h : History) (seat : ℕ) (event : CoreEvent) (answer : CoreAnswer) → (present h).list_no ≤ (present (entered h seat event answer)).list_no
+entry_raises h seat event answer =
+    let rises = entries_lower_no_number (entry_of h seat event answer ∷ []) (present h) in
+    subst (λ (s : Shape). (present h).list_no ≤ s.list_no) (sym (replay_of_joined_journals h.entries (entry_of h seat event answer ∷ []) h.opening)) rises.list_no
+
+-- an event leaves a core where it is, and its list has no lower number then
+numbers_rise : (cores : List History) (asked : Asked) (core : ℕ) → core < length cores
+    → (core < length (cores_after_asked cores asked)) × ((present (history_at cores core)).list_no ≤ (present (history_at (cores_after_asked cores asked) core)).list_no)
+numbers_rise cores OfNothing core within = (within, omega arith)
+numbers_rise cores (OfDisk ask answer) core within = (within, omega arith)
+numbers_rise cores (OfCore store seat event answer) core within =
+    let new : History = entered (history_at cores store) seat event answer in
+    let long = length-slice_set cores store new in (
+      omega (arith, within, long),
+      elim (history_at-set cores store new core) [
+        | inl old ↦ subst (λ (h : History). (present (history_at cores core)).list_no ≤ (present h).list_no) (sym old) (omega arith)
+        | inr at ↦
+            subst (λ (h : History). (present (history_at cores core)).list_no ≤ (present h).list_no) (sym at.1)
+            (subst (λ n. (present (history_at cores n)).list_no ≤ (present new).list_no) (sym at.0) (entry_raises (history_at cores store) seat event answer))
+      ],
+    )
+numbers_rise cores (OfNewCore slots folders store seat answer) core within =
+    let now : List History = cores_after_asked cores (OfNewCore slots folders store seat answer) in
+    let long = length_push cores _ in (
+      omega (arith, within, long),
+      elim (history_at-push cores _ core) [
+        | inl old ↦ subst (λ (h : History). (present (history_at cores core)).list_no ≤ (present h).list_no) (sym old) (omega arith)
+        | inr at ↦ let beyond = at.0 in absurd (omega (arith, within, beyond))
+      ],
+    )
+
+-- the core of a store begins with a state number of 64 bits
+low_state : (first : Volume) (events : List Event) (store : Store) (history : History) → IsOfStore first events store history → history.opening.state_id ≤ last_state
+low_state first events store history of = let same = ap (λ (s : Shape). s.state_id) of.opening in omega (arith, same)
+
+-- ---- one event more
+
+module _ (first : Volume) (events : List Event) (e : Event) where
+  abbrev whole : List Event
+  whole = events ++ e ∷ []
+
+  count : length whole ≡ length events + 1
+  count = length_push events e
+
+  -- folders that never have more entries had no more before
+  most_before : (store : Store) (begun entries : ℕ) → HasAtMost (tree_at first whole) store.parts begun (length whole) entries
+      → HasAtMost (tree_at first events) store.parts begun (length events) entries
+  most_before store begun entries most moment from to folder names listed_so is =
+      let longer = count in
+      most moment from (omega (arith, to, longer)) folder names listed_so
+      (subst (λ tree. listed tree folder ≡ Ok names) (sym (tree_at-before first events e moment to)) is)
+
+  given_later : (handle begun : ℕ) (ask : DiskAsk) (answer : DiskAnswer) → IsGiven first events handle begun ask answer → IsGiven first whole handle begun ask answer
+  given_later handle begun ask answer given =
+      let longer = count in
+      let to = given.to in
+      record {
+        moment = given.moment;
+        from = given.from;
+        to = omega (arith, to, longer);
+        disk = given.disk;
+        shown = tree_at-before first events e given.moment given.to ∙ given.shown;
+        is = given.is;
+        failed = λ fails. failed-kept events e handle begun (given.failed fails);
+      }
+
+  -- the number of a core's list never falls
+  list_rises : (asked : Asked) (core : ℕ) → e.asked ≡ asked → core < length (cores_after events)
+      → (core < length (cores_after whole))
+      × ((present (history_at (cores_after events) core)).list_no ≤ (present (history_at (cores_after whole) core)).list_no)
+  list_rises asked core is within =
+      subst (λ cs. (core < length cs) × ((present (history_at (cores_after events) core)).list_no ≤ (present (history_at cs core)).list_no))
+      (sym (cores_after-push events e ∙ ap (cores_after_asked (cores_after events)) is)) (numbers_rise (cores_after events) asked core within)
+
+  -- where a query is told nothing in an event, and no call of its failed in it, all stays true
+  pub told_well_later : (handle : ℕ) (store : Store) (modes : Modes) (begun : ℕ) → told_since whole handle begun ≡ told_since events handle begun
+      → (FailedSince whole handle begun → FailedSince events handle begun) → begun ≤ length events
+      → IsToldWell first events handle store modes begun → IsToldWell first whole handle store modes begun
+  told_well_later handle store modes begun same fails since well =
+      let seen = view_kept events e handle begun since modes.core in
+      let setting = setting_in store in
+      let rises = list_rises e.asked modes.core refl well.place in
+      record {
+        opened = well.opened;
+        snapshot =
+            subst (IsShownView (ShownSince first whole store) setting store.hash) (sym seen)
+            (IsShownView-wider (ShownSince first events store) (ShownSince first whole store) (shown_later first events e store) setting store.hash _ well.snapshot);
+        few = subst (λ (v : View). length v.snapshot.indices ≤ store.slots) (sym seen) well.few;
+        place = rises.0;
+        truth =
+            subst (AreTrue (ShownSince first whole store) setting store.hash) (sym same)
+            (AreTrue-wider (ShownSince first events store) (ShownSince first whole store) (shown_later first events e store) setting store.hash _ well.truth);
+        answered = subst AreAnswered (sym same) well.answered;
+        numbered = subst (AreNumbered store.slots 0) (sym same) well.numbered;
+        no_later =
+            subst (λ xs. number_after 0 xs ≤ (present (history_at (cores_after whole) modes.core)).list_no) (sym same)
+            (let low = well.no_later in omega (arith, low, rises.1));
+        within = λ entries most. subst (AreWithin entries None) (sym same) (well.within entries (most_before store begun entries most));
+        given = λ ask answer was.
+            given_later handle begun ask answer (well.given ask answer (subst (λ xs. WasTold xs (parts.Disk ask) (told.Disk answer)) same was));
+        failures = λ failed. subst HasFailed (sym same) (well.failures (fails failed));
+      }
+
+  -- ---- where a query begins
+
+  pub told_well_at_first : (handle : ℕ) (store : Store) (modes : Modes) (call : Call) → IsStarted first whole handle store modes call
+      → IsToldWell first whole handle store modes (length events + 1)
+  told_well_at_first handle store modes call start =
+      let longer : length events + 1 ≡ length whole = sym count in
+      let none : told_since whole handle (length events + 1) ≡ [] = ap (told_since whole handle) longer ∙ told_first whole handle in
+      let stock = start.stocked in
+      let there : history_at (cores_after whole) modes.core ≡ stock.history = ap (λ o. unwrap_or o (opened 0 0 0 0)) stock.there in
+      let seen : view_then whole handle modes.core (length events + 1) ≡ unwrap_or (snapshot_of handle stock.history.entries) unseen =
+      ap (view_then whole handle modes.core) longer
+      ∙ (view_first whole handle modes.core ∙ ap (λ (h : History). unwrap_or (snapshot_of handle h.entries) unseen) there) in
+      let shows = subst (Shows first whole store stock.history stock.of) (sym seen) (snapshot_shows first whole store stock.history stock.of handle) in
+      let early = start.opened in
+      record {
+        opened = omega (arith, early, longer);
+        snapshot = shows.0;
+        few = shows.1;
+        place = slice_get_within (cores_after whole) modes.core stock.history stock.there;
+        truth = λ exchange among. absurd (nothing_among exchange (subst (λ xs. Contains xs exchange) none among));
+        answered = subst AreAnswered (sym none) tt;
+        numbered = subst (AreNumbered store.slots 0) (sym none) tt;
+        no_later = subst (λ xs. number_after 0 xs ≤ (present (history_at (cores_after whole) modes.core)).list_no) (sym none) (omega arith);
+        within = λ entries most. subst (AreWithin entries None) (sym none) tt;
+        given = λ ask answer was. absurd (nothing_among _ (subst (λ xs. WasTold xs (parts.Disk ask) (told.Disk answer)) none was));
+        failures = λ failed. absurd (none_failed_yet whole handle (length events + 1) (omega (arith, longer)) failed);
+      }
+
+  -- ---- its own turn
+
+  module _ (handle : ℕ) (running : Running) (look : LookUp) (knows : IsLooking first events handle running look) (ran : IsRunning first events handle running) where
+    abbrev store : Store
+    store = running.store
+
+    abbrev setting : Setting
+    setting = setting_in store
+
+    abbrev core : ℕ
+    core = running.modes.core
+
+    abbrev begun : ℕ
+    begun = running.begun
+
+    abbrev before : List Exchange
+    before = told_since events handle begun
+
+    abbrev well : IsToldWell first events handle store running.modes begun
+    well = knows.well
+
+    seen : view_then whole handle core begun ≡ view_then events handle core begun
+    seen = view_kept events e handle begun knows.since core
+
+    -- what an exchange more has to show
+    record IsToldTruly (exchange : Exchange) : Type 0 where
+      truth : IsTrue (ShownSince first whole store) setting store.hash exchange.ask exchange.answer
+      answers : IsAnswerTo exchange.ask exchange.answer
+      numbered : IsNumbered store.slots (number_after 0 before) exchange.ask exchange.answer
+      no_later : number_by (number_after 0 before) exchange.answer ≤ (present (history_at (cores_after whole) core)).list_no
+      within : (entries : ℕ) → HasAtMost (tree_at first whole) store.parts begun (length whole) entries
+          → streams.HasAtMost entries (stream_by (stream_in before) exchange.ask exchange.answer)
+      given : (ask : DiskAsk) (answer : DiskAnswer) → record { ask = parts.Disk ask; answer = told.Disk answer } ≡ exchange → IsGiven first whole handle begun ask answer
+      fails : FailedSince whole handle begun → FailedSince events handle begun ⊎ (exchange.answer ≡ told.Disk (answers.Refused errors.Failed))
+
+    told_more : (exchange : Exchange) → told_since whole handle begun ≡ before ++ exchange ∷ [] → (core < length (cores_after whole)) → IsToldTruly exchange
+        → IsToldWell first whole handle store running.modes begun
+    told_more exchange same there truly = record {
+      opened = well.opened;
+      snapshot =
+          subst (IsShownView (ShownSince first whole store) setting store.hash) (sym seen)
+          (IsShownView-wider (ShownSince first events store) (ShownSince first whole store) (shown_later first events e store) setting store.hash _ well.snapshot);
+      few = subst (λ (v : View). length v.snapshot.indices ≤ store.slots) (sym seen) well.few;
+      place = there;
+      truth = λ one among.
+          elim (one_of_more before exchange one (subst (λ xs. Contains xs one) same among)) [
+            | inl old ↦ AreTrue-wider (ShownSince first events store) (ShownSince first whole store) (shown_later first events e store) setting store.hash before well.truth one old
+            | inr is ↦ subst (λ (x : Exchange). IsTrue (ShownSince first whole store) setting store.hash x.ask x.answer) (sym is) truly.truth
+          ];
+      answered = subst AreAnswered (sym same) (AreAnswered-push before exchange well.answered truly.answers);
+      numbered = subst (AreNumbered store.slots 0) (sym same) (AreNumbered-push store.slots 0 before exchange well.numbered truly.numbered);
+      no_later =
+          subst (λ xs. number_after 0 xs ≤ (present (history_at (cores_after whole) core)).list_no) (sym same)
+          (subst (λ n. n ≤ (present (history_at (cores_after whole) core)).list_no) (sym (number_after-push 0 before exchange)) truly.no_later);
+      within = λ entries most.
+          subst (AreWithin entries None) (sym same)
+          (AreWithin-push entries None before exchange (well.within entries (most_before store begun entries most)) (truly.within entries most));
+      given = λ ask answer was.
+          elim (one_of_more before exchange (record { ask = parts.Disk ask; answer = told.Disk answer }) (subst (λ xs. WasTold xs (parts.Disk ask) (told.Disk answer)) same was)) [
+            | inl old ↦ given_later handle begun ask answer (well.given ask answer old)
+            | inr is ↦ truly.given ask answer is
+          ];
+      failures = λ failed.
+          subst HasFailed (sym same)
+          (elim (truly.fails failed) [
+            | inl old ↦ let has = well.failures old in record { exchange = has.exchange; among = among_more before exchange has.exchange has.among; failed = has.failed }
+            | inr last ↦ record { exchange = exchange; among = last_among before exchange; failed = last }
+          ]);
+    }
+
+    -- ---- an event of the core of its store
+
+    stock : IsStocked first events core store
+    stock =
+        subst (HasStockAt first events store running.modes) knows.task
+        (subst (HasStock first events) ran.status (stocked first events ran.lawful ran.throughout handle))
+
+    abbrev history : History
+    history = stock.history
+
+    there : history_at (cores_after events) core ≡ history
+    there = ap (λ o. unwrap_or o (opened 0 0 0 0)) stock.there
+
+    module _ (event : CoreEvent) (asked : ask_of look ≡ Some (parts.Core event)) (turn : IsTurnAsking first events e handle running (Some (ToCore event))) where
+      abbrev answer : CoreAnswer
+      answer = answer_behind (history_at (cores_after events) core) handle event
+
+      abbrev exchange : Exchange
+      exchange = record { ask = parts.Core event; answer = told.Core answer }
+
+      asked_now : ask_of (look_now events handle store running.modes begun knows.query) ≡ Some (parts.Core event)
+      asked_now = ap ask_of (sym knows.is) ∙ asked
+
+      handed : IsHanded (ShownSince first events store) setting store.hash event
+      handed =
+          what_is_handed_was_shown (ShownSince first events store) setting store.hash knows.query (sought store.parts running.modes.ignoring knows.query) knows.fits.hashed
+          (view_then events handle core begun) well.snapshot before knows.asked well.truth (parts.Core event) asked_now
+
+      can : CanHappen (present history) handle event
+      can =
+          what_is_handed_can_happen setting knows.fits.distinct (view_then events handle core begun) knows.query (sought store.parts running.modes.ignoring knows.query)
+          before knows.asked event asked_now (present history) handle
+
+      answer_is : answer ≡ answer_behind history handle event
+      answer_is = ap (λ h. answer_behind h handle event) there
+
+      now_is : history_at (cores_after whole) core ≡ entered history handle event answer
+      now_is =
+          let grown : cores_after whole ≡ cores_after_asked (cores_after events) (OfCore core handle event answer) =
+          cores_after-push events e ∙ ap (cores_after_asked (cores_after events)) turn.asked in
+          ap (λ cs. history_at cs core) grown
+          ∙ (ap (λ o. unwrap_or o (opened 0 0 0 0)) (slice_get-set_same (cores_after events) core (entered (history_at (cores_after events) core) handle event answer) history stock.there)
+          ∙ ap (λ h. entered h handle event answer) there)
+
+      behind_is : replay history.opening (history.entries ++ entry_of history handle event answer ∷ []) ≡ present (history_at (cores_after whole) core)
+      behind_is = ap present (sym now_is)
+
+      low : number_after 0 before ≤ (present history).list_no
+      low = subst (λ h. number_after 0 before ≤ (present h).list_no) there well.no_later
+
+      later : (entry : Entry) → Contains history.entries entry → IsHanded (ShownSince first whole store) setting store.hash entry.event
+      later entry among =
+          IsHanded-wider (ShownSince first events store) (ShownSince first whole store) (shown_later first events e store) setting store.hash entry.event (stock.of.handed entry among)
+
+      truly : IsToldTruly exchange
+      truly = record {
+        truth =
+            core_answers_are_true history.opening history.entries handle event answer answer_is (is_opened first events store history stock.of) stock.of.legal
+            (ShownSince first whole store) setting store.hash later
+            (IsHanded-wider (ShownSince first events store) (ShownSince first whole store) (shown_later first events e store) setting store.hash event handed);
+        answers = core_answers_suit_their_events history.opening history.entries handle event answer answer_is;
+        numbered =
+            core_answers_are_numbered history.opening history.entries handle event answer answer_is (number_after 0 before) low
+            (is_opened first events store history stock.of) (low_state first events store history stock.of) stock.of.possible can
+            store.slots (sym (slots_are first events store history stock.of));
+        no_later =
+            subst (λ (s : Shape). number_by (number_after 0 before) (told.Core answer) ≤ s.list_no) behind_is
+            (core_answers_tell_no_later_number history.opening history.entries handle event answer answer_is (number_after 0 before) low);
+        within = λ entries most. within_last entries None before (well.within entries (most_before store begun entries most)) tt;
+        given = λ ask own is. absurd (cc is);
+        fails = λ failed. inl (failed_before events e handle begun (λ turn_it fails. no_failure e.entry.did turn.did fails) failed);
+      }
+
+      pub told_well_on_core : IsToldWell first whole handle store running.modes begun
+      told_well_on_core =
+          told_more exchange (told_turn events e handle begun knows.since turn.turn (OfCore core handle event answer) turn.asked exchange refl)
+          (list_rises (OfCore core handle event answer) core turn.asked well.place).0 truly
+
+    -- ---- a call of the disk
+
+    module _ (ask : DiskAsk) (asked : ask_of look ≡ Some (parts.Disk ask)) (turn : IsTurnAsking first events e handle running (Some (ToDisk ask))) where
+      abbrev disk : Volume
+      disk = disk_after first events
+
+      abbrev disk_answer : DiskAnswer
+      disk_answer = answer_now disk ask
+
+      abbrev call : Exchange
+      call = record { ask = parts.Disk ask; answer = told.Disk disk_answer }
+
+      disk_asked : ask_of (look_now events handle store running.modes begun knows.query) ≡ Some (parts.Disk ask)
+      disk_asked = ap ask_of (sym knows.is) ∙ asked
+
+      -- the tree that answers is that of the moment before
+      tree_is : tree_at first whole (length events) ≡ tree_of disk.state
+      tree_is = tree_at-before first events e (length events) (omega arith) ∙ ap (λ past. tree_of (disk_after first past).state) (take-length events)
+
+      disk_truly : IsToldTruly call
+      disk_truly = record {
+        truth =
+            is_true (ShownSince first whole store) setting store.hash disk
+            (λ path bytes time read. record {
+              moment = length events;
+              from = let a = well.opened in let b = knows.since in omega (arith, a, b);
+              to = let c = count in omega (arith, c);
+              was = (time, subst (λ tree. read_of tree path ≡ Ok (bytes, time)) (sym tree_is) read);
+            })
+            ask (suits disk ask (λ dir is. next_entry_suits first events e handle running look knows ran dir (disk_asked ∙ ap (λ a. Some (parts.Disk a)) is)));
+        answers = tt;
+        numbered = tt;
+        no_later = let rises = list_rises (OfDisk ask disk_answer) core turn.asked well.place in let low = well.no_later in omega (arith, rises.1, low);
+        within = λ entries most.
+            streams_are_short first events e handle running look knows ran ask disk_asked entries most
+            (within_last entries None before (well.within entries (most_before store begun entries most)) tt);
+        given = λ own answer is.
+            let same : own ≡ ask = cc is in
+            let same_answer : answer ≡ disk_answer = cc is in
+            record {
+              moment = length events;
+              from = knows.since;
+              to = let c = count in omega (arith, c);
+              disk = disk;
+              shown = tree_is;
+              is = same_answer ∙ ap (answer_now disk) (sym same);
+              failed = λ fails. failed_now first events e handle running knows.since ask turn (ap (fails_now disk) (sym same) ∙ fails);
+            };
+        fails = λ failed. failed_or_told first events e handle running knows.since ask turn failed;
+      }
+
+      pub told_well_on_disk : IsToldWell first whole handle store running.modes begun
+      told_well_on_disk =
+          told_more call (told_turn events e handle begun knows.since turn.turn (OfDisk ask disk_answer) turn.asked call refl)
+          (list_rises (OfDisk ask disk_answer) core turn.asked well.place).0 disk_truly

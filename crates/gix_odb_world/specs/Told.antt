@@ -1,0 +1,56 @@
+-- What the handle of a query was asked and answered since the query began, and where its look-up stands behind that.
+use Rattle.std.specs.Prelude.{◌≡◌, ℕ, List, drop, take, Option, Some, None, unwrap_or, if◌then◌else◌}
+use Rattle.std.specs.List.{filter_map}
+use Rattle.gix_odb_core.specs.Replay.{snapshot_of}
+use Rattle.gix_odb_core.specs.declared.view.View.{View}
+use Rattle.gix_odb_packs.specs.declared.answer.Answer.TheVariants as told
+use Rattle.gix_odb_packs.specs.declared.answer.PartAsk.TheVariants as asks
+use Rattle.gix_odb_calls.specs.declared.call.Call.{Call}
+use Rattle.gix_odb_calls.specs.declared.call.Call.TheVariants as calls
+use Rattle.gix_odb_calls.specs.declared.query.Query.{Query}
+use Rattle.gix_odb_calls.specs.declared.query.Query.TheVariants.{Find, Header, Test}
+use Rattle.gix_odb_looks.specs.Exchange.{Exchange, behind}
+use Rattle.gix_odb_looks.specs.LookUpOrder.{started}
+use Rattle.gix_odb_looks.specs.declared.look_up.LookUp.{LookUp}
+use Rattle.gix_odb.specs.Contents.{sought}
+use Rattle.gix_odb.specs.HandleState.{unseen}
+use Rattle.gix_odb_world.specs.AtWork.{Modes, Store, setting_in}
+use Rattle.gix_odb_world.specs.Cores.{cores_after, history_at}
+use Rattle.gix_odb_world.specs.Event.{Asked, Event, OfCore, OfDisk, OfNewCore, OfNothing}
+use Rattle.gix_odb_world.specs.Turned.{is_turn_of}
+
+-- the call that makes a query
+abbrev pub call_of : Query → Call
+call_of (Find id) = calls.Find id
+call_of (Header id) = calls.Header id
+call_of (Test id) = calls.Test id
+
+-- what was asked and answered, where it was a call of the disk or an event of a core that was there
+abbrev pub exchange_of : Asked → Option Exchange
+exchange_of OfNothing = None
+exchange_of (OfDisk ask answer) = Some (record { ask = asks.Disk ask; answer = told.Disk answer })
+exchange_of (OfCore store seat event answer) = Some (record { ask = asks.Core event; answer = told.Core answer })
+exchange_of (OfNewCore slots folders store seat answer) = None
+
+-- the same of an event, where it is a turn of the handle
+abbrev pub exchange_in : (handle : ℕ) → Event → Option Exchange
+exchange_in handle e = if is_turn_of handle e.step then exchange_of e.asked else None
+
+-- the exchanges of the turns of a handle after the event that has a number
+unfoldable pub told_since : List Event → (handle number : ℕ) → List Exchange
+told_since events handle number = filter_map (exchange_in handle) (drop number events)
+
+-- What a handle of the store of a core saw at the event that has a number: its snapshot, which is the view that the core last handed over to
+-- it by then.
+unfoldable pub view_then : List Event → (handle core number : ℕ) → View
+view_then events handle core number = unwrap_or (snapshot_of handle (history_at (cores_after (take number events)) core).entries) unseen
+
+-- the look-up with which a query of a handle began at the event that has a number
+abbrev pub look_begun : List Event → (handle : ℕ) → Store → Modes → (begun : ℕ) → Query → LookUp
+look_begun events handle store modes begun query =
+    started (setting_in store) (view_then events handle modes.core begun) query (sought store.parts modes.ignoring query)
+
+-- and where it stands: behind all that the handle was told since
+abbrev pub look_now : List Event → (handle : ℕ) → Store → Modes → (begun : ℕ) → Query → LookUp
+look_now events handle store modes begun query =
+    behind (setting_in store) (look_begun events handle store modes begun query) (told_since events handle begun)
