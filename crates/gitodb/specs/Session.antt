@@ -1,5 +1,6 @@
 -- What the program promises of each status, by its words, its source and its sink.
 use Rattle.std.specs.Prelude.{◌≡◌, ℕ, List, [], ◌∷◌, ◌++◌, codes, Option, IfSome, if◌then◌else◌}
+use Rattle.std.specs.Fmt.{decimal}
 use Rattle.odb_base.specs.Path.{same_name}
 use Rattle.odb_disk.specs.MemDisk.{Volume}
 use Rattle.odb_program.specs.Session.{FailedRead, FailedWrite, Finished, Input, Output, ReadToEnd, Wrote}
@@ -15,7 +16,7 @@ use Rattle.odb_script.specs.declared.reader.Ending.{Ending}
 use Rattle.odb_script.specs.declared.reader.Ending.TheVariants.{Whole, RefusedAt, NotBuiltAt}
 use Rattle.odb_script.specs.Script.{reading_of, disk_of, lines_of}
 use Rattle.script_reasons.specs.Told.{told_of}
-use Rattle.gitodb.specs.Print.{printed_at, ending_text}
+use Rattle.odb_print.specs.Print.{printed_at}
 
 -- the command that the words of the command line are
 abbrev pub command_of : List (List ℕ) → Command
@@ -26,6 +27,12 @@ command_of (word ∷ []) =
     else if same_name word (codes "--version") then Version
     else NotUnderstood
 command_of (word ∷ other ∷ words) = NotUnderstood
+
+-- the text with which a script ends
+abbrev pub ending_text : Ending → List ℕ
+ending_text Whole = []
+ending_text (RefusedAt line) = codes "line " ++ decimal line ++ codes " refused" ++ codes "\n"
+ending_text (NotBuiltAt line) = codes "line " ++ decimal line ++ codes " not built" ++ codes "\n"
 
 -- a script makes this disk, plays these lines on it, and ends so
 pub record Says (script : List ℕ) (disk : Volume) (lines : List Line) (ending : Ending) : Type 0 where

@@ -6,7 +6,6 @@
 #![tactic(auto)]
 
 mod command;
-mod print;
 mod run;
 mod status;
 #[cfg(test)]

@@ -3,14 +3,14 @@ ghost use Rattle.std.specs.Prelude.{◌≡◌, ◌++◌, ℕ, List, IfOk, OnOk};
 ghost use Rattle.std.specs.Option.{option_copied};
 ghost use Rattle.gix_odb_world.specs.Headline.{Headline};
 ghost use Rattle.gix_odb_world.specs.Play.{Plays, made_of};
-ghost use Rattle.gitodb.specs.Print.{printed_at, ending_text, line_of};
-ghost use Rattle.gitodb.specs.Session.{Answers, AnswersWith, Says, status_by};
+ghost use Rattle.odb_print.specs.Print.{printed_at, line_of};
+ghost use Rattle.gitodb.specs.Session.{Answers, AnswersWith, Says, ending_text, status_by};
 
-use crate::print::print_outcome;
 use crate::status::Status;
 use gix_odb_world::{Line, Outcome, OutcomeList, Play, World};
 use odb_base::{ByteList, NoMemory, Sequence};
 use odb_disk::MemDisk;
+use odb_print::print_outcome;
 use odb_program::{labelled, text};
 use odb_script::{Ending, read};
 use script_reasons::told_of;

@@ -3,9 +3,3 @@ mod PackRowLemmas
 mod NameLemmas
 mod PartLemmas
 mod ReadLemmas
-mod MultiIndexExamples
-mod PlacedPackRowLemmas
-mod WrittenMultiIndexLemmas
-mod WrittenChunkLemmas
-mod WrittenPartsLemmas
-mod ReadMultiIndexLemmas

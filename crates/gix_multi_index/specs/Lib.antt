@@ -4,9 +4,6 @@ pub use Rattle.gix_pack_tables.specs.WrittenPack
 pub use Rattle.gix_pack_tables.specs.WrittenTables
 pub mod MultiIndex
 pub mod MultiIndexRows
-pub mod WrittenMultiIndex
 pub mod ChunkTable
 pub mod MultiIndexLayout
 pub mod MultiIndexNames
-pub mod MultiIndexChunks
-pub mod PlacedPackRow

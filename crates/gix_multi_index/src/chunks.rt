@@ -11,17 +11,17 @@ use crate::layout::{Span, Spans};
 use gix_hash::Kind;
 use gix_pack_tables::read::bytes::{behind_first, long_at, part_of, trailer_place};
 
-// How long the header is: `MIDX`, the version, the hash's number, the numbers of chunks and of base files, and the number of packs.
-pub(crate) const HEADER_LEN: usize = 12;
+/// How long the header is: `MIDX`, the version, the hash's number, the numbers of chunks and of base files, and the number of packs.
+pub const HEADER_LEN: usize = 12;
 
-// How long a row of the chunk table is: a name of four bytes, and a place of eight.
-pub(crate) const ROW_LEN: usize = 12;
+/// How long a row of the chunk table is: a name of four bytes, and a place of eight.
+pub const ROW_LEN: usize = 12;
 
 /// Where the header tells the number of packs.
 pub(crate) const PACK_COUNT_PLACE: usize = 8;
 
 /// How long the name of a chunk is, which stands in front of the place in a row.
-pub(crate) const NAME_LEN: usize = 4;
+pub const NAME_LEN: usize = 4;
 
 // Where the place of the next row stands.
 const NEXT_PLACE: usize = ROW_LEN + NAME_LEN;

@@ -115,8 +115,8 @@ fn has_form(name: &[u8]) -> bool
         && name.ends_with(b".idx")
 }
 
-// Whether bytes are the name of an index.
-pub(crate) fn is_name(name: &[u8]) -> bool
+/// Whether bytes are the name of an index.
+pub fn is_name(name: &[u8]) -> bool
     ensures name { result ≡ name_fits name.now }
 {
     index_name(name).is_some()

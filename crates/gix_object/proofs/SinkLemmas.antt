@@ -1,7 +1,7 @@
 -- What a sink was given, as an object puts it there.
 use Rattle.std.proofs.Common.{ℕ, List, take, Option, Some, None, Result, Ok, Err}
 use Rattle.std.specs.Result.{OnErr, OnOk}
-use Rattle.odb_disk.specs.Source.{Adds}
+use Rattle.odb_sources.specs.Source.{Adds}
 use Rattle.gix_object.specs.Stream.{Puts}
 
 -- all of the bytes were added, or a front of them where a write failed

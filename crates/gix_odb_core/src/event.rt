@@ -7,7 +7,7 @@ ghost use Rattle.gix_odb_core.specs.declared.event.Refusal.TheVariants.{NoMemory
 use crate::metrics::Report;
 use crate::view::View;
 use gix_odb_slots::{Listing, PackId, Shared};
-use gix_pack::{data, index};
+use gix_pack_files::{data, index};
 use odb_base::{NoMemory, PathText};
 use thiserror::Error;
 

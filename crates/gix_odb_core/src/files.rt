@@ -14,7 +14,7 @@ use gix_odb_slots::Filled;
 use gix_odb_slots::pass::{slot_passed, slot_turns_missing};
 use gix_odb_slots::put::{slot_with_index, slot_with_pack};
 use gix_odb_slots::slots::slots_with;
-use gix_pack::{data, index};
+use gix_pack_files::{data, index};
 use odb_base::{NoMemory, PathText};
 use std::alloc::Global;
 

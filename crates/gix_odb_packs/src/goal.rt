@@ -4,7 +4,7 @@ ghost use Rattle.gix_odb_packs.specs.Goal.{error_of, given_by};
 
 use gix_hash::ObjectId;
 use gix_object::Kind;
-use gix_pack::data;
+use gix_pack_files::data;
 use odb_base::{ByteList, NoMemory};
 use std::alloc::Global;
 use thiserror::Error;

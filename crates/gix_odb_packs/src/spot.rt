@@ -3,8 +3,9 @@ ghost use Rattle.std.specs.Prelude.{◌≡◌};
 ghost use Rattle.gix_odb_packs.specs.Spot.{in_multi, in_single, spot_in};
 
 use gix_hash::ObjectId;
+use gix_multi_index as multi_index;
 use gix_odb_core::LoadedIndex;
-use gix_pack::{index, multi_index};
+use gix_pack_files::index;
 
 /// Where an index says that an object stands: the place of its pack among the packs of the index, and the offset there.
 #[derive(Clone, Copy, Debug)]

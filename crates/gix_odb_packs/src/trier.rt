@@ -11,7 +11,7 @@ use crate::goal::{Error, Found, Goal};
 use crate::rest::Rest;
 use crate::search::{Notes, Sought, WantedPack};
 use gix_odb_core::{Effect, Event, PackId, PassWhy, Refusal, Shared, SnapshotIndex, Todo};
-use gix_pack::{data, index};
+use gix_pack_files::{data, index};
 use odb_base::{NoMemory, PathText};
 use odb_disk::{DiskAnswer, DiskAsk};
 use read::{index_read, pack_read};

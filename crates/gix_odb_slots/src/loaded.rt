@@ -1,7 +1,8 @@
 //! Indices that are loaded, and those that are still to be.
 use crate::Shared;
 use crate::slot::PackFileList;
-use gix_pack::{index, multi_index};
+use gix_multi_index as multi_index;
+use gix_pack_files::index;
 use odb_base::{PathText, Sequence};
 
 /// An index that is loaded.

@@ -7,7 +7,7 @@ ghost use Rattle.gix_odb_slots.specs.Files.{index_with, slot_with_index, slot_wi
 use crate::on_disk_file::FileState;
 use crate::slot::{Filled, IndexFile, PackFile, PackFileList, Slot};
 use crate::{OnDiskFile, Shared};
-use gix_pack::{data, index};
+use gix_pack_files::{data, index};
 use odb_base::{NoMemory, PathText};
 use std::alloc::Global;
 

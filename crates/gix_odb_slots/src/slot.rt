@@ -9,7 +9,8 @@ use crate::listing::ListingRow;
 use crate::on_disk_file::FileState;
 use crate::pack_place::{folder_of, name_of, pack_in};
 use crate::{OnDiskFile, Shared};
-use gix_pack::{data, index, multi_index};
+use gix_multi_index as multi_index;
+use gix_pack_files::{data, index};
 use odb_base::{NoMemory, PathText, Sequence};
 use std::alloc::Global;
 

@@ -10,6 +10,6 @@ pub use Rattle.gix_pack_files.specs.IndexRows
 pub use Rattle.gix_pack_files.specs.WrittenIndex
 pub use Rattle.gix_multi_index.specs.MultiIndex
 pub use Rattle.gix_multi_index.specs.MultiIndexRows
-pub use Rattle.gix_multi_index.specs.WrittenMultiIndex
+pub use Rattle.gix_multi_index_written.specs.WrittenMultiIndex
 pub mod Cache
 pub mod PackFind

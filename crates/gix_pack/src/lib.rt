@@ -1,8 +1,8 @@
 //! Packs, their indices and multi-pack indices, read from bytes and written to them, under one name; the caches
 //! in front of them; and the databases that find objects in them.
 //!
-//! Packs and their indices stand in `gix_pack_files`, multi-pack indices in `gix_multi_index`, and what both
-//! stand on in `gix_pack_tables`. A caller names this crate alone.
+//! Packs and their indices stand in `gix_pack_files`, multi-pack indices in `gix_multi_index`, which reads
+//! them, and `gix_multi_index_written`, and what all stand on in `gix_pack_tables`. A caller names this crate alone.
 //! ```rust
 //! let pack = data::File::parse(bytes, Kind::Sha1)?;
 //! assert_eq!(rt; (pack.version(), pack.num_objects()), (2, 1));
@@ -11,8 +11,8 @@
 
 pub mod cache;
 pub mod find;
+pub mod multi_index;
 
-pub use gix_multi_index as multi_index;
-pub use gix_multi_index::NamedPack;
+pub use gix_multi_index_written::NamedPack;
 pub use gix_pack_files::{data, index};
 pub use gix_pack_tables::Object;

@@ -4,7 +4,5 @@ mod AskLemmas
 mod StreamAsksLemmas
 pub mod AskedLaws
 pub mod StillAskLaws
-mod CallsLemmas
 pub mod StreamsLemmas
 pub mod CallsMadeLaws
-pub mod SourceLemmas

@@ -6,8 +6,8 @@ use Rattle.odb_base.specs.Path.{Path}
 use Rattle.odb_tree.specs.Tree.{Tree, State, IsTree, tree_of, state_of, bare_tree}
 use Rattle.odb_tree.specs.Tree.Change.{changed, is_possible_in, after_change}
 use Rattle.odb_tree.specs.Answers.{Answers}
-use Rattle.odb_disk.specs.Calls as calls
-use Rattle.odb_disk.specs.Calls.{Calls, no_calls}
+use Rattle.odb_sources.specs.Calls as calls
+use Rattle.odb_sources.specs.Calls.{Calls, no_calls}
 use Rattle.odb_disk.specs.Streams.{Streams, IsLeastClosed, Opens, no_streams, with_opened}
 use Rattle.odb_tree.specs.Entries.{opened}
 use Rattle.odb_disk.specs.MemDisk.{Volume, after_call, after_outside_change, next_fails, new_volume}

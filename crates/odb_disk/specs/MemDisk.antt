@@ -3,8 +3,8 @@ use Rattle.std.specs.Prelude.{Bool, refl}
 use Rattle.std.specs.Ordering.{nat_cmp}
 use Rattle.std.specs.FinSet as set
 use Rattle.std.specs.Coded.{Coded, code_by, coded×}
-use Rattle.odb_disk.specs.Calls as calls
-use Rattle.odb_disk.specs.Calls.{Calls, coded_calls, no_calls}
+use Rattle.odb_sources.specs.Calls as calls
+use Rattle.odb_sources.specs.Calls.{Calls, coded_calls, no_calls}
 use Rattle.odb_tree.specs.Tree.{State, coded_state, state_of, bare_tree}
 use Rattle.odb_tree.specs.Tree.Change.{after_change}
 use Rattle.odb_disk.specs.Streams.{Streams, coded_streams, no_streams}

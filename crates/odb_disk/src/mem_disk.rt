@@ -1,10 +1,10 @@
 //! A disk in memory.
 use crate::ask::{DiskAsk, change_of};
-use crate::calls::Calls;
 use crate::{
     ByteList, Change, DirId, DirStreams, Disk, DiskError, Entry, Impossible, Meta, NoMemory,
     PathText, Tree,
 };
+use odb_sources::Calls;
 use std::alloc::Global;
 use std::marker::Model;
 

@@ -13,8 +13,8 @@ use Rattle.odb_tree.specs.declared.meta.Kind.TheVariants.{File, Dir, Link}
 use Rattle.odb_tree.specs.declared.meta.Meta.{Meta}
 use Rattle.odb_tree.specs.declared.disk_error.DiskError.{DiskError}
 use Rattle.odb_tree.specs.declared.disk_error.DiskError.TheVariants as errors
-use Rattle.odb_disk.specs.declared.source.ReadError.{ReadError}
-use Rattle.odb_disk.specs.declared.source.ReadError.TheVariants as read_errors
+use Rattle.odb_sources.specs.declared.source.ReadError.{ReadError}
+use Rattle.odb_sources.specs.declared.source.ReadError.TheVariants as read_errors
 
 -- The most bytes that are read of one file, and the most entries of one directory. Both are held in memory whole, so
 -- what is larger is a fault: 4 GiB, and 2 ^ 24 names.

@@ -6,8 +6,11 @@ use crate::field::data_of;
 use crate::objects::{are_few, can_be_written, object_of, objects_of, packs_of};
 use crate::split::at_colon;
 use gix_hash::Kind;
+use gix_multi_index_written as multi_index;
+use gix_multi_index_written::NamedPack;
 use gix_object::encode;
-use gix_pack::{NamedPack, Object, data, index, multi_index};
+use gix_pack_files::{data, index};
+use gix_pack_tables::Object;
 use odb_base::{ByteList, NoMemory};
 use std::alloc::Global;
 

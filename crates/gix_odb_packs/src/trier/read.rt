@@ -6,7 +6,7 @@ use super::{Ahead, IndexPlace, Stage, Tried, at};
 use crate::goal::{Error, Goal};
 use crate::search::{Notes, WantedPack};
 use gix_odb_core::{PassWhy, Shared};
-use gix_pack::{data, index};
+use gix_pack_files::{data, index};
 use odb_base::{ByteList, NoMemory};
 use odb_disk::{DiskAnswer, DiskError};
 use std::alloc::Global;

@@ -8,7 +8,7 @@ use super::{Ahead, IndexPlace, Tried, at_search, seek};
 use crate::goal::{Error, Found, Goal};
 use crate::search::{Notes, Sought, WantedPack};
 use gix_odb_core::{Effect, LoadedIndex, PackFile, Shared, SnapshotIndex, packs_beside};
-use gix_pack::{data, index};
+use gix_pack_files::{data, index};
 use odb_base::NoMemory;
 use std::alloc::Global;
 

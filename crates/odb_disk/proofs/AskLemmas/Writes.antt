@@ -12,7 +12,7 @@ use Rattle.odb_tree.specs.declared.disk_error.DiskError.{DiskError}
 use Rattle.odb_tree.specs.declared.disk_error.DiskError.TheVariants as errors
 use Rattle.odb_tree.proofs.TreeLemmas.{tree_of-state_of}
 use Rattle.odb_disk.specs.Ask.{change_of_ask, fails_now, after_count, TakesLeast, IsCounted}
-use Rattle.odb_disk.specs.Calls.{Calls}
+use Rattle.odb_sources.specs.Calls.{Calls}
 use Rattle.odb_disk.specs.MemDisk.{Volume}
 use Rattle.odb_disk.specs.Streams.{Streams}
 use Rattle.odb_disk.specs.Told.{told_write}

@@ -1,7 +1,7 @@
 -- The lines of no places are nothing; one place more adds its line.
 use Rattle.std.proofs.Common.{ap, ◌++◌, ◌∙◌}
-use Rattle.gitodb.specs.Print.{line_of}
-use Rattle.gitodb.proofs.PrintLemmas.{printed_at-nothing, printed_at-more}
+use Rattle.odb_print.specs.Print.{line_of}
+use Rattle.odb_print.proofs.PrintLemmas.{printed_at-nothing, printed_at-more}
 use Rattle.gitodb.proofs.world_command.print_places.Goals as goal
 
 pub loop-place-init : goal.loop-place-init

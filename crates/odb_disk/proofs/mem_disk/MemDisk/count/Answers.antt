@@ -1,5 +1,5 @@
 use Rattle.std.proofs.Common.{◌∙◌, sym, ap, subst}
-use Rattle.odb_disk.specs.Calls as calls
+use Rattle.odb_sources.specs.Calls as calls
 use Rattle.odb_tree.specs.Tree.{IsTree, tree_of, state_of}
 use Rattle.odb_disk.specs.MemDisk.{Volume, after_call}
 use Rattle.odb_disk.specs.declared.mem_disk.MemDisk.TheInside.{Inside}

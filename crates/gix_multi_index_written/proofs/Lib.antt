@@ -1,0 +1,6 @@
+mod MultiIndexExamples
+mod PlacedPackRowLemmas
+mod WrittenMultiIndexLemmas
+mod WrittenChunkLemmas
+mod WrittenPartsLemmas
+mod ReadMultiIndexLemmas

@@ -1,0 +1,4 @@
+-- What is written for a multi-pack index; then how the encoder goes through it.
+pub mod WrittenMultiIndex
+pub mod MultiIndexChunks
+pub mod PlacedPackRow

@@ -1,0 +1,2 @@
+-- Laws of these lines, for callers.
+pub mod PrintLemmas

@@ -1,0 +1,2 @@
+-- The lines that are written for outcomes.
+pub mod Print

@@ -1,0 +1,12 @@
+-- A write that follows adds to the front that is written; one that failed leaves it.
+use Rattle.std.proofs.Common.{arith}
+use Rattle.odb_sources.proofs.SourceLemmas.{Written-more, Adds-front, OnErr-always}
+use Rattle.odb_sources.proofs.source.write_all.Goals as goal
+
+pub returns-in_err-count-clause-err : goal.returns-in_err-count-clause-err
+returns-in_err-count-clause-err g c =
+    let front = Adds-front _ _ _ _ _ _ c.writing.invariant.0 c.in_err-count.ensures.bytes in OnErr-always _ front
+
+pub writing-preserved : goal.writing-preserved
+writing-preserved g c =
+    (rw c.split_at.ensures.back (Written-more _ _ _ _ _ _ c.writing.invariant.0 c.in_ok-count.ensures.bytes), omega (arith, c.in_ok-count.ensures.cause.later, c.writing.invariant.1))
