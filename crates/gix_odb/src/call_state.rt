@@ -127,7 +127,10 @@ impl CallState {
                 Ok(reply) => Ok(reply),
                 Err(look) => Err(CallState::Looking(look)),
             },
-            CallState::Refreshing { refresh, write } => Err(CallState::Refreshing { refresh, write }),
+            CallState::Refreshing { refresh, write } => Err(CallState::Refreshing {
+                refresh,
+                write,
+            }),
             CallState::Writing(call) => match call.into_reply() {
                 Ok(reply) => Ok(told(reply)),
                 Err(call) => Err(CallState::Writing(call)),

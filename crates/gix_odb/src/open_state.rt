@@ -29,7 +29,9 @@ pub enum OpenState {
         minimum: u32,
     },
     /// The store's core is to be made, with so many slots, and the handle to be registered at it.
-    Registering { slots: u16 },
+    Registering {
+        slots: u16,
+    },
     Done(Reply),
 }
 
@@ -126,15 +128,15 @@ fn refused(error: init::Error) -> OpenState
 }
 
 /// What comes behind the look at the objects directory.
-fn after_look(
-    alloc: Global,
-    parts: &StoreParts,
-    answer: &DiskAnswer,
-) -> Result<OpenState, NoMemory>
+fn after_look(alloc: Global, parts: &StoreParts, answer: &DiskAnswer) -> Result<OpenState, NoMemory>
     ensures after { IfOk result (λ next. next ≡ order.looked parts.now.objects parts.now.slots answer.now) }
 {
     match answer {
-        DiskAnswer::Meta(meta) if meta.kind == Kind::Dir => begun(alloc, &parts.objects, parts.slots),
+        DiskAnswer::Meta(meta) if meta.kind == Kind::Dir => begun(
+            alloc,
+            &parts.objects,
+            parts.slots,
+        ),
         DiskAnswer::Refused(DiskError::Failed) => Ok(refused(init::Error::Io)),
         _ => Ok(refused(init::Error::NotADirectory)),
     }

@@ -20,10 +20,7 @@ pub enum Slots {
     Given(u16),
     /// As many as the indices that a listing finds when the store is opened ask for: so many in a hundred of them, and a
     /// number at least.
-    AsNeededByDiskState {
-        percent: u32,
-        minimum: u32,
-    },
+    AsNeededByDiskState { percent: u32, minimum: u32 },
 }
 
 impl Slots {

@@ -96,12 +96,11 @@ module _ (setting : Setting) where
       view_goes : (view : View) → view_in (Ok effect) ≡ Some view → (read : Bool) → view.read ≡ read
           → KnowsAt later looked (if read then stages.Ready else stages.Listing (lists.started setting.objects) view.list_no)
       view_goes view shown true is = none
-      view_goes view shown false is =
-          (
-            started_known setting,
-            none,
-            record { effect = effect; view = view; shown = shown; unread = is; told = Contains-push past (record { ask = asks.Core events.Look; answer = told.Core (Ok effect) }) },
-          )
+      view_goes view shown false is = (
+        started_known setting,
+        none,
+        record { effect = effect; view = view; shown = shown; unread = is; told = Contains-push past (record { ask = asks.Core events.Look; answer = told.Core (Ok effect) }) },
+      )
 
       shown_goes : (shown : Option View) → view_in (Ok effect) ≡ shown → KnowsAt later looked (by_look setting.objects shown)
       shown_goes None is = none
