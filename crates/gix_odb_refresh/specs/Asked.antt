@@ -1,0 +1,30 @@
+-- What a machine asked and was answered, one after another, for any machine that asks one thing at a time.
+use Rattle.std.specs.Prelude.{◌≡◌, List, [], ◌∷◌, Contains, Option, Some}
+use Rattle.odb_disk.specs.declared.ask.DiskAnswer.{DiskAnswer}
+use Rattle.odb_disk.specs.declared.ask.DiskAsk.{DiskAsk}
+use Rattle.gix_odb_packs.specs.declared.answer.Answer.{Answer}
+use Rattle.gix_odb_packs.specs.declared.answer.Answer.TheVariants as told
+use Rattle.gix_odb_packs.specs.declared.answer.PartAsk.{PartAsk}
+use Rattle.gix_odb_packs.specs.declared.answer.PartAsk.TheVariants as asks
+use Rattle.gix_odb_looks.specs.Exchange.{Exchange, IsAnswerTo}
+use Rattle.gix_odb_looks.specs.True.{Suits}
+
+-- Here `ask_of machine` is what a machine asks next, if anything, and `fed machine answer` is the machine behind an answer.
+module _ {Machine : Type 0} (ask_of : Machine → Option PartAsk) (fed : Machine → Answer → Machine) where
+  -- the machine behind exchanges
+  abbrev pub behind : Machine → List Exchange → Machine
+  behind machine [] = machine
+  behind machine (exchange ∷ exchanges) = behind (fed machine exchange.answer) exchanges
+
+  -- each exchange answers what the machine asked then
+  abbrev pub AreAsked : Machine → List Exchange → Type 0
+  AreAsked machine [] = Unit {0}
+  AreAsked machine (exchange ∷ exchanges) = (ask_of machine ≡ Some exchange.ask) × AreAsked (fed machine exchange.answer) exchanges
+
+-- an answer is one that its call of the disk has, and of the kind of its ask
+abbrev pub IsSuited : PartAsk → Answer → Type 0
+IsSuited (asks.Disk ask) (told.Disk answer) = Suits ask answer
+IsSuited ask answer = IsAnswerTo ask answer
+
+abbrev pub AreSuited : List Exchange → Type 0
+AreSuited exchanges = (exchange : Exchange) → Contains exchanges exchange → IsSuited exchange.ask exchange.answer
