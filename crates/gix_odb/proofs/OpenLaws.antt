@@ -9,6 +9,7 @@ use Rattle.odb_disk.specs.Ask.{change_of_ask}
 use Rattle.odb_disk.specs.declared.ask.DiskAsk.{DiskAsk}
 use Rattle.odb_disk.specs.declared.ask.DiskAsk.TheVariants as disk_asks
 use Rattle.odb_tree.specs.Tree.{Tree}
+use Rattle.gix_odb_slots.specs.PackId.{most_slots}
 use Rattle.gix_odb_packs.specs.ListOrder as lists
 use Rattle.gix_odb_packs.specs.declared.answer.Answer.{Answer}
 use Rattle.gix_odb_packs.specs.declared.answer.Answer.TheVariants as told
@@ -26,6 +27,7 @@ use Rattle.gix_odb_looks.specs.Shown.{folders_of}
 use Rattle.gix_odb_looks.proofs.HandedLaws.{IsOwnStream, left_open}
 use Rattle.gix_odb_looks.proofs.HandedLaws.Reading.{AsksOwn, ChangesNothing, lister_own, lister_reads, path_is_looked_at}
 use Rattle.gix_odb_looks.proofs.HandedLaws.Streams.{HasNone, IsOpen}
+use Rattle.gix_odb_looks.proofs.OpenLaws.{IsFolderOfPacks, lister_opens_there}
 use Rattle.gix_odb_refresh.specs.Asked.{AreSuited}
 use Rattle.gix_odb_refresh.proofs.RefreshLaws.Known.{told_of}
 use Rattle.gix_odb.specs.OpenOrder.{ask_of, registers}
@@ -48,6 +50,10 @@ module _ (setting : Setting) (slots : Slots) (exchanges : List Exchange) (asked 
   -- the number of slots of the core is the one that was given, or the one for as many indices as the listing found
   pub openings_register_their_number : (number : ℕ) → state ≡ opens.Registering number → IsNumber setting slots exchanges number
   openings_register_their_number number is = (subst (Knows setting slots exchanges) is knows).1
+
+  -- and no store may have more
+  pub openings_register_few_slots : (number : ℕ) → state ≡ opens.Registering number → number ≤ most_slots
+  openings_register_few_slots number is = (subst (Knows setting slots exchanges) is knows).2
 
   -- each error has its cause
   pub refused_openings_have_causes : (error : Error) → state ≡ opens.Done (replies.Refused (call_errors.Open error)) → IsCaused setting slots exchanges error
@@ -106,6 +112,17 @@ module _ (setting : Setting) (slots : Slots) (exchanges : List Exchange) (asked 
   -- it has none open where it opens one
   pub openings_open_one_stream_at_a_time : (path : Path) → asks_of setting state ≡ Some (asks.Disk (disk_asks.OpenDir path)) → left_open exchanges ≡ None
   openings_open_one_stream_at_a_time path is = asks_own state knows (disk_asks.OpenDir path) is
+
+  -- a directory that it opens is the folder of packs of one of the folders
+  pub openings_open_folders_of_packs : (path : Path) → asks_of setting state ≡ Some (asks.Disk (disk_asks.OpenDir path)) → IsFolderOfPacks setting path
+  openings_open_folders_of_packs path is = by state knows is
+    where
+      by : (now : OpenState) → Knows setting slots exchanges now → asks_of setting now ≡ Some (asks.Disk (disk_asks.OpenDir path)) → IsFolderOfPacks setting path
+      by opens.Looking known is = absurd (cc is)
+      by (opens.Listing lister percent minimum) known is =
+          let same : lists.ask_of lister ≡ disk_asks.OpenDir path = cc is in lister_opens_there setting path lister.head known.at lister.stage same
+      by (opens.Registering number) known is = absurd (cc is)
+      by (opens.Done reply) known is = absurd (cc is)
 
   -- and leaves none open when it calls the disk no more
   pub openings_leave_no_stream_open : asks_of setting state ≡ None → left_open exchanges ≡ None

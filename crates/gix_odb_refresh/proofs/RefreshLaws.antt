@@ -3,7 +3,7 @@ pub mod Known
 pub mod Causes
 mod Differ
 pub mod Turns
-use Rattle.std.proofs.Common.{◌≡◌, ◌⊎◌, inl, inr, ℕ, ◌≤◌, Bool, true, false, List, [], ◌∷◌, length, All, Option, Some, None, refl, sym, ap, ◌∙◌, subst}
+use Rattle.std.proofs.Common.{◌≡◌, ◌⊎◌, inl, inr, ℕ, ◌≤◌, Bool, true, false, List, [], ◌∷◌, length, All, Contains, Option, Some, None, refl, sym, ap, ◌∙◌, subst}
 use Rattle.std.specs.List.{IsDistinct}
 use Rattle.std.specs.Prelude.{if◌then◌else◌}
 use Rattle.std.proofs.lemmas.Option.{same_Some}
@@ -12,6 +12,7 @@ use Rattle.odb_disk.specs.Ask.{change_of_ask}
 use Rattle.odb_disk.specs.declared.ask.DiskAsk.{DiskAsk}
 use Rattle.odb_disk.specs.declared.ask.DiskAsk.TheVariants as disk_asks
 use Rattle.odb_tree.specs.Tree.{Tree}
+use Rattle.gix_hash.specs.declared.kind.Kind.{Kind as HashKind}
 use Rattle.gix_odb_slots.specs.Slots.{same_path}
 use Rattle.gix_odb_slots.specs.declared.listing.Listing.{Listing}
 use Rattle.gix_odb_core.specs.Replay.{CanHappen}
@@ -20,14 +21,16 @@ use Rattle.gix_odb_core.specs.declared.event.Event.TheVariants as events
 use Rattle.gix_odb_core.specs.declared.shape.Shape.{Shape}
 use Rattle.gix_odb_core.specs.declared.view.View.{View}
 use Rattle.gix_odb_packs.specs.ListOrder as lists
+use Rattle.gix_odb_packs.specs.PackFolder.{pack_folder}
 use Rattle.gix_odb_packs.specs.declared.answer.PartAsk.{PartAsk}
 use Rattle.gix_odb_packs.specs.declared.answer.PartAsk.TheVariants as asks
 use Rattle.gix_odb_calls.specs.declared.load_index.Error.{Error}
 use Rattle.gix_odb_looks.specs.Exchange.{AreAnswered, Exchange}
 use Rattle.gix_odb_looks.specs.Laps.{AreWithin, turns_of_lap}
 use Rattle.gix_odb_looks.specs.LookUpOrder.{Setting}
-use Rattle.gix_odb_looks.specs.Shown.{IsIndexRow, folders_of}
+use Rattle.gix_odb_looks.specs.Shown.{IsHanded, IsIndexRow, folders_of}
 use Rattle.gix_odb_looks.proofs.HandedLaws.{IsOfLooks, IsOwnStream, left_open}
+use Rattle.gix_odb_looks.proofs.OpenLaws.{IsFolderOfPacks, lister_opens_there}
 use Rattle.gix_odb_looks.proofs.HandedLaws.Reading.{AsksOwn, ChangesNothing, lister_own, lister_reads}
 use Rattle.gix_odb_looks.proofs.HandedLaws.Streams.{IsOpen}
 use Rattle.gix_odb_refresh.specs.Asked.{AreSuited}
@@ -45,6 +48,11 @@ use Rattle.gix_odb_refresh.proofs.RefreshLaws.Turns.{HasTurns, lap_is_wide, turn
 -- a refresh whose handle has seen a list that was read is ready
 pub a_read_snapshot_is_ready : (snapshot : View) → snapshot.read ≡ true → started snapshot ≡ stages.Ready
 a_read_snapshot_is_ready snapshot is = ap (λ (read : Bool). if read then stages.Ready else stages.Looking) is
+
+-- and stays so
+pub a_ready_refresh_stays_ready : (setting : Setting) (further : List Exchange) → behind setting stages.Ready further ≡ stages.Ready
+a_ready_refresh_stays_ready setting [] = refl
+a_ready_refresh_stays_ready setting (exchange ∷ further) = a_ready_refresh_stays_ready setting further
 
 -- a refresh asks nothing exactly where it is ready or refused
 pub a_refresh_that_asks_nothing_has_ended : (refresh : Refresh) → ask_of refresh ≡ None
@@ -96,6 +104,18 @@ module _ (setting : Setting) (snapshot : View) (exchanges : List Exchange) (aske
       by stages.Ready known is = absurd (cc is)
       by (stages.Refused error) known is = absurd (cc is)
 
+  -- so what is handed to the core is of the folders, whatever was shown of them
+  pub what_a_refresh_hands_on_is_of_the_folders : (Shown : Path → List ℕ → Type 0) (hash : HashKind) (event : Event) → ask_of refresh ≡ Some (asks.Core event)
+      → IsHanded Shown setting hash event
+  what_a_refresh_hands_on_is_of_the_folders Shown hash event is = handed_on (IsHanded Shown setting hash) refresh event (by refresh knows) is
+    where
+      by : (now : Refresh) → Knows setting exchanges now → HandsOn (IsHanded Shown setting hash) now
+      by stages.Looking known = tt
+      by (stages.Listing lister base) known = tt
+      by (stages.Publishing listing) known = known.1
+      by stages.Ready known = tt
+      by (stages.Refused error) known = tt
+
   -- what is handed to the core can happen there: the rows of a listing have different paths
   pub what_a_refresh_hands_on_can_happen : IsDistinct same_path (folders_of setting) → (event : Event) → ask_of refresh ≡ Some (asks.Core event)
       → (shape : Shape) (seat : ℕ) → CanHappen shape seat event
@@ -146,6 +166,19 @@ module _ (setting : Setting) (snapshot : View) (exchanges : List Exchange) (aske
   pub refreshes_open_one_stream_at_a_time : (path : Path) → ask_of refresh ≡ Some (asks.Disk (disk_asks.OpenDir path)) → left_open exchanges ≡ None
   refreshes_open_one_stream_at_a_time path is = asks_own refresh knows (disk_asks.OpenDir path) is
 
+  -- a directory that it opens is the folder of packs of one of the folders
+  pub refreshes_open_folders_of_packs : AreSuited exchanges → (path : Path) → ask_of refresh ≡ Some (asks.Disk (disk_asks.OpenDir path))
+      → IsFolderOfPacks setting path
+  refreshes_open_folders_of_packs suited path is = by refresh (refresh_caused setting snapshot exchanges asked suited) is
+    where
+      by : (now : Refresh) → CausedAt setting exchanges now → ask_of now ≡ Some (asks.Disk (disk_asks.OpenDir path)) → IsFolderOfPacks setting path
+      by stages.Looking sound is = absurd (cc is)
+      by (stages.Listing lister base) sound is =
+          let same : lists.ask_of lister ≡ disk_asks.OpenDir path = cc is in lister_opens_there setting path lister.head sound.0 lister.stage same
+      by (stages.Publishing listing) sound is = absurd (cc is)
+      by stages.Ready sound is = absurd (cc is)
+      by (stages.Refused error) sound is = absurd (cc is)
+
   -- and leaves none open when it has ended
   pub refreshes_leave_no_stream_open : ask_of refresh ≡ None → left_open exchanges ≡ None
   refreshes_leave_no_stream_open is = by refresh knows is
@@ -168,14 +201,10 @@ module _ (setting : Setting) (snapshot : View) (exchanges : List Exchange) (aske
   only_unread_stores_are_refused error is =
       record { handle = unread snapshot.read refl; core = (subst (Knows setting exchanges) is knows).1 }
     where
-      ready_stays : (further : List Exchange) → behind setting stages.Ready further ≡ stages.Ready
-      ready_stays [] = refl
-      ready_stays (exchange ∷ further) = ready_stays further
-
       unread : (read : Bool) → snapshot.read ≡ read → snapshot.read ≡ false
       unread false same = same
       unread true same =
-          let ready : refresh ≡ stages.Ready = ap (λ (now : Refresh). behind setting now exchanges) (a_read_snapshot_is_ready snapshot same) ∙ ready_stays exchanges in
+          let ready : refresh ≡ stages.Ready = ap (λ (now : Refresh). behind setting now exchanges) (a_read_snapshot_is_ready snapshot same) ∙ a_ready_refresh_stays_ready setting exchanges in
           let wrong : stages.Ready ≡ stages.Refused error = sym ready ∙ is in
           absurd (cc wrong)
 

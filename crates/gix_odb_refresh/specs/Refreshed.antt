@@ -1,5 +1,5 @@
 -- What a refresh is told, and why one is refused.
-use Rattle.std.specs.Prelude.{◌≡◌, ◌⊎◌, false, List, Some, Ok, Err}
+use Rattle.std.specs.Prelude.{◌≡◌, ◌⊎◌, ℕ, false, List, Some, Ok, Err}
 use Rattle.gix_odb_core.specs.Replay.{view_in}
 use Rattle.gix_odb_core.specs.declared.event.Effect.{Effect}
 use Rattle.gix_odb_core.specs.declared.event.Event.TheVariants as events
@@ -24,6 +24,10 @@ behind setting refresh exchanges = any.behind ask_of (fed setting.objects settin
 
 abbrev pub AreAsked : Setting → Refresh → List Exchange → Type 0
 AreAsked setting refresh exchanges = any.AreAsked ask_of (fed setting.objects setting.folders) refresh exchanges
+
+-- how many of the exchanges a refresh asked for: those behind which it is ready or refused are another's
+abbrev pub turns_of : Setting → Refresh → List Exchange → ℕ
+turns_of setting refresh exchanges = any.turns_of ask_of (fed setting.objects setting.folders) refresh exchanges
 
 -- ---- causes
 

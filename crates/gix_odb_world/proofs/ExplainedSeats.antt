@@ -1,5 +1,5 @@
 -- Where the handles of a world that some events lead to stand at its cores, by its own table, and what they may ask there.
-use Rattle.std.proofs.Common.{◌≡◌, ℕ, ◌<◌, Bool, false, List, length, Option, Some, None, IsProp, refl, sym, ◌∙◌, subst, arith, inl, inr}
+use Rattle.std.proofs.Common.{◌≡◌, ℕ, ◌<◌, Bool, List, length, Option, Some, None, IsProp, refl, sym, ◌∙◌, subst, arith, inl, inr}
 use Rattle.std.specs.Prelude.{IsSome, unwrap_or}
 use Rattle.std.proofs.lemmas.Bool.{cases_lt}
 use Rattle.std.proofs.lemmas.Map.Keys.{IsDistinct-prop}
@@ -121,7 +121,7 @@ module _ (world : Course) (h : HasHistory world) where
     happens (Working running) is match asked = happens_at running is match.0 match.1 asked
 
   can_happen_call : (number : ℕ) (state : HandleState) (work : Work) → handle_at world number ≡ Some (record { state = state; work = Some work })
-      → registers_in work ≡ false → (ask : Option PartAsk) → ask_on state work ≡ ask → CanHappenAt world.cores.items number state ask
+      → registers_in work ≡ None → (ask : Option PartAsk) → ask_on state work ≡ ask → CanHappenAt world.cores.items number state ask
   can_happen_call number state work there other None is = tt
   can_happen_call number state work there other (Some (asks.Disk ask)) is = tt
   can_happen_call number state work there other (Some (asks.Core event)) is =

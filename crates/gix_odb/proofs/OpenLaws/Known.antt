@@ -63,7 +63,7 @@ module _ (setting : Setting) (slots : Slots) where
   abbrev pub KnowsAt : Told → List Exchange → OpenState → Type 0
   KnowsAt now past opens.Looking = HasNone now × (past ≡ [])
   KnowsAt now past (opens.Listing lister percent minimum) = Lists now past lister percent minimum
-  KnowsAt now past (opens.Registering number) = HasNone now × IsNumber setting slots past number
+  KnowsAt now past (opens.Registering number) = HasNone now × IsNumber setting slots past number × (number ≤ most_slots)
   KnowsAt now past (opens.Done reply) = HasNone now × IsExplained setting slots past reply
 
   abbrev pub Knows : List Exchange → OpenState → Type 0
@@ -77,7 +77,7 @@ module _ (setting : Setting) (slots : Slots) where
       where
         by : (few : Bool) → nat_le number most_slots ≡ few
             → KnowsAt now more (if few then opens.Registering number else refused (opening_errors.TooManySlots number))
-        by true e = (none, is)
+        by true e = (none, is, grind (arith, e))
         by false e = (none, is, grind (arith, e))
 
   -- ---- the look
