@@ -1,13 +1,8 @@
 -- How many slots for indices a store is given, and the options of a store where nothing else is asked for.
-use Rattle.std.specs.Prelude.{ℕ, Option, Some, None}
+use Rattle.std.specs.Prelude.{None}
 use Rattle.gix_odb_calls.specs.declared.init.Options.{Options}
 use Rattle.gix_odb_calls.specs.declared.init.Slots.{Slots}
-use Rattle.gix_odb_calls.specs.declared.init.Slots.TheVariants.{AsNeededByDiskState, Given}
-
--- how many slots a store is given, if a number was
-abbrev pub given_slots : Slots → Option ℕ
-given_slots (Given slots) = Some slots
-given_slots (AsNeededByDiskState percent minimum) = None
+use Rattle.gix_odb_calls.specs.declared.init.Slots.TheVariants.{AsNeededByDiskState}
 
 -- eleven slots for ten indices that are there when the store is opened, and 32 at least
 abbrev pub default_slots : Slots

@@ -1,6 +1,6 @@
 //! Opening a store: the folders, the replaced ids and the options that an opening is handed, and why it was refused.
 ghost use Rattle.std.specs.Prelude.{◌≡◌, IfOk};
-ghost use Rattle.gix_odb_calls.specs.Slots.{default_options, default_slots, given_slots};
+ghost use Rattle.gix_odb_calls.specs.Slots.{default_options, default_slots};
 
 use crate::load_index;
 use gix_hash::ObjectId;
@@ -21,18 +21,6 @@ pub enum Slots {
     /// As many as the indices that a listing finds when the store is opened ask for: so many in a hundred of them, and a
     /// number at least.
     AsNeededByDiskState { percent: u32, minimum: u32 },
-}
-
-impl Slots {
-    /// The number that was given, if one was.
-    pub fn given(self) -> Option<u16>
-        ensures given { result ≡ given_slots self }
-    {
-        match self {
-            Slots::Given(slots) => Some(slots),
-            Slots::AsNeededByDiskState { .. } => None,
-        }
-    }
 }
 
 impl Default for Slots {
