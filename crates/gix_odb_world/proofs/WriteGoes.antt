@@ -172,13 +172,14 @@ module _ (first : Volume) (events : List Event) (e : Event) (handle : ℕ) (runn
         let added = on.had in
         let same = front in
         let since = at.since in
-        let longer = length_push events e in (
+        let longer = length_push events e in
+        let count : running.turns + 1 ≡ turns_in_front whole handle running.store running.modes running.begun + on.now.own = omega (arith, had, added, same) in (
           record {
             writing = on.now;
             task = at.task ∙ ap (λ w. MakeCall (call_to_write w)) (sym on.same);
             since = omega (arith, since, longer);
             ready = ready;
-            turns = omega (arith, had, added, same);
+            turns = count;
             short = λ entries most. subst (λ n. n ≤ lap entries) (sym front) (short entries most);
           },
           in_time on.few,

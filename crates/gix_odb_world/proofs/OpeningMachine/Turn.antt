@@ -177,7 +177,8 @@ module _ (first : Volume) (events : List Event) (handle : ℕ) (running : Runnin
       in_time entries most =
           let long = longer in
           let within = well.within entries (subst (λ n. HasAtMost (tree_at first whole) store.parts running.begun n entries) (sym (length_push events e)) most) in
-          let few = an_opening_takes_at_most_a_lap setting slots (told_since whole handle running.begun) all_asked well.suited entries within well.answered in
+          let few : length (told_since whole handle running.begun) + 1 ≤ turns_of_lap 0 (length (folder_list store.parts)) entries =
+          an_opening_takes_at_most_a_lap setting slots (told_since whole handle running.begun) all_asked well.suited entries within well.answered in
           within_laps running.turns (turns_of_lap 0 (length (folder_list store.parts)) entries) (omega (arith, long, few))
 
       refused : (error : opening_error.Error) → next ≡ opens.Done (replies.Refused (call_errors.Open error))

@@ -104,7 +104,7 @@ module _ (first : Volume) (events : List Event) (e : Event) (handle : ℕ) (stor
       task = refl;
       since = since;
       ready = now_is ∙ ready;
-      turns = let none_yet = no_turns in omega (arith, none_yet);
+      turns = sym (ap (λ n. n + 0) no_turns);
       short = λ entries most. subst (λ n. n ≤ turns_of_lap modes.slots (length (folder_list store.parts)) entries) (sym no_turns) (omega arith);
     }
 

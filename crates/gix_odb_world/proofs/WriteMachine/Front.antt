@@ -183,7 +183,8 @@ module _ (first : Volume) (events : List Event) (handle : ℕ) (running : Runnin
         ready : next ≡ fronts.Ready → MachineComes first events e handle running writing asked (Err (Own (write_at knows.write (Making 0))))
         ready same =
             let front : turns_in_front whole handle store running.modes running.begun ≡ length all = front_asked whole handle store running.modes running.begun all_asked in
-            let long = longer in (
+            let long = longer in
+            let counted : running.turns + 1 ≡ turns_in_front whole handle store running.modes running.begun + 0 = omega (arith, front, long) in (
               record {
                 writing = record {
                   write = knows.write;
@@ -198,7 +199,7 @@ module _ (first : Volume) (events : List Event) (handle : ℕ) (running : Runnin
                 task = knows.of.task;
                 since = since;
                 ready = subst (λ n. refresh_now whole handle store (record running.modes { core = n }) running.begun ≡ fronts.Ready) (sym core) (sym stands ∙ same);
-                turns = subst (λ n. running.turns + 1 ≡ turns_in_front whole handle store (record running.modes { core = n }) running.begun + 0) (sym core) (omega (arith, front, long));
+                turns = subst (λ n. running.turns + 1 ≡ turns_in_front whole handle store (record running.modes { core = n }) running.begun + 0) (sym core) counted;
                 short = λ entries most.
                     subst (λ n. turns_in_front whole handle store (record running.modes { core = n }) running.begun
                     ≤ turns_of_lap (modes_after asked running.modes).slots (length (folder_list store.parts)) entries) (sym core)
