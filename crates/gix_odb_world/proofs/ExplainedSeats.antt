@@ -1,5 +1,5 @@
 -- Where the handles of a world that some events lead to stand at its cores, by its own table, and what they may ask there.
-use Rattle.std.proofs.Common.{◌≡◌, ℕ, ◌<◌, Bool, List, length, Option, Some, None, IsProp, refl, sym, ◌∙◌, subst, arith, inl, inr}
+use Rattle.std.proofs.Common.{◌≡◌, ℕ, ◌<◌, Bool, true, false, List, length, Option, Some, None, refl, sym, ◌∙◌, subst, arith, inl, inr}
 use Rattle.std.specs.Prelude.{IsSome, unwrap_or}
 use Rattle.std.proofs.lemmas.Bool.{cases_lt}
 use Rattle.std.proofs.lemmas.Map.Keys.{IsDistinct-prop}
@@ -142,20 +142,6 @@ module _ (world : Course) (h : HasHistory world) where
 
 -- ---- the same of a world of which it is known that some events lead there
 
--- nothing more is told of what can happen than that it can
-can_happen_is_so : (shape : Shape) (seat : ℕ) (event : CoreEvent) → IsProp (CanHappen shape seat event)
-can_happen_is_so shape seat (core_events.Register stable) = hlevel
-can_happen_is_so shape seat core_events.Upgrade = hlevel
-can_happen_is_so shape seat core_events.Remove = hlevel
-can_happen_is_so shape seat (core_events.Publish listing) = IsDistinct-prop same_path _
-can_happen_is_so shape seat event = hlevel
-
-can_happen_at_is_so : (cores : List History) (seat : ℕ) (state : HandleState) (ask : Option PartAsk) → IsProp (CanHappenAt cores seat state ask)
-can_happen_at_is_so cores seat state None = hlevel
-can_happen_at_is_so cores seat state (Some (asks.Disk ask)) = hlevel
-can_happen_at_is_so cores seat state (Some (asks.Core event)) =
-    let so = can_happen_is_so (present (history_at cores state.core)) seat event in hlevel
-
 pub below : (a n : ℕ) → ¬ (¬ (a < n)) → a < n
 below a n known = elim (cases_lt a n) [ inl less ↦ less | inr more ↦ absurd (known (λ less. omega (arith, less, more))) ]
 
@@ -167,12 +153,38 @@ taken_seat : (o : Option Bool) → ¬ (¬ (IsSome o)) → IsSome o
 taken_seat None known = absurd (known (λ some. cc some))
 taken_seat (Some stable) known = refl
 
+stable_seat : (o : Option Bool) → ¬ (¬ (o ≡ Some false)) → o ≡ Some false
+stable_seat None known = absurd (known (λ some. cc some))
+stable_seat (Some true) known = absurd (known (λ some. cc some))
+stable_seat (Some false) known = refl
+
 module _ (world : Course) (explained : IsExplained world) where
+  known : {P : Type 0} → (HasHistory world → P) → ¬ (¬ P)
+  known can = λ wrong. not_there explained (λ h. wrong (can h))
+
+  can_known : (shape : Shape) (number : ℕ) (event : CoreEvent) → (HasHistory world → CanHappen shape number event) → CanHappen shape number event
+  can_known shape number (core_events.Register stable) can = free_seat (registered shape.handles number) (known can)
+  can_known shape number core_events.Upgrade can = stable_seat (registered shape.handles number) (known can)
+  can_known shape number core_events.Remove can = taken_seat (registered shape.handles number) (known can)
+  can_known shape number core_events.Look can = tt
+  can_known shape number core_events.Report can = tt
+  can_known shape number (core_events.PutIndex slot path file) can = tt
+  can_known shape number (core_events.PutPack pack path file) can = tt
+  can_known shape number (core_events.PassOver slot path why) can = tt
+  can_known shape number (core_events.Publish listing) can = ∥∥₁_elim explained (IsDistinct-prop same_path _) can
+
+  can_known_at : (number : ℕ) (state : HandleState) (ask : Option PartAsk) → (HasHistory world → CanHappenAt world.cores.items number state ask)
+      → CanHappenAt world.cores.items number state ask
+  can_known_at number state None can = tt
+  can_known_at number state (Some (asks.Disk ask)) can = tt
+  can_known_at number state (Some (asks.Core event)) can = (
+    below state.core (length world.cores.items) (known (λ h. (can h).0)),
+    can_known (present (history_at world.cores.items state.core)) number event (λ h. (can h).1),
+  )
+
   pub turn_can_happen : (number : ℕ) (state : HandleState) (work : Work) → handle_at world number ≡ Some (record { state = state; work = Some work })
       → CanHappenAt world.cores.items number state (ask_on state work)
-  turn_can_happen number state work there =
-      ∥∥₁_elim explained (can_happen_at_is_so world.cores.items number state (ask_on state work))
-      (λ h. can_happen_now world h number state work there)
+  turn_can_happen number state work there = can_known_at number state (ask_on state work) (λ h. can_happen_now world h number state work there)
 
   pub close_sits : (number : ℕ) (handle : Handle) → why_not_now world (steps.Close number) ≡ None → handle_at world number ≡ Some handle
       → SitsAt world.cores.items handle.state.core number
