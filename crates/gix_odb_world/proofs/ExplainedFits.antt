@@ -1,5 +1,5 @@
 -- For the store of a handle that its work is to register a core can be made.
-use Rattle.std.proofs.Common.{◌≡◌, ℕ, ◌+◌, ◌≤◌, Bool, true, false, List, length, take, Option, Some, None, refl, sym, ◌∙◌, ap, subst, arith}
+use Rattle.std.proofs.Common.{◌≡◌, ℕ, ◌+◌, ◌≤◌, Bool, true, false, List, length, take, Some, None, refl, sym, ◌∙◌, ap, subst, arith}
 use Rattle.std.specs.Prelude.{◌&&◌, nat_le}
 use Rattle.std.proofs.lemmas.Grind.{not_there}
 use Rattle.odb_base.specs.Path.{Path}
@@ -21,7 +21,7 @@ use Rattle.gix_odb_world.specs.Handle.{IsHandleOf}
 use Rattle.gix_odb_world.specs.Headline.{IsLawful}
 use Rattle.gix_odb_world.specs.Running.{Knows, Runs}
 use Rattle.gix_odb_world.specs.Status.{Free, Resting, Running, Status, Store, Working, setting_in, status_of}
-use Rattle.gix_odb_world.specs.Table.{FitsAsked, FitsCore}
+use Rattle.gix_odb_world.specs.Table.{FitsCore}
 use Rattle.gix_odb_world.specs.Told.{told_since}
 use Rattle.gix_odb_world.specs.Valid.{Phase, NoneThere, Idle, Running as Runs_on, is_openable, misuse_of, most_folders, phase_after, why_not_after, why_not_open}
 use Rattle.gix_odb_world.specs.WorkOrder.{registers_in}
@@ -62,48 +62,48 @@ few_if_opened first events handle begun store lawful o =
 
 module _ (first : Volume) (events : List Event) (handle : ℕ) (running : Running) (code : HandleState) (lawful : IsLawful first events)
     (begins : BegunAs events handle running.begun running.store running.task) (own : IsHandleOf running.store running.modes code) where
-  fits_at : (work : Work) → Knows first events handle running work → FitsAsked code (registers_in work)
-  fits_at (Opening opens.Looking) knows = tt
-  fits_at (Opening (opens.Listing lister percent minimum)) knows = tt
-  fits_at (Opening (opens.Registering slots)) knows = record {
-    few =
-        openings_register_few_slots (setting_in running.store) running.store.slots (told_since events handle running.begun) knows.asked knows.well.suited slots
-        (sym knows.is);
-    folders =
-        subst (λ (l : List Path). length l ≤ most_folders) (sym own.folders)
-        (few_if_opened first events handle running.begun running.store lawful (subst (BegunAs events handle running.begun running.store) knows.task begins));
-  }
-  fits_at (Opening (opens.Done reply)) knows = tt
-  fits_at (Calling state) knows = tt
+  fits_at : (work : Work) → Knows first events handle running work → (slots : ℕ) → registers_in work ≡ Some slots → FitsCore slots code
+  fits_at (Opening opens.Looking) knows slots registers = absurd (cc registers)
+  fits_at (Opening (opens.Listing lister percent minimum)) knows slots registers = absurd (cc registers)
+  fits_at (Opening (opens.Registering number)) knows slots registers =
+      let same : number ≡ slots = cc registers in
+      let fits : FitsCore number code =
+      record {
+        few =
+            openings_register_few_slots (setting_in running.store) running.store.slots (told_since events handle running.begun) knows.asked knows.well.suited number
+            (sym knows.is);
+        folders =
+            subst (λ (l : List Path). length l ≤ most_folders) (sym own.folders)
+            (few_if_opened first events handle running.begun running.store lawful (subst (BegunAs events handle running.begun running.store) knows.task begins));
+      } in
+      subst (λ (n : ℕ). FitsCore n code) same fits
+  fits_at (Opening (opens.Done reply)) knows slots registers = absurd (cc registers)
+  fits_at (Calling state) knows slots registers = absurd (cc registers)
 
 fits_by : (first : Volume) (events : List Event) (handle : ℕ) (status : Status) (code : HandleState) (work : Work) → IsLawful first events
     → Matches status (Some (record { state = code; work = Some work })) → Runs first events handle status → Stems events handle status
-    → FitsAsked code (registers_in work)
-fits_by first events handle Free code work lawful match runs stems = absurd match
-fits_by first events handle (Resting store modes) code work lawful match runs stems = absurd (cc match.1)
-fits_by first events handle (Working running) code work lawful match runs stems =
+    → (slots : ℕ) → registers_in work ≡ Some slots → FitsCore slots code
+fits_by first events handle Free code work lawful match runs stems slots registers = absurd match
+fits_by first events handle (Resting store modes) code work lawful match runs stems slots registers = absurd (cc match.1)
+fits_by first events handle (Working running) code work lawful match runs stems slots registers =
     let both : Some work ≡ Some running.work = match.1 in
     let same : work ≡ running.work = cc both in
-    subst (λ (w : Work). FitsAsked code (registers_in w)) (sym same) (fits_at first events handle running code lawful stems.1.begins match.0 running.work runs.1)
+    fits_at first events handle running code lawful stems.1.begins match.0 running.work runs.1 slots (ap registers_in (sym same) ∙ registers)
 
 -- ---- of a world of which it is known that some events lead there
 
 module _ (world : Course) (number : ℕ) (code : HandleState) (work : Work) (there : handle_at world number ≡ Some (record { state = code; work = Some work }))
     (explained : IsExplained world) where
-  fits_in : HasHistory world → FitsAsked code (registers_in work)
+  fits_in : HasHistory world → (slots : ℕ) → registers_in work ≡ Some slots → FitsCore slots code
   fits_in h =
       fits_by h.first h.events number (status_of h.events number) code work h.explains.lawful
       (subst (Matches (status_of h.events number)) there (h.explains.handles number)) (h.explains.running number)
       (stems_now h.first h.events h.explains.lawful number)
 
-  fits_so : (asked : Option ℕ) → registers_in work ≡ asked → FitsAsked code asked
-  fits_so None is = tt
-  fits_so (Some slots) is =
-      let fits : HasHistory world → FitsCore slots code = λ h. subst (FitsAsked code) is (fits_in h) in
-      let few = below slots (most_slots + 1) (λ wrong. not_there explained (λ h. wrong (let own = (fits h).few in omega (arith, own)))) in
+  pub fits_core : (slots : ℕ) → registers_in work ≡ Some slots → FitsCore slots code
+  fits_core slots registers =
+      let few = below slots (most_slots + 1) (λ wrong. not_there explained (λ h. wrong (let own = (fits_in h slots registers).few in omega (arith, own)))) in
       let folders =
-      below (length code.store.value.folders) (most_folders + 1) (λ wrong. not_there explained (λ h. wrong (let own = (fits h).folders in omega (arith, own)))) in
+      below (length code.store.value.folders) (most_folders + 1)
+      (λ wrong. not_there explained (λ h. wrong (let own = (fits_in h slots registers).folders in omega (arith, own)))) in
       record { few = omega (arith, few); folders = omega (arith, folders) }
-
-  pub fits_core : FitsAsked code (registers_in work)
-  fits_core = fits_so (registers_in work) refl

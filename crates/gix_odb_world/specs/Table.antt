@@ -132,11 +132,6 @@ pub record FitsCore (slots : ℕ) (state : HandleState) : Type 0 where
   pub few : slots ≤ most_slots
   pub folders : length state.store.value.folders ≤ most_folders
 
--- the same where one is asked for
-abbrev pub FitsAsked : HandleState → (asked : Option ℕ) → Type 0
-FitsAsked state None = Unit {0}
-FitsAsked state (Some slots) = FitsCore slots state
-
 -- a core with so many slots was added for the store of a handle, and the handle registered there, which handed over a view
 pub record AddsCore (cores cores_then : List History) (slots seat : ℕ) (state : HandleState) (view : View) : Type 0 where
   pub core : History

@@ -1,5 +1,5 @@
 //! A turn of a handle: the one call of the disk or event of a core that its work names, and what the turn comes to.
-ghost use Rattle.std.specs.Prelude.{if◌then◌else◌, ◌≡◌, ◌<◌, length, IfOk, OnOk, None, Some};
+ghost use Rattle.std.specs.Prelude.{if◌then◌else◌, ◌≡◌, ◌<◌, ℕ, length, IfOk, OnOk, None, Some};
 ghost use Rattle.std.specs.Option.{option_map};
 ghost use Rattle.odb_disk.specs.Ask.{after_ask, answer_now};
 ghost use Rattle.odb_disk.specs.MemDisk.{Volume};
@@ -14,7 +14,7 @@ ghost use Rattle.gix_odb_world.specs.Status.{after_reply};
 ghost use Rattle.gix_odb_world.specs.Headline.{outcome_of};
 ghost use Rattle.gix_odb_world.specs.WorkOrder.{ask_on, fed_on, registers_in, result_in};
 ghost use Rattle.gix_odb_world.specs.Table as tables;
-ghost use Rattle.gix_odb_world.specs.Table.{AddsCore, CanHappenAt, Carries, CarriesEvent, FitsAsked, FitsCore, after_turn, carried_at, carried_unasked, change_now, did_now, told_in};
+ghost use Rattle.gix_odb_world.specs.Table.{AddsCore, CanHappenAt, Carries, CarriesEvent, FitsCore, after_turn, carried_at, carried_unasked, change_now, did_now, told_in};
 
 use crate::cores::{EventDone, applied, core_with};
 use crate::handle::Handle;
@@ -46,7 +46,7 @@ pub fn carried_out(
     state: HandleState,
     work: Work,
 ) -> Result<Carried, NoMemory>
-    requires fits { FitsAsked state (registers_in work) }
+    requires fits { (slots : ℕ) → registers_in work ≡ Some slots → FitsCore slots state }
     requires can_happen { CanHappenAt cores.old.items seat state (ask_on state work) }
     ensures carried { IfOk result (Carries disk.old disk.new cores.old.items cores.new.items state work (told_in cores.old.items disk.old seat state work)) }
 {
