@@ -30,8 +30,8 @@ with `#` say nothing. See docs/SCRIPT.md for the whole language.
   link PATH TARGET           a link is there at the start
   steps                      the steps begin
 
-  open H PATH slots=N        handle H begins to open the store at PATH; further
-                             options: folder=PATH, replace=HEX:HEX, limit=N,
+  open H PATH                handle H begins to open the store at PATH; options:
+                             slots=N, folder=PATH, replace=HEX:HEX, limit=N,
                              changes=N, hash=sha256
   clone NEW H                NEW is a further handle on the store of an idle
                              handle H

@@ -1,1 +1,4 @@
+-- Laws of openings that other crates may cite; and the lemmas of this crate.
+pub mod OpenLaws
+mod SlotsLemmas
 mod WriteLemmas

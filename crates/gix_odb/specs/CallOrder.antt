@@ -1,4 +1,5 @@
--- The order of work of a call: an object is looked for in the store, or written into the objects directory.
+-- The order of work of a call: an object is looked for in the store, or written into the objects directory. In front of a write the list
+-- of the store is read, where it was not.
 use Rattle.std.specs.Prelude.{◌≡◌, ℕ, ◌<◌, ◌^◌, true, List, Option, Some, None, Result, Ok, Err}
 use Rattle.odb_base.specs.Path.{Path}
 use Rattle.odb_disk.specs.declared.ask.DiskAsk.{DiskAsk}
@@ -19,10 +20,13 @@ use Rattle.gix_odb_calls.specs.declared.call.CallError.TheVariants as call_error
 use Rattle.gix_odb_calls.specs.declared.call.Reply.{Reply}
 use Rattle.gix_odb_calls.specs.declared.call.Reply.TheVariants as replies
 use Rattle.gix_odb.specs.declared.call_state.CallState.{CallState}
-use Rattle.gix_odb.specs.declared.call_state.CallState.TheVariants.{Looking, Writing}
+use Rattle.gix_odb.specs.declared.call_state.CallState.TheVariants.{Looking, Refreshing, Refused, Writing}
 use Rattle.gix_odb_looks.specs.declared.look_up.LookUp.{LookUp}
 use Rattle.gix_odb_looks.specs.LookUpOrder as looks
 use Rattle.gix_odb_looks.specs.LookUpOrder.{Setting}
+use Rattle.gix_odb_refresh.specs.RefreshOrder as refreshes
+use Rattle.gix_odb_refresh.specs.declared.refresh.Refresh.{Refresh}
+use Rattle.gix_odb_refresh.specs.declared.refresh.Refresh.TheVariants as fronts
 use Rattle.gix_odb_core.specs.declared.view.View.{View}
 use Rattle.gix_odb_packs.specs.declared.answer.Answer.{Answer}
 use Rattle.gix_odb_packs.specs.declared.answer.Answer.TheVariants as told
@@ -30,6 +34,7 @@ use Rattle.gix_odb_packs.specs.declared.answer.PartAsk.{PartAsk}
 use Rattle.gix_odb_packs.specs.declared.answer.PartAsk.TheVariants as asks
 use Rattle.gix_odb_calls.specs.declared.query.Query.{Query}
 use Rattle.gix_odb_calls.specs.declared.query.Query.TheVariants.{Find, Header, Test}
+use Rattle.gix_odb_calls.specs.declared.load_index.Error as load
 use Rattle.gix_odb_calls.specs.declared.write.Error.TheVariants as write_errors
 
 -- ---- a write
@@ -56,6 +61,10 @@ replied_by call (Some reply) = Ok (wrote_as reply)
 abbrev pub result_of_write : LooseCall → Result Reply LooseCall
 result_of_write call = replied_by call (reply_of call)
 
+-- a write whose store could not be listed
+abbrev pub unlisted : load.Error → Reply
+unlisted error = replies.Refused (call_errors.Write (write_errors.LoadIndex error))
+
 -- the size of a write has 64 bits
 abbrev pub HasSize : Call → Type 0
 HasSize (call_kinds.Write kind size bytes id) = size < 2 ^ 64
@@ -71,12 +80,19 @@ IsOfHash hash call = is_of_hash hash call ≡ true
 abbrev pub looking : Setting → View → (sought : Query → ObjectId) → Query → CallState
 looking setting view sought query = Looking (looks.started setting view query (sought query))
 
+-- a write and what stands in front of it: it begins where that is ready
+abbrev pub fronted : Refresh → LooseCall → CallState
+fronted fronts.Ready write = Writing write
+fronted (fronts.Refused error) write = Refused error
+fronted refresh write = Refreshing refresh write
+
 -- a new call in a store of a hash
 abbrev pub started : Setting → HashKind → View → (sought : Query → ObjectId) → Call → CallState
 started setting hash view sought (call_kinds.Find id) = looking setting view sought (Find id)
 started setting hash view sought (call_kinds.Header id) = looking setting view sought (Header id)
 started setting hash view sought (call_kinds.Test id) = looking setting view sought (Test id)
-started setting hash view sought (call_kinds.Write kind size bytes id) = Writing (writing setting.objects hash kind size bytes id)
+started setting hash view sought (call_kinds.Write kind size bytes id) =
+    fronted (refreshes.started view) (writing setting.objects hash kind size bytes id)
 
 -- a call of the disk as what is asked for
 abbrev pub disk_part : Option DiskAsk → Option PartAsk
@@ -86,7 +102,9 @@ disk_part (Some ask) = Some (asks.Disk ask)
 -- what is asked for next, if anything is: of the disk, or of the store's core
 abbrev pub ask_of : CallState → Option PartAsk
 ask_of (Looking look) = looks.ask_of look
+ask_of (Refreshing refresh write) = refreshes.ask_of refresh
 ask_of (Writing call) = disk_part (disk_ask_of call)
+ask_of (Refused error) = None
 
 abbrev pub looking_result : Result Reply LookUp → Result Reply CallState
 looking_result (Ok reply) = Ok reply
@@ -99,7 +117,9 @@ writing_result (Err call) = Err (Writing call)
 -- the reply of a call that is done, or the call
 abbrev pub result_of : CallState → Result Reply CallState
 result_of (Looking look) = looking_result (looks.result_of look)
+result_of (Refreshing refresh write) = Err (Refreshing refresh write)
 result_of (Writing call) = writing_result (result_of_write call)
+result_of (Refused error) = Ok (unlisted error)
 
 -- a write after an answer. One of the core leaves it
 abbrev pub written_on : LooseCall → Answer → LooseCall
@@ -109,9 +129,14 @@ written_on call (told.Core answer) = call
 -- a call after the answer to what it asked for
 abbrev pub fed : Setting → CallState → Answer → CallState
 fed setting (Looking look) answer = Looking (looks.fed setting look answer)
+fed setting (Refreshing refresh write) answer = fronted (refreshes.fed setting.objects setting.folders refresh answer) write
 fed setting (Writing call) answer = Writing (written_on call answer)
+fed setting (Refused error) answer = Refused error
 
--- the path with which the stream was opened that the next call of the disk is on, where it is on one: only a look-up lists folders
+-- the path with which the stream was opened that the next call of the disk is on, where it is on one: a look-up lists folders, and so does what
+-- stands in front of a write
 abbrev pub opened_in : CallState → Option Path
 opened_in (Looking look) = looks.opened_in look
+opened_in (Refreshing refresh write) = refreshes.opened_in refresh
 opened_in (Writing call) = None
+opened_in (Refused error) = None

@@ -1,5 +1,5 @@
 -- What a handle of the code knows of its store, and what it seeks for a query.
-use Rattle.std.specs.Prelude.{false, [], Option, unwrap_or}
+use Rattle.std.specs.Prelude.{false, List, [], Option, unwrap_or}
 use Rattle.std.specs.BTreeMap.{get}
 use Rattle.odb_base.specs.Path.{Path}
 use Rattle.gix_hash.specs.declared.kind.Kind.{Kind as HashKind}
@@ -7,6 +7,7 @@ use Rattle.gix_hash.specs.declared.object_id.ObjectId.{ObjectId}
 use Rattle.gix_hash.specs.ObjectId.{id_cmp}
 use Rattle.gix_odb_core.specs.declared.view.Snapshot.{Snapshot}
 use Rattle.gix_odb_core.specs.declared.view.View.{View}
+use Rattle.gix_odb_calls.specs.declared.init.Slots.{Slots}
 use Rattle.gix_odb_looks.specs.LookUpOrder.{Setting}
 use Rattle.gix_odb.specs.Contents.{replaced, sought_with}
 use Rattle.gix_odb.specs.declared.handle_state.HandleState.{HandleState}
@@ -18,6 +19,13 @@ objects_of handle = handle.store.value.objects
 
 abbrev pub hash_of : HandleState → HashKind
 hash_of handle = handle.store.value.object_hash
+
+abbrev pub folders_of : HandleState → List Path
+folders_of handle = handle.store.value.folders
+
+-- how many slots the store is to have
+abbrev pub slots_of : HandleState → Slots
+slots_of handle = handle.store.value.slots
 
 -- what a look-up is told of the store
 abbrev pub setting_at : HandleState → Setting

@@ -4,3 +4,4 @@ pub mod Held
 pub mod HandleState
 pub mod CallOrder
 pub mod OpenOrder
+pub mod OpenExchanges

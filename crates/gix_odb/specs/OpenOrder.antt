@@ -1,5 +1,6 @@
--- The order of work of an opening: one look at the objects directory, and then a core for the store, at which the handle is registered.
-use Rattle.std.specs.Prelude.{ℕ, Bool, true, false, nat_le, Option, Some, None, Result, Ok, Err, if◌then◌else◌}
+-- The order of work of an opening: one look at the objects directory; a listing of the folders of packs, where the store is to have as
+-- many slots as its indices ask for; and then a core for the store, at which the handle is registered.
+use Rattle.std.specs.Prelude.{ℕ, ◌*◌, ◌/◌, max, true, nat_le, List, length, Option, Some, None, Result, Ok, Err, if◌then◌else◌}
 use Rattle.odb_base.specs.Path.{Path}
 use Rattle.odb_disk.specs.declared.ask.DiskAsk.{DiskAsk}
 use Rattle.odb_disk.specs.declared.ask.DiskAsk.TheVariants as asks
@@ -9,54 +10,92 @@ use Rattle.odb_tree.specs.declared.disk_error.DiskError.TheVariants as disk_erro
 use Rattle.odb_tree.specs.declared.meta.Kind.{Kind}
 use Rattle.odb_tree.specs.declared.meta.Kind.TheVariants as kinds
 use Rattle.gix_odb_slots.specs.PackId.{most_slots}
+use Rattle.gix_odb_packs.specs.ListOrder as lists
+use Rattle.gix_odb_packs.specs.declared.lister.ListStep.{ListStep}
+use Rattle.gix_odb_packs.specs.declared.lister.ListStep.TheVariants as listed
 use Rattle.gix_odb_calls.specs.declared.call.Reply.{Reply}
 use Rattle.gix_odb_calls.specs.declared.call.Reply.TheVariants as replies
 use Rattle.gix_odb_calls.specs.declared.call.CallError.TheVariants as call_errors
 use Rattle.gix_odb_calls.specs.declared.init.Error as opening
 use Rattle.gix_odb_calls.specs.declared.init.Error.TheVariants as opening_errors
+use Rattle.gix_odb_calls.specs.declared.init.Slots.{Slots}
+use Rattle.gix_odb_calls.specs.declared.init.Slots.TheVariants.{AsNeededByDiskState, Given}
+use Rattle.gix_odb_calls.specs.declared.load_index.Error.TheVariants as load_errors
 use Rattle.gix_odb.specs.declared.open_state.OpenState.{OpenState}
 use Rattle.gix_odb.specs.declared.open_state.OpenState.TheVariants as opens
 
--- An opening looks at the objects directory, links followed. Where it registers its handle, it calls no disk.
+-- ---- asks
+
+-- An opening looks at the objects directory, links followed, and lists the folders of packs. Where it registers its handle, it calls no
+-- disk.
 abbrev pub ask_of : Path → OpenState → Option DiskAsk
 ask_of objects opens.Looking = Some (asks.Look objects true)
-ask_of objects opens.Registering = None
+ask_of objects (opens.Listing lister percent minimum) = Some (lists.ask_of lister)
+ask_of objects (opens.Registering slots) = None
 ask_of objects (opens.Done reply) = None
 
--- whether it asks for a core, at which its handle is registered
-abbrev pub registers : OpenState → Bool
-registers opens.Looking = false
-registers opens.Registering = true
-registers (opens.Done reply) = false
+-- the path with which the stream was opened that a call of the disk may be on
+abbrev pub opened_in : OpenState → Option Path
+opened_in (opens.Listing lister percent minimum) = Some lister.head.folder
+opened_in state = None
+
+-- where it asks for a core, at which its handle is registered: with so many slots
+abbrev pub registers : OpenState → Option ℕ
+registers (opens.Registering slots) = Some slots
+registers state = None
+
+-- ---- how many slots
+
+-- as many as the indices, where the number is more than a store may have
+abbrev pub slots_within : (indices slots : ℕ) → ℕ
+slots_within indices slots = if nat_le slots most_slots then slots else indices
+
+-- so many in a hundred of the indices, and a number at least
+abbrev pub slots_for : (percent minimum indices : ℕ) → ℕ
+slots_for percent minimum indices = slots_within indices (max (indices * percent / 100) minimum)
 
 abbrev pub refused : opening.Error → OpenState
 refused error = opens.Done (replies.Refused (call_errors.Open error))
 
--- where there is a directory, the handle is to be registered, unless more slots are asked for than a store may have
-abbrev pub shown : ℕ → Kind → OpenState
-shown slots kinds.Dir = if nat_le slots most_slots then opens.Registering else refused (opening_errors.TooManySlots slots)
-shown slots kind = refused opening_errors.NotADirectory
+-- the handle is to be registered, unless a store may not have so many slots
+abbrev pub numbered : ℕ → OpenState
+numbered slots = if nat_le slots most_slots then opens.Registering slots else refused (opening_errors.TooManySlots slots)
+
+-- ---- answers
+
+-- the objects directory is there
+abbrev pub begun : Path → Slots → OpenState
+begun objects (Given slots) = numbered slots
+begun objects (AsNeededByDiskState percent minimum) = opens.Listing (lists.started objects) percent minimum
+
+abbrev pub shown : Path → Slots → Kind → OpenState
+shown objects slots kinds.Dir = begun objects slots
+shown objects slots kind = refused opening_errors.NotADirectory
 
 -- a failed call is an error of its own; whatever else a look is refused by, there is no directory
-abbrev pub looked : ℕ → DiskAnswer → OpenState
-looked slots (answers.Meta meta) = shown slots meta.kind
-looked slots (answers.Refused disk_errors.Failed) = refused opening_errors.Io
-looked slots answer = refused opening_errors.NotADirectory
+abbrev pub looked : Path → Slots → DiskAnswer → OpenState
+looked objects slots (answers.Meta meta) = shown objects slots meta.kind
+looked objects slots (answers.Refused disk_errors.Failed) = refused opening_errors.Io
+looked objects slots answer = refused opening_errors.NotADirectory
 
--- an opening after the answer to its look
-abbrev pub fed : ℕ → OpenState → DiskAnswer → OpenState
-fed slots opens.Looking answer = looked slots answer
-fed slots opens.Registering answer = opens.Registering
-fed slots (opens.Done reply) answer = opens.Done reply
+-- the slots are for the rows of the listing
+abbrev pub listed_on : (percent minimum : ℕ) → ListStep → OpenState
+listed_on percent minimum (listed.More lister) = opens.Listing lister percent minimum
+listed_on percent minimum (listed.Rows rows) = numbered (slots_for percent minimum (length rows))
+listed_on percent minimum listed.Broken = refused (opening_errors.LoadIndex load_errors.Io)
+
+-- an opening after the answer to its call of the disk, in a store of these folders that is to have these slots
+abbrev pub fed : (objects : Path) → (folders : List Path) → Slots → OpenState → DiskAnswer → OpenState
+fed objects folders slots opens.Looking answer = looked objects slots answer
+fed objects folders slots (opens.Listing lister percent minimum) answer = listed_on percent minimum (lists.fed folders lister answer)
+fed objects folders slots (opens.Registering number) answer = opens.Registering number
+fed objects folders slots (opens.Done reply) answer = opens.Done reply
 
 -- one whose handle was registered has opened its store
-abbrev pub registered : ℕ → OpenState → OpenState
-registered slots opens.Looking = opens.Looking
-registered slots opens.Registering = opens.Done (replies.Opened slots)
-registered slots (opens.Done reply) = opens.Done reply
+abbrev pub registered : OpenState → OpenState
+registered (opens.Registering slots) = opens.Done (replies.Opened slots)
+registered state = state
 
--- the reply of an opening that is done, or the opening
 abbrev pub result_of : OpenState → Result Reply OpenState
-result_of opens.Looking = Err opens.Looking
-result_of opens.Registering = Err opens.Registering
 result_of (opens.Done reply) = Ok reply
+result_of state = Err state

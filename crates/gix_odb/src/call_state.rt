@@ -2,20 +2,22 @@
 ghost use Rattle.std.specs.Prelude.{◌≡◌, ◌<◌, ◌^◌, IfOk};
 ghost use Rattle.std.specs.Option.{option_map};
 ghost use Rattle.gix_odb_loose.specs.LooseOrder.{disk_ask_of};
-ghost use Rattle.gix_odb.specs.CallOrder.{HasSize, IsOfHash, ask_of, disk_part, opened_in, result_of, started, writing, wrote_as};
+ghost use Rattle.gix_odb.specs.CallOrder.{HasSize, IsOfHash, ask_of, disk_part, fronted, opened_in, result_of, started, writing, wrote_as};
 ghost use Rattle.gix_odb.specs.CallOrder as calls;
 ghost use Rattle.gix_odb_looks.specs.LookUpOrder as looks;
+ghost use Rattle.gix_odb_refresh.specs.RefreshOrder as refreshes;
 ghost use Rattle.gix_odb.specs.HandleState.{hash_of, setting_at, sought_by, view_at};
 
 use crate::handle_state::HandleState;
 use crate::unseen::unseen;
 use gix_hash::ObjectId;
 use gix_object::Kind;
-use gix_odb_calls::{Call, CallError, Query, Reply, write};
+use gix_odb_calls::{Call, CallError, Query, Reply, load_index, write};
 use gix_odb_core::View;
 use gix_odb_looks::{LookUp, Setting};
 use gix_odb_loose::{LooseCall, LooseJob, LooseReply};
 use gix_odb_packs::{Answer, PartAsk};
+use gix_odb_refresh::Refresh;
 use odb_base::{NoMemory, PathText};
 use odb_disk::ByteList;
 use std::alloc::Global;
@@ -28,8 +30,12 @@ use std::alloc::Global;
 pub enum CallState {
     /// An object is looked for in the store.
     Looking(LookUp),
+    /// The list of the store is read, so that the write can begin.
+    Refreshing { refresh: Refresh, write: LooseCall },
     /// An object is being written, by a call of the objects directory, whose reply is that of the write.
     Writing(LooseCall),
+    /// The list of the store could not be read, so nothing is written.
+    Refused(load_index::Error),
 }
 
 impl CallState {
@@ -51,7 +57,7 @@ impl CallState {
                 id,
             } => {
                 let parts = handle.parts();
-                begun(
+                let write = begun(
                     alloc,
                     &parts.objects,
                     parts.object_hash,
@@ -59,7 +65,8 @@ impl CallState {
                     *size,
                     bytes,
                     *id,
-                )
+                )?;
+                Ok(fronted(refresh_of(handle), write))
             }
         }
     }
@@ -70,7 +77,9 @@ impl CallState {
     {
         match self {
             CallState::Looking(look) => look.ask(alloc),
+            CallState::Refreshing { refresh, .. } => refresh.ask(alloc),
             CallState::Writing(call) => write_ask(alloc, call),
+            CallState::Refused(_) => Ok(None),
         }
     }
 
@@ -80,7 +89,8 @@ impl CallState {
     {
         match self {
             CallState::Looking(look) => look.opened(),
-            CallState::Writing(_) => None,
+            CallState::Refreshing { refresh, .. } => refresh.opened(),
+            CallState::Writing(_) | CallState::Refused(_) => None,
         }
     }
 
@@ -99,7 +109,12 @@ impl CallState {
                 let setting = setting_of(handle);
                 Ok(CallState::Looking(look.feed(alloc, &setting, answer)?))
             }
+            CallState::Refreshing { refresh, write } => {
+                let refresh = refresh.feed(alloc, handle.parts(), answer)?;
+                Ok(fronted(refresh, write))
+            }
             CallState::Writing(call) => Ok(CallState::Writing(written_on(alloc, call, answer)?)),
+            CallState::Refused(error) => Ok(CallState::Refused(error)),
         }
     }
 
@@ -112,10 +127,15 @@ impl CallState {
                 Ok(reply) => Ok(reply),
                 Err(look) => Err(CallState::Looking(look)),
             },
+            CallState::Refreshing { refresh, write } => Err(CallState::Refreshing {
+                refresh,
+                write,
+            }),
             CallState::Writing(call) => match call.into_reply() {
                 Ok(reply) => Ok(told(reply)),
                 Err(call) => Err(CallState::Writing(call)),
             },
+            CallState::Refused(error) => Ok(unlisted(error)),
         }
     }
 }
@@ -179,6 +199,27 @@ fn looking_from(
     Ok(CallState::Looking(look))
 }
 
+// What stands in front of a write. A handle that has no snapshot yet looks at the core.
+fn refresh_of(handle: &HandleState) -> Refresh
+    ensures begun { result ≡ refreshes.started (view_at handle.now) }
+{
+    match &handle.view {
+        Some(view) => Refresh::start(view),
+        None => Refresh::Looking,
+    }
+}
+
+// A write and what stands in front of it: it begins where that is ready.
+fn fronted(refresh: Refresh, write: LooseCall) -> CallState
+    ensures fronted { result ≡ fronted refresh write }
+{
+    match refresh {
+        Refresh::Ready => CallState::Writing(write),
+        Refresh::Refused(error) => CallState::Refused(error),
+        refresh => CallState::Refreshing { refresh, write },
+    }
+}
+
 // The write of an object into a folder, with a hash.
 fn begun(
     alloc: Global,
@@ -188,9 +229,9 @@ fn begun(
     size: u64,
     bytes: &ByteList,
     id: Option<ObjectId>,
-) -> Result<CallState, NoMemory>
+) -> Result<LooseCall, NoMemory>
     requires of_hash { IsOfHash hash (Call.Write kind size bytes.now id) }
-    ensures begun { IfOk result (λ state. state ≡ CallState.Writing (writing folder.now hash kind size bytes.now id)) }
+    ensures begun { IfOk result (λ call. call ≡ writing folder.now hash kind size bytes.now id) }
     ensures sized { size < 2 ^ 64 }
 {
     let bytes = bytes.try_clone(alloc)?;
@@ -204,7 +245,14 @@ fn begun(
         bytes,
         id,
     };
-    Ok(CallState::Writing(LooseCall::start(alloc, &store, job)?))
+    LooseCall::start(alloc, &store, job)
+}
+
+// The reply of a write whose store could not be listed.
+fn unlisted(error: load_index::Error) -> Reply
+    ensures unlisted { result ≡ calls.unlisted error }
+{
+    Reply::Refused(CallError::Write(write::Error::LoadIndex(error)))
 }
 
 // The reply of a write, by that of the objects directory.

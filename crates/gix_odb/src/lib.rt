@@ -2,8 +2,8 @@
 //!
 //! A call is a machine: it names one call of the disk or one event of the store's core at a time, takes the answer, and
 //! comes to a reply. The order of
-//! work is in `specs/{OpenOrder,CallOrder}.antt`, of a query in `gix_odb_looks`; what a store holds, and for how long, in
-//! `specs/{Contents,Moments,Held}.antt`. Who drives the machines, over which disk, is the matter of the crates above.
+//! work is in `specs/{OpenOrder,CallOrder}.antt`, of a query in `gix_odb_looks`, of what stands in front of a write in
+//! `gix_odb_refresh`; what a store holds, and for how long, in `specs/{Contents,Moments,Held}.antt`. Who drives the machines, over which disk, is the matter of the crates above.
 //! ```rust
 //! let mut state = CallState::start(alloc, &handle, &Call::Find(id))?;
 //! while let Some(ask) = state.ask(alloc)? {
@@ -24,5 +24,6 @@ pub use gix_odb_calls::{
     copy_of_paths, find, init, load_index, write,
 };
 pub use gix_odb_looks::LookUp;
+pub use gix_odb_refresh::Refresh;
 pub use handle_state::HandleState;
 pub use open_state::OpenState;

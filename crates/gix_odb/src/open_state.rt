@@ -1,26 +1,37 @@
 //! The order of work of an opening.
-ghost use Rattle.std.specs.Prelude.{◌≡◌, ◌↔◌, IsTrue, true, IfOk};
-ghost use Rattle.gix_odb.specs.HandleState.{objects_of};
-ghost use Rattle.gix_odb.specs.OpenOrder.{ask_of, looked, result_of, shown};
-ghost use Rattle.gix_odb.specs.OpenOrder.{fed as fed_with, registered as registered_with, registers as registers_at};
+ghost use Rattle.std.specs.Prelude.{◌≡◌, IfOk, true};
+ghost use Rattle.std.specs.Option.{option_map};
+ghost use Rattle.gix_odb.specs.HandleState.{folders_of, objects_of, slots_of};
+ghost use Rattle.gix_odb.specs.OpenOrder.{ask_of, opened_in, result_of};
+ghost use Rattle.gix_odb.specs.OpenOrder as order;
 
 use crate::handle_state::HandleState;
-use gix_odb_calls::{CallError, Reply, init};
-use odb_base::NoMemory;
+use gix_odb_calls::{CallError, Reply, Slots, StoreParts, init, load_index};
+use gix_odb_packs::{ListStep, Lister};
+use odb_base::{NoMemory, PathText};
 use odb_disk::{DiskAnswer, DiskAsk, DiskError, Kind};
 use std::alloc::Global;
 
 /// The most slots that a store may have: 2^15 - 1. A pack's number has 32 bits, and the lowest 15 of them are the slot
 /// that its index stands in (`PackId::to_intrinsic_pack_id` of `gix_odb_core`).
-const MAX_SLOTS: u16 = 32767;
+const MAX_SLOTS: u64 = 32767;
 
 /// Where an opening stands.
 #[derive(Drop)]
 pub enum OpenState {
     /// The objects directory is to be looked at.
     Looking,
-    /// The store's core is to be made, and the handle to be registered at it.
-    Registering,
+    /// The folders of packs are listed, since the store is to have slots for so many in a hundred of its indices, and a
+    /// number at least.
+    Listing {
+        lister: Lister,
+        percent: u32,
+        minimum: u32,
+    },
+    /// The store's core is to be made, with so many slots, and the handle to be registered at it.
+    Registering {
+        slots: u16,
+    },
     Done(Reply),
 }
 
@@ -31,36 +42,62 @@ impl OpenState {
     {
         match self {
             OpenState::Looking => Ok(Some(look_at(alloc, handle)?)),
-            OpenState::Registering | OpenState::Done(_) => Ok(None),
+            OpenState::Listing { lister, .. } => Ok(Some(lister.ask(alloc)?)),
+            OpenState::Registering { .. } | OpenState::Done(_) => Ok(None),
         }
     }
 
-    /// Whether what comes next is the making of the store's core.
-    pub fn registers(&self) -> bool
-        ensures registers { result ≡ registers_at self.now }
-    {
-        matches!(self, OpenState::Registering)
-    }
-
-    /// The opening after the answer to its call of the disk.
-    pub fn feed(self, slots: u16, answer: &DiskAnswer) -> OpenState
-        ensures fed { result ≡ fed_with slots self answer.now }
+    /// The path with which the stream was opened that the next call of the disk is on, where it is on one.
+    pub fn opened(&self) -> Option<&PathText>
+        ensures opened { option_map (λ path. path.now) result ≡ opened_in self.now }
     {
         match self {
-            OpenState::Looking => after_look(slots, answer),
-            OpenState::Registering => OpenState::Registering,
-            OpenState::Done(reply) => OpenState::Done(reply),
+            OpenState::Listing { lister, .. } => Some(lister.folder()),
+            _ => None,
+        }
+    }
+
+    /// With how many slots the store's core is to be made, if that is what comes next.
+    pub fn registers(&self) -> Option<u16>
+        ensures registers { result ≡ order.registers self.now }
+    {
+        match self {
+            OpenState::Registering { slots } => Some(*slots),
+            _ => None,
+        }
+    }
+
+    /// The opening after the answer to its call of the disk, for the handle that it is to register.
+    pub fn feed(
+        self,
+        alloc: Global,
+        handle: &HandleState,
+        answer: DiskAnswer,
+    ) -> Result<OpenState, NoMemory>
+        ensures fed { IfOk result (λ next. next ≡ order.fed (objects_of handle.now) (folders_of handle.now) (slots_of handle.now) self answer) }
+    {
+        match self {
+            OpenState::Looking => after_look(alloc, handle.parts(), &answer),
+            OpenState::Listing {
+                lister,
+                percent,
+                minimum,
+            } => {
+                let folders = handle.parts().folders.as_slice();
+                let step = lister.feed(alloc, folders, answer)?;
+                Ok(listed_on(percent, minimum, step))
+            }
+            state => Ok(state),
         }
     }
 
     /// The opening after its handle was registered at the store's core.
-    pub fn registered(self, slots: u16) -> OpenState
-        ensures registered { result ≡ registered_with slots self }
+    pub fn registered(self) -> OpenState
+        ensures registered { result ≡ order.registered self }
     {
         match self {
-            OpenState::Looking => OpenState::Looking,
-            OpenState::Registering => OpenState::Done(Reply::Opened { slots }),
-            OpenState::Done(reply) => OpenState::Done(reply),
+            OpenState::Registering { slots } => OpenState::Done(Reply::Opened { slots }),
+            state => state,
         }
     }
 
@@ -69,9 +106,8 @@ impl OpenState {
         ensures replied { result ≡ result_of self }
     {
         match self {
-            OpenState::Looking => Err(OpenState::Looking),
-            OpenState::Registering => Err(OpenState::Registering),
             OpenState::Done(reply) => Ok(reply),
+            state => Err(state),
         }
     }
 }
@@ -85,26 +121,78 @@ fn look_at(alloc: Global, handle: &HandleState) -> Result<DiskAsk, NoMemory>
     })
 }
 
-fn after_look(slots: u16, answer: &DiskAnswer) -> OpenState
-    ensures after { result ≡ looked slots answer.now }
+fn refused(error: init::Error) -> OpenState
+    ensures refused { result ≡ order.refused error }
 {
-    let error = match answer {
-        DiskAnswer::Meta(meta) => return after_kind(slots, meta.kind),
-        DiskAnswer::Refused(DiskError::Failed) => init::Error::Io,
-        _ => init::Error::NotADirectory,
-    };
     OpenState::Done(Reply::Refused(CallError::Open(error)))
 }
 
-fn after_kind(slots: u16, kind: Kind) -> OpenState
-    ensures after { result ≡ shown slots kind }
+/// What comes behind the look at the objects directory.
+fn after_look(alloc: Global, parts: &StoreParts, answer: &DiskAnswer) -> Result<OpenState, NoMemory>
+    ensures after { IfOk result (λ next. next ≡ order.looked parts.now.objects parts.now.slots answer.now) }
 {
-    let error = match kind {
-        Kind::Dir if slots <= MAX_SLOTS => return OpenState::Registering,
-        Kind::Dir => init::Error::TooManySlots {
-            asked: u64::from(slots),
+    match answer {
+        DiskAnswer::Meta(meta) if meta.kind == Kind::Dir => begun(
+            alloc,
+            &parts.objects,
+            parts.slots,
+        ),
+        DiskAnswer::Refused(DiskError::Failed) => Ok(refused(init::Error::Io)),
+        _ => Ok(refused(init::Error::NotADirectory)),
+    }
+}
+
+/// What comes where the objects directory is there: its core, or a listing, to count the indices.
+fn begun(alloc: Global, objects: &PathText, slots: Slots) -> Result<OpenState, NoMemory>
+    ensures begun { IfOk result (λ next. next ≡ order.begun objects.now slots) }
+{
+    match slots {
+        Slots::Given(slots) => Ok(numbered(u64::from(slots))),
+        Slots::AsNeededByDiskState { percent, minimum } => Ok(OpenState::Listing {
+            lister: Lister::start(alloc, objects)?,
+            percent,
+            minimum,
+        }),
+    }
+}
+
+/// What comes behind a step of the listing.
+fn listed_on(percent: u32, minimum: u32, step: ListStep) -> OpenState
+    ensures listed { result ≡ order.listed_on percent minimum step }
+{
+    match step {
+        ListStep::More(lister) => OpenState::Listing {
+            lister,
+            percent,
+            minimum,
         },
-        _ => init::Error::NotADirectory,
-    };
-    OpenState::Done(Reply::Refused(CallError::Open(error)))
+        ListStep::Rows(rows) => numbered(slots_for(percent, minimum, rows.len())),
+        ListStep::Broken => refused(init::Error::LoadIndex(load_index::Error::Io)),
+    }
+}
+
+/// How many slots a store is to have for so many indices.
+#[tactic(auto, using(crate::proofs::SlotsLemmas::part_fits))]
+fn slots_for(percent: u32, minimum: u32, indices: usize) -> u64
+    ensures slots { result ≡ order.slots_for percent minimum indices }
+{
+    let part = indices as u128 * u128::from(percent) / 100;
+    let slots = part.max(u128::from(minimum));
+    if slots <= u128::from(MAX_SLOTS) {
+        slots as u64
+    } else {
+        indices as u64
+    }
+}
+
+/// The core is to be made, unless no store may have so many slots.
+fn numbered(slots: u64) -> OpenState
+    ensures numbered { result ≡ order.numbered slots }
+{
+    if slots <= MAX_SLOTS {
+        let slots = slots as u16;
+        OpenState::Registering { slots }
+    } else {
+        refused(init::Error::TooManySlots { asked: slots })
+    }
 }

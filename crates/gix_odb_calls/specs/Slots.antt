@@ -1,8 +1,12 @@
--- How many slots for indices a store has.
-use Rattle.std.specs.Prelude.{ℕ}
+-- How many slots for indices a store is given, and the options of a store where nothing else is asked for.
+use Rattle.std.specs.Prelude.{None}
+use Rattle.gix_odb_calls.specs.declared.init.Options.{Options}
 use Rattle.gix_odb_calls.specs.declared.init.Slots.{Slots}
-use Rattle.gix_odb_calls.specs.declared.init.Slots.TheVariants.{Given}
+use Rattle.gix_odb_calls.specs.declared.init.Slots.TheVariants.{AsNeededByDiskState}
 
--- how many slots a store is given
-abbrev pub given_slots : Slots → ℕ
-given_slots (Given slots) = slots
+-- eleven slots for ten indices that are there when the store is opened, and 32 at least
+abbrev pub default_slots : Slots
+default_slots = AsNeededByDiskState 110 32
+
+abbrev pub default_options : Options
+default_options = record { slots = default_slots; alloc_limit_bytes = None; max_changes = 16 }

@@ -1,7 +1,8 @@
 //! Opening a store: the folders, the replaced ids and the options that an opening is handed, and why it was refused.
 ghost use Rattle.std.specs.Prelude.{◌≡◌, IfOk};
-ghost use Rattle.gix_odb_calls.specs.Slots.{given_slots};
+ghost use Rattle.gix_odb_calls.specs.Slots.{default_options, default_slots};
 
+use crate::load_index;
 use gix_hash::ObjectId;
 use odb_base::{NoMemory, PathText, Sequence};
 use std::alloc::Global;
@@ -17,15 +18,18 @@ pub type IdPairs = Sequence<(ObjectId, ObjectId)>;
 #[derive(Clone, Copy)]
 pub enum Slots {
     Given(u16),
+    /// As many as the indices that a listing finds when the store is opened ask for: so many in a hundred of them, and a
+    /// number at least.
+    AsNeededByDiskState { percent: u32, minimum: u32 },
 }
 
-impl Slots {
-    /// How many slots those are.
-    pub fn count(self) -> u16
-        ensures counted { result ≡ given_slots self }
+impl Default for Slots {
+    fn default() -> Slots
+        ensures { result ≡ default_slots }
     {
-        match self {
-            Slots::Given(slots) => slots,
+        Slots::AsNeededByDiskState {
+            percent: 110,
+            minimum: 32,
         }
     }
 }
@@ -40,6 +44,18 @@ pub struct Options {
     pub max_changes: u32,
 }
 
+impl Default for Options {
+    fn default() -> Options
+        ensures { result ≡ default_options }
+    {
+        Options {
+            slots: Slots::default(),
+            alloc_limit_bytes: None,
+            max_changes: 16,
+        }
+    }
+}
+
 /// Why an opening was refused.
 #[derive(Clone, Copy, Debug, Error)]
 pub enum Error {
@@ -52,6 +68,9 @@ pub enum Error {
     /// A call of the disk failed.
     #[error("the objects directory could not be looked at")]
     Io,
+    /// The indices of the store could not be listed.
+    #[error("{0}")]
+    LoadIndex(load_index::Error),
     #[error("out of memory")]
     NoMemory,
 }

@@ -1,5 +1,5 @@
 //! The parts of a store, which handles share.
-use crate::init::PathList;
+use crate::init::{PathList, Slots};
 use gix_hash::ObjectId;
 use odb_base::PathText;
 use std::collections::BTreeMap;
@@ -17,7 +17,7 @@ pub struct StoreParts {
     pub replacements: BTreeMap<ObjectId, ObjectId>,
     /// The most bytes of data that an object may have to be found, if there is a limit.
     pub alloc_limit_bytes: Option<u64>,
-    pub slots: u16,
+    pub slots: Slots,
     /// The most changes of the list of indices that a call bears.
     pub max_changes: u32,
 }

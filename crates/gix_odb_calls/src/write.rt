@@ -1,6 +1,7 @@
 //! Why a write was refused.
 ghost use Rattle.std.specs.Prelude.{◌≡◌, IfOk};
 
+use crate::load_index;
 use odb_base::NoMemory;
 use std::alloc::Global;
 use thiserror::Error;
@@ -11,6 +12,9 @@ pub enum Error {
     /// By the loose objects of the objects directory.
     #[error("{0}")]
     LooseWrite(gix_odb_loose::write::Error),
+    /// The indices of the store were never listed, and could not be.
+    #[error("{0}")]
+    LoadIndex(load_index::Error),
     #[error("out of memory")]
     NoMemory,
 }
@@ -22,6 +26,7 @@ impl Error {
     {
         match self {
             Error::LooseWrite(error) => Ok(Error::LooseWrite(error.try_clone(alloc)?)),
+            Error::LoadIndex(error) => Ok(Error::LoadIndex(*error)),
             Error::NoMemory => Ok(Error::NoMemory),
         }
     }

@@ -1,11 +1,11 @@
 -- Laws of look-ups: why one is refused, what it replies, and when it asks nothing more.
 mod Replies
-mod Folders
+pub mod Folders
 mod Standing
-mod Pasts
+pub mod Pasts
 mod Own
 mod Refusals
-mod Listers
+pub mod Listers
 mod Known
 mod Step
 use Rattle.std.proofs.Common.{◌≡◌, ℕ, ◌≤◌, ◌<◌, Bool, true, false, List, [], ◌∷◌, ◌++◌, Option, Some}

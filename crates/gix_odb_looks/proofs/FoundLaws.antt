@@ -5,7 +5,7 @@ pub mod Known
 mod Views
 mod Indices
 mod Trying
-mod Listing
+pub mod Listing
 mod Replies
 mod Looking
 pub mod Behind

@@ -1,11 +1,11 @@
 -- Laws of what a look-up hands to the disk and the core: its events can happen there, its calls of the disk change nothing, and the streams
 -- that it reads are its own.
 mod Differ
-mod Rows
+pub mod Rows
 mod Stages
-mod Listing
-mod Streams
-mod Reading
+pub mod Listing
+pub mod Streams
+pub mod Reading
 use Rattle.std.proofs.Common.{◌≡◌, ◌⊎◌, inl, inr, ℕ, List, [], ◌∷◌, Option, Some, None, Ok, refl, sym, ap, ◌∙◌, subst}
 use Rattle.std.specs.List.{IsDistinct}
 use Rattle.std.proofs.lemmas.Option.{same_Some}

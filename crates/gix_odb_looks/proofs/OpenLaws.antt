@@ -26,6 +26,7 @@ use Rattle.gix_odb_looks.specs.Shown.{IsShownView, folders_of}
 use Rattle.gix_odb_looks.specs.True.{AreTrue}
 use Rattle.gix_odb_looks.specs.declared.look_up.LookStage.{LookStage}
 use Rattle.gix_odb_looks.specs.declared.look_up.LookStage.TheVariants as stages
+use Rattle.gix_odb_looks.proofs.CauseLaws.Folders.{IsAtFolder}
 use Rattle.gix_odb_looks.proofs.FoundLaws.Behind.{look_known}
 use Rattle.gix_odb_looks.proofs.FoundLaws.Known.{KnowsListHead, KnowsLookStage}
 
@@ -42,14 +43,18 @@ module _ (setting : Setting) (path : Path) where
   abbrev pub IsFolderOfPacks : Type 0
   IsFolderOfPacks = (folder : Path) × Contains (folders_of setting) folder × (path ≡ pack_folder folder)
 
+  -- a lister that is at the folder of packs of one of the folders opens that one
+  pub lister_opens_there : (head : ListHead) → IsAtFolder setting head → (stage : ListStage) → lists.ask_at head.folder stage ≡ disk_asks.OpenDir path
+      → IsFolderOfPacks
+  lister_opens_there head at list_stages.Opening is = let same : head.folder ≡ path = cc is in (at.0, at.1, sym same ∙ at.2)
+  lister_opens_there head at (list_stages.Reading dir entries) is = absurd (cc is)
+  lister_opens_there head at (list_stages.Closing dir entries) is = absurd (cc is)
+  lister_opens_there head at (list_stages.Breaking dir) is = absurd (cc is)
+  lister_opens_there head at (list_stages.Index other left) is = absurd (cc is)
+  lister_opens_there head at (list_stages.Pack row left) is = absurd (cc is)
+
   lister_opens : (head : ListHead) → KnowsListHead setting head → (stage : ListStage) → lists.ask_at head.folder stage ≡ disk_asks.OpenDir path → IsFolderOfPacks
-  lister_opens head known list_stages.Opening is =
-      let same : head.folder ≡ path = cc is in (known.folder, known.among, sym same ∙ known.is)
-  lister_opens head known (list_stages.Reading dir entries) is = absurd (cc is)
-  lister_opens head known (list_stages.Closing dir entries) is = absurd (cc is)
-  lister_opens head known (list_stages.Breaking dir) is = absurd (cc is)
-  lister_opens head known (list_stages.Index other left) is = absurd (cc is)
-  lister_opens head known (list_stages.Pack row left) is = absurd (cc is)
+  lister_opens head known stage is = lister_opens_there head (known.folder, known.among, known.is) stage is
 
   loose_opens_none : (call : Option DiskAsk) → ((ask : DiskAsk) → call ≡ Some ask → is_of_streams ask ≡ false)
       → ¬ (loose_ask call ≡ Some (asks.Disk (disk_asks.OpenDir path)))

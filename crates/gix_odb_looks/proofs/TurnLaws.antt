@@ -1,6 +1,6 @@
 -- A look-up ends: as long as it goes on, it took fewer turns than its bound.
 mod TrierTurns
-mod ListerTurns
+pub mod ListerTurns
 mod LapsLeft
 mod TurnsLeft
 mod PartTurns

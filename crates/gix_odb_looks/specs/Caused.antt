@@ -49,6 +49,19 @@ abbrev pub TellsNumber : Answer → ℕ → Type 0
 TellsNumber (told.Core (Ok (effects.Outdated number))) now = number ≡ now
 TellsNumber answer now = (view : View) × (view_of answer ≡ Some view) × (view.list_no ≡ now)
 
+-- the folder of packs of one of the folders is none
+pub record IsNoFolder (setting : Setting) (exchanges : List Exchange) : Type 0 where
+  pub folder : Path
+  pub among : Contains (folders_of setting) folder
+  pub error : DiskError
+  pub blocked : IsBlocked error
+  pub told : WasTold exchanges (asks.Disk (disk_asks.OpenDir (pack_folder folder))) (told.Disk (disk_answers.Refused error))
+
+-- the core refused an event so
+pub record IsRefused (exchanges : List Exchange) (refusal : Refusal) : Type 0 where
+  pub event : Event
+  pub told : WasTold exchanges (asks.Core event) (told.Core (Err refusal))
+
 -- Here `Shown path bytes` says that a file with these bytes was shown at this path since the store was opened.
 module _ (Shown : Path → List ℕ → Type 0) (setting : Setting) (hash : Kind) (id : ObjectId) where
   -- An index gives the id an offset, at which its pack refuses what the query wants by this error. No limit refuses a header, and for a
@@ -68,19 +81,6 @@ module _ (Shown : Path → List ℕ → Type 0) (setting : Setting) (hash : Kind
     pub told : WasTold exchanges (asks.Disk (disk_asks.Read (pack_path path))) (told.Disk answer)
     pub none : IsNoPack hash answer
 
-  -- the folder of packs of a folder is none
-  pub record IsNoFolder (exchanges : List Exchange) : Type 0 where
-    pub folder : Path
-    pub among : Contains (folders_of setting) folder
-    pub error : DiskError
-    pub blocked : IsBlocked error
-    pub told : WasTold exchanges (asks.Disk (disk_asks.OpenDir (pack_folder folder))) (told.Disk (disk_answers.Refused error))
-
-  -- the core refused an event so
-  pub record IsRefused (exchanges : List Exchange) (refusal : Refusal) : Type 0 where
-    pub event : Event
-    pub told : WasTold exchanges (asks.Core event) (told.Core (Err refusal))
-
   -- Others published more lists than the look-up may meet: `begun` is the number of the list in the first view that it was handed,
   -- `own` counts the lists that it published, and `now` is the number that the last answer told.
   pub record IsUnsettled (exchanges : List Exchange) (begun own now : ℕ) : Type 0 where
@@ -92,7 +92,7 @@ module _ (Shown : Path → List ℕ → Type 0) (setting : Setting) (hash : Kind
     pub many : setting.most < now - begun - own
 
   abbrev pub IsLoadCaused : List Exchange → load.Error → Type 0
-  IsLoadCaused exchanges load_errors.Io = HasFailed exchanges ⊎ IsNoFolder exchanges
+  IsLoadCaused exchanges load_errors.Io = HasFailed exchanges ⊎ IsNoFolder setting exchanges
   IsLoadCaused exchanges (load_errors.InsufficientSlots current needed) = IsRefused exchanges (refusals.InsufficientSlots current needed)
   IsLoadCaused exchanges load_errors.GenerationOverflow = IsRefused exchanges refusals.GenerationOverflow
   IsLoadCaused exchanges (load_errors.Unsettled begun own now) = IsUnsettled exchanges begun own now

@@ -16,4 +16,5 @@
 mod load_index;
 mod look_up;
 
+pub use load_index::of_refusal;
 pub use look_up::{LookHead, LookStage, LookUp, LooseRound, Part, Purpose, Setting};

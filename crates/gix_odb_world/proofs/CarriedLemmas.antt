@@ -1,5 +1,5 @@
 -- The code of a turn carries out what the work asks for: a call of the disk, an event of a core, or a core for its store.
-use Rattle.std.proofs.Common.{◌≡◌, ℕ, ◌+◌, true, false, List, [], ◌∷◌, ◌++◌, length, Option, Some, None, Result, Ok, Err, refl, sym, ap, ◌∙◌}
+use Rattle.std.proofs.Common.{◌≡◌, ℕ, List, [], ◌∷◌, ◌++◌, length, Option, Some, None, Result, Ok, Err, refl, sym, ap, ◌∙◌}
 use Rattle.std.specs.Prelude.{if◌then◌else◌, IfOk, OnOk}
 use Rattle.odb_base.specs.declared.no_memory.NoMemory.{NoMemory}
 use Rattle.odb_tree.specs.Tree.{tree_of}
@@ -18,25 +18,22 @@ use Rattle.gix_odb_world.specs.declared.turn.Carried.{Carried}
 use Rattle.gix_odb_world.specs.declared.work.Work.{Work}
 use Rattle.gix_odb_world.specs.declared.work.Work.TheVariants.{Opening, Calling}
 use Rattle.gix_odb_world.specs.Cores.{cores_after_asked, or_before}
-use Rattle.gix_odb_world.specs.Event.{Ask, CoreAnswer, CoreEvent, OfCore, ToCore, ToDisk, ToNewCore, answered, part_asked}
+use Rattle.gix_odb_world.specs.Event.{Ask, CoreAnswer, CoreEvent, OfCore, ToCore, ToDisk, answered, part_asked}
 use Rattle.gix_odb_world.specs.Recorded.{opened_in}
 use Rattle.gix_odb_world.specs.Run.{Stand, change_asked, did_of_asked, disk_after_asked, stand, told_now}
 use Rattle.gix_odb_world.specs.Table.{AddsCore, Carries, CarriesEvent, carried_at, carried_unasked, change_now, did_now, own_answer, seeing, state_after, told_in}
-use Rattle.gix_odb_world.specs.WorkOrder.{ask_on, asks_on, fed_after, fed_on, registered_on, registers_in}
+use Rattle.gix_odb_world.specs.WorkOrder.{ask_on, asks_on, asks_or, core_for, fed_after, fed_on, registered_on, registers_in}
 use Rattle.gix_odb_world.proofs.FailedLemmas.{has_failed-now}
 use Rattle.gix_odb_world.proofs.WriteAsk.Quiet.{after_ask-change}
 
--- what work asks for that has a core made
-abbrev core_asked : HandleState → Option Ask
-core_asked state = Some (ToNewCore state.store.value.slots (length state.store.value.folders + 1))
-
-asks_core : (state : HandleState) (work : Work) → registers_in work ≡ true → asks_on state work ≡ core_asked state
-asks_core state work is = ap (λ b. if b then core_asked state else part_asked (ask_on state work)) is
+-- work that has a core made asks for that
+asks_core : (state : HandleState) (work : Work) (slots : ℕ) → registers_in work ≡ Some slots → asks_on state work ≡ Some (core_for state slots)
+asks_core state work slots is = ap (λ registers. asks_or state registers (ask_on state work)) is
 
 -- and other work asks for its call of the disk, or its event of a core
-pub asks_part : (state : HandleState) (work : Work) (ask : Option PartAsk) → registers_in work ≡ false → ask_on state work ≡ ask → part_asked ask ≡ asks_on state work
+pub asks_part : (state : HandleState) (work : Work) (ask : Option PartAsk) → registers_in work ≡ None → ask_on state work ≡ ask → part_asked ask ≡ asks_on state work
 asks_part state work ask other is =
-    sym (ap (λ b. if b then core_asked state else part_asked (ask_on state work)) other ∙ ap part_asked is)
+    sym (ap (λ registers. asks_or state registers (ask_on state work)) other ∙ ap part_asked is)
 
 -- a view that a handle sees changes nothing of how its work is fed
 pub fed_seeing : (state : HandleState) (view : Option View) (work : Work) (answer : parts.Answer) → fed_on (seeing state view) work answer ≡ fed_on state work answer
@@ -71,7 +68,7 @@ module _ (disk : Volume) (cores : List History) (seat : ℕ) (state : HandleStat
 
   -- ---- nothing
 
-  pub carries_nothing : registers_in work ≡ false → ask_on state work ≡ None → IsCarried disk cores (carried_unasked state work)
+  pub carries_nothing : registers_in work ≡ None → ask_on state work ≡ None → IsCarried disk cores (carried_unasked state work)
   carries_nothing other is = carries_by disk cores (carried_unasked state work) None (asks_part state work None other is) refl refl refl refl refl refl
 
   -- ---- a call of the disk
@@ -79,7 +76,7 @@ module _ (disk : Volume) (cores : List History) (seat : ℕ) (state : HandleStat
   change_of_call : (ask : DiskAsk) → change_now disk ask ≡ change_asked disk (Some (ToDisk ask))
   change_of_call ask = ap (λ b. if b then None else change_of_ask (tree_of disk.state) ask) (has_failed-now disk ask)
 
-  pub carries_call : registers_in work ≡ false → (ask : DiskAsk) → ask_on state work ≡ Some (asks.Disk ask) → (disk_then : Volume) (done : Carried)
+  pub carries_call : registers_in work ≡ None → (ask : DiskAsk) → ask_on state work ≡ Some (asks.Disk ask) → (disk_then : Volume) (done : Carried)
       → done.did ≡ did_now (opened_in work) disk ask → done.change ≡ change_now disk ask → done.state ≡ state
       → done.work ≡ fed_on state work (told.Disk (answer_now disk ask))
       → disk_then ≡ after_ask disk ask
@@ -89,7 +86,7 @@ module _ (disk : Volume) (cores : List History) (seat : ℕ) (state : HandleStat
       did_is (change_is ∙ change_of_call ask) state_is work_is (disk_is ∙ after_ask-change disk ask) refl
 
   -- which failed only where memory ran out
-  pub carries_answer : registers_in work ≡ false → (ask : DiskAsk) → ask_on state work ≡ Some (asks.Disk ask) → (disk_then : Volume)
+  pub carries_answer : registers_in work ≡ None → (ask : DiskAsk) → ask_on state work ≡ Some (asks.Disk ask) → (disk_then : Volume)
       → (result : Result Carried NoMemory)
       → IfOk result (λ done. done.did ≡ did_now (opened_in work) disk ask) → IfOk result (λ done. done.change ≡ change_now disk ask)
       → IfOk result (λ done. done.state ≡ state) → IfOk result (λ done. done.work ≡ fed_on state work (told.Disk (answer_now disk ask)))
@@ -101,7 +98,7 @@ module _ (disk : Volume) (cores : List History) (seat : ℕ) (state : HandleStat
 
   -- ---- an event of a core
 
-  pub carries_event : registers_in work ≡ false → (event : CoreEvent) → ask_on state work ≡ Some (asks.Core event) → (cores_then : List History) (done : Carried)
+  pub carries_event : registers_in work ≡ None → (event : CoreEvent) → ask_on state work ≡ Some (asks.Core event) → (cores_then : List History) (done : Carried)
       → CarriesEvent cores seat state work event done
       → cores_then ≡ cores_after_asked cores (OfCore state.core seat event (own_answer cores seat state event))
       → IsCarried disk cores_then done
@@ -112,16 +109,16 @@ module _ (disk : Volume) (cores : List History) (seat : ℕ) (state : HandleStat
   -- ---- a core
 
   -- work that has a core made goes on as an opening does
-  registered_fed : (work : Work) → registers_in work ≡ true → (answer : CoreAnswer) → registered_on state work ≡ fed_on state work (told.Core answer)
-  registered_fed (Opening opening) is answer = refl
-  registered_fed (Calling call) is answer = absurd (cc is)
+  registered_fed : (work : Work) (slots : ℕ) → registers_in work ≡ Some slots → (answer : CoreAnswer) → registered_on work ≡ fed_on state work (told.Core answer)
+  registered_fed (Opening opening) slots is answer = refl
+  registered_fed (Calling call) slots is answer = absurd (cc is)
 
-  pub carries_core : registers_in work ≡ true → (cores_then : List History) (view : View) → AddsCore cores cores_then seat state view
+  pub carries_core : (slots : ℕ) → registers_in work ≡ Some slots → (cores_then : List History) (view : View) → AddsCore cores cores_then slots seat state view
       → IsCarried disk cores_then (carried_at state work (length cores) view)
-  carries_core is cores_then view adds =
-      carries_by disk cores_then (carried_at state work (length cores) view) (core_asked state) (sym (asks_core state work is))
+  carries_core slots is cores_then view adds =
+      carries_by disk cores_then (carried_at state work (length cores) view) (Some (core_for state slots)) (sym (asks_core state work slots is))
       refl refl
       (ap (λ v. record state { core = length cores; view = or_before v state.view }) (sym adds.made.view_is))
-      (registered_fed work is _)
+      (registered_fed work slots is _)
       refl
       (adds.cores_are ∙ ap (λ c. cores ++ c ∷ []) adds.made.core_is)

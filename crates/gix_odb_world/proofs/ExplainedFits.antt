@@ -9,6 +9,7 @@ use Rattle.gix_hash.specs.declared.object_id.ObjectId.{ObjectId}
 use Rattle.gix_odb.specs.Contents.{StoreData}
 use Rattle.gix_odb.specs.declared.handle_state.HandleState.{HandleState}
 use Rattle.gix_odb.specs.declared.open_state.OpenState.TheVariants as opens
+use Rattle.gix_odb.proofs.OpenLaws.{openings_register_few_slots}
 use Rattle.gix_odb_calls.specs.declared.step.Step.TheVariants as steps
 use Rattle.gix_odb_slots.specs.PackId.{most_slots}
 use Rattle.gix_odb_world.specs.declared.course.Course.{Course}
@@ -19,8 +20,9 @@ use Rattle.gix_odb_world.specs.Event.{Event}
 use Rattle.gix_odb_world.specs.Handle.{IsHandleOf}
 use Rattle.gix_odb_world.specs.Headline.{IsLawful}
 use Rattle.gix_odb_world.specs.Running.{Knows, Runs}
-use Rattle.gix_odb_world.specs.Status.{Free, Resting, Running, Status, Store, Working, status_of}
+use Rattle.gix_odb_world.specs.Status.{Free, Resting, Running, Status, Store, Working, setting_in, status_of}
 use Rattle.gix_odb_world.specs.Table.{FitsCore}
+use Rattle.gix_odb_world.specs.Told.{told_since}
 use Rattle.gix_odb_world.specs.Valid.{Phase, NoneThere, Idle, Running as Runs_on, is_openable, misuse_of, most_folders, phase_after, why_not_after, why_not_open}
 use Rattle.gix_odb_world.specs.WorkOrder.{registers_in}
 use Rattle.gix_odb_world.specs.World.{HasHistory, IsExplained, Matches, handle_at}
@@ -60,40 +62,48 @@ few_if_opened first events handle begun store lawful o =
 
 module _ (first : Volume) (events : List Event) (handle : ℕ) (running : Running) (code : HandleState) (lawful : IsLawful first events)
     (begins : BegunAs events handle running.begun running.store running.task) (own : IsHandleOf running.store running.modes code) where
-  fits_at : (work : Work) → Knows first events handle running work → registers_in work ≡ true → FitsCore code
-  fits_at (Opening opens.Looking) knows registers = absurd (cc registers)
-  fits_at (Opening opens.Registering) knows registers = record {
-    slots = subst (λ n. n ≤ most_slots) (sym own.slots) knows.seen.few;
-    folders =
-        subst (λ (l : List Path). length l ≤ most_folders) (sym own.folders)
-        (few_if_opened first events handle running.begun running.store lawful (subst (BegunAs events handle running.begun running.store) knows.task begins));
-  }
-  fits_at (Opening (opens.Done reply)) knows registers = absurd (cc registers)
-  fits_at (Calling state) knows registers = absurd (cc registers)
+  fits_at : (work : Work) → Knows first events handle running work → (slots : ℕ) → registers_in work ≡ Some slots → FitsCore slots code
+  fits_at (Opening opens.Looking) knows slots registers = absurd (cc registers)
+  fits_at (Opening (opens.Listing lister percent minimum)) knows slots registers = absurd (cc registers)
+  fits_at (Opening (opens.Registering number)) knows slots registers =
+      let same : number ≡ slots = cc registers in
+      let fits : FitsCore number code =
+      record {
+        few =
+            openings_register_few_slots (setting_in running.store) running.store.slots (told_since events handle running.begun) knows.asked knows.well.suited number
+            (sym knows.is);
+        folders =
+            subst (λ (l : List Path). length l ≤ most_folders) (sym own.folders)
+            (few_if_opened first events handle running.begun running.store lawful (subst (BegunAs events handle running.begun running.store) knows.task begins));
+      } in
+      subst (λ (n : ℕ). FitsCore n code) same fits
+  fits_at (Opening (opens.Done reply)) knows slots registers = absurd (cc registers)
+  fits_at (Calling state) knows slots registers = absurd (cc registers)
 
 fits_by : (first : Volume) (events : List Event) (handle : ℕ) (status : Status) (code : HandleState) (work : Work) → IsLawful first events
     → Matches status (Some (record { state = code; work = Some work })) → Runs first events handle status → Stems events handle status
-    → registers_in work ≡ true → FitsCore code
-fits_by first events handle Free code work lawful match runs stems registers = absurd match
-fits_by first events handle (Resting store modes) code work lawful match runs stems registers = absurd (cc match.1)
-fits_by first events handle (Working running) code work lawful match runs stems registers =
+    → (slots : ℕ) → registers_in work ≡ Some slots → FitsCore slots code
+fits_by first events handle Free code work lawful match runs stems slots registers = absurd match
+fits_by first events handle (Resting store modes) code work lawful match runs stems slots registers = absurd (cc match.1)
+fits_by first events handle (Working running) code work lawful match runs stems slots registers =
     let both : Some work ≡ Some running.work = match.1 in
     let same : work ≡ running.work = cc both in
-    fits_at first events handle running code lawful stems.1.begins match.0 running.work runs.1 (ap registers_in (sym same) ∙ registers)
+    fits_at first events handle running code lawful stems.1.begins match.0 running.work runs.1 slots (ap registers_in (sym same) ∙ registers)
 
 -- ---- of a world of which it is known that some events lead there
 
 module _ (world : Course) (number : ℕ) (code : HandleState) (work : Work) (there : handle_at world number ≡ Some (record { state = code; work = Some work }))
-    (registers : registers_in work ≡ true) where
-  fits_in : HasHistory world → FitsCore code
+    (explained : IsExplained world) where
+  fits_in : HasHistory world → (slots : ℕ) → registers_in work ≡ Some slots → FitsCore slots code
   fits_in h =
       fits_by h.first h.events number (status_of h.events number) code work h.explains.lawful
       (subst (Matches (status_of h.events number)) there (h.explains.handles number)) (h.explains.running number)
-      (stems_now h.first h.events h.explains.lawful number) registers
+      (stems_now h.first h.events h.explains.lawful number)
 
-  pub fits_core : IsExplained world → FitsCore code
-  fits_core explained =
-      let slots = below code.store.value.slots (most_slots + 1) (λ wrong. not_there explained (λ h. wrong (let few = (fits_in h).slots in omega (arith, few)))) in
+  pub fits_core : (slots : ℕ) → registers_in work ≡ Some slots → FitsCore slots code
+  fits_core slots registers =
+      let few = below slots (most_slots + 1) (λ wrong. not_there explained (λ h. wrong (let own = (fits_in h slots registers).few in omega (arith, own)))) in
       let folders =
-      below (length code.store.value.folders) (most_folders + 1) (λ wrong. not_there explained (λ h. wrong (let few = (fits_in h).folders in omega (arith, few)))) in
-      record { slots = omega (arith, slots); folders = omega (arith, folders) }
+      below (length code.store.value.folders) (most_folders + 1)
+      (λ wrong. not_there explained (λ h. wrong (let own = (fits_in h slots registers).folders in omega (arith, own)))) in
+      record { few = omega (arith, few); folders = omega (arith, folders) }

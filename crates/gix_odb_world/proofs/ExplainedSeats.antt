@@ -121,7 +121,7 @@ module _ (world : Course) (h : HasHistory world) where
     happens (Working running) is match asked = happens_at running is match.0 match.1 asked
 
   can_happen_call : (number : ℕ) (state : HandleState) (work : Work) → handle_at world number ≡ Some (record { state = state; work = Some work })
-      → registers_in work ≡ false → (ask : Option PartAsk) → ask_on state work ≡ ask → CanHappenAt world.cores.items number state ask
+      → registers_in work ≡ None → (ask : Option PartAsk) → ask_on state work ≡ ask → CanHappenAt world.cores.items number state ask
   can_happen_call number state work there other None is = tt
   can_happen_call number state work there other (Some (asks.Disk ask)) is = tt
   can_happen_call number state work there other (Some (asks.Core event)) is =

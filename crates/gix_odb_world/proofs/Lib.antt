@@ -47,6 +47,8 @@ mod OpenFacts
 mod SettingLemmas
 mod ToldLemmas
 mod ToldWell
+mod AnsweredLemmas
+mod FrontLemmas
 mod LookPromise
 mod Stock
 mod ToldLists

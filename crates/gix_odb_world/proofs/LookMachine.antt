@@ -89,10 +89,10 @@ no_bytes (Find id) = refl
 no_bytes (Header id) = refl
 no_bytes (Test id) = refl
 
-looking_bounded : (store : Store) (task : Task) (query : Query) → task ≡ MakeCall (call_of query) → (entries : ℕ)
-    → bound_of_call store entries None ≡ bound_of_task store task entries
-looking_bounded store task query is entries =
-    subst (λ t. bound_of_call store entries None ≡ bound_of_task store t entries) (sym is) (ap (bound_of_call store entries) (no_bytes query))
+looking_bounded : (store : Store) (modes : Modes) (task : Task) (query : Query) → task ≡ MakeCall (call_of query) → (entries : ℕ)
+    → bound_of_call store modes entries None ≡ bound_of_task store modes task entries
+looking_bounded store modes task query is entries =
+    subst (λ t. bound_of_call store modes entries None ≡ bound_of_task store modes t entries) (sym is) (ap (bound_of_call store modes entries) (no_bytes query))
 
 looking_turns : KeepsTurnLaws looking
 looking_turns = record {
@@ -109,7 +109,7 @@ looking_laws = record {
   feeds = looking_feeds;
   starts = looking_starts;
   tasked = λ first events handle running look knows. (knows.query, knows.task);
-  bounded = λ store task look is entries. looking_bounded store task is.0 is.1 entries;
+  bounded = λ store modes task look is entries. looking_bounded store modes task is.0 is.1 entries;
   kept = looking_kept;
   turns = looking_turns;
   writes = writes_nothing looking (λ look. refl)

@@ -2,7 +2,6 @@
 -- which are folded by the machines and so stand above them.
 use Rattle.std.proofs.Common.{◌≡◌, ◌⊎◌, ℕ, ◌+◌, ◌<◌, ◌≤◌, List, [], ◌∷◌, ◌++◌, length, Option, Some, None, Result, Ok, Err, refl, sym, ap, ◌∙◌, subst}
 use Rattle.odb_disk.specs.MemDisk.{Volume}
-use Rattle.odb_disk.specs.Ask.{answer_now}
 use Rattle.odb_tree.specs.Tree.{IsTree, tree_of}
 use Rattle.odb_disk.specs.declared.ask.DiskAsk.{DiskAsk}
 use Rattle.odb_disk.specs.declared.ask.DiskAnswer.{DiskAnswer}
@@ -28,7 +27,7 @@ use Rattle.gix_odb_world.specs.Bound.{HasAtMost, bound_of_task}
 use Rattle.gix_odb_world.specs.Cores.{cores_after}
 use Rattle.gix_odb_world.specs.Seats.{IsSeated}
 use Rattle.gix_odb_world.specs.Changes.{ChangesInTask}
-use Rattle.gix_odb_world.specs.Event.{Answer, Ask, Asked, CoreEvent, Event, FromDisk, OfDisk, ToCore, ToDisk, ToNewCore, answered, part_asked, to_disk}
+use Rattle.gix_odb_world.specs.Event.{Answer, Ask, Asked, CoreEvent, Event, FromDisk, ToCore, ToDisk, ToNewCore, answered, part_asked, to_disk}
 use Rattle.gix_odb_world.specs.Handle.{IsHandleOf}
 use Rattle.gix_odb_world.specs.Headline.{IsLawful, stand_of}
 use Rattle.gix_odb_world.specs.Machine.{At, Machine, placed}
@@ -53,7 +52,7 @@ abbrev pub TakesTurn : Volume → List Event → (handle : ℕ) → Running → 
 TakesTurn first events handle running task None = MayEndUnasked events handle running.store running.modes running.begun task
 TakesTurn first events handle running task (Some (ToDisk ask)) = HasTurn first events handle running task ask
 TakesTurn first events handle running task (Some (ToCore event)) = MayAskCore events handle running.store running.modes running.begun task event
-TakesTurn first events handle running task (Some (ToNewCore slots folders)) = MayAskNewCore running.store running.turns task slots folders
+TakesTurn first events handle running task (Some (ToNewCore slots folders)) = MayAskNewCore events handle running.store running.begun task slots folders
 
 -- the last event is a turn of the handle that asked so, and made no call of the disk
 pub record IsTurnWithoutCall (first : Volume) (events : List Event) (e : Event) (handle : ℕ) (running : Running) (ask : Option Ask) : Type 0 where
@@ -110,10 +109,10 @@ module _ (first : Volume) (events : List Event) (e : Event) (handle : ℕ) (runn
   Keeps reply = Promise first whole handle running.store running.modes running.begun running.task reply
 
   -- a bound isn't reached, where no folder that may be listed has more entries than so many
-  abbrev pub InTime : (bound : Store → Task → (entries : ℕ) → ℕ) → Type 0
+  abbrev pub InTime : (bound : Store → Modes → Task → (entries : ℕ) → ℕ) → Type 0
   InTime bound =
       (entries : ℕ) → HasAtMost (tree_at first whole) running.store.parts running.begun (length events + 1) entries
-      → running.turns + 1 < bound running.store running.task entries
+      → running.turns + 1 < bound running.store running.modes running.task entries
 
   -- the reply of a turn that asked so keeps its promise, or the machine goes on, knows as much and is within its bound
   abbrev pub MachineComes : (m : Machine) → Asked → Result Reply m.State → Type 0
@@ -151,8 +150,9 @@ pub record KeepsWriteLaws (m : Machine) : Type 1 where
   pub ends : (store : Store) (state : m.State) (call : LooseCall) (answer : DiskAnswer) (reply : Reply) → m.writes state ≡ Some call
       → result_of_write (loose_order.fed call answer) ≡ Ok reply → m.feed store state (Some (FromDisk answer)) ≡ Ok reply
   -- a state that writes comes after one that does, unless its write has made no file yet
-  pub before : (store : Store) (state next : m.State) (answer : Option Answer) (call : LooseCall) → m.feed store state answer ≡ Err next
-      → m.writes next ≡ Some call
+  pub before : (first : Volume) (events : List Event) (handle : ℕ) (running : Running) (state next : m.State) (answer : Option Answer) (call : LooseCall)
+      → m.Knows first events handle running state
+      → m.feed running.store state answer ≡ Err next → m.writes next ≡ Some call
       → ((own : LooseCall) × (m.writes state ≡ Some own)) ⊎ HasNoFile call
 
 -- What a machine has to show of its turns.
@@ -188,79 +188,30 @@ pub record KeepsLaws (m : Machine) : Type 1 where
   -- the task of a state is one that it may be at, and has the machine's bound
   pub tasked : (first : Volume) (events : List Event) (handle : ℕ) (running : Running) (state : m.State) → m.Knows first events handle running state
       → m.IsFor running.task state
-  pub bounded : (store : Store) (task : Task) (state : m.State) → m.IsFor task state → (entries : ℕ)
-      → m.bound store task entries ≡ bound_of_task store task entries
+  pub bounded : (store : Store) (modes : Modes) (task : Task) (state : m.State) → m.IsFor task state → (entries : ℕ)
+      → m.bound store modes task entries ≡ bound_of_task store modes task entries
   -- an event that isn't its turn leaves what it knows
   pub kept : (first : Volume) (events : List Event) (e : Event) (handle : ℕ) (running : Running) (state : m.State) → ¬ (IsTurnOf handle e.step)
       → m.Knows first events handle running state → m.Knows first (events ++ e ∷ []) handle running state
   pub turns : KeepsTurnLaws m
   pub writes : KeepsWriteLaws m
 
--- ---- machines that ask the disk in each turn
+-- ---- calls of the disk
 
 -- what is asked of the disk is the same among all that is asked for
 pub of_disk_part : (asked : Option DiskAsk) → part_asked (disk_part asked) ≡ to_disk asked
 of_disk_part None = refl
 of_disk_part (Some ask) = refl
 
--- what is asked of the disk is no event of a core
+-- it is no event of a core
 pub no_event : (asked : Option DiskAsk) (event : CoreEvent) → ¬ (to_disk asked ≡ Some (ToCore event))
 no_event None event is = cc is
 no_event (Some ask) event is = cc is
 
--- what is asked of the disk is that call
+-- and it is that call
 pub same_ask : (asked : Option DiskAsk) (ask : DiskAsk) → to_disk asked ≡ Some (ToDisk ask) → asked ≡ Some ask
 same_ask None ask is = absurd (cc is)
 same_ask (Some own) ask is = let both : own ≡ ask = cc is in ap Some both
-
--- What a machine has to show whose one call of the disk in a turn is this.
-pub record AsksDisk (m : Machine) (call : Store → m.State → Option DiskAsk) : Type 1 where
-  pub is : (store : Store) (state : m.State) → m.ask store state ≡ to_disk (call store state)
-  -- it asks for one at each state at which a handle may be
-  pub some : (first : Volume) (events : List Event) (handle : ℕ) (running : Running) (state : m.State) → m.Knows first events handle running state
-      → (ask : DiskAsk) × (call running.store state ≡ Some ask)
-  pub takes : (first : Volume) (events : List Event) (handle : ℕ) (running : Running) (state : m.State) → m.Knows first events handle running state
-      → (ask : DiskAsk) → call running.store state ≡ Some ask → HasTurn first events handle running running.task ask
-  pub comes : (first : Volume) (events : List Event) (handle : ℕ) (running : Running) (state : m.State) → m.Knows first events handle running state
-      → (ask : DiskAsk) → call running.store state ≡ Some ask → (e : Event) → running.begun ≤ length events → IsTurnWith first events e handle ask
-      → MachineComes first events e handle running m (OfDisk ask (answer_now (disk_after first events) ask))
-      (m.feed running.store state (Some (FromDisk (answer_now (disk_after first events) ask))))
-
-module _ (m : Machine) (call : Store → m.State → Option DiskAsk) (disk : AsksDisk m call) where
-  named : (store : Store) (state : m.State) (ask : DiskAsk) → call store state ≡ Some ask → m.ask store state ≡ Some (ToDisk ask)
-  named store state ask is = disk.is store state ∙ ap to_disk is
-
-  module _ (first : Volume) (events : List Event) (handle : ℕ) (running : Running) (state : m.State) (knows : m.Knows first events handle running state) where
-    abbrev some : (ask : DiskAsk) × (call running.store state ≡ Some ask)
-    some = disk.some first events handle running state knows
-
-    asked : m.ask running.store state ≡ Some (ToDisk some.0)
-    asked = named running.store state some.0 some.1
-
-    takes : TakesTurn first events handle running running.task (m.ask running.store state)
-    takes = subst (TakesTurn first events handle running running.task) (sym asked) (disk.takes first events handle running state knows some.0 some.1)
-
-    never_ends : m.ask running.store state ≡ None → ⊥
-    never_ends none = let both : None ≡ Some (ToDisk some.0) = sym none ∙ asked in cc both
-
-    calls_disk : (event : CoreEvent) → ¬ (m.ask running.store state ≡ Some (ToCore event))
-    calls_disk event is = no_event (call running.store state) event (sym (disk.is running.store state) ∙ is)
-
-    comes : (e : Event) → running.begun ≤ length events → IsTurnAsking first events e handle running (m.ask running.store state)
-        → MachineComes first events e handle running m (told_after first events handle running (m.ask running.store state))
-        (m.feed running.store state (answered (told_after first events handle running (m.ask running.store state))))
-    comes e since =
-        subst (λ a. IsTurnAsking first events e handle running a
-        → MachineComes first events e handle running m (told_after first events handle running a) (m.feed running.store state (answered (told_after first events handle running a)))) (sym asked)
-        (disk.comes first events handle running state knows some.0 some.1 e since)
-
-  pub turns_by_disk : KeepsTurnLaws m
-  turns_by_disk = record {
-    takes = takes;
-    ends = λ first events handle running state knows none. absurd (never_ends first events handle running state knows none);
-    happens = λ first events handle running state knows event is shape seat. absurd (calls_disk first events handle running state knows event is);
-    comes = λ first events e handle running since ran state knows. comes first events handle running state knows e since;
-  }
 
 -- ---- machines that make no change
 
@@ -274,7 +225,7 @@ writes_nothing m none quiet = record {
   known = λ first events handle running state call knows is. absurd (none_written state call is);
   asks = λ store state call is. absurd (none_written state call is);
   ends = λ store state call answer reply is done. absurd (none_written state call is);
-  before = λ store state next answer call goes is. absurd (none_written next call is);
+  before = λ first events handle running state next answer call knows goes is. absurd (none_written next call is);
 }
   where
     none_written : (state : m.State) (call : LooseCall) → m.writes state ≡ Some call → ⊥

@@ -1,5 +1,5 @@
 -- Each work's machine keeps its laws. A further machine has one line here.
-use Rattle.gix_odb.specs.declared.call_state.CallState.TheVariants.{Looking, Writing}
+use Rattle.gix_odb.specs.declared.call_state.CallState.TheVariants.{Looking, Refreshing, Refused, Writing}
 use Rattle.gix_odb_world.specs.declared.work.Work.{Work}
 use Rattle.gix_odb_world.specs.declared.work.Work.TheVariants.{Opening, Calling}
 use Rattle.gix_odb_world.specs.Machines.{at}
@@ -11,4 +11,6 @@ use Rattle.gix_odb_world.proofs.WriteMachine.{writing_laws}
 pub laws_at : (work : Work) → KeepsLaws (at work).machine
 laws_at (Opening state) = opening_laws
 laws_at (Calling (Looking state)) = looking_laws
+laws_at (Calling (Refreshing refresh call)) = writing_laws
 laws_at (Calling (Writing call)) = writing_laws
+laws_at (Calling (Refused error)) = writing_laws

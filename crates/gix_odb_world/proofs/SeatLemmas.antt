@@ -12,9 +12,11 @@ use Rattle.std.specs.Prelude.{◌==◌, ◌↔◌, IsSome, if◌then◌else◌, 
 use Rattle.std.proofs.lemmas.Bool.{eqb-true, eqb-false}
 use Rattle.odb_disk.specs.MemDisk.{Volume}
 use Rattle.odb_disk.specs.Ask.{answer_now}
+use Rattle.odb_disk.specs.declared.ask.DiskAsk.{DiskAsk}
 use Rattle.odb_disk.specs.declared.ask.DiskAsk.TheVariants as asks
 use Rattle.gix_odb.specs.Contents.{folder_list}
-use Rattle.gix_odb.specs.OpenOrder.{looked}
+use Rattle.gix_odb.specs.OpenOrder as openings
+use Rattle.gix_odb_packs.specs.ListOrder as lists
 use Rattle.gix_odb_calls.specs.declared.call.Call.{Call}
 use Rattle.gix_odb_calls.specs.declared.call.Call.TheVariants as calls
 use Rattle.gix_odb_calls.specs.declared.call.CallError.TheVariants as call_errors
@@ -53,7 +55,7 @@ use Rattle.gix_odb_world.proofs.RunSteps.{at_work}
 use Rattle.gix_odb_world.proofs.SeatLemmas.Elsewhere.{out_new}
 use Rattle.gix_odb_world.proofs.SeatLemmas.Entered.{seated_more, seated_new}
 use Rattle.gix_odb_world.proofs.SeatLemmas.Looked.{out_looked, seated_looked, seated_looking}
-use Rattle.gix_odb_world.proofs.SeatLemmas.Opened.{IsOn, left_of, looked_refuses, on_by, opened_by, reply_of}
+use Rattle.gix_odb_world.proofs.SeatLemmas.Opened.{IsOn, answered_refuses, left_of, on_by, opened_by, reply_of}
 use Rattle.gix_odb_world.proofs.SeatLemmas.Applied.{Carries, Stands, StandsAt, applied_by, asks_of_looks, carry_by, carry_nothing, kept, nowhere_now, set, to_now}
 
 -- ---- replies that refuse an opening
@@ -128,11 +130,11 @@ module _ (past : List Event) (e : Event) where
 
       -- ---- an opening
 
-      abbrev look : Ask
-      look = ToDisk (asks.Look running.store.parts.objects true)
+      abbrev look : DiskAsk
+      look = asks.Look running.store.parts.objects true
 
-      abbrev new_core : Ask
-      new_core = ToNewCore running.store.slots (length (folder_list running.store.parts))
+      abbrev new_core : (slots : ℕ) → Ask
+      new_core slots = ToNewCore slots (length (folder_list running.store.parts))
 
       asked_by : (state : OpenState) (ask : Ask) → running.work ≡ Opening state → ask_in running.store (Opening state) ≡ Some ask → e.asked ≡ told (Some ask)
       asked_by state ask at asks_it = works.told ∙ ap told (sym works.asks ∙ (ap (ask_in running.store) at ∙ asks_it))
@@ -143,31 +145,41 @@ module _ (past : List Event) (e : Event) where
           ap (λ a. fed_in running.store running.work (answered a)) (asked_by state ask at asks_it)
           ∙ ap (λ w. fed_in running.store w (answered (told (Some ask)))) at
 
-      -- its look registers nothing, and where it registers its handle it ends with that
+      -- a call of the disk registers nothing, and where an opening registers its handle it ends with that
       out_still : (state : OpenState) → running.work ≡ Opening state → IsOn state → IsNowhere before_it number
-          → ¬ (fed_in running.store running.work (answered e.asked) ≡ Ok (replies.Opened running.store.slots)) → IsNowhere (cores_after now) number
-      out_still opens.Looking at on nowhere other = nowhere_now past e _ (asked_by opens.Looking look at refl) number nowhere
-      out_still opens.Registering at on nowhere other = absurd (other (fed_by opens.Registering new_core at refl))
+          → ((slots : ℕ) → ¬ (fed_in running.store running.work (answered e.asked) ≡ Ok (replies.Opened slots))) → IsNowhere (cores_after now) number
+      out_still opens.Looking at on nowhere other = nowhere_now past e _ (asked_by opens.Looking (ToDisk look) at refl) number nowhere
+      out_still (opens.Listing lister percent minimum) at on nowhere other =
+          nowhere_now past e _ (asked_by (opens.Listing lister percent minimum) (ToDisk (lists.ask_of lister)) at refl) number nowhere
+      out_still (opens.Registering slots) at on nowhere other = absurd (other slots (fed_by (opens.Registering slots) (new_core slots) at refl))
       out_still (opens.Done own) at on nowhere other = absurd on
+
+      -- an opening that ends with a call of the disk is refused
+      refused_by_call : (state : OpenState) (ask : DiskAsk) → running.work ≡ Opening state → ask_in running.store (Opening state) ≡ Some (ToDisk ask) → IsOn state
+          → (reply : Reply) → e.outcome ≡ outcomes.Reply reply → refuses_opening reply ≡ true
+      refused_by_call state ask at asks_it on reply out =
+          let given = answer_now (disk_after first past) ask in
+          let fed : fed_in running.store (Opening state) (answered (told (Some (ToDisk ask)))) ≡ Ok reply =
+          sym (fed_by state (ToDisk ask) at asks_it) ∙ reply_of _ reply (sym works.goes ∙ out) in
+          let parts = running.store.parts in
+          answered_refuses parts.objects parts.folders running.store.slots state given reply on
+          (opened_by (openings.fed parts.objects parts.folders running.store.slots state given) reply fed)
 
       -- the turn that registers a handle seats it, and any other turn with which an opening ends refuses it
       opened_seat : (state : OpenState) → running.work ≡ Opening state → IsOn state → IsNowhere before_it number → (reply : Reply) → e.outcome ≡ outcomes.Reply reply
           → refuses_opening reply ≡ false → IsSeated (cores_after now) number (modes_after e.asked running.modes)
       opened_seat opens.Looking at on nowhere reply out sound =
-          let given = answer_now (disk_after first past) (asks.Look running.store.parts.objects true) in
-          let fed : fed_in running.store (Opening opens.Looking) (answered (told (Some look))) ≡ Ok reply =
-          sym (fed_by opens.Looking look at refl) ∙ reply_of _ reply (sym works.goes ∙ out) in
-          let refuses = looked_refuses running.store.slots given reply (opened_by (looked running.store.slots given) reply fed) in
-          absurd (cc (refuses, sound))
-      opened_seat opens.Registering at on nowhere reply out sound =
-          let slots = running.store.slots in
+          let refuses = refused_by_call opens.Looking look at refl on reply out in absurd (cc (refuses, sound))
+      opened_seat (opens.Listing lister percent minimum) at on nowhere reply out sound =
+          let refuses = refused_by_call (opens.Listing lister percent minimum) (lists.ask_of lister) at refl on reply out in absurd (cc (refuses, sound))
+      opened_seat (opens.Registering slots) at on nowhere reply out sound =
           let folders = length (folder_list running.store.parts) in
-          let is : e.asked ≡ told (Some new_core) = asked_by opens.Registering new_core at refl in
+          let is : e.asked ≡ told (Some (new_core slots)) = asked_by (opens.Registering slots) (new_core slots) at refl in
           let h : History = opened slots folders 0 0 in
           let view : View = view_of (after (present h) number (core_events.Register false)) (number_behind h.entries) in
           subst (λ a. IsSeated (cores_after now) number (modes_after a running.modes)) (sym is)
-          (to_now past e _ is number (modes_after (told (Some new_core)) running.modes)
-          (seated_new before_it slots folders number (modes_after (told (Some new_core)) running.modes) (effects.Seen view) view nowhere refl refl refl))
+          (to_now past e _ is number (modes_after (told (Some (new_core slots))) running.modes)
+          (seated_new before_it slots folders number (modes_after (told (Some (new_core slots))) running.modes) (effects.Seen view) view nowhere refl refl refl refl))
       opened_seat (opens.Done own) at on nowhere reply out sound = absurd on
 
       -- ---- how it ends, and goes on
@@ -183,7 +195,7 @@ module _ (past : List Event) (e : Event) where
           → refuses_opening reply ≡ true → Promise first now number running.store running.modes running.begun task reply → IsNowhere (cores_after now) number
       freed OpenStore stands reply out refuses promise =
           let ended = reply_of _ reply (sym works.goes ∙ out) in
-          out_still stands.0 stands.1 stands.2 stands.3 (λ opened. opened_refuses_none reply (sym opened ∙ ended) refuses)
+          out_still stands.0 stands.1 stands.2 stands.3 (λ slots opened. opened_refuses_none reply (sym opened ∙ ended) refuses)
       freed (MakeCall call) stands reply out refuses promise =
           absurd (no_call_refuses first now number running.store running.modes running.begun call reply refuses promise)
 
@@ -199,7 +211,7 @@ module _ (past : List Event) (e : Event) where
           → StandsAt (cores_after now) number (modes_after e.asked running.modes) left task
       goes_on OpenStore order stands left is =
           let on = on_by running.store stands.0 (answered e.asked) left (ap (λ w. fed_in running.store w (answered e.asked)) (sym stands.1) ∙ is) in
-          (on.0, on.1, on.2, out_still stands.0 stands.1 stands.2 stands.3 (λ opened. cc (sym opened ∙ is)))
+          (on.0, on.1, on.2, out_still stands.0 stands.1 stands.2 stands.3 (λ slots opened. cc (sym opened ∙ is)))
       goes_on (MakeCall call) order stands left is = call_kept works.ask call works.told order stands
 
       own : StandsAt before_it number running.modes running.work running.task

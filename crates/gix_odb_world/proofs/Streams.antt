@@ -1,4 +1,4 @@
--- The stream that a query reads stands open on the disk, and gives what its folder listed when it was opened.
+-- The stream that a handle at work reads stands open on the disk, and gives what its folder listed when it was opened.
 pub mod OneEvent
 pub mod Apart
 pub mod Step
@@ -20,24 +20,20 @@ use Rattle.gix_odb_packs.specs.PackFolder.{pack_folder}
 use Rattle.gix_odb_packs.specs.declared.answer.Answer.TheVariants as told
 use Rattle.gix_odb_packs.specs.declared.answer.PartAsk.TheVariants as parts
 use Rattle.gix_odb_looks.specs.Laps as laps
-use Rattle.gix_odb_looks.specs.LookUpOrder.{ask_of}
 use Rattle.gix_odb_looks.specs.OpenStream.{GivesNext}
 use Rattle.gix_odb_looks.specs.Stream.{Stream, reads, stream_by, stream_in}
 use Rattle.gix_odb_looks.specs.True.{Suits}
-use Rattle.gix_odb_looks.specs.declared.look_up.LookUp.{LookUp}
-use Rattle.gix_odb_looks.proofs.HandedLaws.{IsOwnStream, streams_of_look_ups_are_their_own}
+use Rattle.gix_odb_looks.proofs.HandedLaws.{IsOwnStream}
 use Rattle.gix_odb_looks.proofs.StreamLaws.Calls.{stream_gives_what_is_coming}
 use Rattle.gix_odb_looks.proofs.StreamLaws.Directories.{entries_are_of_the_names}
-use Rattle.gix_odb.specs.Contents.{sought}
-use Rattle.gix_odb_world.specs.AtWork.{Running, setting_in}
+use Rattle.gix_odb_world.specs.AtWork.{Running}
 use Rattle.gix_odb_world.specs.Bound.{HasAtMost, Pack}
 use Rattle.gix_odb_world.specs.Event.{Event}
 use Rattle.gix_odb_world.specs.Headline.{IsLawful}
 use Rattle.gix_odb_world.specs.Run.{disk_after, tree_at}
 use Rattle.gix_odb_world.specs.Running.{RunsThroughout}
-use Rattle.gix_odb_world.specs.Running.Query.{IsLooking}
 use Rattle.gix_odb_world.specs.Status.{Free, Working, status_of, statuses_from}
-use Rattle.gix_odb_world.specs.Told.{look_now, told_since, view_then}
+use Rattle.gix_odb_world.specs.Told.{told_since}
 use Rattle.gix_odb_world.proofs.HistoryLemmas.{tree_at-before}
 use Rattle.gix_odb_world.proofs.MachineLaws.{IsRunning}
 use Rattle.gix_odb_world.proofs.RunSteps.{event_or_end, none_beyond, take_next}
@@ -70,7 +66,7 @@ module _ (first : Volume) (events : List Event) (lawful : IsLawful first events)
   are_open : AreOpen first events
   are_open = subst (AreOpen first) (take-length events) (at_place (length events) (omega arith))
 
--- The stream that a query reads stands open: no other handle reads or closes it, since each reads and closes its own, and a new stream has
+-- The stream that a handle at work reads stands open: no other handle reads or closes it, since each reads and closes its own, and a new stream has
 -- the number of none that is open.
 pub streams_stand : (first : Volume) (events : List Event) → IsLawful first events → RunsThroughout first events
     → (handle : ℕ) (running : Running) → status_of events handle ≡ Working running
@@ -78,7 +74,7 @@ pub streams_stand : (first : Volume) (events : List Event) → IsLawful first ev
 streams_stand first events lawful throughout handle running status stream is =
     (are_open first events lawful throughout).stands handle running status stream is
 
--- ---- a query's own stream
+-- ---- the own stream of a handle at work
 
 gives_suit : (dir : ℕ) (coming left : List Entry) (answer : DiskAnswer) → GivesNext coming answer left → Suits (asks.NextEntry dir) answer
 gives_suit dir coming left (answers.Entry entry) gives = tt
@@ -95,20 +91,14 @@ gives_suit dir coming left (answers.File bytes time) gives = absurd gives
 gives_suit dir coming left (answers.Dir other) gives = absurd gives
 gives_suit dir coming left answers.Done gives = absurd gives
 
-module _ (first : Volume) (events : List Event) (e : Event) (handle : ℕ) (running : Running) (look : LookUp) (knows : IsLooking first events handle running look)
-    (ran : IsRunning first events handle running) where
+module _ (first : Volume) (events : List Event) (e : Event) (handle : ℕ) (running : Running) (ran : IsRunning first events handle running) where
   abbrev whole : List Event
   whole = events ++ e ∷ []
 
   abbrev disk : Volume
   disk = disk_after first events
 
-  module _ (dir : ℕ) (asked : ask_of (look_now events handle running.store running.modes running.begun knows.query) ≡ Some (parts.Disk (asks.NextEntry dir))) where
-    own : IsOwnStream (told_since events handle running.begun) dir
-    own =
-        streams_of_look_ups_are_their_own (setting_in running.store) (view_then events handle running.modes.core running.begun) knows.query
-        (sought running.store.parts running.modes.ignoring knows.query) (told_since events handle running.begun) knows.asked dir (inl asked)
-
+  module _ (dir : ℕ) (own : IsOwnStream (told_since events handle running.begun) dir) where
     stands : StandsOpen first events running own.stream
     stands = streams_stand first events ran.lawful ran.throughout handle running ran.status own.stream own.told
 
@@ -168,18 +158,19 @@ module _ (first : Volume) (events : List Event) (e : Event) (handle : ℕ) (runn
   opened_few entries folder (answers.File bytes time) = tt
 
   -- behind a call of the disk the stream that is open has given no more entries than a folder has
-  pub streams_are_short : (ask : DiskAsk) → ask_of (look_now events handle running.store running.modes running.begun knows.query) ≡ Some (parts.Disk ask)
+  pub streams_are_short : (ask : DiskAsk) → ((dir : ℕ) → ask ≡ asks.NextEntry dir → IsOwnStream (told_since events handle running.begun) dir)
       → (entries : ℕ) → HasAtMost (tree_at first whole) running.store.parts running.begun (length whole) entries
       → laps.HasAtMost entries (stream_in (told_since events handle running.begun))
       → laps.HasAtMost entries (stream_by (stream_in (told_since events handle running.begun)) (parts.Disk ask) (told.Disk (answer_now disk ask)))
-  streams_are_short (asks.OpenDir folder) asked entries most before = opened_few entries folder (answer_now disk (asks.OpenDir folder))
-  streams_are_short (asks.NextEntry dir) asked entries most before =
-      subst (λ o. laps.HasAtMost entries (reads o (answer_now disk (asks.NextEntry dir)))) (sym (own dir asked).told) (given_few dir asked entries most)
-  streams_are_short (asks.CloseDir dir) asked entries most before = tt
-  streams_are_short (asks.Look path follow) asked entries most before = before
-  streams_are_short (asks.Read path) asked entries most before = before
-  streams_are_short (asks.MakeDir path) asked entries most before = before
-  streams_are_short (asks.NewFile path) asked entries most before = before
-  streams_are_short (asks.Append path bytes) asked entries most before = before
-  streams_are_short (asks.Rename from to) asked entries most before = before
-  streams_are_short (asks.Remove path) asked entries most before = before
+  streams_are_short (asks.OpenDir folder) own entries most before = opened_few entries folder (answer_now disk (asks.OpenDir folder))
+  streams_are_short (asks.NextEntry dir) own entries most before =
+      let stream = own dir refl in
+      subst (λ o. laps.HasAtMost entries (reads o (answer_now disk (asks.NextEntry dir)))) (sym stream.told) (given_few dir stream entries most)
+  streams_are_short (asks.CloseDir dir) own entries most before = tt
+  streams_are_short (asks.Look path follow) own entries most before = before
+  streams_are_short (asks.Read path) own entries most before = before
+  streams_are_short (asks.MakeDir path) own entries most before = before
+  streams_are_short (asks.NewFile path) own entries most before = before
+  streams_are_short (asks.Append path bytes) own entries most before = before
+  streams_are_short (asks.Rename from to) own entries most before = before
+  streams_are_short (asks.Remove path) own entries most before = before

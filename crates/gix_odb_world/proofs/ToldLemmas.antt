@@ -3,9 +3,10 @@ use Rattle.std.proofs.Common.{◌≡◌, ℕ, zero, suc, ◌+◌, ◌≤◌, Boo
 use Rattle.std.specs.Prelude.{◌==◌, unwrap_or, if◌then◌else◌}
 use Rattle.std.specs.List.{cons_option, filter_map}
 use Rattle.std.proofs.lemmas.Bool.{eqb-true}
-use Rattle.std.proofs.lemmas.List.{append-nil}
+use Rattle.std.proofs.lemmas.List.{append-nil, length_push}
 use Rattle.std.proofs.Math.Seq.{take-length}
 use Rattle.std.proofs.lemmas.List.Elements.{filter_map-append}
+use Rattle.gix_odb_core.specs.History.{History, opened}
 use Rattle.gix_odb_core.specs.Replay.{snapshot_of}
 use Rattle.gix_odb_calls.specs.declared.step.Step.{Step}
 use Rattle.gix_odb_calls.specs.declared.step.Step.TheVariants as steps
@@ -13,9 +14,11 @@ use Rattle.gix_odb_looks.specs.Exchange.{AreAsked, Exchange, behind}
 use Rattle.gix_odb_looks.specs.LookUpOrder.{Setting, ask_of, fed}
 use Rattle.gix_odb_looks.specs.declared.look_up.LookUp.{LookUp}
 use Rattle.gix_odb.specs.HandleState.{unseen}
+use Rattle.gix_odb_world.specs.AtWork.{Modes, view_in_modes}
 use Rattle.gix_odb_world.specs.Cores.{cores_after, history_at}
 use Rattle.gix_odb_world.specs.Event.{Asked, Event}
 use Rattle.gix_odb_world.specs.Run.{IsTurnOf}
+use Rattle.gix_odb_world.specs.Seats.{IsSeated}
 use Rattle.gix_odb_world.specs.Told.{exchange_in, exchange_of, told_since, view_then}
 use Rattle.gix_odb_world.specs.Turned.{is_turn_of}
 
@@ -118,3 +121,13 @@ pub view_first : (events : List Event) (handle core : ℕ)
     → view_then events handle core (length events) ≡ unwrap_or (snapshot_of handle (history_at (cores_after events) core).entries) unseen
 unfolding view_then
 view_first events handle core = ap (λ past. unwrap_or (snapshot_of handle (history_at (cores_after past) core).entries) unseen) (take-length events)
+
+-- the snapshot of a handle that is seated is what it saw at the last event
+pub snapshot_seen : (events : List Event) (e : Event) (handle : ℕ) (modes : Modes) → IsSeated (cores_after (events ++ e ∷ [])) handle modes
+    → view_in_modes modes ≡ view_then (events ++ e ∷ []) handle modes.core (length events + 1)
+snapshot_seen events e handle modes seated =
+    let whole : List Event = events ++ e ∷ [] in
+    let there : history_at (cores_after whole) modes.core ≡ seated.history = ap (λ o. unwrap_or o (opened 0 0 0 0)) seated.there in
+    ap (λ v. unwrap_or v unseen) seated.snapshot
+    ∙ (ap (λ (h : History). unwrap_or (snapshot_of handle h.entries) unseen) (sym there)
+    ∙ (sym (view_first whole handle modes.core) ∙ ap (view_then whole handle modes.core) (length_push events e)))

@@ -33,7 +33,7 @@ use Rattle.gix_odb_looks.specs.declared.look_up.LookUp.{LookUp}
 use Rattle.gix_odb_looks.proofs.CoreLaws.{core_answers_are_numbered, core_answers_are_true, core_answers_suit_their_events, core_answers_tell_no_later_number}
 use Rattle.gix_odb_looks.proofs.CoreLaws.Wider.{AreTrue-wider, IsHanded-wider, IsShownView-wider}
 use Rattle.gix_odb_looks.proofs.FoundLaws.{what_is_handed_was_shown}
-use Rattle.gix_odb_looks.proofs.HandedLaws.{what_is_handed_can_happen}
+use Rattle.gix_odb_looks.proofs.HandedLaws.{IsOwnStream, streams_of_look_ups_are_their_own, what_is_handed_can_happen}
 use Rattle.gix_odb.specs.Contents.{sought}
 use Rattle.gix_odb.specs.HandleState.{unseen}
 use Rattle.gix_odb_world.specs.declared.record.Did.{Did}
@@ -43,16 +43,18 @@ use Rattle.gix_odb_world.specs.Bound.{HasAtMost}
 use Rattle.gix_odb_world.specs.Cores.{answer_behind, cores_after, cores_after_asked, entered, entry_of, history_at}
 use Rattle.gix_odb_world.specs.Event.{Asked, CoreAnswer, CoreEvent, Event, OfCore, OfDisk, ToCore, ToDisk}
 use Rattle.gix_odb_world.specs.Run.{Fails, FailedSince, NoCall, disk_after, tree_at}
+use Rattle.gix_odb_world.specs.Seats.{HasSeat, HasSeatAt, IsSeated}
 use Rattle.gix_odb_world.specs.Running.Query.{IsGiven, IsLooking, IsToldWell, number_after}
 use Rattle.gix_odb_world.specs.Told.{look_now, told_since, view_then}
 use Rattle.gix_odb_world.proofs.DiskTold.{failed_or_told, is_true, suits}
 use Rattle.gix_odb_world.proofs.HistoryLemmas.{cores_after-push, failed-kept, failed_before, none_failed_yet, tree_at-before}
 use Rattle.gix_odb_world.proofs.MachineLaws.{IsRunning, IsStarted, IsTurnAsking}
 use Rattle.gix_odb_world.proofs.QuietTurn.{failed_now}
+use Rattle.gix_odb_world.proofs.SeatLemmas.{seats_now}
 use Rattle.gix_odb_world.proofs.SeatLemmas.Elsewhere.{slice_get-set_same}
 use Rattle.gix_odb_world.proofs.Stock.{HasStock, HasStockAt, stocked}
 use Rattle.gix_odb_world.proofs.Stock.OneCore.{IsOfStore, IsStocked, ShownSince, shown_later}
-use Rattle.gix_odb_world.proofs.Stock.Snapshots.{Shows, is_opened, slots_are, snapshot_shows}
+use Rattle.gix_odb_world.proofs.Stock.Snapshots.{Shows, is_opened, slots_are, slots_of_seat, snapshot_shows}
 use Rattle.gix_odb_world.proofs.Streams.{next_entry_suits, streams_are_short}
 use Rattle.gix_odb_world.proofs.ToldLemmas.{told_first, told_turn, view_first, view_kept}
 use Rattle.gix_odb_world.proofs.ToldLists.{AreAnswered-push, AreNumbered-push, AreWithin-push, among_more, last_among, nothing_among, number_after-push, one_of_more, within_last}
@@ -88,7 +90,7 @@ module _ (first : Volume) (events : List Event) (e : Event) where
   count = length_push events e
 
   -- folders that never have more entries had no more before
-  most_before : (store : Store) (begun entries : ℕ) → HasAtMost (tree_at first whole) store.parts begun (length whole) entries
+  pub most_before : (store : Store) (begun entries : ℕ) → HasAtMost (tree_at first whole) store.parts begun (length whole) entries
       → HasAtMost (tree_at first events) store.parts begun (length events) entries
   most_before store begun entries most moment from to folder names listed_so is =
       let longer = count in
@@ -130,13 +132,13 @@ module _ (first : Volume) (events : List Event) (e : Event) where
         snapshot =
             subst (IsShownView (ShownSince first whole store) setting store.hash) (sym seen)
             (IsShownView-wider (ShownSince first events store) (ShownSince first whole store) (shown_later first events e store) setting store.hash _ well.snapshot);
-        few = subst (λ (v : View). length v.snapshot.indices ≤ store.slots) (sym seen) well.few;
+        few = subst (λ (v : View). length v.snapshot.indices ≤ modes.slots) (sym seen) well.few;
         place = rises.0;
         truth =
             subst (AreTrue (ShownSince first whole store) setting store.hash) (sym same)
             (AreTrue-wider (ShownSince first events store) (ShownSince first whole store) (shown_later first events e store) setting store.hash _ well.truth);
         answered = subst AreAnswered (sym same) well.answered;
-        numbered = subst (AreNumbered store.slots 0) (sym same) well.numbered;
+        numbered = subst (AreNumbered modes.slots 0) (sym same) well.numbered;
         no_later =
             subst (λ xs. number_after 0 xs ≤ (present (history_at (cores_after whole) modes.core)).list_no) (sym same)
             (let low = well.no_later in omega (arith, low, rises.1));
@@ -163,11 +165,11 @@ module _ (first : Volume) (events : List Event) (e : Event) where
       record {
         opened = omega (arith, early, longer);
         snapshot = shows.0;
-        few = shows.1;
+        few = subst (λ (n : ℕ). length (view_then whole handle modes.core (length events + 1)).snapshot.indices ≤ n) (slots_of_seat first whole handle store modes start.seated stock) shows.1;
         place = slice_get_within (cores_after whole) modes.core stock.history stock.there;
         truth = λ exchange among. absurd (nothing_among exchange (subst (λ xs. Contains xs exchange) none among));
         answered = subst AreAnswered (sym none) tt;
-        numbered = subst (AreNumbered store.slots 0) (sym none) tt;
+        numbered = subst (AreNumbered modes.slots 0) (sym none) tt;
         no_later = subst (λ xs. number_after 0 xs ≤ (present (history_at (cores_after whole) modes.core)).list_no) (sym none) (omega arith);
         within = λ entries most. subst (AreWithin entries None) (sym none) tt;
         given = λ ask answer was. absurd (nothing_among _ (subst (λ xs. WasTold xs (parts.Disk ask) (told.Disk answer)) none was));
@@ -202,7 +204,7 @@ module _ (first : Volume) (events : List Event) (e : Event) where
     record IsToldTruly (exchange : Exchange) : Type 0 where
       truth : IsTrue (ShownSince first whole store) setting store.hash exchange.ask exchange.answer
       fitting : IsAnswerTo exchange.ask exchange.answer
-      numbered : IsNumbered store.slots (number_after 0 before) exchange.ask exchange.answer
+      numbered : IsNumbered running.modes.slots (number_after 0 before) exchange.ask exchange.answer
       no_later : number_by (number_after 0 before) exchange.answer ≤ (present (history_at (cores_after whole) core)).list_no
       within : (entries : ℕ) → HasAtMost (tree_at first whole) store.parts begun (length whole) entries
           → streams.HasAtMost entries (stream_by (stream_in before) exchange.ask exchange.answer)
@@ -216,7 +218,7 @@ module _ (first : Volume) (events : List Event) (e : Event) where
       snapshot =
           subst (IsShownView (ShownSince first whole store) setting store.hash) (sym seen)
           (IsShownView-wider (ShownSince first events store) (ShownSince first whole store) (shown_later first events e store) setting store.hash _ well.snapshot);
-      few = subst (λ (v : View). length v.snapshot.indices ≤ store.slots) (sym seen) well.few;
+      few = subst (λ (v : View). length v.snapshot.indices ≤ running.modes.slots) (sym seen) well.few;
       place = there;
       truth = λ one among.
           elim (one_of_more before exchange one (subst (λ xs. Contains xs one) same among)) [
@@ -224,7 +226,7 @@ module _ (first : Volume) (events : List Event) (e : Event) where
             | inr is ↦ subst (λ (x : Exchange). IsTrue (ShownSince first whole store) setting store.hash x.ask x.answer) (sym is) truly.truth
           ];
       answered = subst AreAnswered (sym same) (AreAnswered-push before exchange well.answered truly.fitting);
-      numbered = subst (AreNumbered store.slots 0) (sym same) (AreNumbered-push store.slots 0 before exchange well.numbered truly.numbered);
+      numbered = subst (AreNumbered running.modes.slots 0) (sym same) (AreNumbered-push running.modes.slots 0 before exchange well.numbered truly.numbered);
       no_later =
           subst (λ xs. number_after 0 xs ≤ (present (history_at (cores_after whole) core)).list_no) (sym same)
           (subst (λ n. n ≤ (present (history_at (cores_after whole) core)).list_no) (sym (number_after-push 0 before exchange)) truly.no_later);
@@ -250,6 +252,12 @@ module _ (first : Volume) (events : List Event) (e : Event) where
     stock =
         subst (HasStockAt first events store running.modes) knows.task
         (subst (HasStock first events) ran.status (stocked first events ran.lawful ran.throughout handle))
+
+    -- where its handle is seated
+    seated : IsSeated (cores_after events) handle running.modes
+    seated =
+        subst (HasSeatAt (cores_after events) handle running.modes) knows.task
+        (subst (HasSeat events handle) ran.status (seats_now first events ran.lawful handle))
 
     abbrev history : History
     history = stock.history
@@ -308,7 +316,7 @@ module _ (first : Volume) (events : List Event) (e : Event) where
         numbered =
             core_answers_are_numbered history.opening history.entries handle event answer answer_is (number_after 0 before) low
             (is_opened first events store history stock.of) (low_state first events store history stock.of) stock.of.possible can
-            store.slots (sym (slots_are first events store history stock.of));
+            running.modes.slots (sym (slots_are first events store history stock.of ∙ slots_of_seat first events handle store running.modes seated stock));
         no_later =
             subst (λ (s : Shape). number_by (number_after 0 before) (told.Core answer) ≤ s.list_no) behind_is
             (core_answers_tell_no_later_number history.opening history.entries handle event answer answer_is (number_after 0 before) low);
@@ -337,6 +345,12 @@ module _ (first : Volume) (events : List Event) (e : Event) where
       disk_asked : ask_of (look_now events handle store running.modes begun knows.query) ≡ Some (parts.Disk ask)
       disk_asked = ap ask_of (sym knows.is) ∙ asked
 
+      -- a stream that it reads on is its own
+      own_stream : (dir : ℕ) → ask ≡ asks.NextEntry dir → IsOwnStream before dir
+      own_stream dir is =
+          streams_of_look_ups_are_their_own setting (view_then events handle core begun) knows.query (sought store.parts running.modes.ignoring knows.query) before
+          knows.asked dir (inl (disk_asked ∙ ap (λ a. Some (parts.Disk a)) is))
+
       -- the tree that answers is that of the moment before
       tree_is : tree_at first whole (length events) ≡ tree_of disk.state
       tree_is = tree_at-before first events e (length events) (omega arith) ∙ ap (λ past. tree_of (disk_after first past).state) (take-length events)
@@ -351,12 +365,12 @@ module _ (first : Volume) (events : List Event) (e : Event) where
               to = let c = count in omega (arith, c);
               was = (time, subst (λ tree. read_of tree path ≡ Ok (bytes, time)) (sym tree_is) read);
             })
-            ask (suits disk ask (λ dir is. next_entry_suits first events e handle running look knows ran dir (disk_asked ∙ ap (λ a. Some (parts.Disk a)) is)));
+            ask (suits disk ask (λ dir is. next_entry_suits first events e handle running ran dir (own_stream dir is)));
         fitting = tt;
         numbered = tt;
         no_later = let rises = list_rises (OfDisk ask disk_answer) core turn.asked well.place in let low = well.no_later in omega (arith, rises.1, low);
         within = λ entries most.
-            streams_are_short first events e handle running look knows ran ask disk_asked entries most
+            streams_are_short first events e handle running ran ask own_stream entries most
             (within_last entries None before (well.within entries (most_before store begun entries most)) tt);
         given = λ own answer is.
             let same : own ≡ ask = same_asked own ask (ap (λ (x : Exchange). x.ask) is) in

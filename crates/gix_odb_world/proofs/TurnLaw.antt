@@ -137,7 +137,7 @@ module _ (first : Volume) (events : List Event) (old : Course) (number : ℕ) (r
     Most other entries = HasAtMost (tree_at first whole) other.store.parts other.begun (length events + 1) entries
 
     timed : (result : Result Reply Work) → WorkNow result → outcome_of result ≡ outcomes.Pending → (entries : ℕ) → Most running entries
-        → running.turns + 1 < bound_of_task running.store running.task entries
+        → running.turns + 1 < bound_of_task running.store running.modes running.task entries
     timed (Ok own) now is entries most = absurd (cc is)
     timed (Err left) now is entries most = now.1 entries most
 
@@ -186,8 +186,8 @@ module _ (first : Volume) (events : List Event) (old : Course) (number : ℕ) (r
               of_turn (λ h r. (k : Task) → BegunAs events h r.begun r.store k → (o : Reply) → outcome_of after ≡ outcomes.Reply o → Promise first whole h r.store r.modes r.begun k o)
               (λ k b o told. of_task (λ k. Promise first whole number running.store running.modes running.begun k o) (promised after come o told) k b) handle other turns_it task began reply is;
           in_time = λ handle other task entries turns_it began is most.
-              of_turn (λ h r. (k : Task) → BegunAs events h r.begun r.store k → outcome_of after ≡ outcomes.Pending → (n : ℕ) → Most r n → r.turns + 1 < bound_of_task r.store k n)
-              (λ k b told n few. of_task (λ k. running.turns + 1 < bound_of_task running.store k n) (timed after come told n few) k b) handle other turns_it task began is entries most;
+              of_turn (λ h r. (k : Task) → BegunAs events h r.begun r.store k → outcome_of after ≡ outcomes.Pending → (n : ℕ) → Most r n → r.turns + 1 < bound_of_task r.store r.modes k n)
+              (λ k b told n few. of_task (λ k. running.turns + 1 < bound_of_task running.store running.modes k n) (timed after come told n few) k b) handle other turns_it task began is entries most;
         }
 
     -- ---- the handle after it

@@ -63,11 +63,12 @@ left_at m (Ok reply) left is = absurd (cc is)
 left_at m (Err next) left is = (next, refl, cc is)
 
 -- work that is left and writes is left of work that wrote, unless its write has made no file yet
-pub wrote_before : (store : Store) (work left : Work) (answer : Option Answer) (call : LooseCall) → fed_in store work answer ≡ Err left
+pub wrote_before : (first : Volume) (events : List Event) (handle : ℕ) (running : Running) (work left : Work) (answer : Option Answer) (call : LooseCall)
+    → Knows first events handle running work → fed_in running.store work answer ≡ Err left
     → write_in left ≡ Some call
     → ((own : LooseCall) × (write_in work ≡ Some own)) ⊎ HasNoFile call
-wrote_before store work left answer call is writes =
-    let next = left_at (at work).machine ((at work).machine.feed store (at work).state answer) left is in
+wrote_before first events handle running work left answer call knows is writes =
+    let next = left_at (at work).machine ((at work).machine.feed running.store (at work).state answer) left is in
     let home_is = (laws_at work).at_home next.0 in
-    (laws_at work).writes.before store (at work).state next.0 answer call next.1
+    (laws_at work).writes.before first events handle running (at work).state next.0 answer call knows next.1
     (sym (ap (λ (a : At ((at work).machine.work next.0)). a.machine.writes a.state) home_is) ∙ (ap write_in next.2 ∙ writes))

@@ -1,5 +1,5 @@
 -- What a write has done stays done over the steps of others.
-use Rattle.std.proofs.Common.{◌≡◌, ℕ, ◌+◌, ◌<◌, ◌≤◌, ◌^◌, List, [], ◌∷◌, ◌++◌, length, take, Contains, Some, None, Option, refl, sym, ap, ◌∙◌, subst, arith, inl, inr}
+use Rattle.std.proofs.Common.{◌≡◌, ℕ, ◌+◌, ◌<◌, ◌≤◌, List, [], ◌∷◌, ◌++◌, length, take, Contains, Some, None, Option, refl, sym, ap, ◌∙◌, subst, arith, inl, inr}
 use Rattle.std.specs.Prelude.{true}
 use Rattle.std.proofs.lemmas.List.{take-append-le, length_push}
 use Rattle.std.proofs.lemmas.Option.{slice_get_within}
@@ -9,6 +9,7 @@ use Rattle.odb_disk.specs.Ask.{answer_now}
 use Rattle.odb_disk.specs.MemDisk.{Volume}
 use Rattle.odb_tree.specs.Tree.{Tree}
 use Rattle.odb_tree.specs.Tree.Way.{SameOnWay}
+use Rattle.odb_tree.specs.declared.change.Change.{Change}
 use Rattle.odb_disk.specs.declared.ask.DiskAnswer.{DiskAnswer}
 use Rattle.odb_disk.specs.declared.ask.DiskAsk.{DiskAsk}
 use Rattle.odb_tree.specs.OwnFile.{HasFile}
@@ -16,20 +17,13 @@ use Rattle.odb_tree.proofs.OwnFileLaws.{has_file_kept}
 use Rattle.gix_odb_loose.specs.Exchanges.{Exchange}
 use Rattle.gix_odb_loose.specs.WriteAsks.{write_of}
 use Rattle.gix_odb_loose.specs.WriteOrder.{temp_path, number_made}
-use Rattle.gix_odb_loose.specs.declared.call.LooseCall.{LooseCall}
-use Rattle.gix_hash.specs.declared.object_id.ObjectId.{ObjectId}
-use Rattle.gix_object.specs.declared.kind.Kind.{Kind}
 use Rattle.gix_odb_loose.proofs.AskLaws.{IsAlong-start}
 use Rattle.gix_odb_loose.specs.declared.write_order.WriteStage.{WriteStage}
 use Rattle.gix_odb_loose.specs.declared.write_order.WriteStage.TheVariants as write_stages
-use Rattle.gix_odb.specs.CallOrder.{writing}
-use Rattle.gix_odb_calls.specs.declared.call.Call.TheVariants.{Write}
-use Rattle.gix_odb_world.specs.AtWork.{nothing_in_front, Modes}
 use Rattle.gix_odb_world.specs.Event.{OfDisk, Event}
-use Rattle.gix_odb_world.specs.Status.{MakeCall, Running, Store, running_from}
 use Rattle.gix_odb_world.specs.Run.{IsTurnOf, TellsCall, disk_after, tree_at}
-use Rattle.gix_odb_world.specs.Running.Write.{HoldsFile, Holds, IsAtOwnWrite, IsUntouched, IsWriting, StandsAt, content_at}
-use Rattle.gix_odb_world.specs.Writing.{AskedAt, AskedSince, EachTurn, LeftAlone, ToWrite}
+use Rattle.gix_odb_world.specs.Running.Write.{HoldsFile, Holds, IsUntouched, StandsAt, content_at}
+use Rattle.gix_odb_world.specs.Writing.{AskedAt, AskedSince, ChangedNothing, EachTurn, IsNewFile, IsRename, LeftAlone, ToWrite, head_to_write}
 use Rattle.gix_odb_world.proofs.HistoryLemmas.{slice_get-push, slice_get-last, slice_get-kept, tree_at-before}
 
 -- ---- one event more
@@ -135,39 +129,27 @@ untouched_push events e handle begun (Some number) other each = tt
 nothing_among : (x : Exchange) → ¬ (Contains [] x)
 nothing_among x (k, within, is) = omega (arith, within)
 
--- a write that the event begins has done nothing
-pub writing_begun : (first : Volume) (events : List Event) (e : Event) (handle : ℕ) (store : Store) (modes : Modes) (kind : Kind) (size : ℕ) (bytes : List ℕ)
-    (known : Option ObjectId) → size < 2 ^ 64
-    → IsAtOwnWrite first (events ++ e ∷ []) handle (running_from (length events + 1) (MakeCall (Write kind size bytes known)) store modes) nothing_in_front
-    (writing store.parts.objects store.hash kind size bytes known)
-writing_begun first events e handle store modes kind size bytes known fits =
-    let short : length (events ++ e ∷ []) ≤ length events + 1 = omega (arith, length_push events e) in
-    record {
-      writing = record {
-        write = record { objects = store.parts.objects; hash = store.hash; kind = kind; size = size; bytes = bytes; known = known };
-        into = refl;
-        hashed = refl;
-        fits = fits;
-        stage = write_stages.Making 0;
-        is = refl;
-        own = 0;
-        stands = record {
-          past = [];
-          along = IsAlong-start (write_of (record { objects = store.parts.objects; kind = kind; size = size }) store.hash known bytes);
-          had = refl;
-          asked = λ x among. absurd (nothing_among x among);
-          unnamed = each_turn_none (events ++ e ∷ []) handle (length events + 1) _ short;
-          made = each_turn_none (events ++ e ∷ []) handle (length events + 1) _ short;
-          untouched = each_turn_none (events ++ e ∷ []) handle (length events + 1) _ short;
-          holds = tt;
-        };
-      };
-      task = refl;
-      turns = refl;
-    }
+-- a write whose handle has changed nothing yet has done nothing
+pub stands_at_first : (first : Volume) (events : List Event) (handle begun : ℕ) (w : ToWrite) → ChangedNothing events handle begun
+    → StandsAt first events handle begun 0 w (write_stages.Making 0)
+stands_at_first first events handle begun w unchanged = record {
+  past = [];
+  along = IsAlong-start (write_of (head_to_write w) w.hash w.known w.bytes);
+  had = refl;
+  asked = λ x among. absurd (nothing_among x among);
+  unnamed = λ place x later there turn. subst (λ (change : Option Change). ¬ (IsRename change)) (sym (unchanged place x later there turn)) (λ never. never);
+  made = λ place x later there turn new. absurd (subst IsNewFile (unchanged place x later there turn) new);
+  untouched = unchanged;
+  holds = tt;
+}
 
--- what a write knows stands over an event that isn't its turn
-stands_push : (first : Volume) (events : List Event) (e : Event) (handle begun own : ℕ) (w : ToWrite) (stage : WriteStage)
+-- nothing was changed where the last event changed nothing
+pub unchanged_push : (events : List Event) (e : Event) (handle begun : ℕ) → ChangedNothing events handle begun → (IsTurnOf handle e.step → e.entry.change ≡ None)
+    → ChangedNothing (events ++ e ∷ []) handle begun
+unchanged_push events e handle begun unchanged here = each_turn_push events e handle begun (λ x. x.entry.change ≡ None) unchanged here
+
+-- what a write knows stands over an event that isn't its turn, whatever came in front of it
+pub stands_push : (first : Volume) (events : List Event) (e : Event) (handle begun own : ℕ) (w : ToWrite) (stage : WriteStage)
     → ¬ (IsTurnOf handle e.step)
     → StandsAt first events handle begun own w stage → StandsAt first (events ++ e ∷ []) handle begun own w stage
 stands_push first events e handle begun own w stage other stands =
@@ -180,25 +162,4 @@ stands_push first events e handle begun own w stage other stands =
       made = each_turn_push events e handle begun _ stands.made (λ turn. absurd (other turn));
       untouched = untouched_push events e handle begun (number_made stage) other stands.untouched;
       holds = holds_push first events e handle begun w.objects (number_made stage) (content_at w stage) other stands.holds;
-    }
-
--- a running write goes on as it is, whatever comes in front of it
-pub writing_push : (first : Volume) (events : List Event) (e : Event) (handle : ℕ) (running : Running) (call : LooseCall)
-    → ¬ (IsTurnOf handle e.step)
-    → (front : ℕ) → IsAtOwnWrite first events handle running front call → IsAtOwnWrite first (events ++ e ∷ []) handle running front call
-writing_push first events e handle running call other front at =
-    let writes : IsWriting first events handle running call = at.writing in
-    record {
-      writing = record {
-        write = writes.write;
-        into = writes.into;
-        hashed = writes.hashed;
-        fits = writes.fits;
-        stage = writes.stage;
-        is = writes.is;
-        own = writes.own;
-        stands = stands_push first events e handle running.begun writes.own writes.write writes.stage other writes.stands;
-      };
-      task = at.task;
-      turns = at.turns;
     }

@@ -1,130 +1,329 @@
 -- A write keeps the laws of a machine.
 pub mod Asks
-use Rattle.std.proofs.Common.{◌≡◌, inl, ℕ, ◌+◌, ◌≤◌, List, [], ◌∷◌, ◌++◌, length, Result, Ok, Err, Option, Some, None, refl, sym, ◌∙◌, ap, subst}
+pub mod Begun
+pub mod Front
+use Rattle.std.proofs.Common.{◌≡◌, ◌⊎◌, inl, inr, ℕ, ◌+◌, ◌≤◌, List, [], ◌∷◌, ◌++◌, length, Result, Ok, Err, Option, Some, None, refl, sym, ◌∙◌, ap, subst, arith}
+use Rattle.std.proofs.lemmas.List.{length_push}
 use Rattle.odb_disk.specs.MemDisk.{Volume}
-use Rattle.odb_disk.specs.Ask.{answer_now}
 use Rattle.odb_disk.specs.declared.ask.DiskAnswer.{DiskAnswer}
 use Rattle.odb_disk.specs.declared.ask.DiskAsk.{DiskAsk}
+use Rattle.gix_odb_core.specs.Replay.{CanHappen}
+use Rattle.gix_odb_core.specs.declared.shape.Shape.{Shape}
 use Rattle.gix_odb_loose.specs.LooseOrder as loose_order
 use Rattle.gix_odb_loose.specs.LooseOrder.{disk_ask_of}
 use Rattle.gix_odb_loose.specs.declared.call.LooseCall.{LooseCall}
-use Rattle.gix_odb.specs.CallOrder as calls
-use Rattle.gix_odb.specs.CallOrder.{result_of_write, writing_result}
-use Rattle.gix_odb_calls.specs.declared.call.Call.TheVariants as call_kinds
+use Rattle.gix_odb_loose.specs.declared.write_order.WriteStage.TheVariants.{Making}
+use Rattle.gix_odb_packs.specs.declared.answer.Answer.TheVariants as told
+use Rattle.gix_odb_packs.specs.declared.answer.PartAsk.{PartAsk}
+use Rattle.gix_odb_packs.specs.declared.answer.PartAsk.TheVariants as parts
 use Rattle.gix_odb_calls.specs.declared.call.Reply.{Reply}
-use Rattle.gix_odb.specs.declared.call_state.CallState.TheVariants.{Writing}
+use Rattle.gix_odb_looks.specs.LookUpOrder.{Setting}
+use Rattle.gix_odb_refresh.specs.RefreshOrder as refreshes
+use Rattle.gix_odb_refresh.specs.Refreshed.{AreAsked}
+use Rattle.gix_odb_refresh.specs.declared.refresh.Refresh.{Refresh}
+use Rattle.gix_odb_refresh.specs.declared.refresh.Refresh.TheVariants as fronts
+use Rattle.gix_odb.specs.CallOrder as calls
+use Rattle.gix_odb.specs.Contents.{folder_list}
+use Rattle.gix_odb.specs.CallOrder.{fronted, result_of_write, writing_result}
+use Rattle.gix_odb.specs.declared.call_state.CallState.TheVariants.{Refused}
 use Rattle.gix_odb.specs.declared.handle_state.HandleState.{HandleState}
-use Rattle.gix_odb_world.specs.declared.work.Work.TheVariants.{Calling}
-use Rattle.gix_odb_world.specs.AtWork.{nothing_in_front, Modes}
-use Rattle.gix_odb_world.specs.Event.{Answer, Event, FromCore, FromDisk, OfDisk, to_disk}
+use Rattle.gix_odb_world.specs.AtWork.{Modes, setting_in}
+use Rattle.gix_odb_world.specs.Bound.{turns_of_lap}
+use Rattle.gix_odb_world.specs.Event.{Answer, CoreEvent, Event, FromCore, FromDisk, ToCore, ToDisk, answered, part_asked, to_disk}
+use Rattle.gix_odb_world.specs.Handle.{IsHandleOf}
 use Rattle.gix_odb_world.specs.Machine.{placed}
-use Rattle.gix_odb_world.specs.Run.{disk_after}
-use Rattle.gix_odb_world.specs.Running.Write.{IsAtOwnWrite, IsWriting, writing}
-use Rattle.gix_odb_world.specs.Status.{MakeCall, OpenStore, Running, Store, Task, begun_with, running_from}
-use Rattle.gix_odb_world.specs.WorkOrder.{calling_result, fed_after, result_in}
-use Rattle.gix_odb_world.proofs.WriteMachine.Asks.{in_order_write}
-use Rattle.gix_odb_world.proofs.MachineLaws.{AsksDisk, HasTurn, BeginsAs, KeepsLaws, KeepsWriteLaws, MachineComes, of_disk_part, turns_by_disk}
+use Rattle.gix_odb_world.specs.Machines.{at}
+use Rattle.gix_odb_world.specs.Run.{IsTurnOf, change_by, disk_after}
+use Rattle.gix_odb_world.specs.Running.Write.{InFront, IsAtOwnWrite, IsInFront, IsWriting, KnowsOfWrite, Own, Unlisted, WriteState, front_result, own_result, work_of}
+use Rattle.gix_odb_world.specs.Running.Write.{write_asks, write_at, write_fed, writes_by, writing}
+use Rattle.gix_odb_world.specs.Status.{MakeCall, Running, Store}
+use Rattle.gix_odb_world.specs.Told.{refresh_begun, told_since}
+use Rattle.gix_odb_world.specs.Writing.{ToWrite, call_to_write}
+use Rattle.gix_odb_world.specs.WorkOrder.{asks_on, calling_result, fed_after, result_in}
+use Rattle.gix_odb_world.proofs.AnsweredLemmas.{answered_later}
+use Rattle.gix_odb_world.proofs.FrontLemmas.{begun_same, front_same, now_same}
+use Rattle.gix_odb_world.proofs.LookMachine.Turn.{call_asked, event_asked}
+use Rattle.gix_odb_world.proofs.MachineLaws.{HasNoFile, HasTurn, IsRunning, IsTurnAsking, KeepsLaws, KeepsTurnLaws, KeepsWriteLaws, MachineComes, TakesTurn}
+use Rattle.gix_odb_world.proofs.MachineLaws.{home, no_event, of_disk_part, told_after}
+use Rattle.gix_odb_world.proofs.SettingLemmas.{setting_same}
+use Rattle.gix_odb_world.proofs.ToldLemmas.{told_kept}
+use Rattle.gix_odb_world.proofs.ToldWell.{most_before}
 use Rattle.gix_odb_world.proofs.WriteFive.{five_written}
 use Rattle.gix_odb_world.proofs.WriteGoes.{write_comes}
-use Rattle.gix_odb_world.proofs.WriteKept.{writing_begun, writing_push}
+use Rattle.gix_odb_world.proofs.WriteKept.{stands_push, unchanged_push}
+use Rattle.gix_odb_world.proofs.WriteMachine.Asks.{in_order_write}
+use Rattle.gix_odb_world.proofs.WriteMachine.Begun.{write_starts}
+use Rattle.gix_odb_world.proofs.WriteMachine.Front.{front_comes_on_core, front_comes_on_disk, front_happens, front_quiet, front_takes}
 use Rattle.gix_odb_world.proofs.WriteTurn.{ask_at_stage}
-use Rattle.gix_odb_world.proofs.WriteTurn.Common.{IsTurnWith}
 
-write_placed : (result : Result Reply LooseCall) → calling_result (writing_result result) ≡ placed writing result
-write_placed (Ok reply) = refl
-write_placed (Err call) = refl
+-- ---- its code
 
-write_feeds : (store : Store) (code : HandleState) (call : LooseCall) (answer : Option Answer)
-    → result_in (fed_after code (Calling (Writing call)) answer) ≡ placed writing (writing.feed store call answer)
-write_feeds store code call None = write_placed (result_of_write call)
-write_feeds store code call (Some (FromCore answer)) = write_placed (result_of_write call)
-write_feeds store code call (Some (FromDisk answer)) = write_placed (result_of_write (loose_order.fed call answer))
+own_placed : (result : Result Reply LooseCall) → calling_result (writing_result result) ≡ placed writing (own_result result)
+own_placed (Ok reply) = refl
+own_placed (Err call) = refl
 
--- a state at which a task begins is that of its write
-write_starts : (first : Volume) (events : List Event) (e : Event) (handle : ℕ) (store : Store) (modes : Modes) (task : Task) (call : LooseCall)
-    → BeginsAs first (events ++ e ∷ []) handle store modes task
-    → begun_with store modes task ≡ Calling (Writing call)
-    → IsAtOwnWrite first (events ++ e ∷ []) handle (running_from (length events + 1) task store modes) nothing_in_front call
-write_starts first events e handle store modes OpenStore call start at = absurd (cc at)
-write_starts first events e handle store modes (MakeCall (call_kinds.Write kind size bytes id)) call start at =
-    let same : calls.writing store.parts.objects store.hash kind size bytes id ≡ call = cc at in
-    subst (IsAtOwnWrite first (events ++ e ∷ []) handle (running_from (length events + 1) (MakeCall (call_kinds.Write kind size bytes id)) store modes) nothing_in_front) same
-    (writing_begun first events e handle store modes kind size bytes id start.sized)
-write_starts first events e handle store modes (MakeCall other) call start at = absurd (cc at)
+-- what the code of a write comes to by what stands in front of it then
+front_placed : (call : LooseCall) (refresh : Refresh) → calling_result (calls.result_of (fronted refresh call)) ≡ placed writing (front_result call refresh)
+front_placed call fronts.Ready = own_placed (result_of_write call)
+front_placed call (fronts.Refused error) = refl
+front_placed call fronts.Looking = refl
+front_placed call (fronts.Listing lister base) = refl
+front_placed call (fronts.Publishing listing) = refl
 
-module _ (first : Volume) (events : List Event) (handle : ℕ) (running : Running) (call : LooseCall) (ask : DiskAsk)
-    (knows : IsAtOwnWrite first events handle running nothing_in_front call) (is : disk_ask_of call ≡ Some ask) where
+write_code_asks : (code : HandleState) (state : WriteState) → asks_on code (work_of state) ≡ write_asks state
+write_code_asks code (InFront refresh call) = refl
+write_code_asks code (Own call) = of_disk_part (disk_ask_of call)
+write_code_asks code (Unlisted error) = refl
+
+write_feeds : (store : Store) (modes : Modes) (code : HandleState) → IsHandleOf store modes code → (state : WriteState) (answer : Option Answer)
+    → result_in (fed_after code (work_of state) answer) ≡ placed writing (write_fed store state answer)
+write_feeds store modes code own (InFront refresh call) None = refl
+write_feeds store modes code own (InFront refresh call) (Some (FromDisk answer)) =
+    ap (λ (setting : Setting). calling_result (calls.result_of (fronted (refreshes.fed setting.objects setting.folders refresh (told.Disk answer)) call))) (setting_same store modes code own)
+    ∙ front_placed call (refreshes.fed store.parts.objects store.parts.folders refresh (told.Disk answer))
+write_feeds store modes code own (InFront refresh call) (Some (FromCore answer)) =
+    ap (λ (setting : Setting). calling_result (calls.result_of (fronted (refreshes.fed setting.objects setting.folders refresh (told.Core answer)) call))) (setting_same store modes code own)
+    ∙ front_placed call (refreshes.fed store.parts.objects store.parts.folders refresh (told.Core answer))
+write_feeds store modes code own (Own call) None = own_placed (result_of_write call)
+write_feeds store modes code own (Own call) (Some (FromCore answer)) = own_placed (result_of_write call)
+write_feeds store modes code own (Own call) (Some (FromDisk answer)) = own_placed (result_of_write (loose_order.fed call answer))
+write_feeds store modes code own (Unlisted error) None = refl
+write_feeds store modes code own (Unlisted error) (Some (FromDisk answer)) = refl
+write_feeds store modes code own (Unlisted error) (Some (FromCore answer)) = refl
+
+-- ---- its own turns
+
+module _ (first : Volume) (events : List Event) (handle : ℕ) (running : Running) (call : LooseCall) (knows : IsAtOwnWrite first events handle running call) where
   abbrev own : IsWriting first events handle running call
   own = knows.writing
 
-  -- it asks what its stage does
-  same_ask : ask_at_stage own.write own.stage ≡ ask
-  same_ask = let both : Some (ask_at_stage own.write own.stage) ≡ Some ask = sym (ap disk_ask_of own.is) ∙ is in cc both
+  abbrev own_ask : DiskAsk
+  own_ask = ask_at_stage own.write own.stage
 
-  write_takes : HasTurn first events handle running running.task ask
-  write_takes =
-      subst (λ a. HasTurn first events handle running running.task a) same_ask
-      (subst (λ task. HasTurn first events handle running task (ask_at_stage own.write own.stage)) (sym knows.task)
+  -- it asks what its stage does
+  own_asks : to_disk (disk_ask_of call) ≡ Some (ToDisk own_ask)
+  own_asks = ap (λ (c : LooseCall). to_disk (disk_ask_of c)) own.is
+
+  own_takes : TakesTurn first events handle running running.task (to_disk (disk_ask_of call))
+  own_takes =
+      subst (TakesTurn first events handle running running.task) (sym own_asks)
+      (subst (λ task. HasTurn first events handle running task own_ask) (sym knows.task)
       (record {
         in_order = in_order_write first events handle running call knows;
         five = five_written first events handle running call own;
       }))
 
-  machine_comes : (e : Event) → running.begun ≤ length events → IsTurnWith first events e handle ask
-      → MachineComes first events e handle running writing (OfDisk ask (answer_now (disk_after first events) ask)) (result_of_write (loose_order.fed call (answer_now (disk_after first events) ask)))
-  machine_comes e since turn =
-      subst (λ a. IsTurnWith first events e handle a → MachineComes first events e handle running writing (OfDisk a (answer_now (disk_after first events) a))
-      (result_of_write (loose_order.fed call (answer_now (disk_after first events) a)))) same_ask
-      (λ stage_turn. write_comes first events e handle running since call knows stage_turn) turn
+  own_comes : (e : Event) → IsTurnAsking first events e handle running (to_disk (disk_ask_of call))
+      → MachineComes first events e handle running writing (told_after first events handle running (to_disk (disk_ask_of call)))
+      (writing.feed running.store (Own call) (answered (told_after first events handle running (to_disk (disk_ask_of call)))))
+  own_comes e =
+      subst (λ a. IsTurnAsking first events e handle running a
+      → MachineComes first events e handle running writing (told_after first events handle running a) (writing.feed running.store (Own call) (answered (told_after first events handle running a))))
+      (sym own_asks) (λ turn. write_comes first events e handle running knows.since call knows turn)
 
--- ---- its laws
+-- ---- its turns
+
+write_takes : (first : Volume) (events : List Event) (handle : ℕ) (running : Running) (state : WriteState) → KnowsOfWrite first events handle running state
+    → TakesTurn first events handle running running.task (write_asks state)
+write_takes first events handle running (InFront refresh call) knows = by knows.more.0 knows.more.1
+  where
+    by : (ask : PartAsk) → refreshes.ask_of refresh ≡ Some ask → TakesTurn first events handle running running.task (part_asked (refreshes.ask_of refresh))
+    by (parts.Disk ask) is =
+        subst (λ a. TakesTurn first events handle running running.task (part_asked a)) (sym is) (front_takes first events handle running refresh call knows ask is)
+    by (parts.Core event) is =
+        subst (λ a. TakesTurn first events handle running running.task (part_asked a)) (sym is)
+        (subst (λ task. TakesTurn first events handle running task (Some (ToCore event))) (sym knows.of.task) (ap refreshes.ask_of (sym knows.refresh_is) ∙ is))
+write_takes first events handle running (Own call) knows = own_takes first events handle running call knows
+write_takes first events handle running (Unlisted error) knows = absurd knows
+
+write_ends : (first : Volume) (events : List Event) (handle : ℕ) (running : Running) (state : WriteState) → KnowsOfWrite first events handle running state
+    → write_asks state ≡ None → (reply : Reply) × (write_fed running.store state None ≡ Ok reply)
+write_ends first events handle running (InFront refresh call) knows none = absurd (never knows.more.0 (ap part_asked (sym knows.more.1) ∙ none))
+  where
+    never : (ask : PartAsk) → ¬ (part_asked (Some ask) ≡ None)
+    never (parts.Disk ask) is = cc is
+    never (parts.Core event) is = cc is
+write_ends first events handle running (Own call) knows none = let both = sym (own_asks first events handle running call knows) ∙ none in absurd (cc both)
+write_ends first events handle running (Unlisted error) knows none = absurd knows
+
+write_happens : (first : Volume) (events : List Event) (handle : ℕ) (running : Running) (state : WriteState) → KnowsOfWrite first events handle running state
+    → (event : CoreEvent) → write_asks state ≡ Some (ToCore event) → (shape : Shape) (seat : ℕ) → CanHappen shape seat event
+write_happens first events handle running (InFront refresh call) knows event is shape seat =
+    front_happens first events handle running refresh call knows event (event_asked (refreshes.ask_of refresh) event is) shape seat
+write_happens first events handle running (Own call) knows event is shape seat = absurd (no_event (disk_ask_of call) event is)
+write_happens first events handle running (Unlisted error) knows event is shape seat = absurd knows
+
+-- what a turn of what stands in front comes to, by what it asks for
+module _ (first : Volume) (events : List Event) (e : Event) (handle : ℕ) (running : Running) (refresh : Refresh) (call : LooseCall) where
+  abbrev FrontComes : Option PartAsk → Type 0
+  FrontComes asked =
+      IsTurnAsking first events e handle running (part_asked asked)
+      → MachineComes first events e handle running writing (told_after first events handle running (part_asked asked))
+      (write_fed running.store (InFront refresh call) (answered (told_after first events handle running (part_asked asked))))
+
+  front_comes : IsRunning first events handle running → IsInFront first events handle running refresh call → (ask : PartAsk)
+      → refreshes.ask_of refresh ≡ Some ask → FrontComes (refreshes.ask_of refresh)
+  front_comes ran knows (parts.Disk ask) is = subst FrontComes (sym is) (λ turn. front_comes_on_disk first events handle running refresh call knows e ran ask is turn)
+  front_comes ran knows (parts.Core event) is = subst FrontComes (sym is) (λ turn. front_comes_on_core first events handle running refresh call knows e event is turn)
+
+write_comes_to : (first : Volume) (events : List Event) (e : Event) (handle : ℕ) (running : Running) → IsRunning first events handle running
+    → (state : WriteState) → KnowsOfWrite first events handle running state → IsTurnAsking first events e handle running (write_asks state)
+    → MachineComes first events e handle running writing (told_after first events handle running (write_asks state))
+    (write_fed running.store state (answered (told_after first events handle running (write_asks state))))
+write_comes_to first events e handle running ran (InFront refresh call) knows =
+    front_comes first events e handle running refresh call ran knows knows.more.0 knows.more.1
+write_comes_to first events e handle running ran (Own call) knows = own_comes first events handle running call knows e
+write_comes_to first events e handle running ran (Unlisted error) knows = absurd knows
+
+writing_turns : KeepsTurnLaws writing
+writing_turns = record {
+  takes = write_takes;
+  ends = write_ends;
+  happens = write_happens;
+  comes = λ first events e handle running since ran state knows. write_comes_to first events e handle running ran state knows;
+}
+
+-- ---- its writes
+
+write_quiet : (first : Volume) (events : List Event) (handle : ℕ) (running : Running) (state : WriteState) (ask : DiskAsk) → KnowsOfWrite first events handle running state
+    → writes_by state ≡ None → write_asks state ≡ Some (ToDisk ask) → change_by (disk_after first events) ask ≡ None
+write_quiet first events handle running (InFront refresh call) ask knows none is =
+    front_quiet first events handle running refresh call knows ask (call_asked (refreshes.ask_of refresh) ask is)
+write_quiet first events handle running (Own call) ask knows none is = absurd (cc none)
+write_quiet first events handle running (Unlisted error) ask knows none is = absurd knows
+
+write_known : (first : Volume) (events : List Event) (handle : ℕ) (running : Running) (state : WriteState) (call : LooseCall)
+    → KnowsOfWrite first events handle running state → writes_by state ≡ Some call → IsWriting first events handle running call
+write_known first events handle running (InFront refresh own) call knows is = absurd (cc is)
+write_known first events handle running (Own own) call knows is = let same : own ≡ call = cc is in subst (IsWriting first events handle running) same knows.writing
+write_known first events handle running (Unlisted error) call knows is = absurd knows
+
+write_asks_own : (state : WriteState) (call : LooseCall) → writes_by state ≡ Some call → write_asks state ≡ to_disk (disk_ask_of call)
+write_asks_own (InFront refresh own) call is = absurd (cc is)
+write_asks_own (Own own) call is = let same : own ≡ call = cc is in ap (λ (c : LooseCall). to_disk (disk_ask_of c)) same
+write_asks_own (Unlisted error) call is = absurd (cc is)
 
 -- a write that ends has its reply
-write_ends : (call own : LooseCall) (answer : DiskAnswer) (reply : Reply) → Some call ≡ Some own
-    → result_of_write (loose_order.fed own answer) ≡ Ok reply
-    → result_of_write (loose_order.fed call answer) ≡ Ok reply
-write_ends call own answer reply is done = let same : call ≡ own = cc is in subst (λ f. result_of_write (loose_order.fed f answer) ≡ Ok reply) (sym same) done
+write_ends_own : (store : Store) (state : WriteState) (call : LooseCall) (answer : DiskAnswer) (reply : Reply) → writes_by state ≡ Some call
+    → result_of_write (loose_order.fed call answer) ≡ Ok reply → write_fed store state (Some (FromDisk answer)) ≡ Ok reply
+write_ends_own store (InFront refresh own) call answer reply is done = absurd (cc is)
+write_ends_own store (Own own) call answer reply is done =
+    let same : own ≡ call = cc is in
+    ap own_result (ap (λ (c : LooseCall). result_of_write (loose_order.fed c answer)) same ∙ done)
+write_ends_own store (Unlisted error) call answer reply is done = absurd (cc is)
 
-write_asks : (call own : LooseCall) → Some call ≡ Some own → to_disk (disk_ask_of call) ≡ to_disk (disk_ask_of own)
-write_asks call own is = let same : call ≡ own = cc is in ap (λ f. to_disk (disk_ask_of f)) same
+-- a write that begins has made no file
+own_before : (first : Volume) (events : List Event) (handle : ℕ) (running : Running) (refresh : Refresh) (call : LooseCall) → IsInFront first events handle running refresh call
+    → (now : Refresh) (next : WriteState) (own : LooseCall) → front_result call now ≡ Err next → writes_by next ≡ Some own → HasNoFile own
+own_before first events handle running refresh call knows fronts.Ready next own goes writes =
+    let begins : own_result (result_of_write (write_at knows.write (Making 0))) ≡ Err next =
+    ap (λ (c : LooseCall). own_result (result_of_write c)) (sym knows.is) ∙ goes in
+    let left : Own (write_at knows.write (Making 0)) ≡ next = cc begins in
+    let same : Some (write_at knows.write (Making 0)) ≡ Some own = ap writes_by left ∙ writes in
+    record { write = knows.write; number = 0; is = let both : write_at knows.write (Making 0) ≡ own = cc same in sym both }
+own_before first events handle running refresh call knows (fronts.Refused error) next own goes writes = absurd (cc goes)
+own_before first events handle running refresh call knows fronts.Looking next own goes writes =
+    let left : InFront fronts.Looking call ≡ next = cc goes in absurd (cc (ap writes_by left ∙ writes))
+own_before first events handle running refresh call knows (fronts.Listing lister base) next own goes writes =
+    let left : InFront (fronts.Listing lister base) call ≡ next = cc goes in absurd (cc (ap writes_by left ∙ writes))
+own_before first events handle running refresh call knows (fronts.Publishing listing) next own goes writes =
+    let left : InFront (fronts.Publishing listing) call ≡ next = cc goes in absurd (cc (ap writes_by left ∙ writes))
 
-write_known : (first : Volume) (events : List Event) (handle : ℕ) (running : Running) (call own : LooseCall)
-    → IsAtOwnWrite first events handle running nothing_in_front call → Some call ≡ Some own
-    → IsWriting first events handle running own
-write_known first events handle running call own knows is = let same : call ≡ own = cc is in subst (IsWriting first events handle running) same knows.writing
+write_before : (first : Volume) (events : List Event) (handle : ℕ) (running : Running) (state next : WriteState) (answer : Option Answer) (call : LooseCall)
+    → KnowsOfWrite first events handle running state → write_fed running.store state answer ≡ Err next → writes_by next ≡ Some call
+    → ((own : LooseCall) × (writes_by state ≡ Some own)) ⊎ HasNoFile call
+write_before first events handle running (InFront refresh own) next None call knows goes writes =
+    let left : InFront refresh own ≡ next = cc goes in absurd (cc (ap writes_by left ∙ writes))
+write_before first events handle running (InFront refresh own) next (Some (FromDisk answer)) call knows goes writes =
+    inr (own_before first events handle running refresh own knows (refreshes.fed running.store.parts.objects running.store.parts.folders refresh (told.Disk answer)) next call goes writes)
+write_before first events handle running (InFront refresh own) next (Some (FromCore answer)) call knows goes writes =
+    inr (own_before first events handle running refresh own knows (refreshes.fed running.store.parts.objects running.store.parts.folders refresh (told.Core answer)) next call goes writes)
+write_before first events handle running (Own own) next answer call knows goes writes = inl (own, refl)
+write_before first events handle running (Unlisted error) next answer call knows goes writes = absurd knows
 
 writing_writes : KeepsWriteLaws writing
 writing_writes = record {
-  quiet = λ first events handle running call ask knows none is. absurd (cc none);
+  quiet = write_quiet;
   known = write_known;
-  asks = λ store call own is. write_asks call own is;
-  ends = λ store call own answer reply is done. write_ends call own answer reply is done;
-  before = λ store call next answer own goes is. inl (call, refl);
+  asks = λ store state call is. write_asks_own state call is;
+  ends = write_ends_own;
+  before = write_before;
 }
 
--- the call that its stage makes
-write_ask : (first : Volume) (events : List Event) (handle : ℕ) (running : Running) (call : LooseCall)
-    → IsAtOwnWrite first events handle running nothing_in_front call
-    → (ask : DiskAsk) × (disk_ask_of call ≡ Some ask)
-write_ask first events handle running call knows = (ask_at_stage knows.writing.write knows.writing.stage, ap disk_ask_of knows.writing.is)
+-- ---- an event that isn't its turn
 
-writing_turns : AsksDisk writing (λ store call. disk_ask_of call)
-writing_turns = record {
-  is = λ store call. refl;
-  some = write_ask;
-  takes = λ first events handle running call knows ask. write_takes first events handle running call ask knows;
-  comes = λ first events handle running call knows ask. machine_comes first events handle running call ask knows;
-}
+write_kept : (first : Volume) (events : List Event) (e : Event) (handle : ℕ) (running : Running) (state : WriteState) → ¬ (IsTurnOf handle e.step)
+    → KnowsOfWrite first events handle running state → KnowsOfWrite first (events ++ e ∷ []) handle running state
+write_kept first events e handle running (InFront refresh call) other knows =
+    let same = told_kept events e handle running.begun knows.since other in
+    let begun = begun_same events e handle running.store running.modes running.begun knows.since in
+    let since = knows.since in
+    let longer = length_push events e in
+    record {
+      write = knows.write;
+      of = knows.of;
+      is = knows.is;
+      since = omega (arith, since, longer);
+      distinct = knows.distinct;
+      refresh_is = knows.refresh_is ∙ sym (now_same events e handle running.store running.modes running.begun knows.since same);
+      more = knows.more;
+      asked =
+          subst (λ r. AreAsked (setting_in running.store) r (told_since (events ++ e ∷ []) handle running.begun)) (sym begun)
+          (subst (AreAsked (setting_in running.store) (refresh_begun events handle running.modes running.begun)) (sym same) knows.asked);
+      turns = knows.turns ∙ ap length (sym same);
+      well = answered_later first events e handle running.store running.begun same knows.well;
+      unchanged = unchanged_push events e handle running.begun knows.unchanged (λ turn. absurd (other turn));
+    }
+write_kept first events e handle running (Own call) other knows =
+    let same = told_kept events e handle running.begun knows.since other in
+    let front = front_same events e handle running.store running.modes running.begun knows.since same in
+    let writes = knows.writing in
+    let since = knows.since in
+    let longer = length_push events e in
+    let turns = knows.turns in
+    record {
+      writing = record {
+        write = writes.write;
+        into = writes.into;
+        hashed = writes.hashed;
+        fits = writes.fits;
+        stage = writes.stage;
+        is = writes.is;
+        own = writes.own;
+        stands = stands_push first events e handle running.begun writes.own writes.write writes.stage other writes.stands;
+      };
+      task = knows.task;
+      since = omega (arith, since, longer);
+      ready = now_same events e handle running.store running.modes running.begun knows.since same ∙ knows.ready;
+      turns = turns ∙ sym (ap (λ n. n + writes.own) front);
+      short = λ entries most.
+          subst (λ n. n ≤ turns_of_lap running.modes.slots (length (folder_list running.store.parts)) entries) (sym front)
+          (knows.short entries (most_before first events e running.store running.begun entries most));
+    }
+write_kept first events e handle running (Unlisted error) other knows = absurd knows
+
+-- ---- its laws
+
+write_tasked : (first : Volume) (events : List Event) (handle : ℕ) (running : Running) (state : WriteState) → KnowsOfWrite first events handle running state
+    → (w : ToWrite) × (running.task ≡ MakeCall (call_to_write w))
+write_tasked first events handle running (InFront refresh call) knows = (knows.write, knows.of.task)
+write_tasked first events handle running (Own call) knows = (knows.writing.write, knows.task)
+write_tasked first events handle running (Unlisted error) knows = absurd knows
+
+write_at_home : (state : WriteState) → at (work_of state) ≡ home writing state
+write_at_home (InFront refresh call) = refl
+write_at_home (Own call) = refl
+write_at_home (Unlisted error) = refl
 
 pub writing_laws : KeepsLaws writing
 writing_laws = record {
-  at_home = λ call. refl;
-  asks = λ store modes code own call. of_disk_part (disk_ask_of call);
-  feeds = λ store modes code own call answer. write_feeds store code call answer;
+  at_home = write_at_home;
+  asks = λ store modes code own state. write_code_asks code state;
+  feeds = write_feeds;
   starts = write_starts;
-  tasked = λ first events handle running call knows. record { write = knows.writing.write; task_is = knows.task; stage = knows.writing.stage; is = knows.writing.is };
-  bounded = λ store task call is entries. refl;
-  kept = λ first events e handle running call other knows. writing_push first events e handle running call other nothing_in_front knows;
-  turns = turns_by_disk writing (λ store call. disk_ask_of call) writing_turns;
+  tasked = write_tasked;
+  bounded = λ store modes task state is entries. refl;
+  kept = write_kept;
+  turns = writing_turns;
   writes = writing_writes;
 }

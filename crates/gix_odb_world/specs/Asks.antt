@@ -1,5 +1,5 @@
 -- Which call of the disk or event of a core a turn makes, by the task of its handle and the turns that its work has had before.
-use Rattle.std.specs.Prelude.{◌≡◌, ℕ, ◌+◌, ◌*◌, ◌<◌, ◌≤◌, true, List, length, Option, Some, None}
+use Rattle.std.specs.Prelude.{◌≡◌, ◌⊎◌, ℕ, ◌+◌, ◌*◌, ◌<◌, ◌≤◌, List, length, Option, Some, None}
 use Rattle.odb_disk.specs.MemDisk.{Volume}
 use Rattle.odb_disk.specs.declared.ask.DiskAsk.{DiskAsk}
 use Rattle.odb_disk.specs.declared.ask.DiskAsk.TheVariants as asks
@@ -15,11 +15,14 @@ use Rattle.gix_odb_looks.specs.LookUpOrder.{ask_of}
 use Rattle.gix_odb_packs.specs.declared.answer.PartAsk.{PartAsk}
 use Rattle.gix_odb_packs.specs.declared.answer.PartAsk.TheVariants as parts
 use Rattle.gix_odb.specs.Contents.{folder_list}
+use Rattle.gix_odb.specs.OpenOrder as openings
+use Rattle.gix_odb_refresh.specs.RefreshOrder as refreshes
+use Rattle.gix_odb_refresh.specs.declared.refresh.Refresh.TheVariants.{Ready}
 use Rattle.gix_odb_slots.specs.PackId.{most_slots}
-use Rattle.gix_odb_world.specs.AtWork.{nothing_in_front, Modes}
+use Rattle.gix_odb_world.specs.AtWork.{Modes}
 use Rattle.gix_odb_world.specs.Event.{Ask, CoreEvent, Event, ToCore, ToDisk, ToNewCore}
 use Rattle.gix_odb_world.specs.Status.{Store, MakeCall, OpenStore, Task}
-use Rattle.gix_odb_world.specs.Told.{look_now}
+use Rattle.gix_odb_world.specs.Told.{look_now, opening_now, refresh_now, turns_in_front}
 use Rattle.gix_odb_world.specs.Writing.{DoneSince, ToWrite, name_to_write, to_write}
 
 -- Work behind so many turns of its task asks so in its own turns, which are counted from 0.
@@ -27,6 +30,15 @@ pub record AsksBehind (front turns : ℕ) (Asks : (own : ℕ) → Type 0) : Type
   pub own : ℕ
   pub turn : turns ≡ front + own
   pub asks : Asks own
+
+-- What an opening asks of the disk: what its order of work asks for behind all that its handle was told since it began.
+abbrev pub AsksAsOpening : List Event → (handle : ℕ) → Store → (begun : ℕ) → DiskAsk → Type 0
+AsksAsOpening past handle store begun ask = openings.ask_of store.parts.objects (opening_now past handle store begun) ≡ Some ask
+
+-- What stands in front of a write asks for: what the order of work of refreshes asks for behind all that the handle was told since the write
+-- began.
+abbrev pub AsksAsRefresh : List Event → (handle : ℕ) → Store → (modes : Modes) → (begun : ℕ) → PartAsk → Type 0
+AsksAsRefresh past handle store modes begun ask = refreshes.ask_of (refresh_now past handle store modes begun) ≡ Some ask
 
 -- What a query asks for: what the order of work of look-ups asks for behind all that the handle was told since the query began.
 abbrev pub AsksAsLook : List Event → (handle : ℕ) → Store → (modes : Modes) → (begun : ℕ) → Query → Option PartAsk → Type 0
@@ -53,21 +65,30 @@ pub data AsksToWrite (first : Volume) (past : List Event) (handle begun own : �
   Removes : (number : ℕ) (made : HasMadeFile first past handle begun w number)
       → AsksToWrite first past handle begun own w (asks.Remove (temp_path w.objects number))
 
+-- Which call of the disk a write makes that has had so many turns: what stands in front of it makes calls until the store's list was read, and then
+-- come its own turns, which are counted from there.
+abbrev pub AsksAsWrite : Volume → List Event → (handle : ℕ) → Store → (modes : Modes) → (begun turns : ℕ) → ToWrite → DiskAsk → Type 0
+AsksAsWrite first past handle store modes begun turns w ask =
+    AsksAsRefresh past handle store modes begun (parts.Disk ask)
+    ⊎ ((refresh_now past handle store modes begun ≡ Ready)
+    × AsksBehind (turns_in_front past handle store modes begun) turns (λ own. AsksToWrite first past handle begun own w ask))
+
 -- Which call of the disk a turn makes, where its handle has had so many turns since the step that set its task: an opening looks at the
--- objects directory in its first; a query makes the one that its look-up asks for; a write has nothing in front of it here.
+-- objects directory and then lists the folders of packs, where it is to count the indices; a query makes the one that its look-up asks for.
 abbrev pub AsksInOrder : Volume → List Event → (handle : ℕ) → Store → (modes : Modes) → (begun turns : ℕ) → Task → DiskAsk → Type 0
-AsksInOrder first past handle store modes begun turns OpenStore ask = (turns ≡ 0) × (ask ≡ asks.Look store.parts.objects true)
+AsksInOrder first past handle store modes begun turns OpenStore ask = AsksAsOpening past handle store begun ask
 AsksInOrder first past handle store modes begun turns (MakeCall (calls.Find id)) ask = AsksAsLook past handle store modes begun (Find id) (Some (parts.Disk ask))
 AsksInOrder first past handle store modes begun turns (MakeCall (calls.Header id)) ask = AsksAsLook past handle store modes begun (Header id) (Some (parts.Disk ask))
 AsksInOrder first past handle store modes begun turns (MakeCall (calls.Test id)) ask = AsksAsLook past handle store modes begun (Test id) (Some (parts.Disk ask))
 AsksInOrder first past handle store modes begun turns (MakeCall (calls.Write kind size bytes known)) ask =
-    AsksBehind nothing_in_front turns (λ own. AsksToWrite first past handle begun own (to_write store.parts.objects store.hash kind size bytes known) ask)
+    AsksAsWrite first past handle store modes begun turns (to_write store.parts.objects store.hash kind size bytes known) ask
 
--- How many slots and folders a task may ask for in a core for its store: an opening asks for those of the store, in its second turn.
-abbrev pub MayAskNewCore : Store → (turns : ℕ) → Task → (slots folders : ℕ) → Type 0
-MayAskNewCore store turns OpenStore slots folders =
-    (turns ≡ 1) × (slots ≡ store.slots) × (slots ≤ most_slots) × (folders ≡ length (folder_list store.parts))
-MayAskNewCore store turns (MakeCall call) slots folders = ⊥
+-- How many slots and folders a task may ask for in a core for its store: an opening asks for the slots that its order of work comes to, behind all
+-- that its handle was told since it began, and for the folders of the store.
+abbrev pub MayAskNewCore : List Event → (handle : ℕ) → Store → (begun : ℕ) → Task → (slots folders : ℕ) → Type 0
+MayAskNewCore past handle store begun OpenStore slots folders =
+    (openings.registers (opening_now past handle store begun) ≡ Some slots) × (slots ≤ most_slots) × (folders ≡ length (folder_list store.parts))
+MayAskNewCore past handle store begun (MakeCall call) slots folders = ⊥
 
 -- Whether a task may end in a turn that asks for nothing: a query does whose look-up is done, since the snapshot had all that it took.
 abbrev pub MayEndUnasked : List Event → (handle : ℕ) → Store → (modes : Modes) → (begun : ℕ) → Task → Type 0
@@ -77,17 +98,18 @@ MayEndUnasked past handle store modes begun (MakeCall (calls.Header id)) = AsksA
 MayEndUnasked past handle store modes begun (MakeCall (calls.Test id)) = AsksAsLook past handle store modes begun (Test id) None
 MayEndUnasked past handle store modes begun (MakeCall (calls.Write kind size bytes known)) = ⊥
 
--- Which event of the core of its store a task may ask for: a query asks for the one that its look-up asks for.
+-- Which event of the core of its store a task may ask for: a query asks for the one that its look-up asks for, a write for the one that what stands
+-- in front of it asks for.
 abbrev pub MayAskCore : List Event → (handle : ℕ) → Store → (modes : Modes) → (begun : ℕ) → Task → CoreEvent → Type 0
 MayAskCore past handle store modes begun OpenStore event = ⊥
 MayAskCore past handle store modes begun (MakeCall (calls.Find id)) event = AsksAsLook past handle store modes begun (Find id) (Some (parts.Core event))
 MayAskCore past handle store modes begun (MakeCall (calls.Header id)) event = AsksAsLook past handle store modes begun (Header id) (Some (parts.Core event))
 MayAskCore past handle store modes begun (MakeCall (calls.Test id)) event = AsksAsLook past handle store modes begun (Test id) (Some (parts.Core event))
-MayAskCore past handle store modes begun (MakeCall (calls.Write kind size bytes known)) event = ⊥
+MayAskCore past handle store modes begun (MakeCall (calls.Write kind size bytes known)) event = AsksAsRefresh past handle store modes begun (parts.Core event)
 
 -- What a turn asks for, if it asks for anything.
 abbrev pub AsksAsTask : Volume → List Event → (handle : ℕ) → Store → (modes : Modes) → (begun turns : ℕ) → Task → Option Ask → Type 0
 AsksAsTask first past handle store modes begun turns task None = MayEndUnasked past handle store modes begun task
 AsksAsTask first past handle store modes begun turns task (Some (ToDisk ask)) = AsksInOrder first past handle store modes begun turns task ask
 AsksAsTask first past handle store modes begun turns task (Some (ToCore event)) = MayAskCore past handle store modes begun task event
-AsksAsTask first past handle store modes begun turns task (Some (ToNewCore slots folders)) = MayAskNewCore store turns task slots folders
+AsksAsTask first past handle store modes begun turns task (Some (ToNewCore slots folders)) = MayAskNewCore past handle store begun task slots folders

@@ -6,16 +6,17 @@ use Rattle.gix_odb.specs.Contents.{StoreData}
 use Rattle.gix_odb.specs.HandleState.{unseen}
 use Rattle.gix_odb_looks.specs.LookUpOrder.{Setting}
 use Rattle.gix_odb_calls.specs.declared.call.Call.{Call}
+use Rattle.gix_odb_calls.specs.declared.init.Slots.{Slots}
 use Rattle.gix_odb_core.specs.Replay.{view_in}
 use Rattle.gix_odb_world.specs.Cores.{or_before}
 use Rattle.gix_odb_world.specs.Event.{Asked, OfCore, OfDisk, OfNewCore, OfNothing}
 use Rattle.gix_odb_world.specs.declared.work.Work.{Work}
 
--- a store that was opened, or whose opening runs: the number of its open step, its slots, the hash of its ids, the most changes of the list
--- that a call bears, and its parts
+-- a store that was opened, or whose opening runs: the number of its open step, how many slots it was to have, the hash of its ids, the most
+-- changes of the list that a call bears, and its parts
 pub record Store : Type 0 where
   pub opened : ℕ
-  pub slots : ℕ
+  pub slots : Slots
   pub hash : HashKind
   pub max_changes : ℕ
   pub parts : StoreData
@@ -29,16 +30,13 @@ pub data Task : Type 0 where
   OpenStore : Task
   MakeCall : (call : Call) → Task
 
--- how many turns of a task come in front of work that begins with the task; work behind another phase has more in front of it
-abbrev pub nothing_in_front : ℕ
-nothing_in_front = 0
-
 -- What a handle has of its own: its modes, which are whether it ignores replacements, and a further mode is one more field; and of the
--- core of its store the core's number, and its snapshot, which is the view that the core last handed over to it. Before its opening
--- registered it there it has number 0 and no snapshot.
+-- core of its store the core's number, how many slots it was made with, and its snapshot, which is the view that the core last handed over to
+-- it. Before its opening registered it there it has number 0, no slots and no snapshot.
 pub record Modes : Type 0 where
   pub ignoring : Bool
   pub core : ℕ
+  pub slots : ℕ
   pub view : Option View
 
 -- what a handle sees in these: its snapshot, if it has one
@@ -47,7 +45,7 @@ view_in_modes modes = unwrap_or modes.view unseen
 
 -- those of a handle whose store is opened
 abbrev pub modes_at_opening : Modes
-modes_at_opening = record { ignoring = false; core = 0; view = None }
+modes_at_opening = record { ignoring = false; core = 0; slots = 0; view = None }
 
 -- those of a handle that ignores replacements from now on
 abbrev pub now_ignoring : Modes → Modes
@@ -58,7 +56,7 @@ abbrev pub modes_after : Asked → Modes → Modes
 modes_after OfNothing modes = modes
 modes_after (OfDisk ask answer) modes = modes
 modes_after (OfCore store seat event answer) modes = record modes { view = or_before (view_in answer) modes.view }
-modes_after (OfNewCore slots folders store seat answer) modes = record modes { core = store; view = or_before (view_in answer) modes.view }
+modes_after (OfNewCore slots folders store seat answer) modes = record modes { core = store; slots = slots; view = or_before (view_in answer) modes.view }
 
 -- What a handle is at: a task in a store, set by the event that has the number `begun`, with so many turns taken, and the work that
 -- is left of it; and the modes of the handle.

@@ -5,7 +5,6 @@ use Rattle.gix_hash.specs.declared.kind.Kind.{Kind as HashKind}
 use Rattle.gix_hash.specs.declared.object_id.ObjectId.{ObjectId}
 use Rattle.gix_odb_calls.specs.declared.call.Call.{Call}
 use Rattle.gix_odb_calls.specs.declared.init.Options.{Options}
-use Rattle.gix_odb_calls.specs.declared.init.Slots.TheVariants.{Given}
 use Rattle.gix_odb_calls.specs.declared.step.Step.{Step}
 use Rattle.gix_odb_calls.specs.declared.step.Step.TheVariants as steps
 use Rattle.gix_odb_calls.specs.declared.step.Outcome.TheVariants as outcomes
@@ -36,7 +35,7 @@ pub record OpenedBy (events : List Event) (handle begun : ℕ) (store : Store) :
   pub options : Options
   pub opens : event.step ≡ steps.Open handle path folders hash replacements options
   -- the store has what the step handed in
-  pub slots : options.slots ≡ Given store.slots
+  pub slots : store.slots ≡ options.slots
   pub hash_is : store.hash ≡ hash
   pub changes : store.max_changes ≡ options.max_changes
   pub parts : store.parts ≡ record { objects = path; folders = folders; replacements = replacements; limit = options.alloc_limit_bytes }

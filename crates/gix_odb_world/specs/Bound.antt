@@ -8,7 +8,7 @@ use Rattle.gix_odb_calls.specs.declared.call.Call.{Call}
 use Rattle.gix_odb_calls.specs.declared.call.Call.TheVariants.{Write}
 use Rattle.gix_odb_loose.specs.WriteJobs.{pieces_of}
 use Rattle.gix_odb.specs.Contents.{StoreData, folder_list}
-use Rattle.gix_odb_world.specs.AtWork.{Store, Task, OpenStore, MakeCall}
+use Rattle.gix_odb_world.specs.AtWork.{Modes, Store, Task, OpenStore, MakeCall}
 
 -- ---- the numbers: a lap is one way through all that a store's list names, and through its folders
 
@@ -72,11 +72,12 @@ abbrev pub bytes_to_write : Call → Option ℕ
 bytes_to_write (Write kind size bytes known) = Some (length bytes)
 bytes_to_write call = None
 
--- the bound of a call in a store that is to write so many bytes, if it is a write: it bears the changes that its store was opened with
-abbrev pub bound_of_call : Store → (entries : ℕ) → (bytes : Option ℕ) → ℕ
-bound_of_call store entries bytes = turn_bound store.slots (length (folder_list store.parts)) store.max_changes entries bytes
+-- the bound of a call of a handle of a store that is to write so many bytes, if it is a write: the slots are those of the store's core, and it
+-- bears the changes that its store was opened with
+abbrev pub bound_of_call : Store → Modes → (entries : ℕ) → (bytes : Option ℕ) → ℕ
+bound_of_call store modes entries bytes = turn_bound modes.slots (length (folder_list store.parts)) store.max_changes entries bytes
 
 -- the bound of a task; an opening is bounded with no slots and no changes
-abbrev pub bound_of_task : Store → Task → (entries : ℕ) → ℕ
-bound_of_task store OpenStore entries = turn_bound 0 (length (folder_list store.parts)) 0 entries None
-bound_of_task store (MakeCall call) entries = bound_of_call store entries (bytes_to_write call)
+abbrev pub bound_of_task : Store → Modes → Task → (entries : ℕ) → ℕ
+bound_of_task store modes OpenStore entries = turn_bound 0 (length (folder_list store.parts)) 0 entries None
+bound_of_task store modes (MakeCall call) entries = bound_of_call store modes entries (bytes_to_write call)

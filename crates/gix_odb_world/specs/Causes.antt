@@ -18,6 +18,8 @@ pub use Rattle.gix_odb.specs.Moments.{Sometime}
 use Rattle.gix_odb.specs.Contents.{folder_list}
 use Rattle.gix_odb.specs.Held.{WasShownAt}
 use Rattle.gix_odb_looks.specs.Caused.{IsCaused}
+use Rattle.gix_odb.specs.OpenExchanges as openings
+use Rattle.gix_odb.specs.OpenExchanges.{IsNumber}
 use Rattle.gix_odb_looks.specs.Exchange.{Exchange}
 use Rattle.gix_odb_calls.specs.Verdict.{job_of}
 use Rattle.gix_odb_world.specs.AtWork.{Store, setting_in}
@@ -31,13 +33,16 @@ IsDirectoryMeta (Err refusal) = ⊥
 abbrev pub ShowsDirectory : Tree → Path → Type 0
 ShowsDirectory tree path = IsDirectoryMeta (looked tree path true)
 
--- What each error of an opening says, where `Failed` says that a call of the disk failed in the opening.
-abbrev pub OpeningCause : (ℕ → Tree) → Type 0 → Store → ℕ → ℕ → opening.Error → Type 0
-OpeningCause trees Failed store begun now opening_errors.NotADirectory = Sometime begun now (λ moment. ¬ ShowsDirectory (trees moment) store.parts.objects)
-OpeningCause trees Failed store begun now (opening_errors.TooManySlots asked) =
-    (asked ≡ store.slots) × (most_slots < asked) × Sometime begun now (λ moment. ShowsDirectory (trees moment) store.parts.objects)
-OpeningCause trees Failed store begun now opening_errors.Io = Failed
-OpeningCause trees Failed store begun now opening_errors.NoMemory = ⊥
+-- What each error of an opening says, where `Failed` says that a call of the disk failed in the opening, and where its handle was told so since it
+-- began. The slots that are too many are those that were given, or as many as the indices of the listing ask for. A store can't be listed where
+-- a call of the disk failed, or a folder of packs is none.
+abbrev pub OpeningCause : (ℕ → Tree) → Type 0 → (told : List Exchange) → Store → ℕ → ℕ → opening.Error → Type 0
+OpeningCause trees Failed told store begun now opening_errors.NotADirectory = Sometime begun now (λ moment. ¬ ShowsDirectory (trees moment) store.parts.objects)
+OpeningCause trees Failed told store begun now (opening_errors.TooManySlots asked) =
+    IsNumber (setting_in store) store.slots told asked × (most_slots < asked) × Sometime begun now (λ moment. ShowsDirectory (trees moment) store.parts.objects)
+OpeningCause trees Failed told store begun now opening_errors.Io = Failed
+OpeningCause trees Failed told store begun now (opening_errors.LoadIndex error) = openings.IsCaused (setting_in store) store.slots told (opening_errors.LoadIndex error)
+OpeningCause trees Failed told store begun now opening_errors.NoMemory = ⊥
 
 -- a read of a path gave so much at some moment of a call
 abbrev pub GaveSometime : (ℕ → Tree) → ℕ → ℕ → Path → Reading → Type 0

@@ -8,7 +8,6 @@ use Rattle.gix_hash.specs.ObjectId.{id_cmp}
 use Rattle.gix_odb.specs.Contents.{replacement_in}
 use Rattle.gix_odb.specs.HandleState.{replacement_of}
 use Rattle.gix_odb_world.specs.Status.{Store, Modes}
-use Rattle.gix_odb_calls.specs.Slots.{given_slots}
 use Rattle.gix_odb.specs.declared.handle_state.HandleState.{HandleState}
 use Rattle.gix_odb_calls.specs.declared.init.Options.{Options}
 
@@ -19,7 +18,7 @@ pub record IsOpened (objects : Path) (folders : List Path) (hash : HashKind) (re
   pub replacements_are : IsFromIterResult id_cmp replacements handle.store.value.replacements
   pub ignoring : handle.ignore_replacements ≡ false
   pub limit : handle.store.value.alloc_limit_bytes ≡ options.alloc_limit_bytes
-  pub slots : handle.store.value.slots ≡ given_slots options.slots
+  pub slots : handle.store.value.slots ≡ options.slots
   pub hash_is : handle.store.value.object_hash ≡ hash
   pub changes : handle.store.value.max_changes ≡ options.max_changes
   pub core : handle.core ≡ 0

@@ -120,8 +120,7 @@ pub record Works (first : Volume) (past : List Event) (handle : ℕ) (running : 
   -- what it asks for, which the event tells with its answer
   pub ask : Option Ask
   pub asks : ask_in running.store running.work ≡ ask
-  -- which is the one of this turn of the task: of turn t of a find, the read of the loose path in the t-th folder; of the second turn of an
-  -- opening, a core for its store
+  -- which is the one of this turn of the task: what its order of work asks for behind all that its handle was told since the task was set
   pub in_order : AsksAsTask first past handle running.store running.modes running.begun running.turns running.task ask
   pub asked : e.entry.did ≡ did_asked (opened_in running.work) (stand_of past handle running) (disk_after first past) ask
   pub told : e.asked ≡ told_now (stand_of past handle running) (disk_after first past) ask
@@ -153,7 +152,7 @@ pub record Law (first : Volume) (past : List Event) (e : Event) : Type 0 where
   pub in_time : (handle : ℕ) (running : Running) (task : Task) (entries : ℕ) → Turns past e handle running
       → BegunAs past handle running.begun running.store task
       → e.outcome ≡ outcomes.Pending → HasAtMost (tree_at first (past ++ e ∷ [])) running.store.parts running.begun (length past + 1) entries
-      → running.turns + 1 < bound_of_task running.store task entries
+      → running.turns + 1 < bound_of_task running.store running.modes task entries
 
 -- each event is lawful after those before it
 abbrev pub IsLawful : Volume → List Event → Type 0

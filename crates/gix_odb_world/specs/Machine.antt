@@ -7,7 +7,7 @@ use Rattle.gix_odb_packs.specs.declared.answer.Answer.TheVariants as told
 use Rattle.gix_odb_calls.specs.declared.call.Reply.{Reply}
 use Rattle.gix_odb_loose.specs.declared.call.LooseCall.{LooseCall}
 use Rattle.gix_odb_world.specs.declared.work.Work.{Work}
-use Rattle.gix_odb_world.specs.AtWork.{Running, Store, Task}
+use Rattle.gix_odb_world.specs.AtWork.{Modes, Running, Store, Task}
 use Rattle.gix_odb_world.specs.Event.{Answer, Ask, Event, FromCore, FromDisk}
 
 -- A machine has states of its own, each with a place among all work.
@@ -22,8 +22,8 @@ pub record Machine : Type 1 where
   pub writes : State → Option LooseCall
   -- the tasks at which it may be in a state
   pub IsFor : Task → State → Type 0
-  -- the most turns of a task in a store in which no folder that a call may list has more entries than so many
-  pub bound : Store → Task → (entries : ℕ) → ℕ
+  -- the most turns of a task of a handle in a store in which no folder that a call may list has more entries than so many
+  pub bound : Store → Modes → Task → (entries : ℕ) → ℕ
   -- what a handle at a state knows of the events since its task was set, and how its turns are counted
   pub Knows : Volume → List Event → (handle : ℕ) → Running → State → Type 0
 

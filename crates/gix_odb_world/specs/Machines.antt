@@ -2,7 +2,7 @@
 -- `Work`, and a function by its cases computes to a machine and its state; a sum of machines would need that function beside it.
 use Rattle.std.specs.Prelude.{Option, Result, refl}
 use Rattle.gix_odb_calls.specs.declared.call.Reply.{Reply}
-use Rattle.gix_odb.specs.declared.call_state.CallState.TheVariants.{Looking, Writing}
+use Rattle.gix_odb.specs.declared.call_state.CallState.TheVariants.{Looking, Refreshing, Refused, Writing}
 use Rattle.gix_odb_loose.specs.declared.call.LooseCall.{LooseCall}
 use Rattle.gix_odb_world.specs.declared.work.Work.{Work}
 use Rattle.gix_odb_world.specs.declared.work.Work.TheVariants.{Opening, Calling}
@@ -11,13 +11,15 @@ use Rattle.gix_odb_world.specs.Event.{Answer, Ask}
 use Rattle.gix_odb_world.specs.Machine.{At, placed}
 use Rattle.gix_odb_world.specs.Running.Opening.{opening}
 use Rattle.gix_odb_world.specs.Running.Query.{looking}
-use Rattle.gix_odb_world.specs.Running.Write.{writing}
+use Rattle.gix_odb_world.specs.Running.Write.{InFront, Own, Unlisted, writing}
 
 -- the machine that each work is of, and at which state
 abbrev pub at : (work : Work) → At work
 at (Opening state) = record { machine = opening; state = state; is = refl }
 at (Calling (Looking state)) = record { machine = looking; state = state; is = refl }
-at (Calling (Writing call)) = record { machine = writing; state = call; is = refl }
+at (Calling (Refreshing refresh call)) = record { machine = writing; state = InFront refresh call; is = refl }
+at (Calling (Writing call)) = record { machine = writing; state = Own call; is = refl }
+at (Calling (Refused error)) = record { machine = writing; state = Unlisted error; is = refl }
 
 -- what work asks for in a store, unless it is done
 abbrev pub ask_in : Store → Work → Option Ask

@@ -12,10 +12,11 @@ use Rattle.gix_odb_calls.specs.declared.find.Error as finding
 use Rattle.gix_odb_calls.specs.declared.call.Call.TheVariants as calls
 use Rattle.gix_odb.specs.Contents.{Answer, Object, HeaderOf, Presence, folder_list, sought}
 use Rattle.gix_odb.specs.Held.{Held, Still}
+use Rattle.gix_odb.specs.OpenExchanges.{IsNumber}
 use Rattle.gix_odb_looks.specs.Exchange.{Exchange}
 use Rattle.gix_odb_world.specs.Event.{CoreAnswer, Event, OfNewCore}
 use Rattle.gix_odb_world.specs.Told.{told_since}
-use Rattle.gix_odb_world.specs.Status.{Store, Task, OpenStore, MakeCall, Modes}
+use Rattle.gix_odb_world.specs.Status.{Store, Task, OpenStore, MakeCall, Modes, setting_in}
 use Rattle.gix_odb_world.specs.Run.{tree_at, FailedSince}
 use Rattle.gix_odb_world.specs.Writing.{to_write}
 use Rattle.gix_odb_world.specs.Written.{PromiseOfWrite}
@@ -32,10 +33,10 @@ pub record MadeCore (events : List Event) (slots folders : ℕ) : Type 0 where
   pub answer : CoreAnswer
   pub asked : event.asked ≡ OfNewCore slots folders core seat answer
 
--- An open store has the slots that were asked for, which are those of the core that was made for it, and its objects directory was shown in
--- the opening.
-pub record Opens (events : List Event) (trees : ℕ → Tree) (store : Store) (begun now slots : ℕ) : Type 0 where
-  pub as_asked : slots ≡ store.slots
+-- An open store has the slots that were given, or as many as the indices of the listing ask for that its handle made; they are those of the core
+-- that was made for it, and its objects directory was shown in the opening.
+pub record Opens (events : List Event) (trees : ℕ → Tree) (told : List Exchange) (store : Store) (begun now slots : ℕ) : Type 0 where
+  pub number : IsNumber (setting_in store) store.slots told slots
   pub core : MadeCore events slots (length (folder_list store.parts))
   pub not_too_many : slots ≤ most_slots
   pub directory : Sometime begun now (λ moment. ShowsDirectory (trees moment) store.parts.objects)
@@ -72,11 +73,12 @@ Keeps trees Failed told store begun now call id Missing = Misses trees Failed st
 Keeps trees Failed told store begun now call id (Caused error) = FindCause trees Failed told store begun now call id error
 Keeps trees Failed told store begun now call id Never = ⊥
 
--- What a reply to an opening promises. A reply that an opening never ends with promises what nothing can keep.
-abbrev pub OpeningPromise : List Event → (ℕ → Tree) → Type 0 → Store → ℕ → ℕ → Reply → Type 0
-OpeningPromise events trees Failed store begun now (replies.Opened slots) = Opens events trees store begun now slots
-OpeningPromise events trees Failed store begun now (replies.Refused (call_errors.Open error)) = OpeningCause trees Failed store begun now error
-OpeningPromise events trees Failed store begun now reply = ⊥
+-- What a reply to an opening promises whose handle was told so since it began. A reply that an opening never ends with promises what nothing can
+-- keep.
+abbrev pub OpeningPromise : List Event → (ℕ → Tree) → Type 0 → (told : List Exchange) → Store → ℕ → ℕ → Reply → Type 0
+OpeningPromise events trees Failed told store begun now (replies.Opened slots) = Opens events trees told store begun now slots
+OpeningPromise events trees Failed told store begun now (replies.Refused (call_errors.Open error)) = OpeningCause trees Failed told store begun now error
+OpeningPromise events trees Failed told store begun now reply = ⊥
 
 -- What the reply to a query promises, of the id that it seeks.
 abbrev pub QueryPromise : (ℕ → Tree) → Type 0 → (told : List Exchange) → Store → (modes : Modes) → ℕ → ℕ → Query → Reply → Type 0
@@ -85,7 +87,7 @@ QueryPromise trees Failed told store modes begun now query reply = Keeps trees F
 -- What a reply that the last event gives promises, by the task that the handle was begun with.
 abbrev pub Promise : Volume → List Event → (handle : ℕ) → Store → (modes : Modes) → ℕ → Task → Reply → Type 0
 Promise first events handle store modes begun OpenStore reply =
-    OpeningPromise events (tree_at first events) (FailedSince events handle begun) store begun (length events) reply
+    OpeningPromise events (tree_at first events) (FailedSince events handle begun) (told_since events handle begun) store begun (length events) reply
 Promise first events handle store modes begun (MakeCall (calls.Find id)) reply =
     QueryPromise (tree_at first events) (FailedSince events handle begun) (told_since events handle begun) store modes begun (length events) (Find id) reply
 Promise first events handle store modes begun (MakeCall (calls.Header id)) reply =
@@ -93,4 +95,4 @@ Promise first events handle store modes begun (MakeCall (calls.Header id)) reply
 Promise first events handle store modes begun (MakeCall (calls.Test id)) reply =
     QueryPromise (tree_at first events) (FailedSince events handle begun) (told_since events handle begun) store modes begun (length events) (Test id) reply
 Promise first events handle store modes begun (MakeCall (calls.Write kind size bytes known)) reply =
-    PromiseOfWrite first events handle begun (to_write store.parts.objects store.hash kind size bytes known) reply
+    PromiseOfWrite first events handle store modes begun (to_write store.parts.objects store.hash kind size bytes known) reply

@@ -1,4 +1,5 @@
 -- What a handle at work knows since its task was set. No public clause needs more of it than its name.
+pub mod Answered
 pub mod Opening
 pub mod Query
 pub mod Write

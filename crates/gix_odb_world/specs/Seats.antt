@@ -8,11 +8,12 @@ use Rattle.gix_odb_world.specs.Cores.{cores_after, registered_at}
 use Rattle.gix_odb_world.specs.Event.{Event}
 use Rattle.gix_odb_world.specs.Status.{Free, MakeCall, Modes, OpenStore, Resting, Status, Task, Working, status_of}
 
--- A handle is registered at the core of its store, under its number, and at no other one; and its snapshot is the view of its last entry in
--- the core's journal that handed one over.
+-- A handle is registered at the core of its store, under its number, and at no other one; the core was made with as many slots as the handle says; and
+-- the handle's snapshot is the view of its last entry in the core's journal that handed one over.
 pub record IsSeated (cores : List History) (handle : ℕ) (modes : Modes) : Type 0 where
   pub history : History
   pub there : slice_get cores modes.core ≡ Some history
+  pub slots : length history.opening.slots ≡ modes.slots
   pub registered : IsRegistered (present history).handles handle
   pub only : (store : ℕ) → store ≢ modes.core → registered_at cores store handle ≡ None
   pub snapshot : modes.view ≡ snapshot_of handle history.entries

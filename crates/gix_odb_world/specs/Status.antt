@@ -6,7 +6,6 @@ use Rattle.gix_hash.specs.declared.object_id.ObjectId.{ObjectId}
 use Rattle.gix_odb_loose.specs.declared.call.LooseCall.{LooseCall}
 use Rattle.gix_odb.specs.Contents.{sought}
 use Rattle.gix_odb.specs.CallOrder as calls
-use Rattle.gix_odb_calls.specs.Slots.{given_slots}
 use Rattle.gix_odb_calls.specs.declared.call.Call.{Call}
 use Rattle.gix_odb_calls.specs.declared.call.CallError.TheVariants as call_errors
 use Rattle.gix_odb_calls.specs.declared.call.Reply.{Reply}
@@ -39,7 +38,7 @@ pub record IsAtWrite (status : Status) (running : Running) (call : LooseCall) : 
 abbrev pub store_at : ℕ → Path → List Path → HashKind → List (ObjectId × ObjectId) → Options → Store
 store_at number path folders hash replacements options = record {
   opened = number;
-  slots = given_slots options.slots;
+  slots = options.slots;
   hash = hash;
   max_changes = options.max_changes;
   parts = record { objects = path; folders = folders; replacements = replacements; limit = options.alloc_limit_bytes };

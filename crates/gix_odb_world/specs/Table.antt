@@ -127,15 +127,15 @@ state_after (OfNewCore slots folders store seat answer) state = record state { c
 abbrev pub told_in : List History → Volume → (seat : ℕ) → HandleState → Work → Asked
 told_in cores disk seat state work = told_now (stand cores state.core seat) disk (asks_on state work)
 
--- a core can be made for the store of a handle: the store has no more slots than a core may have, and few folders
-pub record FitsCore (state : HandleState) : Type 0 where
-  pub slots : state.store.value.slots ≤ most_slots
+-- a core with so many slots can be made for the store of a handle: they are no more than a core may have, and the store has few folders
+pub record FitsCore (slots : ℕ) (state : HandleState) : Type 0 where
+  pub few : slots ≤ most_slots
   pub folders : length state.store.value.folders ≤ most_folders
 
--- a core was added for the store of a handle, and the handle registered there, which handed over a view
-pub record AddsCore (cores cores_then : List History) (seat : ℕ) (state : HandleState) (view : View) : Type 0 where
+-- a core with so many slots was added for the store of a handle, and the handle registered there, which handed over a view
+pub record AddsCore (cores cores_then : List History) (slots seat : ℕ) (state : HandleState) (view : View) : Type 0 where
   pub core : History
-  pub made : MakesCore state.store.value.slots (length state.store.value.folders + 1) seat core view
+  pub made : MakesCore slots (length state.store.value.folders + 1) seat core view
   pub cores_are : cores_then ≡ cores ++ core ∷ []
 
 -- what a turn comes to that registered its handle at the core of a number
@@ -144,7 +144,7 @@ carried_at state work store view = record {
   did = done.Core store 1;
   change = None;
   state = record state { core = store; view = Some view };
-  work = registered_on state work;
+  work = registered_on work;
 }
 
 -- what a turn comes to whose work asked for nothing

@@ -1,4 +1,5 @@
--- What the handle of a query was asked and answered since the query began, and where its look-up stands behind that.
+-- What a handle at work asked and was answered since its work began, and where its work stands behind that: the look-up of a query, an opening,
+-- what stands in front of a write.
 use Rattle.std.specs.Prelude.{ℕ, List, drop, take, Option, Some, None, unwrap_or, if◌then◌else◌}
 use Rattle.std.specs.List.{filter_map}
 use Rattle.gix_odb_core.specs.Replay.{snapshot_of}
@@ -12,8 +13,14 @@ use Rattle.gix_odb_calls.specs.declared.query.Query.TheVariants.{Find, Header, T
 use Rattle.gix_odb_looks.specs.Exchange.{Exchange, behind}
 use Rattle.gix_odb_looks.specs.LookUpOrder.{started}
 use Rattle.gix_odb_looks.specs.declared.look_up.LookUp.{LookUp}
+use Rattle.gix_odb_refresh.specs.RefreshOrder as refreshes
+use Rattle.gix_odb_refresh.specs.Refreshed as refreshed
+use Rattle.gix_odb_refresh.specs.declared.refresh.Refresh.{Refresh}
 use Rattle.gix_odb.specs.Contents.{sought}
 use Rattle.gix_odb.specs.HandleState.{unseen}
+use Rattle.gix_odb.specs.OpenExchanges as openings
+use Rattle.gix_odb.specs.declared.open_state.OpenState.{OpenState}
+use Rattle.gix_odb.specs.declared.open_state.OpenState.TheVariants as opens
 use Rattle.gix_odb_world.specs.AtWork.{Modes, Store, setting_in}
 use Rattle.gix_odb_world.specs.Cores.{cores_after, history_at}
 use Rattle.gix_odb_world.specs.Event.{Asked, Event, OfCore, OfDisk, OfNewCore, OfNothing}
@@ -54,3 +61,19 @@ look_begun events handle store modes begun query =
 abbrev pub look_now : List Event → (handle : ℕ) → Store → Modes → (begun : ℕ) → Query → LookUp
 look_now events handle store modes begun query =
     behind (setting_in store) (look_begun events handle store modes begun query) (told_since events handle begun)
+
+-- where an opening stands that began at the event that has a number: behind all that its handle was told since
+abbrev pub opening_now : List Event → (handle : ℕ) → Store → (begun : ℕ) → OpenState
+opening_now events handle store begun = openings.behind (setting_in store) store.slots opens.Looking (told_since events handle begun)
+
+-- what stands in front of a write of a handle that began at the event that has a number, as it begins; and behind all that the handle was told
+-- since
+abbrev pub refresh_begun : List Event → (handle : ℕ) → Modes → (begun : ℕ) → Refresh
+refresh_begun events handle modes begun = refreshes.started (view_then events handle modes.core begun)
+
+abbrev pub refresh_now : List Event → (handle : ℕ) → Store → Modes → (begun : ℕ) → Refresh
+refresh_now events handle store modes begun = refreshed.behind (setting_in store) (refresh_begun events handle modes begun) (told_since events handle begun)
+
+-- how many turns it took so far
+abbrev pub turns_in_front : List Event → (handle : ℕ) → Store → Modes → (begun : ℕ) → ℕ
+turns_in_front events handle store modes begun = refreshed.turns_of (setting_in store) (refresh_begun events handle modes begun) (told_since events handle begun)

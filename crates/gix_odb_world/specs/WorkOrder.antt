@@ -1,5 +1,5 @@
 -- What the code of a handle's work asks, and what an answer makes of it. No public clause cites this.
-use Rattle.std.specs.Prelude.{◌+◌, Bool, false, length, Option, Some, None, Result, Ok, Err, if◌then◌else◌}
+use Rattle.std.specs.Prelude.{ℕ, ◌+◌, length, Option, Some, None, Result, Ok, Err}
 use Rattle.gix_odb_packs.specs.declared.answer.Answer as parts
 use Rattle.gix_odb_packs.specs.declared.answer.Answer.TheVariants as told
 use Rattle.gix_odb_packs.specs.declared.answer.PartAsk.{PartAsk}
@@ -22,28 +22,36 @@ ask_on handle (Calling state) = calls.ask_of state
 
 -- an opening after an answer of the disk, or of the core that it had made
 abbrev pub opening_fed : HandleState → OpenState → parts.Answer → OpenState
-opening_fed handle state (told.Disk answer) = openings.fed handle.store.value.slots state answer
-opening_fed handle state (told.Core answer) = openings.registered handle.store.value.slots state
+opening_fed handle state (told.Disk answer) = openings.fed handle.store.value.objects handle.store.value.folders handle.store.value.slots state answer
+opening_fed handle state (told.Core answer) = openings.registered state
 
 -- the work of a handle after the answer to what it asked for
 abbrev pub fed_on : HandleState → Work → parts.Answer → Work
 fed_on handle (Opening state) answer = Opening (opening_fed handle state answer)
 fed_on handle (Calling state) answer = Calling (calls.fed (setting_at handle) state answer)
 
--- whether the work of a handle is to register it at a core for its store
-abbrev pub registers_in : Work → Bool
+-- with how many slots the work of a handle is to have a core made for its store, at which the handle is registered, if it is to have one made
+abbrev pub registers_in : Work → Option ℕ
 registers_in (Opening state) = openings.registers state
-registers_in (Calling state) = false
+registers_in (Calling state) = None
 
--- what the work of a handle asks for: a call of the disk, an event of the core of its store, or a core for its store
+-- a core for the store of a handle, with so many slots
+abbrev pub core_for : HandleState → (slots : ℕ) → Ask
+core_for handle slots = ToNewCore slots (length handle.store.value.folders + 1)
+
+-- what the work of a handle asks for: a core for its store, if that is what comes next, or else a call of the disk or an event of the core of its
+-- store
+abbrev pub asks_or : HandleState → Option ℕ → Option PartAsk → Option Ask
+asks_or handle None asked = part_asked asked
+asks_or handle (Some slots) asked = Some (core_for handle slots)
+
 abbrev pub asks_on : HandleState → Work → Option Ask
-asks_on handle work =
-    if registers_in work then Some (ToNewCore handle.store.value.slots (length handle.store.value.folders + 1)) else part_asked (ask_on handle work)
+asks_on handle work = asks_or handle (registers_in work) (ask_on handle work)
 
 -- the work of a handle after it was registered
-abbrev pub registered_on : HandleState → Work → Work
-registered_on handle (Opening state) = Opening (openings.registered handle.store.value.slots state)
-registered_on handle (Calling state) = Calling state
+abbrev pub registered_on : Work → Work
+registered_on (Opening state) = Opening (openings.registered state)
+registered_on (Calling state) = Calling state
 
 -- the work of a handle after a turn, where it asked for nothing or had its answer
 abbrev pub fed_after : HandleState → Work → Option Answer → Work

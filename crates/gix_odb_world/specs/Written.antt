@@ -16,8 +16,12 @@ use Rattle.gix_odb_loose.specs.WriteOrder.{temp_path}
 use Rattle.gix_odb_loose.specs.declared.write.Error as loose_write
 use Rattle.gix_odb_loose.specs.declared.write.Error.TheVariants as loose_errors
 use Rattle.gix_odb_loose.specs.declared.write.Message.TheVariants as messages
+use Rattle.gix_odb_calls.specs.declared.load_index.Error as load
+use Rattle.gix_odb_refresh.specs.Refreshed.{IsCaused, WasUnread}
+use Rattle.gix_odb_world.specs.AtWork.{Modes, Store, setting_in}
 use Rattle.gix_odb_world.specs.Event.{Event}
 use Rattle.gix_odb_world.specs.Run.{tree_at}
+use Rattle.gix_odb_world.specs.Told.{told_since, view_then}
 use Rattle.gix_odb_world.specs.Writing.{AskedAt, CauseOfWrite, ChangedNothing, LeftAlone, TurnsMadeOnly, NoTurnRenamed, ToWrite, name_to_write}
 use Rattle.gix_odb_calls.specs.declared.call.CallError.TheVariants as call_errors
 use Rattle.gix_odb_calls.specs.declared.call.Reply.{Reply}
@@ -62,9 +66,18 @@ pub record WasRefused (first : Volume) (events : List Event) (handle begun : ℕ
   pub untouched : (at : Path) → error ≡ loose_errors.Io messages.CreateTempFile at → ChangedNothing events handle begun
   pub cause : CauseOfWrite first events handle begun w error
 
+-- A write whose store could not be listed changed nothing. The store was unread, by the snapshot of the handle as the write began and by the
+-- core's list, and the error has its cause in what the handle was told since.
+pub record WasUnlisted (events : List Event) (handle : ℕ) (store : Store) (modes : Modes) (begun : ℕ) (error : load.Error) : Type 0 where
+  pub unchanged : ChangedNothing events handle begun
+  pub unread : WasUnread (view_then events handle modes.core begun) (told_since events handle begun)
+  pub cause : IsCaused (setting_in store) (told_since events handle begun) error
+
 -- what the reply to a write promises. A write ends with no other reply
-abbrev pub PromiseOfWrite : Volume → List Event → (handle begun : ℕ) → ToWrite → Reply → Type 0
-PromiseOfWrite first events handle begun w (replies.Wrote id) = HasWritten first events handle begun w id
-PromiseOfWrite first events handle begun w (replies.Refused (call_errors.Write (write_errors.LooseWrite error))) =
+abbrev pub PromiseOfWrite : Volume → List Event → (handle : ℕ) → Store → (modes : Modes) → (begun : ℕ) → ToWrite → Reply → Type 0
+PromiseOfWrite first events handle store modes begun w (replies.Wrote id) = HasWritten first events handle begun w id
+PromiseOfWrite first events handle store modes begun w (replies.Refused (call_errors.Write (write_errors.LooseWrite error))) =
     WasRefused first events handle begun w error
-PromiseOfWrite first events handle begun w reply = ⊥
+PromiseOfWrite first events handle store modes begun w (replies.Refused (call_errors.Write (write_errors.LoadIndex error))) =
+    WasUnlisted events handle store modes begun error
+PromiseOfWrite first events handle store modes begun w reply = ⊥

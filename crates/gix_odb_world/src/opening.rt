@@ -46,7 +46,7 @@ pub fn begun(
         object_hash: hash,
         replacements,
         alloc_limit_bytes: options.alloc_limit_bytes,
-        slots: options.slots.count(),
+        slots: options.slots,
         max_changes: options.max_changes,
     };
     Ok(Some(HandleState::new(alloc, parts)?))

@@ -1,5 +1,5 @@
 //! A turn of a handle: the one call of the disk or event of a core that its work names, and what the turn comes to.
-ghost use Rattle.std.specs.Prelude.{if◌then◌else◌, ◌≡◌, ◌<◌, ℕ, List, length, true, false, IfOk, OnOk, None};
+ghost use Rattle.std.specs.Prelude.{if◌then◌else◌, ◌≡◌, ◌<◌, ℕ, length, IfOk, OnOk, None, Some};
 ghost use Rattle.std.specs.Option.{option_map};
 ghost use Rattle.odb_disk.specs.Ask.{after_ask, answer_now};
 ghost use Rattle.odb_disk.specs.MemDisk.{Volume};
@@ -46,31 +46,31 @@ pub fn carried_out(
     state: HandleState,
     work: Work,
 ) -> Result<Carried, NoMemory>
-    requires fits { registers_in work ≡ true → FitsCore state }
+    requires fits { (slots : ℕ) → registers_in work ≡ Some slots → FitsCore slots state }
     requires can_happen { CanHappenAt cores.old.items seat state (ask_on state work) }
     ensures carried { IfOk result (Carries disk.old disk.new cores.old.items cores.new.items state work (told_in cores.old.items disk.old seat state work)) }
 {
-    if work.registers() {
-        registered(alloc, cores, seat, state, work)
-    } else {
-        turned(alloc, disk, cores, seat, state, work)
+    match work.registers() {
+        Some(slots) => registered(alloc, cores, slots, seat, state, work),
+        None => turned(alloc, disk, cores, seat, state, work),
     }
 }
 
-/// Makes a core for the store of a handle, and registers the handle there.
+/// Makes a core with so many slots for the store of a handle, and registers the handle there.
 fn registered(
     alloc: Global,
     cores: &mut Vec<Core>,
+    slots: u16,
     seat: u32,
     state: HandleState,
     work: Work,
 ) -> Result<Carried, NoMemory>
-    requires registers { registers_in work ≡ true }
-    requires fits { FitsCore state }
+    requires registers { registers_in work ≡ Some slots }
+    requires fits { FitsCore slots state }
     ensures carried { IfOk result (λ done. (disk : Volume) → Carries disk disk cores.old.items cores.new.items state work (told_in cores.old.items disk seat state work) done) }
 {
     let store = cores.len();
-    match added(alloc, cores, seat, &state) {
+    match added(alloc, cores, slots, seat, &state) {
         Ok(view) => Ok(at_core(state, work, store, view)),
         Err(error) => {
             drop((state, work));
@@ -79,20 +79,20 @@ fn registered(
     }
 }
 
-/// Adds a core for the store of a handle, and registers the handle there: the view that this hands over.
+/// Adds a core with so many slots for the store of a handle, and registers the handle there: the view that this hands over.
 fn added(
     alloc: Global,
     cores: &mut Vec<Core>,
+    slots: u16,
     seat: u32,
     state: &HandleState,
 ) -> Result<View, NoMemory>
-    requires fits { FitsCore state.now }
-    ensures added { IfOk result (AddsCore cores.old.items cores.new.items seat state.now) }
+    requires fits { FitsCore slots state.now }
+    ensures added { IfOk result (AddsCore cores.old.items cores.new.items slots seat state.now) }
 {
-    let parts = state.parts();
     // The objects directory is a folder too.
-    let folders = parts.folders.len() + 1;
-    let (core, view) = core_with(alloc, parts.slots, folders, seat)?;
+    let folders = state.parts().folders.len() + 1;
+    let (core, view) = core_with(alloc, slots, folders, seat)?;
     cores.push(core)?;
     Ok(view)
 }
@@ -101,7 +101,7 @@ fn added(
 fn at_core(mut state: HandleState, work: Work, store: usize, view: View) -> Carried
     ensures carried { result ≡ carried_at state work store view }
 {
-    let work = work.registered(&state);
+    let work = work.registered();
     state.core = store;
     state.view = Some(view);
     Carried {
@@ -124,7 +124,7 @@ fn turned(
     state: HandleState,
     work: Work,
 ) -> Result<Carried, NoMemory>
-    requires other { registers_in work ≡ false }
+    requires other { registers_in work ≡ None }
     requires can_happen { CanHappenAt cores.old.items seat state (ask_on state work) }
     ensures carried { IfOk result (Carries disk.old disk.new cores.old.items cores.new.items state work (told_in cores.old.items disk.old seat state work)) }
 {
@@ -147,7 +147,7 @@ fn asked(
     work: Work,
     ask: Option<PartAsk>,
 ) -> Result<Carried, NoMemory>
-    requires other { registers_in work ≡ false }
+    requires other { registers_in work ≡ None }
     requires asked { ask ≡ ask_on state work }
     requires can_happen { CanHappenAt cores.old.items seat state ask }
     ensures carried { IfOk result (Carries disk.old disk.new cores.old.items cores.new.items state work (told_in cores.old.items disk.old seat state work)) }

@@ -33,22 +33,22 @@ impl Work {
         }
     }
 
-    /// Whether what comes next is the making of a core for the handle's store.
-    pub fn registers(&self) -> bool
+    /// With how many slots a core is to be made for the handle's store, if that is what comes next.
+    pub fn registers(&self) -> Option<u16>
         ensures registers { result ≡ registers_in self.now }
     {
         match self {
             Work::Opening(state) => state.registers(),
-            Work::Calling(_) => false,
+            Work::Calling(_) => None,
         }
     }
 
     /// The work after the handle was registered at the core of its store.
-    pub fn registered(self, handle: &HandleState) -> Work
-        ensures registered { result ≡ registered_on handle.now self }
+    pub fn registered(self) -> Work
+        ensures registered { result ≡ registered_on self }
     {
         match self {
-            Work::Opening(state) => Work::Opening(state.registered(handle.parts().slots)),
+            Work::Opening(state) => Work::Opening(state.registered()),
             Work::Calling(state) => Work::Calling(state),
         }
     }
@@ -58,7 +58,7 @@ impl Work {
         ensures opened { option_map (λ path. path.now) result ≡ opened_in self.now }
     {
         match self {
-            Work::Opening(_) => None,
+            Work::Opening(state) => state.opened(),
             Work::Calling(state) => state.opened(),
         }
     }
@@ -68,7 +68,7 @@ impl Work {
         ensures fed { IfOk result (λ work. work ≡ fed_on handle.now self answer) }
     {
         match self {
-            Work::Opening(state) => Ok(Work::Opening(opening_fed(handle, state, &answer))),
+            Work::Opening(state) => Ok(Work::Opening(opening_fed(alloc, handle, state, answer)?)),
             Work::Calling(state) => Ok(Work::Calling(state.feed(alloc, handle, answer)?)),
         }
     }
@@ -105,12 +105,16 @@ fn opening_ask(
 }
 
 /// An opening after an answer: of the disk, or of the core that it had made.
-fn opening_fed(handle: &HandleState, state: OpenState, answer: &Answer) -> OpenState
-    ensures fed { result ≡ opening_fed handle.now state answer.now }
+fn opening_fed(
+    alloc: Global,
+    handle: &HandleState,
+    state: OpenState,
+    answer: Answer,
+) -> Result<OpenState, NoMemory>
+    ensures fed { IfOk result (λ next. next ≡ opening_fed handle.now state answer) }
 {
-    let slots = handle.parts().slots;
     match answer {
-        Answer::Disk(answer) => state.feed(slots, answer),
-        Answer::Core(_) => state.registered(slots),
+        Answer::Disk(answer) => state.feed(alloc, handle, answer),
+        Answer::Core(_) => Ok(state.registered()),
     }
 }

@@ -43,10 +43,22 @@ why_text Busy = codes "busy"
 why_text WrongHash = codes "wrong-hash"
 why_text ImpossibleChange = codes "impossible-change"
 
+abbrev pub load_index_text : load_index.Error → List ℕ
+load_index_text load_index_errors.Io = codes "io"
+load_index_text (load_index_errors.InsufficientSlots current needed) = (codes "insufficient-slots " ++ decimal current) ++ (codes " " ++ decimal needed)
+load_index_text load_index_errors.GenerationOverflow = codes "generation-overflow"
+load_index_text (load_index_errors.Unsettled begun own now) =
+    (codes "unsettled " ++ decimal begun) ++ (codes " " ++ decimal own) ++ (codes " " ++ decimal now)
+load_index_text load_index_errors.NoMemory = codes "no-memory"
+
+abbrev pub labelled_load_index : load_index.Error → List ℕ
+labelled_load_index error = codes "load-index " ++ load_index_text error
+
 abbrev pub opening_text : opening.Error → List ℕ
 opening_text opening_errors.NotADirectory = codes "not-a-directory"
 opening_text (opening_errors.TooManySlots asked) = codes "too-many-slots " ++ decimal asked
 opening_text opening_errors.Io = codes "io"
+opening_text (opening_errors.LoadIndex error) = labelled_load_index error
 opening_text opening_errors.NoMemory = codes "no-memory"
 
 abbrev pub sizes_text : ℕ → ℕ → List ℕ
@@ -59,18 +71,10 @@ loose_text (loose_errors.Io action path) = codes "io " ++ text_of path
 loose_text (loose_errors.OutOfMemory size) = codes "out-of-memory " ++ decimal size
 loose_text loose_errors.NoMemory = codes "no-memory"
 
-abbrev pub load_index_text : load_index.Error → List ℕ
-load_index_text load_index_errors.Io = codes "io"
-load_index_text (load_index_errors.InsufficientSlots current needed) = (codes "insufficient-slots " ++ decimal current) ++ (codes " " ++ decimal needed)
-load_index_text load_index_errors.GenerationOverflow = codes "generation-overflow"
-load_index_text (load_index_errors.Unsettled begun own now) =
-    (codes "unsettled " ++ decimal begun) ++ (codes " " ++ decimal own) ++ (codes " " ++ decimal now)
-load_index_text load_index_errors.NoMemory = codes "no-memory"
-
 abbrev pub find_text : finding.Error → List ℕ
 find_text (find_errors.Loose error) = codes "loose " ++ loose_text error
 find_text find_errors.Pack = codes "pack"
-find_text (find_errors.LoadIndex error) = codes "load-index " ++ load_index_text error
+find_text (find_errors.LoadIndex error) = labelled_load_index error
 find_text find_errors.LoadPack = codes "load-pack"
 find_text (find_errors.EntryType code) = codes "entry-type " ++ decimal code
 find_text find_errors.DeltaEntry = codes "delta-entry"
@@ -86,6 +90,7 @@ loose_write_text loose_write_errors.NoMemory = codes "no-memory"
 
 abbrev pub write_text : writing.Error → List ℕ
 write_text (write_errors.LooseWrite error) = loose_write_text error
+write_text (write_errors.LoadIndex error) = labelled_load_index error
 write_text write_errors.NoMemory = codes "no-memory"
 
 abbrev pub error_text : CallError → List ℕ

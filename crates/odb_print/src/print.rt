@@ -2,7 +2,7 @@
 ghost use Rattle.std.specs.Prelude.{◌≡◌, ◌++◌, codes, OnOk};
 ghost use Rattle.std.specs.Fmt.{decimal};
 ghost use Rattle.gix_object.specs.Kind.{kind_word};
-ghost use Rattle.odb_print.specs.Print.{printed, reply_text, error_text, opening_text, find_text, load_index_text, loose_text, sizes_text, write_text, loose_write_text, header_text, yes_or_no, why_text, data_text};
+ghost use Rattle.odb_print.specs.Print.{printed, reply_text, error_text, opening_text, find_text, labelled_load_index, load_index_text, loose_text, sizes_text, write_text, loose_write_text, header_text, yes_or_no, why_text, data_text};
 
 use gix_hash::ObjectId;
 use gix_object::Kind;
@@ -144,6 +144,7 @@ fn print_opening_error(
         init::Error::NotADirectory => text(out, b"not-a-directory"),
         init::Error::TooManySlots { asked } => labelled(alloc, out, b"too-many-slots ", *asked),
         init::Error::Io => text(out, b"io"),
+        init::Error::LoadIndex(error) => print_load_index(alloc, out, error),
         init::Error::NoMemory => text(out, b"no-memory"),
     }
 }
@@ -156,10 +157,7 @@ fn print_find_error(alloc: Global, out: &mut Vec<u8>, error: &find::Error) -> Re
             text(out, b"loose ")?;
             print_loose_error(alloc, out, error)
         }
-        find::Error::LoadIndex(error) => {
-            text(out, b"load-index ")?;
-            print_load_index_error(alloc, out, error)
-        }
+        find::Error::LoadIndex(error) => print_load_index(alloc, out, error),
         find::Error::Pack => text(out, b"pack"),
         find::Error::LoadPack => text(out, b"load-pack"),
         find::Error::EntryType { code } => labelled(alloc, out, b"entry-type ", u64::from(*code)),
@@ -167,6 +165,17 @@ fn print_find_error(alloc: Global, out: &mut Vec<u8>, error: &find::Error) -> Re
         find::Error::OutOfMemory { size } => labelled(alloc, out, b"out-of-memory ", *size),
         find::Error::NoMemory => text(out, b"no-memory"),
     }
+}
+
+fn print_load_index(
+    alloc: Global,
+    out: &mut Vec<u8>,
+    error: &load_index::Error,
+) -> Result<(), NoMemory>
+    ensures ok { OnOk result (out.new.items ≡ out.old.items ++ labelled_load_index error.now) }
+{
+    text(out, b"load-index ")?;
+    print_load_index_error(alloc, out, error)
 }
 
 fn print_load_index_error(
@@ -220,6 +229,7 @@ fn print_write_error(alloc: Global, out: &mut Vec<u8>, error: &write::Error) -> 
 {
     match error {
         write::Error::LooseWrite(error) => print_loose_write_error(alloc, out, error),
+        write::Error::LoadIndex(error) => print_load_index(alloc, out, error),
         write::Error::NoMemory => text(out, b"no-memory"),
     }
 }

@@ -14,7 +14,7 @@ use Rattle.odb_script.specs.declared.choice.Choice.TheVariants.{Folder, Replacem
 use Rattle.odb_script.specs.declared.choice.Chosen.{Chosen}
 use Rattle.odb_script.specs.Word.{word_of}
 use Rattle.odb_script.specs.Line.{line_item, item_of}
-use Rattle.odb_script.specs.Opening.{first_id, second_id, is_unbuilt_option, gives_slots, choice_of, with_choice, with_next, nothing_chosen, chosen_by, opening_at, open_of}
+use Rattle.odb_script.specs.Opening.{first_id, second_id, is_unbuilt_option, choice_of, with_choice, with_next, nothing_chosen, chosen_by, opening_at, open_of}
 use Rattle.odb_script.proofs.SplitLemmas.{after_first-followed, before_first-followed, lacks}
 use Rattle.odb_script.proofs.LineLemmas.{AreFields, line_of, item_of-line_of, IsField-word, IsField-decimal, handle_of-decimal}
 
@@ -94,28 +94,11 @@ chosen_by-spelled [] chosen are = refl
 chosen_by-spelled (choice ∷ choices) chosen are =
     ap (with_next (chosen_by (map spelled choices)) chosen) (choice_of-spelled choice are.0) ∙ chosen_by-spelled choices (with_choice chosen choice) are.1
 
--- without an option that gives slots there are none
-kept_slots : (choices : List Choice) (chosen : Chosen) → list_any gives_slots (map spelled choices) ≡ false → (with_all chosen choices).slots ≡ chosen.slots
-kept_slots [] chosen none = refl
-kept_slots (Folder path ∷ choices) chosen none = kept_slots choices (with_choice chosen (Folder path)) none
-kept_slots (Replacement id by ∷ choices) chosen none = kept_slots choices (with_choice chosen (Replacement id by)) none
-kept_slots (Slots slots ∷ choices) chosen none = absurd (cc none)
-kept_slots (Limit bytes ∷ choices) chosen none = kept_slots choices (with_choice chosen (Limit bytes)) none
-kept_slots (Changes changes ∷ choices) chosen none = kept_slots choices (with_choice chosen (Changes changes)) none
-kept_slots (Sha256 ∷ choices) chosen none = kept_slots choices (with_choice chosen Sha256) none
-
-given : (choices : List Choice) (slots : ℕ) → (with_all nothing_chosen choices).slots ≡ Some slots → list_any gives_slots (map spelled choices) ≡ true
-given choices slots e = by_test (list_any gives_slots (map spelled choices)) refl
-  where
-    by_test : (b : Bool) → list_any gives_slots (map spelled choices) ≡ b → b ≡ true
-    by_test true _ = refl
-    by_test false none = absurd (cc (kept_slots choices nothing_chosen none, e))
-
 -- an opening that is spelled is read with what its options choose
-pub item_of-open : (handle : ℕ) (path : Path) (choices : List Choice) (slots : ℕ) → handle < 2 ^ 32 → list_all is_name path ≡ true → AreChoices choices
-    → (with_all nothing_chosen choices).slots ≡ Some slots → AreFields (text_of path ∷ map spelled choices)
-    → item_of (line_of (codes "open" ∷ decimal handle ∷ text_of path ∷ map spelled choices)) ≡ opening_at handle path (with_all nothing_chosen choices) (Some slots)
+pub item_of-open : (handle : ℕ) (path : Path) (choices : List Choice) → handle < 2 ^ 32 → list_all is_name path ≡ true → AreChoices choices
+    → AreFields (text_of path ∷ map spelled choices)
+    → item_of (line_of (codes "open" ∷ decimal handle ∷ text_of path ∷ map spelled choices)) ≡ opening_at handle path (with_all nothing_chosen choices)
 unfolding word_of line_item open_of
-item_of-open handle path choices slots small names are some fields =
+item_of-open handle path choices small names are fields =
     item_of-line_of 111 (codes "pen") (decimal handle ∷ text_of path ∷ map spelled choices) refl (IsField-word (codes "open") refl refl, (IsField-decimal handle (omega arith), fields))
-    ∙ rw (all_built choices are, given choices slots some, handle_of-decimal handle small, path_of-text_of path names, chosen_by-spelled choices nothing_chosen are, some) refl
+    ∙ rw (all_built choices are, handle_of-decimal handle small, path_of-text_of path names, chosen_by-spelled choices nothing_chosen are) refl

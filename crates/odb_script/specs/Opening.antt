@@ -1,5 +1,5 @@
 -- The opening of a store as fields, of which the last are options.
-use Rattle.std.specs.Prelude.{ℕ, ◌^◌, ◌==◌, ◌&&◌, ◌||◌, Bool, not, List, [], ◌∷◌, ◌++◌, codes, Option, Some, None, if◌then◌else◌}
+use Rattle.std.specs.Prelude.{ℕ, ◌^◌, ◌==◌, ◌&&◌, Bool, List, [], ◌∷◌, ◌++◌, codes, Option, Some, None, if◌then◌else◌}
 use Rattle.std.specs.List.{list_any}
 use Rattle.std.specs.Option.{option_map}
 use Rattle.odb_base.specs.Decimal.{number_of, number_below}
@@ -7,7 +7,9 @@ use Rattle.odb_base.specs.Path.{Path, path_of, same_name}
 use Rattle.gix_hash.specs.ObjectId.{id_of}
 use Rattle.gix_hash.specs.declared.kind.Kind.TheVariants as hashes
 use Rattle.gix_hash.specs.declared.object_id.ObjectId.{ObjectId}
+use Rattle.gix_odb_calls.specs.Slots.{default_slots}
 use Rattle.gix_odb_calls.specs.declared.init.Options.{Options}
+use Rattle.gix_odb_calls.specs.declared.init.Slots.{Slots}
 use Rattle.gix_odb_calls.specs.declared.init.Slots.TheVariants.{Given}
 use Rattle.gix_odb_calls.specs.declared.step.Step.TheVariants as steps
 use Rattle.gix_odb_calls.specs.declared.line.Line.TheVariants.{One}
@@ -44,12 +46,8 @@ second_id pair = id_of (after_colon pair)
 abbrev pub is_unbuilt_option : List ℕ → Bool
 is_unbuilt_option option = has_value option && same_name (name_in option) (codes "midx")
 
-abbrev pub gives_slots : List ℕ → Bool
-gives_slots option = has_value option && same_name (name_in option) (codes "slots")
-
--- nor is an opening built without slots
 abbrev pub is_unbuilt : List (List ℕ) → Bool
-is_unbuilt options = list_any is_unbuilt_option options || not (list_any gives_slots options)
+is_unbuilt options = list_any is_unbuilt_option options
 
 -- ---- what is chosen
 
@@ -106,20 +104,23 @@ chosen_by (option ∷ options) chosen = with_next (chosen_by options) chosen (ch
 
 -- ---- the line
 
-abbrev pub options_of : (slots : ℕ) → (limit : Option ℕ) → (changes : ℕ) → Options
-options_of slots limit changes = record { slots = Given slots; alloc_limit_bytes = limit; max_changes = changes }
+-- as many slots as were chosen, or as the store needs
+abbrev pub slots_of : Option ℕ → Slots
+slots_of None = default_slots
+slots_of (Some slots) = Given slots
 
--- an opening by what is chosen; without slots it is refused
-abbrev pub opening_at : ℕ → Path → Chosen → Option ℕ → Item
-opening_at handle path chosen None = items.Refused
-opening_at handle path chosen (Some slots) =
-    items.Play (One (steps.Open handle path chosen.folders chosen.hash chosen.replacements (options_of slots chosen.limit chosen.max_changes)))
+abbrev pub options_of : Chosen → Options
+options_of chosen = record { slots = slots_of chosen.slots; alloc_limit_bytes = chosen.limit; max_changes = chosen.max_changes }
+
+-- an opening by what is chosen
+abbrev pub opening_at : ℕ → Path → Chosen → Item
+opening_at handle path chosen = items.Play (One (steps.Open handle path chosen.folders chosen.hash chosen.replacements (options_of chosen)))
 
 abbrev pub open_with : Option ℕ → Option Path → Option Chosen → Item
 open_with None path chosen = items.Refused
 open_with (Some handle) None chosen = items.Refused
 open_with (Some handle) (Some path) None = items.Refused
-open_with (Some handle) (Some path) (Some chosen) = opening_at handle path chosen chosen.slots
+open_with (Some handle) (Some path) (Some chosen) = opening_at handle path chosen
 
 -- an opening; one that isn't built yet is judged by its options alone
 unfoldable pub open_of : List ℕ → List ℕ → List (List ℕ) → Item

@@ -80,7 +80,7 @@ told_at script bytes number =
 
 -- what is told of the line that has a number and isn't built yet
 abbrev pub unbuilt_told : List ℕ → Option ℕ → List ℕ
-unbuilt_told line None = codes ": an opening without slots isn't built yet"
+unbuilt_told line None = codes ": not built yet"
 unbuilt_told line (Some number) = codes ", field " ++ decimal number ++ codes ": not built yet: " ++ shown (field_at line number)
 
 abbrev pub unbuilt_line : ℕ → List ℕ → List ℕ

@@ -18,7 +18,7 @@ unbuilt_option [] = None
 unbuilt_option (handle ∷ []) = None
 unbuilt_option (handle ∷ path ∷ options) = first_unbuilt options 4
 
--- By the first word of a line: the word itself, or an option of an opening. An opening may have none, where it gives no slots.
+-- By the first word of a line: the word itself, or an option of an opening.
 abbrev pub unbuilt_behind : Option Word → Fields → Option ℕ
 unbuilt_behind (Some words.NotBuilt) fields = Some 1
 unbuilt_behind (Some words.Open) fields = unbuilt_option fields

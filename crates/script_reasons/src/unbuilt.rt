@@ -51,7 +51,7 @@ fn add_unbuilt(
 {
     match field {
         Some(field) => add_field(alloc, out, line, field),
-        None => text(out, b": an opening without slots isn't built yet"),
+        None => text(out, b": not built yet"),
     }
 }
 

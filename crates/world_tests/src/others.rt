@@ -1,15 +1,17 @@
 //! Writers, readers and other programs that take turns.
 
+// The write lists the folder of packs in its first three turns, and has its name in the seventh.
 // A name that is there before its data, or an object that is found nowhere afterwards.
 pub(crate) const READER: &str = "\
     make /o; open 0 /o; finish 0; open 1 /o; finish 1|2: 32 slots; 2: 32 slots\n\
-    write 0 0 -; turn 0; turn 0; turn 0; find 1 E; finish 1; test 1 E; finish 1|\
-    pending; pending; pending; 5: not found; 6: false\n\
+    write 0 0 -; turn 0; turn 0; turn 0; turn 0; turn 0; turn 0; find 1 E; finish 1; test 1 E; finish 1|\
+    pending; pending; pending; pending; pending; pending; 5: not found; 6: false\n\
     turn 0|wrote e69de29bb2d1d6434b8b29ae775ad8c2e48c5391\n\
     find 1 E; turn 1; test 1 E; turn 1|Blob ; true";
 
 pub(crate) const WRITERS_FRONT: &str =
-    "make /o; open 0 /o; finish 0; open 1 /o; finish 1; open 2 /o; finish 2; find 2 Z; finish 2";
+    "make /o; open 0 /o; finish 0; open 1 /o; finish 1; open 2 /o; finish 2; \
+    find 0 Z; finish 0; find 1 Z; finish 1; find 2 Z; finish 2";
 
 // A temporary name that two writers share, or a writer that removes the other's file.
 pub(crate) const WRITERS: &str = "\
@@ -30,7 +32,7 @@ pub(crate) const WRITERS: &str = "\
     1: wrote b6fc4c620b67d95f953a5c1c1230aaab5db5a1b0; Blob hello";
 
 pub(crate) const CHANGES_FRONT: &str =
-    "make /o; open 0 /o; finish 0; open 1 /o; finish 1; find 1 Z; finish 1; write 0 5 - hello";
+    "make /o; open 0 /o; finish 0; open 1 /o; finish 1; find 0 Z; finish 0; find 1 Z; finish 1; write 0 5 - hello";
 
 // A write makes the file, adds the header, adds the data, makes the directory and renames.
 // A change that a writer or a reader doesn't see in its turn, or sees before; a refusal that is told of another call.

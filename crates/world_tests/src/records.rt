@@ -47,7 +47,13 @@ const RECORDS: &str = "\
     turn 0|core 0 2 false 1\n\
     turn 0|OpenDir /o/pack true false 2\n\
     write 0 0 -|- false 2\n\
+    turn 0|core 0 3 false 2\n\
+    turn 0|OpenDir /o/pack false false 2\n\
+    turn 0|core 0 4 false 2\n\
     write 1 1 - x|- false 2\n\
+    turn 1|core 1 2 false 2\n\
+    turn 1|OpenDir /o/pack false false 2\n\
+    turn 1|core 1 3 false 2\n\
     turn 0|NewFile /o/tmp_obj_0 false true 2\n\
     turn 1|NewFile /o/tmp_obj_0 false false 2\n\
     turn 1|NewFile /o/tmp_obj_1 false true 2\n\
@@ -61,21 +67,23 @@ const RECORDS: &str = "\
     turn 1|Rename /o/tmp_obj_1 false true 3\n\
     make /o/pack|- true 3\n\
     find 1 Z|- false 3\n\
-    turn 1|core 1 2 false 3\n\
+    turn 1|Read /o/00/00000000000000000000000000000000000001 false false 3\n\
+    turn 1|core 1 4 false 3\n\
     turn 1|OpenDir /o/pack false false 3\n\
     turn 1|NextEntry /o/pack false false 3\n\
     turn 1|CloseDir /o/pack false false 3\n\
-    turn 1|core 1 3 false 3\n\
+    turn 1|core 1 5 false 3\n\
     turn 1|Read /o/00/00000000000000000000000000000000000001 false false 3\n\
-    turn 1|core 1 4 false 3\n\
-    clone 2 1|core 1 5 false 3\n\
-    close 0|core 0 3 false 3\n\
-    close 1|core 1 6 false 3";
+    turn 1|core 1 6 false 3\n\
+    clone 2 1|core 1 7 false 3\n\
+    close 0|core 0 5 false 3\n\
+    close 1|core 1 8 false 3";
 
 /// The entries of the journals of that run, a row for each journal: their numbers, seats, events and answers.
 const JOURNALS: &str = "\
-    1 0 register seen; 2 0 look seen; 3 0 remove removed\n\
-    1 1 register seen; 2 1 look seen; 3 1 publish published; 4 1 look seen; 5 2 register seen; 6 1 remove removed";
+    1 0 register seen; 2 0 look seen; 3 0 look seen; 4 0 publish published; 5 0 remove removed\n\
+    1 1 register seen; 2 1 look seen; 3 1 publish published; 4 1 look seen; 5 1 publish unchanged; 6 1 look seen; \
+    7 2 register seen; 8 1 remove removed";
 
 fn event_shown(event: &Event) -> &'static str {
     match event {
@@ -92,6 +100,7 @@ fn answer_shown(answer: &Result<Effect, Refusal>) -> &'static str {
         Ok(Effect::Seen(_)) => "seen",
         Ok(Effect::Removed) => "removed",
         Ok(Effect::Published(_)) => "published",
+        Ok(Effect::Unchanged(_)) => "unchanged",
         _ => "another answer",
     }
 }
@@ -129,8 +138,8 @@ fn check_journals(alloc: Global, run: &Run, rows: &str) -> Result<(), Fail> {
 // another store's journal, or one of another handle.
 #[test]
 fn records_what_each_step_did(rt: HostRuntime) -> Result<(), Fail> {
-    let run = run_of(rt.alloc(), &[1, 4, 9], RECORDS)?;
-    assert!(rt; run.records.len() == 37 && run.outcomes.len() == 37 && run.journals.len() == 2);
+    let run = run_of(rt.alloc(), &[1, 4, 11], RECORDS)?;
+    assert!(rt; run.records.len() == 44 && run.outcomes.len() == 44 && run.journals.len() == 2);
     check_records(rt.alloc(), &run, RECORDS)?;
     check_journals(rt.alloc(), &run, JOURNALS)
 }

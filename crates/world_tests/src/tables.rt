@@ -11,7 +11,7 @@ fn steps_in_turn(rt: HostRuntime) -> Result<(), Fail> {
         (finds::FOLDERS, 45),
         (finds::REPLACED, 27),
         (writes::WRITES, 40),
-        (others::READER, 13),
+        (others::READER, 14),
         (misuse::MISUSES, 14),
         (openings::HASHES, 18),
     ] {
@@ -30,6 +30,7 @@ fn steps_alone(rt: HostRuntime) -> Result<(), Fail> {
         (others::WRITERS_FRONT, others::WRITERS),
         (others::CHANGES_FRONT, others::CHANGES),
         ("make /o", openings::OPENINGS),
+        (openings::COUNTED_FRONT, openings::COUNTED),
     ] {
         check_each(rt.alloc(), front, rows)?;
     }
@@ -40,5 +41,10 @@ fn steps_alone(rt: HostRuntime) -> Result<(), Fail> {
 #[test]
 fn steps_with_faults(rt: HostRuntime) -> Result<(), Fail> {
     check_faults(rt.alloc(), finds::FAULT_STEPS, finds::FAULTS)?;
+    check_faults(
+        rt.alloc(),
+        openings::COUNTED_FAULT_STEPS,
+        openings::COUNTED_FAULTS,
+    )?;
     check_faults(rt.alloc(), writes::FAULT_STEPS, writes::FAULTS)
 }

@@ -158,7 +158,8 @@ struct Chosen {
     options: Options,
 }
 
-/// An opening: the handle, the path, and options `folder=`, `replace=`, `limit=`, `slots=`, `changes=` and `hash=sha256`.
+/// An opening: the handle, the path, and options `folder=`, `replace=`, `limit=`, `slots=`, `counted=PERCENT:MINIMUM`, `changes=` and
+/// `hash=sha256`. Without `slots=` and `counted=` a store is given 32 slots.
 fn open_of(alloc: Global, text: &str) -> Result<Step, Fail> {
     let (handle, text) = cut(text);
     let (path, words) = cut(text);
@@ -199,11 +200,21 @@ fn choose(alloc: Global, chosen: &mut Chosen, word: &str) -> Result<(), Fail> {
         "replace" => chosen.replacements.push(pair_of(value)?)?,
         "limit" => chosen.options.alloc_limit_bytes = Some(value.parse::<u64>()?),
         "slots" => chosen.options.slots = Slots::Given(value.parse::<u16>()?),
+        "counted" => chosen.options.slots = counted_of(value)?,
         "changes" => chosen.options.max_changes = value.parse::<u32>()?,
         "hash" => chosen.hash = gix_hash::Kind::Sha256,
         _ => {}
     }
     Ok(())
+}
+
+/// So many slots for a hundred indices, and a number at least.
+fn counted_of(text: &str) -> Result<Slots, Fail> {
+    let (percent, minimum) = text.split_once(':').unwrap_or((text, ""));
+    Ok(Slots::AsNeededByDiskState {
+        percent: percent.parse::<u32>()?,
+        minimum: minimum.parse::<u32>()?,
+    })
 }
 
 fn pair_of(text: &str) -> Result<(ObjectId, ObjectId), Fail> {

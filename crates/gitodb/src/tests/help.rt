@@ -45,7 +45,7 @@ fn spelled(word: Word) -> &'static str {
         Word::Put => "put PATH TIME CONTENT",
         Word::Link => "link PATH TARGET",
         Word::Steps => "steps",
-        Word::Open => "open H PATH slots=N",
+        Word::Open => "open H PATH ",
         Word::Clone => "clone NEW H",
         Word::Close => "close H",
         Word::Ignore => "ignore H",

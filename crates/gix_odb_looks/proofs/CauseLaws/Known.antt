@@ -101,7 +101,7 @@ module _ (Shown : Path → List ℕ → Type 0) (setting : Setting) (hash : Kind
   not_found_explained (Header asked) = tt
   not_found_explained (Test asked) = tt
 
-  pub refusal_explained : (query : Query) (refusal : Refusal) → IsRefused Shown setting hash id exchanges refusal
+  pub refusal_explained : (query : Query) (refusal : Refusal) → IsRefused exchanges refusal
       → IsListCaused query (find_errors.LoadIndex (of_refusal refusal))
   refusal_explained query (refusals.InsufficientSlots current needed) was = was
   refusal_explained query refusals.GenerationOverflow was = was

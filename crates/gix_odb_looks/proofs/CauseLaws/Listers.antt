@@ -10,8 +10,6 @@ use Rattle.odb_tree.specs.declared.entry.Entry.{Entry}
 use Rattle.odb_tree.specs.declared.meta.Kind.{Kind as NodeKind}
 use Rattle.odb_tree.specs.declared.meta.Kind.TheVariants as kinds
 use Rattle.odb_tree.specs.declared.meta.Meta.{Meta}
-use Rattle.gix_hash.specs.declared.kind.Kind.{Kind}
-use Rattle.gix_hash.specs.declared.object_id.ObjectId.{ObjectId}
 use Rattle.gix_odb_slots.specs.declared.listing.ListingRow.{ListingRow}
 use Rattle.gix_odb_packs.specs.ListOrder.{ask_at, ask_of, at_paths, behind_folder, by_index, by_kind, by_pack}
 use Rattle.gix_odb_packs.specs.ListOrder.{by_pack_kind, fed, fed_at, opened, read, with_row}
@@ -40,12 +38,11 @@ Breaks exchanges (stages.Breaking dir) = HasFailed exchanges
 Breaks exchanges (stages.Index path left) = Unit {0}
 Breaks exchanges (stages.Pack row left) = Unit {0}
 
-module _ (Shown : Path → List ℕ → Type 0) (setting : Setting) (hash : Kind) (id : ObjectId)
-    (exchanges : List Exchange) where
+module _ (setting : Setting) (exchanges : List Exchange) where
   abbrev pub ListedTells : ListStep → Type 0
   ListedTells (ends.More lister) = Breaks exchanges lister.stage
   ListedTells (ends.Rows rows) = Unit {0}
-  ListedTells ends.Broken = HasFailed exchanges ⊎ IsNoFolder Shown setting hash id exchanges
+  ListedTells ends.Broken = HasFailed exchanges ⊎ IsNoFolder setting exchanges
 
   module _ (folders : List Path) where
     behind_folder-tells : (head : ListHead) (next : Option Path) → ListedTells (behind_folder head next)
@@ -75,7 +72,7 @@ module _ (Shown : Path → List ℕ → Type 0) (setting : Setting) (hash : Kind
         failed was = HasFailed-from_told exchanges (asks.Disk (ask_at head.folder stage)) (told.Disk (answers.Refused disk_errors.Failed)) was refl
 
       no_folder : IsAtFolder setting head → (error : DiskError) → IsBlocked error → Was stages.Opening (answers.Refused error)
-          → IsNoFolder Shown setting hash id exchanges
+          → IsNoFolder setting exchanges
       no_folder (folder, among, is) error blocked was =
           record {
             folder = folder;

@@ -74,7 +74,7 @@ module _ (Shown : Path → List ℕ → Type 0) (setting : Setting) (hash : Kind
 
   -- the core refused an event so
   abbrev Refuses : Refusal → Type 0
-  Refuses refusal = IsRefused Shown setting hash id exchanges refusal
+  Refuses refusal = IsRefused exchanges refusal
 
   module _ (head : LookHead) where
     listing_from-known : (base : ℕ) (notes : Notes) → Noted exchanges notes → HasBegun head → Knows head (listing_from setting base notes)
@@ -182,7 +182,7 @@ module _ (Shown : Path → List ℕ → Type 0) (setting : Setting) (hash : Kind
     by_look-known counts exchange last purposes.Again notes noted (Some view) shows = listing_from-known view.list_no notes noted (shows view refl).0
 
     by_listed-known : (base : ℕ) (notes : Notes) → Noted exchanges notes → HasBegun head → (step : ListStep)
-        → ListedTells Shown setting hash id exchanges step
+        → ListedTells setting exchanges step
         → Knows head (by_listed base notes step)
     by_listed-known base notes noted begun (listed.More lister) tells = (noted, begun, tells)
     by_listed-known base notes noted begun (listed.Rows rows) tells = (noted, begun)
@@ -307,7 +307,7 @@ module _ (Shown : Path → List ℕ → Type 0) (setting : Setting) (hash : Kind
         let truth = is_true (stages.Listing lister base notes) (told.Disk answer) t (asks.Disk (lists.ask_of lister)) refl in (
           quiet (stages.Listing lister base notes) (told.Disk answer) t (asks.Disk (lists.ask_of lister)) refl refl,
           by_listed-known head base notes knows.0 knows.1 (lister_fed setting lister answer)
-              (listers.fed-tells Shown setting hash id exchanges lister at knows.2 answer truth.0
+              (listers.fed-tells setting exchanges lister at knows.2 answer truth.0
               (was_told (stages.Listing lister base notes) (told.Disk answer) t (asks.Disk (lists.ask_of lister)) refl)),
         )
     listing-known lister base notes at knows (told.Core answer) t =

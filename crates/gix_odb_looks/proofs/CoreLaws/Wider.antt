@@ -1,5 +1,5 @@
 -- Where more is shown, and more is said of loose objects, all that was true, found or a cause before stays so.
-use Rattle.std.proofs.Common.{ℕ, List, inl, inr}
+use Rattle.std.proofs.Common.{ℕ, List}
 use Rattle.std.proofs.lemmas.List.Elements.{All-weaker}
 use Rattle.odb_base.specs.Path.{Path}
 use Rattle.odb_disk.specs.declared.ask.DiskAnswer.{DiskAnswer}
@@ -28,7 +28,7 @@ use Rattle.gix_odb_calls.specs.declared.load_index.Error as load
 use Rattle.gix_odb_calls.specs.declared.load_index.Error.TheVariants as load_errors
 use Rattle.gix_odb_calls.specs.declared.query.Query.{Query}
 use Rattle.gix_odb_calls.specs.declared.query.Query.TheVariants.{Find, Header, Test}
-use Rattle.gix_odb_looks.specs.Caused.{IsCaused, IsLoadCaused, IsNoFolder, IsPackError, IsRefused, IsUnloaded, IsUnsettled}
+use Rattle.gix_odb_looks.specs.Caused.{IsCaused, IsLoadCaused, IsPackError, IsUnloaded, IsUnsettled}
 use Rattle.gix_odb_looks.specs.Exchange.{Exchange}
 use Rattle.gix_odb_looks.specs.Found.{IsFound, IsInIndex, IsInPack}
 use Rattle.gix_odb_looks.specs.LookUpOrder.{Setting}
@@ -132,13 +132,6 @@ module _ (Shown Wider : Path → List ℕ → Type 0) (wider : (path : Path) (by
         none = is.none;
       }
 
-      IsNoFolder-wider : IsNoFolder Shown setting hash id exchanges → IsNoFolder Wider setting hash id exchanges
-      IsNoFolder-wider is = record { folder = is.folder; among = is.among; error = is.error; blocked = is.blocked; told = is.told }
-
-      IsRefused-wider : (refusal : Refusal) → IsRefused Shown setting hash id exchanges refusal
-          → IsRefused Wider setting hash id exchanges refusal
-      IsRefused-wider refusal is = record { event = is.event; told = is.told }
-
       IsUnsettled-wider : (begun own now : ℕ) → IsUnsettled Shown setting hash id exchanges begun own now
           → IsUnsettled Wider setting hash id exchanges begun own now
       IsUnsettled-wider begun own now is =
@@ -146,12 +139,11 @@ module _ (Shown Wider : Path → List ℕ → Type 0) (wider : (path : Path) (by
 
       IsLoadCaused-wider : (error : load.Error) → IsLoadCaused Shown setting hash id exchanges error
           → IsLoadCaused Wider setting hash id exchanges error
-      IsLoadCaused-wider load_errors.Io (inl failed) = inl failed
-      IsLoadCaused-wider load_errors.Io (inr none) = inr (IsNoFolder-wider none)
-      IsLoadCaused-wider (load_errors.InsufficientSlots current needed) is = IsRefused-wider _ is
-      IsLoadCaused-wider load_errors.GenerationOverflow is = IsRefused-wider _ is
+      IsLoadCaused-wider load_errors.Io is = is
+      IsLoadCaused-wider (load_errors.InsufficientSlots current needed) is = is
+      IsLoadCaused-wider load_errors.GenerationOverflow is = is
       IsLoadCaused-wider (load_errors.Unsettled begun own now) is = IsUnsettled-wider begun own now is
-      IsLoadCaused-wider load_errors.NoMemory is = IsRefused-wider _ is
+      IsLoadCaused-wider load_errors.NoMemory is = is
 
       pub IsCaused-wider : (query : Query) (error : Error) → IsCaused Shown setting hash id query exchanges error
           → IsCaused Wider setting hash id query exchanges error

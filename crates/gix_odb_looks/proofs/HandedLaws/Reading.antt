@@ -52,11 +52,11 @@ path_is_read : (path : Path) → ChangesNothing (asks.Disk (disk_asks.Read path)
 unfolding change_of_ask
 path_is_read path tree = refl
 
-path_is_looked_at : (path : Path) (follow : Bool) → ChangesNothing (asks.Disk (disk_asks.Look path follow))
+pub path_is_looked_at : (path : Path) (follow : Bool) → ChangesNothing (asks.Disk (disk_asks.Look path follow))
 unfolding change_of_ask
 path_is_looked_at path follow tree = refl
 
-lister_reads : (folder : Path) (stage : ListStage) → ChangesNothing (asks.Disk (lists.ask_at folder stage))
+pub lister_reads : (folder : Path) (stage : ListStage) → ChangesNothing (asks.Disk (lists.ask_at folder stage))
 unfolding change_of_ask
 lister_reads folder list_stages.Opening tree = refl
 lister_reads folder (list_stages.Reading dir entries) tree = refl
@@ -221,7 +221,7 @@ module _ (setting : Setting) where
   loose_own now (loose_stages.Writing job) here own is = absurd here
   loose_own now (loose_stages.Done reply) here own is = absurd (cc is)
 
-  lister_own : (now : Told) (folder : Path) (stage : ListStage) → StreamAt now folder stage → AsksOwn now (asks.Disk (lists.ask_at folder stage))
+  pub lister_own : (now : Told) (folder : Path) (stage : ListStage) → StreamAt now folder stage → AsksOwn now (asks.Disk (lists.ask_at folder stage))
   lister_own now folder list_stages.Opening own = own
   lister_own now folder (list_stages.Reading dir entries) own = (folder, own)
   lister_own now folder (list_stages.Closing dir entries) own = (folder, own)

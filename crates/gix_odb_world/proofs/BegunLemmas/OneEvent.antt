@@ -7,11 +7,8 @@ use Rattle.std.proofs.lemmas.Option.{slice_get_within}
 use Rattle.odb_base.specs.Path.{Path}
 use Rattle.gix_hash.specs.declared.kind.Kind.{Kind as HashKind}
 use Rattle.gix_hash.specs.declared.object_id.ObjectId.{ObjectId}
-use Rattle.gix_odb_calls.specs.Slots.{given_slots}
 use Rattle.gix_odb_calls.specs.declared.call.Call.{Call}
 use Rattle.gix_odb_calls.specs.declared.init.Options.{Options}
-use Rattle.gix_odb_calls.specs.declared.init.Slots.{Slots}
-use Rattle.gix_odb_calls.specs.declared.init.Slots.TheVariants.{Given}
 use Rattle.gix_odb_calls.specs.declared.step.Step.{Step}
 use Rattle.gix_odb_calls.specs.declared.step.Step.TheVariants as steps
 use Rattle.gix_odb_calls.specs.declared.step.Outcome.TheVariants as outcomes
@@ -67,9 +64,6 @@ open_is_task : (handle : ℕ) (step : Step) → IsOpenOf handle step → IsTaskO
 open_is_task handle (steps.Open other path folders hash replacements options) is = is
 open_is_task handle (steps.Clone other from) is = is
 open_is_task handle step is = absurd is
-
-given_as : (slots : Slots) → slots ≡ Given (given_slots slots)
-given_as (Given slots) = refl
 
 -- ---- one event more
 
@@ -153,7 +147,7 @@ module _ (events : List Event) (e : Event) where
         replacements = replacements;
         options = options;
         opens = opens;
-        slots = given_as options.slots;
+        slots = refl;
         hash_is = refl;
         changes = refl;
         parts = refl;

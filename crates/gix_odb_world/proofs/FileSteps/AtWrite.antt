@@ -1,7 +1,8 @@
 -- A handle that is at a write after an event, whose file is made, was at it before.
-use Rattle.std.proofs.Common.{◌≡◌, inl, inr, ℕ, ◌<◌, Bool, true, false, Option, Ok, Err, Result, refl, sym, ap, ◌∙◌, subst, arith}
+use Rattle.std.proofs.Common.{◌≡◌, inl, inr, ℕ, ◌<◌, Bool, true, false, List, Option, Ok, Err, Result, refl, sym, ap, ◌∙◌, subst, arith}
 use Rattle.std.specs.Prelude.{if◌then◌else◌, ◌==◌}
 use Rattle.std.proofs.lemmas.Bool.{eqb-true}
+use Rattle.odb_disk.specs.MemDisk.{Volume}
 use Rattle.gix_odb_loose.specs.declared.call.LooseCall.{LooseCall}
 use Rattle.gix_odb_calls.specs.declared.call.Call.{Call}
 use Rattle.gix_odb_calls.specs.declared.call.Reply.{Reply}
@@ -10,8 +11,9 @@ use Rattle.gix_odb_calls.specs.declared.step.Outcome.TheVariants as outcomes
 use Rattle.gix_odb_calls.specs.declared.step.Step.{Step}
 use Rattle.gix_odb_calls.specs.declared.step.Step.TheVariants as steps
 use Rattle.gix_odb_world.specs.declared.work.Work.{Work}
-use Rattle.gix_odb_world.specs.Event.{Answer, Asked, answered}
+use Rattle.gix_odb_world.specs.Event.{Answer, Asked, Event, answered}
 use Rattle.gix_odb_world.specs.Machines.{fed_in, write_in}
+use Rattle.gix_odb_world.specs.Running.{Knows, Runs}
 use Rattle.gix_odb_world.specs.Status.{IsAtWrite, MakeCall, Running, Store, Status, Free, Resting, Working, after_turn_of, applied, come_to, gone_on, ignoring_from, modes_after, cloned}
 use Rattle.gix_odb_world.specs.Status.{opening_at, refuses_opening, replied, running_from, started, status_after, turned, with_status, Modes, now_ignoring}
 use Rattle.gix_odb_world.proofs.MachineLaws.{HasNoFile}
@@ -58,13 +60,14 @@ module _ (store : Store) (begun : ℕ) where
   ended asked reply (Resting own modes) = no_write_resting own modes
   ended asked reply (Working running) = rests running.store (modes_after asked running.modes) (refuses_opening reply)
 
-  come_before : (running : Running) (asked : Asked) (answer : Option Answer) (result : Result Reply Work) → fed_in running.store running.work answer ≡ result
+  come_before : (first : Volume) (events : List Event) (handle : ℕ) (running : Running) → Knows first events handle running running.work
+      → (asked : Asked) (answer : Option Answer) (result : Result Reply Work) → fed_in running.store running.work answer ≡ result
       → After (come_to asked running result) → Before (Working running)
-  come_before running asked answer (Ok reply) is f = absurd (rests running.store (modes_after asked running.modes) (refuses_opening reply) f.at)
-  come_before running asked answer (Err left) is f =
+  come_before first events handle running knows asked answer (Ok reply) is f = absurd (rests running.store (modes_after asked running.modes) (refuses_opening reply) f.at)
+  come_before first events handle running knows asked answer (Err left) is f =
       let a : Before (Working (gone_on asked running left)) = f.at in
       let same : gone_on asked running left ≡ a.running = one_running (gone_on asked running left) a.running a.at.works in
-      elim (wrote_before running.store running.work left answer a.call is (ap (λ (r : Running). write_in r.work) same ∙ a.at.writes)) [
+      elim (wrote_before first events handle running running.work left answer a.call knows is (ap (λ (r : Running). write_in r.work) same ∙ a.at.writes)) [
         | inl was ↦ record {
           running = running;
           call = was.0;
@@ -75,10 +78,12 @@ module _ (store : Store) (begun : ℕ) where
         | inr none ↦ absurd (f.past none)
       ]
 
-  turned_before : (asked : Asked) (status : Status) → After (turned asked status) → Before status
-  turned_before asked Free a = a.at
-  turned_before asked (Resting own modes) a = a.at
-  turned_before asked (Working running) a = come_before running asked (answered asked) (fed_in running.store running.work (answered asked)) refl a
+  turned_before : (first : Volume) (events : List Event) (handle : ℕ) (asked : Asked) (status : Status) → Runs first events handle status
+      → After (turned asked status) → Before status
+  turned_before first events handle asked Free runs a = a.at
+  turned_before first events handle asked (Resting own modes) runs a = a.at
+  turned_before first events handle asked (Working running) runs a =
+      come_before first events handle running runs.1 asked (answered asked) (fed_in running.store running.work (answered asked)) refl a
 
   ignoring_before : (status : Status) → Before (ignoring_from status) → Before status
   ignoring_before Free a = a
@@ -103,7 +108,7 @@ module _ (store : Store) (begun : ℕ) where
       let at : number ≡ begun = ap (λ (r : Running). r.begun) (one_running _ a.running a.at.works) ∙ a.since in
       absurd (omega (arith, at, soon))
 
-  module _ (table : ℕ → Status) (handle : ℕ) where
+  module _ (first : Volume) (events : List Event) (table : ℕ → Status) (runs : (handle : ℕ) → Runs first events handle (table handle)) (handle : ℕ) where
     set_before : (number : ℕ) (status : Status) → (After status → Before (table number)) → After (with_status table number status handle)
         → Before (table handle)
     set_before number status back = by_number (handle == number) refl
@@ -120,14 +125,14 @@ module _ (store : Store) (begun : ℕ) where
     applied_before number asked (steps.Start h call) soon = set_before h _ (λ a. started_before number call (table h) soon a.at)
     applied_before number asked step soon = λ a. a.at
 
-    after_turn_before : (step : Step) (next : Status → Status) → ((status : Status) → After (next status) → Before status)
+    after_turn_before : (step : Step) (next : Status → Status) → ((number : ℕ) → After (next (table number)) → Before (table number))
         → After (after_turn_of step next table handle) → Before (table handle)
-    after_turn_before (steps.Turn h) next back = set_before h _ (back (table h))
+    after_turn_before (steps.Turn h) next back = set_before h _ (back h)
     after_turn_before step next back = λ a. a.at
 
     pub write_before : (number : ℕ) (step : Step) (outcome : Outcome) (asked : Asked) → begun < number
         → After (status_after number step outcome asked table handle) → Before (table handle)
     write_before number step outcomes.Applied asked soon = applied_before number asked step soon
-    write_before number step outcomes.Pending asked soon = after_turn_before step (turned asked) (turned_before asked)
-    write_before number step (outcomes.Reply reply) asked soon = after_turn_before step (replied asked reply) (λ status b. absurd (ended asked reply status b.at))
+    write_before number step outcomes.Pending asked soon = after_turn_before step (turned asked) (λ h. turned_before first events h asked (table h) (runs h))
+    write_before number step (outcomes.Reply reply) asked soon = after_turn_before step (replied asked reply) (λ h b. absurd (ended asked reply (table h) b.at))
     write_before number step (outcomes.Misuse why) asked soon = λ a. a.at

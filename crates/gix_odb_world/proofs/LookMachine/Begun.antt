@@ -1,12 +1,10 @@
 -- A query where it begins.
 use Rattle.std.proofs.Common.{◌≡◌, ℕ, ◌+◌, Bool, true, false, List, [], ◌∷◌, ◌++◌, length, Option, None, Some, refl, sym, ◌∙◌, ap, subst, arith}
-use Rattle.std.specs.Prelude.{unwrap_or}
+use Rattle.std.specs.Prelude.{if◌then◌else◌}
 use Rattle.std.proofs.lemmas.List.{length_push}
 use Rattle.odb_disk.specs.MemDisk.{Volume}
 use Rattle.gix_hash.specs.ObjectId.{kind_of}
 use Rattle.gix_hash.specs.declared.object_id.ObjectId.{ObjectId}
-use Rattle.gix_odb_core.specs.History.{History, opened}
-use Rattle.gix_odb_core.specs.Replay.{snapshot_of}
 use Rattle.gix_odb_calls.specs.Hashes.{is_of_hash}
 use Rattle.gix_odb_calls.specs.declared.call.Call.TheVariants as call_kinds
 use Rattle.gix_odb_calls.specs.declared.query.Query.{Query}
@@ -14,19 +12,20 @@ use Rattle.gix_odb_calls.specs.declared.query.Query.TheVariants.{Find, Header, T
 use Rattle.gix_odb_looks.specs.Exchange.{AreAsked, behind}
 use Rattle.gix_odb_looks.specs.LookUpOrder as looks
 use Rattle.gix_odb_looks.specs.declared.look_up.LookUp.{LookUp}
+use Rattle.gix_odb_refresh.specs.declared.refresh.Refresh.TheVariants as fronts
+use Rattle.gix_odb_refresh.specs.declared.refresh.Refresh.TheVariants.{Ready}
 use Rattle.gix_odb.specs.Contents.{or_itself, replacement_in, sought}
-use Rattle.gix_odb.specs.HandleState.{unseen}
+use Rattle.gix_odb.specs.CallOrder.{fronted, writing}
 use Rattle.gix_odb.specs.declared.call_state.CallState.TheVariants.{Looking}
 use Rattle.gix_odb_world.specs.declared.work.Work.TheVariants.{Calling}
 use Rattle.gix_odb_world.specs.AtWork.{Modes, setting_in, view_in_modes}
-use Rattle.gix_odb_world.specs.Cores.{cores_after, history_at}
 use Rattle.gix_odb_world.specs.Event.{Event}
 use Rattle.gix_odb_world.specs.Running.Query.{IsLooking, call_of}
 use Rattle.gix_odb_world.specs.Status.{MakeCall, OpenStore, Store, Task, begun_with, running_from}
 use Rattle.gix_odb_world.specs.Told.{look_begun, told_since, view_then}
 use Rattle.gix_odb_world.proofs.MachineLaws.{BeginsAs, IsStarted}
 use Rattle.gix_odb_world.proofs.OpenFacts.{same_is}
-use Rattle.gix_odb_world.proofs.ToldLemmas.{told_first, view_first}
+use Rattle.gix_odb_world.proofs.ToldLemmas.{snapshot_seen, told_first}
 use Rattle.gix_odb_world.proofs.ToldWell.{told_well_at_first}
 
 -- the sought id is of the store's hash
@@ -59,11 +58,7 @@ module _ (first : Volume) (events : List Event) (e : Event) (handle : ℕ) (stor
 
     -- the snapshot of the handle is what it saw then
     seen : view_in_modes modes ≡ view_then begun_whole handle modes.core number
-    seen =
-        let there : history_at (cores_after begun_whole) modes.core ≡ start.seated.history = ap (λ o. unwrap_or o (opened 0 0 0 0)) start.seated.there in
-        ap (λ v. unwrap_or v unseen) start.seated.snapshot
-        ∙ (ap (λ (h : History). unwrap_or (snapshot_of handle h.entries) unseen) (sym there)
-        ∙ (sym (view_first begun_whole handle modes.core) ∙ ap (view_then begun_whole handle modes.core) (sym count)))
+    seen = snapshot_seen events e handle modes start.seated
 
     nothing_told : told_since begun_whole handle number ≡ []
     nothing_told = ap (told_since begun_whole handle) count ∙ told_first begun_whole handle
@@ -90,4 +85,8 @@ module _ (first : Volume) (events : List Event) (e : Event) (handle : ℕ) (stor
   looking_starts (MakeCall (call_kinds.Find id)) look start is = begins (Find id) start look (cc is)
   looking_starts (MakeCall (call_kinds.Header id)) look start is = begins (Header id) start look (cc is)
   looking_starts (MakeCall (call_kinds.Test id)) look start is = begins (Test id) start look (cc is)
-  looking_starts (MakeCall (call_kinds.Write kind size bytes known)) look start is = absurd (cc is)
+  looking_starts (MakeCall (call_kinds.Write kind size bytes known)) look start is = absurd (never (view_in_modes modes).read is)
+    where
+      never : (read : Bool) → ¬ (Calling (fronted (if read then Ready else fronts.Looking) (writing store.parts.objects store.hash kind size bytes known)) ≡ Calling (Looking look))
+      never true is = cc is
+      never false is = cc is

@@ -51,7 +51,7 @@ nothing_asked None is = refl
 nothing_asked (Some (parts.Disk ask)) is = absurd (cc is)
 nothing_asked (Some (parts.Core event)) is = absurd (cc is)
 
-event_asked : (asked : Option PartAsk) (event : CoreEvent) → part_asked asked ≡ Some (ToCore event) → asked ≡ Some (parts.Core event)
+pub event_asked : (asked : Option PartAsk) (event : CoreEvent) → part_asked asked ≡ Some (ToCore event) → asked ≡ Some (parts.Core event)
 event_asked None event is = absurd (cc is)
 event_asked (Some (parts.Disk ask)) event is = absurd (cc is)
 event_asked (Some (parts.Core own)) event is = let same : own ≡ event = cc is in ap (λ e. Some (parts.Core e)) same
@@ -180,7 +180,7 @@ module _ (first : Volume) (events : List Event) (handle : ℕ) (running : Runnin
     ComesWith view_now (Ok reply) = Promise first whole handle store running.modes running.begun running.task reply
     ComesWith view_now (Err next) =
         IsLooking first whole handle (record running { modes = record running.modes { view = view_now }; turns = running.turns + 1; work = Calling (Looking next) }) next
-        × ((entries : ℕ) → HasAtMost (tree_at first whole) store.parts running.begun (length events + 1) entries → running.turns + 1 < bound_of_call store entries None)
+        × ((entries : ℕ) → HasAtMost (tree_at first whole) store.parts running.begun (length events + 1) entries → running.turns + 1 < bound_of_call store running.modes entries None)
 
     -- ---- a turn in which it was told something
 
@@ -235,12 +235,12 @@ module _ (first : Volume) (events : List Event) (handle : ℕ) (running : Runnin
 
       -- and is within its bound where it goes on
       in_time : ((reply : Reply) → ¬ (result_of fed_now ≡ Ok reply)) → (entries : ℕ)
-          → HasAtMost (tree_at first whole) store.parts running.begun (length events + 1) entries → running.turns + 1 < bound_of_call store entries None
+          → HasAtMost (tree_at first whole) store.parts running.begun (length events + 1) entries → running.turns + 1 < bound_of_call store running.modes entries None
       in_time on entries most =
           let long = longer in
           let more = length_push events e in
           let few =
-          a_look_up_ends_in_time setting (view_then whole handle running.modes.core running.begun) query id (told_since whole handle running.begun) store.slots entries well.few
+          a_look_up_ends_in_time setting (view_then whole handle running.modes.core running.begun) query id (told_since whole handle running.begun) running.modes.slots entries well.few
           (subst (λ l. AreAsked setting l (told_since whole handle running.begun)) begins_same
           (subst (AreAsked setting (look_begun events handle store running.modes running.begun query)) (sym told_is) all_asked))
           well.numbered
@@ -258,7 +258,7 @@ module _ (first : Volume) (events : List Event) (handle : ℕ) (running : Runnin
       goes view_now (Err next) is =
           let same : next ≡ fed_now = left_is fed_now.head fed_now.stage next is in
           subst (λ l. IsLooking first whole handle (record running { modes = record running.modes { view = view_now }; turns = running.turns + 1; work = Calling (Looking l) }) l
-          × ((entries : ℕ) → HasAtMost (tree_at first whole) store.parts running.begun (length events + 1) entries → running.turns + 1 < bound_of_call store entries None))
+          × ((entries : ℕ) → HasAtMost (tree_at first whole) store.parts running.begun (length events + 1) entries → running.turns + 1 < bound_of_call store running.modes entries None))
           (sym same)
           (knows_on view_now, in_time (λ reply ok. cc (sym ok ∙ is)))
 

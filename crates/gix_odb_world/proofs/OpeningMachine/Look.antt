@@ -1,5 +1,7 @@
--- The look of an opening leads to a reply that keeps its promise, or to the registration of its handle.
-use Rattle.std.proofs.Common.{◌≡◌, ℕ, ◌≤◌, Bool, true, false, nat_le, cond, List, Result, Ok, Err, refl, arith}
+-- What a turn of an opening says of its end and of what is left: whether the objects directory was shown.
+use Rattle.std.proofs.Common.{◌≡◌, ℕ, ◌≤◌, Bool, true, false, nat_le, cond, length, Result, Ok, Err, refl, arith}
+use Rattle.std.specs.Prelude.{if◌then◌else◌}
+use Rattle.odb_base.specs.Path.{Path}
 use Rattle.odb_tree.specs.Tree.{Tree}
 use Rattle.odb_tree.specs.Tree.Follow.{Refusal, Absent, WrongKind, LinkLoop, looked}
 use Rattle.odb_tree.specs.declared.disk_error.DiskError.TheVariants as disk_errors
@@ -9,46 +11,81 @@ use Rattle.odb_tree.specs.declared.meta.Meta.{Meta}
 use Rattle.odb_disk.specs.Ask.{answer_of, meta_answer}
 use Rattle.odb_disk.specs.declared.ask.DiskAnswer.TheVariants as answers
 use Rattle.odb_disk.specs.declared.ask.DiskAsk.TheVariants as asks
-use Rattle.gix_odb.specs.OpenOrder.{looked as after_look, refused, shown as after_kind}
 use Rattle.gix_odb_slots.specs.PackId.{most_slots}
+use Rattle.gix_odb_packs.specs.declared.lister.ListStep.{ListStep}
+use Rattle.gix_odb_packs.specs.declared.lister.ListStep.TheVariants as listed
+use Rattle.gix_odb.specs.OpenOrder.{begun as with_slots, listed_on, looked as after_look, numbered, refused, shown as after_kind, slots_for}
 use Rattle.gix_odb.specs.declared.open_state.OpenState.{OpenState}
 use Rattle.gix_odb.specs.declared.open_state.OpenState.TheVariants as opens
+use Rattle.gix_odb_calls.specs.declared.call.CallError.TheVariants as call_errors
+use Rattle.gix_odb_calls.specs.declared.call.Reply.TheVariants as replies
+use Rattle.gix_odb_calls.specs.declared.init.Error as opening
 use Rattle.gix_odb_calls.specs.declared.init.Error.TheVariants as opening_errors
+use Rattle.gix_odb_calls.specs.declared.init.Slots.{Slots}
+use Rattle.gix_odb_calls.specs.declared.init.Slots.TheVariants.{AsNeededByDiskState, Given}
 use Rattle.gix_odb_world.specs.Causes.{Sometime, ShowsDirectory}
-use Rattle.gix_odb_world.specs.Event.{Event}
-use Rattle.gix_odb_world.specs.Promise.{OpeningPromise}
 use Rattle.gix_odb_world.specs.Status.{Store}
 
-module _ (events : List Event) (trees : ℕ → Tree) (Failed : Type 0) (store : Store) (begun now : ℕ) (later : begun ≤ now) where
+module _ (trees : ℕ → Tree) (Failed : Type 0) (store : Store) (begun now : ℕ) (later : begun ≤ now) where
+  abbrev objects : Path
+  objects = store.parts.objects
+
+  abbrev pub Directory : Type 0
+  Directory = Sometime begun now (λ moment. ShowsDirectory (trees moment) objects)
+
+  -- what a turn says of the error with which it ends: the causes of a listing are told by what was asked and answered
+  abbrev pub Says : opening.Error → Type 0
+  Says opening_errors.NotADirectory = Sometime begun now (λ moment. ¬ ShowsDirectory (trees moment) objects)
+  Says (opening_errors.TooManySlots asked) = Directory
+  Says opening_errors.Io = Failed
+  Says (opening_errors.LoadIndex error) = Unit {0}
+  Says opening_errors.NoMemory = ⊥
+
+  -- of what an opening comes to
+  abbrev pub Looks : OpenState → Type 0
+  Looks opens.Looking = ⊥
+  Looks (opens.Done (replies.Refused (call_errors.Open error))) = Says error
+  Looks (opens.Done reply) = ⊥
+  Looks state = Directory
+
   -- something was so at the last moment
   at_last : (P : ℕ → Type 0) → P now → Sometime begun now P
   at_last P so = record { moment = now; from = later; to = omega arith; was = so }
 
-  -- what an opening comes to: its reply keeps its promise, or its slots aren't too many and a directory was shown
-  abbrev pub Looks : OpenState → Type 0
-  Looks opens.Looking = ⊥
-  Looks opens.Registering = (store.slots ≤ most_slots) × Sometime begun now (λ moment. ShowsDirectory (trees moment) store.parts.objects)
-  Looks (opens.Done reply) = OpeningPromise events trees Failed store begun now reply
+  -- the slots are or aren't too many
+  by_number : Directory → (number : ℕ) → Looks (numbered number)
+  by_number shown number = by (nat_le number most_slots)
+    where
+      by : (few : Bool) → Looks (if few then opens.Registering number else refused (opening_errors.TooManySlots number))
+      by true = shown
+      by false = shown
 
-  -- a directory was shown, and the slots are or aren't too many
-  by_slots : ShowsDirectory (trees now) store.parts.objects → (few : Bool) → nat_le store.slots most_slots ≡ few
-      → Looks (cond few opens.Registering (refused (opening_errors.TooManySlots store.slots)))
-  by_slots shown true e = (grind (arith, e), at_last (λ moment. ShowsDirectory (trees moment) store.parts.objects) shown)
-  by_slots shown false e = (refl, grind (arith, e), at_last (λ moment. ShowsDirectory (trees moment) store.parts.objects) shown)
+  -- ---- the listing
 
-  not_shown : ¬ (ShowsDirectory (trees now) store.parts.objects)
-      → Looks (refused opening_errors.NotADirectory)
-  not_shown other = at_last (λ moment. ¬ (ShowsDirectory (trees moment) store.parts.objects)) other
+  pub listing_keeps : Directory → (percent minimum : ℕ) (step : ListStep) → Looks (listed_on percent minimum step)
+  listing_keeps shown percent minimum (listed.More lister) = shown
+  listing_keeps shown percent minimum (listed.Rows rows) = by_number shown (slots_for percent minimum (length rows))
+  listing_keeps shown percent minimum listed.Broken = tt
+
+  -- ---- the look
+
+  by_slots : Directory → (slots : Slots) → Looks (with_slots objects slots)
+  by_slots shown (Given number) = by_number shown number
+  by_slots shown (AsNeededByDiskState percent minimum) = shown
+
+  not_shown : ¬ (ShowsDirectory (trees now) objects) → Looks (refused opening_errors.NotADirectory)
+  not_shown other = at_last (λ moment. ¬ (ShowsDirectory (trees moment) objects)) other
+
+  shown_last : ShowsDirectory (trees now) objects → Directory
+  shown_last shown = at_last (λ moment. ShowsDirectory (trees moment) objects) shown
 
   -- what the look showed
-  by_kind : (meta : Meta) → looked (trees now) store.parts.objects true ≡ Ok meta → (kind : Kind) → meta.kind ≡ kind
-      → Looks (after_kind store.slots kind)
-  by_kind meta e kinds.Dir is = by_slots (rw e is) (nat_le store.slots most_slots) refl
+  by_kind : (meta : Meta) → looked (trees now) objects true ≡ Ok meta → (kind : Kind) → meta.kind ≡ kind → Looks (after_kind objects store.slots kind)
+  by_kind meta e kinds.Dir is = by_slots (shown_last (rw e is)) store.slots
   by_kind meta e kinds.File is = not_shown (rw e (λ dir. cc))
   by_kind meta e kinds.Link is = not_shown (rw e (λ dir. cc))
 
-  by_look : (told : Result Meta Refusal) → looked (trees now) store.parts.objects true ≡ told
-      → Looks (after_look store.slots (meta_answer told))
+  by_look : (told : Result Meta Refusal) → looked (trees now) objects true ≡ told → Looks (after_look objects store.slots (meta_answer told))
   by_look (Ok meta) e = by_kind meta e meta.kind refl
   by_look (Err Absent) e = not_shown (rw e (λ nothing. nothing))
   by_look (Err WrongKind) e = not_shown (rw e (λ nothing. nothing))
@@ -56,7 +93,7 @@ module _ (events : List Event) (trees : ℕ → Tree) (Failed : Type 0) (store :
 
   -- the look failed, or was answered by the last moment's tree
   pub look_keeps : (fails : Bool) → (fails ≡ true → Failed)
-      → Looks (after_look store.slots (cond fails (answers.Refused disk_errors.Failed) (answer_of (trees now) (asks.Look store.parts.objects true))))
+      → Looks (after_look objects store.slots (cond fails (answers.Refused disk_errors.Failed) (answer_of (trees now) (asks.Look objects true))))
   unfolding answer_of
   look_keeps true is = is refl
-  look_keeps false is = by_look (looked (trees now) store.parts.objects true) refl
+  look_keeps false is = by_look (looked (trees now) objects true) refl

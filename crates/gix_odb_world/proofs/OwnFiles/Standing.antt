@@ -133,7 +133,8 @@ module _ (run : LawfulRun) where
         let stage = stage_of_made run handle made (now + 1) path hm writes in
         let past = makes_no_more writes.write writes.stage stage.0 hm.call writes.is stage.1 in
         let was =
-        write_before hm.running.store hm.running.begun (status_of (take now events)) handle (now + 1) e.step e.outcome e.asked (omega (arith, later, soon)) (record { at = at; past = past }) in
+        write_before hm.running.store hm.running.begun first (take now events) (status_of (take now events))
+        (λ other. run.throughout now other (omega (arith, within))) handle (now + 1) e.step e.outcome e.asked (omega (arith, later, soon)) (record { at = at; past = past }) in
         let since = was.since in
         record {
           running = was.running;

@@ -7,7 +7,8 @@ use Rattle.gix_odb_calls.specs.declared.call.Call.{Call}
 use Rattle.gix_odb_calls.specs.declared.call.Call.TheVariants as calls
 use Rattle.gix_odb_calls.specs.declared.query.Query.TheVariants.{Find, Header, Test}
 use Rattle.gix_odb_looks.proofs.HandedLaws.{IsOfLooks, look_ups_ask_these_events_alone}
-use Rattle.gix_odb_world.specs.Told.{look_now}
+use Rattle.gix_odb_refresh.proofs.RefreshLaws.{refreshes_ask_events_of_looks_alone}
+use Rattle.gix_odb_world.specs.Told.{look_now, refresh_now}
 use Rattle.gix_odb.specs.declared.open_state.OpenState.{OpenState}
 use Rattle.gix_odb.specs.declared.open_state.OpenState.TheVariants as opens
 use Rattle.gix_odb_core.specs.History.{History, present}
@@ -67,7 +68,8 @@ asks_of_looks past handle store modes begun (MakeCall (calls.Header id)) event a
     look_ups_ask_these_events_alone (look_now past handle store modes begun (Header id)) event asks
 asks_of_looks past handle store modes begun (MakeCall (calls.Test id)) event asks =
     look_ups_ask_these_events_alone (look_now past handle store modes begun (Test id)) event asks
-asks_of_looks past handle store modes begun (MakeCall (calls.Write kind size bytes known)) event asks = absurd asks
+asks_of_looks past handle store modes begun (MakeCall (calls.Write kind size bytes known)) event asks =
+    refreshes_ask_events_of_looks_alone (refresh_now past handle store modes begun) event asks
 
 module _ (past : List Event) (e : Event) where
   abbrev pub now : List Event
@@ -154,7 +156,7 @@ module _ (past : List Event) (e : Event) where
         let asked : Asked = asked_by_clone before_it number (Resting store modes) in
         let nowhere : IsNowhere before_it number = subst (Stands past number) free (before number) in
         let own : IsSeated (cores_after now) number (modes_after asked modes) =
-        to_now asked is number (modes_after asked modes) (seated_joined before_it modes (modes_after asked modes) number from view (effects.Seen view) stands nowhere refl refl refl) in
+        to_now asked is number (modes_after asked modes) (seated_joined before_it modes (modes_after asked modes) number from view (effects.Seen view) stands nowhere refl refl refl refl) in
         set number (cloned e.asked (Resting store modes)) handle
         (subst (λ a. IsSeated (cores_after now) number (modes_after a modes)) (sym is) own)
         (λ apart. kept handle (carry_core modes.core number (core_events.Register false) (effects.Seen view) is handle apart))
@@ -163,7 +165,7 @@ module _ (past : List Event) (e : Event) where
     ignoring number Free carries stands = over number Free carries stands
     ignoring number (Resting store modes) carries stands =
         let seated = carries.seated modes stands in
-        record { history = seated.history; there = seated.there; registered = seated.registered; only = seated.only; snapshot = seated.snapshot }
+        record { history = seated.history; there = seated.there; slots = seated.slots; registered = seated.registered; only = seated.only; snapshot = seated.snapshot }
     ignoring number (Working running) carries stands = over number (Working running) carries stands
 
     starting : (number n : ℕ) (call : Call) (status : Status) → Carries number → Stands past number status → Stands now number (started n call status)

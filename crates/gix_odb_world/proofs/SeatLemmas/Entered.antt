@@ -4,6 +4,7 @@ use Rattle.std.specs.Prelude.{slice_get, ◌==◌, unwrap_or}
 use Rattle.std.specs.List.{cons_option, filter_map, last_or}
 use Rattle.std.specs.Option.{IsSome}
 use Rattle.std.proofs.lemmas.Bool.{eqb-true, eqb-false}
+use Rattle.std.proofs.lemmas.List.{length-replicate}
 use Rattle.gix_odb_core.specs.Handles.{registered}
 use Rattle.gix_odb_core.specs.History.{History, opened, present}
 use Rattle.gix_odb_core.specs.Replay.{snapshot_of, view_in}
@@ -83,6 +84,7 @@ module _ (cores : List History) (store seat : ℕ) (event : CoreEvent) (effect :
                 ap (slice_get cores_then) same
                 ∙ (slice_get-set_same cores store (entered (history_at cores store) seat event (Ok effect)) seated.history own
                 ∙ ap (λ h. Some (entered h seat event (Ok effect))) (history_is seated.history own));
+            slots = seated.slots;
             registered = registered_other seated.history seat event effect handle apart seated.registered;
             only = only;
             snapshot = seated.snapshot ∙ sym (snapshot_other seated.history seat event (Ok effect) handle other);
@@ -97,6 +99,7 @@ module _ (cores : List History) (store seat : ℕ) (event : CoreEvent) (effect :
       by_core false is = record {
         history = seated.history;
         there = slice_get-set_other cores store modes.core (entered (history_at cores store) seat event (Ok effect)) (eqb-false modes.core store is) ∙ seated.there;
+        slots = seated.slots;
         registered = seated.registered;
         only = only;
         snapshot = seated.snapshot;
@@ -105,9 +108,9 @@ module _ (cores : List History) (store seat : ℕ) (event : CoreEvent) (effect :
 -- one that is registered at a core of which it shows the view
 pub seated_joined : (cores : List History) (modes other : Modes) (handle from : ℕ) (view : View) (effect : Effect) → IsSeated cores from modes
     → IsNowhere cores handle
-    → view_in (Ok effect) ≡ Some view → other.core ≡ modes.core → other.view ≡ Some view
+    → view_in (Ok effect) ≡ Some view → other.core ≡ modes.core → other.slots ≡ modes.slots → other.view ≡ Some view
     → IsSeated (cores_after_asked cores (OfCore modes.core handle (events.Register false) (Ok effect))) handle other
-seated_joined cores modes other handle from view effect seated nowhere shows core_is view_is =
+seated_joined cores modes other handle from view effect seated nowhere shows core_is slots_are view_is =
     let h : History = seated.history in
     let now : List History = cores_after_asked cores (OfCore modes.core handle (events.Register false) (Ok effect)) in
     record {
@@ -116,6 +119,7 @@ seated_joined cores modes other handle from view effect seated nowhere shows cor
           ap (slice_get now) core_is
           ∙ (slice_get-set_same cores modes.core (entered (history_at cores modes.core) handle (events.Register false) (Ok effect)) h seated.there
           ∙ ap (λ x. Some (entered x handle (events.Register false) (Ok effect))) (history_is cores modes.core handle (events.Register false) effect h seated.there));
+      slots = seated.slots ∙ sym slots_are;
       registered =
           subst IsSome
           (sym (ap (λ handles. registered handles handle) (handles-entered h handle (events.Register false) effect) ∙ with_seat-same (present h).handles handle false)) refl;
@@ -133,6 +137,7 @@ seated_more cores slots folders seat handle modes effect apart seated =
     record {
       history = seated.history;
       there = slice_get-kept cores new modes.core seated.history seated.there;
+      slots = seated.slots;
       registered = seated.registered;
       only = λ place elsewhere. out_new cores slots folders seat handle effect apart place (seated.only place elsewhere);
       snapshot = seated.snapshot;
@@ -140,14 +145,15 @@ seated_more cores slots folders seat handle modes effect apart seated =
 
 -- and its own handle stands there
 pub seated_new : (cores : List History) (slots folders handle : ℕ) (modes : Modes) (effect : Effect) (view : View) → IsNowhere cores handle
-    → view_in (Ok effect) ≡ Some view → modes.core ≡ length cores → modes.view ≡ Some view
+    → view_in (Ok effect) ≡ Some view → modes.core ≡ length cores → modes.slots ≡ slots → modes.view ≡ Some view
     → IsSeated (cores ++ entered (opened slots folders 0 0) handle (events.Register false) (Ok effect) ∷ []) handle modes
-seated_new cores slots folders handle modes effect view nowhere shows core_is view_is =
+seated_new cores slots folders handle modes effect view nowhere shows core_is slots_are view_is =
     let h : History = opened slots folders 0 0 in
     let new : History = entered h handle (events.Register false) (Ok effect) in
     record {
       history = new;
       there = ap (slice_get (cores ++ new ∷ [])) core_is ∙ slice_get-last cores new;
+      slots = length-replicate slots None ∙ sym slots_are;
       registered =
           subst IsSome
           (sym (ap (λ handles. registered handles handle) (handles-entered h handle (events.Register false) effect) ∙ with_seat-same (present h).handles handle false)) refl;

@@ -64,15 +64,16 @@ module _ (cores : List History) (store seat : ℕ) (event : CoreEvent) (answer :
 
   -- a handle at that core stays seated there, with a snapshot that the journal tells then
   at_own_core : (handle : ℕ) (modes modes_then : Modes) (seated : IsSeated cores handle modes) → modes.core ≡ store → modes_then.core ≡ modes.core
-      → modes_then.view ≡ snapshot_of handle (entered seated.history seat event answer).entries
+      → modes_then.slots ≡ modes.slots → modes_then.view ≡ snapshot_of handle (entered seated.history seat event answer).entries
       → IsSeated cores_then handle modes_then
-  at_own_core handle modes modes_then seated same core_is shows =
+  at_own_core handle modes modes_then seated same core_is slots_are shows =
       let there : slice_get cores store ≡ Some seated.history = ap (slice_get cores) (sym same) ∙ seated.there in
       record {
         history = entered seated.history seat event answer;
         there =
             ap (slice_get cores_then) (core_is ∙ same)
             ∙ (slice_get-set_same cores store own seated.history there ∙ ap (λ h. Some (entered h seat event answer)) (history_is seated.history there));
+        slots = seated.slots ∙ sym slots_are;
         registered = subst IsSome (sym (ap (λ (handles : Handles). registered handles handle) (handles_looked seated.history seat event of answer))) seated.registered;
         only = λ place elsewhere. registered_looked place handle ∙ seated.only place (λ is. elsewhere (is ∙ sym core_is));
         snapshot = shows;
@@ -88,11 +89,12 @@ module _ (cores : List History) (store seat : ℕ) (event : CoreEvent) (answer :
 
       by : (b : Bool) → (modes.core == store) ≡ b → IsSeated cores_then handle modes
       by true is =
-          at_own_core handle modes modes seated (eqb-true modes.core store is) refl
+          at_own_core handle modes modes seated (eqb-true modes.core store is) refl refl
           (seated.snapshot ∙ sym (snapshot_other seated.history seat event answer handle (not_same (seat == handle) refl)))
       by false is = record {
         history = seated.history;
         there = slice_get-set_other cores store modes.core own (eqb-false modes.core store is) ∙ seated.there;
+        slots = seated.slots;
         registered = seated.registered;
         only = λ place elsewhere. registered_looked place handle ∙ seated.only place elsewhere;
         snapshot = seated.snapshot;
@@ -102,5 +104,5 @@ module _ (cores : List History) (store seat : ℕ) (event : CoreEvent) (answer :
 pub seated_looking : (cores : List History) (seat : ℕ) (modes : Modes) (event : CoreEvent) (answer : CoreAnswer) → IsOfLooks event → IsSeated cores seat modes
     → IsSeated (cores_after_asked cores (OfCore modes.core seat event answer)) seat (modes_after (OfCore modes.core seat event answer) modes)
 seated_looking cores seat modes event answer of seated =
-    at_own_core cores modes.core seat event answer of seat modes (modes_after (OfCore modes.core seat event answer) modes) seated refl refl
+    at_own_core cores modes.core seat event answer of seat modes (modes_after (OfCore modes.core seat event answer) modes) seated refl refl refl
     (ap (or_before (view_in answer)) seated.snapshot ∙ sym (snapshot_own seated.history seat event answer))

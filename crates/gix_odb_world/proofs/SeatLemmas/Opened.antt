@@ -1,18 +1,25 @@
 -- How an opening goes on, and how it ends.
-use Rattle.std.proofs.Common.{◌≡◌, ℕ, Bool, true, false, Option, Ok, Err, Result, refl, sym, ap, subst}
+use Rattle.std.proofs.Common.{◌≡◌, ℕ, Bool, true, false, List, length, Option, Ok, Err, Result, refl, sym, ap, subst}
 use Rattle.std.specs.Prelude.{if◌then◌else◌, nat_le}
+use Rattle.odb_base.specs.Path.{Path}
 use Rattle.odb_disk.specs.declared.ask.DiskAnswer.{DiskAnswer}
 use Rattle.odb_disk.specs.declared.ask.DiskAnswer.TheVariants as answers
 use Rattle.odb_tree.specs.declared.disk_error.DiskError.TheVariants as disk_errors
 use Rattle.odb_tree.specs.declared.meta.Kind.{Kind}
 use Rattle.odb_tree.specs.declared.meta.Kind.TheVariants as kinds
-use Rattle.gix_odb.specs.OpenOrder.{looked, refused, result_of, shown}
+use Rattle.gix_odb.specs.OpenOrder.{begun, fed, listed_on, looked, numbered, refused, result_of, shown, slots_for}
 use Rattle.gix_odb_slots.specs.PackId.{most_slots}
+use Rattle.gix_odb_packs.specs.ListOrder as lists
+use Rattle.gix_odb_packs.specs.declared.lister.ListStep.{ListStep}
+use Rattle.gix_odb_packs.specs.declared.lister.ListStep.TheVariants as listed
 use Rattle.gix_odb_calls.specs.declared.call.CallError.TheVariants as call_errors
 use Rattle.gix_odb_calls.specs.declared.call.Reply.{Reply}
 use Rattle.gix_odb_calls.specs.declared.call.Reply.TheVariants as replies
 use Rattle.gix_odb_calls.specs.declared.init.Error as opening_error
 use Rattle.gix_odb_calls.specs.declared.init.Error.TheVariants as opening_errors
+use Rattle.gix_odb_calls.specs.declared.init.Slots.{Slots}
+use Rattle.gix_odb_calls.specs.declared.init.Slots.TheVariants.{AsNeededByDiskState, Given}
+use Rattle.gix_odb_calls.specs.declared.load_index.Error.TheVariants as load_errors
 use Rattle.gix_odb.specs.declared.open_state.OpenState.{OpenState}
 use Rattle.gix_odb.specs.declared.open_state.OpenState.TheVariants as opens
 use Rattle.gix_odb_calls.specs.declared.step.Outcome.TheVariants as outcomes
@@ -28,7 +35,8 @@ use Rattle.gix_odb_world.specs.Status.{Store, refuses_opening}
 -- an opening that isn't done
 abbrev pub IsOn : OpenState → Type 0
 IsOn opens.Looking = Unit {0}
-IsOn opens.Registering = Unit {0}
+IsOn (opens.Listing lister percent minimum) = Unit {0}
+IsOn (opens.Registering slots) = Unit {0}
 IsOn (opens.Done reply) = ⊥
 
 -- the reply, or what is left, by the outcome of a turn
@@ -42,46 +50,70 @@ left_of (Err left) is = (left, refl)
 
 pub opened_by : (state : OpenState) (reply : Reply) → placed opening (result_of state) ≡ Ok reply → state ≡ opens.Done reply
 opened_by opens.Looking reply is = absurd (cc is)
-opened_by opens.Registering reply is = absurd (cc is)
+opened_by (opens.Listing lister percent minimum) reply is = absurd (cc is)
+opened_by (opens.Registering slots) reply is = absurd (cc is)
 opened_by (opens.Done own) reply is = let same : own ≡ reply = cc is in ap opens.Done same
 
 -- what is left of an opening is one that isn't done
 on_at : (state : OpenState) (left : Work) → placed opening (result_of state) ≡ Err left → (next : OpenState) × (left ≡ Opening next) × IsOn next
 on_at opens.Looking left is = let same : Opening opens.Looking ≡ left = cc is in (opens.Looking, sym same, tt)
-on_at opens.Registering left is = let same : Opening opens.Registering ≡ left = cc is in (opens.Registering, sym same, tt)
+on_at (opens.Listing lister percent minimum) left is =
+    let same : Opening (opens.Listing lister percent minimum) ≡ left = cc is in (opens.Listing lister percent minimum, sym same, tt)
+on_at (opens.Registering slots) left is = let same : Opening (opens.Registering slots) ≡ left = cc is in (opens.Registering slots, sym same, tt)
 on_at (opens.Done own) left is = absurd (cc is)
 
 pub on_by : (store : Store) (state : OpenState) (answer : Option Answer) (left : Work) → fed_in store (Opening state) answer ≡ Err left
     → (next : OpenState) × (left ≡ Opening next) × IsOn next
 on_by store state answer left is = on_at (opening_fed store state answer) left is
 
--- an opening that ends with its look is refused
+-- an opening that ends with a call of the disk is refused
 module _ (reply : Reply) where
   by_error : (error : opening_error.Error) → refused error ≡ opens.Done reply → refuses_opening reply ≡ true
   by_error error is =
       let same : replies.Refused (call_errors.Open error) ≡ reply = cc is in
       subst (λ r. refuses_opening r ≡ true) same refl
 
-  by_slots : (few : Bool) (error : opening_error.Error) → (if few then opens.Registering else refused error) ≡ opens.Done reply → refuses_opening reply ≡ true
-  by_slots true error is = absurd (cc is)
-  by_slots false error is = by_error error is
+  by_number : (number : ℕ) → numbered number ≡ opens.Done reply → refuses_opening reply ≡ true
+  by_number number is = by (nat_le number most_slots) is
+    where
+      by : (few : Bool) → (if few then opens.Registering number else refused (opening_errors.TooManySlots number)) ≡ opens.Done reply
+          → refuses_opening reply ≡ true
+      by true is = absurd (cc is)
+      by false is = by_error (opening_errors.TooManySlots number) is
 
-  by_kind : (slots : ℕ) (kind : Kind) → shown slots kind ≡ opens.Done reply → refuses_opening reply ≡ true
-  by_kind slots kinds.Dir is = by_slots (nat_le slots most_slots) (opening_errors.TooManySlots slots) is
-  by_kind slots kinds.File is = by_error opening_errors.NotADirectory is
-  by_kind slots kinds.Link is = by_error opening_errors.NotADirectory is
+  by_slots : (objects : Path) (slots : Slots) → begun objects slots ≡ opens.Done reply → refuses_opening reply ≡ true
+  by_slots objects (Given number) is = by_number number is
+  by_slots objects (AsNeededByDiskState percent minimum) is = absurd (cc is)
 
-pub looked_refuses : (slots : ℕ) (answer : DiskAnswer) (reply : Reply) → looked slots answer ≡ opens.Done reply → refuses_opening reply ≡ true
-looked_refuses slots (answers.Meta meta) reply is = by_kind reply slots meta.kind is
-looked_refuses slots (answers.File bytes time) reply is = by_error reply opening_errors.NotADirectory is
-looked_refuses slots (answers.Dir dir) reply is = by_error reply opening_errors.NotADirectory is
-looked_refuses slots (answers.Entry entry) reply is = by_error reply opening_errors.NotADirectory is
-looked_refuses slots answers.End reply is = by_error reply opening_errors.NotADirectory is
-looked_refuses slots answers.Done reply is = by_error reply opening_errors.NotADirectory is
-looked_refuses slots (answers.Refused disk_errors.Failed) reply is = by_error reply opening_errors.Io is
-looked_refuses slots (answers.Refused disk_errors.Absent) reply is = by_error reply opening_errors.NotADirectory is
-looked_refuses slots (answers.Refused disk_errors.WrongKind) reply is = by_error reply opening_errors.NotADirectory is
-looked_refuses slots (answers.Refused disk_errors.LinkLoop) reply is = by_error reply opening_errors.NotADirectory is
-looked_refuses slots (answers.Refused disk_errors.Exists) reply is = by_error reply opening_errors.NotADirectory is
-looked_refuses slots (answers.Refused disk_errors.NotEmpty) reply is = by_error reply opening_errors.NotADirectory is
-looked_refuses slots (answers.Refused disk_errors.NoMemory) reply is = by_error reply opening_errors.NotADirectory is
+  by_kind : (objects : Path) (slots : Slots) (kind : Kind) → shown objects slots kind ≡ opens.Done reply → refuses_opening reply ≡ true
+  by_kind objects slots kinds.Dir is = by_slots objects slots is
+  by_kind objects slots kinds.File is = by_error opening_errors.NotADirectory is
+  by_kind objects slots kinds.Link is = by_error opening_errors.NotADirectory is
+
+  by_look : (objects : Path) (slots : Slots) (answer : DiskAnswer) → looked objects slots answer ≡ opens.Done reply → refuses_opening reply ≡ true
+  by_look objects slots (answers.Meta meta) is = by_kind objects slots meta.kind is
+  by_look objects slots (answers.Refused disk_errors.Failed) is = by_error opening_errors.Io is
+  by_look objects slots (answers.Refused disk_errors.Absent) is = by_error opening_errors.NotADirectory is
+  by_look objects slots (answers.Refused disk_errors.WrongKind) is = by_error opening_errors.NotADirectory is
+  by_look objects slots (answers.Refused disk_errors.LinkLoop) is = by_error opening_errors.NotADirectory is
+  by_look objects slots (answers.Refused disk_errors.Exists) is = by_error opening_errors.NotADirectory is
+  by_look objects slots (answers.Refused disk_errors.NotEmpty) is = by_error opening_errors.NotADirectory is
+  by_look objects slots (answers.Refused disk_errors.NoMemory) is = by_error opening_errors.NotADirectory is
+  by_look objects slots (answers.File bytes time) is = by_error opening_errors.NotADirectory is
+  by_look objects slots (answers.Dir dir) is = by_error opening_errors.NotADirectory is
+  by_look objects slots (answers.Entry entry) is = by_error opening_errors.NotADirectory is
+  by_look objects slots answers.End is = by_error opening_errors.NotADirectory is
+  by_look objects slots answers.Done is = by_error opening_errors.NotADirectory is
+
+  by_listing : (percent minimum : ℕ) (step : ListStep) → listed_on percent minimum step ≡ opens.Done reply → refuses_opening reply ≡ true
+  by_listing percent minimum (listed.More lister) is = absurd (cc is)
+  by_listing percent minimum (listed.Rows rows) is = by_number (slots_for percent minimum (length rows)) is
+  by_listing percent minimum listed.Broken is = by_error (opening_errors.LoadIndex load_errors.Io) is
+
+pub answered_refuses : (objects : Path) (folders : List Path) (slots : Slots) (state : OpenState) (answer : DiskAnswer) (reply : Reply) → IsOn state
+    → fed objects folders slots state answer ≡ opens.Done reply → refuses_opening reply ≡ true
+answered_refuses objects folders slots opens.Looking answer reply on is = by_look reply objects slots answer is
+answered_refuses objects folders slots (opens.Listing lister percent minimum) answer reply on is =
+    by_listing reply percent minimum (lists.fed folders lister answer) is
+answered_refuses objects folders slots (opens.Registering number) answer reply on is = absurd (cc is)
+answered_refuses objects folders slots (opens.Done own) answer reply on is = absurd on

@@ -25,9 +25,10 @@ use Rattle.gix_odb_world.proofs.HistoryLemmas.{tree_at-before}
 abbrev pub ShownSince : Volume → List Event → Store → Path → List ℕ → Type 0
 ShownSince first events store path bytes = WasShownAt (tree_at first events) store.opened (length events) path bytes
 
--- the history of a core of a store
+-- the history of a core of a store, which was made with so many slots
 pub record IsOfStore (first : Volume) (events : List Event) (store : Store) (history : History) : Type 0 where
-  pub opening : history.opening ≡ (opened store.slots (length (folder_list store.parts)) 0 0).opening
+  pub slots : ℕ
+  pub opening : history.opening ≡ (opened slots (length (folder_list store.parts)) 0 0).opening
   pub legal : IsLegal history.opening history.entries
   pub possible : IsPossible history.opening history.entries
   pub handed : (entry : Entry) → Contains history.entries entry → IsHanded (ShownSince first events store) (setting_in store) store.hash entry.event
@@ -57,6 +58,7 @@ module _ (first : Volume) (events : List Event) (e : Event) (store : Store) wher
   -- it stays so
   pub of_store_later : (history : History) → IsOfStore first events store history → IsOfStore first whole store history
   of_store_later history of = record {
+    slots = of.slots;
     opening = of.opening;
     legal = of.legal;
     possible = of.possible;
@@ -73,6 +75,7 @@ module _ (first : Volume) (events : List Event) (e : Event) (store : Store) wher
       let entry : Entry = entry_of history seat event answer in
       let later = of_store_later history of in
       record {
+        slots = of.slots;
         opening = of.opening;
         legal = legal_journal_grows history.entries entry history.opening of.legal (record { numbered = refl; answered = inr answered });
         possible = possible_journal_grows history.entries history.opening entry of.possible can;

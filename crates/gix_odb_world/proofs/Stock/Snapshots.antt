@@ -22,9 +22,11 @@ use Rattle.gix_odb_looks.proofs.CoreLaws.Shapes.{shape_shows_few}
 use Rattle.gix_odb_looks.proofs.ViewLaws.{what_a_core_shows_was_shown}
 use Rattle.gix_odb.specs.Contents.{folder_list}
 use Rattle.gix_odb.specs.HandleState.{unseen}
-use Rattle.gix_odb_world.specs.AtWork.{Store, setting_in}
+use Rattle.gix_odb_world.specs.AtWork.{Modes, Store, setting_in}
+use Rattle.gix_odb_world.specs.Cores.{cores_after}
 use Rattle.gix_odb_world.specs.Event.{Event}
-use Rattle.gix_odb_world.proofs.Stock.OneCore.{IsOfStore, ShownSince}
+use Rattle.gix_odb_world.specs.Seats.{IsSeated}
+use Rattle.gix_odb_world.proofs.Stock.OneCore.{IsOfStore, IsStocked, ShownSince}
 
 -- ---- the front of a journal
 
@@ -53,13 +55,13 @@ shift (z ∷ xs) x ys = ap (λ zs. z ∷ zs) (shift xs x ys)
 
 module _ (first : Volume) (events : List Event) (store : Store) (history : History) (of : IsOfStore first events store history) where
   abbrev pub Shows : View → Type 0
-  Shows view = IsShownView (ShownSince first events store) (setting_in store) store.hash view × (length view.snapshot.indices ≤ store.slots)
+  Shows view = IsShownView (ShownSince first events store) (setting_in store) store.hash view × (length view.snapshot.indices ≤ of.slots)
 
   pub is_opened : IsOpened history.opening
-  is_opened = record { slots = store.slots; folders = length (folder_list store.parts); generation = 0; state = 0; is = of.opening }
+  is_opened = record { slots = of.slots; folders = length (folder_list store.parts); generation = 0; state = 0; is = of.opening }
 
-  pub slots_are : length history.opening.slots ≡ store.slots
-  slots_are = ap (λ (s : Shape). length s.slots) of.opening ∙ length-replicate store.slots None
+  pub slots_are : length history.opening.slots ≡ of.slots
+  slots_are = ap (λ (s : Shape). length s.slots) of.opening ∙ length-replicate of.slots None
 
   -- a view that an entry hands over shows what was read
   module _ (past : List Entry) (entry : Entry) (later : List Entry) (splits : history.entries ≡ past ++ entry ∷ later) where
@@ -112,3 +114,11 @@ module _ (first : Volume) (events : List Event) (store : Store) (history : Histo
       by (Some view) is =
           let last : IsHandedLast seat history.entries view = snapshot_is_the_last_view_handed seat history.entries view is in
           hands_over last.past last.entry last.later last.splits view last.handed
+
+-- the core of a store has as many slots as a handle says that is seated there
+pub slots_of_seat : (first : Volume) (events : List Event) (handle : ℕ) (store : Store) (modes : Modes) → IsSeated (cores_after events) handle modes
+    → (stock : IsStocked first events modes.core store) → stock.of.slots ≡ modes.slots
+slots_of_seat first events handle store modes seated stock =
+    let both : Some stock.history ≡ Some seated.history = sym stock.there ∙ seated.there in
+    let same : stock.history ≡ seated.history = cc both in
+    sym (slots_are first events store stock.history stock.of) ∙ (ap (λ (h : History). length h.opening.slots) same ∙ seated.slots)

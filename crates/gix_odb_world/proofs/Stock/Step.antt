@@ -21,8 +21,10 @@ use Rattle.gix_odb_looks.specs.LookUpOrder as looks
 use Rattle.gix_odb_looks.specs.Shown.{IsHanded}
 use Rattle.gix_odb_looks.proofs.FoundLaws.{what_is_handed_was_shown}
 use Rattle.gix_odb_looks.proofs.HandedLaws.{what_is_handed_can_happen}
+use Rattle.gix_odb_refresh.specs.RefreshOrder as refreshes
+use Rattle.gix_odb_refresh.proofs.RefreshLaws.{what_a_refresh_hands_on_can_happen, what_a_refresh_hands_on_is_of_the_folders}
 use Rattle.gix_odb.specs.Contents.{sought}
-use Rattle.gix_odb.specs.declared.call_state.CallState.TheVariants.{Looking, Writing}
+use Rattle.gix_odb.specs.declared.call_state.CallState.TheVariants.{Looking, Refreshing, Refused, Writing}
 use Rattle.gix_odb.specs.declared.open_state.OpenState.TheVariants as opens
 use Rattle.gix_odb_loose.specs.LooseOrder.{disk_ask_of}
 use Rattle.gix_odb_world.specs.declared.work.Work.{Work}
@@ -182,11 +184,26 @@ module _ (first : Volume) (past : List Event) (e : Event) (lawful : IsLawful fir
 
     -- what work asks a core for can happen, and is what was read
     module _ (event : CoreEvent) where
+      event_of : (asked : Option PartAsk) → part_asked asked ≡ Some (ToCore event) → asked ≡ Some (parts.Core event)
+      event_of None is = absurd (cc is)
+      event_of (Some (parts.Disk ask)) is = absurd (cc is)
+      event_of (Some (parts.Core own)) is = let same : own ≡ event = cc is in ap (λ x. Some (parts.Core x)) same
+
       handed_by : (work : Work) → ask_in running.store work ≡ Some (ToCore event) → Knows first past number running work
           → IsHanded (ShownSince first past running.store) (setting_in running.store) running.store.hash event × CanHappen (present (history_at cores running.modes.core)) number event
       handed_by (Opening opens.Looking) is knows = absurd (cc is)
-      handed_by (Opening opens.Registering) is knows = absurd (cc is)
+      handed_by (Opening (opens.Listing lister percent minimum)) is knows = absurd (cc is)
+      handed_by (Opening (opens.Registering slots)) is knows = absurd (cc is)
       handed_by (Opening (opens.Done reply)) is knows = absurd (cc is)
+      handed_by (Calling (Refused error)) is knows = absurd (cc is)
+      handed_by (Calling (Refreshing refresh call)) is knows =
+          let asked = ap refreshes.ask_of (sym knows.refresh_is) ∙ event_of (refreshes.ask_of refresh) is in
+          let setting = setting_in running.store in
+          let snapshot = view_then past number running.modes.core running.begun in
+          let exchanges = told_since past number running.begun in (
+            what_a_refresh_hands_on_is_of_the_folders setting snapshot exchanges knows.asked (ShownSince first past running.store) running.store.hash event asked,
+            what_a_refresh_hands_on_can_happen setting snapshot exchanges knows.asked knows.distinct event asked (present (history_at cores running.modes.core)) number,
+          )
       handed_by (Calling (Writing call)) is knows = absurd (no_event (disk_ask_of call) is)
         where
           no_event : (asked : Option DiskAsk) → ¬ (to_disk asked ≡ Some (ToCore event))
@@ -202,11 +219,6 @@ module _ (first : Volume) (past : List Event) (e : Event) (lawful : IsLawful fir
                 knows.asked knows.well.truth (parts.Core event) asked,
             what_is_handed_can_happen setting knows.fits.distinct view knows.query id exchanges knows.asked event asked (present (history_at cores running.modes.core)) number,
           )
-        where
-          event_of : (asked : Option PartAsk) → part_asked asked ≡ Some (ToCore event) → asked ≡ Some (parts.Core event)
-          event_of None is = absurd (cc is)
-          event_of (Some (parts.Disk ask)) is = absurd (cc is)
-          event_of (Some (parts.Core own)) is = let same : own ≡ event = cc is in ap (λ x. Some (parts.Core x)) same
 
     -- an open store's opening told the core that it made
     opening_made : (task : Task) → running.task ≡ task → task ≡ OpenStore → (reply : Reply) → e.outcome ≡ outcomes.Reply reply → refuses_opening reply ≡ false
@@ -250,13 +262,13 @@ module _ (first : Volume) (past : List Event) (e : Event) (lawful : IsLawful fir
       goes : OwnsAt stores running.store (modes_after e.asked running.modes) running.task
 
     grown_by_new : (slots folders : ℕ) → e.asked ≡ told (Some (ToNewCore slots folders)) → (task : Task) → running.task ≡ task
-        → MayAskNewCore running.store running.turns task slots folders → TurnGrows
+        → MayAskNewCore past number running.store running.begun task slots folders → TurnGrows
     grown_by_new slots folders is (MakeCall call) task_is may = absurd may
     grown_by_new slots folders is OpenStore task_is may =
         let long = before.long in
         record {
           stores = before.stores ++ running.store ∷ [];
-          grows = grown_new first past e before running.store slots folders number may.1 may.3 is;
+          grows = grown_new first past e before running.store slots folders number may.2 is;
           rests = λ reply out sound.
               ap (λ a. slice_get (before.stores ++ running.store ∷ []) (modes_after a running.modes).core) is
               ∙ (ap (slice_get (before.stores ++ running.store ∷ [])) (sym long) ∙ slice_get-last before.stores running.store);

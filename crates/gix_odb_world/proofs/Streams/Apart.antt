@@ -1,4 +1,4 @@
--- Along a run the streams of queries stand open, and no two handles read one.
+-- Along a run the streams of handles at work stand open, and no two handles read one.
 use Rattle.std.proofs.Common.{◌≡◌, ◌≢◌, ◌⊎◌, ℕ, true, false, List, Contains, Option, Some, None, inl, inr, sym, ◌∙◌, ap}
 use Rattle.odb_base.specs.Path.{Path}
 use Rattle.odb_disk.specs.MemDisk.{Volume}
@@ -7,6 +7,7 @@ use Rattle.odb_disk.specs.declared.ask.DiskAsk.{DiskAsk}
 use Rattle.odb_disk.specs.declared.ask.DiskAsk.TheVariants as asks
 use Rattle.gix_odb_loose.specs.LooseOrder.{disk_ask_of}
 use Rattle.gix_odb_loose.proofs.StillAskLaws.{call_asks_still}
+use Rattle.gix_odb_packs.specs.ListOrder as lists
 use Rattle.gix_odb_packs.specs.PackFolder.{pack_folder}
 use Rattle.gix_odb_packs.specs.declared.answer.PartAsk.{PartAsk}
 use Rattle.gix_odb_packs.specs.declared.answer.PartAsk.TheVariants as parts
@@ -15,8 +16,12 @@ use Rattle.gix_odb_looks.specs.OpenStream.{IsOnStream}
 use Rattle.gix_odb_looks.specs.Stream.{Stream, stream_in}
 use Rattle.gix_odb_looks.proofs.HandedLaws.{streams_of_look_ups_are_their_own}
 use Rattle.gix_odb_looks.proofs.OpenLaws.{look_ups_open_folders_of_packs}
+use Rattle.gix_odb_refresh.specs.RefreshOrder as refreshes
+use Rattle.gix_odb_refresh.proofs.RefreshLaws.{refreshes_open_folders_of_packs, streams_of_refreshes_are_their_own}
 use Rattle.gix_odb.specs.Contents.{folder_list, sought}
-use Rattle.gix_odb.specs.declared.call_state.CallState.TheVariants.{Looking, Writing}
+use Rattle.gix_odb.specs.OpenExchanges.{asks_of as opening_asks}
+use Rattle.gix_odb.proofs.OpenLaws.{openings_open_folders_of_packs, streams_of_openings_are_their_own}
+use Rattle.gix_odb.specs.declared.call_state.CallState.TheVariants.{Looking, Refreshing, Refused, Writing}
 use Rattle.gix_odb.specs.declared.open_state.OpenState.TheVariants as opens
 use Rattle.gix_odb_world.specs.declared.work.Work.{Work}
 use Rattle.gix_odb_world.specs.declared.work.Work.TheVariants.{Opening, Calling}
@@ -25,7 +30,7 @@ use Rattle.gix_odb_world.specs.Event.{Event, ToDisk, part_asked, to_disk}
 use Rattle.gix_odb_world.specs.Machines.{ask_in}
 use Rattle.gix_odb_world.specs.Running.{Knows}
 use Rattle.gix_odb_world.specs.Status.{Working, status_of}
-use Rattle.gix_odb_world.specs.Told.{look_now, told_since, view_then}
+use Rattle.gix_odb_world.specs.Told.{look_now, opening_now, refresh_now, told_since, view_then}
 use Rattle.gix_odb_world.proofs.Stock.OneCore.{ShownSince}
 use Rattle.gix_odb_world.proofs.Streams.OneEvent.{StandsOpen}
 
@@ -64,12 +69,54 @@ call_of_disk : (asked : Option DiskAsk) (ask : DiskAsk) → to_disk asked ≡ So
 call_of_disk None ask is = absurd (cc is)
 call_of_disk (Some own) ask is = let same : own ≡ ask = cc is in ap (λ a. Some a) same
 
+-- a call on a stream is for its next entry, or closes it
+on_stream : (asked : Option PartAsk) (ask : DiskAsk) → asked ≡ Some (parts.Disk ask) → (dir : ℕ) → IsOnStream dir ask
+    → (asked ≡ Some (parts.Disk (asks.NextEntry dir))) ⊎ (asked ≡ Some (parts.Disk (asks.CloseDir dir)))
+on_stream asked (asks.NextEntry other) is dir same = inl (is ∙ ap (λ n. Some (parts.Disk (asks.NextEntry n))) same)
+on_stream asked (asks.CloseDir other) is dir same = inr (is ∙ ap (λ n. Some (parts.Disk (asks.CloseDir n))) same)
+on_stream asked (asks.OpenDir path) is dir never = absurd never
+on_stream asked (asks.Look path follow) is dir never = absurd never
+on_stream asked (asks.Read path) is dir never = absurd never
+on_stream asked (asks.MakeDir path) is dir never = absurd never
+on_stream asked (asks.NewFile path) is dir never = absurd never
+on_stream asked (asks.Append path bytes) is dir never = absurd never
+on_stream asked (asks.Rename from to) is dir never = absurd never
+on_stream asked (asks.Remove path) is dir never = absurd never
+
 pub asks_own : (first : Volume) (events : List Event) (handle : ℕ) (running : Running) (work : Work) → Knows first events handle running work → (ask : DiskAsk)
     → ask_in running.store work ≡ Some (ToDisk ask) → AsksOwn events handle running ask
 asks_own first events handle running (Opening opens.Looking) knows ask is =
     let same : asks.Look running.store.parts.objects true ≡ ask = cc is in still_asks events handle running ask (ap is_of_streams (sym same))
-asks_own first events handle running (Opening opens.Registering) knows ask is = absurd (cc is)
+asks_own first events handle running (Opening (opens.Listing lister percent minimum)) knows ask is =
+    let setting = setting_in running.store in
+    let exchanges = told_since events handle running.begun in
+    let here : opening_asks setting (opens.Listing lister percent minimum) ≡ Some (parts.Disk ask) =
+    let same : lists.ask_of lister ≡ ask = cc is in ap (λ (a : DiskAsk). Some (parts.Disk a)) same in
+    let asked : opening_asks setting (opening_now events handle running.store running.begun) ≡ Some (parts.Disk ask) = ap (opening_asks setting) (sym knows.is) ∙ here in
+    record {
+      opens = λ path same.
+          openings_open_folders_of_packs setting running.store.slots exchanges knows.asked knows.well.suited path (asked ∙ ap (λ a. Some (parts.Disk a)) same);
+      on = λ dir on_it.
+          let own = streams_of_openings_are_their_own setting running.store.slots exchanges knows.asked knows.well.suited dir
+          (on_stream (opening_asks setting (opening_now events handle running.store running.begun)) ask asked dir on_it) in
+          (own.stream, own.told, own.number);
+    }
+asks_own first events handle running (Opening (opens.Registering slots)) knows ask is = absurd (cc is)
 asks_own first events handle running (Opening (opens.Done reply)) knows ask is = absurd (cc is)
+asks_own first events handle running (Calling (Refused error)) knows ask is = absurd (cc is)
+asks_own first events handle running (Calling (Refreshing refresh call)) knows ask is =
+    let setting = setting_in running.store in
+    let exchanges = told_since events handle running.begun in
+    let snapshot = view_then events handle running.modes.core running.begun in
+    let asked : refreshes.ask_of (refresh_now events handle running.store running.modes running.begun) ≡ Some (parts.Disk ask) =
+    ap refreshes.ask_of (sym knows.refresh_is) ∙ call_of_part (refreshes.ask_of refresh) ask is in
+    record {
+      opens = λ path same. refreshes_open_folders_of_packs setting snapshot exchanges knows.asked knows.well.suited path (asked ∙ ap (λ a. Some (parts.Disk a)) same);
+      on = λ dir on_it.
+          let own = streams_of_refreshes_are_their_own setting snapshot exchanges knows.asked dir
+          (on_stream (refreshes.ask_of (refresh_now events handle running.store running.modes running.begun)) ask asked dir on_it) in
+          (own.stream, own.told, own.number);
+    }
 asks_own first events handle running (Calling (Writing call)) knows ask is =
     still_asks events handle running ask (call_asks_still call ask (call_of_disk (disk_ask_of call) ask is))
 asks_own first events handle running (Calling (Looking look)) knows ask is =
@@ -82,23 +129,10 @@ asks_own first events handle running (Calling (Looking look)) knows ask is =
           (told_since events handle running.begun) knows.asked knows.well.truth path (asked ∙ ap (λ a. Some (parts.Disk a)) same);
       on = λ dir on_it.
           let own = streams_of_look_ups_are_their_own (setting_in running.store) (view_then events handle running.modes.core running.begun) knows.query
-          (sought running.store.parts running.modes.ignoring knows.query) (told_since events handle running.begun) knows.asked dir (on_by ask asked dir on_it) in
+          (sought running.store.parts running.modes.ignoring knows.query) (told_since events handle running.begun) knows.asked dir
+          (on_stream (looks.ask_of (look_now events handle running.store running.modes running.begun knows.query)) ask asked dir on_it) in
           (own.stream, own.told, own.number);
     }
-  where
-    on_by : (ask : DiskAsk) → looks.ask_of (look_now events handle running.store running.modes running.begun knows.query) ≡ Some (parts.Disk ask) → (dir : ℕ) → IsOnStream dir ask
-        → (looks.ask_of (look_now events handle running.store running.modes running.begun knows.query) ≡ Some (parts.Disk (asks.NextEntry dir)))
-        ⊎ (looks.ask_of (look_now events handle running.store running.modes running.begun knows.query) ≡ Some (parts.Disk (asks.CloseDir dir)))
-    on_by (asks.NextEntry other) asked dir same = inl (asked ∙ ap (λ n. Some (parts.Disk (asks.NextEntry n))) same)
-    on_by (asks.CloseDir other) asked dir same = inr (asked ∙ ap (λ n. Some (parts.Disk (asks.CloseDir n))) same)
-    on_by (asks.OpenDir path) asked dir never = absurd never
-    on_by (asks.Look path follow) asked dir never = absurd never
-    on_by (asks.Read path) asked dir never = absurd never
-    on_by (asks.MakeDir path) asked dir never = absurd never
-    on_by (asks.NewFile path) asked dir never = absurd never
-    on_by (asks.Append path bytes) asked dir never = absurd never
-    on_by (asks.Rename from to) asked dir never = absurd never
-    on_by (asks.Remove path) asked dir never = absurd never
 
 -- ---- all streams
 

@@ -35,7 +35,7 @@ placed_comes first events e handle running m laws asked (Ok reply) comes = comes
 placed_comes first events e handle running m laws asked (Err state) comes =
     let task_is = laws.tasked first (events ++ e ∷ []) handle (gone_on asked running (m.work state)) state comes.0 in (
       subst (λ (a : At (m.work state)). a.machine.Knows first (events ++ e ∷ []) handle (gone_on asked running (m.work state)) a.state) (sym (laws.at_home state)) comes.0,
-      λ entries most. subst (λ bound. running.turns + 1 < bound) (laws.bounded running.store running.task state task_is entries) (comes.1 entries most),
+      λ entries most. subst (λ bound. running.turns + 1 < bound) (laws.bounded running.store running.modes running.task state task_is entries) (comes.1 entries most),
     )
 
 -- the whole turn of any work

@@ -1,5 +1,5 @@
 -- A write asks in its turn what its stage asks.
-use Rattle.std.proofs.Common.{◌≡◌, ℕ, ◌+◌, ◌*◌, ◌<◌, List, length, Some, refl, sym, ap, ◌∙◌, subst, arith}
+use Rattle.std.proofs.Common.{◌≡◌, inr, ℕ, ◌+◌, ◌*◌, ◌<◌, List, length, Some, refl, sym, ap, ◌∙◌, subst, arith}
 use Rattle.odb_disk.specs.MemDisk.{Volume}
 use Rattle.odb_disk.specs.declared.ask.DiskAsk.{DiskAsk}
 use Rattle.odb_disk.specs.declared.ask.DiskAsk.TheVariants as asks
@@ -13,7 +13,6 @@ use Rattle.gix_odb_loose.specs.declared.call.LooseCall.{LooseCall}
 use Rattle.gix_odb_loose.specs.declared.write_order.WriteStage.{WriteStage}
 use Rattle.gix_odb_loose.specs.declared.write_order.WriteStage.TheVariants as stages
 use Rattle.gix_odb_world.specs.Asks.{AppendsHeader, AppendsPiece, AsksInOrder, AsksToWrite, MakesDirectory, MakesFile, Removes, Renames}
-use Rattle.gix_odb_world.specs.AtWork.{nothing_in_front}
 use Rattle.gix_odb_world.specs.Event.{Event}
 use Rattle.gix_odb_world.specs.Status.{Running, MakeCall}
 use Rattle.gix_odb_world.specs.Running.Write.{IsAtOwnWrite, IsWriting, StandsAt, job_to_write}
@@ -61,17 +60,20 @@ module _ (first : Volume) (events : List Event) (handle begun turns : ℕ) (w : 
       (Renames number (made (stages.Moving number id) number refl s) (had (stages.Moving number id) s))
   at_stage (stages.Removing number refusal) s = Removes number (made (stages.Removing number refusal) number refl s)
 
--- a running write asks in its turn
+-- a running write asks in its turn, which is counted from where what stood in front of it is ready
 pub in_order_write : (first : Volume) (events : List Event) (handle : ℕ) (running : Running) (call : LooseCall)
-    → (at : IsAtOwnWrite first events handle running nothing_in_front call)
+    → (at : IsAtOwnWrite first events handle running call)
     → AsksInOrder first events handle running.store running.modes running.begun running.turns (MakeCall (call_to_write at.writing.write)) (ask_at_stage at.writing.write at.writing.stage)
 in_order_write first events handle running call at =
     let writes : IsWriting first events handle running call = at.writing in
     let w : ToWrite = writes.write in
-    record {
-      own = writes.own;
-      turn = at.turns;
-      asks = subst (λ hash. AsksToWrite first events handle running.begun writes.own (to_write running.store.parts.objects hash w.kind w.size w.bytes w.known) (ask_at_stage w writes.stage)) writes.hashed
-          (subst (λ objects. AsksToWrite first events handle running.begun writes.own (to_write objects w.hash w.kind w.size w.bytes w.known) (ask_at_stage w writes.stage)) writes.into
-          (at_stage first events handle running.begun writes.own w writes.stage writes.stands));
-    }
+    inr (
+      at.ready,
+      record {
+        own = writes.own;
+        turn = at.turns;
+        asks = subst (λ hash. AsksToWrite first events handle running.begun writes.own (to_write running.store.parts.objects hash w.kind w.size w.bytes w.known) (ask_at_stage w writes.stage)) writes.hashed
+            (subst (λ objects. AsksToWrite first events handle running.begun writes.own (to_write objects w.hash w.kind w.size w.bytes w.known) (ask_at_stage w writes.stage)) writes.into
+            (at_stage first events handle running.begun writes.own w writes.stage writes.stands));
+      },
+    )

@@ -52,11 +52,11 @@ number_after before (exchange ∷ exchanges) = number_after (number_by before ex
 pub record IsToldWell (first : Volume) (events : List Event) (handle : ℕ) (store : Store) (modes : Modes) (begun : ℕ) : Type 0 where
   pub opened : store.opened ≤ begun
   pub snapshot : IsShownView (WasShownAt (tree_at first events) store.opened (length events)) (setting_in store) store.hash (view_then events handle modes.core begun)
-  pub few : length (view_then events handle modes.core begun).snapshot.indices ≤ store.slots
+  pub few : length (view_then events handle modes.core begun).snapshot.indices ≤ modes.slots
   pub place : modes.core < length (cores_after events)
   pub truth : AreTrue (WasShownAt (tree_at first events) store.opened (length events)) (setting_in store) store.hash (told_since events handle begun)
   pub answered : AreAnswered (told_since events handle begun)
-  pub numbered : AreNumbered store.slots 0 (told_since events handle begun)
+  pub numbered : AreNumbered modes.slots 0 (told_since events handle begun)
   pub no_later : number_after 0 (told_since events handle begun) ≤ (present (history_at (cores_after events) modes.core)).list_no
   pub within : (entries : ℕ) → HasAtMost (tree_at first events) store.parts begun (length events) entries → AreWithin entries None (told_since events handle begun)
   pub given : (ask : DiskAsk) (answer : DiskAnswer) → WasTold (told_since events handle begun) (asks.Disk ask) (told.Disk answer)
@@ -92,6 +92,6 @@ looking = record {
   feed = λ store look answer. by_part (looks.result_of look) (λ given. looks.result_of (looks.fed (setting_in store) look given)) answer;
   writes = λ look. None;
   IsFor = λ task look. (query : Query) × (task ≡ MakeCall (call_of query));
-  bound = λ store task entries. bound_of_call store entries None;
+  bound = λ store modes task entries. bound_of_call store modes entries None;
   Knows = λ first events handle running look. IsLooking first events handle running look;
 }

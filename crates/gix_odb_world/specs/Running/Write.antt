@@ -1,5 +1,6 @@
--- What a write has seen and done since it began. No public clause needs more of it than its name.
-use Rattle.std.specs.Prelude.{◌+◌, ◌<◌, ◌^◌, [], ◌++◌, ◌≡◌, ℕ, ◌≤◌, List, length, take, Contains, Option, Some, None}
+-- What a write has seen and done since it began, and its machine, of which a public clause needs what it asks and where an answer leads it.
+use Rattle.std.specs.Prelude.{◌+◌, ◌<◌, ◌^◌, [], ◌++◌, ◌≡◌, ℕ, ◌≤◌, List, length, take, Contains, Option, Some, None, Result, Ok, Err}
+use Rattle.std.specs.List.{IsDistinct}
 use Rattle.odb_base.specs.Path.{Path}
 use Rattle.odb_disk.specs.MemDisk.{Volume}
 use Rattle.odb_disk.specs.declared.ask.DiskAnswer.TheVariants as answers
@@ -17,14 +18,27 @@ use Rattle.gix_odb_loose.specs.declared.write_at_hand.Onward.TheVariants.{Stage}
 use Rattle.gix_odb_loose.specs.declared.write_at_hand.WriteJob.{WriteJob}
 use Rattle.gix_odb_loose.specs.declared.write_order.WriteStage.{WriteStage}
 use Rattle.gix_odb_loose.specs.declared.write_order.WriteStage.TheVariants as write_stages
-use Rattle.gix_odb.specs.declared.call_state.CallState.TheVariants.{Writing}
+use Rattle.gix_odb_calls.specs.declared.call.Reply.{Reply}
+use Rattle.gix_odb_calls.specs.declared.load_index.Error as load
+use Rattle.gix_odb_packs.specs.declared.answer.PartAsk.{PartAsk}
+use Rattle.gix_odb_slots.specs.Slots.{same_path}
+use Rattle.gix_odb_refresh.specs.RefreshOrder as refreshes
+use Rattle.gix_odb_refresh.specs.Refreshed.{AreAsked}
+use Rattle.gix_odb_refresh.specs.declared.refresh.Refresh.{Refresh}
+use Rattle.gix_odb_refresh.specs.declared.refresh.Refresh.TheVariants as fronts
+use Rattle.gix_odb_refresh.specs.declared.refresh.Refresh.TheVariants.{Ready}
+use Rattle.gix_odb.specs.Contents.{folder_list}
+use Rattle.gix_odb.specs.declared.call_state.CallState.TheVariants.{Refreshing, Refused, Writing}
+use Rattle.gix_odb_world.specs.declared.work.Work.{Work}
 use Rattle.gix_odb_world.specs.declared.work.Work.TheVariants.{Calling}
-use Rattle.gix_odb_world.specs.Event.{Event, to_disk}
-use Rattle.gix_odb_world.specs.Machine.{Machine, by_answer}
-use Rattle.gix_odb_world.specs.AtWork.{MakeCall, Running, Task, nothing_in_front}
-use Rattle.gix_odb_world.specs.Bound.{bound_of_task}
+use Rattle.gix_odb_world.specs.Event.{Answer, Ask, Event, part_asked, to_disk}
+use Rattle.gix_odb_world.specs.Machine.{Machine, by_answer, by_part}
+use Rattle.gix_odb_world.specs.AtWork.{MakeCall, Running, Store, setting_in}
+use Rattle.gix_odb_world.specs.Bound.{HasAtMost, bound_of_task, turns_of_lap}
 use Rattle.gix_odb_world.specs.Run.{tree_at}
-use Rattle.gix_odb.specs.CallOrder.{result_of_write}
+use Rattle.gix_odb_world.specs.Running.Answered.{IsAnsweredWell}
+use Rattle.gix_odb_world.specs.Told.{refresh_begun, refresh_now, told_since, turns_in_front}
+use Rattle.gix_odb.specs.CallOrder.{result_of_write, unlisted}
 use Rattle.gix_odb_world.specs.Writing.{AskedAt, AskedSince, ChangedNothing, LeftAlone, TurnsMadeOnly, NoTurnRenamed, ToWrite, call_to_write, head_to_write}
 
 -- a write that has asked nothing
@@ -71,8 +85,8 @@ pub record StandsAt (first : Volume) (events : List Event) (handle begun own : �
   pub untouched : IsUntouched events handle begun (number_made stage)
   pub holds : Holds first events handle begun w.objects (number_made stage) (content_at w stage)
 
--- A running write: what it is to write, and what it knows after so many turns of its own. Its handle's task may be another one, of
--- which other turns, that changed nothing, came in front.
+-- A running write: what it is to write, and what it knows after so many turns of its own. Other turns, that changed nothing, may have come in
+-- front.
 pub record IsWriting (first : Volume) (events : List Event) (handle : ℕ) (running : Running) (call : LooseCall) : Type 0 where
   pub write : ToWrite
   pub into : write.objects ≡ running.store.parts.objects
@@ -83,30 +97,95 @@ pub record IsWriting (first : Volume) (events : List Event) (handle : ℕ) (runn
   pub own : ℕ
   pub stands : StandsAt first events handle running.begun own write stage
 
--- a write that is the task of its handle, behind so many turns of it
-pub record IsAtOwnWrite (first : Volume) (events : List Event) (handle : ℕ) (running : Running) (front : ℕ) (call : LooseCall) : Type 0 where
+-- what a write is to write that its handle was told to
+pub record IsTask (running : Running) (w : ToWrite) : Type 0 where
+  pub into : w.objects ≡ running.store.parts.objects
+  pub hashed : w.hash ≡ running.store.hash
+  pub fits : w.size < 2 ^ 64
+  pub task : running.task ≡ MakeCall (call_to_write w)
+
+-- ---- what stands in front of a write
+
+-- The refresh in front of a write stands behind what its handle was told since the write began, each of which answered what it asked then, and
+-- had a turn for each. It has more to ask, and has changed nothing.
+pub record IsInFront (first : Volume) (events : List Event) (handle : ℕ) (running : Running) (refresh : Refresh) (call : LooseCall) : Type 0 where
+  pub write : ToWrite
+  pub of : IsTask running write
+  pub is : call ≡ write_at write (write_stages.Making 0)
+  pub since : running.begun ≤ length events
+  pub distinct : IsDistinct same_path (folder_list running.store.parts)
+  pub refresh_is : refresh ≡ refresh_now events handle running.store running.modes running.begun
+  pub more : (ask : PartAsk) × (refreshes.ask_of refresh ≡ Some ask)
+  pub asked : AreAsked (setting_in running.store) (refresh_begun events handle running.modes running.begun) (told_since events handle running.begun)
+  pub turns : running.turns ≡ length (told_since events handle running.begun)
+  pub well : IsAnsweredWell first events handle running.store running.begun
+  pub unchanged : ChangedNothing events handle running.begun
+
+-- A write that is the task of its handle: what stood in front of it is ready, and took no more turns than a lap; the other turns are its own.
+pub record IsAtOwnWrite (first : Volume) (events : List Event) (handle : ℕ) (running : Running) (call : LooseCall) : Type 0 where
   pub writing : IsWriting first events handle running call
   pub task : running.task ≡ MakeCall (call_to_write writing.write)
-  pub turns : running.turns ≡ front + writing.own
+  pub since : running.begun ≤ length events
+  pub ready : refresh_now events handle running.store running.modes running.begun ≡ Ready
+  pub turns : running.turns ≡ turns_in_front events handle running.store running.modes running.begun + writing.own
+  pub short : (entries : ℕ) → HasAtMost (tree_at first events) running.store.parts running.begun (length events) entries
+      → turns_in_front events handle running.store running.modes running.begun ≤ turns_of_lap running.modes.slots (length (folder_list running.store.parts)) entries
 
 -- ---- its machine
 
--- a write may be at the stages of its own call
-pub record IsForWrite (task : Task) (call : LooseCall) : Type 0 where
-  pub write : ToWrite
-  pub task_is : task ≡ MakeCall (call_to_write write)
-  pub stage : WriteStage
-  pub is : call ≡ write_at write stage
+-- a write on its way: behind what stands in front of it, at its own turns, or not to be made, since its store could not be listed
+pub data WriteState : Type 0 where
+  InFront : (refresh : Refresh) (call : LooseCall) → WriteState
+  Own : (call : LooseCall) → WriteState
+  Unlisted : (error : load.Error) → WriteState
 
--- a write as a machine, with nothing in front of it
+abbrev pub work_of : WriteState → Work
+work_of (InFront refresh call) = Calling (Refreshing refresh call)
+work_of (Own call) = Calling (Writing call)
+work_of (Unlisted error) = Calling (Refused error)
+
+abbrev pub write_asks : WriteState → Option Ask
+write_asks (InFront refresh call) = part_asked (refreshes.ask_of refresh)
+write_asks (Own call) = to_disk (disk_ask_of call)
+write_asks (Unlisted error) = None
+
+abbrev pub own_result : Result Reply LooseCall → Result Reply WriteState
+own_result (Ok reply) = Ok reply
+own_result (Err call) = Err (Own call)
+
+-- what a write comes to by what stands in front of it then
+abbrev pub front_result : LooseCall → Refresh → Result Reply WriteState
+front_result call Ready = own_result (result_of_write call)
+front_result call (fronts.Refused error) = Ok (unlisted error)
+front_result call refresh = Err (InFront refresh call)
+
+abbrev pub write_fed : Store → WriteState → Option Answer → Result Reply WriteState
+write_fed store (InFront refresh call) answer =
+    by_part (Err (InFront refresh call)) (λ told. front_result call (refreshes.fed store.parts.objects store.parts.folders refresh told)) answer
+write_fed store (Own call) answer =
+    by_answer (own_result (result_of_write call)) (λ told. own_result (result_of_write (loose_order.fed call told))) answer
+write_fed store (Unlisted error) answer = Ok (unlisted error)
+
+abbrev pub writes_by : WriteState → Option LooseCall
+writes_by (InFront refresh call) = None
+writes_by (Own call) = Some call
+writes_by (Unlisted error) = None
+
+-- what it knows. No write is left that is not to be made
+abbrev pub KnowsOfWrite : Volume → List Event → (handle : ℕ) → Running → WriteState → Type 0
+KnowsOfWrite first events handle running (InFront refresh call) = IsInFront first events handle running refresh call
+KnowsOfWrite first events handle running (Own call) = IsAtOwnWrite first events handle running call
+KnowsOfWrite first events handle running (Unlisted error) = ⊥
+
+-- a write as a machine: the list of its store is read first, where it was not
 abbrev pub writing : Machine
 writing = record {
-  State = LooseCall;
-  work = λ call. Calling (Writing call);
-  ask = λ store call. to_disk (disk_ask_of call);
-  feed = λ store call answer. by_answer (result_of_write call) (λ told. result_of_write (loose_order.fed call told)) answer;
-  writes = λ call. Some call;
-  IsFor = λ task call. IsForWrite task call;
-  bound = λ store task entries. bound_of_task store task entries;
-  Knows = λ first events handle running call. IsAtOwnWrite first events handle running nothing_in_front call;
+  State = WriteState;
+  work = work_of;
+  ask = λ store state. write_asks state;
+  feed = write_fed;
+  writes = writes_by;
+  IsFor = λ task state. (w : ToWrite) × (task ≡ MakeCall (call_to_write w));
+  bound = λ store modes task entries. bound_of_task store modes task entries;
+  Knows = KnowsOfWrite;
 }

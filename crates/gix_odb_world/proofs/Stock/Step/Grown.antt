@@ -90,17 +90,18 @@ module _ (first : Volume) (past : List Event) (e : Event) (before : AreStocked f
           }
 
   -- a core that was made for a store
-  pub grown_new : (store : Store) (slots folders handle : ℕ) → slots ≡ store.slots → folders ≡ length (folder_list store.parts)
+  pub grown_new : (store : Store) (slots folders handle : ℕ) → folders ≡ length (folder_list store.parts)
       → e.asked ≡ OfNewCore slots folders (length cores) handle (answer_behind (opened slots folders 0 0) handle (core_events.Register false))
       → GrowsTo (before.stores ++ store ∷ [])
-  grown_new store slots folders handle slots_are folders_are is =
+  grown_new store slots folders handle folders_are is =
       let h : History = opened slots folders 0 0 in
       let answer = answer_behind h handle (core_events.Register false) in
       let new : History = entered h handle (core_events.Register false) answer in
       let grown : cores_after now ≡ cores ++ new ∷ [] = now_is _ is in
       let long = before.long in
       let none : IsOfStore first past store h = record {
-        opening = ap (λ n. (opened n folders 0 0).opening) slots_are ∙ ap (λ n. (opened store.slots n 0 0).opening) folders_are;
+        slots = slots;
+        opening = ap (λ n. (opened slots n 0 0).opening) folders_are;
         legal = λ i entry there. absurd (cc there);
         possible = tt;
         handed = λ entry among. absurd (nothing_in entry among);

@@ -40,7 +40,7 @@ returns-clause-noted c =
 -- for a store whose handle is to be registered a core can be made, and an event of a core that the work asks for can happen
 pub carried_out-requires : goal.carried_out-requires
 carried_out-requires c = record {
-  fits = λ registers. fits_core c.args.self.now c.args.number c.in-Ok.taken.0 c.in-Ok.taken.1 c.in-Ok.ensures.taken registers c.requires.explained;
+  fits = fits_core c.args.self.now c.args.number c.in-Ok.taken.0 c.in-Ok.taken.1 c.in-Ok.ensures.taken c.requires.explained;
   can_happen = subst (λ (cores : Vec History Global). CanHappenAt cores.items c.args.number c.in-Ok.taken.0 (ask_on c.in-Ok.taken.0 c.in-Ok.taken.1))
       (sym c.in-Ok.ensures.sets.cores)
       (turn_can_happen c.args.self.now c.requires.explained c.args.number c.in-Ok.taken.0 c.in-Ok.taken.1 c.in-Ok.ensures.taken);

@@ -1,0 +1,95 @@
+-- What an opening asked and was answered, which number of slots that comes to, and why one is refused.
+use Rattle.std.specs.Prelude.{◌≡◌, ℕ, ◌<◌, true, List, [], ◌∷◌, length, Option, Some, None}
+use Rattle.odb_base.specs.Path.{Path}
+use Rattle.odb_disk.specs.declared.ask.DiskAnswer.{DiskAnswer}
+use Rattle.odb_disk.specs.declared.ask.DiskAnswer.TheVariants as answers
+use Rattle.odb_disk.specs.declared.ask.DiskAsk.TheVariants as disk_asks
+use Rattle.odb_tree.specs.declared.disk_error.DiskError.TheVariants as disk_errors
+use Rattle.odb_tree.specs.declared.meta.Kind.{Kind}
+use Rattle.odb_tree.specs.declared.meta.Kind.TheVariants as kinds
+use Rattle.gix_odb_slots.specs.PackId.{most_slots}
+use Rattle.gix_odb_slots.specs.declared.listing.ListingRow.{ListingRow}
+use Rattle.gix_odb_packs.specs.ListOrder as lists
+use Rattle.gix_odb_packs.specs.declared.answer.Answer.{Answer}
+use Rattle.gix_odb_packs.specs.declared.answer.Answer.TheVariants as told
+use Rattle.gix_odb_packs.specs.declared.answer.PartAsk.{PartAsk}
+use Rattle.gix_odb_packs.specs.declared.answer.PartAsk.TheVariants as asks
+use Rattle.gix_odb_packs.specs.declared.lister.ListStep.{ListStep}
+use Rattle.gix_odb_packs.specs.declared.lister.ListStep.TheVariants as listed
+use Rattle.gix_odb_calls.specs.declared.init.Error as opening
+use Rattle.gix_odb_calls.specs.declared.init.Error.TheVariants as opening_errors
+use Rattle.gix_odb_calls.specs.declared.init.Slots.{Slots}
+use Rattle.gix_odb_calls.specs.declared.init.Slots.TheVariants.{AsNeededByDiskState, Given}
+use Rattle.gix_odb_calls.specs.declared.load_index.Error.TheVariants as load_errors
+use Rattle.gix_odb_looks.specs.Exchange.{Exchange, HasFailed, WasTold}
+use Rattle.gix_odb_looks.specs.LookUpOrder.{Setting}
+use Rattle.gix_odb_refresh.specs.Asked as any
+use Rattle.gix_odb_refresh.specs.Refreshed.{HasBroken}
+use Rattle.gix_odb.specs.CallOrder.{disk_part}
+use Rattle.gix_odb.specs.OpenOrder.{ask_of, fed, slots_for}
+use Rattle.gix_odb.specs.declared.open_state.OpenState.{OpenState}
+
+-- ---- exchanges
+
+-- what an opening asks of the disk
+abbrev pub asks_of : Setting → OpenState → Option PartAsk
+asks_of setting state = disk_part (ask_of setting.objects state)
+
+-- an answer of the core leaves an opening
+abbrev pub fed_by : Setting → Slots → OpenState → Answer → OpenState
+fed_by setting slots state (told.Disk answer) = fed setting.objects setting.folders slots state answer
+fed_by setting slots state (told.Core answer) = state
+
+abbrev pub behind : Setting → Slots → OpenState → List Exchange → OpenState
+behind setting slots state exchanges = any.behind (asks_of setting) (fed_by setting slots) state exchanges
+
+abbrev pub AreAsked : Setting → Slots → OpenState → List Exchange → Type 0
+AreAsked setting slots state exchanges = any.AreAsked (asks_of setting) (fed_by setting slots) state exchanges
+
+-- ---- the listing among them
+
+-- a listing behind an answer
+abbrev pub list_by : List Path → ListStep → Answer → ListStep
+list_by folders (listed.More lister) (told.Disk answer) = lists.fed folders lister answer
+list_by folders step answer = step
+
+abbrev pub list_behind : List Path → ListStep → List Exchange → ListStep
+list_behind folders step [] = step
+list_behind folders step (exchange ∷ exchanges) = list_behind folders (list_by folders step exchange.answer) exchanges
+
+-- behind a look at the objects directory the folders of packs were listed, and came to this
+pub record HasListed (setting : Setting) (exchanges : List Exchange) (step : ListStep) : Type 0 where
+  pub look : Exchange
+  pub listing : List Exchange
+  pub are : exchanges ≡ look ∷ listing
+  pub comes : list_behind setting.folders (listed.More (lists.started setting.objects)) listing ≡ step
+
+-- ---- how many slots
+
+-- the number that was given, or the one for as many indices as the listing found
+abbrev pub IsNumber : Setting → Slots → List Exchange → ℕ → Type 0
+IsNumber setting (Given slots) exchanges number = number ≡ slots
+IsNumber setting (AsNeededByDiskState percent minimum) exchanges number =
+    (rows : List ListingRow) × HasListed setting exchanges (listed.Rows rows) × (number ≡ slots_for percent minimum (length rows))
+
+-- ---- causes
+
+abbrev pub IsNoDir : Kind → Type 0
+IsNoDir kinds.Dir = ⊥
+IsNoDir kind = Unit {0}
+
+-- a look showed no directory
+abbrev pub ShowsNoDirectory : DiskAnswer → Type 0
+ShowsNoDirectory (answers.Meta meta) = IsNoDir meta.kind
+ShowsNoDirectory (answers.Refused disk_errors.Failed) = ⊥
+ShowsNoDirectory answer = Unit {0}
+
+-- why an opening is refused by an error
+abbrev pub IsCaused : Setting → Slots → List Exchange → opening.Error → Type 0
+IsCaused setting slots exchanges opening_errors.NotADirectory =
+    (answer : DiskAnswer) × ShowsNoDirectory answer × WasTold exchanges (asks.Disk (disk_asks.Look setting.objects true)) (told.Disk answer)
+IsCaused setting slots exchanges (opening_errors.TooManySlots asked) = IsNumber setting slots exchanges asked × (most_slots < asked)
+IsCaused setting slots exchanges opening_errors.Io = HasFailed exchanges
+IsCaused setting slots exchanges (opening_errors.LoadIndex load_errors.Io) = HasBroken setting exchanges
+IsCaused setting slots exchanges (opening_errors.LoadIndex error) = ⊥
+IsCaused setting slots exchanges opening_errors.NoMemory = ⊥

@@ -1,0 +1,178 @@
+-- What is known at each stage of a refresh: of its rows, of its stream, and of the list that was not read.
+use Rattle.std.proofs.Common.{◌≡◌, ◌⊎◌, inl, inr, ℕ, Bool, true, false, List, [], ◌∷◌, ◌++◌, All, Option, Some, None, Ok, Err, refl, sym, ap, ◌∙◌, subst}
+use Rattle.std.specs.Prelude.{if◌then◌else◌}
+use Rattle.std.proofs.lemmas.List.Elements.{Contains-append_left, Contains-push}
+use Rattle.std.proofs.lemmas.Option.{same_Some}
+use Rattle.odb_disk.specs.declared.ask.DiskAnswer.{DiskAnswer}
+use Rattle.gix_odb_slots.specs.declared.listing.Listing.{Listing}
+use Rattle.gix_odb_core.specs.Replay as core
+use Rattle.gix_odb_core.specs.Replay.{view_in}
+use Rattle.gix_odb_core.specs.declared.event.Effect.{Effect}
+use Rattle.gix_odb_core.specs.declared.event.Effect.TheVariants as effects
+use Rattle.gix_odb_core.specs.declared.event.Event.TheVariants as events
+use Rattle.gix_odb_core.specs.declared.view.View.{View}
+use Rattle.gix_odb_packs.specs.ListOrder as lists
+use Rattle.gix_odb_packs.specs.declared.answer.Answer.{Answer}
+use Rattle.gix_odb_packs.specs.declared.answer.Answer.TheVariants as told
+use Rattle.gix_odb_packs.specs.declared.answer.PartAsk.{PartAsk}
+use Rattle.gix_odb_packs.specs.declared.answer.PartAsk.TheVariants as asks
+use Rattle.gix_odb_packs.specs.declared.lister.ListStep.{ListStep}
+use Rattle.gix_odb_packs.specs.declared.lister.ListStep.TheVariants as listed
+use Rattle.gix_odb_packs.specs.declared.lister.Lister.{Lister}
+use Rattle.gix_odb_looks.specs.Exchange.{Exchange}
+use Rattle.gix_odb_looks.specs.LookUpOrder.{Setting}
+use Rattle.gix_odb_looks.specs.Shown.{IsIndexRow}
+use Rattle.gix_odb_looks.specs.Stream.{Stream, stream_in}
+use Rattle.gix_odb_looks.proofs.FoundLaws.Known.{KnowsListStep, KnowsLister}
+use Rattle.gix_odb_looks.proofs.FoundLaws.Listing.{fed_known, started_known}
+use Rattle.gix_odb_looks.proofs.FoundLaws.Lists.{all_longest_first}
+use Rattle.gix_odb_looks.proofs.HandedLaws.Reading.{none_told, told_from}
+use Rattle.gix_odb_looks.proofs.HandedLaws.Streams.{HasNone, Opened, StreamBehind, StreamOf, Told, core_leaves_streams, left_open, left_open-push, open_by, opened_by}
+use Rattle.gix_odb_looks.proofs.HandedLaws.Streams.{listing_streams, opened_last, opened_last-push, told_by}
+use Rattle.gix_odb_looks.proofs.StreamLaws.Exchanges.{stream_in-push}
+use Rattle.gix_odb_refresh.specs.RefreshOrder.{ask_of, by_listed, by_look, by_published, fed, started, view_shown}
+use Rattle.gix_odb_refresh.specs.Refreshed.{AreAsked, LookRefused, ShowedUnread, behind}
+use Rattle.gix_odb_refresh.specs.declared.refresh.Refresh.{Refresh}
+use Rattle.gix_odb_refresh.specs.declared.refresh.Refresh.TheVariants as stages
+use Rattle.gix_odb_refresh.proofs.AskedLemmas.{holds_behind}
+
+-- all that exchanges tell of streams
+abbrev pub told_of : List Exchange → Told
+told_of exchanges = told_from none_told exchanges
+
+abbrev told_with : Option Opened → Option Opened → Option Stream → Told
+told_with last left stream = record { last = last; left = left; stream = stream }
+
+-- behind one exchange more
+pub told_of-push : (past : List Exchange) (exchange : Exchange) → told_of (past ++ exchange ∷ []) ≡ told_by (told_of past) exchange.ask exchange.answer
+told_of-push past exchange =
+    ap (λ (last : Option Opened). told_with last (left_open (past ++ exchange ∷ [])) (stream_in (past ++ exchange ∷ []))) (opened_last-push past exchange)
+    ∙ ap (λ (left : Option Opened). told_with (opened_by (opened_last past) exchange.ask exchange.answer) left (stream_in (past ++ exchange ∷ [])))
+    (left_open-push past exchange)
+    ∙ ap
+    (λ (stream : Option Stream).
+    told_with (opened_by (opened_last past) exchange.ask exchange.answer) (open_by (left_open past) exchange.ask exchange.answer) stream)
+    (stream_in-push past exchange)
+
+ShowedUnread-more : (past : List Exchange) (exchange : Exchange) → ShowedUnread past → ShowedUnread (past ++ exchange ∷ [])
+ShowedUnread-more past exchange was = record {
+  effect = was.effect;
+  view = was.view;
+  shown = was.shown;
+  unread = was.unread;
+  told = Contains-append_left past (exchange ∷ []) _ was.told;
+}
+
+module _ (setting : Setting) where
+  -- what is told of streams is of the listing at hand, whose rows are of indices; a listing is made, or an error is told, only behind a
+  -- look at an unread list
+  abbrev pub KnowsAt : Told → List Exchange → Refresh → Type 0
+  KnowsAt now past stages.Looking = HasNone now
+  KnowsAt now past (stages.Listing lister base) = KnowsLister setting lister × StreamOf now lister × ShowedUnread past
+  KnowsAt now past (stages.Publishing listing) = HasNone now × All (IsIndexRow setting) listing.rows × ShowedUnread past
+  KnowsAt now past stages.Ready = HasNone now
+  KnowsAt now past (stages.Refused error) = HasNone now × (ShowedUnread past ⊎ LookRefused past)
+
+  abbrev pub Knows : List Exchange → Refresh → Type 0
+  Knows past refresh = KnowsAt (told_of past) past refresh
+
+  -- ---- one exchange more
+
+  module _ (now : Told) (past : List Exchange) where
+    abbrev with_one : PartAsk → Answer → List Exchange
+    with_one ask answer = past ++ record { ask = ask; answer = answer } ∷ []
+
+    abbrev Goes : Refresh → PartAsk → Answer → Type 0
+    Goes refresh ask answer = KnowsAt (told_by now ask answer) (with_one ask answer) (fed setting.objects setting.folders refresh answer)
+
+    -- the core was looked at
+    module _ (effect : Effect) (none : HasNone now) where
+      abbrev looked : List Exchange
+      looked = with_one (asks.Core events.Look) (told.Core (Ok effect))
+
+      abbrev later : Told
+      later = told_by now (asks.Core events.Look) (told.Core (Ok effect))
+
+      view_goes : (view : View) → view_in (Ok effect) ≡ Some view → (read : Bool) → view.read ≡ read
+          → KnowsAt later looked (if read then stages.Ready else stages.Listing (lists.started setting.objects) view.list_no)
+      view_goes view shown true is = none
+      view_goes view shown false is = (
+        started_known setting,
+        none,
+        record { effect = effect; view = view; shown = shown; unread = is; told = Contains-push past (record { ask = asks.Core events.Look; answer = told.Core (Ok effect) }) },
+      )
+
+      shown_goes : (shown : Option View) → view_in (Ok effect) ≡ shown → KnowsAt later looked (by_look setting.objects shown)
+      shown_goes None is = none
+      shown_goes (Some view) is = view_goes view is view.read refl
+
+    look_goes : HasNone now → (answer : Answer) → Goes stages.Looking (asks.Core events.Look) answer
+    look_goes none (told.Disk answer) = none
+    look_goes none (told.Core (Ok effect)) = shown_goes effect none (view_shown effect) refl
+    look_goes none (told.Core (Err refusal)) =
+        (none, inr (refusal, Contains-push past (record { ask = asks.Core events.Look; answer = told.Core (Err refusal) })))
+
+    -- a folder is listed on
+    listed_goes : (later : Told) (more : List Exchange) (base : ℕ) (step : ListStep) → KnowsListStep setting step → StreamBehind later step → ShowedUnread more
+        → KnowsAt later more (by_listed base step)
+    listed_goes later more base (listed.More lister) known stream unread = (known, stream, unread)
+    listed_goes later more base (listed.Rows rows) known stream unread = (stream, all_longest_first (IsIndexRow setting) rows known, unread)
+    listed_goes later more base listed.Broken known stream unread = (stream, inl unread)
+
+    listing_goes : (lister : Lister) (base : ℕ) → KnowsAt now past (stages.Listing lister base) → (answer : Answer)
+        → Goes (stages.Listing lister base) (asks.Disk (lists.ask_of lister)) answer
+    listing_goes lister base known (told.Disk answer) =
+        listed_goes (told_by now (asks.Disk (lists.ask_of lister)) (told.Disk answer)) (with_one (asks.Disk (lists.ask_of lister)) (told.Disk answer)) base
+        (lists.fed setting.folders lister answer) (fed_known setting lister answer known.0)
+        (listing_streams setting.folders lister.head now lister.stage known.1 answer)
+        (ShowedUnread-more past _ known.2)
+    listing_goes lister base known (told.Core answer) =
+        (known.0, core_leaves_streams now lister.head.folder lister.stage answer known.1, ShowedUnread-more past _ known.2)
+
+    -- the listing was handed to the core
+    published_goes : (listing : Listing) → KnowsAt now past (stages.Publishing listing) → (effect : Effect)
+        → Goes (stages.Publishing listing) (asks.Core (events.Publish listing)) (told.Core (Ok effect))
+    published_goes listing known (effects.Published view) = known.0
+    published_goes listing known (effects.Unchanged view) = known.0
+    published_goes listing known (effects.Outdated number) = known.0
+    published_goes listing known (effects.Seen view) = (known.0, known.1, ShowedUnread-more past _ known.2)
+    published_goes listing known (effects.Reported view report) = (known.0, known.1, ShowedUnread-more past _ known.2)
+    published_goes listing known (effects.Put view stored) = (known.0, known.1, ShowedUnread-more past _ known.2)
+    published_goes listing known effects.Removed = (known.0, known.1, ShowedUnread-more past _ known.2)
+
+    publish_goes : (listing : Listing) → KnowsAt now past (stages.Publishing listing) → (answer : Answer)
+        → Goes (stages.Publishing listing) (asks.Core (events.Publish listing)) answer
+    publish_goes listing known (told.Disk answer) = (known.0, known.1, ShowedUnread-more past _ known.2)
+    publish_goes listing known (told.Core (Ok effect)) = published_goes listing known effect
+    publish_goes listing known (told.Core (Err refusal)) = (known.0, inl (ShowedUnread-more past _ known.2))
+
+    goes : (refresh : Refresh) → KnowsAt now past refresh → (ask : PartAsk) (answer : Answer) → ask_of refresh ≡ Some ask → Goes refresh ask answer
+    goes stages.Looking known ask answer is =
+        subst (λ (own : PartAsk). Goes stages.Looking own answer) (same_Some (asks.Core events.Look) ask is) (look_goes known answer)
+    goes (stages.Listing lister base) known ask answer is =
+        subst (λ (own : PartAsk). Goes (stages.Listing lister base) own answer) (same_Some (asks.Disk (lists.ask_of lister)) ask is)
+        (listing_goes lister base known answer)
+    goes (stages.Publishing listing) known ask answer is =
+        subst (λ (own : PartAsk). Goes (stages.Publishing listing) own answer) (same_Some (asks.Core (events.Publish listing)) ask is)
+        (publish_goes listing known answer)
+    goes stages.Ready known ask answer is = absurd (cc is)
+    goes (stages.Refused error) known ask answer is = absurd (cc is)
+
+  kept : (past : List Exchange) (refresh : Refresh) (exchange : Exchange) → Knows past refresh → ask_of refresh ≡ Some exchange.ask → Unit {0}
+      → Knows (past ++ exchange ∷ []) (fed setting.objects setting.folders refresh exchange.answer)
+  kept past refresh exchange known asked meets =
+      subst (λ (now : Told). KnowsAt now (past ++ exchange ∷ []) (fed setting.objects setting.folders refresh exchange.answer))
+      (sym (told_of-push past exchange))
+      (goes (told_of past) past refresh known exchange.ask exchange.answer asked)
+
+  -- ---- all exchanges
+
+  start_knows : (read : Bool) → Knows [] (if read then stages.Ready else stages.Looking)
+  start_knows true = refl
+  start_knows false = refl
+
+  pub refresh_knows : (snapshot : View) (exchanges : List Exchange) → AreAsked setting (started snapshot) exchanges
+      → Knows exchanges (behind setting (started snapshot) exchanges)
+  refresh_knows snapshot exchanges asked =
+      holds_behind ask_of (fed setting.objects setting.folders) Knows (λ exchange. Unit {0}) kept (started snapshot) exchanges
+      (start_knows snapshot.read) asked (λ exchange among. tt)

@@ -1,0 +1,40 @@
+-- What a machine asked and was answered, one after another, for any machine that asks one thing at a time.
+use Rattle.std.specs.Prelude.{◌≡◌, ℕ, ◌+◌, List, [], ◌∷◌, Contains, Option, Some, None}
+use Rattle.odb_disk.specs.declared.ask.DiskAnswer.{DiskAnswer}
+use Rattle.odb_disk.specs.declared.ask.DiskAsk.{DiskAsk}
+use Rattle.gix_odb_packs.specs.declared.answer.Answer.{Answer}
+use Rattle.gix_odb_packs.specs.declared.answer.Answer.TheVariants as told
+use Rattle.gix_odb_packs.specs.declared.answer.PartAsk.{PartAsk}
+use Rattle.gix_odb_packs.specs.declared.answer.PartAsk.TheVariants as asks
+use Rattle.gix_odb_looks.specs.Exchange.{Exchange, IsAnswerTo}
+use Rattle.gix_odb_looks.specs.True.{Suits}
+
+-- one more than later ones, where something is asked
+abbrev pub one_more : Option PartAsk → (later : ℕ) → ℕ
+one_more None later = 0
+one_more (Some ask) later = later + 1
+
+-- Here `ask_of machine` is what a machine asks next, if anything, and `fed machine answer` is the machine behind an answer.
+module _ {Machine : Type 0} (ask_of : Machine → Option PartAsk) (fed : Machine → Answer → Machine) where
+  -- the machine behind exchanges
+  abbrev pub behind : Machine → List Exchange → Machine
+  behind machine [] = machine
+  behind machine (exchange ∷ exchanges) = behind (fed machine exchange.answer) exchanges
+
+  -- each exchange answers what the machine asked then
+  abbrev pub AreAsked : Machine → List Exchange → Type 0
+  AreAsked machine [] = Unit {0}
+  AreAsked machine (exchange ∷ exchanges) = (ask_of machine ≡ Some exchange.ask) × AreAsked (fed machine exchange.answer) exchanges
+
+  -- how many of the exchanges it asked for: those that come before it asks nothing
+  abbrev pub turns_of : Machine → List Exchange → ℕ
+  turns_of machine [] = 0
+  turns_of machine (exchange ∷ exchanges) = one_more (ask_of machine) (turns_of (fed machine exchange.answer) exchanges)
+
+-- an answer is one that its call of the disk has, and of the kind of its ask
+abbrev pub IsSuited : PartAsk → Answer → Type 0
+IsSuited (asks.Disk ask) (told.Disk answer) = Suits ask answer
+IsSuited ask answer = IsAnswerTo ask answer
+
+abbrev pub AreSuited : List Exchange → Type 0
+AreSuited exchanges = (exchange : Exchange) → Contains exchanges exchange → IsSuited exchange.ask exchange.answer

@@ -1,0 +1,3 @@
+pub mod RefreshOrder
+pub mod Asked
+pub mod Refreshed

@@ -1,0 +1,143 @@
+-- A write where it begins: behind what stands in front of it, or at its own turns where its handle has seen a list that was read.
+use Rattle.std.proofs.Common.{◌≡◌, ℕ, ◌+◌, ◌≤◌, Bool, true, false, List, [], ◌∷◌, ◌++◌, length, None, Option, refl, sym, ◌∙◌, ap, subst, arith}
+use Rattle.std.specs.Prelude.{if◌then◌else◌}
+use Rattle.std.proofs.lemmas.List.{length_push}
+use Rattle.odb_disk.specs.MemDisk.{Volume}
+use Rattle.gix_hash.specs.declared.object_id.ObjectId.{ObjectId}
+use Rattle.gix_object.specs.declared.kind.Kind.{Kind}
+use Rattle.gix_odb_loose.specs.declared.call.LooseCall.{LooseCall}
+use Rattle.gix_odb_loose.specs.declared.write_order.WriteStage.TheVariants.{Making}
+use Rattle.gix_odb_calls.specs.declared.call.Call.TheVariants as call_kinds
+use Rattle.gix_odb_looks.specs.LookUpOrder.{Setting}
+use Rattle.gix_odb_refresh.specs.RefreshOrder.{started}
+use Rattle.gix_odb_refresh.specs.Refreshed.{AreAsked, behind, turns_of}
+use Rattle.gix_odb_refresh.specs.declared.refresh.Refresh.{Refresh}
+use Rattle.gix_odb_refresh.specs.declared.refresh.Refresh.TheVariants as fronts
+use Rattle.gix_odb_refresh.proofs.RefreshLaws.{a_read_snapshot_is_ready}
+use Rattle.gix_odb.specs.CallOrder as calls
+use Rattle.gix_odb.specs.CallOrder.{fronted}
+use Rattle.gix_odb.specs.Contents.{folder_list}
+use Rattle.gix_odb_world.specs.declared.work.Work.TheVariants.{Calling}
+use Rattle.gix_odb_world.specs.AtWork.{Modes, setting_in, view_in_modes}
+use Rattle.gix_odb_world.specs.Bound.{turns_of_lap}
+use Rattle.gix_odb_world.specs.Event.{Event}
+use Rattle.gix_odb_world.specs.Running.Write.{InFront, IsAtOwnWrite, IsInFront, KnowsOfWrite, Own, Unlisted, WriteState, work_of}
+use Rattle.gix_odb_world.specs.Status.{MakeCall, OpenStore, Running, Store, Task, begun_with, running_from}
+use Rattle.gix_odb_world.specs.Told.{refresh_begun, refresh_now, told_since, turns_in_front}
+use Rattle.gix_odb_world.specs.Writing.{ChangedNothing, ToWrite, to_write}
+use Rattle.gix_odb_world.proofs.AnsweredLemmas.{answered_at_first, none_told}
+use Rattle.gix_odb_world.proofs.MachineLaws.{BeginsAs, IsStarted}
+use Rattle.gix_odb_world.proofs.ToldLemmas.{snapshot_seen}
+use Rattle.gix_odb_world.proofs.WriteKept.{each_turn_none, stands_at_first}
+
+module _ (first : Volume) (events : List Event) (e : Event) (handle : ℕ) (store : Store) (modes : Modes) where
+  abbrev whole : List Event
+  whole = events ++ e ∷ []
+
+  abbrev number : ℕ
+  number = length events + 1
+
+  abbrev setting : Setting
+  setting = setting_in store
+
+  module _ (kind : Kind) (size : ℕ) (bytes : List ℕ) (known : Option ObjectId)
+      (start : IsStarted first whole handle store modes (call_kinds.Write kind size bytes known)) where
+    abbrev w : ToWrite
+    w = to_write store.parts.objects store.hash kind size bytes known
+
+    abbrev write : LooseCall
+    write = calls.writing store.parts.objects store.hash kind size bytes known
+
+    abbrev running : Running
+    running = running_from number (MakeCall (call_kinds.Write kind size bytes known)) store modes
+
+    none : told_since whole handle number ≡ []
+    none = none_told first events e handle
+
+    unchanged : ChangedNothing whole handle number
+    unchanged =
+        let longer = length_push events e in
+        each_turn_none whole handle number (λ x. x.entry.change ≡ None) (omega (arith, longer))
+
+    since : number ≤ length whole
+    since = let longer = length_push events e in omega (arith, longer)
+
+    -- what stands in front of it begins from the snapshot that its handle has
+    begins : refresh_begun whole handle modes number ≡ started (view_in_modes modes)
+    begins = ap started (sym (snapshot_seen events e handle modes start.seated))
+
+    now_is : refresh_now whole handle store modes number ≡ started (view_in_modes modes)
+    now_is = ap (behind setting (refresh_begun whole handle modes number)) none ∙ begins
+
+    no_turns : turns_in_front whole handle store modes number ≡ 0
+    no_turns = ap (turns_of setting (refresh_begun whole handle modes number)) none
+
+    -- the list was not read
+    begins_in_front : started (view_in_modes modes) ≡ fronts.Looking → IsInFront first whole handle running fronts.Looking write
+    begins_in_front unread = record {
+      write = w;
+      of = record { into = refl; hashed = refl; fits = start.sized; task = refl };
+      is = refl;
+      since = since;
+      distinct = start.distinct;
+      refresh_is = sym (now_is ∙ unread);
+      more = (_, refl);
+      asked = subst (AreAsked setting (refresh_begun whole handle modes number)) (sym none) tt;
+      turns = ap length (sym none);
+      well = answered_at_first first events e handle store;
+      unchanged = unchanged;
+    }
+
+    -- or it was
+    begins_itself : started (view_in_modes modes) ≡ fronts.Ready → IsAtOwnWrite first whole handle running write
+    begins_itself ready = record {
+      writing = record {
+        write = w;
+        into = refl;
+        hashed = refl;
+        fits = start.sized;
+        stage = Making 0;
+        is = refl;
+        own = 0;
+        stands = stands_at_first first whole handle number w unchanged;
+      };
+      task = refl;
+      since = since;
+      ready = now_is ∙ ready;
+      turns = sym (ap (λ n. n + 0) no_turns);
+      short = λ entries most. subst (λ n. n ≤ turns_of_lap modes.slots (length (folder_list store.parts)) entries) (sym no_turns) (omega arith);
+    }
+
+    by_read : (read : Bool) → (view_in_modes modes).read ≡ read → (state : WriteState)
+        → Calling (fronted (if read then fronts.Ready else fronts.Looking) write) ≡ work_of state → KnowsOfWrite first whole handle running state
+    by_read true is (Own call) at =
+        let same : write ≡ call = cc at in
+        subst (IsAtOwnWrite first whole handle running) same (begins_itself (a_read_snapshot_is_ready (view_in_modes modes) is))
+    by_read true is (InFront refresh call) at = absurd (cc at)
+    by_read true is (Unlisted error) at = absurd (cc at)
+    by_read false is (InFront refresh call) at =
+        let same : write ≡ call = cc at in
+        let looks : fronts.Looking ≡ refresh = cc at in
+        subst (λ (r : Refresh). IsInFront first whole handle running r call) looks
+        (subst (IsInFront first whole handle running fronts.Looking) same
+        (begins_in_front (ap (λ (b : Bool). if b then fronts.Ready else fronts.Looking) is)))
+    by_read false is (Own call) at = absurd (cc at)
+    by_read false is (Unlisted error) at = absurd (cc at)
+
+  -- a state at which a task begins is that of its write
+  pub write_starts : (task : Task) (state : WriteState) → BeginsAs first whole handle store modes task → begun_with store modes task ≡ work_of state
+      → KnowsOfWrite first whole handle (running_from number task store modes) state
+  write_starts (MakeCall (call_kinds.Write kind size bytes known)) state start at =
+      by_read kind size bytes known start (view_in_modes modes).read refl state at
+  write_starts OpenStore (InFront refresh call) start at = absurd (cc at)
+  write_starts OpenStore (Own call) start at = absurd (cc at)
+  write_starts OpenStore (Unlisted error) start at = absurd (cc at)
+  write_starts (MakeCall (call_kinds.Find id)) (InFront refresh call) start at = absurd (cc at)
+  write_starts (MakeCall (call_kinds.Find id)) (Own call) start at = absurd (cc at)
+  write_starts (MakeCall (call_kinds.Find id)) (Unlisted error) start at = absurd (cc at)
+  write_starts (MakeCall (call_kinds.Header id)) (InFront refresh call) start at = absurd (cc at)
+  write_starts (MakeCall (call_kinds.Header id)) (Own call) start at = absurd (cc at)
+  write_starts (MakeCall (call_kinds.Header id)) (Unlisted error) start at = absurd (cc at)
+  write_starts (MakeCall (call_kinds.Test id)) (InFront refresh call) start at = absurd (cc at)
+  write_starts (MakeCall (call_kinds.Test id)) (Own call) start at = absurd (cc at)
+  write_starts (MakeCall (call_kinds.Test id)) (Unlisted error) start at = absurd (cc at)

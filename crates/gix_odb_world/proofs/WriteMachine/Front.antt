@@ -1,0 +1,256 @@
+-- A turn of what stands in front of a write: what it asks for, and what it comes to.
+use Rattle.std.proofs.Common.{◌≡◌, inl, ℕ, ◌+◌, ◌*◌, ◌<◌, ◌≤◌, List, [], ◌∷◌, ◌++◌, length, Some, None, Err, refl, sym, ◌∙◌, ap, subst, arith}
+use Rattle.std.proofs.lemmas.List.{length_push}
+use Rattle.odb_disk.specs.MemDisk.{Volume}
+use Rattle.odb_disk.specs.Ask.{answer_now}
+use Rattle.odb_disk.specs.declared.ask.DiskAsk.{DiskAsk}
+use Rattle.odb_disk.specs.declared.ask.DiskAsk.TheVariants as asks
+use Rattle.odb_tree.specs.Tree.{tree_of}
+use Rattle.gix_odb_core.specs.Replay.{CanHappen}
+use Rattle.gix_odb_core.specs.declared.shape.Shape.{Shape}
+use Rattle.gix_odb_core.specs.declared.view.View.{View}
+use Rattle.gix_odb_loose.specs.declared.call.LooseCall.{LooseCall}
+use Rattle.gix_odb_loose.specs.declared.write_order.WriteStage.TheVariants.{Making}
+use Rattle.gix_odb_packs.specs.declared.answer.Answer.TheVariants as told
+use Rattle.gix_odb_packs.specs.declared.answer.PartAsk.{PartAsk}
+use Rattle.gix_odb_packs.specs.declared.answer.PartAsk.TheVariants as parts
+use Rattle.gix_odb_calls.specs.declared.load_index.Error as load
+use Rattle.gix_odb_looks.specs.Exchange.{Exchange}
+use Rattle.gix_odb_looks.specs.LookUpOrder.{Setting}
+use Rattle.gix_odb_looks.proofs.HandedLaws.{IsOwnStream}
+use Rattle.gix_odb_refresh.specs.RefreshOrder as refreshes
+use Rattle.gix_odb_refresh.specs.Refreshed.{AreAsked}
+use Rattle.gix_odb_refresh.specs.declared.refresh.Refresh.{Refresh}
+use Rattle.gix_odb_refresh.specs.declared.refresh.Refresh.TheVariants as fronts
+use Rattle.gix_odb_refresh.proofs.AskedLemmas.{asked-push}
+use Rattle.gix_odb_refresh.proofs.RefreshLaws.{a_refresh_takes_at_most_a_lap, only_unread_stores_are_refused, refreshes_change_no_file, refused_refreshes_have_causes}
+use Rattle.gix_odb_refresh.proofs.RefreshLaws.{streams_of_refreshes_are_their_own, what_a_refresh_hands_on_can_happen}
+use Rattle.gix_odb.specs.CallOrder.{result_of_write, unlisted}
+use Rattle.gix_odb.specs.Contents.{folder_list}
+use Rattle.gix_odb_world.specs.AtWork.{MakeCall, Running, Store, setting_in}
+use Rattle.gix_odb_world.specs.Bound.{HasAtMost, bound_of_task, laps_without_change, turns_beside_pieces, turns_of_lap}
+use Rattle.gix_odb_world.specs.Cores.{answer_behind, cores_after, history_at}
+use Rattle.gix_odb_world.specs.Event.{Asked, CoreAnswer, CoreEvent, Event, OfCore, OfDisk, ToCore, ToDisk}
+use Rattle.gix_odb_world.specs.Promise.{Promise}
+use Rattle.gix_odb_world.specs.Run.{IsTurnOf, change_by, disk_after, tree_at}
+use Rattle.gix_odb_world.specs.Running.Answered.{IsAnsweredWell}
+use Rattle.gix_odb_world.specs.Running.Write.{InFront, IsInFront, Own, front_result, own_result, write_at, writing}
+use Rattle.gix_odb_world.specs.Status.{modes_after}
+use Rattle.gix_odb_world.specs.Told.{refresh_begun, refresh_now, told_since, turns_in_front, view_then}
+use Rattle.gix_odb_world.specs.Writing.{ChangedNothing, call_to_write}
+use Rattle.gix_odb_loose.specs.WriteJobs.{pieces_of}
+use Rattle.gix_odb_world.proofs.AnsweredLemmas.{answered_on_core, answered_on_disk, told_call, told_event}
+use Rattle.gix_odb_world.proofs.FrontLemmas.{begun_same, front_asked, now_more}
+use Rattle.gix_odb_world.proofs.MachineLaws.{HasTurn, IsRunning, IsTurnAsking, MachineComes, quiet_turn}
+use Rattle.gix_odb_world.proofs.WriteAsk.Quiet.{change_by-quiet}
+use Rattle.gix_odb_world.proofs.WriteGoes.{more_laps}
+use Rattle.gix_odb_world.proofs.WriteKept.{stands_at_first, unchanged_push}
+
+-- a lap has room for it, and the bound has more than a lap
+within_bound : (turns lap laps pieces : ℕ) → turns ≤ lap → lap ≤ laps → turns < laps + (turns_beside_pieces + pieces)
+within_bound turns lap laps pieces few wide = omega arith
+
+module _ (first : Volume) (events : List Event) (handle : ℕ) (running : Running) (refresh : Refresh) (call : LooseCall)
+    (knows : IsInFront first events handle running refresh call) where
+  abbrev store : Store
+  store = running.store
+
+  abbrev setting : Setting
+  setting = setting_in store
+
+  abbrev snapshot : View
+  snapshot = view_then events handle running.modes.core running.begun
+
+  abbrev exchanges : List Exchange
+  exchanges = told_since events handle running.begun
+
+  abbrev begun_at : Refresh
+  begun_at = refresh_begun events handle running.modes running.begun
+
+  -- ---- what it asks for
+
+  module _ (ask : PartAsk) (is : refreshes.ask_of refresh ≡ Some ask) where
+    asks_now : refreshes.ask_of (refresh_now events handle store running.modes running.begun) ≡ Some ask
+    asks_now = ap refreshes.ask_of (sym knows.refresh_is) ∙ is
+
+  pub front_quiet : (ask : DiskAsk) → refreshes.ask_of refresh ≡ Some (parts.Disk ask) → change_by (disk_after first events) ask ≡ None
+  front_quiet ask is =
+      change_by-quiet (disk_after first events) ask
+      (refreshes_change_no_file setting snapshot exchanges knows.asked ask (asks_now (parts.Disk ask) is) (tree_of (disk_after first events).state))
+
+  pub front_takes : (ask : DiskAsk) → refreshes.ask_of refresh ≡ Some (parts.Disk ask) → HasTurn first events handle running running.task ask
+  front_takes ask is =
+      subst (λ task. HasTurn first events handle running task ask) (sym knows.of.task)
+      (quiet_turn first events handle running (MakeCall (call_to_write knows.write)) ask (inl (asks_now (parts.Disk ask) is)) (front_quiet ask is))
+
+  pub front_happens : (event : CoreEvent) → refreshes.ask_of refresh ≡ Some (parts.Core event) → (shape : Shape) (seat : ℕ) → CanHappen shape seat event
+  front_happens event is shape seat =
+      what_a_refresh_hands_on_can_happen setting snapshot exchanges knows.asked knows.distinct event (asks_now (parts.Core event) is) shape seat
+
+  -- a stream that it reads on is its own
+  own_stream : (ask : DiskAsk) → refreshes.ask_of refresh ≡ Some (parts.Disk ask) → (dir : ℕ) → ask ≡ asks.NextEntry dir → IsOwnStream exchanges dir
+  own_stream ask is dir same =
+      streams_of_refreshes_are_their_own setting snapshot exchanges knows.asked dir
+      (inl (asks_now (parts.Disk ask) is ∙ ap (λ a. Some (parts.Disk a)) same))
+
+  -- ---- what its turn comes to
+
+  module _ (e : Event) where
+    abbrev whole : List Event
+    whole = events ++ e ∷ []
+
+    abbrev Comes : Asked → Refresh → Type 0
+    Comes asked next = MachineComes first events e handle running writing asked (front_result call next)
+
+    -- a turn in which it was told something, and which changed nothing
+    module _ (exchange : Exchange) (asked_it : refreshes.ask_of refresh ≡ Some exchange.ask)
+        (told_is : told_since whole handle running.begun ≡ exchanges ++ exchange ∷ [])
+        (well : IsAnsweredWell first whole handle store running.begun) (nothing : IsTurnOf handle e.step → e.entry.change ≡ None) where
+      abbrev next : Refresh
+      next = refreshes.fed store.parts.objects store.parts.folders refresh exchange.answer
+
+      abbrev begun_now : Refresh
+      begun_now = refresh_begun whole handle running.modes running.begun
+
+      abbrev all : List Exchange
+      all = told_since whole handle running.begun
+
+      begins : begun_now ≡ begun_at
+      begins = begun_same events e handle store running.modes running.begun knows.since
+
+      stands : next ≡ refresh_now whole handle store running.modes running.begun
+      stands =
+          ap (λ r. refreshes.fed store.parts.objects store.parts.folders r exchange.answer) knows.refresh_is
+          ∙ sym (now_more events e handle store running.modes running.begun knows.since exchange told_is)
+
+      all_asked : AreAsked setting begun_now all
+      all_asked =
+          subst (λ r. AreAsked setting r all) (sym begins)
+          (subst (AreAsked setting begun_at) (sym told_is)
+          (asked-push refreshes.ask_of (refreshes.fed store.parts.objects store.parts.folders) begun_at exchanges exchange knows.asked (asks_now exchange.ask asked_it)))
+
+      longer : length all ≡ running.turns + 1
+      longer = let had = knows.turns in let more = length_push exchanges exchange in ap length told_is ∙ omega (arith, had, more)
+
+      unchanged : ChangedNothing whole handle running.begun
+      unchanged = unchanged_push events e handle running.begun knows.unchanged nothing
+
+      since : running.begun ≤ length whole
+      since = let before = knows.since in let more = length_push events e in omega (arith, before, more)
+
+      abbrev lap : (entries : ℕ) → ℕ
+      lap entries = turns_of_lap running.modes.slots (length (folder_list store.parts)) entries
+
+      -- it takes no more turns than a lap
+      short : (entries : ℕ) → HasAtMost (tree_at first whole) store.parts running.begun (length whole) entries → length all ≤ lap entries
+      short entries most =
+          a_refresh_takes_at_most_a_lap setting (view_then whole handle running.modes.core running.begun) all all_asked running.modes.slots entries
+          (well.within entries most) well.answered
+
+      in_time : (entries : ℕ) → HasAtMost (tree_at first whole) store.parts running.begun (length events + 1) entries
+          → running.turns + 1 < bound_of_task store running.modes running.task entries
+      in_time entries most =
+          let few = short entries (subst (λ n. HasAtMost (tree_at first whole) store.parts running.begun n entries) (sym (length_push events e)) most) in
+          subst (λ task. running.turns + 1 < bound_of_task store running.modes task entries) (sym knows.of.task)
+          (subst (λ n. n < (store.max_changes + laps_without_change) * lap entries + (turns_beside_pieces + pieces_of (length knows.write.bytes))) longer
+          (within_bound (length all) (lap entries) ((store.max_changes + laps_without_change) * lap entries) (pieces_of (length knows.write.bytes)) few
+          (more_laps store.max_changes (lap entries))))
+
+      -- with the modes that the turn left, which have the same core
+      module _ (asked : Asked) (core : (modes_after asked running.modes).core ≡ running.modes.core) (slots : (modes_after asked running.modes).slots ≡ running.modes.slots) where
+        -- it goes on
+        goes_on : (own : Refresh) → next ≡ own → ((ask : PartAsk) × (refreshes.ask_of own ≡ Some ask))
+            → MachineComes first events e handle running writing asked (Err (InFront own call))
+        goes_on own same more = (
+          record {
+            write = knows.write;
+            of = record { into = knows.of.into; hashed = knows.of.hashed; fits = knows.of.fits; task = knows.of.task };
+            is = knows.is;
+            since = since;
+            distinct = knows.distinct;
+            refresh_is =
+                subst (λ n. own ≡ refresh_now whole handle store (record running.modes { core = n }) running.begun) (sym core) (sym same ∙ stands);
+            more = more;
+            asked = subst (λ n. AreAsked setting (refresh_begun whole handle (record running.modes { core = n }) running.begun) all) (sym core) all_asked;
+            turns = sym longer;
+            well = record { suited = well.suited; answered = well.answered; within = well.within };
+            unchanged = unchanged;
+          },
+          in_time,
+        )
+
+        -- the write begins
+        ready : next ≡ fronts.Ready → MachineComes first events e handle running writing asked (Err (Own (write_at knows.write (Making 0))))
+        ready same =
+            let front : turns_in_front whole handle store running.modes running.begun ≡ length all = front_asked whole handle store running.modes running.begun all_asked in
+            let long = longer in
+            let counted : running.turns + 1 ≡ turns_in_front whole handle store running.modes running.begun + 0 = omega (arith, front, long) in (
+              record {
+                writing = record {
+                  write = knows.write;
+                  into = knows.of.into;
+                  hashed = knows.of.hashed;
+                  fits = knows.of.fits;
+                  stage = Making 0;
+                  is = refl;
+                  own = 0;
+                  stands = stands_at_first first whole handle running.begun knows.write unchanged;
+                };
+                task = knows.of.task;
+                since = since;
+                ready = subst (λ n. refresh_now whole handle store (record running.modes { core = n }) running.begun ≡ fronts.Ready) (sym core) (sym stands ∙ same);
+                turns = subst (λ n. running.turns + 1 ≡ turns_in_front whole handle store (record running.modes { core = n }) running.begun + 0) (sym core) counted;
+                short = λ entries most.
+                    subst (λ n. turns_in_front whole handle store (record running.modes { core = n }) running.begun
+                    ≤ turns_of_lap (modes_after asked running.modes).slots (length (folder_list store.parts)) entries) (sym core)
+                    (subst (λ n. turns_in_front whole handle store running.modes running.begun ≤ turns_of_lap n (length (folder_list store.parts)) entries) (sym slots)
+                    (subst (λ n. n ≤ lap entries) (sym front) (short entries most)));
+              },
+              in_time,
+            )
+
+        -- the store can't be listed
+        ends : (error : load.Error) → next ≡ fronts.Refused error
+            → Promise first whole handle store running.modes running.begun running.task (unlisted error)
+        ends error same =
+            let seen = view_then whole handle running.modes.core running.begun in
+            subst (λ task. Promise first whole handle store running.modes running.begun task (unlisted error)) (sym knows.of.task)
+            (record {
+              unchanged = unchanged;
+              unread = only_unread_stores_are_refused setting seen all all_asked error (sym stands ∙ same);
+              cause = refused_refreshes_have_causes setting seen all all_asked well.suited error (sym stands ∙ same);
+            })
+
+        goes : (own : Refresh) → next ≡ own → Comes asked own
+        goes fronts.Looking same = goes_on fronts.Looking same (_, refl)
+        goes (fronts.Listing lister base) same = goes_on (fronts.Listing lister base) same (_, refl)
+        goes (fronts.Publishing listing) same = goes_on (fronts.Publishing listing) same (_, refl)
+        goes fronts.Ready same =
+            subst (λ (c : LooseCall). MachineComes first events e handle running writing asked (own_result (result_of_write c))) (sym knows.is) (ready same)
+        goes (fronts.Refused error) same = ends error same
+
+    -- ---- a call of the disk, and an event of the core of its store
+
+    pub front_comes_on_disk : IsRunning first events handle running → (ask : DiskAsk) → refreshes.ask_of refresh ≡ Some (parts.Disk ask)
+        → IsTurnAsking first events e handle running (Some (ToDisk ask))
+        → Comes (OfDisk ask (answer_now (disk_after first events) ask))
+        (refreshes.fed store.parts.objects store.parts.folders refresh (told.Disk (answer_now (disk_after first events) ask)))
+    front_comes_on_disk ran ask is turn =
+        let answer = answer_now (disk_after first events) ask in
+        let exchange : Exchange = record { ask = parts.Disk ask; answer = told.Disk answer } in
+        goes exchange is (told_call first events e handle running knows.since knows.well ran ask (own_stream ask is) turn)
+        (answered_on_disk first events e handle running knows.since knows.well ran ask (own_stream ask is) turn)
+        (λ turn_it. turn.change ∙ front_quiet ask is) (OfDisk ask answer) refl refl
+        (refreshes.fed store.parts.objects store.parts.folders refresh (told.Disk answer)) refl
+
+    pub front_comes_on_core : (event : CoreEvent) → refreshes.ask_of refresh ≡ Some (parts.Core event)
+        → IsTurnAsking first events e handle running (Some (ToCore event))
+        → Comes (OfCore running.modes.core handle event (answer_behind (history_at (cores_after events) running.modes.core) handle event))
+        (refreshes.fed store.parts.objects store.parts.folders refresh (told.Core (answer_behind (history_at (cores_after events) running.modes.core) handle event)))
+    front_comes_on_core event is turn =
+        let answer : CoreAnswer = answer_behind (history_at (cores_after events) running.modes.core) handle event in
+        let exchange : Exchange = record { ask = parts.Core event; answer = told.Core answer } in
+        goes exchange is (told_event first events e handle running knows.since knows.well event turn)
+        (answered_on_core first events e handle running knows.since knows.well event turn)
+        (λ turn_it. turn.change) (OfCore running.modes.core handle event answer) refl refl
+        (refreshes.fed store.parts.objects store.parts.folders refresh (told.Core answer)) refl

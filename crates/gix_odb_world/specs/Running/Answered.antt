@@ -1,0 +1,17 @@
+-- What is true of all that a handle was told since it began to list folders of packs. No public clause needs more of it than its name.
+use Rattle.std.specs.Prelude.{ℕ, List, length, None}
+use Rattle.odb_disk.specs.MemDisk.{Volume}
+use Rattle.gix_odb_looks.specs.Exchange.{AreAnswered}
+use Rattle.gix_odb_looks.specs.Laps.{AreWithin}
+use Rattle.gix_odb_refresh.specs.Asked.{AreSuited}
+use Rattle.gix_odb_world.specs.AtWork.{Store}
+use Rattle.gix_odb_world.specs.Bound.{HasAtMost}
+use Rattle.gix_odb_world.specs.Event.{Event}
+use Rattle.gix_odb_world.specs.Run.{tree_at}
+use Rattle.gix_odb_world.specs.Told.{told_since}
+
+-- Each answer is one that its ask has, and no stream gave more entries than the folders of the store had.
+pub record IsAnsweredWell (first : Volume) (events : List Event) (handle : ℕ) (store : Store) (begun : ℕ) : Type 0 where
+  pub suited : AreSuited (told_since events handle begun)
+  pub answered : AreAnswered (told_since events handle begun)
+  pub within : (entries : ℕ) → HasAtMost (tree_at first events) store.parts begun (length events) entries → AreWithin entries None (told_since events handle begun)
