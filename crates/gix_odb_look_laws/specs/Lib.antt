@@ -1,0 +1,5 @@
+pub mod JustRead
+pub mod AtHand
+pub mod ListedFiles
+pub mod ListerCalls
+pub mod Moved
