@@ -1,9 +1,9 @@
 -- The last of a list of exchanges: what comes behind it, and what was known before it.
-use Rattle.std.proofs.Common.{◌≡◌, ◌⊎◌, inl, inr, ℕ, List, [], ◌∷◌, ◌++◌, Contains, Some, refl, sym, ap, ◌∙◌, subst}
+use Rattle.std.proofs.Common.{◌≡◌, ◌⊎◌, inl, inr, ℕ, List, [], ◌∷◌, ◌++◌, Contains, Some, refl, sym, ap}
 use Rattle.std.proofs.lemmas.List.Elements.{Contains-append_left, Contains-push}
 use Rattle.gix_hash.specs.declared.kind.Kind.{Kind}
 use Rattle.odb_base.specs.Path.{Path}
-use Rattle.gix_odb_looks.specs.Exchange.{AreAsked, Exchange, IsLast, behind}
+use Rattle.gix_odb_looks.specs.Exchange.{AreAsked, Exchange, behind}
 use Rattle.gix_odb_looks.specs.LookUpOrder.{Setting, ask_of, fed}
 use Rattle.gix_odb_looks.specs.True.{AreTrue, IsTrue}
 use Rattle.gix_odb_looks.specs.declared.look_up.LookUp.{LookUp}

@@ -3,6 +3,7 @@ mod TrierAtHand
 mod LastExchange
 mod PathsApart
 pub mod ReadLaws
+pub mod NextLaws
 pub mod OnceLaws
 pub mod ListingLaws
 pub mod MovedLaws

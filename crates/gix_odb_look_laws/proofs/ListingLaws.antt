@@ -2,7 +2,7 @@
 mod TreeNames
 pub mod Seen
 pub mod OfTree
-use Rattle.std.proofs.Common.{◌≡◌, ℕ, List, [], ◌∷◌, Contains, Some, refl, sym, ap, ◌∙◌, subst}
+use Rattle.std.proofs.Common.{◌≡◌, List, [], ◌∷◌, Contains, Some, sym, ap, ◌∙◌, subst}
 use Rattle.std.specs.List.{All, IsDistinct}
 use Rattle.std.proofs.lemmas.Option.{same_Some}
 use Rattle.odb_base.specs.Path.{Path}
@@ -26,7 +26,6 @@ use Rattle.gix_odb_packs.specs.declared.answer.PartAsk.TheVariants as asks
 use Rattle.gix_odb_packs.specs.declared.lister.ListStep.{ListStep}
 use Rattle.gix_odb_packs.specs.declared.lister.ListStep.TheVariants as steps
 use Rattle.gix_odb_packs.specs.declared.lister.Lister.{Lister}
-use Rattle.gix_odb_packs.proofs.ReachLemmas.{none_in}
 use Rattle.gix_odb_calls.specs.declared.query.Query.{Query}
 use Rattle.gix_odb_looks.specs.Exchange.{AreAsked, Exchange, WasTold, behind}
 use Rattle.gix_odb_looks.specs.LookUpOrder.{Setting, ask_at, ask_of, fed, lister_fed, seen, started}
@@ -35,7 +34,7 @@ use Rattle.gix_odb_looks.specs.declared.look_up.LookStage.{LookStage}
 use Rattle.gix_odb_looks.specs.declared.look_up.LookStage.TheVariants as stages
 use Rattle.gix_odb_looks.specs.declared.look_up.LookUp.{LookUp}
 use Rattle.gix_odb_looks.proofs.FoundLaws.Lists.{all_longest_first, has_first, has_later}
-use Rattle.gix_odb_looks.proofs.HandedLaws.Differ.{Differ, IsDistinct-paths}
+use Rattle.gix_odb_looks.proofs.HandedLaws.Differ.{IsDistinct-paths}
 use Rattle.gix_odb_looks.proofs.HandedLaws.Listing.{StepDiffers, listing_differs, starts_apart}
 use Rattle.gix_odb_looks.proofs.HandedLaws.Rows.{row_paths}
 use Rattle.gix_odb_looks.proofs.HandedLaws.Stages.{Goes, Stands, Steps, published, stage_stands, start_stands}

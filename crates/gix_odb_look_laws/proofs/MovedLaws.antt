@@ -1,31 +1,25 @@
 -- Laws of look-ups for an object that moves from a loose file into a pack: it isn't missed, since the loose folders are asked before the first
 -- listing.
-use Rattle.std.proofs.Common.{◌≡◌, ◌⊎◌, inl, inr, ℕ, ◌+◌, Bool, true, false, cond, List, [], ◌∷◌, ◌++◌, slice_get, drop, Contains, Option, Some, None, Ok, Err}
+use Rattle.std.proofs.Common.{◌≡◌, ◌⊎◌, inl, inr, ◌+◌, Bool, true, false, cond, List, [], ◌∷◌, ◌++◌, slice_get, drop, Contains, Option, Some, None, Ok, Err}
 use Rattle.std.proofs.Common.{refl, sym, ap, ◌∙◌, subst, append_assoc, append-nil}
-use Rattle.std.proofs.lemmas.Option.{same_Some}
 use Rattle.odb_base.specs.Path.{Path}
 use Rattle.odb_disk.specs.declared.ask.DiskAnswer.{DiskAnswer}
-use Rattle.odb_disk.specs.declared.ask.DiskAsk.{DiskAsk}
 use Rattle.gix_hash.specs.ObjectId.{kind_of}
 use Rattle.gix_hash.specs.declared.kind.Kind.{Kind}
 use Rattle.gix_hash.specs.declared.object_id.ObjectId.{ObjectId}
 use Rattle.gix_odb_loose.specs.LooseOrder.{disk_ask_of, reply_of}
 use Rattle.gix_odb_loose.specs.declared.call.LooseCall.{LooseCall}
 use Rattle.gix_odb_loose.specs.declared.call.LooseReply.{LooseReply}
-use Rattle.gix_odb_core.specs.Replay.{view_in}
-use Rattle.gix_odb_core.specs.declared.event.Effect.{Effect}
-use Rattle.gix_odb_core.specs.declared.event.Event.TheVariants as events
 use Rattle.gix_odb_core.specs.declared.view.View.{View}
 use Rattle.gix_odb_slots.specs.declared.loaded.Todo.{Todo}
 use Rattle.gix_odb_packs.specs.TryOrder.{seek}
 use Rattle.gix_odb_packs.specs.declared.answer.Answer.{Answer}
 use Rattle.gix_odb_packs.specs.declared.answer.Answer.TheVariants as told
 use Rattle.gix_odb_packs.specs.declared.answer.PartAsk.{PartAsk}
-use Rattle.gix_odb_packs.specs.declared.answer.PartAsk.TheVariants as asks
 use Rattle.gix_odb_packs.specs.declared.search.Notes.{Notes}
 use Rattle.gix_odb_packs.specs.declared.trier.Tried.{Tried}
 use Rattle.gix_odb_packs.specs.declared.trier.Tried.TheVariants as tried
-use Rattle.gix_odb_packs.proofs.ReachLemmas.{first_or_later, none_in}
+use Rattle.gix_odb_packs.proofs.ReachLemmas.{first_or_later}
 use Rattle.gix_odb_calls.specs.Verdict.{asking, verdict_on}
 use Rattle.gix_odb_calls.specs.declared.call.CallError.TheVariants as call_errors
 use Rattle.gix_odb_calls.specs.declared.call.Reply.{Reply}

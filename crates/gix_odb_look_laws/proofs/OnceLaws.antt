@@ -1,16 +1,15 @@
 -- Laws of look-ups that have all at hand as they start: they are done at once.
-use Rattle.std.proofs.Common.{◌≡◌, ◌⊎◌, inl, inr, ℕ, Bool, true, cond, List, [], ◌∷◌, slice_get, Contains, Option, Some, None, Result, Ok, Err}
-use Rattle.std.proofs.Common.{refl, sym, ap, ◌∙◌, subst}
+use Rattle.std.proofs.Common.{◌≡◌, ◌⊎◌, inl, inr, Bool, true, cond, List, [], ◌∷◌, slice_get, Contains, Option, Some, None, Result, Ok, Err}
+use Rattle.std.proofs.Common.{refl, sym, ◌∙◌, subst}
 use Rattle.std.specs.List.{All}
 use Rattle.std.proofs.lemmas.List.Elements.{All-contains_itself, All-head, All-tail, All-weaker}
 use Rattle.gix_hash.specs.declared.object_id.ObjectId.{ObjectId}
 use Rattle.gix_pack_files.specs.FileBytes.{FileBytes}
-use Rattle.gix_odb_slots.specs.OnDiskFile.{loaded}
 use Rattle.gix_odb_slots.specs.Slots.{PackFile}
 use Rattle.gix_odb_slots.specs.declared.loaded.SnapshotIndex.{SnapshotIndex}
 use Rattle.gix_odb_core.specs.declared.view.View.{View}
 use Rattle.gix_odb_packs.specs.Goal.{given_by}
-use Rattle.gix_odb_packs.specs.Search.{at_spot, first_of, given_or_not, in_file, in_packs, rest_behind, search, tried}
+use Rattle.gix_odb_packs.specs.Search.{at_spot, first_of, given_or_not, in_file, in_packs, rest_behind, search}
 use Rattle.gix_odb_packs.specs.Spot.{spot_in}
 use Rattle.gix_odb_packs.specs.TryOrder.{at_search}
 use Rattle.gix_odb_packs.specs.declared.goal.Error.{Error}
@@ -36,17 +35,17 @@ use Rattle.gix_odb_looks.specs.declared.look_up.Part.{Part}
 use Rattle.gix_odb_looks.specs.declared.look_up.Part.TheVariants as parts
 use Rattle.gix_odb_looks.specs.declared.look_up.Purpose.TheVariants as purposes
 use Rattle.gix_odb_looks.proofs.MissLaws.Replies.{found_is_no_miss, refused_is_no_miss}
-use Rattle.gix_odb_look_laws.specs.AtHand.{HasId, HasPackLoaded, HasPacks, IsAtHand, IsDone, IsPackLoaded, SaysYes}
+use Rattle.gix_odb_look_laws.specs.AtHand.{HasId, HasPacks, IsAtHand, IsDone, IsPackLoaded, SaysYes}
 
 -- ---- a search that ends
 
 -- a search comes to an end without a pack that is still to be read. For presence it finds it
 abbrev Ends : Wanted → Sought → Type 0
 Ends Presence (Finds found.Presence) = Unit {0}
-Ends Presence search = ⊥
+Ends Presence other = ⊥
 Ends wanted (Finds what) = Unit {0}
 Ends wanted (Fails error) = Unit {0}
-Ends wanted search = ⊥
+Ends wanted other = ⊥
 
 -- what a search needs of an index that has the id
 abbrev Needs : Wanted → SnapshotIndex → Spot → Type 0
@@ -81,7 +80,7 @@ module _ (goal : Goal) where
       → P (in_packs goal [] index spot (slice_get index.packs spot.place))
   in_loaded P index spot each has =
       subst (λ (pack : Option PackFile). P (in_packs goal [] index spot pack)) (sym has.named)
-      (subst (λ (file : Option FileBytes). P (in_file goal [] index spot has.pack.path file)) (sym has.loaded)
+      (subst (λ (file : Option FileBytes). P (in_file goal [] index spot has.pack.path file)) (sym has.there)
       (each (given_by goal.wanted goal.limit has.file spot.offset)))
 
   spot_ends : (wanted : Wanted) (index : SnapshotIndex) (spot : Spot) → Needs wanted index spot → Ends wanted (at_spot wanted goal [] index (Some spot))
@@ -134,8 +133,8 @@ module _ (setting : Setting) where
         yes = yes;
       }
 
-  done : (query : Query) (head : LookHead) (part : Part) (goal : Goal) (ahead : Ahead) (search : Sought) → Ends (wanted_by query) search
-      → IsDone query (at head (by_tried setting head part (at_search goal ahead search)))
+  done : (query : Query) (head : LookHead) (part : Part) (goal : Goal) (ahead : Ahead) (sought : Sought) → Ends (wanted_by query) sought
+      → IsDone query (at head (by_tried setting head part (at_search goal ahead sought)))
   done (queries.Find asked) head part goal ahead (Finds what) over = found_one (queries.Find asked) head part what tt
   done (queries.Find asked) head part goal ahead (Fails error) over = refused_one (queries.Find asked) head part error tt
   done (queries.Find asked) head part goal ahead Nowhere over = absurd over

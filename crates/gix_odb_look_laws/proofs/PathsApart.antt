@@ -1,11 +1,12 @@
 -- No index of a folder of packs has the path of a pack, and no loose object has that of either.
-use Rattle.std.proofs.Common.{◌≡◌, ℕ, ◌+◌, ◌-◌, Bool, true, false, cond, List, [], ◌∷◌, ◌++◌, length, take, drop, codes, unwrap_or, Option, Some, None, Contains}
-use Rattle.std.proofs.Common.{refl, sym, ap, ◌∙◌, subst, arith, append_assoc, length-append}
-use Rattle.std.specs.List.{ends_with, pointwise}
+use Rattle.std.proofs.Common.{◌≡◌, ℕ, ◌+◌, ◌-◌, Bool, true, false, cond, List, [], ◌∷◌, ◌++◌, length, take, drop, codes, unwrap_or, Option}
+use Rattle.std.proofs.Common.{refl, sym, ap, ◌∙◌, arith, append_assoc, length-append}
+use lib.Pointwise.{pointwise}
+use Rattle.std.specs.List.{ends_with}
 use Rattle.std.specs.Prelude.{nat_eq}
 use Rattle.std.proofs.Math.Seq.{drop-append-add}
 use Rattle.std.proofs.lemmas.Bool.{and_parts}
-use Rattle.odb_base.specs.Path.{Name, Path, is_name, last_name, parent_of}
+use Rattle.odb_base.specs.Path.{Name, Path, is_name, parent_of}
 use Rattle.odb_base.specs.PathLaws.{parent_of-push}
 use Rattle.gix_hash.specs.ObjectId.{hex_of}
 use Rattle.gix_hash.specs.declared.object_id.ObjectId.{ObjectId}

@@ -1,11 +1,10 @@
 -- Laws of what look-ups read: it is handed to the core in the next turn, and nothing else is.
 mod Stored
-use Rattle.std.proofs.Common.{◌≡◌, ◌⊎◌, inl, inr, ℕ, Bool, true, false, cond, List, [], ◌∷◌, ◌++◌, codes, Option, Some, None, Ok, refl, sym, ap, ◌∙◌, subst}
+use Rattle.std.proofs.Common.{◌≡◌, ◌⊎◌, inl, inr, ℕ, Bool, true, false, cond, List, [], ◌∷◌, ◌++◌, codes, Option, Some, sym, ap, ◌∙◌, subst}
 use Rattle.std.proofs.lemmas.Option.{same_Some}
 use Rattle.odb_base.specs.Path.{Name, Path}
 use Rattle.odb_disk.specs.declared.ask.DiskAnswer.{DiskAnswer}
 use Rattle.odb_disk.specs.declared.ask.DiskAnswer.TheVariants as answers
-use Rattle.odb_disk.specs.declared.ask.DiskAsk.{DiskAsk}
 use Rattle.odb_disk.specs.declared.ask.DiskAsk.TheVariants as disk_asks
 use Rattle.odb_tree.specs.declared.disk_error.DiskError.TheVariants as disk_errors
 use Rattle.gix_hash.specs.ObjectId.{kind_of}
@@ -55,8 +54,8 @@ use Rattle.gix_odb_looks.specs.declared.look_up.Part.{Part}
 use Rattle.gix_odb_looks.proofs.FoundLaws.Behind.{look_known}
 use Rattle.gix_odb_looks.proofs.FoundLaws.Known.{KnowsLook, KnowsLookStage, KnowsLoose, KnowsStage, KnowsTrier}
 use Rattle.gix_odb_looks.proofs.HandedLaws.Stages.{loose_ask_is, same_ask}
-use Rattle.gix_odb_look_laws.specs.JustRead.{GotLast, IsOfLastRead, IsPackPath, MissedLast, ReadLast, read_of}
-use Rattle.gix_odb_look_laws.proofs.LastExchange.{Cut, asked-push, asked-within, behind-push, none_or_cut, true_before, true_last}
+use Rattle.gix_odb_look_laws.specs.JustRead.{GotLast, IsOfLastRead, IsPackPath, ReadLast, read_of}
+use Rattle.gix_odb_look_laws.proofs.LastExchange.{Cut, asked-push, behind-push, none_or_cut, true_before, true_last}
 use Rattle.gix_odb_look_laws.proofs.PathsApart.{index_is_no_pack, index_is_no_pack_of, loose_is_in_no_pack_folder}
 use Rattle.gix_odb_look_laws.proofs.ReadLaws.Stored.{IsRead, IsReadAt, answer_goes, seek_goes}
 use Rattle.gix_odb_look_laws.proofs.TrierAtHand.{Goes, OfStage, stage_goes, start_has}
@@ -76,7 +75,7 @@ loose_reads : (limit : Option ℕ) (query : Query) (id : ObjectId) (folder path 
     → loose_ask (disk_ask_of (asking limit query id folder)) ≡ Some (asks.Disk (disk_asks.Read path)) → loose_path folder id ≡ path
 loose_reads limit (Find asked) id folder path is = cc is
 loose_reads limit (Header asked) id folder path is = cc is
-loose_reads limit (Test asked) id folder path is = cc is
+loose_reads limit (Test asked) id folder path is = absurd (cc is)
 
 module _ (Shown : Path → List ℕ → Type 0) (setting : Setting) (hash : Kind) (query : Query) (id : ObjectId) (same : kind_of id ≡ hash) where
   no_loose : (all : List Exchange) (call : LooseCall) → KnowsLoose Shown setting hash id all query call → (folder : Path) (name : Name)
@@ -188,10 +187,10 @@ module _ (Shown : Path → List ℕ → Type 0) (setting : Setting) (hash : Kind
     trier_backed : (stage : Stage) → IsReadAt Read hash stage → Backed (tries.ask_at stage)
     trier_backed (tries_stages.ReadingIndex place) here = tt
     trier_backed (tries_stages.StoringIndex place own) here = record { time = here.0; last = here.1 }
-    trier_backed (tries_stages.PassingIndex place why) here = record { answer = here.0; last = here.1; why = here.2 }
+    trier_backed (tries_stages.PassingIndex place why) here = record { answer = here.0; last = here.1; reason = here.2 }
     trier_backed (tries_stages.ReadingPack pack) here = tt
     trier_backed (tries_stages.StoringPack pack own) here = record { time = here.0; last = here.1 }
-    trier_backed (tries_stages.PassingPack pack) here = record { answer = answers.Refused disk_errors.Absent; last = here; why = tt }
+    trier_backed (tries_stages.PassingPack pack) here = record { answer = answers.Refused disk_errors.Absent; last = here; reason = tt }
 
     stage_backed : (stage : LookStage) → OfStage (IsRead Read hash) stage → (ask : PartAsk) → ask_at stage ≡ Some ask → Backed ask
     stage_backed (stages.Trying trier part) here ask is = same_ask Backed ask (tries.ask_of trier) (trier_backed trier.stage here) is

@@ -1,5 +1,5 @@
 -- What a look-up has at hand as it starts: the snapshot of its handle, with the object's index and its packs.
-use Rattle.std.specs.Prelude.{◌≡◌, true, slice_get, All, Contains, Option, Some, None, Ok}
+use Rattle.std.specs.Prelude.{◌≡◌, true, slice_get, All, Contains, Some, None, Ok}
 use Rattle.gix_hash.specs.declared.object_id.ObjectId.{ObjectId}
 use Rattle.gix_pack_files.specs.FileBytes.{FileBytes}
 use Rattle.gix_odb_slots.specs.OnDiskFile.{loaded}
@@ -22,7 +22,7 @@ pub record IsPackLoaded (index : SnapshotIndex) (spot : Spot) : Type 0 where
   pub pack : PackFile
   pub named : slice_get index.packs spot.place ≡ Some pack
   pub file : FileBytes
-  pub loaded : loaded pack.state ≡ Some file
+  pub there : loaded pack.state ≡ Some file
 
 -- an index of a snapshot has an id
 pub record HasId (id : ObjectId) (index : SnapshotIndex) : Type 0 where

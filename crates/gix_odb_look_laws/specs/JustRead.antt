@@ -12,7 +12,6 @@ use Rattle.gix_odb_core.specs.declared.event.Event.TheVariants as events
 use Rattle.gix_odb_core.specs.declared.event.PassWhy.{PassWhy}
 use Rattle.gix_odb_core.specs.declared.event.PassWhy.TheVariants as whys
 use Rattle.gix_odb_packs.specs.PackFolder.{pack_folder}
-use Rattle.gix_odb_packs.specs.declared.answer.Answer.{Answer}
 use Rattle.gix_odb_packs.specs.declared.answer.Answer.TheVariants as told
 use Rattle.gix_odb_packs.specs.declared.answer.PartAsk.TheVariants as asks
 use Rattle.gix_odb_looks.specs.Exchange.{Exchange, IsLast}
@@ -57,7 +56,7 @@ IsWhy hash answer why = ⊥
 pub record MissedLast (hash : Kind) (exchanges : List Exchange) (path : Path) (why : PassWhy) : Type 0 where
   pub answer : DiskAnswer
   pub last : ReadLast exchanges path answer
-  pub why : IsWhy hash answer why
+  pub reason : IsWhy hash answer why
 
 -- ---- events
 

@@ -1,4 +1,5 @@
 pub mod JustRead
+pub mod Following
 pub mod AtHand
 pub mod ListedFiles
 pub mod ListerCalls

@@ -1,5 +1,5 @@
 -- The files of packs that a tree lists for a store, and what it means that one unchanging tree answers.
-use Rattle.std.specs.Prelude.{◌≡◌, ℕ, ◌&&◌, ◌++◌, Bool, true, false, List, [], ◌∷◌, Option, Some, None, Result, Ok, Err, if◌then◌else◌}
+use Rattle.std.specs.Prelude.{◌≡◌, ◌&&◌, ◌++◌, Bool, true, false, List, [], ◌∷◌, Option, Some, None, Result, Ok, Err}
 use Rattle.std.specs.List.{filter, filter_map}
 use Rattle.odb_base.specs.Path.{Path}
 use Rattle.odb_tree.specs.Entries.{opened}

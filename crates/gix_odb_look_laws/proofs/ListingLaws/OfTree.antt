@@ -6,7 +6,6 @@ use Rattle.odb_base.specs.Path.{Path}
 use Rattle.odb_disk.specs.Ask.{answer_of, dir_answer, meta_answer}
 use Rattle.odb_disk.specs.declared.ask.DiskAnswer.{DiskAnswer}
 use Rattle.odb_disk.specs.declared.ask.DiskAnswer.TheVariants as answers
-use Rattle.odb_disk.specs.declared.ask.DiskAsk.TheVariants as asks
 use Rattle.odb_tree.specs.Entries.{opened as tree_opened}
 use Rattle.odb_tree.specs.Tree.{Tree}
 use Rattle.odb_tree.specs.Tree.Follow.{Refusal, looked}
@@ -19,18 +18,17 @@ use Rattle.gix_odb_slots.specs.PackPath.{pack_path}
 use Rattle.gix_odb_slots.specs.declared.listing.ListingRow.{ListingRow}
 use Rattle.gix_odb_packs.specs.ListOrder.{ask_at, at_paths, behind_folder, by_index, by_kind, by_pack, by_pack_kind, fed_at, opened, read, row_of, started}
 use Rattle.gix_odb_packs.specs.ListOrder.{with_row}
-use Rattle.gix_odb_packs.specs.PackFolder.{firsts, index_paths, is_file, is_index_entry, is_index_name, pack_folder}
+use Rattle.gix_odb_packs.specs.PackFolder.{index_paths, is_file, is_index_entry, is_index_name, pack_folder}
 use Rattle.gix_odb_packs.specs.declared.lister.ListHead.{ListHead}
 use Rattle.gix_odb_packs.specs.declared.lister.ListStage.{ListStage}
 use Rattle.gix_odb_packs.specs.declared.lister.ListStage.TheVariants as stages
 use Rattle.gix_odb_packs.specs.declared.lister.ListStep.{ListStep}
 use Rattle.gix_odb_packs.specs.declared.lister.ListStep.TheVariants as ends
-use Rattle.gix_odb_packs.specs.declared.lister.Lister.{Lister}
 use Rattle.gix_odb_looks.specs.OpenStream.{GivesNext, IsListed, entry_from}
 use Rattle.gix_odb_looks.proofs.FoundLaws.Lists.{has_first, has_later}
 use Rattle.gix_odb_looks.proofs.MissLaws.Lists.{drop_here, drop_none, none_ahead}
 use Rattle.gix_odb_looks.proofs.StreamLaws.Directories.{entry_is_told_by_its_name, looked_name_is_listed}
-use Rattle.gix_odb_look_laws.specs.ListedFiles.{IsOfTree, IsOrFails, Opens, finds_file, listed_in, row_at, row_found, row_where, rows_in, rows_of, rows_opened}
+use Rattle.gix_odb_look_laws.specs.ListedFiles.{IsOfTree, IsOrFails, Opens, finds_file, listed_in, row_at, row_found, row_where, rows_in, rows_opened}
 use Rattle.gix_odb_look_laws.proofs.ListingLaws.TreeNames.{opened_names_are_new}
 
 module _ (tree : Tree) where

@@ -1,5 +1,5 @@
 -- While folders are listed, each row was seen: its index as a file itself, and its pack's path as one.
-use Rattle.std.proofs.Common.{◌≡◌, ℕ, true, false, List, [], ◌∷◌, ◌++◌, slice_get, Option, Some, None, refl, sym, subst}
+use Rattle.std.proofs.Common.{◌≡◌, ℕ, true, false, List, [], ◌∷◌, ◌++◌, slice_get, Option, Some, None, refl}
 use Rattle.std.specs.List.{All}
 use Rattle.std.proofs.lemmas.List.Elements.{All-nil, All-push}
 use Rattle.odb_base.specs.Path.{Path}
@@ -14,7 +14,7 @@ use Rattle.odb_tree.specs.declared.meta.Kind.TheVariants as kinds
 use Rattle.odb_tree.specs.declared.meta.Meta.{Meta}
 use Rattle.gix_odb_slots.specs.PackPath.{pack_path}
 use Rattle.gix_odb_slots.specs.declared.listing.ListingRow.{ListingRow}
-use Rattle.gix_odb_packs.specs.ListOrder.{ask_at, at_paths, behind_folder, by_index, by_kind, by_pack, by_pack_kind, fed_at, opened, read, row_of, started}
+use Rattle.gix_odb_packs.specs.ListOrder.{ask_at, at_paths, behind_folder, by_index, by_kind, by_pack, by_pack_kind, fed_at, opened, read, started}
 use Rattle.gix_odb_packs.specs.ListOrder.{with_row}
 use Rattle.gix_odb_packs.specs.PackFolder.{index_paths}
 use Rattle.gix_odb_packs.specs.declared.lister.ListHead.{ListHead}

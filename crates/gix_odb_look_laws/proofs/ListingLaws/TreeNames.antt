@@ -1,5 +1,5 @@
 -- No two entries of a directory have one name, so a stream of it gives no name twice.
-use Rattle.std.proofs.Common.{◌≡◌, ◌⊎◌, inl, inr, ℕ, ◌||◌, ◌&&◌, Bool, true, false, cond, List, [], ◌∷◌, ◌++◌, map, Contains, Option, Some, None, Ok, Err}
+use Rattle.std.proofs.Common.{◌≡◌, ◌⊎◌, inl, inr, ◌||◌, ◌&&◌, Bool, true, false, cond, List, [], ◌∷◌, ◌++◌, map, Contains, Option, Some, None, Ok, Err}
 use Rattle.std.proofs.Common.{Result, T, refl, sym, ap, ◌∙◌, subst}
 use Rattle.std.specs.Cmp.Lexicographic.{bytes_decides}
 use Rattle.std.specs.FinMap.{is_sorted}
@@ -80,21 +80,23 @@ module _ (directory : Path) where
             | inr more ↦ later more
           ]
 
+  -- no name of a path is one of the paths behind it
+  name_is_apart : (at : Path × Node) (nodes : Nodes) → T (below_all path_cmp at.0 nodes) → (name : Name) → name_in directory at.0 ≡ Some name
+      → (other : Name) → Contains (names_among (paths_of nodes)) other → ¬ (name ≡ other)
+  name_is_apart at nodes below name is other among same =
+      below_is_apart at.0 nodes below (directory ++ other ∷ []) (name_has_path (paths_of nodes) other among)
+      (name_in-path directory at.0 name is ∙ ap (λ (n : Name). directory ++ n ∷ []) same)
+
+  more_differ : (at : Path × Node) (nodes : Nodes) → T (below_all path_cmp at.0 nodes) → Differ (names_among (paths_of nodes)) → (own : Option Name)
+      → name_in directory at.0 ≡ own → Differ (cons_option own (names_among (paths_of nodes)))
+  more_differ at nodes below rest None is = rest
+  more_differ at nodes below rest (Some name) is = (name_is_apart at nodes below name is, rest)
+
   names_differ : (nodes : Nodes) → T (is_sorted path_cmp nodes) → Differ (names_among (paths_of nodes))
   names_differ [] sorted = tt
   names_differ (at ∷ nodes) sorted =
-      by (name_in directory at.0) refl (names_differ nodes (second (below_all path_cmp at.0 nodes) (is_sorted path_cmp nodes) sorted))
-    where
-      by : (own : Option Name) → name_in directory at.0 ≡ own → Differ (names_among (paths_of nodes))
-          → Differ (cons_option own (names_among (paths_of nodes)))
-      by None is rest = rest
-      by (Some name) is rest = (others, rest)
-        where
-          others : (other : Name) → Contains (names_among (paths_of nodes)) other → ¬ (name ≡ other)
-          others other among same =
-              below_is_apart at.0 nodes (front (below_all path_cmp at.0 nodes) (is_sorted path_cmp nodes) sorted)
-              (directory ++ other ∷ []) (name_has_path (paths_of nodes) other among)
-              (name_in-path directory at.0 name is ∙ ap (λ (n : Name). directory ++ n ∷ []) same)
+      more_differ at nodes (front (below_all path_cmp at.0 nodes) (is_sorted path_cmp nodes) sorted)
+      (names_differ nodes (second (below_all path_cmp at.0 nodes) (is_sorted path_cmp nodes) sorted)) (name_in directory at.0) refl
 
 -- ---- a directory of a tree
 

@@ -1,5 +1,5 @@
 -- While the indices of a list are tried, what is to be stored or passed over was read in the turn before.
-use Rattle.std.proofs.Common.{◌≡◌, ℕ, Bool, true, false, cond, List, [], ◌∷◌, unwrap_or, Option, Some, None, Result, Ok, Err, refl, sym, ap, ◌∙◌, subst}
+use Rattle.std.proofs.Common.{◌≡◌, ℕ, Bool, true, false, cond, List, [], ◌∷◌, unwrap_or, Result, Ok, Err, refl, subst}
 use Rattle.odb_base.specs.Path.{Path}
 use Rattle.odb_disk.specs.declared.ask.DiskAnswer.{DiskAnswer}
 use Rattle.odb_disk.specs.declared.ask.DiskAnswer.TheVariants as answers
@@ -8,20 +8,16 @@ use Rattle.odb_tree.specs.declared.disk_error.DiskError.{DiskError}
 use Rattle.odb_tree.specs.declared.disk_error.DiskError.TheVariants as disk_errors
 use Rattle.gix_hash.specs.ObjectId.{kind_of}
 use Rattle.gix_hash.specs.declared.kind.Kind.{Kind}
-use Rattle.gix_pack_files.specs.FileBytes.{FileBytes}
 use Rattle.gix_pack_files.specs.Index.{is_index}
 use Rattle.gix_pack_files.specs.Pack.{is_pack}
-use Rattle.gix_odb_core.specs.declared.event.Effect.{Effect}
 use Rattle.gix_odb_core.specs.declared.event.PassWhy.TheVariants as whys
-use Rattle.gix_odb_core.specs.declared.event.Refusal.{Refusal}
 use Rattle.gix_odb_slots.specs.declared.loaded.Todo.{Todo}
 use Rattle.gix_odb_packs.specs.Goal.{given_by}
-use Rattle.gix_odb_packs.specs.Search.{rest_behind, search, tried, with_absent}
-use Rattle.gix_odb_packs.specs.TryOrder.{ask_at, at, at_search, at_todo, by_answer, by_given, index_read, pack_behind, pack_read, pack_stored, read_of, search_stored}
+use Rattle.gix_odb_packs.specs.Search.{rest_behind, search, with_absent}
+use Rattle.gix_odb_packs.specs.TryOrder.{ask_at, at, at_search, at_todo, by_answer, by_given, index_read, pack_behind, pack_read, read_of, search_stored}
 use Rattle.gix_odb_packs.specs.TryOrder.{seek, why_of}
 use Rattle.gix_odb_packs.specs.declared.answer.Answer.{Answer}
 use Rattle.gix_odb_packs.specs.declared.answer.Answer.TheVariants as told
-use Rattle.gix_odb_packs.specs.declared.answer.PartAsk.{PartAsk}
 use Rattle.gix_odb_packs.specs.declared.answer.PartAsk.TheVariants as asks
 use Rattle.gix_odb_packs.specs.declared.goal.Error.{Error}
 use Rattle.gix_odb_packs.specs.declared.goal.Error.TheVariants as errors
@@ -129,10 +125,8 @@ module _ (Read : Path → DiskAnswer → Type 0) (hash : Kind) where
       answer_goes (stages.ReadingPack pack) (told.Disk answer) truth just = pack_goes pack answer (just pack.path answer refl refl)
       answer_goes (stages.StoringIndex place file) (told.Core (Ok effect)) truth just = search_goes goal ahead (search_stored goal ahead.notes place file effect)
       answer_goes (stages.PassingIndex place why) (told.Core (Ok effect)) truth just = seek_goes goal ahead
-      answer_goes (stages.StoringPack pack file) (told.Core (Ok effect)) truth just = stored pack file effect
-        where
-          stored : (pack : WantedPack) (file : FileBytes) (effect : Effect) → Goes (pack_stored goal pack file effect)
-          stored pack file effect = given_goes (given_by goal.wanted goal.limit (unwrap_or (pack_behind pack effect) file) pack.offset)
+      answer_goes (stages.StoringPack pack file) (told.Core (Ok effect)) truth just =
+          given_goes (given_by goal.wanted goal.limit (unwrap_or (pack_behind pack effect) file) pack.offset)
       answer_goes (stages.PassingPack pack) (told.Core (Ok effect)) truth just =
           seek_goes goal (record ahead { notes = with_absent ahead.notes pack.slot pack.path })
       answer_goes (stages.StoringIndex place file) (told.Core (Err refusal)) truth just = tt
