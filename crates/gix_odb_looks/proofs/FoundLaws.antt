@@ -1,7 +1,7 @@
 -- Laws of look-ups: what is handed to the core was shown, and so was what is found in packs.
 pub mod Lists
 mod PackErrors
-mod Known
+pub mod Known
 mod Views
 mod Indices
 mod Trying
