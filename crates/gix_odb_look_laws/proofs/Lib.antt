@@ -5,5 +5,6 @@ mod PathsApart
 pub mod ReadLaws
 pub mod NextLaws
 pub mod OnceLaws
+pub mod HashLaws
 pub mod ListingLaws
 pub mod MovedLaws

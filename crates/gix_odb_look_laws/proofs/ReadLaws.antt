@@ -107,9 +107,11 @@ module _ (Shown : Path → List ℕ → Type 0) (setting : Setting) (hash : Kind
       index_tested : (place : IndexPlace) → place.path ≡ path → (b : Bool) → b ≡ true
           → PutsIndex (ask_at (by_tried setting head part (tries.at goal ahead
           (cond b (tries_stages.StoringIndex place (record { kind = kind_of goal.id; bytes = bytes })) (tries_stages.PassingIndex place whys.Bad)))))
-      index_tested place at true is =
-          (place.slot, ap (λ (p : Path). Some (asks.Core (events.PutIndex place.slot p (record { kind = kind_of goal.id; bytes = bytes })))) at
-          ∙ ap (λ (kind : Kind). Some (asks.Core (events.PutIndex place.slot path (record { kind = kind; bytes = bytes })))) of_hash)
+      index_tested place at true is = (
+        place.slot,
+        ap (λ (p : Path). Some (asks.Core (events.PutIndex place.slot p (record { kind = kind_of goal.id; bytes = bytes })))) at
+            ∙ ap (λ (kind : Kind). Some (asks.Core (events.PutIndex place.slot path (record { kind = kind; bytes = bytes })))) of_hash,
+      )
       index_tested place at false is = absurd (cc is)
 
       index_put : IsIndexPath setting path → is_index hash bytes ≡ true → (stage : Stage) → KnowsStage Shown setting hash id stage
@@ -128,9 +130,11 @@ module _ (Shown : Path → List ℕ → Type 0) (setting : Setting) (hash : Kind
           → PutsPack (ask_at (by_tried setting head part
           (cond b (tries.at goal ahead (tries_stages.StoringPack pack (record { kind = kind_of goal.id; bytes = bytes }))) (ends.Bad errors.LoadPack))))
       pack_tested pack at true is =
-          let place : PackId = record { index = pack.slot; multipack_index = pack.place } in
-          (place, ap (λ (p : Path). Some (asks.Core (events.PutPack place p (record { kind = kind_of goal.id; bytes = bytes })))) at
-          ∙ ap (λ (kind : Kind). Some (asks.Core (events.PutPack place path (record { kind = kind; bytes = bytes })))) of_hash)
+          let place : PackId = record { index = pack.slot; multipack_index = pack.place } in (
+            place,
+            ap (λ (p : Path). Some (asks.Core (events.PutPack place p (record { kind = kind_of goal.id; bytes = bytes })))) at
+                ∙ ap (λ (kind : Kind). Some (asks.Core (events.PutPack place path (record { kind = kind; bytes = bytes })))) of_hash,
+          )
       pack_tested pack at false is = absurd (cc is)
 
       pack_put : IsPackPath setting path → is_pack hash bytes ≡ true → (stage : Stage) → KnowsStage Shown setting hash id stage
