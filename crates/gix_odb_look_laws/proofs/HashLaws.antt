@@ -8,7 +8,7 @@ use Rattle.gix_hash.specs.declared.object_id.ObjectId.{ObjectId}
 use Rattle.gix_object.specs.Id.{object_id}
 use Rattle.gix_object.specs.declared.kind.Kind as object
 use Rattle.gix_odb_loose.specs.LooseFile.{loose_path}
-use Rattle.gix_odb_loose.specs.LooseOrder.{found_by}
+use Rattle.gix_odb_loose.specs.LooseOrder.Answered.{found_by}
 use Rattle.gix_odb_loose.specs.declared.call.LooseReply.{LooseReply}
 use Rattle.gix_odb_loose.specs.declared.call.LooseReply.TheVariants as loose_replies
 use Rattle.gix_odb_loose.specs.declared.find.Error.{Error}
