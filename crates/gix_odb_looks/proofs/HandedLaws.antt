@@ -1,6 +1,6 @@
 -- Laws of what a look-up hands to the disk and the core: its events can happen there, its calls of the disk change nothing, and the streams
 -- that it reads are its own.
-mod Differ
+pub mod Differ
 pub mod Rows
 mod Stages
 pub mod Listing
@@ -21,6 +21,7 @@ use Rattle.gix_odb_loose.specs.declared.call.LooseCall.{LooseCall}
 use Rattle.gix_odb_loose.specs.declared.call.Stage as loose
 use Rattle.gix_odb_loose.specs.declared.call.Stage.TheVariants as loose_stages
 use Rattle.gix_odb_slots.specs.Slots.{HasDifferentPaths, same_path}
+use Rattle.gix_odb_slots.specs.declared.listing.Listing.{Listing}
 use Rattle.gix_odb_slots.specs.declared.listing.ListingRow.{ListingRow}
 use Rattle.gix_odb_core.specs.Replay.{CanHappen}
 use Rattle.gix_odb_core.specs.declared.event.Event.{Event}
@@ -54,7 +55,7 @@ use Rattle.gix_odb_looks.specs.declared.look_up.LookStage.{LookStage}
 use Rattle.gix_odb_looks.specs.declared.look_up.LookUp.{LookUp}
 use Rattle.gix_odb_looks.proofs.HandedLaws.Listing.{ListerDiffers, StepDiffers, listing_differs, starts_apart}
 use Rattle.gix_odb_looks.proofs.HandedLaws.Rows.{HasDifferentPaths-longest_first}
-use Rattle.gix_odb_looks.proofs.HandedLaws.Stages.{Goes, Stands, Steps, loose_ask_is, same_ask, stage_stands, start_stands}
+use Rattle.gix_odb_looks.proofs.HandedLaws.Stages.{Goes, Stands, Steps, loose_ask_is, published, same_ask, stage_stands, start_stands}
 use Rattle.gix_odb_looks.proofs.HandedLaws.Streams.{IsOpen, Told}
 use Rattle.gix_odb_looks.proofs.HandedLaws.Reading.{IsOwn, done_has_none, none_told, stage_asks_own, stage_changes_nothing, streams_are_own, told_from}
 pub use Rattle.gix_odb_looks.proofs.HandedLaws.Streams.{Opened, left_open, left_open-push, open_by, opened_by, opened_last, opened_last-push}
@@ -156,16 +157,24 @@ module _ (setting : Setting) (distinct : IsDistinct same_path (folders_of settin
     stage_happens (stages.Publishing listing notes) here ask is = same_ask (Happens shape seat) ask (asks.Core (events.Publish listing)) here.1 is
     stage_happens (stages.Done reply) here ask is = absurd (cc is)
 
-  -- what a look-up hands to the core of its store can happen there: the rows of a listing have different paths
-  pub what_is_handed_can_happen : (view : View) (query : Query) (id : ObjectId) (exchanges : List Exchange)
-      → AreAsked setting (started setting view query id) exchanges → (event : Event)
-      → ask_of (behind setting (started setting view query id) exchanges) ≡ Some (asks.Core event)
-      → (shape : Shape) (seat : ℕ) → CanHappen shape seat event
-  what_is_handed_can_happen view query id exchanges asked event is shape seat =
-      let start = started setting view query id in
-      let stands : StageDiffers start.stage =
-      start_stands setting AnyCall (ListerDiffers setting.folders) RowsDiffer (Unit {0}) (λ query id folder. tt) starts_listing view query id tt in
-      stage_happens shape seat (behind setting start exchanges).stage (differs_behind start stands exchanges) (asks.Core event) is
+  module _ (view : View) (query : Query) (id : ObjectId) (exchanges : List Exchange) (asked : AreAsked setting (started setting view query id) exchanges) where
+    abbrev listing_look : LookUp
+    listing_look = behind setting (started setting view query id) exchanges
+
+    differs : StageDiffers listing_look.stage
+    differs =
+        differs_behind (started setting view query id)
+        (start_stands setting AnyCall (ListerDiffers setting.folders) RowsDiffer (Unit {0}) (λ query id folder. tt) starts_listing view query id tt)
+        exchanges
+
+    -- what a look-up hands to the core of its store can happen there: the rows of a listing have different paths
+    pub what_is_handed_can_happen : (event : Event) → ask_of listing_look ≡ Some (asks.Core event) → (shape : Shape) (seat : ℕ) → CanHappen shape seat event
+    what_is_handed_can_happen event is shape seat = stage_happens shape seat listing_look.stage differs (asks.Core event) is
+
+    pub rows_of_a_listing_have_different_paths : (listing : Listing) → ask_of listing_look ≡ Some (asks.Core (events.Publish listing))
+        → HasDifferentPaths listing.rows
+    rows_of_a_listing_have_different_paths listing is =
+        published setting AnyCall (ListerDiffers setting.folders) RowsDiffer (Unit {0}) listing_look.stage differs listing is
 
 -- ---- they change no file, and their streams are their own
 

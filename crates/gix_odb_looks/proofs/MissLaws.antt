@@ -1,11 +1,11 @@
 -- What it means that a look-up found nothing: it missed no object that lay still in a pack, and it asked each folder.
-mod Lists
-mod Replies
+pub mod Lists
+pub mod Replies
 mod Trying
 mod Rows
 mod Listing
-mod Track
-mod Folders
+pub mod Track
+pub mod Folders
 mod Failures
 use Rattle.std.proofs.Common.{◌≡◌, inl, inr, ℕ, List, [], ◌∷◌, Contains, Some, Ok, sym, ap, ◌∙◌, subst}
 use Rattle.odb_base.specs.Path.{Path}

@@ -4,11 +4,12 @@ use Rattle.std.proofs.lemmas.Option.{same_Some}
 use Rattle.odb_base.specs.Path.{Path}
 use Rattle.odb_disk.specs.declared.ask.DiskAsk.{DiskAsk}
 use Rattle.gix_hash.specs.declared.object_id.ObjectId.{ObjectId}
-use Rattle.gix_odb_loose.specs.LooseOrder.{reply_of}
+use Rattle.gix_odb_loose.specs.LooseOrder.{disk_ask_of, reply_of}
 use Rattle.gix_odb_loose.specs.declared.call.LooseCall.{LooseCall}
 use Rattle.gix_odb_loose.specs.declared.call.LooseReply.{LooseReply}
 use Rattle.gix_odb_core.specs.declared.event.Effect.{Effect}
 use Rattle.gix_odb_core.specs.declared.event.Effect.TheVariants as effects
+use Rattle.gix_odb_core.specs.declared.event.Event.TheVariants as events
 use Rattle.gix_odb_core.specs.declared.view.View.{View}
 use Rattle.gix_odb_slots.specs.declared.listing.Listing.{Listing}
 use Rattle.gix_odb_slots.specs.declared.listing.ListingRow.{ListingRow}
@@ -16,6 +17,7 @@ use Rattle.gix_odb_slots.specs.declared.loaded.Todo.{Todo}
 use Rattle.gix_odb_packs.specs.ListOrder as lists
 use Rattle.gix_odb_packs.specs.LongestFirst.{longest_first}
 use Rattle.gix_odb_packs.specs.TryOrder.{seek}
+use Rattle.gix_odb_packs.specs.TryOrder as tries
 use Rattle.gix_odb_packs.specs.declared.answer.Answer.{Answer}
 use Rattle.gix_odb_packs.specs.declared.answer.Answer.TheVariants as told
 use Rattle.gix_odb_packs.specs.declared.answer.PartAsk.{PartAsk}
@@ -24,6 +26,8 @@ use Rattle.gix_odb_packs.specs.declared.lister.ListStep.{ListStep}
 use Rattle.gix_odb_packs.specs.declared.lister.ListStep.TheVariants as listed
 use Rattle.gix_odb_packs.specs.declared.lister.Lister.{Lister}
 use Rattle.gix_odb_packs.specs.declared.search.Notes.{Notes}
+use Rattle.gix_odb_packs.specs.declared.trier.Stage.{Stage}
+use Rattle.gix_odb_packs.specs.declared.trier.Stage.TheVariants as tries_stages
 use Rattle.gix_odb_packs.specs.declared.trier.Tried.{Tried}
 use Rattle.gix_odb_packs.specs.declared.trier.Tried.TheVariants as tried
 use Rattle.gix_odb_calls.specs.Verdict.{asking, verdict_on}
@@ -31,7 +35,7 @@ use Rattle.gix_odb_calls.specs.declared.load_index.Error.TheVariants as load_err
 use Rattle.gix_odb_calls.specs.declared.query.Query.{Query}
 use Rattle.gix_odb_calls.specs.declared.verdict.Verdict.{Verdict}
 use Rattle.gix_odb_calls.specs.declared.verdict.Verdict.TheVariants as verdicts
-use Rattle.gix_odb_looks.specs.LookUpOrder.{Setting, after_list, after_loose, at_folder, by_listed, by_look, by_published, by_reply, by_tried}
+use Rattle.gix_odb_looks.specs.LookUpOrder.{Setting, after_list, after_loose, ask_at, at_folder, by_listed, by_look, by_published, by_reply, by_tried}
 use Rattle.gix_odb_looks.specs.LookUpOrder.{by_verdict, counted, ended, fed_at, goal_of, is_unsettled}
 use Rattle.gix_odb_looks.specs.LookUpOrder.{lister_fed, listing_from, load_refused, loose_ask, loose_fed}
 use Rattle.gix_odb_looks.specs.LookUpOrder.{new_head, not_found, started, trier_fed, try_view, unsettled, view_shown, with_own, without_notes}
@@ -70,6 +74,30 @@ module _ (setting : Setting) (OfCall : LooseCall → Type 0) (OfLister : Lister 
   Steps (listed.More lister) = OfLister lister
   Steps (listed.Rows rows) = Else × OfRows (longest_first rows)
   Steps listed.Broken = Else
+
+  abbrev OfAsk : PartAsk → Type 0
+  OfAsk (asks.Core (events.Publish listing)) = OfRows listing.rows
+  OfAsk ask = Unit {0}
+
+  trier_asks_so : (stage : Stage) → OfAsk (tries.ask_at stage)
+  trier_asks_so (tries_stages.ReadingIndex place) = tt
+  trier_asks_so (tries_stages.StoringIndex place file) = tt
+  trier_asks_so (tries_stages.PassingIndex place why) = tt
+  trier_asks_so (tries_stages.ReadingPack pack) = tt
+  trier_asks_so (tries_stages.StoringPack pack file) = tt
+  trier_asks_so (tries_stages.PassingPack pack) = tt
+
+  stage_asks_so : (stage : LookStage) → Stands stage → (ask : PartAsk) → ask_at stage ≡ Some ask → OfAsk ask
+  stage_asks_so (stages.Trying trier part) here ask is = same_ask OfAsk ask (tries.ask_of trier) (trier_asks_so trier.stage) is
+  stage_asks_so (stages.Loose round call) here ask is = loose_ask_is OfAsk ask (disk_ask_of call) (λ own same. tt) is
+  stage_asks_so (stages.Looking purpose notes) here ask is = same_ask OfAsk ask (asks.Core events.Look) tt is
+  stage_asks_so (stages.Listing lister base notes) here ask is = same_ask OfAsk ask (asks.Disk (lists.ask_of lister)) tt is
+  stage_asks_so (stages.Publishing listing notes) here ask is = same_ask OfAsk ask (asks.Core (events.Publish listing)) here.1 is
+  stage_asks_so (stages.Done reply) here ask is = absurd (cc is)
+
+  -- what holds of the rows that are handed to the core
+  pub published : (stage : LookStage) → Stands stage → (listing : Listing) → ask_at stage ≡ Some (asks.Core (events.Publish listing)) → OfRows listing.rows
+  published stage here listing is = stage_asks_so stage here (asks.Core (events.Publish listing)) is
 
   -- what is to hold behind an answer, for the next stage to stand
   abbrev pub Goes : LookStage → Answer → Type 0

@@ -57,7 +57,7 @@ use Rattle.gix_odb_looks.proofs.MissLaws.Lists.{drop_none, first_in, found_at, h
 use Rattle.gix_odb_looks.proofs.MissLaws.Replies.{EndsNoMiss, IsMiss, found_is_no_miss, refused_is_no_miss, verdict_is_no_miss}
 
 -- a folder that is asked replies to one call of the disk
-folder_replies : (limit : Option ℕ) (query : Query) (id : ObjectId) (folder : Path) (answer : DiskAnswer)
+pub folder_replies : (limit : Option ℕ) (query : Query) (id : ObjectId) (folder : Path) (answer : DiskAnswer)
     → (reply : LooseReply) × (reply_of (loose_fed (asking limit query id folder) answer) ≡ Some reply)
 folder_replies limit (Find asked) id folder answer = (loose_replies.Found (found_by (loose_path folder id) limit answer), refl)
 folder_replies limit (Header asked) id folder answer = (loose_replies.Header (header_by (loose_path folder id) answer), refl)

@@ -1,0 +1,10 @@
+-- Further laws of look-ups and of listings, and their lemmas.
+mod TrierAtHand
+mod LastExchange
+mod PathsApart
+pub mod ReadLaws
+pub mod NextLaws
+pub mod OnceLaws
+pub mod HashLaws
+pub mod ListingLaws
+pub mod MovedLaws

@@ -1,0 +1,308 @@
+-- Laws of look-ups for an object that moves from a loose file into a pack: it isn't missed, since the loose folders are asked before the first
+-- listing.
+use Rattle.std.proofs.Common.{◌≡◌, ◌⊎◌, inl, inr, ◌+◌, Bool, true, false, cond, List, [], ◌∷◌, ◌++◌, slice_get, drop, Contains, Option, Some, None, Ok, Err}
+use Rattle.std.proofs.Common.{refl, sym, ap, ◌∙◌, subst, append_assoc, append-nil}
+use Rattle.odb_base.specs.Path.{Path}
+use Rattle.odb_disk.specs.declared.ask.DiskAnswer.{DiskAnswer}
+use Rattle.gix_hash.specs.ObjectId.{kind_of}
+use Rattle.gix_hash.specs.declared.kind.Kind.{Kind}
+use Rattle.gix_hash.specs.declared.object_id.ObjectId.{ObjectId}
+use Rattle.gix_odb_loose.specs.LooseOrder.{disk_ask_of, reply_of}
+use Rattle.gix_odb_loose.specs.declared.call.LooseCall.{LooseCall}
+use Rattle.gix_odb_loose.specs.declared.call.LooseReply.{LooseReply}
+use Rattle.gix_odb_core.specs.declared.view.View.{View}
+use Rattle.gix_odb_slots.specs.declared.loaded.Todo.{Todo}
+use Rattle.gix_odb_packs.specs.TryOrder.{seek}
+use Rattle.gix_odb_packs.specs.declared.answer.Answer.{Answer}
+use Rattle.gix_odb_packs.specs.declared.answer.Answer.TheVariants as told
+use Rattle.gix_odb_packs.specs.declared.answer.PartAsk.{PartAsk}
+use Rattle.gix_odb_packs.specs.declared.search.Notes.{Notes}
+use Rattle.gix_odb_packs.specs.declared.trier.Tried.{Tried}
+use Rattle.gix_odb_packs.specs.declared.trier.Tried.TheVariants as tried
+use Rattle.gix_odb_packs.proofs.ReachLemmas.{first_or_later}
+use Rattle.gix_odb_calls.specs.Verdict.{asking, verdict_on}
+use Rattle.gix_odb_calls.specs.declared.call.CallError.TheVariants as call_errors
+use Rattle.gix_odb_calls.specs.declared.call.Reply.{Reply}
+use Rattle.gix_odb_calls.specs.declared.find.Error.TheVariants as find_errors
+use Rattle.gix_odb_calls.specs.declared.query.Query.{Query}
+use Rattle.gix_odb_calls.specs.declared.query.Query.TheVariants.{Find, Header, Test}
+use Rattle.gix_odb_calls.specs.declared.verdict.Verdict.{Verdict}
+use Rattle.gix_odb_calls.specs.declared.verdict.Verdict.TheVariants as verdicts
+use Rattle.gix_odb_looks.specs.Exchange.{AreAsked, Exchange, behind}
+use Rattle.gix_odb_looks.specs.Fair.{AreFair, PackedPlace}
+use Rattle.gix_odb_looks.specs.LoadIndex.{of_refusal}
+use Rattle.gix_odb_looks.specs.LookUpOrder.{Setting, after_list, ask_at, at_folder, by_look, by_reply, by_tried, by_verdict, fed, fed_at, find_error, goal_of}
+use Rattle.gix_odb_looks.specs.LookUpOrder.{listing_from, loose_ask, loose_fed, loose_from, new_head, not_found, result_of, seen, started, trier_fed, try_view}
+use Rattle.gix_odb_looks.specs.LookUpOrder.{view_of, view_shown, without_notes}
+use Rattle.gix_odb_looks.specs.Reply.{IsAnswer}
+use Rattle.gix_odb_looks.specs.Shown.{folders_of}
+use Rattle.gix_odb_looks.specs.Stream.{Stream, stream_in}
+use Rattle.gix_odb_looks.specs.declared.look_up.LookHead.{LookHead}
+use Rattle.gix_odb_looks.specs.declared.look_up.LookStage.{LookStage}
+use Rattle.gix_odb_looks.specs.declared.look_up.LookStage.TheVariants as stages
+use Rattle.gix_odb_looks.specs.declared.look_up.LookUp.{LookUp}
+use Rattle.gix_odb_looks.specs.declared.look_up.LooseRound.{LooseRound}
+use Rattle.gix_odb_looks.specs.declared.look_up.Part.{Part}
+use Rattle.gix_odb_looks.specs.declared.look_up.Part.TheVariants as parts
+use Rattle.gix_odb_looks.specs.declared.look_up.Purpose.{Purpose}
+use Rattle.gix_odb_looks.specs.declared.look_up.Purpose.TheVariants as purposes
+use Rattle.gix_odb_looks.proofs.FoundLaws.Lists.{has_first, has_later}
+use Rattle.gix_odb_looks.proofs.HandedLaws.Stages.{loose_ask_is}
+use Rattle.gix_odb_looks.proofs.MissLaws.Folders.{folder_replies}
+use Rattle.gix_odb_looks.proofs.MissLaws.Lists.{drop_none, here_or_behind, nothing_ahead}
+use Rattle.gix_odb_looks.proofs.MissLaws.Replies.{EndsNoMiss, IsMiss, found_is_no_miss, refused_is_no_miss, verdict_is_no_miss}
+use Rattle.gix_odb_looks.proofs.MissLaws.Track.{IsEarly, IsOn, never_missed}
+use Rattle.gix_odb_look_laws.specs.Moved.{AreLooseFair, ArePublished, HasLoose, IsLooseFair}
+
+-- an answer that says that the object is there is no miss
+answer_is_no_miss : (query : Query) (reply : Reply) → IsAnswer reply → ¬ (IsMiss query reply)
+answer_is_no_miss query reply answer is = by query (subst IsAnswer is answer)
+  where
+    by : (q : Query) → ¬ (IsAnswer (not_found q))
+    by (Find id) wrong = wrong
+    by (Header id) wrong = wrong
+    by (Test id) wrong = wrong
+
+-- a list behind which the loose folders are asked for the first time
+abbrev IsFirst : Part → Type 0
+IsFirst parts.Snapshot = Unit {0}
+IsFirst (parts.List list_no true) = Unit {0}
+IsFirst (parts.List list_no false) = ⊥
+IsFirst (parts.Published list_no) = ⊥
+
+-- a look at the core before any loose folder was asked
+abbrev IsBeforeLoose : Purpose → Type 0
+IsBeforeLoose (purposes.First true) = Unit {0}
+IsBeforeLoose (purposes.First false) = ⊥
+IsBeforeLoose (purposes.Check list_no) = ⊥
+IsBeforeLoose purposes.Again = ⊥
+
+module _ (setting : Setting) (query : Query) (id : ObjectId) (folder : Path) (among : Contains (folders_of setting) folder) where
+  -- the folder is asked now, or is ahead
+  pub record IsComing (round : LooseRound) (call : LooseCall) : Type 0 where
+    pub first : IsFirst round.part
+    pub asked : Path
+    pub call_is : call ≡ asking setting.limit query id asked
+    pub ahead : (asked ≡ folder) ⊎ Contains (drop round.next setting.folders) folder
+
+  -- the loose objects of the folder are still to be asked, or the look-up is done with another reply than that nothing was found
+  abbrev IsWaiting : LookStage → Type 0
+  IsWaiting (stages.Trying trier part) = IsFirst part
+  IsWaiting (stages.Loose round call) = IsComing round call
+  IsWaiting (stages.Looking purpose notes) = IsBeforeLoose purpose
+  IsWaiting (stages.Listing lister base notes) = ⊥
+  IsWaiting (stages.Publishing listing notes) = ⊥
+  IsWaiting (stages.Done reply) = ¬ (IsMiss query reply)
+
+  -- the look-up is for this query and id
+  pub record IsFor (head : LookHead) : Type 0 where
+    pub query_is : head.query ≡ query
+    pub id_is : head.id ≡ id
+
+  module _ (head : LookHead) (own : IsFor head) where
+    same_call : (asked : Path) → asking setting.limit head.query head.id asked ≡ asking setting.limit query id asked
+    same_call asked =
+        ap (λ (q : Query). asking setting.limit q head.id asked) own.query_is ∙ ap (λ (i : ObjectId). asking setting.limit query i asked) own.id_is
+
+    loose_begins : (part : Part) → IsFirst part → (notes : Notes) → IsWaiting (loose_from setting head part notes)
+    loose_begins part first notes =
+        record {
+          first = first;
+          asked = setting.objects;
+          call_is = same_call setting.objects;
+          ahead = by (first_or_later setting.objects setting.folders folder among);
+        }
+      where
+        by : (setting.objects ≡ folder) ⊎ Contains setting.folders folder → (setting.objects ≡ folder) ⊎ Contains (drop 0 setting.folders) folder
+        by (inl is) = inl is
+        by (inr later) = inr (subst (λ (rest : List Path). Contains rest folder) (sym (drop_none setting.folders)) later)
+
+    list_waits : (part : Part) → IsFirst part → (notes : Notes) → IsWaiting (after_list setting head part notes)
+    list_waits parts.Snapshot first notes = loose_begins parts.Snapshot tt notes
+    list_waits (parts.List list_no true) first notes = loose_begins (parts.List list_no true) tt notes
+    list_waits (parts.List list_no false) first notes = absurd first
+    list_waits (parts.Published list_no) first notes = absurd first
+
+    tried_waits : (part : Part) → IsFirst part → (end : Tried) → IsWaiting (by_tried setting head part end)
+    tried_waits part first (tried.More trier) = first
+    tried_waits part first (tried.Hit what) = found_is_no_miss query what
+    tried_waits part first (tried.Missed notes) = list_waits part first notes
+    tried_waits part first (tried.Bad error) = refused_is_no_miss query (call_errors.Find (find_error error))
+    tried_waits part first (tried.Broken refusal) = refused_is_no_miss query (call_errors.Find (find_errors.LoadIndex (of_refusal refusal)))
+
+    view_waits : (part : Part) → IsFirst part → (view : View) (todo : List Todo) (notes : Notes) → IsWaiting (try_view setting head part view todo notes)
+    view_waits part first view todo notes =
+        tried_waits part first (seek (goal_of setting head) (record { indices = view.snapshot.indices; todo = todo; notes = notes }))
+
+    -- ---- the loose folders
+
+    folder_waits : (round : LooseRound) → IsFirst round.part → Contains (drop round.next setting.folders) folder → (next : Option Path)
+        → slice_get setting.folders round.next ≡ next → IsWaiting (at_folder setting head round next)
+    folder_waits round first ahead None is = absurd (nothing_ahead setting.folders round.next folder is ahead)
+    folder_waits round first ahead (Some asked) is =
+        record { first = first; asked = asked; call_is = same_call asked; ahead = here_or_behind setting.folders round.next asked folder is ahead }
+
+    verdict_waits : (round : LooseRound) → IsFirst round.part → Contains (drop round.next setting.folders) folder → (verdict : Verdict)
+        → EndsNoMiss query verdict → IsWaiting (by_verdict setting head round verdict)
+    verdict_waits round first ahead (verdicts.Ends reply) ends = ends
+    verdict_waits round first ahead verdicts.Misses ends = folder_waits round first ahead (slice_get setting.folders round.next) refl
+    verdict_waits round first ahead (verdicts.Notes error) ends =
+        folder_waits (record round { notes = record round.notes { failed = true } }) first ahead (slice_get setting.folders round.next) refl
+
+    -- what the folder that is asked replies
+    module _ (round : LooseRound) (call : LooseCall) (coming : IsComing round call) (answer : DiskAnswer) where
+      replies_so : (reply : LooseReply) → reply_of (loose_fed (asking setting.limit query id coming.asked) answer) ≡ Some reply
+          → IsWaiting (by_verdict setting head round (verdict_on query reply))
+          → IsWaiting (by_reply setting head round (loose_fed call answer) (reply_of (loose_fed call answer)))
+      replies_so reply is waits =
+          subst (λ (r : Option LooseReply). IsWaiting (by_reply setting head round (loose_fed call answer) r))
+          (sym (ap (λ (c : LooseCall). reply_of (loose_fed c answer)) coming.call_is ∙ is))
+          (subst (λ (q : Query). IsWaiting (by_verdict setting head round (verdict_on q reply))) (sym own.query_is) waits)
+
+      here_waits : HasLoose setting query id coming.asked answer → IsWaiting (by_reply setting head round (loose_fed call answer) (reply_of (loose_fed call answer)))
+      here_waits has =
+          replies_so has.reply has.replied
+          (subst (λ (verdict : Verdict). IsWaiting (by_verdict setting head round verdict)) (sym has.says) (answer_is_no_miss query has.told has.found))
+
+      ahead_waits : Contains (drop round.next setting.folders) folder
+          → IsWaiting (by_reply setting head round (loose_fed call answer) (reply_of (loose_fed call answer)))
+      ahead_waits ahead =
+          let reply = folder_replies setting.limit query id coming.asked answer in
+          replies_so reply.0 reply.1 (verdict_waits round coming.first ahead (verdict_on query reply.0) (verdict_is_no_miss query reply.0))
+
+      loose_waits : (ask : PartAsk) → loose_ask (disk_ask_of call) ≡ Some ask → IsLooseFair setting query id folder ask (told.Disk answer)
+          → IsWaiting (by_reply setting head round (loose_fed call answer) (reply_of (loose_fed call answer)))
+      loose_waits ask is fair =
+          elim coming.ahead [
+            | inl same ↦
+                here_waits
+                (subst (λ (f : Path). HasLoose setting query id f answer) (sym same)
+                (loose_ask_is (λ (a : PartAsk). IsLooseFair setting query id folder a (told.Disk answer) → HasLoose setting query id folder answer) ask
+                (disk_ask_of call)
+                (λ asked asks_it fair_to_it.
+                fair_to_it (ap (λ (f : Path). disk_ask_of (asking setting.limit query id f)) (sym same) ∙ ap disk_ask_of (sym coming.call_is) ∙ asks_it))
+                is fair))
+            | inr ahead ↦ ahead_waits ahead
+          ]
+
+    -- ---- looks at the core
+
+    first_waits : (b : Bool) → b ≡ true → (view : View) (notes : Notes)
+        → IsWaiting (cond b (try_view setting head (parts.List view.list_no true) view view.todo notes) (listing_from setting view.list_no notes))
+    first_waits true published view notes = view_waits (parts.List view.list_no true) tt view view.todo notes
+    first_waits false published view notes = absurd (cc published)
+
+    look_waits : (purpose : Purpose) → IsBeforeLoose purpose → (notes : Notes) (view : Option View) → ((own : View) → view ≡ Some own → own.read ≡ true)
+        → IsWaiting (by_look setting head purpose notes view)
+    look_waits purpose before notes None published = before
+    look_waits (purposes.First true) before notes (Some view) published = first_waits view.read (published view refl) view notes
+    look_waits (purposes.First false) before notes (Some view) published = absurd before
+    look_waits (purposes.Check list_no) before notes (Some view) published = absurd before
+    look_waits purposes.Again before notes (Some view) published = absurd before
+
+    -- ---- an exchange
+
+    stage_waits : (stage : LookStage) → IsWaiting stage → (ask : PartAsk) (answer : Answer) → ask_at stage ≡ Some ask
+        → ((view : View) → view_of answer ≡ Some view → view.read ≡ true) → IsLooseFair setting query id folder ask answer
+        → IsWaiting (fed_at setting head stage answer).stage
+    stage_waits (stages.Trying trier part) waits ask answer is published fair = tried_waits part waits (trier_fed trier answer)
+    stage_waits (stages.Loose round call) waits ask (told.Disk answer) is published fair = loose_waits round call waits answer ask is fair
+    stage_waits (stages.Loose round call) waits ask (told.Core answer) is published fair = waits
+    stage_waits (stages.Looking purpose notes) waits ask (told.Disk answer) is published fair = waits
+    stage_waits (stages.Looking purpose notes) waits ask (told.Core (Ok effect)) is published fair =
+        look_waits purpose waits notes (view_shown effect) published
+    stage_waits (stages.Looking purpose notes) waits ask (told.Core (Err refusal)) is published fair =
+        refused_is_no_miss query (call_errors.Find (find_errors.LoadIndex (of_refusal refusal)))
+    stage_waits (stages.Listing lister base notes) waits ask answer is published fair = absurd waits
+    stage_waits (stages.Publishing listing notes) waits ask answer is published fair = absurd waits
+    stage_waits (stages.Done reply) waits ask answer is published fair = waits
+
+  pub record IsLookWaiting (look : LookUp) : Type 0 where
+    pub own : IsFor look.head
+    pub stage : IsWaiting look.stage
+
+  -- the head of a look-up that waits stays for the query and the id
+  own_behind : (stage : LookStage) → IsWaiting stage → (head : LookHead) → IsFor head → (answer : Answer) → IsFor (fed_at setting head stage answer).head
+  own_behind (stages.Trying trier part) waits head own answer = own
+  own_behind (stages.Loose round call) waits head own (told.Disk answer) = own
+  own_behind (stages.Loose round call) waits head own (told.Core answer) = own
+  own_behind (stages.Looking purpose notes) waits head own (told.Disk answer) = own
+  own_behind (stages.Looking purpose notes) waits head own (told.Core (Ok effect)) = own
+  own_behind (stages.Looking purpose notes) waits head own (told.Core (Err refusal)) = own
+  own_behind (stages.Listing lister base notes) waits head own answer = absurd waits
+  own_behind (stages.Publishing listing notes) waits head own answer = absurd waits
+  own_behind (stages.Done reply) waits head own answer = own
+
+  look_waits_on : (look : LookUp) → IsLookWaiting look → (exchange : Exchange) → ask_at look.stage ≡ Some exchange.ask
+      → ((view : View) → view_of exchange.answer ≡ Some view → view.read ≡ true) → IsLooseFair setting query id folder exchange.ask exchange.answer
+      → IsLookWaiting (fed setting look exchange.answer)
+  look_waits_on look waiting exchange is published fair =
+      let head : LookHead = seen look.head exchange.answer in
+      let own : IsFor head = record { query_is = waiting.own.query_is; id_is = waiting.own.id_is } in
+      record {
+        own = own_behind look.stage waiting.stage head own exchange.answer;
+        stage = stage_waits head own look.stage waiting.stage exchange.ask exchange.answer is published fair;
+      }
+
+  starts_waiting : (view : View) → IsLookWaiting (started setting view query id)
+  starts_waiting view = record { own = own; stage = by view.read }
+    where
+      own : IsFor (new_head query id)
+      own = record { query_is = refl; id_is = refl }
+
+      by : (b : Bool)
+          → IsWaiting (cond b (try_view setting (new_head query id) parts.Snapshot view [] without_notes) (stages.Looking (purposes.First true) without_notes))
+      by true = view_waits (new_head query id) own parts.Snapshot tt view [] without_notes
+      by false = tt
+
+-- ---- the object moves
+
+module _ (setting : Setting) (hash : Kind) (query : Query) (id : ObjectId) (of_hash : kind_of id ≡ hash) (place : PackedPlace)
+    (among : Contains (folders_of setting) place.folder) where
+  abbrev Waits : LookUp → Type 0
+  Waits look = IsLookWaiting setting query id place.folder among look
+
+  -- before the first listing a look-up is on its track to whatever lies still from now on
+  on_track : (stream : Option Stream) (stage : LookStage) → IsWaiting setting query id place.folder among stage
+      → IsOn setting hash query id of_hash place among stream stage
+  on_track stream (stages.Trying trier parts.Snapshot) waits = tt
+  on_track stream (stages.Trying trier (parts.List list_no true)) waits = tt
+  on_track stream (stages.Trying trier (parts.List list_no false)) waits = tt
+  on_track stream (stages.Trying trier (parts.Published list_no)) waits = absurd waits
+  on_track stream (stages.Loose round call) waits = by round.part waits.first
+    where
+      by : (part : Part) → IsFirst part → IsEarly part
+      by parts.Snapshot first = tt
+      by (parts.List list_no loose) first = tt
+      by (parts.Published list_no) first = absurd first
+  on_track stream (stages.Looking (purposes.First loose) notes) waits = tt
+  on_track stream (stages.Looking (purposes.Check list_no) notes) waits = absurd waits
+  on_track stream (stages.Looking purposes.Again notes) waits = absurd waits
+  on_track stream (stages.Listing lister base notes) waits = absurd waits
+  on_track stream (stages.Publishing listing notes) waits = absurd waits
+  on_track stream (stages.Done reply) waits = waits
+
+  not_missed : (past : List Exchange) (look : LookUp) → Waits look → (before after : List Exchange) → AreAsked setting look (before ++ after)
+      → ArePublished before → AreLooseFair setting query id place.folder before → AreFair hash id place (past ++ before) after
+      → ¬ (result_of (behind setting look (before ++ after)) ≡ Ok (not_found query))
+  not_missed past look waiting [] after asked published loose fair =
+      never_missed setting hash query id of_hash place among past look
+      (record {
+        own = record { query_is = waiting.own.query_is; id_is = waiting.own.id_is };
+        stage = on_track (stream_in past) look.stage waiting.stage;
+      })
+      after asked (subst (λ (es : List Exchange). AreFair hash id place es after) (append-nil past) fair)
+  not_missed past look waiting (exchange ∷ before) after asked published loose fair =
+      let here = has_first exchange before in
+      not_missed (past ++ exchange ∷ []) (fed setting look exchange.answer)
+      (look_waits_on setting query id place.folder among look waiting exchange asked.0 (published exchange here) (loose exchange here))
+      before after asked.1 (λ other is. published other (has_later exchange before other is)) (λ other is. loose other (has_later exchange before other is))
+      (subst (λ (es : List Exchange). AreFair hash id place es after) (sym (append_assoc past (exchange ∷ []) before)) fair)
+
+  -- Let an object be loose in a folder up to an exchange, and lie still in a pack of that folder from then on. A look-up isn't ended by "not
+  -- found", if the core of its store had published a list by then.
+  pub objects_that_move_into_packs_are_not_missed : (view : View) (before after : List Exchange)
+      → AreAsked setting (started setting view query id) (before ++ after) → ArePublished before → AreLooseFair setting query id place.folder before
+      → AreFair hash id place before after → ¬ (result_of (behind setting (started setting view query id) (before ++ after)) ≡ Ok (not_found query))
+  objects_that_move_into_packs_are_not_missed view before after asked published loose fair =
+      not_missed [] (started setting view query id) (starts_waiting setting query id place.folder among view) before after asked published loose fair

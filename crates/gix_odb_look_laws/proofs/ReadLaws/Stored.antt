@@ -1,0 +1,141 @@
+-- While the indices of a list are tried, what is to be stored or passed over was read in the turn before.
+use Rattle.std.proofs.Common.{◌≡◌, ℕ, Bool, true, false, cond, List, [], ◌∷◌, unwrap_or, Result, Ok, Err, refl, subst}
+use Rattle.odb_base.specs.Path.{Path}
+use Rattle.odb_disk.specs.declared.ask.DiskAnswer.{DiskAnswer}
+use Rattle.odb_disk.specs.declared.ask.DiskAnswer.TheVariants as answers
+use Rattle.odb_disk.specs.declared.ask.DiskAsk.TheVariants as disk_asks
+use Rattle.odb_tree.specs.declared.disk_error.DiskError.{DiskError}
+use Rattle.odb_tree.specs.declared.disk_error.DiskError.TheVariants as disk_errors
+use Rattle.gix_hash.specs.ObjectId.{kind_of}
+use Rattle.gix_hash.specs.declared.kind.Kind.{Kind}
+use Rattle.gix_pack_files.specs.Index.{is_index}
+use Rattle.gix_pack_files.specs.Pack.{is_pack}
+use Rattle.gix_odb_core.specs.declared.event.PassWhy.TheVariants as whys
+use Rattle.gix_odb_slots.specs.declared.loaded.Todo.{Todo}
+use Rattle.gix_odb_packs.specs.Goal.{given_by}
+use Rattle.gix_odb_packs.specs.Search.{rest_behind, search, with_absent}
+use Rattle.gix_odb_packs.specs.TryOrder.{ask_at, at, at_search, at_todo, by_answer, by_given, index_read, pack_behind, pack_read, read_of, search_stored}
+use Rattle.gix_odb_packs.specs.TryOrder.{seek, why_of}
+use Rattle.gix_odb_packs.specs.declared.answer.Answer.{Answer}
+use Rattle.gix_odb_packs.specs.declared.answer.Answer.TheVariants as told
+use Rattle.gix_odb_packs.specs.declared.answer.PartAsk.TheVariants as asks
+use Rattle.gix_odb_packs.specs.declared.goal.Error.{Error}
+use Rattle.gix_odb_packs.specs.declared.goal.Error.TheVariants as errors
+use Rattle.gix_odb_packs.specs.declared.goal.Found.{Found}
+use Rattle.gix_odb_packs.specs.declared.goal.Goal.{Goal}
+use Rattle.gix_odb_packs.specs.declared.search.Sought.{Sought}
+use Rattle.gix_odb_packs.specs.declared.search.Sought.TheVariants as searches
+use Rattle.gix_odb_packs.specs.declared.search.WantedPack.{WantedPack}
+use Rattle.gix_odb_packs.specs.declared.trier.Ahead.{Ahead}
+use Rattle.gix_odb_packs.specs.declared.trier.IndexPlace.{IndexPlace}
+use Rattle.gix_odb_packs.specs.declared.trier.Stage.{Stage}
+use Rattle.gix_odb_packs.specs.declared.trier.Stage.TheVariants as stages
+use Rattle.gix_odb_packs.specs.declared.trier.Tried.{Tried}
+use Rattle.gix_odb_packs.specs.declared.trier.Tried.TheVariants as ends
+use Rattle.gix_odb_packs.specs.declared.trier.Trier.{Trier}
+use Rattle.gix_odb_looks.specs.LookUpOrder.{Setting}
+use Rattle.gix_odb_looks.specs.True.{IsTrue}
+use Rattle.gix_odb_look_laws.specs.JustRead.{IsWhy}
+use Rattle.gix_odb_look_laws.proofs.TrierAtHand.{OfTried}
+
+-- Here `Read path answer` says that the path was read in the turn before, and answered so.
+module _ (Read : Path → DiskAnswer → Type 0) (hash : Kind) where
+  abbrev pub IsReadAt : Stage → Type 0
+  IsReadAt (stages.StoringIndex place file) = (time : ℕ) × Read place.path (answers.File file.bytes time)
+  IsReadAt (stages.PassingIndex place why) = (answer : DiskAnswer) × Read place.path answer × IsWhy hash answer why
+  IsReadAt (stages.StoringPack pack file) = (time : ℕ) × Read pack.path (answers.File file.bytes time)
+  IsReadAt (stages.PassingPack pack) = Read pack.path (answers.Refused disk_errors.Absent)
+  IsReadAt stage = Unit {0}
+
+  abbrev pub IsRead : Trier → Type 0
+  IsRead trier = IsReadAt trier.stage
+
+  abbrev Goes : Tried → Type 0
+  Goes end = OfTried IsRead end
+
+  -- ---- the search goes on
+
+  todo_goes : (goal : Goal) (ahead : Ahead) (todo : List Todo) → Goes (at_todo goal ahead todo)
+  todo_goes goal ahead [] = tt
+  todo_goes goal ahead (todo ∷ rest) = tt
+
+  search_goes : (goal : Goal) (ahead : Ahead) (found : Sought) → Goes (at_search goal ahead found)
+  search_goes goal ahead searches.Nowhere = todo_goes goal ahead ahead.todo
+  search_goes goal ahead (searches.Finds found) = tt
+  search_goes goal ahead (searches.Fails error) = tt
+  search_goes goal ahead (searches.Wants pack) = tt
+
+  pub seek_goes : (goal : Goal) (ahead : Ahead) → Goes (seek goal ahead)
+  seek_goes goal ahead =
+      search_goes goal (record ahead { indices = rest_behind goal ahead.notes.absent ahead.indices }) (search goal ahead.notes.absent ahead.indices)
+
+  given_goes : (given : Result Found Error) → Goes (by_given given)
+  given_goes (Ok found) = tt
+  given_goes (Err error) = tt
+
+  module _ (goal : Goal) (of_hash : kind_of goal.id ≡ hash) (ahead : Ahead) where
+    -- ---- reads
+
+    index_parsed : (place : IndexPlace) (bytes : List ℕ) (time : ℕ) → Read place.path (answers.File bytes time) → (b : Bool) → is_index (kind_of goal.id) bytes ≡ b
+        → Goes (at goal ahead (cond b (stages.StoringIndex place (record { kind = kind_of goal.id; bytes = bytes })) (stages.PassingIndex place whys.Bad)))
+    index_parsed place bytes time just true is = (time, just)
+    index_parsed place bytes time just false is =
+        (answers.File bytes time, just, subst (λ (kind : Kind). is_index kind bytes ≡ false) of_hash is)
+
+    refused_goes : (place : IndexPlace) (error : DiskError) → Read place.path (answers.Refused error)
+        → IsWhy hash (answers.Refused error) (why_of (answers.Refused error)) → Goes (index_read goal ahead place (answers.Refused error))
+    refused_goes place error just why = (answers.Refused error, just, why)
+
+    module _ (Shown : Path → List ℕ → Type 0) (setting : Setting) where
+      abbrev Truth : Path → DiskAnswer → Type 0
+      Truth path answer = IsTrue Shown setting hash (read_of path) (told.Disk answer)
+
+      index_goes : (place : IndexPlace) (answer : DiskAnswer) → Truth place.path answer → Read place.path answer → Goes (index_read goal ahead place answer)
+      index_goes place (answers.File bytes time) truth just = index_parsed place bytes time just (is_index (kind_of goal.id) bytes) refl
+      index_goes place (answers.Refused disk_errors.Absent) truth just = refused_goes place disk_errors.Absent just tt
+      index_goes place (answers.Refused disk_errors.WrongKind) truth just = refused_goes place disk_errors.WrongKind just tt
+      index_goes place (answers.Refused disk_errors.LinkLoop) truth just = refused_goes place disk_errors.LinkLoop just tt
+      index_goes place (answers.Refused disk_errors.Failed) truth just = refused_goes place disk_errors.Failed just tt
+      index_goes place (answers.Refused disk_errors.Exists) truth just = absurd truth.0
+      index_goes place (answers.Refused disk_errors.NotEmpty) truth just = absurd truth.0
+      index_goes place (answers.Refused disk_errors.NoMemory) truth just = absurd truth.0
+      index_goes place (answers.Meta meta) truth just = absurd truth.0
+      index_goes place (answers.Dir dir) truth just = absurd truth.0
+      index_goes place (answers.Entry entry) truth just = absurd truth.0
+      index_goes place answers.End truth just = absurd truth.0
+      index_goes place answers.Done truth just = absurd truth.0
+
+    pack_parsed : (pack : WantedPack) (bytes : List ℕ) (time : ℕ) → Read pack.path (answers.File bytes time) → (b : Bool)
+        → Goes (cond b (at goal ahead (stages.StoringPack pack (record { kind = kind_of goal.id; bytes = bytes }))) (ends.Bad errors.LoadPack))
+    pack_parsed pack bytes time just true = (time, just)
+    pack_parsed pack bytes time just false = tt
+
+    pack_goes : (pack : WantedPack) (answer : DiskAnswer) → Read pack.path answer → Goes (pack_read goal ahead pack answer)
+    pack_goes pack (answers.File bytes time) just = pack_parsed pack bytes time just (is_pack (kind_of goal.id) bytes)
+    pack_goes pack (answers.Refused disk_errors.Absent) just = just
+    pack_goes pack answer just = tt
+
+    -- ---- an answer
+
+    module _ (Shown : Path → List ℕ → Type 0) (setting : Setting) where
+      pub answer_goes : (stage : Stage) (answer : Answer) → IsTrue Shown setting hash (ask_at stage) answer
+          → ((path : Path) (own : DiskAnswer) → ask_at stage ≡ asks.Disk (disk_asks.Read path) → answer ≡ told.Disk own → Read path own)
+          → Goes (by_answer goal ahead stage answer)
+      answer_goes (stages.ReadingIndex place) (told.Disk answer) truth just = index_goes Shown setting place answer truth (just place.path answer refl refl)
+      answer_goes (stages.ReadingPack pack) (told.Disk answer) truth just = pack_goes pack answer (just pack.path answer refl refl)
+      answer_goes (stages.StoringIndex place file) (told.Core (Ok effect)) truth just = search_goes goal ahead (search_stored goal ahead.notes place file effect)
+      answer_goes (stages.PassingIndex place why) (told.Core (Ok effect)) truth just = seek_goes goal ahead
+      answer_goes (stages.StoringPack pack file) (told.Core (Ok effect)) truth just =
+          given_goes (given_by goal.wanted goal.limit (unwrap_or (pack_behind pack effect) file) pack.offset)
+      answer_goes (stages.PassingPack pack) (told.Core (Ok effect)) truth just =
+          seek_goes goal (record ahead { notes = with_absent ahead.notes pack.slot pack.path })
+      answer_goes (stages.StoringIndex place file) (told.Core (Err refusal)) truth just = tt
+      answer_goes (stages.PassingIndex place why) (told.Core (Err refusal)) truth just = tt
+      answer_goes (stages.StoringPack pack file) (told.Core (Err refusal)) truth just = tt
+      answer_goes (stages.PassingPack pack) (told.Core (Err refusal)) truth just = tt
+      answer_goes (stages.ReadingIndex place) (told.Core answer) truth just = absurd truth
+      answer_goes (stages.ReadingPack pack) (told.Core answer) truth just = absurd truth
+      answer_goes (stages.StoringIndex place file) (told.Disk answer) truth just = absurd truth
+      answer_goes (stages.PassingIndex place why) (told.Disk answer) truth just = absurd truth
+      answer_goes (stages.StoringPack pack file) (told.Disk answer) truth just = absurd truth
+      answer_goes (stages.PassingPack pack) (told.Disk answer) truth just = absurd truth

@@ -1,0 +1,63 @@
+-- What a look-up has at hand as it starts: the snapshot of its handle, with the object's index and its packs.
+use Rattle.std.specs.Prelude.{◌≡◌, true, slice_get, All, Contains, Some, None, Ok}
+use Rattle.gix_hash.specs.declared.object_id.ObjectId.{ObjectId}
+use Rattle.gix_pack_files.specs.FileBytes.{FileBytes}
+use Rattle.gix_odb_slots.specs.OnDiskFile.{loaded}
+use Rattle.gix_odb_slots.specs.Slots.{PackFile}
+use Rattle.gix_odb_slots.specs.declared.loaded.SnapshotIndex.{SnapshotIndex}
+use Rattle.gix_odb_core.specs.declared.view.View.{View}
+use Rattle.gix_odb_packs.specs.Spot.{spot_in}
+use Rattle.gix_odb_packs.specs.declared.spot.Spot.{Spot}
+use Rattle.gix_odb_calls.specs.declared.call.Reply.{Reply}
+use Rattle.gix_odb_calls.specs.declared.call.Reply.TheVariants as replies
+use Rattle.gix_odb_calls.specs.declared.query.Query.{Query}
+use Rattle.gix_odb_calls.specs.declared.query.Query.TheVariants.{Find, Header, Test}
+use Rattle.gix_odb_looks.specs.LookUpOrder.{ask_of, not_found, result_of}
+use Rattle.gix_odb_looks.specs.declared.look_up.LookUp.{LookUp}
+
+-- ---- the snapshot
+
+-- the pack in which an index has an object is loaded
+pub record IsPackLoaded (index : SnapshotIndex) (spot : Spot) : Type 0 where
+  pub pack : PackFile
+  pub named : slice_get index.packs spot.place ≡ Some pack
+  pub file : FileBytes
+  pub there : loaded pack.state ≡ Some file
+
+-- an index of a snapshot has an id
+pub record HasId (id : ObjectId) (index : SnapshotIndex) : Type 0 where
+  pub spot : Spot
+  pub has : spot_in index.index id ≡ Some spot
+
+-- where an index has an id, the pack that it names for it is loaded
+abbrev pub HasPackLoaded : ObjectId → SnapshotIndex → Type 0
+HasPackLoaded id index = (spot : Spot) → spot_in index.index id ≡ Some spot → IsPackLoaded index spot
+
+-- A find and a look for a header need the pack that each index with the id names for it. For a test no pack is needed.
+abbrev pub HasPacks : Query → ObjectId → View → Type 0
+HasPacks (Find asked) id view = All (HasPackLoaded id) view.snapshot.indices
+HasPacks (Header asked) id view = All (HasPackLoaded id) view.snapshot.indices
+HasPacks (Test asked) id view = Unit {0}
+
+-- a snapshot of a list that was read has an index with the id, and the packs that the query needs
+pub record IsAtHand (query : Query) (id : ObjectId) (view : View) : Type 0 where
+  pub read : view.read ≡ true
+  pub index : SnapshotIndex
+  pub among : Contains view.snapshot.indices index
+  pub has : HasId id index
+  pub packs : HasPacks query id view
+
+-- ---- the look-up
+
+-- a test is answered by a yes
+abbrev pub SaysYes : Query → Reply → Type 0
+SaysYes (Test asked) reply = reply ≡ replies.Tested true
+SaysYes query reply = Unit {0}
+
+-- A look-up is done: it has its reply, which doesn't say that nothing was found, and asks nothing.
+pub record IsDone (query : Query) (look : LookUp) : Type 0 where
+  pub reply : Reply
+  pub replied : result_of look ≡ Ok reply
+  pub silent : ask_of look ≡ None
+  pub found : ¬ (reply ≡ not_found query)
+  pub yes : SaysYes query reply

@@ -1,0 +1,9 @@
+-- What a look-up has at hand, what it read last, one exchange behind another, the listed files of a tree, the calls of a listing, an object
+-- that moves, and objects that hash to an id.
+pub mod AtHand
+pub mod JustRead
+pub mod Following
+pub mod ListedFiles
+pub mod ListerCalls
+pub mod Moved
+pub mod Hashed

@@ -1,0 +1,40 @@
+-- An object that is loose up to an exchange of a look-up, and lies in a pack from then on.
+use Rattle.std.specs.Prelude.{◌≡◌, true, List, Contains, Some}
+use Rattle.odb_base.specs.Path.{Path}
+use Rattle.odb_disk.specs.declared.ask.DiskAnswer.{DiskAnswer}
+use Rattle.gix_hash.specs.declared.object_id.ObjectId.{ObjectId}
+use Rattle.gix_odb_loose.specs.LooseOrder.{disk_ask_of, reply_of}
+use Rattle.gix_odb_loose.specs.declared.call.LooseReply.{LooseReply}
+use Rattle.gix_odb_core.specs.declared.view.View.{View}
+use Rattle.gix_odb_packs.specs.declared.answer.Answer.{Answer}
+use Rattle.gix_odb_packs.specs.declared.answer.Answer.TheVariants as told
+use Rattle.gix_odb_packs.specs.declared.answer.PartAsk.{PartAsk}
+use Rattle.gix_odb_packs.specs.declared.answer.PartAsk.TheVariants as asks
+use Rattle.gix_odb_calls.specs.Verdict.{asking, verdict_on}
+use Rattle.gix_odb_calls.specs.declared.call.Reply.{Reply}
+use Rattle.gix_odb_calls.specs.declared.query.Query.{Query}
+use Rattle.gix_odb_calls.specs.declared.verdict.Verdict.TheVariants as verdicts
+use Rattle.gix_odb_looks.specs.Exchange.{Exchange, IsAnswerTo}
+use Rattle.gix_odb_looks.specs.LookUpOrder.{Setting, loose_fed, view_of}
+use Rattle.gix_odb_looks.specs.Reply.{IsAnswer}
+
+-- each view that exchanges hand over is of a core that had published a list
+abbrev pub ArePublished : List Exchange → Type 0
+ArePublished exchanges = (exchange : Exchange) → Contains exchanges exchange → (view : View) → view_of exchange.answer ≡ Some view → view.read ≡ true
+
+module _ (setting : Setting) (query : Query) (id : ObjectId) (folder : Path) where
+  -- the loose objects of the folder, asked by the query, have the object, by this answer of the disk
+  pub record HasLoose (answer : DiskAnswer) : Type 0 where
+    pub reply : LooseReply
+    pub replied : reply_of (loose_fed (asking setting.limit query id folder) answer) ≡ Some reply
+    pub told : Reply
+    pub says : verdict_on query reply ≡ verdicts.Ends told
+    pub found : IsAnswer told
+
+  -- an exchange is fair to the loose object of the folder: where its call is the one by which it is asked for, the answer has it
+  abbrev pub IsLooseFair : PartAsk → Answer → Type 0
+  IsLooseFair (asks.Disk ask) (told.Disk answer) = disk_ask_of (asking setting.limit query id folder) ≡ Some ask → HasLoose answer
+  IsLooseFair ask answer = IsAnswerTo ask answer
+
+  abbrev pub AreLooseFair : List Exchange → Type 0
+  AreLooseFair exchanges = (exchange : Exchange) → Contains exchanges exchange → IsLooseFair exchange.ask exchange.answer
