@@ -1,0 +1,5 @@
+-- Which paths are watched and what a tree shows at them; what is kept of that; and what was shown over a family of trees.
+pub mod Watched
+pub mod Kept
+pub mod HasShown
+pub mod Files

@@ -1,0 +1,105 @@
+//! What the watched paths of folders have shown.
+ghost use Rattle.std.specs.Prelude.{◌≡◌, ◌↔◌, IsTrue, true, false, IfOk, OnOk};
+ghost use Rattle.std.specs.FinSet as set;
+ghost use Rattle.odb_tree.specs.Tree.Change.{changed, is_possible_in};
+ghost use Rattle.gix_odb_shown.specs.Files.{Reveals};
+ghost use Rattle.gix_odb_shown.specs.Kept.{Fits, IsSecond, Notes, nothing_kept};
+
+use crate::contents::Contents;
+use crate::shown_file::{ShownFile, files_in, files_of_all};
+use odb_base::{NoMemory, PathText};
+use odb_tree::{Change, Impossible, Tree};
+use std::alloc::Global;
+use std::collections::BTreeSet;
+use std::marker::Model;
+
+/// What the indices, packs and multi-pack indices of watched folders have shown.
+#[derive(Drop)]
+pub struct Shown {
+    folders: BTreeSet<PathText>,
+    contents: Contents,
+}
+
+impl Model for Shown {
+    ghost use Rattle.std.specs.FinSet as set;
+    ghost use Rattle.gix_odb_shown.specs.Kept.{Kept, coded_kept};
+
+    ghost Value = { Kept };
+
+    ghost coded = { coded_kept };
+
+    ghost view = { λ s. record { folders = set.from_list s.folders.keys; contents = s.contents } };
+}
+
+impl Shown {
+    /// No folder is watched.
+    pub fn new(alloc: Global) -> Shown
+        ensures empty { result ≡ nothing_kept }
+    {
+        Shown {
+            folders: BTreeSet::new(alloc),
+            contents: Contents::new(alloc),
+        }
+    }
+
+    /// Watches a folder from now on, and notes what the tree shows in it.
+    pub fn watch(&mut self, alloc: Global, folder: &PathText, tree: &Tree) -> Result<(), NoMemory>
+        requires fits { Fits self.old tree.now }
+        ensures notes { OnOk result (Notes self.old (set.insert self.old.folders folder.now) tree.now self.new) }
+        ensures fits { OnOk result (Fits self.new tree.now) }
+    {
+        let files = files_in(alloc, tree, folder)?;
+        self.folders.insert(folder.try_clone(alloc)?)?;
+        self.contents.keep_all(files)
+    }
+
+    /// Whether a watched path would show a second content after a change.
+    pub fn is_second(&self, alloc: Global, tree: &Tree, change: &Change) -> Result<bool, NoMemory>
+        requires fits { Fits self.now tree.now }
+        requires possible { is_possible_in tree.now change.now ≡ true }
+        ensures second { IfOk result (λ second. IsTrue second ↔ IsSecond self.now (changed tree.now change.now)) }
+    {
+        let files = self.revealed(alloc, tree, change)?;
+        Ok(self.contents.differs_from_one(&files))
+    }
+
+    /// Notes what a change makes watched paths show. It is told of the tree before the change.
+    pub fn note(&mut self, alloc: Global, tree: &Tree, change: &Change) -> Result<(), NoMemory>
+        requires fits { Fits self.old tree.now }
+        requires possible { is_possible_in tree.now change.now ≡ true }
+        requires first { IsSecond self.old (changed tree.now change.now) → ⊥ }
+        ensures notes { OnOk result (Notes self.old self.old.folders (changed tree.now change.now) self.new) }
+        ensures fits { OnOk result (Fits self.new (changed tree.now change.now)) }
+    {
+        let files = self.revealed(alloc, tree, change)?;
+        self.contents.keep_all(files)
+    }
+
+    /// What a change makes watched paths show, but for what they show already.
+    fn revealed(
+        &self,
+        alloc: Global,
+        tree: &Tree,
+        change: &Change,
+    ) -> Result<Vec<ShownFile>, NoMemory>
+        requires fits { Fits self.now tree.now }
+        requires possible { is_possible_in tree.now change.now ≡ true }
+        ensures reveals { IfOk result (λ files. Reveals self.now.folders tree.now (changed tree.now change.now) files.items) }
+    {
+        let after = changed(alloc, tree, change)?;
+        files_of_all(alloc, &after, &self.folders)
+    }
+}
+
+/// The tree after a change that is possible.
+fn changed(alloc: Global, tree: &Tree, change: &Change) -> Result<Tree, NoMemory>
+    requires possible { is_possible_in tree.now change.now ≡ true }
+    ensures changed { IfOk result (λ after. after ≡ changed tree.now change.now) }
+{
+    let mut after = tree.try_clone(alloc)?;
+    match after.change(alloc, change) {
+        Ok(()) => Ok(after),
+        Err(Impossible::Impossible) => unreachable!("the change is possible"),
+        Err(Impossible::NoMemory) => Err(NoMemory),
+    }
+}
