@@ -7,13 +7,14 @@ use Rattle.std.specs.FinSet as set
 use Rattle.std.specs.Cmp.Lexicographic.{bytes_decides}
 use Rattle.std.proofs.lemmas.Bool.{false≢true, or_right, or_cases, cases_Bool}
 use Rattle.odb_base.specs.Path.{Name, Path, path_cmp, same_name}
-use Rattle.odb_base.specs.PathLaws.{path_order, parent_of-push}
+use Rattle.odb_base.specs.PathLaws.{one_place, path_order, parent_of-push}
 use Rattle.odb_base.specs.Path.{parent_of}
 use Rattle.odb_tree.specs.Tree.{Tree}
 use Rattle.odb_tree.specs.Tree.Follow.{Refusal, read_of}
 use Rattle.odb_tree.proofs.TreeLemmas.{same_path, own_path}
 use Rattle.gix_odb_shown.specs.Watched.{Shows, pack_directory, counted}
-use Rattle.gix_odb_shown.specs.Kept.{Kept, Contents, Folders, key_cmp, ShowsInOne, IsSecond, Notes, LiesInOne, Fits}
+use Rattle.gix_odb_shown.specs.Plain.{ArePlain, IsPlain}
+use Rattle.gix_odb_shown.specs.Kept.{Kept, Contents, Folders, key_cmp, ShowsInOne, IsSecond, Notes, LiesInOne, Fits, nothing_kept}
 use Rattle.gix_odb_shown.specs.Files.{IsIn, Reveals, files_in, differs, with_files}
 use Rattle.gix_odb_shown.specs.declared.shown_file.ShownFile.{ShownFile}
 use Rattle.gix_odb_shown.proofs.ListLemmas.{one_passes, passes_one}
@@ -60,12 +61,12 @@ module _ (kept : Kept) (tree : Tree) (files : List ShownFile)
 
 -- ---- what is kept after a tree was noted
 
-module _ (old : Kept) (folders : Folders) (tree : Tree) (files : List ShownFile)
+module _ (old : Kept) (folders : Folders) (tree : Tree) (files : List ShownFile) (plain : Bool)
     (show : (file : ShownFile) → IsIn files file → ShowsInOne folders tree file.key.0 file.key.1 file.bytes)
     (shown : (path : Path) (time : ℕ) (bytes : List ℕ) → ShowsInOne folders tree path time bytes
     → (finite.get old.contents (path, time) ≡ Some bytes) ⊎ IsIn files (record { key = (path, time); bytes = bytes })) where
   abbrev noted : Kept
-  noted = record { folders = folders; contents = with_files old.contents files }
+  noted = record { folders = folders; contents = with_files old.contents files; plain = plain }
 
   pub notes_files : Notes old folders tree noted
   notes_files = record {
@@ -98,8 +99,8 @@ module _ (kept : Kept) (before after : Tree) (files : List ShownFile) (fits : Fi
         | inr one ↦ one
       ])
 
-  pub notes_after : Notes kept kept.folders after (record { folders = kept.folders; contents = with_files kept.contents files })
-  notes_after = notes_files kept kept.folders after files r.shown (λ path time bytes shows.
+  pub notes_after : (plain : Bool) → Notes kept kept.folders after (record { folders = kept.folders; contents = with_files kept.contents files; plain = plain })
+  notes_after plain = notes_files kept kept.folders after files plain r.shown (λ path time bytes shows.
       elim (r.whole path time bytes shows) [
         | inl there ↦ inl (fits.whole path time bytes there)
         | inr one ↦ inr one
@@ -112,7 +113,8 @@ lies_by folders tree path time bytes s = record { folder = s.folder; among = s.a
 
 module _ (old : Kept) (folders : Folders) (tree : Tree) (new : Kept) (n : Notes old folders tree new)
     (agree : (path : Path) (time : ℕ) (first bytes : List ℕ) → finite.get old.contents (path, time) ≡ Some first → ShowsInOne folders tree path time bytes → first ≡ bytes)
-    (lies : (path : Path) (time : ℕ) (bytes : List ℕ) → finite.get old.contents (path, time) ≡ Some bytes → LiesInOne folders path) where
+    (lies : (path : Path) (time : ℕ) (bytes : List ℕ) → finite.get old.contents (path, time) ≡ Some bytes → LiesInOne folders path)
+    (plain : new.plain ≡ true → ArePlain tree folders) where
   some_kept : (o : Option (List ℕ)) → IsSome o → (bytes : List ℕ) × (o ≡ Some bytes)
   some_kept None is = absurd (false≢true is)
   some_kept (Some bytes) is = (bytes, refl)
@@ -133,6 +135,7 @@ module _ (old : Kept) (folders : Folders) (tree : Tree) (new : Kept) (n : Notes 
           | inl before ↦ lies path time bytes before
           | inr now ↦ lies_by folders tree path time bytes now
         ]);
+    plain = λ is. subst (λ (f : Folders). ArePlain tree f) (sym n.folders_are) (plain is);
   }
 
 -- after a change that shows no second content
@@ -145,8 +148,9 @@ first_agrees kept tree first_only path time first bytes known shows = elim (case
       differs = λ same. false≢true (sym apart ∙ (bytes_decides bytes first).1 same); }))
 ]
 
-pub fits_after : (old : Kept) (before after : Tree) (new : Kept) → Fits old before → (IsSecond old after → ⊥) → Notes old old.folders after new → Fits new after
-fits_after old before after new fits first_only n = fits_noted old old.folders after new n (first_agrees old after first_only) fits.only
+pub fits_after : (old : Kept) (before after : Tree) (new : Kept) → Fits old before → (IsSecond old after → ⊥) → Notes old old.folders after new
+    → (new.plain ≡ true → ArePlain after old.folders) → Fits new after
+fits_after old before after new fits first_only n plain = fits_noted old old.folders after new n (first_agrees old after first_only) fits.only plain
 
 -- ---- a folder more
 
@@ -182,8 +186,8 @@ module _ (old : Kept) (folder : Path) (tree : Tree) (fits : Fits old tree) where
     | inr among ↦ inl (fits.whole path time bytes (record { folder = s.folder; among = among; shows = s.shows }))
   ]
 
-  pub notes_folder : Notes old more tree (record { folders = more; contents = with_files old.contents (files_in tree folder) })
-  notes_folder = notes_files old more tree (files_in tree folder) own_show own_shown
+  pub notes_folder : (plain : Bool) → Notes old more tree (record { folders = more; contents = with_files old.contents (files_in tree folder); plain = plain })
+  notes_folder plain = notes_files old more tree (files_in tree folder) plain own_show own_shown
 
   -- what was kept is of folders that were watched, so it is the same as what they show
   own_agrees : (path : Path) (time : ℕ) (first bytes : List ℕ) → finite.get old.contents (path, time) ≡ Some first → ShowsInOne more tree path time bytes → first ≡ bytes
@@ -197,13 +201,43 @@ module _ (old : Kept) (folder : Path) (tree : Tree) (fits : Fits old tree) where
   own_lies path time bytes known =
       let l = fits.only path time bytes known in record { folder = l.folder; among = among_more old.folders folder l.folder l.among; name = l.name; path_is = l.path_is }
 
-  pub fits_watched : (new : Kept) → Notes old more tree new → Fits new tree
-  fits_watched new n = fits_noted old more tree new n own_agrees own_lies
+  -- where it is plain, and so are those that are watched already, all are
+  pub plain_too : (old.plain ≡ true) → IsPlain tree folder → ArePlain tree more
+  plain_too known own other among = elim (among_either old.folders folder other among) [
+    | inl same ↦ subst (IsPlain tree) (sym same) own
+    | inr before ↦ fits.plain known other before
+  ]
+
+  pub fits_watched : (new : Kept) → Notes old more tree new → (new.plain ≡ true → ArePlain tree more) → Fits new tree
+  fits_watched new n plain = fits_noted old more tree new n own_agrees own_lies plain
+
+  -- a folder that is watched already
+  module _ (among : set.contains old.folders folder ≡ true) where
+    same_contains : (other : Path) → set.contains old.folders other ≡ set.contains more other
+    same_contains other =
+        elim (eq_by_cmp path_cmp other folder) as (λ b. eq_by_cmp path_cmp other folder ≡ b → set.contains old.folders other ≡ (b || set.contains old.folders other)) [
+          | true ↦ λ tied. ap (set.contains old.folders) (same_path other folder tied) ∙ among
+          | false ↦ λ _. refl
+        ] refl
+        ∙ sym (set.contains-insert path_order old.folders folder other)
+
+    same_folders : old.folders ≡ more
+    same_folders = set.same_set path_order one_place old.folders more same_contains
+
+    pub notes_again : Notes old more tree old
+    notes_again = record {
+      folders_are = same_folders;
+      stays = λ path time bytes known. known;
+      whole = λ path time bytes s.
+          ap is_some (fits.whole path time bytes (subst (λ (f : Folders). ShowsInOne f tree path time bytes) (sym same_folders) s));
+      only = λ path time bytes known. inl known;
+    }
 
 -- ---- nothing kept
 
-pub nothing_fits : (tree : Tree) → Fits (record { folders = set.empty; contents = finite.empty }) tree
+pub nothing_fits : (tree : Tree) → Fits nothing_kept tree
 nothing_fits tree = record {
   whole = λ path time bytes s. absurd (false≢true (sym (set.contains-empty path_cmp s.folder) ∙ s.among));
   only = λ path time bytes known. let both : None ≡ Some bytes = sym (finite.get-empty key_cmp (path, time)) ∙ known in absurd (cc);
+  plain = λ is folder among. absurd (false≢true (sym (set.contains-empty path_cmp folder) ∙ among));
 }

@@ -4,4 +4,6 @@ mod ListLemmas
 mod EntryLemmas
 mod FilesLemmas
 mod ContentsLemmas
+mod PlainLemmas
+mod SeenLemmas
 mod KeptLemmas

@@ -12,6 +12,8 @@
 #![tactic(auto)]
 
 mod contents;
+mod plain;
+mod seen;
 mod shown;
 mod shown_file;
 mod watched;

@@ -49,7 +49,11 @@ fn files_of(
 }
 
 /// The entries of a directory, or none where there is no directory.
-fn listed(alloc: Global, tree: &Tree, directory: &PathText) -> Result<EntryQueue, NoMemory>
+pub(crate) fn listed(
+    alloc: Global,
+    tree: &Tree,
+    directory: &PathText,
+) -> Result<EntryQueue, NoMemory>
     ensures entries { IfOk result (λ entries. entries ≡ listed tree.now directory.now) }
 {
     match tree.entries(alloc, directory) {
@@ -70,7 +74,7 @@ pub(crate) fn add_file(
     requires named { is_name name.now ≡ true }
     ensures added { OnOk result (files.new.items ≡ files.old.items ++ files_at tree.now directory.now name.now) }
 {
-    let Some(kind) = watched_kind(name) else {
+    let Some(kind) = watched_kind(name.as_str()) else {
         return Ok(());
     };
     let path = joined(alloc, directory, name)?;

@@ -2,7 +2,7 @@
 ghost use Rattle.std.specs.Prelude.{◌≡◌, IfOk};
 ghost use Rattle.gix_odb_shown.specs.Watched.{counted, pack_directory, watched_kind};
 
-use odb_base::{BadPath, NoMemory, PathName, PathText};
+use odb_base::{BadPath, NoMemory, PathText};
 use std::alloc::Global;
 
 /// What a watched name stands for.
@@ -26,14 +26,14 @@ pub(crate) fn pack_directory(alloc: Global, folder: &PathText) -> Result<PathTex
 }
 
 /// What a name in it is that is watched.
-pub(crate) fn watched_kind(name: &PathName) -> Option<WatchedKind>
+pub(crate) fn watched_kind(name: &str) -> Option<WatchedKind>
     ensures kind { result ≡ watched_kind name.now }
 {
-    let bytes = name.as_str().as_bytes();
+    let bytes = name.as_bytes();
     if bytes.ends_with(b".idx") || bytes.ends_with(b".pack") {
         return Some(WatchedKind::PackOrIndex);
     }
-    if name.as_str() == "multi-pack-index" {
+    if name == "multi-pack-index" {
         return Some(WatchedKind::MultiIndex);
     }
     None

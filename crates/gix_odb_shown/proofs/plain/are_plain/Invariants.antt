@@ -1,0 +1,9 @@
+use Rattle.std.proofs.Common.{◌≡◌, true}
+use Rattle.odb_base.specs.Path.{Path}
+use Rattle.gix_odb_shown.specs.Files.{IsIn}
+use Rattle.gix_odb_shown.specs.Plain.{IsPlain}
+use Rattle.gix_odb_shown.proofs.plain.are_plain.Given as goal
+
+-- the folders so far are plain
+abbrev pub invariant-loop-folder : goal.invariant-loop-folder
+invariant-loop-folder l = l.plain ≡ true → (folder : Path) → IsIn l.yielded folder → IsPlain l.tree folder
