@@ -134,9 +134,9 @@ pub all_only : (files : List ShownFile) (c : Contents) (k : Key) (bytes : List �
 all_only [] c k bytes kept = inl kept
 all_only (first ∷ files) c k bytes kept = elim (all_only files (with_file c first) k bytes kept) [
   | inl before ↦ elim (file_only c first k bytes before) [
-      | inl old ↦ inl old
-      | inr here ↦ inr (first, (inl refl, (here.0, here.1)))
-    ]
+    | inl old ↦ inl old
+    | inr here ↦ inr (first, (inl refl, (here.0, here.1)))
+  ]
   | inr o ↦ inr (o.0, (inr o.1, (o.2, o.3)))
 ]
 

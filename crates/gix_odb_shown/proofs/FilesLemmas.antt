@@ -41,8 +41,10 @@ module _ (folder : Path) (tree : Tree) where
     where
       own : Path
       own = pack_directory folder ++ s.name ∷ []
+
       key : ◌≡◌ {A = Path × ℕ} (own, counted s.kind s.at) (path, time)
       key = λ i. (sym s.path_is i, s.counts i)
+
       reading : files_at tree (pack_directory folder) s.name ≡ record { key = (own, counted s.kind s.at); bytes = bytes } ∷ []
       reading =
           ap (λ kind. file_read own kind (read_of tree own)) s.is_watched

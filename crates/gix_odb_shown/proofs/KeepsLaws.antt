@@ -32,16 +32,33 @@ module _ (trees : ℕ → Tree) (since : Since) (now : ℕ) (kept : Kept) (k : K
   pub second_shown : (tree : Tree) → IsSecond kept tree → ShowsSecond trees since now tree
   second_shown tree s =
       let w = since_when (since s.shows.folder) (sym (k.folders s.shows.folder) ∙ s.shows.among) in
-      record { path = s.path; time = s.time; first = s.first; bytes = s.bytes; known = k.only s.path s.time s.first s.known; folder = s.shows.folder; begun = w.0; watched = w.1;
-      shows = s.shows.shows; differs = s.differs }
+      record {
+        path = s.path;
+        time = s.time;
+        first = s.first;
+        bytes = s.bytes;
+        known = k.only s.path s.time s.first s.known;
+        folder = s.shows.folder;
+        begun = w.0;
+        watched = w.1;
+        shows = s.shows.shows;
+        differs = s.differs;
+      }
 
   watched_among : (folder : Path) (begun : ℕ) → since folder ≡ Some begun → set.contains kept.folders folder ≡ true
   watched_among folder begun watched = k.folders folder ∙ ap is_some watched
 
   pub shown_second : (tree : Tree) → ShowsSecond trees since now tree → IsSecond kept tree
   shown_second tree s =
-      record { path = s.path; time = s.time; first = s.first; bytes = s.bytes; known = k.whole s.path s.time s.first s.known;
-      shows = record { folder = s.folder; among = watched_among s.folder s.begun s.watched; shows = s.shows }; differs = s.differs }
+      record {
+        path = s.path;
+        time = s.time;
+        first = s.first;
+        bytes = s.bytes;
+        known = k.whole s.path s.time s.first s.known;
+        shows = record { folder = s.folder; among = watched_among s.folder s.begun s.watched; shows = s.shows };
+        differs = s.differs;
+      }
 
 -- ---- from moment to moment
 
@@ -103,66 +120,73 @@ keeps_still trees since now kept k begun same = record {
 -- ---- a folder more
 
 module _ (trees : ℕ → Tree) (since : Since) (now : ℕ) (folder : Path) (old new : Kept) (k : Keeps trees since now old) (n : Notes old (one_more old.folders folder) (trees now) new) (fits : Fits new (trees now))
-    where
-  abbrev later : Since
-  later = with_since since now folder
+  where
+    abbrev later : Since
+    later = with_since since now folder
 
-  or_own : (o : Option ℕ) (b : Bool) → is_some (option_or o (if b then Some now else None)) ≡ (b || is_some o)
-  or_own None true = refl
-  or_own None false = refl
-  or_own (Some begun) true = refl
-  or_own (Some begun) false = refl
+    or_own : (o : Option ℕ) (b : Bool) → is_some (option_or o (if b then Some now else None)) ≡ (b || is_some o)
+    or_own None true = refl
+    or_own None false = refl
+    or_own (Some begun) true = refl
+    or_own (Some begun) false = refl
 
-  folders_later : (other : Path) → set.contains new.folders other ≡ is_some (later other)
-  folders_later other =
-      ap (λ (f : Folders). set.contains f other) n.folders_are ∙ set.contains-insert path_order old.folders folder other
-      ∙ ap (λ b. eq_by_cmp path_cmp other folder || b) (k.folders other) ∙ sym (or_own (since other) (eq_by_cmp path_cmp other folder))
+    folders_later : (other : Path) → set.contains new.folders other ≡ is_some (later other)
+    folders_later other =
+        ap (λ (f : Folders). set.contains f other) n.folders_are ∙ set.contains-insert path_order old.folders folder other
+        ∙ ap (λ b. eq_by_cmp path_cmp other folder || b) (k.folders other) ∙ sym (or_own (since other) (eq_by_cmp path_cmp other folder))
 
-  -- a folder that was watched stays so, since the same moment
-  was_watched : (other : Path) (begun : ℕ) → since other ≡ Some begun → later other ≡ Some begun
-  was_watched other begun watched = ap (λ o. option_or o (if eq_by_cmp path_cmp other folder then Some now else None)) watched
+    -- a folder that was watched stays so, since the same moment
+    was_watched : (other : Path) (begun : ℕ) → since other ≡ Some begun → later other ≡ Some begun
+    was_watched other begun watched = ap (λ o. option_or o (if eq_by_cmp path_cmp other folder then Some now else None)) watched
 
-  -- one that is watched is so since before, or since now
-  is_watched : (other : Path) (o : Option ℕ) (b : Bool) (begun : ℕ) → since other ≡ o → option_or o (if b then Some now else None) ≡ Some begun → (since other ≡ Some begun) ⊎ (begun ≡ now)
-  is_watched other None true begun is e = let same : now ≡ begun = cc in inr (sym same)
-  is_watched other None false begun is e = absurd (cc)
-  is_watched other (Some first) b begun is e = inl (is ∙ e)
+    -- one that is watched is so since before, or since now
+    is_watched : (other : Path) (o : Option ℕ) (b : Bool) (begun : ℕ) → since other ≡ o → option_or o (if b then Some now else None) ≡ Some begun → (since other ≡ Some begun) ⊎ (begun ≡ now)
+    is_watched other None true begun is e = let same : now ≡ begun = cc in inr (sym same)
+    is_watched other None false begun is e = absurd (cc)
+    is_watched other (Some first) b begun is e = inl (is ∙ e)
 
-  still : (path : Path) (time : ℕ) (bytes : List ℕ) → HasShown trees since now path time bytes → HasShown trees later now path time bytes
-  still path time bytes h =
-      record { folder = h.folder; begun = h.begun; watched = was_watched h.folder h.begun h.watched; moment = h.moment; from = h.from; to = h.to; shows = h.shows }
+    still : (path : Path) (time : ℕ) (bytes : List ℕ) → HasShown trees since now path time bytes → HasShown trees later now path time bytes
+    still path time bytes h =
+        record { folder = h.folder; begun = h.begun; watched = was_watched h.folder h.begun h.watched; moment = h.moment; from = h.from; to = h.to; shows = h.shows }
 
-  no_later : AreBegun since now → (other : Path) (begun : ℕ) → (since other ≡ Some begun) ⊎ (begun ≡ now) → begun ≤ now
-  no_later early other begun (inl before) = early other begun before
-  no_later early other begun (inr same) = omega (arith, same)
+    no_later : AreBegun since now → (other : Path) (begun : ℕ) → (since other ≡ Some begun) ⊎ (begun ≡ now) → begun ≤ now
+    no_later early other begun (inl before) = early other begun before
+    no_later early other begun (inr same) = omega (arith, same)
 
-  shown_since : AreBegun since now → (path : Path) (time : ℕ) (bytes : List ℕ) → ShowsInOne (one_more old.folders folder) (trees now) path time bytes → HasShown trees later now path time bytes
-  shown_since begun path time bytes s =
-      let w = since_when (later s.folder) (sym (folders_later s.folder) ∙ ap (λ (f : Folders). set.contains f s.folder) n.folders_are ∙ s.among) in
-      record { folder = s.folder; begun = w.0; watched = w.1; moment = now; from = no_later begun s.folder w.0 (is_watched s.folder (since s.folder) (eq_by_cmp path_cmp s.folder folder) w.0 refl w.1); to = omega arith;
-      shows = s.shows }
+    shown_since : AreBegun since now → (path : Path) (time : ℕ) (bytes : List ℕ) → ShowsInOne (one_more old.folders folder) (trees now) path time bytes → HasShown trees later now path time bytes
+    shown_since begun path time bytes s =
+        let w = since_when (later s.folder) (sym (folders_later s.folder) ∙ ap (λ (f : Folders). set.contains f s.folder) n.folders_are ∙ s.among) in
+        record {
+          folder = s.folder;
+          begun = w.0;
+          watched = w.1;
+          moment = now;
+          from = no_later begun s.folder w.0 (is_watched s.folder (since s.folder) (eq_by_cmp path_cmp s.folder folder) w.0 refl w.1);
+          to = omega arith;
+          shows = s.shows;
+        }
 
-  -- A folder that is watched from now on, and of which the tree was noted: what is kept tells of it too.
-  pub keeps_watched : AreBegun since now → Keeps trees later now new
-  keeps_watched begun = record {
-    folders = folders_later;
-    only = λ path time bytes kept.
-        elim (n.only path time bytes kept) [
-          | inl before ↦ still path time bytes (k.only path time bytes before)
-          | inr shown ↦ shown_since begun path time bytes shown
-        ];
-    whole = λ path time bytes h. kept_of path time bytes h;
-    fits = fits;
-  }
-    where
-      -- what a folder showed that is watched since now it shows now
-      kept_by : (path : Path) (time : ℕ) (bytes : List ℕ) (h : HasShown trees later now path time bytes) → (since h.folder ≡ Some h.begun) ⊎ (h.begun ≡ now)
-          → finite.get new.contents (path, time) ≡ Some bytes
-      kept_by path time bytes h (inl before) =
-          n.stays path time bytes (k.whole path time bytes (record { folder = h.folder; begun = h.begun; watched = before; moment = h.moment; from = h.from; to = h.to; shows = h.shows }))
-      kept_by path time bytes h (inr same) =
-          let this : h.moment ≡ now = omega (arith, h.from, h.to, same) in
-          fits.whole path time bytes (record { folder = h.folder; among = folders_later h.folder ∙ ap is_some h.watched; shows = subst (λ (m : ℕ). Shows h.folder (trees m) path time bytes) this h.shows })
+    -- A folder that is watched from now on, and of which the tree was noted: what is kept tells of it too.
+    pub keeps_watched : AreBegun since now → Keeps trees later now new
+    keeps_watched begun = record {
+      folders = folders_later;
+      only = λ path time bytes kept.
+          elim (n.only path time bytes kept) [
+            | inl before ↦ still path time bytes (k.only path time bytes before)
+            | inr shown ↦ shown_since begun path time bytes shown
+          ];
+      whole = λ path time bytes h. kept_of path time bytes h;
+      fits = fits;
+    }
+      where
+        -- what a folder showed that is watched since now it shows now
+        kept_by : (path : Path) (time : ℕ) (bytes : List ℕ) (h : HasShown trees later now path time bytes) → (since h.folder ≡ Some h.begun) ⊎ (h.begun ≡ now)
+            → finite.get new.contents (path, time) ≡ Some bytes
+        kept_by path time bytes h (inl before) =
+            n.stays path time bytes (k.whole path time bytes (record { folder = h.folder; begun = h.begun; watched = before; moment = h.moment; from = h.from; to = h.to; shows = h.shows }))
+        kept_by path time bytes h (inr same) =
+            let this : h.moment ≡ now = omega (arith, h.from, h.to, same) in
+            fits.whole path time bytes (record { folder = h.folder; among = folders_later h.folder ∙ ap is_some h.watched; shows = subst (λ (m : ℕ). Shows h.folder (trees m) path time bytes) this h.shows })
 
-      kept_of : (path : Path) (time : ℕ) (bytes : List ℕ) → HasShown trees later now path time bytes → finite.get new.contents (path, time) ≡ Some bytes
-      kept_of path time bytes h = kept_by path time bytes h (is_watched h.folder (since h.folder) (eq_by_cmp path_cmp h.folder folder) h.begun refl h.watched)
+        kept_of : (path : Path) (time : ℕ) (bytes : List ℕ) → HasShown trees later now path time bytes → finite.get new.contents (path, time) ≡ Some bytes
+        kept_of path time bytes h = kept_by path time bytes h (is_watched h.folder (since h.folder) (eq_by_cmp path_cmp h.folder folder) h.begun refl h.watched)

@@ -144,8 +144,15 @@ first_agrees : (kept : Kept) (tree : Tree) → (IsSecond kept tree → ⊥) → 
 first_agrees kept tree first_only path time first bytes known shows = elim (cases_Bool (same_name bytes first)) [
   | inl same ↦ sym ((bytes_decides bytes first).0 same)
   | inr apart ↦
-      absurd (first_only (record { path = path; time = time; first = first; bytes = bytes; known = known; shows = shows;
-      differs = λ same. false≢true (sym apart ∙ (bytes_decides bytes first).1 same); }))
+      absurd (first_only (record {
+        path = path;
+        time = time;
+        first = first;
+        bytes = bytes;
+        known = known;
+        shows = shows;
+        differs = λ same. false≢true (sym apart ∙ (bytes_decides bytes first).1 same);
+      }))
 ]
 
 pub fits_after : (old : Kept) (before after : Tree) (new : Kept) → Fits old before → (IsSecond old after → ⊥) → Notes old old.folders after new

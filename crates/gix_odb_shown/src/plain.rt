@@ -63,7 +63,14 @@ fn stands_directory(alloc: Global, tree: &Tree, path: &PathText) -> Result<bool,
         Err(BadPath::NoMemory) => return Err(NoMemory),
     };
     let bytes = ByteList::new(alloc);
-    tree.is_possible(alloc, &Change::PutFile { path, time: 0, bytes })
+    tree.is_possible(
+        alloc,
+        &Change::PutFile {
+            path,
+            time: 0,
+            bytes,
+        },
+    )
 }
 
 /// Whether one of these entries is a link with a watched name.

@@ -133,11 +133,7 @@ fn append_seen(
 }
 
 /// Where a path stands.
-fn stand_of(
-    alloc: Global,
-    folders: &BTreeSet<PathText>,
-    path: &PathText,
-) -> Result<Stand, NoMemory>
+fn stand_of(alloc: Global, folders: &BTreeSet<PathText>, path: &PathText) -> Result<Stand, NoMemory>
     ensures stand { IfOk result (λ stand. stand ≡ stand_of folders.now.keys path.now) }
 {
     if is_above(alloc, folders, path)? {
