@@ -104,6 +104,14 @@ module _ (es : List (Key × List ℕ)) (c : Contents) (file : ShownFile) (is : f
   at_key : finite.get c file.key ≡ lookup (is_at (key_cmp file.key)) es
   at_key = ap (λ d. finite.get d file.key) (sym is) ∙ get_key es file.key
 
+  -- no other bytes are kept under the key where none are
+  pub differs_absent : None ≡ lookup (is_at (key_cmp file.key)) es → false ≡ differs c file
+  differs_absent none = sym (ap (λ (o : Option (List ℕ)). is_other o file.bytes) (at_key ∙ sym none))
+
+  pub differs_there : (first : List ℕ) (told : Bool) → Some first ≡ lookup (is_at (key_cmp file.key)) es → told ≡ not (same_name first file.bytes)
+      → told ≡ differs c file
+  differs_there first told there_is tells = tells ∙ sym (ap (λ (o : Option (List ℕ)). is_other o file.bytes) (at_key ∙ sym there_is))
+
   pub kept_there : is_some (lookup (is_at (key_cmp file.key)) es) ≡ true → c ≡ with_file c file
   kept_there found = let s = some_of (finite.get c file.key) (ap is_some at_key ∙ found) in sym (there c file s.0 s.1)
 
@@ -135,9 +143,9 @@ all_only [] c k bytes kept = inl kept
 all_only (first ∷ files) c k bytes kept = elim (all_only files (with_file c first) k bytes kept) [
   | inl before ↦ elim (file_only c first k bytes before) [
     | inl old ↦ inl old
-    | inr here ↦ inr (first, (inl refl, (here.0, here.1)))
+    | inr here ↦ inr (first, inl refl, here.0, here.1)
   ]
-  | inr o ↦ inr (o.0, (inr o.1, (o.2, o.3)))
+  | inr o ↦ inr (o.0, inr o.1, o.2, o.3)
 ]
 
 pub with_files-push : (files : List ShownFile) (c : Contents) (file : ShownFile) → with_files c (files ++ file ∷ []) ≡ with_file (with_files c files) file
@@ -149,8 +157,7 @@ with_files-push (first ∷ files) c file = with_files-push files (with_file c fi
 module _ (bytes : List ℕ) where
   other_is : (o : Option (List ℕ)) → is_other o bytes ≡ true → (first : List ℕ) × (o ≡ Some first) × (bytes ≢ first)
   other_is None other = absurd (false≢true other)
-  other_is (Some first) other =
-      (first, (refl, λ same. false≢true (sym (ap not ((bytes_decides first bytes).1 (sym same))) ∙ other)))
+  other_is (Some first) other = (first, refl, λ same. false≢true (sym (ap not ((bytes_decides first bytes).1 (sym same))) ∙ other))
 
   is_one_other : (first : List ℕ) → bytes ≢ first → is_other (Some first) bytes ≡ true
   is_one_other first apart = elim (same_name first bytes) as (λ b. same_name first bytes ≡ b → not b ≡ true) [

@@ -65,10 +65,10 @@ module _ (folder : Path) (tree : Tree) where
 
 -- ---- the files of several folders
 
-among_keys : (keys : List Path) (folder : Path) → IsIn keys folder → set.contains (set.from_list {R = path_cmp} keys) folder ≡ true
+pub among_keys : (keys : List Path) (folder : Path) → IsIn keys folder → set.contains (set.from_list {R = path_cmp} keys) folder ≡ true
 among_keys keys folder one = set.contains-from_list path_order keys folder ∙ passes_one (eq_by_cmp path_cmp folder) keys folder one (own_path folder)
 
-keys_among : (keys : List Path) (folder : Path) → set.contains (set.from_list {R = path_cmp} keys) folder ≡ true → IsIn keys folder
+pub keys_among : (keys : List Path) (folder : Path) → set.contains (set.from_list {R = path_cmp} keys) folder ≡ true → IsIn keys folder
 keys_among keys folder among =
     let o = one_passes (eq_by_cmp path_cmp folder) keys (sym (set.contains-from_list path_order keys folder) ∙ among) in
     subst (IsIn keys) (sym (same_path folder o.0 o.2)) o.1

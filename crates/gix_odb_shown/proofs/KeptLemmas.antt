@@ -221,12 +221,11 @@ module _ (old : Kept) (folder : Path) (tree : Tree) (fits : Fits old tree) where
   -- a folder that is watched already
   module _ (among : set.contains old.folders folder ≡ true) where
     same_contains : (other : Path) → set.contains old.folders other ≡ set.contains more other
-    same_contains other =
-        elim (eq_by_cmp path_cmp other folder) as (λ b. eq_by_cmp path_cmp other folder ≡ b → set.contains old.folders other ≡ (b || set.contains old.folders other)) [
-          | true ↦ λ tied. ap (set.contains old.folders) (same_path other folder tied) ∙ among
-          | false ↦ λ _. refl
-        ] refl
-        ∙ sym (set.contains-insert path_order old.folders folder other)
+    same_contains other = by (eq_by_cmp path_cmp other folder) refl ∙ sym (set.contains-insert path_order old.folders folder other)
+      where
+        by : (b : Bool) → eq_by_cmp path_cmp other folder ≡ b → set.contains old.folders other ≡ (b || set.contains old.folders other)
+        by true tied = ap (set.contains old.folders) (same_path other folder tied) ∙ among
+        by false apart = refl
 
     same_folders : old.folders ≡ more
     same_folders = set.same_set path_order one_place old.folders more same_contains

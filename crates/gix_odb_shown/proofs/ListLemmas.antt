@@ -28,8 +28,8 @@ in_flat_map f (z ∷ xs) x y (inr more) given = subst (λ l. IsIn l y) (sym (fla
 pub of_flat_map : {X Y : Type 0} (f : X → List Y) (xs : List X) (y : Y) → IsIn (flat_map f xs) y → (x : X) × IsIn xs x × IsIn (f x) y
 of_flat_map f [] y one = absurd one
 of_flat_map f (z ∷ xs) y one = elim (in_either (f z) (flat_map f xs) y (subst (λ l. IsIn l y) (flat_map-cons f z xs) one)) [
-  | inl here ↦ (z, (inl refl, here))
-  | inr more ↦ let o = of_flat_map f xs y more in (o.0, (inr o.1, o.2))
+  | inl here ↦ (z, inl refl, here)
+  | inr more ↦ let o = of_flat_map f xs y more in (o.0, inr o.1, o.2)
 ]
 
 -- what an element is turned into is among what a list is
@@ -48,8 +48,8 @@ in_filter_map f (z ∷ xs) x y (inr more) gives = elim (f z) as (λ o. IsIn (con
 pub one_passes : {X : Type 0} (test : X → Bool) (xs : List X) → list_any test xs ≡ true → (x : X) × IsIn xs x × (test x ≡ true)
 one_passes test [] any = absurd (false≢true any)
 one_passes test (y ∷ xs) any = elim (or_cases (test y) (list_any test xs) any) [
-  | inl here ↦ (y, (inl refl, here))
-  | inr more ↦ let o = one_passes test xs more in (o.0, (inr o.1, o.2))
+  | inl here ↦ (y, inl refl, here)
+  | inr more ↦ let o = one_passes test xs more in (o.0, inr o.1, o.2)
 ]
 
 pub passes_one : {X : Type 0} (test : X → Bool) (xs : List X) (x : X) → IsIn xs x → test x ≡ true → list_any test xs ≡ true

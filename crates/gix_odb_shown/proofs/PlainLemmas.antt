@@ -1,21 +1,30 @@
 -- In a plain folder a watched path is followed along its own names alone, so a read of it finds what stands there.
-use Rattle.std.proofs.Common.{◌≡◌, ◌⊎◌, inl, inr, ℕ, zero, suc, Bool, true, false, List, [], ◌∷◌, ◌++◌, drop, length, Option, Some, None, Result, Ok, Err, refl, sym, ap, ◌∙◌, append_assoc, append-nil, arith, subst}
+use Rattle.std.proofs.Common.{◌≡◌, ◌⊎◌, ◌&&◌, inl, inr, ℕ, zero, suc, Bool, true, false, List, [], ◌∷◌, ◌++◌, codes, drop, length, Option, Some, None, Result, Ok, Err, refl, sym, ap, ◌∙◌, append_assoc, append-nil, arith, subst}
 use Rattle.std.specs.List.{list_any, starts_with}
 use Rattle.std.specs.FinSet as set
-use Rattle.std.proofs.lemmas.Bool.{false≢true, false_from_ne_true, or_cases}
+use Rattle.std.proofs.lemmas.Bool.{and_parts, false≢true, false_from_ne_true, or_cases}
 use Rattle.odb_base.specs.Path.{Name, Path, parent_of, path_cmp, same_name}
 use Rattle.odb_base.specs.PathLaws.{goes_beyond, lies_below, parent_of-push}
 use Rattle.odb_tree.specs.Tree.{Tree, is_directory, node_at}
 use Rattle.odb_tree.specs.Tree.Follow.{Pass, Reached, Onward, Missing, Blocked, Refusal, Absent, at_last, ending, file_of, file_of_place, followed, most_links, pass, read_of}
 use Rattle.odb_tree.specs.Tree.Way.{is_link, is_link_content, on_way, ways_onward, ways_within}
+use Rattle.odb_tree.specs.Entries.{entry_of, kind_of}
+use Rattle.odb_tree.specs.Tree.Change.{is_possible_in}
+use Rattle.odb_tree.specs.declared.change.Change.TheVariants.{PutFile}
 use Rattle.odb_tree.specs.declared.node.Content.{Content}
 use Rattle.odb_tree.specs.declared.node.Content.TheVariants.{File, Dir, Link}
 use Rattle.odb_tree.specs.declared.node.Node.{Node}
-use Rattle.odb_tree.proofs.TreeLemmas.Change.{split_last}
+use Rattle.odb_tree.proofs.TreeLemmas.Change.{lies_in-push, split_last}
 use Rattle.odb_tree.proofs.TreeLemmas.Follow.{IsDir, IsDir-from, followed_missing, followed_reached, pass_ends, pass_further}
-use Rattle.gix_odb_shown.specs.Plain.{AreDirectories, IsPlain}
+use Rattle.odb_tree.proofs.TreeLemmas.Possible.{can_put_file}
+use Rattle.gix_odb_shown.specs.Plain.{AreDirectories, ArePlain, IsPlain}
+use Rattle.gix_odb_shown.specs.Files.{IsIn, listed}
+use Rattle.gix_odb_shown.specs.Seen.{is_link_kind, is_some_kind, is_watched_link}
 use Rattle.gix_odb_shown.specs.Watched.{pack_directory, watched_kind}
 use Rattle.gix_odb_shown.specs.declared.watched.WatchedKind.{WatchedKind}
+use Rattle.gix_odb_shown.proofs.EntryLemmas.{has_entry}
+use Rattle.gix_odb_shown.proofs.FilesLemmas.{keys_among}
+use Rattle.gix_odb_shown.proofs.ListLemmas.{in_either, passes_one}
 
 -- ---- fronts
 
@@ -148,3 +157,59 @@ module _ (t : Tree) (folder : Path) (plain : IsPlain t folder) (name : Name) (ki
   -- and a read of it finds what stands at it
   pub plain_read : read_of t watched_path ≡ node_read (node_at t watched_path)
   plain_read = read_own t watched_path comes_there (plain.files name kind watched)
+
+-- ---- what the code asks
+
+-- where a file could be put into it, it is a directory
+pub directory_by_probe : (t : Tree) (path : Path) (name : Name) (time : ℕ) (bytes : List ℕ) → is_possible_in t (PutFile (path ++ name ∷ []) time bytes) ≡ true
+    → is_directory (node_at t path) ≡ true
+directory_by_probe t path name time bytes possible = sym (lies_in-push t path name) ∙ (can_put_file t (path ++ name ∷ []) time bytes possible).lies
+
+link_kind : (content : Content) → is_link_kind (kind_of content) ≡ is_link_content content
+link_kind (File bytes time) = refl
+link_kind Dir = refl
+link_kind (Link target) = refl
+
+module _ (t : Tree) (folder : Path) (directories : AreDirectories t (pack_directory folder)) where
+  abbrev packs : Path
+  packs = pack_directory folder
+
+  here : IsDir t packs
+  here = IsDir-from t packs (directories packs [] (sym (append-nil packs)))
+
+  leads_here : followed t true packs ≡ Ok (record { path = packs; node = here.node })
+  leads_here =
+      followed_reached t true packs most_links packs here.node
+      (pass_through t [] folder (codes "pack")
+      (λ front rest is. directories front (rest ++ codes "pack" ∷ []) (ap (λ (f : Path). f ++ codes "pack" ∷ []) is ∙ append_assoc front rest (codes "pack" ∷ [])))
+      ∙ ap (ending true packs) here.at ∙ ap (at_last true packs here.node) here.content)
+
+  no_link : list_any is_watched_link (listed t packs) ≡ false → (name : Name) (kind : WatchedKind) → watched_kind name ≡ Some kind → (o : Option Node)
+      → node_at t (packs ++ name ∷ []) ≡ o → is_link o ≡ false
+  no_link none name kind watched None at = refl
+  no_link none name kind watched (Some node) at =
+      false_from_ne_true (is_link_content node.content) (λ link. false≢true (sym none
+      ∙ passes_one is_watched_link (listed t packs) (entry_of node name)
+      (has_entry t packs name
+      (record { place = record { path = packs; node = here.node }; leads = leads_here; directory = here.content; node = node; stands = at }))
+      (ap (λ (b : Bool). b && is_some_kind (watched_kind name)) (link_kind node.content ∙ link) ∙ ap is_some_kind watched)))
+
+  -- a folder is plain, where no entry of its pack directory is a link with a watched name
+  pub plain_by : list_any is_watched_link (listed t packs) ≡ false → IsPlain t folder
+  plain_by none = record { directories = directories; files = λ name kind watched. no_link none name kind watched (node_at t (packs ++ name ∷ [])) refl }
+
+-- folders that are plain, and one more
+pub plain_with : (t : Tree) (folders : List Path) (folder : Path) (own before : Bool) → (own ≡ true → IsPlain t folder)
+    → (before ≡ true → (other : Path) → IsIn folders other → IsPlain t other) → (own && before) ≡ true → (other : Path) → IsIn (folders ++ folder ∷ []) other
+    → IsPlain t other
+plain_with t folders folder own before is others both other one =
+    let parts = and_parts own before both in
+    by (in_either folders (folder ∷ []) other one) parts.0 parts.1
+  where
+    by : IsIn folders other ⊎ IsIn (folder ∷ []) other → own ≡ true → before ≡ true → IsPlain t other
+    by (inl earlier) yes known = others known other earlier
+    by (inr (inl same)) yes known = subst (IsPlain t) same (is yes)
+    by (inr (inr none)) yes known = absurd none
+
+pub all_plain : (t : Tree) (keys : List Path) → ((other : Path) → IsIn keys other → IsPlain t other) → ArePlain t (set.from_list keys)
+all_plain t keys each folder among = each folder (keys_among keys folder among)

@@ -1,7 +1,10 @@
 //! What a change makes the watched paths of plain folders show, by its own paths.
-ghost use Rattle.std.specs.Prelude.{◌≡◌, IfOk};
-ghost use Rattle.std.specs.Option.{option_map};
+ghost use Rattle.std.specs.Prelude.{◌≡◌, ◌∷◌, [], IfOk};
+ghost use Rattle.std.specs.Option.{option_copied, option_map};
 ghost use Rattle.std.specs.FinSet as set;
+ghost use Rattle.odb_base.specs.Path.{last_name, parent_of};
+ghost use Rattle.odb_tree.specs.Tree.Write.{file_spot};
+ghost use Rattle.gix_odb_shown.specs.Watched.{counted};
 ghost use Rattle.gix_odb_shown.specs.Seen.{append_seen, both_seen, holds_packs, is_above, kind_of_name, off_seen, put_seen, removed_seen, seen_in, stand_of, watched_at};
 
 use crate::shown_file::ShownFile;
@@ -188,11 +191,11 @@ fn holds_packs(
 ) -> Result<bool, NoMemory>
     ensures holds { IfOk result (λ holds. holds ≡ holds_packs (set.from_list folders.now.keys) (last_name directory.now) (parent_of directory.now)) }
 {
-    if directory.file_name() != Some("pack") {
+    let Some(name) = directory.file_name() else {
         return Ok(false);
-    }
-    match directory.parent(alloc)? {
-        Some(folder) => Ok(folders.contains(&folder)),
-        None => Ok(false),
-    }
+    };
+    let Some(folder) = directory.parent(alloc)? else {
+        return Ok(false);
+    };
+    Ok(name == "pack" && folders.contains(&folder))
 }

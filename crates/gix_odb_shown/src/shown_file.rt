@@ -1,5 +1,5 @@
 //! The files that a tree shows in a pack directory.
-ghost use Rattle.std.specs.Prelude.{◌≡◌, ◌++◌, true, IfOk, OnOk};
+ghost use Rattle.std.specs.Prelude.{◌≡◌, ◌∷◌, ◌++◌, [], true, IfOk, OnOk};
 ghost use Rattle.std.specs.List.{flat_map};
 ghost use Rattle.odb_base.specs.Path.{is_name};
 ghost use Rattle.gix_odb_shown.specs.Files.{files_at, files_in, listed};
