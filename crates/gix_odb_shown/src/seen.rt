@@ -1,11 +1,11 @@
 //! What a change makes the watched paths of plain folders show, by its own paths.
 ghost use Rattle.std.specs.Prelude.{◌≡◌, ◌∷◌, [], IfOk};
-ghost use Rattle.std.specs.Option.{option_copied, option_map};
+ghost use Rattle.std.specs.Option.{option_map};
 ghost use Rattle.std.specs.FinSet as set;
 ghost use Rattle.odb_base.specs.Path.{last_name, parent_of};
 ghost use Rattle.odb_tree.specs.Tree.Write.{file_spot};
 ghost use Rattle.gix_odb_shown.specs.Watched.{counted};
-ghost use Rattle.gix_odb_shown.specs.Seen.{append_seen, both_seen, holds_packs, is_above, kind_of_name, off_seen, put_seen, removed_seen, seen_in, stand_of, watched_at};
+ghost use Rattle.gix_odb_shown.specs.Seen.{append_seen, both_seen, holds_packs, is_above, off_seen, put_seen, removed_seen, seen_in, stand_of, watched_at};
 
 use crate::shown_file::ShownFile;
 use crate::watched::{WatchedKind, counted, pack_directory, watched_kind};
@@ -174,13 +174,10 @@ fn watched_at(
     if !holds_packs(alloc, folders, &directory)? {
         return Ok(None);
     }
-    Ok(kind_of_name(path.file_name()))
-}
-
-fn kind_of_name(name: Option<&str>) -> Option<WatchedKind>
-    ensures kind { result ≡ kind_of_name (option_copied name) }
-{
-    watched_kind(name?)
+    match path.file_name() {
+        Some(name) => Ok(watched_kind(name)),
+        None => Ok(None),
+    }
 }
 
 /// Whether a directory is the pack directory of one of the folders.
