@@ -1,10 +1,10 @@
 -- In a plain folder a watched path is followed along its own names alone, so a read of it finds what stands there.
-use Rattle.std.proofs.Common.{◌≡◌, ◌⊎◌, ◌&&◌, inl, inr, ℕ, zero, suc, Bool, true, false, List, [], ◌∷◌, ◌++◌, codes, drop, length, Option, Some, None, Result, Ok, Err, refl, sym, ap, ◌∙◌, append_assoc, append-nil, arith, subst}
+use Rattle.std.proofs.Common.{◌≡◌, ◌⊎◌, ◌&&◌, inl, inr, ℕ, zero, suc, Bool, true, false, not, List, [], ◌∷◌, ◌++◌, codes, drop, length, Option, Some, None, Result, Ok, Err, IfOk, ◌+◌, ◌<◌, length-append, refl, sym, ap, ◌∙◌, append_assoc, append-nil, arith, subst}
 use Rattle.std.specs.List.{list_any, starts_with}
 use Rattle.std.specs.FinSet as set
-use Rattle.std.proofs.lemmas.Bool.{and_parts, false≢true, false_from_ne_true, or_cases}
+use Rattle.std.proofs.lemmas.Bool.{false≢true, not-true, false_from_ne_true, or_cases}
 use Rattle.odb_base.specs.Path.{Name, Path, parent_of, path_cmp, same_name}
-use Rattle.odb_base.specs.PathLaws.{goes_beyond, lies_below, parent_of-push}
+use Rattle.odb_base.specs.PathLaws.{goes_beyond, lies_below, parent_of-nothing, parent_of-push, parent_of-some}
 use Rattle.odb_tree.specs.Tree.{Tree, is_directory, node_at}
 use Rattle.odb_tree.specs.Tree.Follow.{Pass, Reached, Onward, Missing, Blocked, Refusal, Absent, at_last, ending, file_of, file_of_place, followed, most_links, pass, read_of}
 use Rattle.odb_tree.specs.Tree.Way.{is_link, is_link_content, on_way, ways_onward, ways_within}
@@ -17,6 +17,7 @@ use Rattle.odb_tree.specs.declared.node.Node.{Node}
 use Rattle.odb_tree.proofs.TreeLemmas.Change.{lies_in-push, split_last}
 use Rattle.odb_tree.proofs.TreeLemmas.Follow.{IsDir, IsDir-from, followed_missing, followed_reached, pass_ends, pass_further}
 use Rattle.odb_tree.proofs.TreeLemmas.Possible.{can_put_file}
+use Rattle.odb_tree.specs.declared.entry.Entry.{Entry}
 use Rattle.gix_odb_shown.specs.Plain.{AreDirectories, ArePlain, IsPlain}
 use Rattle.gix_odb_shown.specs.Files.{IsIn, listed}
 use Rattle.gix_odb_shown.specs.Seen.{is_link_kind, is_some_kind, is_watched_link}
@@ -165,6 +166,32 @@ pub directory_by_probe : (t : Tree) (path : Path) (name : Name) (time : ℕ) (by
     → is_directory (node_at t path) ≡ true
 directory_by_probe t path name time bytes possible = sym (lies_in-push t path name) ∙ (can_put_file t (path ++ name ∷ []) time bytes possible).lies
 
+pub directory_by_answer : {E : Type 0} (t : Tree) (path spot : Path) (name : Name) (time : ℕ) (bytes : List ℕ) (answer : Result Bool E) → spot ≡ path ++ name ∷ []
+    → IfOk answer (λ possible. possible ≡ is_possible_in t (PutFile spot time bytes)) → IfOk answer (λ stands. stands ≡ true → is_directory (node_at t path) ≡ true)
+directory_by_answer t path spot name time bytes (Ok possible) same told =
+    λ stands. directory_by_probe t path name time bytes (ap (λ (p : Path). is_possible_in t (PutFile p time bytes)) (sym same) ∙ sym told ∙ stands)
+directory_by_answer t path spot name time bytes (Err error) same told = tt
+
+-- directories stand at a path, where one does and they do at the path without its last name
+pub directories_by_parent : {E : Type 0} (t : Tree) (path parent : Path) (answer : Result Bool E) → parent_of path ≡ Some parent → is_directory (node_at t path) ≡ true
+    → IfOk answer (λ plain. plain ≡ true → AreDirectories t parent) → IfOk answer (λ plain. plain ≡ true → AreDirectories t path)
+directories_by_parent t path parent (Ok plain) lies here told =
+    λ stands. let last = parent_of-some path parent lies in
+    subst (AreDirectories t) (sym last.1)
+    (directories_below t parent last.0 (ap (λ (p : Path). is_directory (node_at t p)) (sym last.1) ∙ here) (told stands))
+directories_by_parent t path parent (Err error) lies here told = tt
+
+pub directories_by_root : (t : Tree) (path : Path) → parent_of path ≡ None → is_directory (node_at t path) ≡ true → AreDirectories t path
+directories_by_root t path lies here =
+    let root = parent_of-nothing path lies in
+    subst (AreDirectories t) (sym root) (directories_at_root t (ap (λ (p : Path). is_directory (node_at t p)) (sym root) ∙ here))
+
+-- a path is longer than the one that it lies in
+pub parent_shorter : (path parent : Path) → parent_of path ≡ Some parent → length parent < length path
+parent_shorter path parent lies =
+    let last = parent_of-some path parent lies in
+    let longer : length path ≡ length parent + length (last.0 ∷ []) = ap (λ (p : Path). length p) last.1 ∙ length-append parent (last.0 ∷ []) in omega arith
+
 link_kind : (content : Content) → is_link_kind (kind_of content) ≡ is_link_content content
 link_kind (File bytes time) = refl
 link_kind Dir = refl
@@ -198,18 +225,23 @@ module _ (t : Tree) (folder : Path) (directories : AreDirectories t (pack_direct
   pub plain_by : list_any is_watched_link (listed t packs) ≡ false → IsPlain t folder
   plain_by none = record { directories = directories; files = λ name kind watched. no_link none name kind watched (node_at t (packs ++ name ∷ [])) refl }
 
--- folders that are plain, and one more
-pub plain_with : (t : Tree) (folders : List Path) (folder : Path) (own before : Bool) → (own ≡ true → IsPlain t folder)
-    → (before ≡ true → (other : Path) → IsIn folders other → IsPlain t other) → (own && before) ≡ true → (other : Path) → IsIn (folders ++ folder ∷ []) other
-    → IsPlain t other
-plain_with t folders folder own before is others both other one =
-    let parts = and_parts own before both in
-    by (in_either folders (folder ∷ []) other one) parts.0 parts.1
-  where
-    by : IsIn folders other ⊎ IsIn (folder ∷ []) other → own ≡ true → before ≡ true → IsPlain t other
-    by (inl earlier) yes known = others known other earlier
-    by (inr (inl same)) yes known = subst (IsPlain t) same (is yes)
-    by (inr (inr none)) yes known = absurd none
+-- and a folder, by what the calls answer of its pack directory
+pub plain_by_answers : (t : Tree) (folder directory : Path) (entries : List Entry) (has : Bool) → directory ≡ pack_directory folder → AreDirectories t directory
+    → entries ≡ listed t directory → has ≡ list_any is_watched_link entries → not has ≡ true → IsPlain t folder
+plain_by_answers t folder directory entries has same directories listed_are has_is none =
+    plain_by t folder (subst (AreDirectories t) same directories)
+    (sym (has_is ∙ ap (list_any is_watched_link) (listed_are ∙ ap (listed t) same)) ∙ not-true has none)
+
+-- where the folders that are left are plain, and one more is, all are
+abbrev pub AllPlain : Tree → List Path → Type 0
+AllPlain t folders = (folder : Path) → IsIn folders folder → IsPlain t folder
+
+pub one_more_plain : (t : Tree) (rest : List Path) (folder : Path) → IsPlain t folder → AllPlain t rest → AllPlain t (folder ∷ rest)
+one_more_plain t rest folder own others other (inl same) = subst (IsPlain t) same own
+one_more_plain t rest folder own others other (inr more) = others other more
+
+pub none_plain : (t : Tree) → AllPlain t []
+none_plain t folder one = absurd one
 
 pub all_plain : (t : Tree) (keys : List Path) → ((other : Path) → IsIn keys other → IsPlain t other) → ArePlain t (set.from_list keys)
 all_plain t keys each folder among = each folder (keys_among keys folder among)

@@ -1,6 +1,7 @@
 -- What is seen of a change is what it reveals, and plain folders stay plain.
-use Rattle.std.proofs.Common.{◌≡◌, ◌≢◌, ◌⊎◌, ◌&&◌, ◌||◌, inl, inr, ℕ, Bool, true, false, cond, List, [], ◌∷◌, ◌++◌, codes, Option, Some, None, Result, Ok, Err, refl, sym, ap, ◌∙◌, subst}
+use Rattle.std.proofs.Common.{◌≡◌, ◌≢◌, ◌⊎◌, ◌&&◌, ◌||◌, inl, inr, ℕ, Bool, true, false, cond, List, [], ◌∷◌, ◌++◌, codes, Option, Some, None, Result, Ok, Err, IfOk, IfSome, refl, sym, ap, ◌∙◌, subst}
 use Rattle.std.specs.List.{list_any, starts_with}
+use Rattle.std.specs.Option.{option_map}
 use Rattle.std.specs.FinSet as set
 use Rattle.std.specs.Ordering.{eq_by_cmp}
 use Rattle.std.specs.Cmp.Lexicographic.{bytes_decides}
@@ -8,11 +9,11 @@ use Rattle.std.proofs.lemmas.Bool.{and_parts, false≢true, false_from_ne_true, 
 use Rattle.odb_base.specs.Path.{Name, Path, last_name, parent_of, path_cmp, same_name}
 use Rattle.odb_base.specs.PathLaws.{parent_of-push, parent_of-some}
 use Rattle.odb_tree.specs.Tree.{Tree, is_directory, node_at}
-use Rattle.odb_tree.specs.Tree.Follow.{Absent, Place, file_of, read_of, followed}
+use Rattle.odb_tree.specs.Tree.Follow.{Absent, Refusal, Place, file_of, read_of, followed}
 use Rattle.odb_tree.specs.Tree.Change.{changed, put_node, put_over, new_node}
 use Rattle.odb_tree.specs.Tree.Way.{is_link, is_link_content}
 use Rattle.odb_tree.specs.Tree.Write as writing
-use Rattle.odb_tree.specs.Tree.Write.{file_spot}
+use Rattle.odb_tree.specs.Tree.Write.{and_then, change_of_append, file_spot}
 use Rattle.odb_tree.specs.declared.change.Change.{Change}
 use Rattle.odb_tree.specs.declared.change.Change.TheVariants.{PutFile, MakeDir, PutLink, Rename, Append, Remove, SetTime}
 use Rattle.odb_tree.specs.declared.node.Content.{Content}
@@ -299,6 +300,14 @@ put_content t p time bytes (Some node) = over node.content
     over Dir = refl
     over (Link target) = refl
 
+-- what a read gave, or something else where it gave nothing
+abbrev given_or : List ℕ × ℕ → Result (List ℕ × ℕ) Refusal → List ℕ × ℕ
+given_or other (Ok given) = given
+given_or other (Err refusal) = other
+
+same_given : (one other : List ℕ × ℕ) → ◌≡◌ {A = Result (List ℕ × ℕ) Refusal} (Ok one) (Ok other) → one ≡ other
+same_given one other both = ap (given_or one) both
+
 module _ (keys : List Path) (t : Tree) (plain : ArePlain t (set.from_list keys)) (p : Path) where
   abbrev these : Folders
   these = set.from_list keys
@@ -359,8 +368,8 @@ module _ (keys : List Path) (t : Tree) (plain : ArePlain t (set.from_list keys))
         where
           by : path ≡ p → file ≡ record { key = (path, at); bytes = its }
           by same =
-              let both : Ok (bytes, time) ≡ Ok (its, s.shows.at) = sym put_read ∙ ap (read_of (changed t put)) (sym same) ∙ s.shows.reads in
-              let pair : ◌≡◌ {A = List ℕ × ℕ} (bytes, time) (its, s.shows.at) = cc in
+              let both : ◌≡◌ {A = Result (List ℕ × ℕ) Refusal} (Ok (bytes, time)) (Ok (its, s.shows.at)) = sym put_read ∙ ap (read_of (changed t put)) (sym same) ∙ s.shows.reads in
+              let pair : ◌≡◌ {A = List ℕ × ℕ} (bytes, time) (its, s.shows.at) = same_given (bytes, time) (its, s.shows.at) both in
               let alike : kind ≡ s.shows.kind =
               one_kind own.folder s.folder own.name s.shows.name kind s.shows.kind (sym own.path_is ∙ sym same ∙ s.shows.path_is) own.watched s.shows.is_watched in
               let counts : counted kind time ≡ at = ap (λ (k : WatchedKind). counted k time) alike ∙ ap (λ (b : List ℕ × ℕ). counted s.shows.kind b.1) pair ∙ s.shows.counts in
@@ -394,7 +403,7 @@ module _ (keys : List Path) (t : Tree) (plain : ArePlain t (set.from_list keys))
         elim (one_showed keys t gone plain p gone_touch clear path time bytes s) [
           | inl before ↦ before
           | inr same ↦
-              let both : Err Absent ≡ Ok (bytes, s.shows.at) = sym gone_read ∙ ap (read_of (changed t gone)) (sym same) ∙ s.shows.reads in
+              let both : ◌≡◌ {A = Result (List ℕ × ℕ) Refusal} (Err Absent) (Ok (bytes, s.shows.at)) = sym gone_read ∙ ap (read_of (changed t gone)) (sym same) ∙ s.shows.reads in
               absurd (cc)
         ])
 
@@ -472,3 +481,58 @@ module _ (keys : List Path) (t : Tree) (plain : ArePlain t (set.from_list keys))
   what_is_seen (Append path more) files is = appended_is_seen path more (file_spot t path) refl files is
   what_is_seen (Remove p) files is = removed_is_seen p (stand_of keys p) (stand_says keys p) files is
   what_is_seen (SetTime p time) files is = off_is_seen (SetTime p time) p (λ q apart. other_path q p apart) (stand_of keys p) (stand_says keys p) files is
+
+-- ---- what the code asks
+
+module _ (keys : List Path) (t : Tree) (change : Change) (folders : Folders) (own : set.from_list keys ≡ folders) (plain : ArePlain t folders) where
+  own_is_seen : (files : List ShownFile) → Some files ≡ seen_in t keys change → IsSeen keys t change files
+  own_is_seen files is = what_is_seen keys t (subst (ArePlain t) (sym own) plain) change files (sym is)
+
+  pub answer_reveals : {V E : Type 0} (items : V → List ShownFile) (answer : Result (Option V) E) → IfOk answer (λ seen. option_map items seen ≡ seen_in t keys change)
+      → IfOk answer (λ seen. IfSome seen (λ files. Reveals folders t (changed t change) (items files)))
+  answer_reveals items (Ok (Some files)) is =
+      subst (λ (f : Folders). Reveals f t (changed t change) (items files)) own (own_is_seen (items files) is).reveals
+  answer_reveals items (Ok None) is = tt
+  answer_reveals items (Err error) is = tt
+
+  pub answer_plain : {V E : Type 0} (items : V → List ShownFile) (answer : Result (Option V) E) → IfOk answer (λ seen. option_map items seen ≡ seen_in t keys change)
+      → IfOk answer (λ seen. IfSome seen (λ files. ArePlain (changed t change) folders))
+  answer_plain items (Ok (Some files)) is = subst (ArePlain (changed t change)) own (own_is_seen (items files) is).plain
+  answer_plain items (Ok None) is = tt
+  answer_plain items (Err error) is = tt
+
+-- the change of an append is an append to the file that the path leads to
+abbrev place_or : Path → Result Change writing.Refusal → Path
+place_or other (Ok (Append place bytes)) = place
+place_or other (Ok change) = other
+place_or other (Err refusal) = other
+
+module _ (t : Tree) (path : Path) (bytes : List ℕ) where
+  abbrev append_of : Path → Result Change writing.Refusal
+  append_of place = Ok (Append place bytes)
+
+  pub appended_spot : (place : Path) (its : List ℕ) → change_of_append t path bytes ≡ Ok (Append place its) → file_spot t path ≡ Ok place
+  unfolding change_of_append
+  appended_spot place its told = by (file_spot t path) told
+    where
+      by : (spot : Result Path writing.Refusal) → and_then append_of spot ≡ Ok (Append place its) → spot ≡ Ok place
+      by (Ok found) is = ap (λ (r : Result Change writing.Refusal). Ok (place_or found r)) is
+      by (Err refusal) is =
+          let both : ◌≡◌ {A = Result Change writing.Refusal} (Err refusal) (Ok (Append place its)) = is in absurd (cc)
+
+  pub refused_spot : (refusal : writing.Refusal) → change_of_append t path bytes ≡ Err refusal → file_spot t path ≡ Err refusal
+  unfolding change_of_append
+  refused_spot refusal told = by (file_spot t path) told
+    where
+      by : (spot : Result Path writing.Refusal) → and_then append_of spot ≡ Err refusal → spot ≡ Err refusal
+      by (Ok found) is = let both : ◌≡◌ {A = Result Change writing.Refusal} (append_of found) (Err refusal) = is in absurd (cc)
+      by (Err other) is =
+          let both : ◌≡◌ {A = Result Change writing.Refusal} (Err other) (Err refusal) = is in
+          let same : other ≡ refusal = cc in ap (λ (r : writing.Refusal). Err r) same
+
+-- a directory of this name in this folder holds packs as the folder is one of these
+module _ (folders : Folders) (last : Option Name) (above : Option Path) (name : Name) (folder : Path) (named : Some name ≡ last) (lies : Some folder ≡ above) where
+  pub holds_as : (same : Bool) → same_name name (codes "pack") ≡ same → (same && set.contains folders folder) ≡ holds_packs folders last above
+  holds_as same is =
+      ap (λ (b : Bool). b && set.contains folders folder) (sym is) ∙ ap (λ (a : Option Path). holds_packs folders (Some name) a) lies
+      ∙ ap (λ (l : Option Name). holds_packs folders l above) named

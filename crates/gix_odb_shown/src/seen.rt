@@ -118,6 +118,7 @@ fn both_seen(
     }
 }
 
+#[tactic(auto, unfolding(odb_tree::specs::Tree::Write::change_of_append))]
 fn append_seen(
     alloc: Global,
     tree: &Tree,

@@ -4,6 +4,7 @@ use Rattle.gix_odb_shown.specs.Files.{IsIn}
 use Rattle.gix_odb_shown.specs.Plain.{IsPlain}
 use Rattle.gix_odb_shown.proofs.plain.are_plain.Given as goal
 
--- the folders so far are plain
+-- where the folders that are left are plain too, all are
 abbrev pub invariant-loop-folder : goal.invariant-loop-folder
-invariant-loop-folder l = l.plain ≡ true → (folder : Path) → IsIn l.yielded folder → IsPlain l.tree folder
+invariant-loop-folder l =
+    l.plain ≡ true → ((folder : Path) → IsIn l.folder-iterator folder → IsPlain l.tree folder) → (folder : Path) → IsIn l.folders.keys folder → IsPlain l.tree folder

@@ -5,9 +5,9 @@ use Rattle.gix_odb_shown.specs.Files.{files_at}
 use Rattle.gix_odb_shown.proofs.shown_file.files_of.Given as goal
 
 -- the files so far and those of the entries that are left are those of all
-abbrev pub invariant-loop-entries : goal.invariant-loop-entries
-invariant-loop-entries l =
+abbrev pub invariant-loop-entry : goal.invariant-loop-entry
+invariant-loop-entry l =
     l.files.items ++ flat_map (λ (entry : Entry). files_at l.tree l.directory entry.name) l.entries ≡ flat_map (λ (entry : Entry). files_at l.tree l.directory entry.name) l.fn.entries
 
-abbrev pub decreases-loop-entries : goal.decreases-loop-entries
-decreases-loop-entries l = length l.entries
+abbrev pub decreases-loop-entry : goal.decreases-loop-entry
+decreases-loop-entry l = length l.entries

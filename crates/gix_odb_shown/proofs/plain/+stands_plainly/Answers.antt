@@ -1,0 +1,21 @@
+use Rattle.std.proofs.Common.{◌∙◌, ◌<◌, sym, length, arith}
+use Rattle.gix_odb_shown.proofs.PlainLemmas.{directories_by_parent, directories_by_root, parent_shorter}
+use Rattle.gix_odb_shown.proofs.plain.+stands_plainly.Goals as goal
+
+pub stands_plainly-requires : goal.stands_plainly-requires
+stands_plainly-requires t c =
+    let shorter : length c.in-Some.parent < length c.args.path.now = parent_shorter c.args.path.now c.in-Some.parent (sym c.in_ok-parent.ensures.parent ∙ c.in-Some.is) in
+    let measure = c.decreases in
+    (?, tt)
+
+pub returns-in-Some : goal.returns-in-Some
+returns-in-Some t c = record {
+  plain = directories_by_parent c.args.tree.now c.args.path.now c.in-Some.parent c.stands_plainly.result (sym c.in_ok-parent.ensures.parent ∙ c.in-Some.is)
+      (c.in_ok-stands_directory.ensures.directory c.if-not-branch.false) c.stands_plainly.ensures.plain;
+}
+
+pub returns-in-None : goal.returns-in-None
+returns-in-None t c = record {
+  plain = λ _. directories_by_root c.args.tree.now c.args.path.now (sym c.in_ok-parent.ensures.parent ∙ c.in-None.is)
+      (c.in_ok-stands_directory.ensures.directory c.if-not-branch.false);
+}
