@@ -1,10 +1,13 @@
 -- When a tree shows a second content, and what is kept after a tree was noted.
-use Rattle.std.proofs.Common.{◌≡◌, ◌≢◌, ◌⊎◌, ◌↔◌, ◌||◌, inl, inr, ℕ, Bool, true, false, List, [], ◌∷◌, ◌++◌, codes, Option, Some, None, IsSome, is_some, Result, Ok, Err, refl, sym, ap, ◌∙◌, subst}
+use Rattle.std.proofs.Common.{◌≡◌, ◌≢◌, ◌⊎◌, ◌↔◌, ◌||◌, inl, inr, ℕ, Bool, true, false, cond, List, [], ◌∷◌, ◌++◌, codes, Option, Some, None, IsSome, is_some, Result, Ok, Err, OnOk, refl, sym, ap, ◌∙◌, subst}
 use Rattle.std.specs.List.{list_any, flat_map}
 use Rattle.std.specs.Ordering.{eq_by_cmp}
 use Rattle.std.specs.FinMap as finite
 use Rattle.std.specs.FinSet as set
+use Rattle.std.specs.BTreeSet as tree_set
+use Rattle.std.specs.BTreeSet.{BTreeSet}
 use Rattle.std.specs.Cmp.Lexicographic.{bytes_decides}
+use Rattle.std.proofs.lemmas.Cmp.{eq_by_cmp_equiv}
 use Rattle.std.proofs.lemmas.Bool.{false≢true, or_right, or_cases, cases_Bool}
 use Rattle.odb_base.specs.Path.{Name, Path, path_cmp, same_name}
 use Rattle.odb_base.specs.PathLaws.{one_place, path_order, parent_of-push}
@@ -247,3 +250,81 @@ nothing_fits tree = record {
   only = λ path time bytes known. let both : None ≡ Some bytes = sym (finite.get-empty key_cmp (path, time)) ∙ known in absurd (cc);
   plain = λ is folder among. absurd (false≢true (sym (set.contains-empty path_cmp folder) ∙ among));
 }
+
+-- ---- what the code asks
+
+-- what is kept, of equal parts
+kept_parts : (a b : Folders) (c d : Contents) (plain : Bool) → a ≡ b → c ≡ d
+    → ◌≡◌ {A = Kept} (record { folders = a; contents = c; plain = plain }) (record { folders = b; contents = d; plain = plain })
+kept_parts a b c d plain f g = λ i. record { folders = f i; contents = g i; plain = plain }
+
+cond-or : (b c : Bool) → cond b true c ≡ (b || c)
+cond-or true c = refl
+cond-or false c = refl
+
+-- an insert adds a folder to the set of them
+inserted_keys : (old new : BTreeSet Path) (folder : Path) → tree_set.Updates path_cmp old new folder true
+    → set.from_list {R = path_cmp} new.keys ≡ set.insert (set.from_list old.keys) folder
+inserted_keys old new folder updates =
+    set.same_set path_order one_place _ _ (λ q.
+    set.contains-from_list path_order new.keys q ∙ updates.0 q ∙ cond-or (eq_by_cmp path_cmp folder q) (tree_set.contains path_cmp old q)
+    ∙ ap (λ b. b || tree_set.contains path_cmp old q) ((eq_by_cmp_equiv path_order).symm folder q)
+    ∙ sym (set.contains-insert path_order (set.from_list old.keys) folder q ∙ ap (λ b. eq_by_cmp path_cmp q folder || b) (set.contains-from_list path_order old.keys q)))
+
+pub second_answered : (kept : Kept) (before after : Tree) (files : List ShownFile) (fits : Fits kept before) → Reveals kept.folders before after files → (answer : Bool)
+    → answer ≡ list_any (differs kept.contents) files → (answer ≡ true) ↔ IsSecond kept after
+second_answered kept before after files fits r answer is =
+    let second = second_after kept before after files fits r in (λ yes. second.0 (sym is ∙ yes), λ s. is ∙ second.1 s)
+
+module _ (kept : Kept) (before after : Tree) (fits : Fits kept before) (files : List ShownFile) (r : Reveals kept.folders before after files) (folders : Folders)
+    (own contents : Contents) (was plain : Bool) (view : ◌≡◌ {A = Kept} (record { folders = folders; contents = own; plain = was }) kept) where
+  abbrev told : Kept
+  told = record { folders = folders; contents = contents; plain = plain }
+
+  told_notes : contents ≡ with_files own files → Notes kept kept.folders after told
+  told_notes is =
+      subst (λ (k : Kept). Notes kept kept.folders after k)
+      (kept_parts kept.folders folders (with_files kept.contents files) contents plain (sym (ap (λ (k : Kept). k.folders) view))
+      (ap (λ (k : Kept). with_files k.contents files) (sym view) ∙ sym is))
+      (notes_after kept before after files fits r plain)
+
+  pub note_notes : {A E : Type 0} (answer : Result A E) → OnOk answer (contents ≡ with_files own files) → OnOk answer (Notes kept kept.folders after told)
+  note_notes (Ok done) is = told_notes is
+  note_notes (Err error) is = tt
+
+  pub note_fits : {A E : Type 0} → (IsSecond kept after → ⊥) → (plain ≡ true → ArePlain after kept.folders) → (answer : Result A E)
+      → OnOk answer (contents ≡ with_files own files) → OnOk answer (Fits told after)
+  note_fits first_only are (Ok done) is = fits_after kept before after told fits first_only (told_notes is) are
+  note_fits first_only are (Err error) is = tt
+
+module _ (kept : Kept) (tree : Tree) (fits : Fits kept tree) (folder : Path) (old : BTreeSet Path) (own : Contents) (was : Bool)
+    (view : ◌≡◌ {A = Kept} (record { folders = set.from_list old.keys; contents = own; plain = was }) kept) where
+  pub watched_again : list_any (eq_by_cmp path_cmp folder) old.keys ≡ true → Notes kept (set.insert kept.folders folder) tree kept
+  watched_again there =
+      notes_again kept folder tree fits
+      (sym (ap (λ (k : Kept). set.contains k.folders folder) view) ∙ set.contains-from_list path_order old.keys folder ∙ there)
+
+  module _ (new : BTreeSet Path) (added : tree_set.Updates path_cmp old new folder true) (contents : Contents) (plain : Bool) where
+    abbrev watched : Kept
+    watched = record { folders = set.from_list new.keys; contents = contents; plain = plain }
+
+    watched_notes : contents ≡ with_files own (files_in tree folder) → Notes kept (set.insert kept.folders folder) tree watched
+    watched_notes is =
+        subst (λ (k : Kept). Notes kept (set.insert kept.folders folder) tree k)
+        (kept_parts (set.insert kept.folders folder) (set.from_list new.keys) (with_files kept.contents (files_in tree folder)) contents plain
+        (ap (λ (k : Kept). set.insert k.folders folder) (sym view) ∙ sym (inserted_keys old new folder added))
+        (ap (λ (k : Kept). with_files k.contents (files_in tree folder)) (sym view) ∙ sym is))
+        (notes_folder kept folder tree fits plain)
+
+    pub watch_notes : {A E : Type 0} (answer : Result A E) → OnOk answer (contents ≡ with_files own (files_in tree folder))
+        → OnOk answer (Notes kept (set.insert kept.folders folder) tree watched)
+    watch_notes (Ok done) is = watched_notes is
+    watch_notes (Err error) is = tt
+
+    watched_plain : (plain ≡ true → (was ≡ true) × IsPlain tree folder) → plain ≡ true → ArePlain tree (set.insert kept.folders folder)
+    watched_plain both is = let parts = both is in plain_too kept folder tree fits (sym (ap (λ (k : Kept). k.plain) view) ∙ parts.0) parts.1
+
+    pub watch_fits : {A E : Type 0} → (plain ≡ true → (was ≡ true) × IsPlain tree folder) → (answer : Result A E)
+        → OnOk answer (contents ≡ with_files own (files_in tree folder)) → OnOk answer (Fits watched tree)
+    watch_fits both (Ok done) is = fits_watched kept folder tree fits watched (watched_notes is) (watched_plain both)
+    watch_fits both (Err error) is = tt
