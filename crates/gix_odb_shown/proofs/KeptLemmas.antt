@@ -39,7 +39,7 @@ one_folder a b n m same =
 
 pub one_content : (tree : Tree) (path : Path) (time : ℕ) (bytes other : List ℕ) (f g : Path) → Shows f tree path time bytes → Shows g tree path time other → bytes ≡ other
 one_content tree path time bytes other f g s o =
-    let both : Ok (bytes, s.at) ≡ Ok (other, o.at) = sym s.reads ∙ o.reads in
+    let both : ◌≡◌ {A = Result (List ℕ × ℕ) Refusal} (Ok (bytes, s.at)) (Ok (other, o.at)) = sym s.reads ∙ o.reads in
     let pair : ◌≡◌ {A = List ℕ × ℕ} (bytes, s.at) (other, o.at) = cc in ap (λ (p : List ℕ × ℕ). p.0) pair
 
 -- ---- a second content among files
