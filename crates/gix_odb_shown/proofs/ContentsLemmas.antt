@@ -1,6 +1,6 @@
 -- What is kept after files: under a key the first bytes stay.
-use Rattle.std.proofs.Common.{◌≡◌, ◌≢◌, ◌⊎◌, inl, inr, ℕ, Bool, true, false, not, cond, List, [], ◌∷◌, ◌++◌, Option, Some, None, IsSome, is_some, refl, sym, ap, ◌∙◌, subst}
-use Rattle.std.specs.Ordering.{eq_by_cmp, nat_cmp, is_eq, ordering_then}
+use Rattle.std.proofs.Common.{◌≡◌, ◌≢◌, ◌⊎◌, inl, inr, ℕ, Bool, true, false, not, cond, List, [], ◌∷◌, ◌++◌, Option, Some, None, IsSome, is_some, refl, sym, ap, ◌∙◌}
+use Rattle.std.specs.Ordering.{eq_by_cmp, nat_cmp, is_eq}
 use Rattle.std.specs.declared.cmp.Ordering.{Ordering}
 use Rattle.std.specs.declared.cmp.Ordering.TheVariants.{Less, Equal, Greater}
 use Rattle.std.specs.Cmp.{IsTotalOrder, tied_itself, eq_by_cmp_equiv, nat_cmp_total}
@@ -12,7 +12,7 @@ use Rattle.std.specs.FinMap.{find, get-from_entries, get-insert, same_map}
 use Rattle.std.specs.Map.{lookup}
 use Rattle.std.specs.BTreeMap.{is_at}
 use Rattle.std.proofs.lemmas.Bool.{false≢true}
-use Rattle.odb_base.specs.Path.{Path, path_cmp, same_name}
+use Rattle.odb_base.specs.Path.{path_cmp, same_name}
 use Rattle.odb_base.specs.PathLaws.{path_order, one_place}
 use Rattle.gix_odb_shown.specs.Kept.{Key, key_cmp, Contents}
 use Rattle.gix_odb_shown.specs.Files.{IsIn, is_other, differs, first_kept, with_file, with_files}

@@ -1,5 +1,5 @@
 -- What a read of a path finds stands among the entries of its directory.
-use Rattle.std.proofs.Common.{◌≡◌, inl, inr, ℕ, zero, suc, Bool, true, false, cond, List, [], ◌∷◌, ◌++◌, Option, Some, None, Result, Ok, Err, unwrap_or, refl, sym, ap, ◌∙◌, subst, append_assoc}
+use Rattle.std.proofs.Common.{◌≡◌, inl, inr, ℕ, zero, suc, true, false, cond, List, [], ◌∷◌, ◌++◌, Option, Some, None, Result, Ok, Err, unwrap_or, refl, sym, ap, ◌∙◌, subst, append_assoc}
 use Rattle.std.specs.Result.{result_ok}
 use Rattle.std.specs.Option.{option_map}
 use Rattle.std.specs.Ordering.{eq_by_cmp}
@@ -7,7 +7,7 @@ use Rattle.std.specs.FinMap.{find}
 use Rattle.odb_base.specs.Path.{Name, Path, path_cmp}
 use Rattle.odb_tree.specs.Tree.{Tree, node_at}
 use Rattle.odb_tree.specs.Tree.Nodes.{entries_of, node_at-entries_of}
-use Rattle.odb_tree.specs.Tree.Follow.{Pass, Reached, Onward, Missing, Blocked, pass, past, beyond, at_last, ending, Place, Refusal, LinkLoop, WrongKind, arrives, followed_within, followed, most_links, file_of, file_of_place, read_of}
+use Rattle.odb_tree.specs.Tree.Follow.{Pass, Reached, Onward, Missing, Blocked, pass, past, beyond, at_last, ending, Place, Refusal, LinkLoop, arrives, followed_within, followed, most_links, file_of_place, read_of}
 use Rattle.odb_tree.specs.Entries.{entry_of, entry_in, entries_in, entries_at, entries_at_place, opened}
 use Rattle.odb_tree.specs.declared.entry.Entry.{Entry}
 use Rattle.odb_tree.specs.declared.node.Node.{Node}

@@ -1,12 +1,12 @@
 -- The files that a tree shows in a pack directory, as what its paths show.
-use Rattle.std.proofs.Common.{◌≡◌, inl, inr, ℕ, Bool, true, false, List, [], ◌∷◌, ◌++◌, Option, Some, None, Result, Ok, Err, refl, sym, ap, ◌∙◌, subst}
-use Rattle.std.specs.List.{list_any, flat_map}
+use Rattle.std.proofs.Common.{◌≡◌, inl, inr, ℕ, true, List, [], ◌∷◌, ◌++◌, Option, Some, None, Result, Ok, Err, refl, sym, ap, ◌∙◌, subst}
+use Rattle.std.specs.List.{flat_map}
 use Rattle.std.specs.Ordering.{eq_by_cmp}
 use Rattle.std.specs.FinSet as set
 use Rattle.odb_base.specs.Path.{Name, Path, path_cmp}
 use Rattle.odb_base.specs.PathLaws.{path_order}
 use Rattle.odb_tree.specs.Tree.{Tree}
-use Rattle.odb_tree.specs.Tree.Follow.{Refusal, read_of, followed}
+use Rattle.odb_tree.specs.Tree.Follow.{Refusal, read_of}
 use Rattle.odb_tree.specs.Entries.{entry_of}
 use Rattle.odb_tree.specs.declared.entry.Entry.{Entry}
 use Rattle.odb_tree.proofs.TreeLemmas.{same_path, own_path}
@@ -16,7 +16,7 @@ use Rattle.gix_odb_shown.specs.Files.{IsIn, Reveals, file_read, files_at, files_
 use Rattle.gix_odb_shown.specs.declared.watched.WatchedKind.{WatchedKind}
 use Rattle.gix_odb_shown.specs.declared.shown_file.ShownFile.{ShownFile}
 use Rattle.gix_odb_shown.proofs.ListLemmas.{in_flat_map, of_flat_map, one_passes, passes_one}
-use Rattle.gix_odb_shown.proofs.EntryLemmas.{HasName, read_has_name, has_entry}
+use Rattle.gix_odb_shown.proofs.EntryLemmas.{read_has_name, has_entry}
 
 module _ (folder : Path) (tree : Tree) where
   -- a file that is read is shown

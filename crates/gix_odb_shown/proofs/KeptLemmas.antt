@@ -1,6 +1,6 @@
 -- When a tree shows a second content, and what is kept after a tree was noted.
 use Rattle.std.proofs.Common.{◌≡◌, ◌≢◌, ◌⊎◌, ◌↔◌, ◌||◌, inl, inr, ℕ, Bool, true, false, cond, List, [], ◌∷◌, ◌++◌, codes, Option, Some, None, IsSome, is_some, Result, Ok, Err, OnOk, refl, sym, ap, ◌∙◌, subst}
-use Rattle.std.specs.List.{list_any, flat_map}
+use Rattle.std.specs.List.{list_any}
 use Rattle.std.specs.Ordering.{eq_by_cmp}
 use Rattle.std.specs.FinMap as finite
 use Rattle.std.specs.FinSet as set
@@ -13,9 +13,9 @@ use Rattle.odb_base.specs.Path.{Name, Path, path_cmp, same_name}
 use Rattle.odb_base.specs.PathLaws.{one_place, path_order, parent_of-push}
 use Rattle.odb_base.specs.Path.{parent_of}
 use Rattle.odb_tree.specs.Tree.{Tree}
-use Rattle.odb_tree.specs.Tree.Follow.{Refusal, read_of}
+use Rattle.odb_tree.specs.Tree.Follow.{Refusal}
 use Rattle.odb_tree.proofs.TreeLemmas.{same_path, own_path}
-use Rattle.gix_odb_shown.specs.Watched.{Shows, pack_directory, counted}
+use Rattle.gix_odb_shown.specs.Watched.{Shows, pack_directory}
 use Rattle.gix_odb_shown.specs.Plain.{ArePlain, IsPlain}
 use Rattle.gix_odb_shown.specs.Kept.{Kept, Contents, Folders, key_cmp, ShowsInOne, IsSecond, Notes, LiesInOne, Fits, nothing_kept}
 use Rattle.gix_odb_shown.specs.Files.{IsIn, Reveals, files_in, differs, with_files}

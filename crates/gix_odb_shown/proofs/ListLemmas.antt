@@ -1,5 +1,5 @@
 -- Elements of lists, by cases.
-use Rattle.std.proofs.Common.{◌≡◌, ◌⊎◌, inl, inr, Bool, true, false, ◌||◌, List, [], ◌∷◌, ◌++◌, Option, Some, None, refl, sym, ap, ◌∙◌, subst}
+use Rattle.std.proofs.Common.{◌≡◌, ◌⊎◌, inl, inr, Bool, true, List, [], ◌∷◌, ◌++◌, Option, Some, None, refl, sym, ap, ◌∙◌, subst}
 use Rattle.std.specs.List.{list_any, flat_map, filter_map, cons_option}
 use Rattle.gix_odb_shown.specs.Files.{IsIn}
 use Rattle.std.proofs.lemmas.Bool.{false≢true, or_left, or_right, or_cases}

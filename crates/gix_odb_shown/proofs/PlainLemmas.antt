@@ -3,7 +3,7 @@ use Rattle.std.proofs.Common.{◌≡◌, ◌⊎◌, ◌&&◌, inl, inr, ℕ, zer
 use Rattle.std.specs.List.{list_any, starts_with}
 use Rattle.std.specs.FinSet as set
 use Rattle.std.proofs.lemmas.Bool.{false≢true, not-true, false_from_ne_true, or_cases}
-use Rattle.odb_base.specs.Path.{Name, Path, parent_of, path_cmp, same_name}
+use Rattle.odb_base.specs.Path.{Name, Path, parent_of, same_name}
 use Rattle.odb_base.specs.PathLaws.{goes_beyond, lies_below, parent_of-nothing, parent_of-push, parent_of-some}
 use Rattle.odb_tree.specs.Tree.{Tree, is_directory, node_at}
 use Rattle.odb_tree.specs.Tree.Follow.{Pass, Reached, Onward, Missing, Blocked, Refusal, Absent, at_last, ending, file_of, file_of_place, followed, most_links, pass, read_of}
@@ -25,7 +25,7 @@ use Rattle.gix_odb_shown.specs.Watched.{pack_directory, watched_kind}
 use Rattle.gix_odb_shown.specs.declared.watched.WatchedKind.{WatchedKind}
 use Rattle.gix_odb_shown.proofs.EntryLemmas.{has_entry}
 use Rattle.gix_odb_shown.proofs.FilesLemmas.{keys_among}
-use Rattle.gix_odb_shown.proofs.ListLemmas.{in_either, passes_one}
+use Rattle.gix_odb_shown.proofs.ListLemmas.{passes_one}
 
 -- ---- fronts
 

@@ -1,16 +1,15 @@
 -- What is seen of a change is what it reveals, and plain folders stay plain.
-use Rattle.std.proofs.Common.{◌≡◌, ◌≢◌, ◌⊎◌, ◌&&◌, ◌||◌, inl, inr, ℕ, Bool, true, false, cond, List, [], ◌∷◌, ◌++◌, codes, Option, Some, None, Result, Ok, Err, IfOk, IfSome, refl, sym, ap, ◌∙◌, subst}
-use Rattle.std.specs.List.{list_any, starts_with}
+use Rattle.std.proofs.Common.{◌≡◌, ◌≢◌, ◌⊎◌, ◌&&◌, inl, inr, ℕ, Bool, true, false, cond, List, [], ◌∷◌, ◌++◌, codes, Option, Some, None, Result, Ok, Err, IfOk, IfSome, refl, sym, ap, ◌∙◌, subst}
+use Rattle.std.specs.List.{starts_with}
 use Rattle.std.specs.Option.{option_map}
 use Rattle.std.specs.FinSet as set
-use Rattle.std.specs.Ordering.{eq_by_cmp}
 use Rattle.std.specs.Cmp.Lexicographic.{bytes_decides}
 use Rattle.std.proofs.lemmas.Bool.{and_parts, false≢true, false_from_ne_true, or_from}
-use Rattle.odb_base.specs.Path.{Name, Path, last_name, parent_of, path_cmp, same_name}
+use Rattle.odb_base.specs.Path.{Name, Path, last_name, parent_of, same_name}
 use Rattle.odb_base.specs.PathLaws.{parent_of-push, parent_of-some}
 use Rattle.odb_tree.specs.Tree.{Tree, is_directory, node_at}
-use Rattle.odb_tree.specs.Tree.Follow.{Absent, Refusal, Place, file_of, read_of, followed}
-use Rattle.odb_tree.specs.Tree.Change.{changed, put_node, put_over, new_node}
+use Rattle.odb_tree.specs.Tree.Follow.{Absent, Refusal, file_of, read_of}
+use Rattle.odb_tree.specs.Tree.Change.{changed, put_node, put_over}
 use Rattle.odb_tree.specs.Tree.Way.{is_link, is_link_content}
 use Rattle.odb_tree.specs.Tree.Write as writing
 use Rattle.odb_tree.specs.Tree.Write.{and_then, change_of_append, file_spot}
@@ -19,14 +18,14 @@ use Rattle.odb_tree.specs.declared.change.Change.TheVariants.{PutFile, MakeDir, 
 use Rattle.odb_tree.specs.declared.node.Content.{Content}
 use Rattle.odb_tree.specs.declared.node.Content.TheVariants.{File, Dir, Link}
 use Rattle.odb_tree.specs.declared.node.Node.{Node}
-use Rattle.odb_tree.proofs.TreeLemmas.{cases_path, node_at-put, node_at-taken, other_path, same_path}
+use Rattle.odb_tree.proofs.TreeLemmas.{cases_path, node_at-put, node_at-taken, other_path}
 use Rattle.odb_tree.proofs.TreeLemmas.Change.{made-put_file, made-remove}
 use Rattle.odb_tree.proofs.TreeLemmas.Moved.{begins-append, begins-own}
 use Rattle.odb_tree.proofs.TreeLemmas.Write.{file_at}
 use Rattle.odb_tree.proofs.WayLaws.{read_kept, same_untouched}
 use Rattle.odb_tree.proofs.WriteLaws.{at_place, touches, untouched}
-use Rattle.gix_odb_shown.specs.Watched.{Shows, counted, pack_directory, watched_kind}
-use Rattle.gix_odb_shown.specs.Plain.{ArePlain, IsPlain}
+use Rattle.gix_odb_shown.specs.Watched.{counted, pack_directory, watched_kind}
+use Rattle.gix_odb_shown.specs.Plain.{ArePlain}
 use Rattle.gix_odb_shown.specs.Kept.{Folders, ShowsInOne}
 use Rattle.gix_odb_shown.specs.Files.{IsIn, Reveals}
 use Rattle.gix_odb_shown.specs.Seen.{append_seen, both_seen, holds_packs, is_above, kind_in, kind_of_name, off_seen, put_seen, removed_seen, seen_in, stand_by, stand_of, watched_at}

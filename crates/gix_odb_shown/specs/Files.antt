@@ -1,5 +1,5 @@
 -- The files that a tree shows in pack directories, as lists. No public clause cites this.
-use Rattle.std.specs.Prelude.{◌≡◌, ◌⊎◌, ◌++◌, ℕ, Bool, true, false, not, List, [], ◌∷◌, Option, Some, None, Result, Ok, Err, unwrap_or, nat_eq}
+use Rattle.std.specs.Prelude.{◌≡◌, ◌⊎◌, ◌++◌, ℕ, Bool, false, not, List, [], ◌∷◌, Option, Some, None, Result, Ok, Err, unwrap_or}
 use Rattle.std.specs.Result.{result_ok}
 use Rattle.std.specs.List.{flat_map}
 use Rattle.std.specs.FinMap as finite

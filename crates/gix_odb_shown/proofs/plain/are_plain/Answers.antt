@@ -1,4 +1,4 @@
-use Rattle.std.proofs.Common.{◌≡◌, sym, subst, List}
+use Rattle.std.proofs.Common.{sym, subst, List}
 use Rattle.odb_base.specs.Path.{Path}
 use Rattle.gix_odb_shown.proofs.PlainLemmas.{AllPlain, all_plain, none_plain, one_more_plain}
 use Rattle.gix_odb_shown.proofs.plain.are_plain.Goals as goal
