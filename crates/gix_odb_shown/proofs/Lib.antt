@@ -5,5 +5,6 @@ mod EntryLemmas
 mod FilesLemmas
 mod ContentsLemmas
 mod PlainLemmas
+mod TouchLemmas
 mod SeenLemmas
 mod KeptLemmas
