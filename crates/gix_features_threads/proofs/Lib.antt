@@ -2,6 +2,7 @@ mod DealtLemmas
 mod WorkersLemmas
 mod ReducedLemmas
 mod EndsLemmas
+mod EagerLemmas
 pub mod PipeLemmas
 pub mod WorkersLaws
 pub mod PipeLaws

@@ -1,6 +1,7 @@
 //! Items that several workers consume at once.
 mod calls;
 mod deal;
+mod eager;
 mod outputs;
 mod reducing;
 mod scopes;
@@ -8,5 +9,6 @@ mod stepwise;
 mod work;
 
 pub use calls::{ParallelError, in_parallel, in_parallel_if, in_parallel_with_finalize};
+pub use eager::{EagerIter, EagerIterIf};
 pub use scopes::{Scope, build_thread, join, threads};
-pub use stepwise::Stepwise;
+pub use stepwise::{Finalize, Stepwise};

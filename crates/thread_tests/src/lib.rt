@@ -2,6 +2,8 @@
 #![tactic(auto)]
 
 #[cfg(test)]
+mod eager;
+#[cfg(test)]
 mod pipes;
 #[cfg(test)]
 mod workers;
