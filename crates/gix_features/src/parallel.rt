@@ -7,5 +7,5 @@ pub use gix_features_parts::parallel::{
 };
 pub use gix_features_threads::parallel::{
     EagerIter, EagerIterIf, ParallelError, Scope, Stepwise, build_thread, in_parallel,
-    in_parallel_if, in_parallel_with_finalize, join, threads,
+    in_parallel_if, in_parallel_with_finalize, in_parallel_with_slice, join, threads,
 };

@@ -1,6 +1,7 @@
 mod DealtLemmas
 mod WorkersLemmas
 mod ReducedLemmas
+mod RoundsLemmas
 mod EndsLemmas
 mod EagerLemmas
 pub mod PipeLemmas

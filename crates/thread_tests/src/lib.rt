@@ -6,4 +6,6 @@ mod eager;
 #[cfg(test)]
 mod pipes;
 #[cfg(test)]
+mod slices;
+#[cfg(test)]
 mod workers;
