@@ -1,12 +1,13 @@
 -- Lemmas on what is read from a pipe.
-use Rattle.std.proofs.Common.{◌≡◌, ℕ, suc, false, List, [], ◌∷◌, ◌++◌, length, map, take, drop, ◌+◌, ◌-◌, ◌≤◌, min, arith, refl, sym, ap, ◌∙◌, subst, append_assoc, true≢false, Option, Some, None, IfNone}
+use Rattle.std.proofs.Common.{◌≡◌, ℕ, suc, true, false, List, [], ◌∷◌, ◌++◌, length, map, take, drop, ◌+◌, ◌-◌, ◌≤◌, min, arith, refl, sym, ap, ◌∙◌, subst, append_assoc, true≢false, Option, Some, None, IfNone}
 use Rattle.std.proofs.lemmas.List.{map-append, append-nil, take-append-drop, take-append-le, length-take, length-drop, take_all, drop_all, drop-append-le, drop-drop}
 use borrow.Rule.Slice.PartMut.{put_mid, post_of}
 use Rattle.crossbeam_channel.specs.Ends.{receives_on}
+use Rattle.gix_features_threads.specs.declared.io.pipe.ends.PipeError.{PipeError}
 use Rattle.gix_features_threads.specs.declared.io.pipe.ends.Piece.{Piece}
 use Rattle.gix_features_threads.specs.declared.io.pipe.ends.Piece.TheVariants.{Written, Failed}
 use Rattle.gix_features_threads.specs.declared.io.pipe.reader.Reader.{Reader}
-use Rattle.gix_features_threads.specs.Pipe.{Item, Byte, Failure, items_of, taken, Reads, gives_something}
+use Rattle.gix_features_threads.specs.Pipe.{Item, Byte, Failure, items_of, taken, Reads, gives_something, bytes_of}
 
 pub items_of-append : (xs ys : List Piece) → items_of (xs ++ ys) ≡ items_of xs ++ items_of ys
 items_of-append [] ys = refl
@@ -42,6 +43,12 @@ pub nothing_written : (piece : Piece) → gives_something piece ≡ false → pi
 nothing_written (Written []) none = refl
 nothing_written (Written (byte ∷ bytes)) none = absurd (true≢false none)
 nothing_written (Failed error) none = absurd (true≢false none)
+
+-- a piece that has something to give and is no error has bytes
+pub has_bytes : (piece : Piece) → gives_something piece ≡ true → ((error : PipeError) → piece ≡ Failed error → ⊥) → bytes_of piece ≡ [] → ⊥
+has_bytes (Written []) something written none = true≢false (sym something)
+has_bytes (Written (byte ∷ bytes)) something written none = cc none
+has_bytes (Failed error) something written none = written error refl
 
 -- a piece is taken where nothing was at hand
 pub Reads-refill : (before after : Reader) → gives_something before.next ≡ false → taken after ≡ taken before ++ after.next ∷ []

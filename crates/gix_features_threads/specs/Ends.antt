@@ -13,7 +13,11 @@ module _ {T : Type 0} where
   abbrev pub Knows : ℕ → ℕ → List T → List T → ℕ → Hand T → Type 0
   Knows sender taker sent taken port v = (v.sends ≡ true → (port ≡ sender) × (v.sent ≡ sent)) × (v.takes ≡ true → (port ≡ taker) × (v.taken ≡ taken))
 
-  -- what was sent is what was taken and then what the channel holds
-  abbrev pub IsInOrder : List T → List (Hand T) → Type 0
-  IsInOrder items views = (sender : ℕ) × (taker : ℕ) × (sent : List T) × (taken : List T) × (sent ≡ taken ++ items)
+  -- These begin what keeps to a law.
+  abbrev pub Begins : (List T → Type 0) → List T → Type 0
+  Begins Law taken = (rest : List T) × Law (taken ++ rest)
+
+  -- what was sent is what was taken and then what the channel holds, and keeps to a law
+  abbrev pub IsInOrder : (List T → Type 0) → List T → List (Hand T) → Type 0
+  IsInOrder Law items views = (sender : ℕ) × (taker : ℕ) × (sent : List T) × (taken : List T) × (sent ≡ taken ++ items) × Law sent
       × ((port : ℕ) (v : Hand T) → get_elem? views port ≡ some v → Knows sender taker sent taken port v)

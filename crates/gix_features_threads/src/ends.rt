@@ -1,6 +1,23 @@
 //! The two ends of a channel, one of which sends and the other takes: what was taken is what was sent first.
+ghost use Rattle.std.specs.Prelude.{List};
+
 use crossbeam_channel::protocol::{Join, Lesson, Outcome, Protocol, Split};
 use std::collections::LinkedList;
+use std::marker::PhantomData;
+
+/// A law that whatever was sent so far keeps to.
+pub trait Law<T> {
+    ghost keeps: { List T → Type 0 };
+}
+
+/// No law.
+pub struct Anything;
+
+impl<T> Law<T> for Anything {
+    ghost use Rattle.std.specs.Prelude.{⊤};
+
+    ghost keeps = { λ _. ⊤ };
+}
 
 /// What an end may do, what it has sent, and what it has taken. No value of it is made.
 pub struct Hand<T> {
@@ -10,14 +27,16 @@ pub struct Hand<T> {
     pub taken: LinkedList<T>,
 }
 
-/// The rule of a channel: what was sent is what was taken and then what the channel holds.
-pub struct InOrder;
+/// The rule of a channel: what was sent is what was taken and then what the channel holds, and keeps to a law.
+pub struct InOrder<L> {
+    law: PhantomData<L>,
+}
 
-impl<T> Protocol<T, Hand<T>> for InOrder {
+impl<T, L: Law<T>> Protocol<T, Hand<T>> for InOrder<L> {
     ghost use Rattle.std.specs.Prelude.{true, []};
     ghost use Rattle.gix_features_threads.specs.Ends.{hand, IsInOrder};
 
-    ghost holds = { IsInOrder };
+    ghost holds = { IsInOrder L.keeps };
 
     ghost first = { hand true true [] [] };
 }
@@ -59,17 +78,20 @@ impl<T> Lesson<T, Hand<T>> for Sends {
     ghost fact = { λ _ _. ⊤ };
 }
 
-/// Something is taken, or there was nothing at a moment.
-pub struct Takes;
-
-impl<T> Outcome<T, Hand<T>> for Takes {
-    ghost use Rattle.std.specs.Prelude.{◌≡◌, ◌∷◌, ◌++◌, []};
-    ghost use Rattle.gix_features_threads.specs.Ends.{hand};
-
-    ghost then = { λ v x w. w ≡ hand v.sends v.takes v.sent (v.taken ++ x ∷ []) };
+/// Something is taken, which begins what was sent; or there was nothing at a moment.
+pub struct Takes<L> {
+    law: PhantomData<L>,
 }
 
-impl<T> Lesson<T, Hand<T>> for Takes {
+impl<T, L: Law<T>> Outcome<T, Hand<T>> for Takes<L> {
+    ghost use Rattle.std.specs.Prelude.{◌≡◌, ◌∷◌, ◌++◌, [], true};
+    ghost use Rattle.gix_features_threads.specs.Ends.{hand, Begins};
+
+    ghost then = { λ v x w. (w ≡ hand v.sends v.takes v.sent (v.taken ++ x ∷ [])) × Begins L.keeps (v.taken ++ x ∷ [])
+        × (v.sends ≡ true → Begins (λ all. v.sent ≡ all) (v.taken ++ x ∷ [])) };
+}
+
+impl<T, L> Lesson<T, Hand<T>> for Takes<L> {
     ghost use Rattle.std.specs.Prelude.{⊤};
 
     ghost fact = { λ _ _. ⊤ };

@@ -2,6 +2,10 @@
 #![tactic(auto)]
 
 #[cfg(test)]
+mod eager;
+#[cfg(test)]
 mod pipes;
+#[cfg(test)]
+mod slices;
 #[cfg(test)]
 mod workers;

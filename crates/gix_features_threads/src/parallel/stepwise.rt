@@ -109,3 +109,29 @@ where
         reduce_rest(outputs, reducer)
     }
 }
+
+/// What feeds the rest to a reducer, and answers what it comes to.
+pub trait Finalize {
+    type Reduce: Reduce;
+
+    /// Feeds the rest, up to the reducer's first error.
+    fn finalize<H: Threads>(
+        self,
+        rt: &H,
+    ) -> Result<<Self::Reduce as Reduce>::Output, ParallelError<<Self::Reduce as Reduce>::Error>>;
+}
+
+impl<R: Reduce + Drop> Finalize for Stepwise<R>
+where
+    R::Input: Send + Drop,
+    R::FeedProduce: Drop,
+{
+    type Reduce = R;
+
+    fn finalize<H: Threads>(self, _rt: &H) -> Result<R::Output, ParallelError<R::Error>>
+        ensures reduced { IfReduced result (Reduces R.feeds R.comes_to self.reducer (into_iter_items self.outputs)) }
+    {
+        let Stepwise { outputs, reducer } = self;
+        reduce_rest(outputs, reducer)
+    }
+}

@@ -4,7 +4,7 @@ ghost use Rattle.crossbeam_channel.specs.Ends.{sends_on, receives_on};
 ghost use Rattle.crossbeam_channel.specs.Claims.{view, IsSeatAt};
 ghost use Rattle.gix_features_threads.specs.Ends.{hand};
 
-use crate::ends::{Hand, InOrder};
+use crate::ends::{Anything, Hand, InOrder};
 use bytes::Bytes;
 use crossbeam_channel::{Pass, RuledReceiver, RuledSender, bounded_with};
 use odb_disk::{ByteList, NoMemory};
@@ -26,9 +26,9 @@ pub(crate) enum Piece {
     Failed(PipeError),
 }
 
-pub(crate) type Sender = RuledSender<Piece, Hand<Piece>, InOrder>;
+pub(crate) type Sender = RuledSender<Piece, Hand<Piece>, InOrder<Anything>>;
 
-pub(crate) type Receiver = RuledReceiver<Piece, Hand<Piece>, InOrder>;
+pub(crate) type Receiver = RuledReceiver<Piece, Hand<Piece>, InOrder<Anything>>;
 
 pub(crate) type PipePass = Pass<Piece, Hand<Piece>>;
 

@@ -5,7 +5,7 @@ ghost use Rattle.crossbeam_channel.specs.Claims.{view, IsSeatAt};
 ghost use Rattle.gix_features_threads.specs.PipeSeats.{seat_props};
 
 use super::ends::{Piece, PipeError, PipePass, Receiver};
-use crate::ends::Takes;
+use crate::ends::{Anything, Takes};
 use bytes::Bytes;
 use std::mem;
 use std::sync::Wait;
@@ -150,7 +150,10 @@ impl Reader {
             × (self.new.has_ended ≡ true) }
         ensures channel { receives_on self.new.receiver ≡ receives_on self.old.receiver }
     {
-        match self.receiver.recv_as::<Takes, R>(rt, &mut self.pass) {
+        match self
+            .receiver
+            .recv_as::<Takes<Anything>, R>(rt, &mut self.pass)
+        {
             Ok(piece) => {
                 self.next = piece;
                 true

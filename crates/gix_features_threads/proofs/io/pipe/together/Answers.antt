@@ -3,10 +3,10 @@ use Rattle.gix_features_threads.proofs.EndsLemmas.{forks, merges, totals}
 use Rattle.gix_features_threads.proofs.io.pipe.together.Goals as goal
 
 pub absorb-requires-clause-rule : goal.absorb-requires-clause-rule
-absorb-requires-clause-rule c = merges _ _ _ _ c.args.writer.sends c.args.reader.takes
+absorb-requires-clause-rule c = merges _ _ _ _ _ c.args.writer.sends c.args.reader.takes
 
 pub learn_as-requires-clause-rule : goal.learn_as-requires-clause-rule
-learn_as-requires-clause-rule c = totals _ _ (search rules) (search rules)
+learn_as-requires-clause-rule c = totals _ _ _ (search rules) (search rules)
 
 pub another-other-requires-clause-rule : goal.another-other-requires-clause-rule
-another-other-requires-clause-rule c = forks _ _ (search rules) (search rules)
+another-other-requires-clause-rule c = forks _ _ _ (search rules) (search rules)

@@ -3,4 +3,4 @@ use Rattle.gix_features_threads.proofs.EndsLemmas.{forks}
 use Rattle.gix_features_threads.proofs.io.pipe.unidirectional.Goals as goal
 
 pub another-other-requires-clause-rule : goal.another-other-requires-clause-rule
-another-other-requires-clause-rule c = forks _ _ (search rules) (search rules)
+another-other-requires-clause-rule c = forks _ _ _ (search rules) (search rules)

@@ -2,4 +2,4 @@ use Rattle.gix_features_threads.proofs.EndsLemmas.{begins}
 use Rattle.gix_features_threads.proofs.io.pipe.ends.channel.Goals as goal
 
 pub bounded_with-requires-clause-rule : goal.bounded_with-requires-clause-rule
-bounded_with-requires-clause-rule c = begins
+bounded_with-requires-clause-rule c = begins _ tt

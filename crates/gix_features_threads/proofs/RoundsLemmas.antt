@@ -1,0 +1,72 @@
+-- Lemmas on the rounds in which workers consume a slice.
+use Rattle.std.proofs.Common.{◌≡◌, ℕ, zero, suc, ◌+◌, ◌*◌, ◌<◌, ◌≤◌, List, [], ◌∷◌, ◌++◌, length, take, drop, min, set, get_or, refl, sym, ap, ◌∙◌, subst, arith, append_assoc, Result, Ok, Err}
+use Rattle.std.proofs.lemmas.List.{drop-take, drop-drop, take_min, drop_min}
+use Rattle.std.specs.List.{AllZip}
+use Rattle.gix_features_threads.specs.Rounds.{first_of, Turn, Round}
+
+take-less : {X : Type 0} (n k : ℕ) (xs : List X) → take n (take (n + k) xs) ≡ take n xs
+take-less zero k xs = refl
+take-less (suc n) k [] = refl
+take-less (suc n) k (x ∷ xs) = ap (λ l. x ∷ l) (take-less n k xs)
+
+first_of-assoc : {E : Type 0} (a b c : Result (Unit {0}) E) → first_of a (first_of b c) ≡ first_of (first_of a b) c
+first_of-assoc (Ok done) b c = refl
+first_of-assoc (Err error) b c = refl
+
+first_of-none : {E : Type 0} (a : Result (Unit {0}) E) → first_of a (Ok tt) ≡ a
+first_of-none (Ok tt) = refl
+first_of-none (Err error) = refl
+
+module _ {S T E : Type 0} (consumes : T → S → Result (Unit {0}) E → T → S → Type 0) (size place : ℕ) where
+  -- a turn, and then two parts of the round
+  Next-parts : {s t : S} {more us : List S} (items mine others left : List T) (a b c : Result (Unit {0}) E) → Turn consumes place s (take size items) a t mine
+      → Round consumes size place more (drop size items) (first_of b c) us (others ++ left)
+      → Round consumes size place (s ∷ more) items (first_of (first_of a b) c) (t ∷ us) ((mine ++ others) ++ left)
+  Next-parts {s} {t} {more} {us} items mine others left a b c turn rest = subst (λ (l : List T). Round consumes size place (s ∷ more) items (first_of (first_of a b) c) (t ∷ us) l)
+      (sym (append_assoc mine others left))
+      (subst (λ (r : Result (Unit {0}) E). Round consumes size place (s ∷ more) items r (t ∷ us) (mine ++ (others ++ left))) (first_of-assoc a b c) (Round.Next turn rest))
+
+  -- a round of some workers, and one of the others with the rest of the items
+  pub Round-append : (ss more : List S) (items part rest : List T) {ts us : List S} {left others : List T} {a b : Result (Unit {0}) E}
+      → part ≡ take (length ss * size) items → rest ≡ drop (length ss * size) items
+      → Round consumes size place ss part a ts left → Round consumes size place more rest b us others
+      → Round consumes size place (ss ++ more) items (first_of a b) (ts ++ us) (left ++ others)
+  Round-append [] more items part rest {ts} {us} {left} {others} {a} {b} is behind Round.Over second =
+      subst (λ (l : List T). Round consumes size place more items b us (l ++ others)) (sym is)
+      (subst (λ (l : List T). Round consumes size place more l b us others) behind second)
+  Round-append (s ∷ ss) more items part rest is behind (Round.Next turn later) second =
+      let m = length ss * size in
+      let first : take size part ≡ take size items = ap (take size) is ∙ take-less size m items in
+      let others : drop size part ≡ take m (drop size items) = ap (drop size) is ∙ drop-take size m items in
+      let last : rest ≡ drop m (drop size items) = behind ∙ ap (λ n. drop n items) (let h : size + m ≡ m + size = omega arith in h) ∙ sym (drop-drop m size items) in
+      Next-parts items _ _ _ _ _ _ (subst (λ (l : List T). Turn consumes place s l _ _ _) first turn)
+      (Round-append ss more (drop size items) (drop size part) rest others last later second)
+
+  -- a round of all workers, by that of each half of them
+  pub Round-halves : (low cut : ℕ) (states ss more : List S) (items part rest : List T) (a b answer : Result (Unit {0}) E) (ts us after : List S) (left others lefts : List T)
+      → states ≡ ss ++ more → length ss ≡ low → cut ≡ min (low * size) (length items) → part ≡ take cut items → rest ≡ drop cut items
+      → after ≡ ts ++ us → lefts ≡ left ++ others → answer ≡ first_of a b
+      → Round consumes size place ss part a ts left → Round consumes size place more rest b us others → Round consumes size place states items answer after lefts
+  Round-halves low cut states ss more items part rest a b answer ts us after left others lefts states_are few cut_is part_is rest_is after_are left_are answer_is first second =
+      let is : part ≡ take (length ss * size) items = part_is ∙ ap (λ k. take k items) cut_is ∙ take_min (low * size) items ∙ ap (λ k. take (k * size) items) (sym few) in
+      let behind : rest ≡ drop (length ss * size) items = rest_is ∙ ap (λ k. drop k items) cut_is ∙ drop_min (low * size) items ∙ ap (λ k. drop (k * size) items) (sym few) in
+      rw (states_are, answer_is, after_are, left_are) (Round-append ss more items part rest is behind first second)
+
+  -- a round of one worker, whose run is cut off
+  pub Round-alone : (states after : List S) (d t : S) (cut : ℕ) (items part mine left : List T) (answer : Result (Unit {0}) E)
+      → length states ≡ 1 → after ≡ set states 0 t → cut ≡ min size (length items) → part ≡ take cut items → left ≡ mine ++ drop cut items
+      → Turn consumes place (get_or states 0 d) part answer t mine → Round consumes size place states items answer after left
+  Round-alone [] after d t cut items part mine left answer one after_is cut_is part_is left_is turn = absurd (omega (arith, one))
+  Round-alone (s ∷ x ∷ more) after d t cut items part mine left answer one after_is cut_is part_is left_is turn = absurd (omega (arith, one))
+  Round-alone (s ∷ []) after d t cut items part mine left answer one after_is cut_is part_is left_is turn =
+      let is : part ≡ take size items = part_is ∙ ap (λ k. take k items) cut_is ∙ take_min size items in
+      let behind : drop cut items ≡ drop size items = ap (λ k. drop k items) cut_is ∙ drop_min size items in
+      rw (after_is, left_is, behind) (subst (λ (r : Result (Unit {0}) E). Round consumes size place (s ∷ []) items r (t ∷ []) (mine ++ drop size items)) (first_of-none answer)
+      (Round.Next (subst (λ (l : List T). Turn consumes place s l answer t mine) is turn) Round.Over))
+
+-- a further pair
+pub AllZip-push : {A B : Type 0} (R : A → B → Type 0) (xs : List A) (ys : List B) (x : A) (y : B) → AllZip R xs ys → R x y → AllZip R (xs ++ x ∷ []) (ys ++ y ∷ [])
+AllZip-push R [] [] x y all one = (one, tt)
+AllZip-push R [] (z ∷ ys) x y all one = absurd all
+AllZip-push R (w ∷ xs) [] x y all one = absurd all
+AllZip-push R (w ∷ xs) (z ∷ ys) x y all one = (all.0, AllZip-push R xs ys x y all.1 one)

@@ -1,0 +1,135 @@
+//! A round: each worker consumes an item, all at once.
+ghost use Rattle.std.specs.Prelude.{◌≡◌, ◌<◌, length};
+ghost use Rattle.std.specs.Thread.{IsSync, IsSend};
+ghost use Rattle.gix_features_threads.specs.Rounds.{ChangesTo, Turn, Round, first_of};
+
+use std::thread::{Threads, join_mut};
+
+/// Each worker consumes the item at a place of its run, all at once where threads can be started. Each run has so many
+/// items, but those at the end. The error of the first worker that has one is the answer.
+#[cycle(halves)]
+pub(crate) fn round<H, T, S, E, K>(
+    rt: &H,
+    size: usize,
+    place: usize,
+    consume: &K,
+    count: usize,
+    items: &mut [T],
+    states: &mut [S],
+) -> Result<(), E>
+where
+    H: Threads + Sync,
+    T: Send,
+    S: Send,
+    E: Send + Drop,
+    K: Fn(&mut T, &mut S) -> Result<(), E> + Sync,
+    requires some { 0 < count }
+    requires count { length states.old ≡ count }
+    requires consumes { K.IsAlwaysCallable consume.now }
+    ensures round { Round (ChangesTo K.Fn consume.now) size place states.old items.old result states.new items.new }
+{
+    if count == 1 {
+        return alone(size, place, consume, items, states);
+    }
+    let low = count / 2;
+    let cut = low.saturating_mul(size).min(items.len());
+    let (mine, others) = items.split_at_mut(cut);
+    let (first, rest) = states.split_at_mut(low);
+    both_halves(
+        rt,
+        size,
+        place,
+        consume,
+        low,
+        mine,
+        first,
+        count - low,
+        others,
+        rest,
+    )
+}
+
+/// A round of the workers of both halves, of which one has its items and the other has its own.
+// A separate function, so that what the closures require is what this function is given.
+#[cycle(halves)]
+fn both_halves<H, T, S, E, K>(
+    rt: &H,
+    size: usize,
+    place: usize,
+    consume: &K,
+    low: usize,
+    mine: &mut [T],
+    first: &mut [S],
+    high: usize,
+    others: &mut [T],
+    rest: &mut [S],
+) -> Result<(), E>
+where
+    H: Threads + Sync,
+    T: Send,
+    S: Send,
+    E: Send + Drop,
+    K: Fn(&mut T, &mut S) -> Result<(), E> + Sync,
+    requires some { (0 < low) × (0 < high) }
+    requires count { (length first.old ≡ low) × (length rest.old ≡ high) }
+    requires consumes { K.IsAlwaysCallable consume.now }
+    ensures both { (a : _) × (b : _) × Round (ChangesTo K.Fn consume.now) size place first.old mine.old a first.new mine.new
+        × Round (ChangesTo K.Fn consume.now) size place rest.old others.old b rest.new others.new × (result ≡ first_of a b) }
+{
+    let mut front = || -> Result<(), E>
+        requires { IsSync H.row × IsSync K.row × IsSend T.row × IsSend S.row × IsSend E.row × (0 < low) × (length first.now ≡ low) × K.IsAlwaysCallable consume.now }
+        ensures { Round (ChangesTo K.Fn consume.entry.now) size place first.entry.now mine.entry.now result first.exit.now mine.exit.now }
+    { round(rt, size, place, consume, low, mine, first) };
+    // A number that both closures captured would be lent twice, which has no generated proof.
+    let (run, at) = (size, place);
+    let mut back = || -> Result<(), E>
+        requires { IsSync H.row × IsSync K.row × IsSend T.row × IsSend S.row × IsSend E.row × (0 < high) × (length rest.now ≡ high) × K.IsAlwaysCallable consume.now }
+        ensures { Round (ChangesTo K.Fn consume.entry.now) run at rest.entry.now others.entry.now result rest.exit.now others.exit.now }
+    { round(rt, run, at, consume, high, others, rest) };
+    let (a, b) = join_mut(rt, &mut front, &mut back);
+    first_error(a, b)
+}
+
+/// The first error, where there is one.
+fn first_error<E: Drop>(a: Result<(), E>, b: Result<(), E>) -> Result<(), E>
+    ensures first { result ≡ first_of a b }
+{
+    match a {
+        Ok(()) => b,
+        Err(error) => Err(error),
+    }
+}
+
+/// A round of one worker.
+fn alone<T, S, E, K: Fn(&mut T, &mut S) -> Result<(), E>>(
+    size: usize,
+    place: usize,
+    consume: &K,
+    items: &mut [T],
+    states: &mut [S],
+) -> Result<(), E>
+    requires one { length states.old ≡ 1 }
+    requires consumes { K.IsAlwaysCallable consume.now }
+    ensures round { Round (ChangesTo K.Fn consume.now) size place states.old items.old result states.new items.new }
+{
+    let cut = size.min(items.len());
+    let (run, _) = items.split_at_mut(cut);
+    turn(place, consume, run, &mut states[0])
+}
+
+/// A worker's turn: it consumes the item at a place of its run, if there is one.
+fn turn<T, S, E, K: Fn(&mut T, &mut S) -> Result<(), E>>(
+    place: usize,
+    consume: &K,
+    run: &mut [T],
+    state: &mut S,
+) -> Result<(), E>
+    requires consumes { K.IsAlwaysCallable consume.now }
+    ensures turn { Turn (ChangesTo K.Fn consume.now) place state.old run.old result state.new run.new }
+{
+    if place < run.len() {
+        consume(&mut run[place], state)
+    } else {
+        Ok(())
+    }
+}

@@ -1,0 +1,14 @@
+-- What a trial may ask for.
+use Rattle.std.specs.Prelude.{ℕ, ◌<◌, ◌≤◌}
+use Rattle.parallel_trials.specs.declared.trial.Trial.{Trial}
+use Rattle.parallel_trials.specs.declared.trial.Trial.TheVariants.{Hash, Pipe, Stop}
+
+-- a number from 1 to 65,536
+abbrev pub IsFew : ℕ → Type 0
+IsFew n = (0 < n) × (n ≤ 65536)
+
+-- each number of a trial is from 1 to 65,536
+abbrev pub IsBounded : Trial → Type 0
+IsBounded (Hash workers buffers kib) = IsFew workers × IsFew buffers × IsFew kib
+IsBounded (Pipe pieces kib) = IsFew pieces × IsFew kib
+IsBounded (Stop items workers) = IsFew items × IsFew workers

@@ -1,0 +1,29 @@
+//! Trials of the parts of `gix_features` that start threads, for measuring.
+//!
+//! `parallel_trials hash WORKERS BUFFERS KIB` hashes so many buffers of so many KiB with so many workers, and prints a
+//! number that all hashes make. `parallel_trials pipe PIECES KIB` passes so many pieces from one thread to another, and
+//! prints how many bytes came. `parallel_trials stop ITEMS WORKERS` sends what workers make of so many items to a slow
+//! reader that stops half way, and prints what it saw.
+#![tactic(auto)]
+
+mod fault;
+mod hashing;
+mod passing;
+mod show;
+mod stopping;
+mod trial;
+
+use crate::fault::Fault;
+use crate::show::show;
+use crate::trial::trial_of;
+use odb_program::command_words;
+use std::alloc::Global;
+
+fn main(rt: HostRuntime) -> Result<(), Fault> {
+    let alloc: Global = rt.alloc();
+    let words = command_words(&rt, alloc)?;
+    match trial_of(&words) {
+        Some(trial) => show(&rt, alloc, trial),
+        None => Err(Fault::NotUnderstood),
+    }
+}

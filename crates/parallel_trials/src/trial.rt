@@ -1,0 +1,59 @@
+//! What the words of the command line ask for.
+ghost use Rattle.std.specs.Prelude.{◌<◌, ◌≤◌, ⊤, IfSome};
+ghost use Rattle.parallel_trials.specs.Asked.{IsBounded};
+
+use odb_base::parse_decimal;
+
+/// The most workers, and the most KiB.
+const MOST: u64 = 65_536;
+
+/// A trial that is asked for. Each number is above 0.
+#[derive(Clone, Copy)]
+pub enum Trial {
+    Hash {
+        workers: usize,
+        buffers: usize,
+        kib: usize,
+    },
+    Pipe {
+        pieces: usize,
+        kib: usize,
+    },
+    Stop {
+        items: u32,
+        workers: usize,
+    },
+}
+
+/// The trial that words ask for, if they are understood.
+pub fn trial_of(words: &[String]) -> Option<Trial>
+    ensures bounded { IfSome result IsBounded }
+{
+    match words {
+        [name, workers, buffers, kib] if name.as_str() == "hash" => Some(Trial::Hash {
+            workers: number(workers)?,
+            buffers: number(buffers)?,
+            kib: number(kib)?,
+        }),
+        [name, pieces, kib] if name.as_str() == "pipe" => Some(Trial::Pipe {
+            pieces: number(pieces)?,
+            kib: number(kib)?,
+        }),
+        [name, items, workers] if name.as_str() == "stop" => Some(Trial::Stop {
+            items: number(items)? as u32,
+            workers: number(workers)?,
+        }),
+        _ => None,
+    }
+}
+
+/// A number from 1 to the most.
+fn number(word: &String) -> Option<usize>
+    ensures bounded { IfSome result (λ n. (0 < n) × (n ≤ 65_536)) }
+{
+    let number = parse_decimal(word.as_str())?;
+    if number == 0 || number > MOST {
+        return None;
+    }
+    Some(number as usize)
+}

@@ -1,0 +1,76 @@
+//! Numbers that are drawn ahead.
+ghost use Rattle.std.specs.Prelude.{◌<◌};
+
+use gix_features_threads::parallel::{EagerIter, EagerIterIf};
+use odb_disk::NoMemory;
+use std::alloc::Global;
+use std::sync::Wait;
+use std::test::Fail;
+use std::thread::Threads;
+
+/// The number that is answered, or 0 where there is none.
+fn number_of(answer: Option<Result<u32, NoMemory>>) -> u32 {
+    match answer {
+        Some(Ok(number)) => number,
+        _ => 0,
+    }
+}
+
+/// Whether of the numbers from 1 on, below `end`, four calls give these, with 0 for none.
+fn is_drawn<H: Threads + Wait + Copy + Send + 'static>(
+    rt: H,
+    alloc: Global,
+    end: u32,
+    chunk_size: usize,
+    chunks_in_flight: usize,
+    wanted: [u32; 4],
+) -> bool
+    requires size { 0 < chunk_size }
+    requires in_flight { 0 < chunks_in_flight }
+{
+    let Ok(mut numbers) = EagerIter::new(rt, alloc, 1..end, chunk_size, chunks_in_flight) else {
+        return false;
+    };
+    let first = number_of(numbers.next());
+    let second = number_of(numbers.next());
+    let third = number_of(numbers.next());
+    let fourth = number_of(numbers.next());
+    [first, second, third, fourth] == wanted
+}
+
+// Catches an item of a chunk that is lost, an end before the last item, and an item after the end.
+#[test]
+fn draws_ahead(rt: HostRuntime) -> Result<(), Fail> {
+    let alloc: Global = rt.alloc();
+    let is_right = is_drawn(rt, alloc, 4, 2, 1, [1, 2, 3, 0])
+        && is_drawn(rt, alloc, 3, 2, 1, [1, 2, 0, 0])
+        && is_drawn(rt, alloc, 1, 1, 1, [0, 0, 0, 0])
+        && is_drawn(rt, alloc, 9, 1, 3, [1, 2, 3, 4])
+        && is_drawn(rt, alloc, 5, 9, 1, [1, 2, 3, 4]);
+    assert!(rt; is_right);
+    Ok(())
+}
+
+/// Whether the numbers from 1 to 3 are given, where it is chosen whether they are drawn ahead.
+fn is_chosen<H: Threads + Wait + Copy + Send + 'static>(rt: H, alloc: Global, ahead: bool) -> bool {
+    let Ok(mut numbers) = EagerIterIf::new(rt, alloc, move || ahead, 1..4u32, 2, 1) else {
+        return false;
+    };
+    let is_ahead = matches!(&numbers, EagerIterIf::Eager(_));
+    let Some(Ok(first)) = numbers.next() else {
+        return false;
+    };
+    let Some(Ok(second)) = numbers.next() else {
+        return false;
+    };
+    let third = number_of(numbers.next());
+    is_ahead == ahead && [first, second, third] == [1, 2, 3]
+}
+
+// Catches a condition that isn't heeded.
+#[test]
+fn draws_ahead_if(rt: HostRuntime) -> Result<(), Fail> {
+    let alloc: Global = rt.alloc();
+    assert!(rt; is_chosen(rt, alloc, true) && is_chosen(rt, alloc, false));
+    Ok(())
+}
