@@ -1,5 +1,5 @@
 -- The last of a list of exchanges: what comes behind it, and what was known before it.
-use Rattle.std.proofs.Common.{◌≡◌, ◌⊎◌, inl, inr, ℕ, List, [], ◌∷◌, ◌++◌, Contains, Some, refl, sym, ap}
+use Rattle.std.proofs.Common.{◌≡◌, ◌⊎◌, inl, inr, ℕ, List, [], ◌∷◌, ◌++◌, Some, refl, sym, ap}
 use Rattle.std.proofs.lemmas.List.Elements.{Contains-append_left, Contains-push}
 use Rattle.gix_hash.specs.declared.kind.Kind.{Kind}
 use Rattle.odb_base.specs.Path.{Path}

@@ -1,4 +1,5 @@
 -- Further laws of look-ups and of listings, and their lemmas.
+mod AnySearch
 mod TrierAtHand
 mod LastExchange
 mod PathsApart

@@ -1,11 +1,18 @@
 -- Laws of look-ups that have all at hand as they start: they are done at once.
-use Rattle.std.proofs.Common.{◌≡◌, ◌⊎◌, inl, inr, Bool, true, cond, List, [], ◌∷◌, slice_get, Contains, Option, Some, None, Result, Ok, Err}
+use Rattle.std.proofs.Common.{◌≡◌, ◌⊎◌, inl, inr, ℕ, Bool, true, cond, List, [], ◌∷◌, slice_get, Contains, Option, Some, None, option_map, Result, Ok, Err}
 use Rattle.std.proofs.Common.{refl, sym, ◌∙◌, subst}
-use Rattle.std.specs.List.{All}
+use Rattle.std.specs.List.{All, find}
+use Rattle.std.specs.Ordering.{is_eq}
 use Rattle.std.proofs.lemmas.List.Elements.{All-contains_itself, All-head, All-tail, All-weaker}
+use Rattle.gix_hash.specs.ObjectId.{id_cmp}
 use Rattle.gix_hash.specs.declared.object_id.ObjectId.{ObjectId}
+use Rattle.gix_multi_index.specs.MultiIndex.{told}
 use Rattle.gix_pack_files.specs.FileBytes.{FileBytes}
+use Rattle.gix_pack_files.specs.Index.{index_rows}
+use Rattle.gix_pack_tables.specs.Rows.{PackRow, Row}
 use Rattle.gix_odb_slots.specs.Slots.{PackFile}
+use Rattle.gix_odb_slots.specs.declared.loaded.LoadedIndex.{LoadedIndex}
+use Rattle.gix_odb_slots.specs.declared.loaded.LoadedIndex.TheVariants.{Single, Multi}
 use Rattle.gix_odb_slots.specs.declared.loaded.SnapshotIndex.{SnapshotIndex}
 use Rattle.gix_odb_core.specs.declared.view.View.{View}
 use Rattle.gix_odb_packs.specs.Goal.{given_by}
@@ -18,10 +25,8 @@ use Rattle.gix_odb_packs.specs.declared.goal.Found.TheVariants as found
 use Rattle.gix_odb_packs.specs.declared.goal.Goal.{Goal}
 use Rattle.gix_odb_packs.specs.declared.goal.Wanted.{Wanted}
 use Rattle.gix_odb_packs.specs.declared.goal.Wanted.TheVariants.{Object, Header, Presence}
-use Rattle.gix_odb_packs.specs.declared.search.Sought.{Sought}
-use Rattle.gix_odb_packs.specs.declared.search.Sought.TheVariants.{Nowhere, Finds, Fails, Wants}
-use Rattle.gix_odb_packs.specs.declared.spot.Spot.{Spot}
 use Rattle.gix_odb_packs.specs.declared.trier.Ahead.{Ahead}
+use Rattle.gix_odb_packs.specs.declared.trier.Tried.{Tried}
 use Rattle.gix_odb_packs.specs.declared.trier.Tried.TheVariants as ends
 use Rattle.gix_odb_packs.proofs.ReachLemmas.{first_or_later, none_in}
 use Rattle.gix_odb_calls.specs.declared.call.CallError.TheVariants as call_errors
@@ -35,84 +40,92 @@ use Rattle.gix_odb_looks.specs.declared.look_up.Part.{Part}
 use Rattle.gix_odb_looks.specs.declared.look_up.Part.TheVariants as parts
 use Rattle.gix_odb_looks.specs.declared.look_up.Purpose.TheVariants as purposes
 use Rattle.gix_odb_looks.proofs.MissLaws.Replies.{found_is_no_miss, refused_is_no_miss}
-use Rattle.gix_odb_look_laws.specs.AtHand.{HasId, HasPacks, IsAtHand, IsDone, IsPackLoaded, SaysYes}
+use Rattle.gix_odb_look_laws.specs.AtHand.{HasId, HasPacks, IsAtHand, IsDone, IsPackLoaded, SaysYes, place_for}
 
 -- ---- a search that ends
 
--- a search comes to an end without a pack that is still to be read. For presence it finds it
-abbrev Ends : Wanted → Sought → Type 0
-Ends Presence (Finds found.Presence) = Unit {0}
+-- What trying comes to that ends at once, with no pack and no index that is still to be read. For presence it finds it.
+abbrev Ends : Wanted → Tried → Type 0
+Ends Presence (ends.Hit found.Presence) = Unit {0}
 Ends Presence other = ⊥
-Ends wanted (Finds what) = Unit {0}
-Ends wanted (Fails error) = Unit {0}
+Ends wanted (ends.Hit what) = Unit {0}
+Ends wanted (ends.Bad error) = Unit {0}
 Ends wanted other = ⊥
 
 -- what a search needs of an index that has the id
-abbrev Needs : Wanted → SnapshotIndex → Spot → Type 0
-Needs Presence index spot = Unit {0}
-Needs wanted index spot = IsPackLoaded index spot
-
-first_ends : (wanted : Wanted) (one further : Sought) → Ends wanted one → Ends wanted (first_of one further)
-first_ends Presence (Finds what) further over = over
-first_ends Presence Nowhere further over = absurd over
-first_ends Presence (Fails error) further over = absurd over
-first_ends Presence (Wants pack) further over = absurd over
-first_ends Object (Finds what) further over = tt
-first_ends Object (Fails error) further over = tt
-first_ends Object Nowhere further over = absurd over
-first_ends Object (Wants pack) further over = absurd over
-first_ends Header (Finds what) further over = tt
-first_ends Header (Fails error) further over = tt
-first_ends Header Nowhere further over = absurd over
-first_ends Header (Wants pack) further over = absurd over
-
-given_ends_object : (given : Result Found Error) → Ends Object (given_or_not given)
-given_ends_object (Ok what) = tt
-given_ends_object (Err error) = tt
-
-given_ends_header : (given : Result Found Error) → Ends Header (given_or_not given)
-given_ends_header (Ok what) = tt
-given_ends_header (Err error) = tt
+abbrev Needs : Wanted → SnapshotIndex → (place : ℕ) → Type 0
+Needs Presence index place = Unit {0}
+Needs wanted index place = IsPackLoaded index place
 
 module _ (goal : Goal) where
-  -- the pack that is named is loaded, and gives the object or an error
-  in_loaded : (P : Sought → Type 0) (index : SnapshotIndex) (spot : Spot) → ((given : Result Found Error) → P (given_or_not given)) → IsPackLoaded index spot
-      → P (in_packs goal [] index spot (slice_get index.packs spot.place))
-  in_loaded P index spot each has =
-      subst (λ (pack : Option PackFile). P (in_packs goal [] index spot pack)) (sym has.named)
-      (subst (λ (file : Option FileBytes). P (in_file goal [] index spot has.pack.path file)) (sym has.there)
-      (each (given_by goal.wanted goal.limit has.file spot.offset)))
-
-  spot_ends : (wanted : Wanted) (index : SnapshotIndex) (spot : Spot) → Needs wanted index spot → Ends wanted (at_spot wanted goal [] index (Some spot))
-  spot_ends Presence index spot needs = tt
-  spot_ends Object index spot needs = in_loaded (Ends Object) index spot given_ends_object needs
-  spot_ends Header index spot needs = in_loaded (Ends Header) index spot given_ends_header needs
-
-  -- an index has the id, and the search ends there; or it hasn't, and the search goes on
-  module _ (wanted : Wanted) where
-    index_ends : (index : SnapshotIndex) → ((spot : Spot) → spot_in index.index goal.id ≡ Some spot → Needs wanted index spot) → (spot : Option Spot)
-        → spot_in index.index goal.id ≡ spot → (further : Sought) → ((spot ≡ None) → Ends wanted further)
-        → Ends wanted (first_of (at_spot wanted goal [] index spot) further)
-    index_ends index needs (Some spot) is further later =
-        first_ends wanted (at_spot wanted goal [] index (Some spot)) further (spot_ends wanted index spot (needs spot is))
-    index_ends index needs None is further later = later refl
-
   abbrev NeedsIfHas : SnapshotIndex → Type 0
-  NeedsIfHas index = (spot : Spot) → spot_in index.index goal.id ≡ Some spot → Needs goal.wanted index spot
+  NeedsIfHas index = (place : ℕ) → place_for index.index goal.id ≡ Some place → Needs goal.wanted index place
 
-  no_spot : (index : SnapshotIndex) → spot_in index.index goal.id ≡ None → ¬ (HasId goal.id index)
-  no_spot index none has = let wrong : None ≡ Some has.spot = sym none ∙ has.has in cc wrong
+  no_place : (index : SnapshotIndex) → place_for index.index goal.id ≡ None → ¬ (HasId goal.id index)
+  no_place index none has = let wrong : None ≡ Some has.place = sym none ∙ has.has in cc wrong
 
-  search_ends : (indices : List SnapshotIndex) → All NeedsIfHas indices → (index : SnapshotIndex) → Contains indices index → HasId goal.id index
-      → Ends goal.wanted (search goal [] indices)
+module _ (goal : Goal) (ahead : Ahead) where
+  -- the search among indices, and what it comes to
+  abbrev seeks : List SnapshotIndex → Tried
+  seeks indices = at_search goal ahead (search goal [] indices)
+
+  -- the first index of several
+  module _ (index : SnapshotIndex) (rest : List SnapshotIndex) where
+    given_ends : (P : Tried → Type 0) → ((what : Found) → P (ends.Hit what)) → ((error : Error) → P (ends.Bad error)) → (given : Result Found Error)
+        → P (at_search goal ahead (first_of (given_or_not given) (search goal [] rest)))
+    given_ends P hit bad (Ok what) = hit what
+    given_ends P hit bad (Err error) = bad error
+
+    -- the pack that is named is loaded, and gives the object or an error
+    in_loaded : (P : Tried → Type 0) → ((what : Found) → P (ends.Hit what)) → ((error : Error) → P (ends.Bad error)) → (place offset : ℕ)
+        → IsPackLoaded index place
+        → P (at_search goal ahead (first_of (in_packs goal [] index (record { place = place; offset = offset }) (slice_get index.packs place)) (search goal [] rest)))
+    in_loaded P hit bad place offset has =
+        subst (λ (pack : Option PackFile). P (at_search goal ahead (first_of (in_packs goal [] index (record { place = place; offset = offset }) pack) (search goal [] rest))))
+        (sym has.named)
+        (subst (λ (file : Option FileBytes). P (at_search goal ahead (first_of (in_file goal [] index (record { place = place; offset = offset }) has.pack.path file) (search goal [] rest))))
+        (sym has.there)
+        (given_ends P hit bad (given_by goal.wanted goal.limit has.file offset)))
+
+    spot_ends : (wanted : Wanted) (place offset : ℕ) → Needs wanted index place
+        → Ends wanted (at_search goal ahead (first_of (at_spot wanted goal [] index (Some (record { place = place; offset = offset }))) (search goal [] rest)))
+    spot_ends Presence place offset needs = tt
+    spot_ends Object place offset needs = in_loaded (Ends Object) (λ what. tt) (λ error. tt) place offset needs
+    spot_ends Header place offset needs = in_loaded (Ends Header) (λ what. tt) (λ error. tt) place offset needs
+
+    -- the index has the id, and the search ends there; or it hasn't, and the search goes on
+    module _ (wanted : Wanted) where
+      abbrev NeedsAt : Option ℕ → Type 0
+      NeedsAt own = (place : ℕ) → own ≡ Some place → Needs wanted index place
+
+      row_ends : (row : Option Row) → NeedsAt (option_map (λ (r : Row). 0) row) → (option_map (λ (r : Row). 0) row ≡ None → Ends wanted (seeks rest))
+          → Ends wanted (at_search goal ahead
+          (first_of (at_spot wanted goal [] index (option_map (λ (r : Row). record { place = 0; offset = r.offset }) row)) (search goal [] rest)))
+      row_ends (Some row) needs later = spot_ends wanted 0 row.offset (needs 0 refl)
+      row_ends None needs later = later refl
+
+      pack_row_ends : (row : Option PackRow) → NeedsAt (option_map (λ (r : PackRow). r.pack) row)
+          → (option_map (λ (r : PackRow). r.pack) row ≡ None → Ends wanted (seeks rest))
+          → Ends wanted (at_search goal ahead
+          (first_of (at_spot wanted goal [] index (option_map (λ (r : PackRow). record { place = r.pack; offset = r.offset }) row)) (search goal [] rest)))
+      pack_row_ends (Some row) needs later = spot_ends wanted row.pack row.offset (needs row.pack refl)
+      pack_row_ends None needs later = later refl
+
+      index_ends : (own : LoadedIndex) → NeedsAt (place_for own goal.id) → (place_for own goal.id ≡ None → Ends wanted (seeks rest))
+          → Ends wanted (at_search goal ahead (first_of (at_spot wanted goal [] index (spot_in own goal.id)) (search goal [] rest)))
+      index_ends (Single file) needs later =
+          row_ends (find (λ (row : Row). is_eq (id_cmp row.id goal.id)) (index_rows file.kind file.bytes)) needs later
+      index_ends (Multi bytes) needs later = pack_row_ends (find (λ (row : PackRow). is_eq (id_cmp row.id goal.id)) (told bytes).rows) needs later
+
+  search_ends : (indices : List SnapshotIndex) → All (NeedsIfHas goal) indices → (index : SnapshotIndex) → Contains indices index → HasId goal.id index
+      → Ends goal.wanted (seeks indices)
   search_ends [] needs index among has = absurd (none_in index among)
   search_ends (first ∷ rest) needs index among has =
-      index_ends goal.wanted first (All-head NeedsIfHas first rest needs) (spot_in first.index goal.id) refl (search goal [] rest)
-      (λ none. by none (first_or_later first rest index among))
+      index_ends first rest goal.wanted first.index (All-head (NeedsIfHas goal) first rest needs) (λ none. by none (first_or_later first rest index among))
     where
-      by : spot_in first.index goal.id ≡ None → (first ≡ index) ⊎ Contains rest index → Ends goal.wanted (search goal [] rest)
-      by none (inl is) = absurd (no_spot first none (subst (HasId goal.id) (sym is) has))
-      by none (inr later) = search_ends rest (All-tail NeedsIfHas first rest needs) index later has
+      by : place_for first.index goal.id ≡ None → (first ≡ index) ⊎ Contains rest index → Ends goal.wanted (seeks rest)
+      by none (inl is) = absurd (no_place goal first none (subst (HasId goal.id) (sym is) has))
+      by none (inr later) = search_ends rest (All-tail (NeedsIfHas goal) first rest needs) index later has
 
 -- ---- the look-up
 
@@ -133,29 +146,31 @@ module _ (setting : Setting) where
         yes = yes;
       }
 
-  done : (query : Query) (head : LookHead) (part : Part) (goal : Goal) (ahead : Ahead) (sought : Sought) → Ends (wanted_by query) sought
-      → IsDone query (at head (by_tried setting head part (at_search goal ahead sought)))
-  done (queries.Find asked) head part goal ahead (Finds what) over = found_one (queries.Find asked) head part what tt
-  done (queries.Find asked) head part goal ahead (Fails error) over = refused_one (queries.Find asked) head part error tt
-  done (queries.Find asked) head part goal ahead Nowhere over = absurd over
-  done (queries.Find asked) head part goal ahead (Wants pack) over = absurd over
-  done (queries.Header asked) head part goal ahead (Finds what) over = found_one (queries.Header asked) head part what tt
-  done (queries.Header asked) head part goal ahead (Fails error) over = refused_one (queries.Header asked) head part error tt
-  done (queries.Header asked) head part goal ahead Nowhere over = absurd over
-  done (queries.Header asked) head part goal ahead (Wants pack) over = absurd over
-  done (queries.Test asked) head part goal ahead (Finds found.Presence) over = found_one (queries.Test asked) head part found.Presence refl
-  done (queries.Test asked) head part goal ahead (Finds (found.Object kind bytes)) over = absurd over
-  done (queries.Test asked) head part goal ahead (Finds (found.Header kind size)) over = absurd over
-  done (queries.Test asked) head part goal ahead (Fails error) over = absurd over
-  done (queries.Test asked) head part goal ahead Nowhere over = absurd over
-  done (queries.Test asked) head part goal ahead (Wants pack) over = absurd over
+  done : (query : Query) (head : LookHead) (part : Part) (end : Tried) → Ends (wanted_by query) end → IsDone query (at head (by_tried setting head part end))
+  done (queries.Find asked) head part (ends.Hit what) over = found_one (queries.Find asked) head part what tt
+  done (queries.Find asked) head part (ends.Bad error) over = refused_one (queries.Find asked) head part error tt
+  done (queries.Find asked) head part (ends.More trier) over = absurd over
+  done (queries.Find asked) head part (ends.Missed notes) over = absurd over
+  done (queries.Find asked) head part (ends.Broken refusal) over = absurd over
+  done (queries.Header asked) head part (ends.Hit what) over = found_one (queries.Header asked) head part what tt
+  done (queries.Header asked) head part (ends.Bad error) over = refused_one (queries.Header asked) head part error tt
+  done (queries.Header asked) head part (ends.More trier) over = absurd over
+  done (queries.Header asked) head part (ends.Missed notes) over = absurd over
+  done (queries.Header asked) head part (ends.Broken refusal) over = absurd over
+  done (queries.Test asked) head part (ends.Hit found.Presence) over = found_one (queries.Test asked) head part found.Presence refl
+  done (queries.Test asked) head part (ends.Hit (found.Object kind bytes)) over = absurd over
+  done (queries.Test asked) head part (ends.Hit (found.Header kind size)) over = absurd over
+  done (queries.Test asked) head part (ends.Bad error) over = absurd over
+  done (queries.Test asked) head part (ends.More trier) over = absurd over
+  done (queries.Test asked) head part (ends.Missed notes) over = absurd over
+  done (queries.Test asked) head part (ends.Broken refusal) over = absurd over
 
   needs : (query : Query) (id : ObjectId) (view : View) → HasPacks query id view → All (NeedsIfHas (goal_of setting (new_head query id))) view.snapshot.indices
   needs (queries.Find asked) id view packs = packs
   needs (queries.Header asked) id view packs = packs
   needs (queries.Test asked) id view packs =
       let indices = view.snapshot.indices in
-      All-weaker (Contains indices) (NeedsIfHas (goal_of setting (new_head (queries.Test asked) id))) (λ index among spot is. tt) indices
+      All-weaker (Contains indices) (NeedsIfHas (goal_of setting (new_head (queries.Test asked) id))) (λ index among place is. tt) indices
       (All-contains_itself indices)
 
   -- A look-up whose snapshot has an index with the id, and has loaded the pack that each such index names for it, is done as it starts and
@@ -168,5 +183,4 @@ module _ (setting : Setting) where
       let left : Ahead = record { indices = rest_behind goal [] indices; todo = []; notes = without_notes } in
       subst (λ (b : Bool). IsDone query (at head (cond b (try_view setting head parts.Snapshot view [] without_notes) (stages.Looking (purposes.First true) without_notes))))
       (sym hand.read)
-      (done query head parts.Snapshot goal left (search goal [] indices)
-      (search_ends goal indices (needs query id view hand.packs) hand.index hand.among hand.has))
+      (done query head parts.Snapshot (seeks goal left indices) (search_ends goal left indices (needs query id view hand.packs) hand.index hand.among hand.has))

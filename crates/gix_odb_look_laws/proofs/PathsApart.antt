@@ -6,7 +6,7 @@ use Rattle.std.specs.List.{ends_with}
 use Rattle.std.specs.Prelude.{nat_eq}
 use Rattle.std.proofs.Math.Seq.{drop-append-add}
 use Rattle.std.proofs.lemmas.Bool.{and_parts}
-use Rattle.odb_base.specs.Path.{Name, Path, is_name, parent_of}
+use Rattle.odb_base.specs.Path.{Name, Path, is_name}
 use Rattle.odb_base.specs.PathLaws.{parent_of-push}
 use Rattle.gix_hash.specs.ObjectId.{hex_of}
 use Rattle.gix_hash.specs.declared.object_id.ObjectId.{ObjectId}

@@ -1,13 +1,19 @@
 -- What a look-up has at hand as it starts: the snapshot of its handle, with the object's index and its packs.
-use Rattle.std.specs.Prelude.{◌≡◌, true, slice_get, All, Contains, Some, None, Ok}
+use Rattle.std.specs.Prelude.{◌≡◌, ℕ, true, slice_get, All, Contains, Option, Some, None, Ok, option_map}
+use Rattle.std.specs.List.{find}
+use Rattle.std.specs.Ordering.{is_eq}
+use Rattle.gix_hash.specs.ObjectId.{id_cmp}
 use Rattle.gix_hash.specs.declared.object_id.ObjectId.{ObjectId}
+use Rattle.gix_multi_index.specs.MultiIndex.{told}
 use Rattle.gix_pack_files.specs.FileBytes.{FileBytes}
+use Rattle.gix_pack_files.specs.Index.{index_rows}
+use Rattle.gix_pack_tables.specs.Rows.{PackRow, Row}
 use Rattle.gix_odb_slots.specs.OnDiskFile.{loaded}
 use Rattle.gix_odb_slots.specs.Slots.{PackFile}
+use Rattle.gix_odb_slots.specs.declared.loaded.LoadedIndex.{LoadedIndex}
+use Rattle.gix_odb_slots.specs.declared.loaded.LoadedIndex.TheVariants.{Single, Multi}
 use Rattle.gix_odb_slots.specs.declared.loaded.SnapshotIndex.{SnapshotIndex}
 use Rattle.gix_odb_core.specs.declared.view.View.{View}
-use Rattle.gix_odb_packs.specs.Spot.{spot_in}
-use Rattle.gix_odb_packs.specs.declared.spot.Spot.{Spot}
 use Rattle.gix_odb_calls.specs.declared.call.Reply.{Reply}
 use Rattle.gix_odb_calls.specs.declared.call.Reply.TheVariants as replies
 use Rattle.gix_odb_calls.specs.declared.query.Query.{Query}
@@ -17,21 +23,27 @@ use Rattle.gix_odb_looks.specs.declared.look_up.LookUp.{LookUp}
 
 -- ---- the snapshot
 
--- the pack in which an index has an object is loaded
-pub record IsPackLoaded (index : SnapshotIndex) (spot : Spot) : Type 0 where
+-- The place of the pack, among the packs of an index, that the index names for an id, if it has a row of the id. An index of one pack names
+-- the first.
+abbrev pub place_for : LoadedIndex → ObjectId → Option ℕ
+place_for (Single file) id = option_map (λ (row : Row). 0) (find (λ (row : Row). is_eq (id_cmp row.id id)) (index_rows file.kind file.bytes))
+place_for (Multi bytes) id = option_map (λ (row : PackRow). row.pack) (find (λ (row : PackRow). is_eq (id_cmp row.id id)) (told bytes).rows)
+
+-- the pack at a place of an index is loaded
+pub record IsPackLoaded (index : SnapshotIndex) (place : ℕ) : Type 0 where
   pub pack : PackFile
-  pub named : slice_get index.packs spot.place ≡ Some pack
+  pub named : slice_get index.packs place ≡ Some pack
   pub file : FileBytes
   pub there : loaded pack.state ≡ Some file
 
 -- an index of a snapshot has an id
 pub record HasId (id : ObjectId) (index : SnapshotIndex) : Type 0 where
-  pub spot : Spot
-  pub has : spot_in index.index id ≡ Some spot
+  pub place : ℕ
+  pub has : place_for index.index id ≡ Some place
 
 -- where an index has an id, the pack that it names for it is loaded
 abbrev pub HasPackLoaded : ObjectId → SnapshotIndex → Type 0
-HasPackLoaded id index = (spot : Spot) → spot_in index.index id ≡ Some spot → IsPackLoaded index spot
+HasPackLoaded id index = (place : ℕ) → place_for index.index id ≡ Some place → IsPackLoaded index place
 
 -- A find and a look for a header need the pack that each index with the id names for it. For a test no pack is needed.
 abbrev pub HasPacks : Query → ObjectId → View → Type 0

@@ -2,7 +2,7 @@
 -- that it reads are its own.
 pub mod Differ
 pub mod Rows
-mod Stages
+pub mod Stages
 pub mod Listing
 pub mod Streams
 pub mod Reading

@@ -11,11 +11,12 @@ use Rattle.gix_hash.specs.declared.kind.Kind.{Kind}
 use Rattle.gix_pack_files.specs.Index.{is_index}
 use Rattle.gix_pack_files.specs.Pack.{is_pack}
 use Rattle.gix_odb_core.specs.declared.event.PassWhy.TheVariants as whys
+use Rattle.gix_odb_slots.specs.declared.loaded.SnapshotIndex.{SnapshotIndex}
 use Rattle.gix_odb_slots.specs.declared.loaded.Todo.{Todo}
 use Rattle.gix_odb_packs.specs.Goal.{given_by}
-use Rattle.gix_odb_packs.specs.Search.{rest_behind, search, with_absent}
-use Rattle.gix_odb_packs.specs.TryOrder.{ask_at, at, at_search, at_todo, by_answer, by_given, index_read, pack_behind, pack_read, read_of, search_stored}
-use Rattle.gix_odb_packs.specs.TryOrder.{seek, why_of}
+use Rattle.gix_odb_packs.specs.Search.{rest_behind, tried, with_absent}
+use Rattle.gix_odb_packs.specs.TryOrder.{ask_at, at, at_search, at_todo, by_answer, by_given, index_read, pack_behind, pack_read, read_of, seek}
+use Rattle.gix_odb_packs.specs.TryOrder.{shown_behind, shown_or_own, why_of}
 use Rattle.gix_odb_packs.specs.declared.answer.Answer.{Answer}
 use Rattle.gix_odb_packs.specs.declared.answer.Answer.TheVariants as told
 use Rattle.gix_odb_packs.specs.declared.answer.PartAsk.TheVariants as asks
@@ -23,8 +24,7 @@ use Rattle.gix_odb_packs.specs.declared.goal.Error.{Error}
 use Rattle.gix_odb_packs.specs.declared.goal.Error.TheVariants as errors
 use Rattle.gix_odb_packs.specs.declared.goal.Found.{Found}
 use Rattle.gix_odb_packs.specs.declared.goal.Goal.{Goal}
-use Rattle.gix_odb_packs.specs.declared.search.Sought.{Sought}
-use Rattle.gix_odb_packs.specs.declared.search.Sought.TheVariants as searches
+use Rattle.gix_odb_packs.specs.declared.search.AbsentFile.{AbsentFile}
 use Rattle.gix_odb_packs.specs.declared.search.WantedPack.{WantedPack}
 use Rattle.gix_odb_packs.specs.declared.trier.Ahead.{Ahead}
 use Rattle.gix_odb_packs.specs.declared.trier.IndexPlace.{IndexPlace}
@@ -36,6 +36,7 @@ use Rattle.gix_odb_packs.specs.declared.trier.Trier.{Trier}
 use Rattle.gix_odb_looks.specs.LookUpOrder.{Setting}
 use Rattle.gix_odb_looks.specs.True.{IsTrue}
 use Rattle.gix_odb_look_laws.specs.JustRead.{IsWhy}
+use Rattle.gix_odb_look_laws.proofs.AnySearch.{any_search, any_try}
 use Rattle.gix_odb_look_laws.proofs.TrierAtHand.{OfTried}
 
 -- Here `Read path answer` says that the path was read in the turn before, and answered so.
@@ -59,15 +60,15 @@ module _ (Read : Path → DiskAnswer → Type 0) (hash : Kind) where
   todo_goes goal ahead [] = tt
   todo_goes goal ahead (todo ∷ rest) = tt
 
-  search_goes : (goal : Goal) (ahead : Ahead) (found : Sought) → Goes (at_search goal ahead found)
-  search_goes goal ahead searches.Nowhere = todo_goes goal ahead ahead.todo
-  search_goes goal ahead (searches.Finds found) = tt
-  search_goes goal ahead (searches.Fails error) = tt
-  search_goes goal ahead (searches.Wants pack) = tt
+  -- what the search in one index comes to
+  try_goes : (goal : Goal) (ahead : Ahead) (absent : List AbsentFile) (index : SnapshotIndex) → Goes (at_search goal ahead (tried goal absent index))
+  try_goes goal ahead absent index =
+      any_try Goes goal ahead (todo_goes goal ahead ahead.todo) (λ found. tt) (λ error. tt) (λ pack. tt) absent index
 
   pub seek_goes : (goal : Goal) (ahead : Ahead) → Goes (seek goal ahead)
   seek_goes goal ahead =
-      search_goes goal (record ahead { indices = rest_behind goal ahead.notes.absent ahead.indices }) (search goal ahead.notes.absent ahead.indices)
+      let left : Ahead = record ahead { indices = rest_behind goal ahead.notes.absent ahead.indices } in
+      any_search Goes goal left (todo_goes goal left ahead.todo) (λ found. tt) (λ error. tt) (λ pack. tt) ahead.notes.absent ahead.indices
 
   given_goes : (given : Result Found Error) → Goes (by_given given)
   given_goes (Ok found) = tt
@@ -123,7 +124,8 @@ module _ (Read : Path → DiskAnswer → Type 0) (hash : Kind) where
           → Goes (by_answer goal ahead stage answer)
       answer_goes (stages.ReadingIndex place) (told.Disk answer) truth just = index_goes Shown setting place answer truth (just place.path answer refl refl)
       answer_goes (stages.ReadingPack pack) (told.Disk answer) truth just = pack_goes pack answer (just pack.path answer refl refl)
-      answer_goes (stages.StoringIndex place file) (told.Core (Ok effect)) truth just = search_goes goal ahead (search_stored goal ahead.notes place file effect)
+      answer_goes (stages.StoringIndex place file) (told.Core (Ok effect)) truth just =
+          try_goes goal ahead ahead.notes.absent (shown_or_own place file (shown_behind place effect))
       answer_goes (stages.PassingIndex place why) (told.Core (Ok effect)) truth just = seek_goes goal ahead
       answer_goes (stages.StoringPack pack file) (told.Core (Ok effect)) truth just =
           given_goes (given_by goal.wanted goal.limit (unwrap_or (pack_behind pack effect) file) pack.offset)
