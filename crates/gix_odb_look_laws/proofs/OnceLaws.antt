@@ -98,7 +98,7 @@ module _ (goal : Goal) (ahead : Ahead) where
       abbrev NeedsAt : Option ℕ → Type 0
       NeedsAt own = (place : ℕ) → own ≡ Some place → Needs wanted index place
 
-      row_ends : (row : Option Row) → NeedsAt (option_map (λ (r : Row). 0) row) → (option_map (λ (r : Row). 0) row ≡ None → Ends wanted (seeks rest))
+      row_ends : (row : Option Row) → NeedsAt (option_map {U = ℕ} (λ (r : Row). 0) row) → (option_map {U = ℕ} (λ (r : Row). 0) row ≡ None → Ends wanted (seeks rest))
           → Ends wanted (at_search goal ahead
           (first_of (at_spot wanted goal [] index (option_map (λ (r : Row). record { place = 0; offset = r.offset }) row)) (search goal [] rest)))
       row_ends (Some row) needs later = spot_ends wanted 0 row.offset (needs 0 refl)
@@ -121,29 +121,30 @@ module _ (goal : Goal) (ahead : Ahead) where
       → Ends goal.wanted (seeks indices)
   search_ends [] needs index among has = absurd (none_in index among)
   search_ends (first ∷ rest) needs index among has =
-      index_ends first rest goal.wanted first.index (All-head (NeedsIfHas goal) first rest needs) (λ none. by none (first_or_later first rest index among))
-    where
-      by : place_for first.index goal.id ≡ None → (first ≡ index) ⊎ Contains rest index → Ends goal.wanted (seeks rest)
-      by none (inl is) = absurd (no_place goal first none (subst (HasId goal.id) (sym is) has))
-      by none (inr later) = search_ends rest (All-tail (NeedsIfHas goal) first rest needs) index later has
+      index_ends first rest goal.wanted first.index (All-head (NeedsIfHas goal) first rest needs)
+      (λ none.
+      elim (first_or_later first rest index among) [
+        | inl is ↦ absurd (no_place goal first none (subst (HasId goal.id) (sym is) has))
+        | inr later ↦ search_ends rest (All-tail (NeedsIfHas goal) first rest needs) index later has
+      ])
 
 -- ---- the look-up
 
 module _ (setting : Setting) where
   found_one : (query : Query) (head : LookHead) (part : Part) (what : Found) → SaysYes query (reply_found what)
       → IsDone query (at head (by_tried setting head part (ends.Hit what)))
-  found_one query head part what yes =
-      record { reply = reply_found what; replied = refl; silent = refl; found = found_is_no_miss query what; yes = yes }
+  found_one query head part what says =
+      record { reply = reply_found what; replied = refl; silent = refl; found = found_is_no_miss query what; says_yes = says }
 
   refused_one : (query : Query) (head : LookHead) (part : Part) (error : Error) → SaysYes query (replies.Refused (call_errors.Find (find_error error)))
       → IsDone query (at head (by_tried setting head part (ends.Bad error)))
-  refused_one query head part error yes =
+  refused_one query head part error says =
       record {
         reply = replies.Refused (call_errors.Find (find_error error));
         replied = refl;
         silent = refl;
         found = refused_is_no_miss query (call_errors.Find (find_error error));
-        yes = yes;
+        says_yes = says;
       }
 
   done : (query : Query) (head : LookHead) (part : Part) (end : Tried) → Ends (wanted_by query) end → IsDone query (at head (by_tried setting head part end))

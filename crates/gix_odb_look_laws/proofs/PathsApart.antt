@@ -34,14 +34,14 @@ last_of_pack stem =
 
 index_is_no_pack_name : (name stem : Name) → is_index_name name ≡ true → ¬ (name ≡ stem ++ codes ".pack")
 index_is_no_pack_name name stem is same =
-    let ends : ends_as_index (stem ++ codes ".pack") ≡ true = sym (ap ends_as_index (sym same)) ∙ index_ends name is in
+    let ends : ends_as_index (stem ++ codes ".pack") ≡ true = ap ends_as_index (sym same) ∙ index_ends name is in
     let not : ends_as_index (stem ++ codes ".pack") ≡ false = ap (λ (rest : Name). pointwise nat_eq (codes ".idx") rest) (last_of_pack stem) in
     let both : true ≡ false = sym ends ∙ not in
     cc both
 
 index_is_not_pack : (name : Name) → is_index_name name ≡ true → ¬ (name ≡ codes "pack")
 index_is_not_pack name is same =
-    let ends : ends_as_index (codes "pack") ≡ true = sym (ap ends_as_index (sym same)) ∙ index_ends name is in
+    let ends : ends_as_index (codes "pack") ≡ true = ap ends_as_index (sym same) ∙ index_ends name is in
     let not : ends_as_index (codes "pack") ≡ false = refl in
     let both : true ≡ false = sym ends ∙ not in
     cc both

@@ -72,4 +72,4 @@ pub record IsDone (query : Query) (look : LookUp) : Type 0 where
   pub replied : result_of look ≡ Ok reply
   pub silent : ask_of look ≡ None
   pub found : ¬ (reply ≡ not_found query)
-  pub yes : SaysYes query reply
+  pub says_yes : SaysYes query reply

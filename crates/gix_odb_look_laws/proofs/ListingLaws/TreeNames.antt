@@ -47,13 +47,12 @@ front false b p = p
 below_is_apart : (path : Path) (nodes : Nodes) → T (below_all path_cmp path nodes) → (other : Path) → Contains (paths_of nodes) other → ¬ (path ≡ other)
 below_is_apart path [] below other among same = none_in other among
 below_is_apart path (at ∷ nodes) below other among same =
-    by (first_or_later at.0 (paths_of nodes) other among)
-  where
-    by : (at.0 ≡ other) ⊎ Contains (paths_of nodes) other → ⊥
-    by (inl is) =
-        let less : T (is_lt (path_cmp path at.0)) = front (is_lt (path_cmp path at.0)) (below_all path_cmp path nodes) below in
-        not_both (path_cmp path path) (subst (λ (p : Path). T (is_lt (path_cmp path p))) (is ∙ sym same) less) (own_path path)
-    by (inr later) = below_is_apart path nodes (second (is_lt (path_cmp path at.0)) (below_all path_cmp path nodes) below) other later same
+    elim (first_or_later at.0 (paths_of nodes) other among) [
+      | inl is ↦
+          let less : T (is_lt (path_cmp path at.0)) = front (is_lt (path_cmp path at.0)) (below_all path_cmp path nodes) below in
+          not_both (path_cmp path path) (subst (λ (p : Path). T (is_lt (path_cmp path p))) (is ∙ sym same) less) (own_path path)
+      | inr later ↦ below_is_apart path nodes (second (is_lt (path_cmp path at.0)) (below_all path_cmp path nodes) below) other later same
+    ]
 
 -- ---- names in a directory
 
@@ -61,24 +60,24 @@ module _ (directory : Path) where
   abbrev names_among : List Path → List Name
   names_among paths = filter_map (name_in directory) paths
 
+  -- a name of the first path, or of those behind it
+  first_name_or_later : (path : Path) (paths : List Path) (name : Name) → (Contains (names_among paths) name → Contains paths (directory ++ name ∷ []))
+      → (own : Option Name) → name_in directory path ≡ own → Contains (cons_option own (names_among paths)) name
+      → Contains (path ∷ paths) (directory ++ name ∷ [])
+  first_name_or_later path paths name later None is has = has_later path paths (directory ++ name ∷ []) (later has)
+  first_name_or_later path paths name later (Some first) is has =
+      elim (first_or_later first (names_among paths) name has) [
+        | inl same ↦
+            let at : path ≡ directory ++ name ∷ [] = name_in-path directory path first is ∙ ap (λ (n : Name). directory ++ n ∷ []) same in
+            subst (λ (p : Path). Contains (path ∷ paths) p) at (has_first path paths)
+        | inr more ↦ has_later path paths (directory ++ name ∷ []) (later more)
+      ]
+
   -- each of them is the last of a path
   name_has_path : (paths : List Path) (name : Name) → Contains (names_among paths) name → Contains paths (directory ++ name ∷ [])
   name_has_path [] name among = absurd (none_in name among)
-  name_has_path (path ∷ paths) name among = by (name_in directory path) refl among
-    where
-      later : Contains (names_among paths) name → Contains (path ∷ paths) (directory ++ name ∷ [])
-      later more = has_later path paths (directory ++ name ∷ []) (name_has_path paths name more)
-
-      by : (own : Option Name) → name_in directory path ≡ own → Contains (cons_option own (names_among paths)) name
-          → Contains (path ∷ paths) (directory ++ name ∷ [])
-      by None is has = later has
-      by (Some first) is has =
-          elim (first_or_later first (names_among paths) name has) [
-            | inl same ↦
-                let at : path ≡ directory ++ name ∷ [] = name_in-path directory path first is ∙ ap (λ (n : Name). directory ++ n ∷ []) same in
-                subst (Contains (path ∷ paths)) at (has_first path paths)
-            | inr more ↦ later more
-          ]
+  name_has_path (path ∷ paths) name among =
+      first_name_or_later path paths name (λ more. name_has_path paths name more) (name_in directory path) refl among
 
   -- no name of a path is one of the paths behind it
   name_is_apart : (at : Path × Node) (nodes : Nodes) → T (below_all path_cmp at.0 nodes) → (name : Name) → name_in directory at.0 ≡ Some name
