@@ -1,6 +1,6 @@
 -- Whatever a search among indices comes to, the work goes on with the next index that is still to be loaded, finds something, fails, or reads a
 -- pack.
-use Rattle.std.proofs.Common.{ℕ, List, [], ◌∷◌, Option, Some, None, option_map, Result, Ok, Err, slice_get}
+use Rattle.std.proofs.Common.{ℕ, List, Option, Some, None, option_map, Result, Ok, Err, slice_get}
 use Rattle.std.specs.List.{find}
 use Rattle.std.specs.Ordering.{is_eq}
 use Rattle.odb_base.specs.Path.{Path}

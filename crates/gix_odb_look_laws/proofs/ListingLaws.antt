@@ -2,7 +2,7 @@
 mod TreeNames
 pub mod Seen
 pub mod OfTree
-use Rattle.std.proofs.Common.{◌≡◌, List, [], ◌∷◌, Contains, Some, sym, ap, ◌∙◌, subst}
+use Rattle.std.proofs.Common.{◌≡◌, List, [], ◌∷◌, Contains, Some, sym, ap, subst}
 use Rattle.std.specs.List.{All, IsDistinct}
 use Rattle.std.proofs.lemmas.Option.{same_Some}
 use Rattle.odb_base.specs.Path.{Path}

@@ -1,6 +1,6 @@
 -- Laws of what look-ups read: it is handed to the core in the next turn, and nothing else is.
 mod Stored
-use Rattle.std.proofs.Common.{◌≡◌, ◌⊎◌, inl, inr, ℕ, Bool, true, false, cond, List, [], ◌∷◌, ◌++◌, codes, Option, Some, sym, ap, ◌∙◌, subst}
+use Rattle.std.proofs.Common.{◌≡◌, inl, inr, ℕ, Bool, true, false, cond, List, [], ◌∷◌, ◌++◌, codes, Option, Some, sym, ap, ◌∙◌, subst}
 use Rattle.std.proofs.lemmas.Option.{same_Some}
 use Rattle.odb_base.specs.Path.{Name, Path}
 use Rattle.odb_disk.specs.declared.ask.DiskAnswer.{DiskAnswer}
