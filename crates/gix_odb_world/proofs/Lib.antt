@@ -54,3 +54,4 @@ mod Stock
 mod ToldLists
 mod DiskTold
 mod Streams
+mod PackedStill
