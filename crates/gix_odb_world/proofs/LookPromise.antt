@@ -228,11 +228,11 @@ module _ (first : Volume) (events : List Event) (handle : ℕ) (store : Store) (
     none_failed failed = not_found_had_no_failure setting query id Shown store.hash view told asked well.truth is (well.failures failed)
 
     module _ (folder : Path) (among : Contains (folder_list store.parts) folder) where
-      has : HasVerdict setting query id told folder verdicts.Misses
+      abbrev has : HasVerdict setting query id told folder verdicts.Misses
       has = not_found_missed_in_each_folder setting query id view told asked is folder among
 
       -- the moment at which its loose objects were asked
-      at : IsGiven first events handle begun (has.ask) (has.answer)
+      abbrev at : IsGiven first events handle begun has.ask has.answer
       at = given folder among verdicts.Misses has
 
       passed : ¬ (LeadsToFile (trees at.moment) (loose_path folder id))

@@ -4,12 +4,11 @@ pub mod Answers
 pub mod Moments
 pub mod Contents
 pub mod Rule
-use Rattle.std.proofs.Common.{◌≡◌, ℕ, ◌≤◌, true, false, List, [], ◌∷◌, ◌++◌, length, Contains, Some, Ok, refl, sym, ap, ◌∙◌, subst, append-nil, append_assoc, arith}
+use Rattle.std.proofs.Common.{◌≡◌, ℕ, ◌≤◌, false, List, [], ◌∷◌, ◌++◌, length, Ok, sym, ap, ◌∙◌, subst, append-nil, append_assoc, arith}
 use Rattle.std.proofs.lemmas.Bool.{false_from_ne_true}
-use Rattle.std.proofs.lemmas.List.{length_push}
 use Rattle.odb_base.specs.Path.{Path}
 use Rattle.odb_tree.specs.Entries.{opened}
-use Rattle.odb_tree.specs.Tree.{Tree, tree_of}
+use Rattle.odb_tree.specs.Tree.{tree_of}
 use Rattle.odb_tree.specs.Tree.Follow.{looked}
 use Rattle.odb_tree.specs.declared.entry.Entry.{Entry}
 use Rattle.odb_disk.specs.Ask.{answer_now, fails_now}
@@ -27,7 +26,7 @@ use Rattle.gix_odb_looks.specs.OpenStream.{ListsFile}
 use Rattle.gix_odb_looks.proofs.HandedLaws.{IsOwnStream}
 use Rattle.gix_odb_looks.proofs.StreamLaws.Directories.{looked_file_is_listed}
 use Rattle.gix_odb_looks.proofs.StreamLaws.Exchanges.{next_answer_is_fair}
-use Rattle.gix_odb_world.specs.AtWork.{Running, Store}
+use Rattle.gix_odb_world.specs.AtWork.{Running}
 use Rattle.gix_odb_world.specs.Event.{Event}
 use Rattle.gix_odb_world.specs.Run.{FailedSince, disk_after, tree_at}
 use Rattle.gix_odb_world.specs.Running.PackedStill.{IsPackedStill, LiesIndexed}
@@ -70,12 +69,12 @@ module _ (first : Volume) (events : List Event) (e : Event) (handle : ℕ) (runn
   hash = running.store.hash
 
   -- the folder that a stream was opened on listed the index as a file then
-  lists : (folder : Path) (moment : ℕ) → running.begun ≤ moment → moment ≤ length events → (tree : Tree) → tree_at first events moment ≡ tree
-      → (entries : List Entry) → opened tree folder ≡ Ok entries → folder ≡ pack_folder place.folder → ListsFile tree folder place.name
-  lists folder moment from to tree is entries opens here =
-      let lies = subst (λ t. LiesIndexed t hash id place) is (lies_at first events e running.store running.begun id place still moment from to) in
-      looked_file_is_listed tree folder entries place.name lies.itself.meta opens
-      (ap (λ f. looked tree (f ++ place.name ∷ []) false) here ∙ lies.itself.looks) lies.itself.is_file
+  lists : (folder : Path) (moment : ℕ) → running.begun ≤ moment → moment ≤ length events → (entries : List Entry)
+      → opened (tree_at first events moment) folder ≡ Ok entries → folder ≡ pack_folder place.folder → ListsFile (tree_at first events moment) folder place.name
+  lists folder moment from to entries opens here =
+      let lies = lies_at first events e running.store running.begun id place still moment from to in
+      looked_file_is_listed (tree_at first events moment) folder entries place.name lies.itself.meta opens
+      (ap (λ f. looked (tree_at first events moment) (f ++ place.name ∷ []) false) here ∙ lies.itself.looks) lies.itself.is_file
 
   module _ (dir : ℕ) (own : IsOwnStream before dir) where
     stands : StandsOpen first events running own.stream
@@ -84,10 +83,9 @@ module _ (first : Volume) (events : List Event) (e : Event) (handle : ℕ) (runn
     -- the next entry of its own stream
     next_is_fair : IsDiskFair hash id place before (asks.NextEntry dir) (answer_now disk (asks.NextEntry dir))
     next_is_fair =
-        let tree = tree_at first events stands.moment in
         subst (λ n. IsDiskFair hash id place before (asks.NextEntry n) (answer_now disk (asks.NextEntry n))) own.number
-        (next_answer_is_fair hash id place tree disk own.stream stands.coming stands.is
-        (lists own.stream.folder stands.moment stands.from stands.to tree refl (own.stream.entries ++ stands.coming) stands.is.fixed)
+        (next_answer_is_fair hash id place (tree_at first events stands.moment) disk own.stream stands.coming stands.is
+        (lists own.stream.folder stands.moment stands.from stands.to (own.stream.entries ++ stands.coming) stands.is.fixed)
         before own.told)
 
   -- the tree that answers is that of the moment before

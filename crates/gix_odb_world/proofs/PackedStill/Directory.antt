@@ -1,5 +1,5 @@
 -- Where a name of a folder leads somewhere, the folder leads to a directory; and a path that can be read is a file when it is looked at.
-use Rattle.std.proofs.Common.{◌≡◌, ◌⊎◌, inl, inr, ℕ, zero, suc, true, false, List, [], ◌∷◌, ◌++◌, length, Option, Some, None, Result, Ok, Err}
+use Rattle.std.proofs.Common.{◌≡◌, ◌⊎◌, inl, inr, ℕ, zero, suc, true, false, List, [], ◌∷◌, ◌++◌, Option, Some, None, Result, Ok, Err}
 use Rattle.std.proofs.Common.{refl, sym, ap, ◌∙◌, append_assoc}
 use Rattle.odb_base.specs.Path.{Name, Path}
 use Rattle.odb_tree.specs.Entries.{entries_at, entries_at_place, entries_in, opened}

@@ -1,5 +1,5 @@
 -- An object that lies still in a pack, and an index that shows one content, before an event and with it.
-use Rattle.std.proofs.Common.{◌≡◌, ◌⊎◌, inl, inr, ℕ, ◌+◌, ◌<◌, ◌≤◌, List, [], ◌∷◌, ◌++◌, length, Option, None, Ok, sym, ap, ◌∙◌, subst, arith}
+use Rattle.std.proofs.Common.{◌≡◌, ◌⊎◌, inl, inr, ℕ, ◌+◌, ◌<◌, ◌≤◌, List, [], ◌∷◌, ◌++◌, length, Option, None, Ok, ap, ◌∙◌, subst, arith}
 use Rattle.std.proofs.lemmas.Bool.{cases_lt}
 use Rattle.std.proofs.lemmas.List.{length_push}
 use Rattle.odb_base.specs.Path.{Path}
@@ -10,7 +10,7 @@ use Rattle.odb_tree.specs.declared.change.Change.{Change}
 use Rattle.gix_hash.specs.declared.object_id.ObjectId.{ObjectId}
 use Rattle.gix_odb_looks.specs.Fair.{IsIndexSound, PackedPlace, index_at}
 use Rattle.gix_odb_looks.specs.Found.{Gives}
-use Rattle.gix_odb.specs.Held.{ShowsOne, WasShownAt}
+use Rattle.gix_odb.specs.Held.{ShowsOne, WasShownAt, index_path}
 use Rattle.gix_odb_world.specs.AtWork.{Store}
 use Rattle.gix_odb_world.specs.Event.{Asked, Event, OfCore, OfDisk, OfNewCore, OfNothing}
 use Rattle.gix_odb_world.specs.Headline.{LeavesDisk}
@@ -98,4 +98,4 @@ module _ (first : Volume) (events : List Event) (e : Event) where
   pub indices_show_one_later : (store : Store) → store.opened ≤ length events → tree_at first whole (length events + 1) ≡ tree_at first events (length events)
       → IndicesShowOne (tree_at first events) store (length events) → IndicesShowOne (tree_at first whole) store (length whole)
   indices_show_one_later store early quiet shows folder among name named =
-      shows_one_later store.opened early quiet _ (shows folder among name named)
+      shows_one_later store.opened early quiet (index_path folder name) (shows folder among name named)
