@@ -21,7 +21,7 @@ use Rattle.gix_odb_loose.specs.declared.call.LooseCall.{LooseCall}
 use Rattle.gix_odb_loose.specs.declared.call.Stage as loose
 use Rattle.gix_odb_loose.specs.declared.call.Stage.TheVariants as loose_stages
 use Rattle.gix_odb_slots.specs.Slots.{HasDifferentPaths, same_path}
-use Rattle.gix_odb_slots.specs.declared.listing.Listing.{Listing}
+use Rattle.gix_odb_slots.specs.declared.listing.Listing.{Listing as Handed}
 use Rattle.gix_odb_slots.specs.declared.listing.ListingRow.{ListingRow}
 use Rattle.gix_odb_core.specs.Replay.{CanHappen}
 use Rattle.gix_odb_core.specs.declared.event.Event.{Event}
@@ -171,7 +171,7 @@ module _ (setting : Setting) (distinct : IsDistinct same_path (folders_of settin
     pub what_is_handed_can_happen : (event : Event) → ask_of listing_look ≡ Some (asks.Core event) → (shape : Shape) (seat : ℕ) → CanHappen shape seat event
     what_is_handed_can_happen event is shape seat = stage_happens shape seat listing_look.stage differs (asks.Core event) is
 
-    pub rows_of_a_listing_have_different_paths : (listing : Listing) → ask_of listing_look ≡ Some (asks.Core (events.Publish listing))
+    pub rows_of_a_listing_have_different_paths : (listing : Handed) → ask_of listing_look ≡ Some (asks.Core (events.Publish listing))
         → HasDifferentPaths listing.rows
     rows_of_a_listing_have_different_paths listing is =
         published setting AnyCall (ListerDiffers setting.folders) RowsDiffer (Unit {0}) listing_look.stage differs listing is

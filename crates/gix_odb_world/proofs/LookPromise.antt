@@ -232,7 +232,7 @@ module _ (first : Volume) (events : List Event) (handle : ℕ) (store : Store) (
       lies folder tree InLooseFile here passed = passed (record { bytes = here.0; time = here.1.0; given = here.1.1; holds = tt })
 
   refusal : (error : finding.Error) → result_of look ≡ Ok (replies.Refused (call_errors.Find error)) → FindCause trees Failed told store begun now query id error
-  refusal error is = by error (each_refusal_has_its_cause Shown setting store.hash query id fits.hashed view well.snapshot told asked well.truth store.slots 0 well.numbered error is)
+  refusal error is = by error (each_refusal_has_its_cause Shown setting store.hash query id fits.hashed view well.snapshot told asked well.truth modes.slots 0 well.numbered error is)
     where
       refused_says : (moment : ℕ) (call : Query) (error : loose.Error) → Keeps trees Failed told store begun moment query id (claim_of call (refused error))
           → LooseCause trees Failed store begun moment query id error

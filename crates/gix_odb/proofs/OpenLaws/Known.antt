@@ -78,7 +78,7 @@ module _ (setting : Setting) (slots : Slots) where
         by : (few : Bool) → nat_le number most_slots ≡ few
             → KnowsAt now more (if few then opens.Registering number else refused (opening_errors.TooManySlots number))
         by true e = (none, is, grind (arith, e))
-        by false e = (none, is, grind (arith, e))
+        by false e = (none, (is, grind (arith, e)))
 
   -- ---- the look
 
@@ -102,7 +102,7 @@ module _ (setting : Setting) (slots : Slots) where
     }
 
     no_directory : (answer : DiskAnswer) → ShowsNoDirectory answer → KnowsAt now (one answer) (refused opening_errors.NotADirectory)
-    no_directory answer shows = (none, answer, shows, Contains-push [] (look answer))
+    no_directory answer shows = (none, (answer, shows, Contains-push [] (look answer)))
 
     looked_goes : (answer : DiskAnswer) → KnowsAt now (one answer) (looked setting.objects slots answer)
     looked_goes (answers.Meta meta) = by meta.kind refl

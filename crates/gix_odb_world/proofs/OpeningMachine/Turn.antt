@@ -126,7 +126,7 @@ module _ (first : Volume) (events : List Event) (handle : ℕ) (running : Runnin
     keeps : (reply : Reply) → Promised reply → Promise first whole handle store running.modes running.begun running.task reply
     keeps reply p = subst (λ task. Promise first whole handle store running.modes running.begun task reply) (sym knows.task) p
 
-    now_is : running.begun ≤ length whole
+    pub now_is : running.begun ≤ length whole
     now_is = let since = knows.since in let more = length_push events e in omega (arith, since, more)
 
     -- of what it comes to, at the moment behind its turn
