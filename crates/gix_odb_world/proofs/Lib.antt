@@ -37,6 +37,9 @@ mod DiskTurns
 mod WriteCalls
 mod TurnLemmas
 mod WorldLemmas
+mod ValidLaws
+mod WatchLemmas
+mod FitsLemmas
 mod WriteKept
 mod WriteTurn
 mod WriteGoes

@@ -26,7 +26,7 @@ use std::alloc::Global;
 use std::collections::BTreeMap;
 
 mod handles;
-mod reasons;
+mod rule;
 
 /// A disk, the handles on it, the cores of their stores, what the watched paths have shown, and what has come of the steps so
 /// far.
