@@ -40,6 +40,8 @@ mod WorldLemmas
 mod ValidLaws
 mod WatchLemmas
 mod FitsLemmas
+mod OneContent
+mod StoreContents
 mod WriteKept
 mod WriteTurn
 mod WriteGoes

@@ -31,6 +31,7 @@ use Rattle.gix_odb_world.specs.Changes.{ChangesAs, ChangesAsAsked}
 use Rattle.gix_odb_world.specs.Undisturbed.{WritesStandAlone}
 use Rattle.gix_odb_world.specs.WholeNames.{NamesStayWhole}
 use Rattle.gix_odb_world.specs.Machines.{ask_in, fed_in}
+use Rattle.gix_odb_world.specs.TwoContents.{ShowOneContent}
 use Rattle.gix_odb_world.specs.Valid.{IsReason, misuse_of}
 use Rattle.gix_odb_world.specs.Asks.{AsksAsTask}
 use Rattle.gix_odb_world.specs.Bound.{HasAtMost, bound_of_task}
@@ -186,6 +187,8 @@ pub record IsRun (first : Volume) (events : List Event) (run : Run) : Type 0 whe
   pub registers_own : RegistersOwnThroughout events
   -- a handle's snapshot is never older than an earlier one that it had from the same core
   pub snapshots : SnapshotsNeverFall events
+  -- from the first open step on that names a folder, no path of an index or of a pack there shows two contents
+  pub contents : ShowOneContent first events
   -- where the run is undisturbed, no write touches the temporary file of another, and a name that a write made stays whole
   pub alone : WritesStandAlone first events
   pub names : NamesStayWhole first events

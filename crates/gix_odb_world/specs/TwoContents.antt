@@ -1,12 +1,12 @@
 -- The rule of two contents: from the first open step on that names a folder, no path of an index or of a pack in its pack directory shows
 -- two contents, and its multi-pack index shows no two at one time. Links are followed.
-use Rattle.std.specs.Prelude.{ℕ, ◌+◌, List, [], ◌∷◌, fold, length, Option, Some, None}
+use Rattle.std.specs.Prelude.{◌≡◌, ℕ, ◌+◌, List, [], ◌∷◌, fold, length, Option, Some, None}
 use Rattle.odb_base.specs.Path.{Path}
 use Rattle.odb_disk.specs.MemDisk.{Volume}
 use Rattle.odb_tree.specs.Tree.{tree_of}
 use Rattle.odb_tree.specs.Tree.Change.{changed}
 use Rattle.odb_tree.specs.declared.change.Change.{Change}
-use Rattle.gix_odb_shown.specs.HasShown.{Since, ShowsSecond, with_since}
+use Rattle.gix_odb_shown.specs.HasShown.{HasShown, Since, ShowsSecond, with_since}
 use Rattle.gix_odb_calls.specs.declared.step.Step.{Step}
 use Rattle.gix_odb_calls.specs.declared.step.Step.TheVariants as steps
 use Rattle.gix_odb_calls.specs.declared.step.Outcome.{Outcome}
@@ -54,3 +54,11 @@ abbrev pub BreaksRule : Volume → List Event → Option Change → Type 0
 BreaksRule first events None = ⊥
 BreaksRule first events (Some change) =
     ShowsSecond (tree_at first events) (watched_after events) (length events) (changed (tree_of (disk_after first events).state) change)
+
+-- ---- what the rule keeps
+
+-- No path of an index or of a pack has shown two contents since its folder was watched, and no multi-pack index two at one time.
+abbrev pub ShowOneContent : Volume → List Event → Type 0
+ShowOneContent first events =
+    (path : Path) (time : ℕ) (one other : List ℕ) → HasShown (tree_at first events) (watched_after events) (length events) path time one
+    → HasShown (tree_at first events) (watched_after events) (length events) path time other → one ≡ other

@@ -77,7 +77,7 @@ fn judged_call(
     };
     let revealed = shown.revealed(alloc, tree, &change)?;
     if shown.has_second(&revealed) && !fails(alloc, disk, ask)? {
-        return Ok(Err(Why::TwoContents));
+        return Ok(Err(Why::ImpossibleChange));
     }
     Ok(Ok(Some(revealed)))
 }

@@ -25,7 +25,7 @@ impl Course {
             return Ok(Some(Why::ImpossibleChange));
         }
         if self.shown.is_second(alloc, self.disk.tree(), change)? {
-            return Ok(Some(Why::TwoContents));
+            return Ok(Some(Why::ImpossibleChange));
         }
         Ok(None)
     }
