@@ -1,15 +1,15 @@
 -- Each step of a world takes its history one event on.
 pub mod Apart
-use Rattle.std.proofs.Common.{◌≡◌, ◌≢◌, ℕ, ◌+◌, ◌<◌, true, List, [], ◌∷◌, ◌++◌, length, take, get_or, Some, None, Option, refl, sym, ◌∙◌, ap, subst, Vec, Global}
+use Rattle.std.proofs.Common.{◌≡◌, ◌≢◌, ℕ, ◌+◌, ◌<◌, Bool, true, false, List, [], ◌∷◌, ◌++◌, length, take, get_or, Some, None, Option, refl, sym, ◌∙◌, ap, subst, Vec, Global}
 use Rattle.std.specs.Prelude.{if◌then◌else◌, ◌==◌}
 use Rattle.std.proofs.lemmas.Bool.{false≢true}
 use Rattle.std.proofs.lemmas.List.{map-append, take_more}
 use Rattle.odb_disk.specs.MemDisk.{Volume, after_outside_change}
 use Rattle.odb_tree.specs.Tree.{Tree, tree_of}
-use Rattle.odb_tree.specs.Tree.Change.{changed}
-use Rattle.odb_tree.proofs.TreeLemmas.Changed.{after_change-tree}
+use Rattle.odb_tree.specs.Tree.Change.{changed, is_possible, is_possible_in}
+use Rattle.odb_tree.proofs.TreeLemmas.Changed.{after_change-tree, is_possible-tree_of}
 use Rattle.gix_odb_shown.specs.HasShown.{AreBegun, Keeps, ShowsSecond, Since}
-use Rattle.gix_odb_shown.specs.Kept.{Kept}
+use Rattle.gix_odb_shown.specs.Kept.{IsSecond, Kept}
 use Rattle.gix_odb_shown.proofs.KeepsLaws.{second_shown, shown_second}
 use Rattle.odb_tree.specs.declared.change.Change.{Change}
 use Rattle.gix_odb_calls.specs.declared.step.Step.{Step}
@@ -37,7 +37,7 @@ use Rattle.gix_odb_world.proofs.HistoryLemmas.{cores_after-push, status_of-push,
 use Rattle.gix_odb_world.proofs.KnowsLemmas.{runs-push, runs_set}
 use Rattle.gix_odb_world.proofs.StepLemmas.Apart.{apart, law_apart, left_alone, quiet}
 use Rattle.gix_odb_world.specs.Watch.{NotesChange, ShowsSecondBy}
-use Rattle.gix_odb_world.proofs.ValidLaws.{by_rule, other_reason, same_reason}
+use Rattle.gix_odb_world.proofs.ValidLaws.{breaks_not, by_rule, no_other, other_reason, same_reason}
 use Rattle.gix_odb_world.proofs.WatchLemmas.{keeps_changed, keeps_left, watched_misused}
 use Rattle.gix_odb_world.proofs.WorkLaws.{code_asks}
 use Rattle.gix_odb_world.proofs.WorldLemmas.{matches_set, throughout-push}
@@ -280,6 +280,19 @@ applied old mid new shown step number handle next reason sets notes watches othe
     })
 
 -- ---- a change
+
+-- a valid change of another program is possible, and shows no second content
+possible_by : (b : Bool) (why : Why) → None ≡ (if b then None else Some why) → b ≡ true
+possible_by true why valid = refl
+possible_by false why valid = absurd (cc valid)
+
+pub change_possible : (world : Course) (change : Change) → IsReasonNow world (steps.Disk change) None → is_possible_in (tree_of world.disk.state) change ≡ true
+change_possible world change valid =
+    sym (is_possible-tree_of world.disk.state change)
+    ∙ possible_by (is_possible world.disk.state change) _ (no_other (why_not_now world (steps.Disk change)) (ShowsSecondBy world.shown (tree_of world.disk.state) (Some change)) valid)
+
+pub no_second : (world : Course) (change : Change) → IsReasonNow world (steps.Disk change) None → ¬ (IsSecond world.shown (changed (tree_of world.disk.state) change))
+no_second world change valid = breaks_not (why_not_now world (steps.Disk change)) (ShowsSecondBy world.shown (tree_of world.disk.state) (Some change)) valid
 
 -- the change is noted, the disk takes it, and the step is noted
 pub made_change : (old new : Course) (shown : Kept) (disk : Volume) (change made : Change) → IsReasonNow old (steps.Disk change) None

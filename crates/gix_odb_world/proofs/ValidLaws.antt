@@ -1,5 +1,6 @@
 -- What a lawful event tells of its step: one that isn't misused is valid, and keeps the rule of two contents.
-use Rattle.std.proofs.Common.{◌≡◌, true, List, Option, Some, None, refl, ◌∙◌, subst}
+use Rattle.std.proofs.Common.{◌≡◌, true, List, Option, Some, None, Result, Ok, Err, refl, ◌∙◌, subst}
+use Rattle.std.specs.Result.{IfOk}
 use Rattle.odb_disk.specs.MemDisk.{Volume}
 use Rattle.gix_odb_calls.specs.declared.step.Outcome.{Outcome}
 use Rattle.gix_odb_calls.specs.declared.step.Outcome.TheVariants as outcomes
@@ -30,6 +31,16 @@ other_reason (Some other) breaks why is = cc is
 pub by_rule : (other : Option Why) (breaks : Type 0) (why : Option Why) → other ≡ None → IsFirstReason None breaks why → IsFirstReason other breaks why
 by_rule None breaks why is by = by
 by_rule (Some other) breaks why is by = absurd (cc is)
+
+-- a step that changes nothing has no reason but another one
+pub reason_is : (other why : Option Why) → why ≡ other → IsFirstReason other ⊥ why
+reason_is None None is = λ breaks. breaks
+reason_is None (Some why) is = absurd (cc is)
+reason_is (Some other) why is = is
+
+pub if_reason_is : {E : Type 0} (answer : Result (Option Why) E) (other : Option Why) → IfOk answer (λ why. why ≡ other) → IfOk answer (IsFirstReason other ⊥)
+if_reason_is (Ok why) other is = reason_is other why is
+if_reason_is (Err error) other is = tt
 
 -- the first reason is the same by other words for each
 pub same_reason : (other twin : Option Why) → other ≡ twin → (breaks does : Type 0) → (breaks → does) → (does → breaks) → (why : Option Why)

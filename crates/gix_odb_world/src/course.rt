@@ -2,12 +2,11 @@
 ghost use Rattle.std.specs.Prelude.{◌≡◌, ◌≢◌, ◌<◌, ◌^◌, ◌↔◌, IsTrue, ◌++◌, ◌∷◌, [], List, IfOk, OnOk, length, None, Some};
 ghost use Rattle.odb_disk.specs.MemDisk.{Volume};
 ghost use Rattle.gix_odb_world.specs.Event.{Event};
-ghost use Rattle.gix_odb_world.specs.Valid as reasons;
-ghost use Rattle.gix_odb_world.specs.Valid.{IsReason, is_openable};
+ghost use Rattle.gix_odb_world.specs.Valid.{IsReason};
 ghost use Rattle.gix_odb_world.specs.Headline.{IsRun, outcome_of};
 ghost use Rattle.gix_odb_world.specs.WorkOrder.{result_in};
 ghost use Rattle.gix_odb_world.specs.World.{Continues, Explains, IsExplained, handle_at};
-ghost use Rattle.gix_odb_world.specs.Table.{HasOneMore, Notes, SetsHandle, Settles, after_turn, phase_of_handle, why_not_now};
+ghost use Rattle.gix_odb_world.specs.Table.{HasOneMore, Notes, SetsHandle, Settles, after_turn};
 
 use crate::cores::{joined, journals_of, removed};
 use crate::handle::Handle;
@@ -26,7 +25,7 @@ use std::alloc::Global;
 use std::collections::BTreeMap;
 
 mod handles;
-mod rule;
+mod reason;
 
 /// A disk, the handles on it, the cores of their stores, what the watched paths have shown, and what has come of the steps so
 /// far.
@@ -78,22 +77,7 @@ impl Course {
         requires explained { IsExplained self.now }
         ensures reason { IfOk result (λ why. (first : Volume) (events : List Event) → Explains first events self.now → IsReason first events step.now why) }
     {
-        match step {
-            Step::Open {
-                handle,
-                path,
-                folders,
-                hash,
-                replacements,
-                options,
-            } => self.why_not_open(alloc, *handle, path, folders, *hash, replacements, *options),
-            Step::Clone { handle, from } => Ok(self.why_not_clone(*handle, *from)),
-            Step::Close { handle } => Ok(self.why_not_idle(*handle)),
-            Step::Ignore { handle } => Ok(self.why_not_idle(*handle)),
-            Step::Start { handle, call } => Ok(self.why_not_start(*handle, call)),
-            Step::Turn { handle } => Ok(self.judged(alloc, *handle)?.err()),
-            Step::Disk(change) => self.why_not_change(alloc, change),
-        }
+        self.first_reason(alloc, step)
     }
 
     /// The run of the steps so far. Every history that leads here is its own.
@@ -319,29 +303,6 @@ impl Course {
             }
             Err(Impossible::Impossible) => unreachable!("the change is possible"),
             Err(Impossible::NoMemory) => Err(NoMemory),
-        }
-    }
-
-    /// Why an open step isn't valid.
-    fn why_not_open(
-        &self,
-        alloc: Global,
-        number: u32,
-        path: &PathText,
-        folders: &PathList,
-        hash: gix_hash::Kind,
-        replacements: &IdPairs,
-        options: Options,
-    ) -> Result<Option<Why>, NoMemory>
-        ensures why { IfOk result (λ why. why ≡ reasons.why_not_open (phase_of_handle (handle_at self.now number)) (is_openable path.now folders.now hash replacements.now options.max_changes)) }
-    {
-        if let Some(why) = self.why_not_free(number) {
-            return Ok(Some(why));
-        }
-        if opening::is_good(alloc, path, folders, hash, replacements, options)? {
-            Ok(None)
-        } else {
-            Ok(Some(Why::BadOpen))
         }
     }
 
