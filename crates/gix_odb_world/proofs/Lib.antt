@@ -40,6 +40,7 @@ mod WorldLemmas
 mod ValidLaws
 mod WatchLemmas
 mod FitsLemmas
+mod JudgedLemmas
 mod OneContent
 mod StoreContents
 mod WriteKept

@@ -1,9 +1,11 @@
 -- What is kept of watched paths is what they have shown, from event to event.
-use Rattle.std.proofs.Common.{◌≡◌, ℕ, ◌+◌, ◌≤◌, Bool, true, false, List, [], ◌∷◌, ◌++◌, length, take, Option, Some, None, refl, sym, ap, ◌∙◌, subst, arith}
+use Rattle.std.proofs.Common.{◌≡◌, ℕ, ◌+◌, ◌<◌, ◌≤◌, get_or, Bool, true, false, List, [], ◌∷◌, ◌++◌, length, take, Option, Some, None, refl, sym, ap, ◌∙◌, subst, arith}
 use Rattle.std.specs.Prelude.{fold, if◌then◌else◌}
+use Rattle.std.specs.FinSet as set
 use Rattle.std.specs.Option.{option_or}
 use Rattle.std.specs.Ordering.{eq_by_cmp}
-use Rattle.std.proofs.lemmas.List.{length_push}
+use Rattle.std.proofs.lemmas.List.{length_push, take_more}
+use Rattle.std.proofs.lemmas.List.Sums.{fold_push}
 use Rattle.odb_base.specs.Path.{Path, path_cmp}
 use Rattle.odb_disk.specs.MemDisk.{Volume}
 use Rattle.odb_tree.specs.Tree.{Tree, tree_of}
@@ -14,7 +16,7 @@ use Rattle.odb_tree.proofs.WriteLaws.{tree_of-written}
 use Rattle.gix_odb_shown.specs.HasShown.{AreBegun, HasShown, Keeps, Since, with_since}
 use Rattle.gix_odb_shown.specs.Kept.{Fits, Kept, Notes, nothing_kept}
 use Rattle.gix_odb_shown.specs.Watched.{Shows}
-use Rattle.gix_odb_shown.proofs.KeepsLaws.{keeps_nothing, keeps_on, keeps_still}
+use Rattle.gix_odb_shown.proofs.KeepsLaws.{keeps_nothing, keeps_on, keeps_still, keeps_watched}
 use Rattle.gix_odb_calls.specs.declared.step.Outcome.{Outcome}
 use Rattle.gix_odb_calls.specs.declared.step.Outcome.TheVariants as outcomes
 use Rattle.gix_odb_calls.specs.declared.step.Step.{Step}
@@ -23,7 +25,7 @@ use Rattle.gix_odb_calls.specs.declared.step.Why.{Why}
 use Rattle.gix_odb_world.specs.Event.{Ask, Event, ToCore, ToDisk, ToNewCore}
 use Rattle.gix_odb_world.specs.Run.{Stand, change_asked, change_by, disk_after, disk_after_asked, disk_after_event, told_now, tree_at}
 use Rattle.gix_odb_world.specs.TwoContents.{watched_after, watched_by, watched_from, watched_too}
-use Rattle.gix_odb_world.specs.Watch.{NotesChange, NotesMade}
+use Rattle.gix_odb_world.specs.Watch.{NotesChange, NotesMade, Watches}
 use Rattle.gix_odb_world.proofs.HistoryLemmas.{tree_at-all, tree_at-before, tree_at-now}
 use Rattle.gix_odb_world.proofs.RunSteps.{IsLeft}
 
@@ -55,7 +57,7 @@ same_trees trees others since now kept same k = record {
 pub begun_later : (since : Since) (now later : ℕ) → now ≤ later → AreBegun since now → AreBegun since later
 begun_later since now later within begun folder first watched = let early = begun folder first watched in omega (arith, early, within)
 
-begun_one : (since : Since) (now : ℕ) (folder : Path) → AreBegun since now → AreBegun (with_since since now folder) now
+pub begun_one : (since : Since) (now : ℕ) (folder : Path) → AreBegun since now → AreBegun (with_since since now folder) now
 begun_one since now folder begun other first watched = by (since other) refl (eq_by_cmp path_cmp other folder) watched
   where
     by : (o : Option ℕ) → since other ≡ o → (b : Bool) → option_or o (if b then Some now else None) ≡ Some first → first ≤ now
@@ -63,7 +65,7 @@ begun_one since now folder begun other first watched = by (since other) refl (eq
     by None is true e = let same : now ≡ first = cc e in omega (arith, same)
     by None is false e = absurd (cc e)
 
-begun_too : (since : Since) (now : ℕ) (folders : List Path) → AreBegun since now → AreBegun (watched_too since now folders) now
+pub begun_too : (since : Since) (now : ℕ) (folders : List Path) → AreBegun since now → AreBegun (watched_too since now folders) now
 unfolding watched_too
 begun_too since now [] begun = begun
 begun_too since now (folder ∷ folders) begun = begun_too (with_since since now folder) now folders (begun_one since now folder begun)
@@ -186,3 +188,35 @@ turn_left place disk (Some (ToDisk ask)) = by (change_by disk ask)
     by (Some change) = tree_of-written disk.state change
 turn_left place disk (Some (ToCore event)) = refl
 turn_left place disk (Some (ToNewCore slots folders)) = refl
+
+-- ---- folders that are watched from now on
+
+pub watches_none : (kept : Kept) (tree : Tree) → Watches kept kept tree []
+unfolding watched_too
+watches_none kept tree trees since now is begun k = k
+
+-- one folder first
+pub watches_first : (old mid new : Kept) (tree : Tree) (folder : Path) (folders : List Path) → Notes old (set.insert old.folders folder) tree mid → Fits mid tree
+    → Watches mid new tree folders → Watches old new tree (folder ∷ folders)
+unfolding watched_too
+watches_first old mid new tree folder folders notes fits rest trees since now is begun k =
+    rest trees (with_since since now folder) now is (begun_one since now folder begun)
+    (keeps_watched trees since now folder old mid k (subst (λ t. Notes old (set.insert old.folders folder) t mid) (sym is) notes) (subst (Fits mid) (sym is) fits) begun)
+
+-- and one more
+watched_too-push : (since : Since) (now : ℕ) (folders : List Path) (folder : Path) → watched_too since now (folders ++ folder ∷ []) ≡ with_since (watched_too since now folders) now folder
+unfolding watched_too
+watched_too-push since now folders folder = fold_push (λ watched f. with_since watched now f) since folders folder
+
+watches_push : (old mid new : Kept) (tree : Tree) (folders : List Path) (folder : Path) → Watches old mid tree folders → Notes mid (set.insert mid.folders folder) tree new → Fits new tree
+    → Watches old new tree (folders ++ folder ∷ [])
+watches_push old mid new tree folders folder before notes fits trees since now is begun k =
+    subst (λ s. Keeps trees s now new) (sym (watched_too-push since now folders folder))
+    (keeps_watched trees (watched_too since now folders) now folder mid new (before trees since now is begun k)
+    (subst (λ t. Notes mid (set.insert mid.folders folder) t new) (sym is) notes) (subst (Fits new) (sym is) fits) (begun_too since now folders begun))
+
+pub watches_more : (old mid new : Kept) (tree : Tree) (folders : List Path) (index : ℕ) (folder : Path) → index < length folders → folder ≡ get_or folders index folder
+    → Notes mid (set.insert mid.folders folder) tree new → Fits new tree → Watches old mid tree (take index folders) → Watches old new tree (take (index + 1) folders)
+watches_more old mid new tree folders index folder within is notes fits before =
+    subst (Watches old new tree) (ap (λ f. take index folders ++ f ∷ []) is ∙ sym (take_more folders index folder within))
+    (watches_push old mid new tree (take index folders) folder before notes fits)

@@ -31,7 +31,20 @@ pub fn watch_store(
     ensures watches { OnOk result (Watches shown.old shown.new tree.now (path.now ∷ folders.now)) }
 {
     shown.watch(alloc, path, tree)?;
-    for folder in folders.as_slice() {
+    watch_each(alloc, shown, tree, folders.as_slice())
+}
+
+/// Watches some folders from now on.
+fn watch_each(
+    alloc: Global,
+    shown: &mut Shown,
+    tree: &Tree,
+    folders: &[PathText],
+) -> Result<(), NoMemory>
+    requires fits { Fits shown.old tree.now }
+    ensures watches { OnOk result (Watches shown.old shown.new tree.now folders.now) }
+{
+    for folder in folders {
         shown.watch(alloc, folder, tree)?;
     }
     Ok(())
