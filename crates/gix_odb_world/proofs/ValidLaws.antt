@@ -1,5 +1,5 @@
 -- What a lawful event tells of its step: one that isn't misused is valid, and keeps the rule of two contents.
-use Rattle.std.proofs.Common.{◌≡◌, true, List, Option, Some, None, Result, Ok, Err, refl, ◌∙◌, subst}
+use Rattle.std.proofs.Common.{◌≡◌, true, List, Option, Some, None, Result, Ok, Err, refl, sym, ◌∙◌, subst}
 use Rattle.std.specs.Result.{IfOk}
 use Rattle.odb_disk.specs.MemDisk.{Volume}
 use Rattle.gix_odb_calls.specs.declared.step.Outcome.{Outcome}
@@ -25,7 +25,7 @@ breaks_not other breaks is = no_break other breaks is (no_other other breaks is)
 -- another reason is the first one
 pub other_reason : (other : Option Why) (breaks : Type 0) (why : Why) → other ≡ Some why → IsFirstReason other breaks (Some why)
 other_reason None breaks why is = absurd (cc is)
-other_reason (Some other) breaks why is = cc is
+other_reason (Some other) breaks why is = sym is
 
 -- where no other reason holds, the rule of two contents is asked
 pub by_rule : (other : Option Why) (breaks : Type 0) (why : Option Why) → other ≡ None → IsFirstReason None breaks why → IsFirstReason other breaks why

@@ -83,7 +83,9 @@ begun_from number since (e ∷ events) now begun next =
     begun_later (watched_from (number + 1) (watched_by number e.step e.outcome since) events) (number + length events) (now + length (e ∷ events)) (omega (arith, next)) rest
 
 pub are_begun : (events : List Event) → AreBegun (watched_after events) (length events)
-are_begun events = begun_from 1 (λ folder. None) events 0 (λ folder begun watched. absurd (cc watched)) refl
+are_begun events =
+    begun_later (watched_after events) (0 + length events) (length events) (omega arith)
+    (begun_from 1 (λ folder. None) events 0 (λ folder begun watched. absurd (cc watched)) (omega arith))
 
 watched_from-push : (number : ℕ) (since : Since) (events : List Event) (e : Event)
     → watched_from number since (events ++ e ∷ []) ≡ watched_by (number + length events) e.step e.outcome (watched_from number since events)

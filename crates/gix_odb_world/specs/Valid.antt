@@ -19,7 +19,7 @@ use Rattle.gix_odb_calls.specs.declared.step.Step.TheVariants as steps
 use Rattle.gix_odb_calls.specs.declared.step.Outcome.{Outcome}
 use Rattle.gix_odb_calls.specs.declared.step.Outcome.TheVariants as outcomes
 use Rattle.gix_odb_calls.specs.declared.step.Why.{Why}
-use Rattle.gix_odb_calls.specs.declared.step.Why.TheVariants.{HandleTaken, BadOpen, NoHandle, NotRunning, Busy, WrongHash, ImpossibleChange}
+use Rattle.gix_odb_calls.specs.declared.step.Why.TheVariants.{HandleTaken, BadOpen, NoHandle, NotRunning, Busy, WrongHash, ImpossibleChange, TwoContents}
 use Rattle.gix_odb_world.specs.Bound.{most_changes}
 use Rattle.gix_odb_world.specs.Event.{Event}
 use Rattle.gix_odb_world.specs.Status.{Status, Free, Resting, Working, status_of}
@@ -120,7 +120,7 @@ why_not_after first events (steps.Disk change) = why_not_change (disk_after firs
 abbrev pub IsFirstReason : (other : Option Why) → (breaks : Type 0) → Option Why → Type 0
 IsFirstReason (Some other) breaks why = why ≡ Some other
 IsFirstReason None breaks None = ¬ breaks
-IsFirstReason None breaks (Some why) = (why ≡ ImpossibleChange) × breaks
+IsFirstReason None breaks (Some why) = (why ≡ TwoContents) × breaks
 
 -- This is the first reason why a step isn't valid after the events of a run, or there is none and it is valid.
 abbrev pub IsReason : Volume → List Event → Step → Option Why → Type 0

@@ -5,7 +5,7 @@ ghost use Rattle.std.specs.Result.{result_err};
 ghost use Rattle.odb_disk.specs.Ask.{change_of_ask, fails_now};
 ghost use Rattle.odb_tree.specs.Tree.{Tree as TreeValue, tree_of};
 ghost use Rattle.gix_odb_shown.specs.Kept.{Fits};
-ghost use Rattle.gix_odb_world.specs.Run.{change_asked, change_by};
+ghost use Rattle.gix_odb_world.specs.Run.{change_asked, change_by, has_failed};
 ghost use Rattle.gix_odb_world.specs.Valid.{IsFirstReason};
 ghost use Rattle.gix_odb_world.specs.Watch.{NotesMade, ShowsSecondBy, TellsChange, Watches};
 ghost use Rattle.gix_odb_world.specs.WorkOrder.{asks_on};
@@ -89,10 +89,13 @@ fn judged_call(
         return Ok(Ok(None));
     };
     let revealed = shown.revealed(alloc, tree, &change)?;
-    if shown.has_second(&revealed) && !fails(alloc, disk, ask)? {
-        return Ok(Err(Why::ImpossibleChange));
+    if !shown.has_second(&revealed) {
+        return Ok(Ok(Some(revealed)));
     }
-    Ok(Ok(Some(revealed)))
+    if fails(alloc, disk, ask)? {
+        return Ok(Ok(Some(revealed)));
+    }
+    Ok(Err(Why::TwoContents))
 }
 
 /// Whether a call would fail now. A disk doesn't tell which of its calls are to fail, so a copy of it makes the call.
@@ -101,7 +104,16 @@ fn fails(alloc: Global, disk: &MemDisk, ask: &DiskAsk) -> Result<bool, NoMemory>
 {
     let mut copy = disk.try_clone(alloc)?;
     let answer = copy.carry_out(alloc, ask)?;
-    Ok(matches!(answer, DiskAnswer::Refused(DiskError::Failed)))
+    Ok(is_failure(&answer))
+}
+
+fn is_failure(answer: &DiskAnswer) -> bool
+    ensures failure { result ≡ has_failed answer.now }
+{
+    match answer {
+        DiskAnswer::Refused(DiskError::Failed) => true,
+        _ => false,
+    }
 }
 
 /// Keeps what the change of a turn made watched paths show, if it made one.

@@ -75,7 +75,7 @@ impl Course {
             return Ok(Some(Why::ImpossibleChange));
         }
         if self.shown.is_second(alloc, self.disk.tree(), change)? {
-            return Ok(Some(Why::ImpossibleChange));
+            return Ok(Some(Why::TwoContents));
         }
         Ok(None)
     }

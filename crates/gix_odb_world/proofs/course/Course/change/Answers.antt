@@ -1,5 +1,7 @@
-use Rattle.std.proofs.Common.{None, sym, subst}
+use Rattle.std.proofs.Common.{◌≡◌, true, None, sym, subst}
 use Rattle.std.proofs.lemmas.Result.{on_ok_weaker}
+use Rattle.odb_tree.specs.Tree.Change.{changed, is_possible_in}
+use Rattle.gix_odb_shown.specs.Kept.{Fits, IsSecond, Notes}
 use Rattle.gix_odb_calls.specs.declared.step.Step.TheVariants as steps
 use Rattle.gix_odb_world.specs.Table.{IsReasonNow}
 use Rattle.gix_odb_world.proofs.FitsLemmas.{fits_now}
@@ -18,7 +20,10 @@ returns-in_ok-made-in-Ok-clause-continues c =
     on_ok_weaker c.note-2.result
     (made_change c.args.self.now c.note-2.new.self c.note.new.self c.change.new.self c.args.change.now c.in_ok-made-in-Ok.made
     (subst (IsReasonNow c.args.self.now (steps.Disk c.args.change.now)) c.in_default.is c.in_ok-why.ensures.why)
-    (record { notes = c.in_ok-note.ensures.notes; fits = c.in_ok-note.ensures.fits })
+    (record {
+      notes = subst (λ t. Notes c.args.self.now.shown c.args.self.now.shown.folders (changed t c.args.change.now) c.note.new.self) c.tree.ensures.shown c.in_ok-note.ensures.notes;
+      fits = subst (λ t. Fits c.note.new.self (changed t c.args.change.now)) c.tree.ensures.shown c.in_ok-note.ensures.fits;
+    })
     c.in-Ok.ensures.made c.in_ok-made-in-Ok.ensures.copy) c.note-2.ensures.notes
 
 pub why_not_change-requires : goal.why_not_change-requires
@@ -29,7 +34,7 @@ pub note-requires : goal.note-requires
 note-requires c =
     let valid = subst (IsReasonNow c.args.self.now (steps.Disk c.args.change.now)) c.in_default.is c.in_ok-why.ensures.why in
     record {
-      fits = fits_now c.args.self.now c.requires.explained;
-      possible = change_possible c.args.self.now c.args.change.now valid;
-      first = no_second c.args.self.now c.args.change.now valid;
+      fits = subst (Fits c.args.self.now.shown) (sym c.tree.ensures.shown) (fits_now c.args.self.now c.requires.explained);
+      possible = subst (λ t. is_possible_in t c.args.change.now ≡ true) (sym c.tree.ensures.shown) (change_possible c.args.self.now c.args.change.now valid);
+      first = subst (λ t. ¬ (IsSecond c.args.self.now.shown (changed t c.args.change.now))) (sym c.tree.ensures.shown) (no_second c.args.self.now c.args.change.now valid);
     }
