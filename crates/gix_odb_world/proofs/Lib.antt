@@ -37,6 +37,12 @@ mod DiskTurns
 mod WriteCalls
 mod TurnLemmas
 mod WorldLemmas
+mod ValidLaws
+mod WatchLemmas
+mod FitsLemmas
+mod JudgedLemmas
+mod OneContent
+mod StoreContents
 mod WriteKept
 mod WriteTurn
 mod WriteGoes
