@@ -1,6 +1,6 @@
 -- What a run says of the indices of a store: none shows two contents while its store is open.
-use Rattle.std.proofs.Common.{◌≡◌, ℕ, Bool, true, false, List, length, take, codes, nat_eq, Option, None, Some, refl, subst}
-use Rattle.std.specs.Prelude.{◌&&◌, ◌||◌, if◌then◌else◌, nat_lt}
+use Rattle.std.proofs.Common.{◌≡◌, ℕ, Bool, true, false, List, length, take, Option, None, Some, refl, subst}
+use Rattle.std.specs.Prelude.{◌&&◌, ◌||◌, codes, if◌then◌else◌, nat_eq, nat_lt}
 use Rattle.std.specs.List.{ends_with}
 use Rattle.odb_base.specs.Path.{Name, is_name, same_name}
 use Rattle.odb_disk.specs.MemDisk.{Volume}
