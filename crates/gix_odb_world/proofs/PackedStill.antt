@@ -48,7 +48,7 @@ AreFair-push hash id place past [] exchange all one =
 AreFair-push hash id place past (first ∷ exchanges) exchange all one = (
   all.0,
   AreFair-push hash id place (past ++ first ∷ []) exchanges exchange all.1
-  (subst (λ es. IsFair hash id place es exchange.ask exchange.answer) (sym (append_assoc past (first ∷ []) exchanges)) one),
+      (subst (λ es. IsFair hash id place es exchange.ask exchange.answer) (sym (append_assoc past (first ∷ []) exchanges)) one),
 )
 
 -- ---- a call of the disk in a turn
