@@ -2,7 +2,7 @@
 use Rattle.std.proofs.Common.{◌≡◌, true, List, [], ◌∷◌, ◌++◌, codes, Option, Some, None, refl, sym, ap, ◌∙◌, subst}
 use Rattle.std.specs.FinSet as set
 use Rattle.std.proofs.Math.Logic.{∥∥₁_elim}
-use Rattle.std.proofs.Props.{props}
+use Rattle.std.specs.Coded.{Coded-set, coded_bool, coded_list, coded_option, coded_ℕ}
 use Rattle.std.proofs.lemmas.Grind.{not_there}
 use Rattle.odb_base.specs.Path.{Name, Path, parent_of}
 use Rattle.odb_base.specs.PathLaws.{parent_of-nothing, parent_of-push, parent_of-some}
@@ -42,12 +42,12 @@ module _ (world : Course) (explained : IsExplained world) where
         let name : (n : Name) × (path ≡ directory ++ n ∷ []) = parent_of-some path directory is in
         record {
           folder = folder;
-          among = ∥∥₁_elim explained (Prim.hlevel props) (λ h. subst (λ f. set.contains folders f ≡ true) (own_folder folders path directory folder (known h) is at) (known h).among);
+          among = ∥∥₁_elim explained (Coded-set coded_bool _ _) (λ h. subst (λ f. set.contains folders f ≡ true) (own_folder folders path directory folder (known h) is at) (known h).among);
           name = name.0;
           path_is =
               name.1
               ∙ ap (λ d. d ++ name.0 ∷ [])
-              (∥∥₁_elim explained (Prim.hlevel props) (λ h. directory_is folders path directory (known h) is ∙ ap pack_directory (own_folder folders path directory folder (known h) is at)));
+              (∥∥₁_elim explained (Coded-set (coded_list (coded_list coded_ℕ)) _ _) (λ h. directory_is folders path directory (known h) is ∙ ap pack_directory (own_folder folders path directory folder (known h) is at)));
         }
 
     by_folder : (directory : Path) (o : Option Path) → parent_of path ≡ Some directory → parent_of directory ≡ o → LiesInOne folders path
@@ -68,10 +68,10 @@ module _ (world : Course) (explained : IsExplained world) where
 
   pub fits_now : Fits world.shown (tree_of world.disk.state)
   fits_now = record {
-    whole = λ path time bytes shows. ∥∥₁_elim explained (Prim.hlevel props) (λ h. (fits_by h).whole path time bytes shows);
+    whole = λ path time bytes shows. ∥∥₁_elim explained (Coded-set (coded_option (coded_list coded_ℕ)) _ _) (λ h. (fits_by h).whole path time bytes shows);
     only = λ path time bytes kept. lies world.shown.folders path (λ h. (fits_by h).only path time bytes kept);
     plain = λ yes folder among. record {
-      directories = λ front rest is. ∥∥₁_elim explained (Prim.hlevel props) (λ h. ((fits_by h).plain yes folder among).directories front rest is);
-      files = λ name kind is. ∥∥₁_elim explained (Prim.hlevel props) (λ h. ((fits_by h).plain yes folder among).files name kind is);
+      directories = λ front rest is. ∥∥₁_elim explained (Coded-set coded_bool _ _) (λ h. ((fits_by h).plain yes folder among).directories front rest is);
+      files = λ name kind is. ∥∥₁_elim explained (Coded-set coded_bool _ _) (λ h. ((fits_by h).plain yes folder among).files name kind is);
     };
   }

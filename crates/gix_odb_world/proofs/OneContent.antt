@@ -223,7 +223,7 @@ module _ (first : Volume) (past : List Event) (e : Event) (law : Law first past 
 
 none_shown : (first : Volume) → ShowOneContent first []
 unfolding watched_from
-none_shown first path time one other h o = absurd (cc h.watched)
+none_shown first path time one other h o = let wrong : None ≡ Some h.begun = h.watched in absurd (cc wrong)
 
 module _ (run : LawfulRun) where
   open run use {first, events, lawful}

@@ -1,6 +1,7 @@
 -- From its opening on each path of an index or of a pack in a folder of a store shows one content.
 use Rattle.std.proofs.Common.{◌≡◌, ℕ, zero, suc, ◌+◌, ◌<◌, ◌≤◌, Bool, true, false, List, [], ◌∷◌, ◌++◌, length, take, Contains, Option, Some, None, Ok, inl, inr, refl, sym, ap, ◌∙◌, subst, arith}
-use Rattle.std.specs.Prelude.{if◌then◌else◌}
+use Rattle.std.specs.Prelude.{◌||◌, codes, nat_eq, if◌then◌else◌}
+use Rattle.std.specs.List.{ends_with}
 use Rattle.std.specs.Option.{option_or}
 use Rattle.std.specs.Ordering.{eq_by_cmp}
 use Rattle.std.proofs.lemmas.Cmp.{eq_by_cmp_equiv}
@@ -11,8 +12,8 @@ use Rattle.odb_base.specs.Path.{Name, Path, path_cmp}
 use Rattle.odb_base.specs.PathLaws.{path_order}
 use Rattle.odb_tree.specs.Tree.Follow.{read_of}
 use Rattle.gix_odb_shown.specs.HasShown.{HasShown, Since, with_since}
-use Rattle.gix_odb_shown.specs.Watched.{pack_directory, watched_kind}
-use Rattle.gix_odb_shown.specs.declared.watched.WatchedKind.TheVariants.{PackOrIndex}
+use Rattle.gix_odb_shown.specs.Watched.{pack_directory}
+use Rattle.gix_odb_shown.proofs.KeepsLaws.{shows_read}
 use Rattle.gix_odb_calls.specs.declared.step.Outcome.TheVariants as outcomes
 use Rattle.gix_odb_calls.specs.declared.step.Step.TheVariants as steps
 use Rattle.gix_odb.specs.Contents.{StoreData, folder_list}
@@ -111,7 +112,7 @@ module _ (run : LawfulRun) where
     early : here.0 ≤ store.opened
     early = let bound = are_begun upto folder here.0 here.1 in omega (arith, bound, long)
 
-    module _ (name : Name) (kind : watched_kind name ≡ Some PackOrIndex) where
+    module _ (name : Name) (ends : (ends_with nat_eq name (codes ".idx") || ends_with nat_eq name (codes ".pack")) ≡ true) where
       abbrev path : Path
       path = pack_directory folder ++ name ∷ []
 
@@ -124,7 +125,7 @@ module _ (run : LawfulRun) where
         moment = moment;
         from = omega (arith, from, early);
         to = to;
-        shows = record { name = name; path_is = refl; kind = PackOrIndex; is_watched = kind; at = time; reads = reads; counts = refl };
+        shows = shows_read folder (tree_at first events moment) name bytes time ends reads;
       }
 
       -- what two reads of it give at states since the opening has the same bytes

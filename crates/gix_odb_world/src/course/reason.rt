@@ -105,7 +105,10 @@ impl Course {
         ensures why { IfOk result (IsReasonNow self.now (Step.Turn number)) }
     {
         match self.judged(alloc, number)? {
-            Ok(_) => Ok(None),
+            Ok(revealed) => {
+                drop(revealed);
+                Ok(None)
+            }
             Err(why) => Ok(Some(why)),
         }
     }
