@@ -1,13 +1,17 @@
 -- What a store held, and what lay still in it, over any family of trees numbered by moments. A kind of contents has its constructor in
 -- `Contents` and its lines in `Holds`, `WasShown`, `Place` and `LiesAt`; what is said of all kinds names none.
-use Rattle.std.specs.Prelude.{◌≡◌, ℕ, true, List, [], ◌∷◌, ◌++◌, Contains}
+use Rattle.std.specs.Prelude.{◌≡◌, ℕ, true, false, List, [], ◌∷◌, ◌++◌, Contains, Ok}
 use Rattle.odb_base.specs.Path.{Name, Path}
 use Rattle.odb_tree.specs.Tree.{Tree}
+use Rattle.odb_tree.specs.Tree.Follow.{looked}
+use Rattle.odb_tree.specs.declared.meta.Kind.TheVariants as kinds
+use Rattle.odb_tree.specs.declared.meta.Meta.{Meta}
 use Rattle.gix_hash.specs.declared.object_id.ObjectId.{ObjectId}
 use Rattle.gix_odb_loose.specs.LooseFile.{loose_path}
 use Rattle.gix_odb_packs.specs.PackFolder.{is_index_name, pack_folder}
 use Rattle.gix_odb_slots.specs.PackPath.{pack_path}
 use Rattle.gix_odb_calls.specs.declared.query.Query.{Query}
+use Rattle.gix_odb_calls.specs.declared.query.Query.TheVariants.{Find, Header, Test}
 use Rattle.gix_odb.specs.Contents.{StoreData, folder_list, Contents, LooseFile, InIndex, InPack, Answer, Holds, IsSound, ShowsFile}
 use Rattle.gix_odb.specs.Moments.{Sometime, Throughout}
 
@@ -20,6 +24,10 @@ index_path folder name = pack_folder folder ++ name ∷ []
 -- a file with these bytes was shown at a path at some moment from one to another
 abbrev pub WasShownAt : (trees : ℕ → Tree) → (from now : ℕ) → Path → List ℕ → Type 0
 WasShownAt trees from now path bytes = Sometime from now (λ moment. ShowsFile (trees moment) path bytes)
+
+-- a path showed no two contents at moments from one to another
+abbrev pub ShowsOne : (trees : ℕ → Tree) → (from now : ℕ) → Path → Type 0
+ShowsOne trees from now path = (one other : List ℕ) → WasShownAt trees from now path one → WasShownAt trees from now path other → one ≡ other
 
 -- A folder showed the parts of contents for an id, each at a moment of its own and none before the one that their kind says: `opened`,
 -- at which the store was opened, or `begun`, at which the call began. A loose file is one part, shown since the call began; an
@@ -42,14 +50,39 @@ pub record Held (trees : ℕ → Tree) (store : StoreData) (opened begun now : �
 -- ---- still
 
 -- Where an object lies in a folder: a kind of contents, with what stays the same of them while the object lies still. Of a loose file
--- that is nothing but its path, which the id tells.
+-- that is nothing but its path, which the id tells; of an index and its pack it is the name of the index, and the offset that this gives the id.
 pub data Place : Type 0 where
   InLooseFile : Place
+  InPackFile : (name : Name) (offset : ℕ) → Place
+
+-- a path is itself a file: a link in the last place is none
+pub record IsItselfFile (tree : Tree) (path : Path) : Type 0 where
+  pub meta : Meta
+  pub looks : looked tree path false ≡ Ok meta
+  pub is_file : meta.kind ≡ kinds.File
+
+-- an index and its pack are sound for a call at an offset: for a test the row of the index is enough
+abbrev pub IsSoundPair : StoreData → Query → ObjectId → Name → (index pack : List ℕ) → (offset : ℕ) → Type 0
+IsSoundPair store (Find asked) id name index pack offset = IsSound store (Find asked) id (InPack name index pack offset)
+IsSoundPair store (Header asked) id name index pack offset = IsSound store (Header asked) id (InPack name index pack offset)
+IsSoundPair store (Test asked) id name index pack offset = IsSound store (Test asked) id (InIndex name index offset)
+
+-- At one moment an object lies in a pack of a folder: the index of a name is itself a file, and a file is shown as its pack. The two are sound
+-- for the call, and the index gives the id this offset.
+pub record LiesInPack (store : StoreData) (call : Query) (tree : Tree) (folder : Path) (id : ObjectId) (name : Name) (offset : ℕ) : Type 0 where
+  pub named : is_index_name name ≡ true
+  pub itself : IsItselfFile tree (index_path folder name)
+  pub index : List ℕ
+  pub shows_index : ShowsFile tree (index_path folder name) index
+  pub pack : List ℕ
+  pub shows_pack : ShowsFile tree (pack_path (index_path folder name)) pack
+  pub sound : IsSoundPair store call id name index pack offset
 
 -- At one moment an object lies at a place of a folder, in contents that are sound for the call.
 abbrev pub LiesAt : StoreData → Query → Tree → (folder : Path) → ObjectId → Place → Type 0
 LiesAt store call tree folder id InLooseFile =
     (bytes : List ℕ) × ShowsFile tree (loose_path folder id) bytes × IsSound store call id (LooseFile bytes)
+LiesAt store call tree folder id (InPackFile name offset) = LiesInPack store call tree folder id name offset
 
 -- In one folder, at one place, the object of an id lay at every moment from `begun` to `now`, in contents that are sound for the call.
 pub record Still (trees : ℕ → Tree) (store : StoreData) (begun now : ℕ) (call : Query) (id : ObjectId) : Type 0 where

@@ -144,4 +144,6 @@ pub enum Why {
     WrongHash,
     /// The tree has no place for the change.
     ImpossibleChange,
+    /// A path of an index or of a pack would show a second content, or a multi-pack index one at the same time.
+    TwoContents,
 }

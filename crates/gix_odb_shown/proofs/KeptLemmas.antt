@@ -281,21 +281,15 @@ module _ (kept : Kept) (before after : Tree) (fits : Fits kept before) (files : 
   abbrev told : Kept
   told = record { folders = folders; contents = contents; plain = plain }
 
-  told_notes : contents ≡ with_files own files → Notes kept kept.folders after told
-  told_notes is =
+  pub keep_notes : contents ≡ with_files own files → Notes kept kept.folders after told
+  keep_notes is =
       subst (λ (k : Kept). Notes kept kept.folders after k)
       (kept_parts kept.folders folders (with_files kept.contents files) contents plain (sym (ap (λ (k : Kept). k.folders) view))
       (ap (λ (k : Kept). with_files k.contents files) (sym view) ∙ sym is))
       (notes_after kept before after files fits r plain)
 
-  pub note_notes : {A E : Type 0} (answer : Result A E) → OnOk answer (contents ≡ with_files own files) → OnOk answer (Notes kept kept.folders after told)
-  note_notes (Ok done) is = told_notes is
-  note_notes (Err error) is = tt
-
-  pub note_fits : {A E : Type 0} → (IsSecond kept after → ⊥) → (plain ≡ true → ArePlain after kept.folders) → (answer : Result A E)
-      → OnOk answer (contents ≡ with_files own files) → OnOk answer (Fits told after)
-  note_fits first_only are (Ok done) is = fits_after kept before after told fits first_only (told_notes is) are
-  note_fits first_only are (Err error) is = tt
+  pub keep_fits : (IsSecond kept after → ⊥) → (plain ≡ true → ArePlain after kept.folders) → contents ≡ with_files own files → Fits told after
+  keep_fits first_only are is = fits_after kept before after told fits first_only (keep_notes is) are
 
 module _ (kept : Kept) (tree : Tree) (fits : Fits kept tree) (folder : Path) (old : BTreeSet Path) (own : Contents) (was : Bool)
     (view : ◌≡◌ {A = Kept} (record { folders = set.from_list old.keys; contents = own; plain = was }) kept) where

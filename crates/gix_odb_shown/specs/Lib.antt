@@ -5,4 +5,5 @@ pub mod Plain
 pub mod Kept
 pub mod HasShown
 pub mod Files
+pub mod Revealed
 pub mod Seen

@@ -13,9 +13,11 @@
 
 mod contents;
 mod plain;
+mod revealed;
 mod seen;
 mod shown;
 mod shown_file;
 mod watched;
 
+pub use revealed::Revealed;
 pub use shown::Shown;

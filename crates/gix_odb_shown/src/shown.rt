@@ -6,9 +6,11 @@ ghost use Rattle.odb_tree.specs.Tree.Change.{changed, is_possible_in};
 ghost use Rattle.gix_odb_shown.specs.Files.{Reveals};
 ghost use Rattle.gix_odb_shown.specs.Kept.{Fits, IsSecond, Notes, nothing_kept};
 ghost use Rattle.gix_odb_shown.specs.Plain.{ArePlain};
+ghost use Rattle.gix_odb_shown.specs.Revealed.{IsRevealed};
 
 use crate::contents::Contents;
 use crate::plain::{are_plain, is_plain};
+use crate::revealed::Revealed;
 use crate::seen::seen_in;
 use crate::shown_file::{ShownFile, files_in, files_of_all};
 use odb_base::{NoMemory, PathText};
@@ -71,7 +73,7 @@ impl Shown {
         ensures second { IfOk result (λ second. IsTrue second ↔ IsSecond self.now (changed tree.now change.now)) }
     {
         let revealed = self.revealed(alloc, tree, change)?;
-        Ok(self.contents.differs_from_one(&revealed.files))
+        Ok(self.has_second(&revealed))
     }
 
     /// Notes what a change makes watched paths show. It is told of the tree before the change.
@@ -82,22 +84,42 @@ impl Shown {
         ensures notes { OnOk result (Notes self.old self.old.folders (changed tree.now change.now) self.new) }
         ensures fits { OnOk result (Fits self.new (changed tree.now change.now)) }
     {
-        let Revealed { files, plain } = self.revealed(alloc, tree, change)?;
-        self.plain = plain;
-        self.contents.keep_all(files)
+        let revealed = self.revealed(alloc, tree, change)?;
+        self.keep(revealed)
     }
 
-    /// What a change makes watched paths show, but for what they show already.
-    fn revealed(&self, alloc: Global, tree: &Tree, change: &Change) -> Result<Revealed, NoMemory>
+    /// What a change would make watched paths show, but for what they show already.
+    pub fn revealed(
+        &self,
+        alloc: Global,
+        tree: &Tree,
+        change: &Change,
+    ) -> Result<Revealed, NoMemory>
         requires fits { Fits self.now tree.now }
         requires possible { is_possible_in tree.now change.now ≡ true }
-        ensures reveals { IfOk result (λ revealed. Reveals self.now.folders tree.now (changed tree.now change.now) revealed.files.items) }
-        ensures plain { IfOk result (λ revealed. revealed.plain ≡ true → ArePlain (changed tree.now change.now) self.now.folders) }
+        ensures revealed { IfOk result (IsRevealed self.now.folders tree.now (changed tree.now change.now)) }
     {
         match self.seen(alloc, tree, change)? {
             Some(files) => Ok(Revealed { files, plain: true }),
             None => revealed_by_tree(alloc, &self.folders, &changed(alloc, tree, change)?),
         }
+    }
+
+    /// Whether a path would show a second content among what a change would make them show.
+    pub fn has_second(&self, revealed: &Revealed) -> bool
+        ensures second { (before after : TreeValue) → Fits self.now before → IsRevealed self.now.folders before after revealed.now → IsTrue result ↔ IsSecond self.now after }
+    {
+        self.contents.differs_from_one(&revealed.files)
+    }
+
+    /// Keeps what a change made watched paths show, in which no second content is.
+    pub fn keep(&mut self, revealed: Revealed) -> Result<(), NoMemory>
+        ensures notes { OnOk result ((before after : TreeValue) → Fits self.old before → IsRevealed self.old.folders before after revealed → Notes self.old self.old.folders after self.new) }
+        ensures fits { OnOk result ((before after : TreeValue) → Fits self.old before → IsRevealed self.old.folders before after revealed → (IsSecond self.old after → ⊥) → Fits self.new after) }
+    {
+        let Revealed { files, plain } = revealed;
+        self.plain = plain;
+        self.contents.keep_all(files)
     }
 
     /// What a change makes watched paths show, where no link is on their way and the change tells it.
@@ -118,14 +140,6 @@ impl Shown {
             Ok(None)
         }
     }
-}
-
-/// What a change makes watched paths show, but for what they show already.
-#[derive(Drop)]
-struct Revealed {
-    files: Vec<ShownFile>,
-    /// No link is on the way of a watched path after the change.
-    plain: bool,
 }
 
 /// All that a tree shows in the folders.

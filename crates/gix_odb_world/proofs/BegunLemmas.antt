@@ -22,6 +22,7 @@ use Rattle.gix_odb_world.specs.Headline.{IsLawful}
 use Rattle.gix_odb_world.proofs.AlongRun.{along_run}
 use Rattle.gix_odb_world.proofs.BegunLemmas.OneEvent.{Stems, holds_opened, none_after, opened_now, stems_ignoring, stems_kept, stems_started}
 use Rattle.gix_odb_world.proofs.BegunLemmas.OneTurn.{stems_cloned, stems_replied, stems_turned}
+use Rattle.gix_odb_world.proofs.ValidLaws.{valid_if_sound}
 
 -- ---- what an event makes of all handles
 
@@ -80,9 +81,9 @@ module _ (first : Volume) (past : List Event) (e : Event) (before : (handle : �
       (λ apart. others (steps.Start number call) step handle (λ same. apart (sym same)) (λ never. never))
   stems_applied other step applied valid handle = others other step handle (λ never. never) (λ never. never)
 
-  stems_by : (outcome : Outcome) → e.outcome ≡ outcome → misuse_of outcome ≡ why_not_after first past e.step → (handle : ℕ)
+  stems_by : (outcome : Outcome) → e.outcome ≡ outcome → (misuse_of outcome ≡ None → None ≡ why_not_after first past e.step) → (handle : ℕ)
       → Stems now handle (status_after (length past + 1) e.step outcome e.asked table handle)
-  stems_by outcomes.Applied is valid handle = stems_applied e.step refl is valid handle
+  stems_by outcomes.Applied is valid handle = stems_applied e.step refl is (valid refl) handle
   stems_by outcomes.Pending is valid handle =
       let kept = unapplied (λ applied. cc (is, applied)) in
       stems_after_turn now table e.step (turned e.asked) (λ h. stems_turned now h e.asked (table h) (kept h)) kept handle
@@ -95,4 +96,4 @@ module _ (first : Volume) (past : List Event) (e : Event) (before : (handle : �
 
 pub stems_now : (first : Volume) (events : List Event) → IsLawful first events → (handle : ℕ) → Stems events handle (status_of events handle)
 stems_now first events lawful =
-    along_run Stems first events lawful (λ handle. tt) (λ past e law before. stems_by first past e before e.outcome refl law.valid)
+    along_run Stems first events lawful (λ handle. tt) (λ past e law before. stems_by first past e before e.outcome refl (valid_if_sound first past e law))

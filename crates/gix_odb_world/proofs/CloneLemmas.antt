@@ -133,9 +133,11 @@ module _ (old : Course) (number from : ℕ) (parent : Handle) (there : handle_at
       let cores_here = cores_are ∙ ap (λ core. cores_after_asked old.cores.items (joining old.cores.items core number)) shares.core in
       let seen_here : view_in (joined_answer old.cores.items parent.state.core number) ≡ Some view =
       ap (λ core. view_in (joined_answer old.cores.items core number)) (sym shares.core) ∙ seen in
-      applied_at_core old mid new cores did (steps.Clone number from) number (Some (record { state = own; work = None }))
+      applied_at_core old mid new cores old.shown did (steps.Clone number from) number (Some (record { state = own; work = None }))
       (λ n asked table. cloned asked (table from))
-      reason sets notes (λ turn. turn) refl (λ other turn. cc) (λ n asked table. refl)
+      reason
+      (record { table = sets.table; disk = sets.disk; cores = sets.cores; shown = sets.shown; outcomes = sets.outcomes; records = sets.records })
+      notes (λ trees since now is begun k. k) (λ turn. turn) refl (λ other turn. cc) (λ n asked table. refl)
       (λ first events explains.
       matches_cloned (cores_after events) number (status_of events from) parent own view idle (match_of first events explains) shares
       (ap (λ cs. view_in (joined_answer cs parent.state.core number)) (sym explains.cores) ∙ seen_here))

@@ -82,7 +82,7 @@ module _ (run : LawfulRun) where
 
         by_writer : (b : writers.ByWriter run now e) (same : Bool) → (b.handle == handle) ≡ same
             → Leaves c.cut.own.spot now
-        by_writer b true is = unchanged (turns.lost_turn run now e there handle made path hm (subst (λ h. IsTurnOf h e.step) (eqb-true b.handle handle is) b.turn) c.lost)
+        by_writer b true is = unchanged (turns.lost_turn run now e there handle made path hm (subst (λ h. IsTurnOf h e) (eqb-true b.handle handle is) b.turn) c.lost)
         by_writer b false is = left_by_writer handle c.cut.own.spot c.cut.temporary stands b (eqb-false b.handle handle is)
 
         by_kind : Kind first (take now events) e → Leaves c.cut.own.spot now

@@ -29,6 +29,7 @@ use Rattle.gix_odb_world.specs.World.{HasHistory, IsExplained, Matches, handle_a
 use Rattle.gix_odb_world.proofs.BegunLemmas.{stems_now}
 use Rattle.gix_odb_world.proofs.BegunLemmas.OneEvent.{Stems}
 use Rattle.gix_odb_world.proofs.ExplainedSeats.{below}
+use Rattle.gix_odb_world.proofs.ValidLaws.{valid_if_sound}
 
 -- ---- an applied open step has few folders
 
@@ -53,7 +54,7 @@ few_if_opened : (first : Volume) (events : List Event) (handle begun : ℕ) (sto
 few_if_opened first events handle begun store lawful o =
     let past : List Event = take o.place events in
     let valid : None ≡ why_not_after first past (steps.Open handle o.path o.folders o.hash o.replacements o.options) =
-    sym (ap misuse_of o.applied) ∙ ((lawful o.place o.event o.there).valid ∙ ap (why_not_after first past) o.opens) in
+    valid_if_sound first past o.event (lawful o.place o.event o.there) (ap misuse_of o.applied) ∙ ap (why_not_after first past) o.opens in
     subst (λ (parts : StoreData). length parts.folders ≤ most_folders) (sym o.parts)
     (few_if_openable o.path o.folders o.hash o.replacements o.options.max_changes
     (good_if_open (phase_after past handle) (is_openable o.path o.folders o.hash o.replacements o.options.max_changes) valid))

@@ -8,6 +8,8 @@ use Rattle.std.proofs.lemmas.List.{length_push}
 use Rattle.std.proofs.lemmas.Map.Made.{update_all_none}
 use Rattle.odb_base.specs.Path.{Path}
 use Rattle.odb_disk.specs.MemDisk.{Volume}
+use Rattle.odb_tree.specs.Tree.{tree_of}
+use Rattle.gix_odb_shown.specs.Kept.{Kept}
 use Rattle.gix_hash.specs.declared.kind.Kind.{Kind as HashKind}
 use Rattle.gix_hash.specs.declared.object_id.ObjectId.{ObjectId}
 use Rattle.gix_odb_calls.specs.Hashes.{is_pair_of}
@@ -39,6 +41,7 @@ use Rattle.gix_odb_world.specs.Running.{Runs}
 use Rattle.gix_odb_world.specs.Valid.{Phase, NoneThere, Idle, Running, why_not_open, why_not_idle, are_distinct, are_good_folders, are_good_replacements, is_openable}
 use Rattle.gix_odb_world.specs.World.{Continues, Explains, Matches, handle_at}
 use Rattle.gix_odb_world.specs.Table.{SetsHandle, Notes, phase_of_handle, phase_of_work, why_not_now, with_ignoring}
+use Rattle.gix_odb_world.specs.Watch.{Watches}
 use Rattle.gix_odb_world.proofs.DistinctLemmas.{IsDistinct-by_count, ids_equal}
 use Rattle.gix_odb_world.proofs.StepLemmas.{Tells, applied, applied_at_core}
 use Rattle.gix_odb_world.proofs.KnowsLemmas.{begins, runs-push}
@@ -69,15 +72,16 @@ replacements_same path folders hash replacements options n state good begun =
       view = begun.view;
     }
 
-pub opened : (old mid new : Course) (number : ℕ) (path : Path) (folders : List Path) (hash : HashKind) (replacements : List (ObjectId × ObjectId)) (options : Options) (state : HandleState)
+pub opened : (old mid new : Course) (shown : Kept) (number : ℕ) (path : Path) (folders : List Path) (hash : HashKind) (replacements : List (ObjectId × ObjectId)) (options : Options) (state : HandleState)
     → why_not_open (phase_of_handle (handle_at old number)) true ≡ None → is_openable path folders hash replacements options.max_changes ≡ true
     → IsOpened path folders hash replacements options state
-    → SetsHandle old mid number (Some (record { state = state; work = Some (Opening Looking) })) → Notes mid new outcomes.Applied Nothing None
+    → Watches old.shown shown (tree_of old.disk.state) (path ∷ folders)
+    → SetsHandle (record old { shown = shown }) mid number (Some (record { state = state; work = Some (Opening Looking) })) → Notes mid new outcomes.Applied Nothing None
     → Continues old (steps.Open number path folders hash replacements options) new
-opened old mid new number path folders hash replacements options state free good begun sets notes =
-    applied old mid new (steps.Open number path folders hash replacements options) number (Some (record { state = state; work = Some (Opening Looking) }))
+opened old mid new shown number path folders hash replacements options state free good begun watches sets notes =
+    applied old mid new shown (steps.Open number path folders hash replacements options) number (Some (record { state = state; work = Some (Opening Looking) }))
     (λ n status. opening_at n (store_at n path folders hash replacements options))
-    (ap (why_not_open (phase_of_handle (handle_at old number))) good ∙ free) sets notes (λ turn. turn) refl (λ other turn. cc) (λ n asked table. refl)
+    (ap (why_not_open (phase_of_handle (handle_at old number))) good ∙ free) sets notes watches (λ turn. turn) refl (λ other turn. cc) (λ n asked table. refl)
     (λ n status match. (replacements_same path folders hash replacements options n state good begun, refl))
     (λ first events e explains opens asked no_turn. runs_opening first events e number (store_at (length events + 1) path folders hash replacements options))
     (λ events. refl)
@@ -131,8 +135,10 @@ pub closed : (old mid new : Course) (cores : Vec History Global) (number : ℕ) 
     → cores.items ≡ cores_after_asked old.cores.items (removal old.cores.items handle.state.core number)
     → SetsHandle (record old { cores = cores }) mid number None → Notes mid new outcomes.Applied did None → Continues old (steps.Close number) new
 closed old mid new cores number handle did reason there did_is cores_are sets notes =
-    applied_at_core old mid new cores did (steps.Close number) number None (λ n asked table. Free)
-    reason sets notes (λ turn. turn) refl (λ other turn. cc) (λ n asked table. refl) (λ first events explains. tt) (λ first events e explains closes asked no_turn. tt)
+    applied_at_core old mid new cores old.shown did (steps.Close number) number None (λ n asked table. Free)
+    reason
+    (record { table = sets.table; disk = sets.disk; cores = sets.cores; shown = sets.shown; outcomes = sets.outcomes; records = sets.records })
+    notes (λ trees since now is begun k. k) (λ turn. turn) refl (λ other turn. cc) (λ n asked table. refl) (λ first events explains. tt) (λ first events e explains closes asked no_turn. tt)
     (close_tells old cores number handle did reason there did_is cores_are)
 
 -- ---- the mode of an idle handle
@@ -149,7 +155,7 @@ matches_ignoring (Working running) None idle match = absurd match
 matches_ignoring (Working running) (Some handle) idle match =
     absurd (cc (subst (λ (w : Option Work). why_not_idle (phase_of_work handle.state.store.value.object_hash w) ≡ None) match.1 idle))
 
-runs_ignoring : (number : ℕ) (first : Volume) (events : List Event) (e : Event) (status : Status) → ((other : ℕ) → ¬ IsTurnOf other e.step)
+runs_ignoring : (number : ℕ) (first : Volume) (events : List Event) (e : Event) (status : Status) → ((other : ℕ) → ¬ IsTurnOf other e)
     → Runs first events number status → Runs first (events ++ e ∷ []) number (ignoring_from status)
 runs_ignoring number first events e Free no_turn runs = tt
 runs_ignoring number first events e (Resting store modes) no_turn runs = tt
@@ -159,8 +165,10 @@ pub ignored : (old mid new : Course) (number : ℕ) → why_not_now old (steps.I
     → SetsHandle old mid number (with_ignoring (handle_at old number)) → Notes mid new outcomes.Applied Nothing None
     → Continues old (steps.Ignore number) new
 ignored old mid new number reason sets notes =
-    applied old mid new (steps.Ignore number) number (with_ignoring (handle_at old number)) (λ n status. ignoring_from status)
-    reason sets notes (λ turn. turn) refl (λ other turn. cc) (λ n asked table. refl)
+    applied old mid new old.shown (steps.Ignore number) number (with_ignoring (handle_at old number)) (λ n status. ignoring_from status)
+    reason
+    (record { table = sets.table; disk = sets.disk; cores = sets.cores; shown = sets.shown; outcomes = sets.outcomes; records = sets.records })
+    notes (λ trees since now is begun k. k) (λ turn. turn) refl (λ other turn. cc) (λ n asked table. refl)
     (λ n status match. matches_ignoring status (handle_at old number) reason match)
     (λ first events e explains starts asked no_turn. runs_ignoring number first events e (status_of events number) no_turn (explains.running number))
     (λ events. refl)

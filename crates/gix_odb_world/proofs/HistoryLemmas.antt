@@ -72,6 +72,10 @@ pub tree_at-before : (first : Volume) (events : List Event) (e : Event) (moment 
     → tree_at first (events ++ e ∷ []) moment ≡ tree_at first events moment
 tree_at-before first events e moment within = ap (λ es. tree_of (disk_after first es).state) (take-append-le moment events (e ∷ []) within)
 
+-- the tree after all of them
+pub tree_at-all : (first : Volume) (events : List Event) → tree_at first events (length events) ≡ tree_of (disk_after first events).state
+tree_at-all first events = ap (λ es. tree_of (disk_after first es).state) (take-length events)
+
 -- ---- failed calls
 
 pub slice_get-kept : {A : Type 0} (xs : List A) (x : A) (place : ℕ) (y : A) → slice_get xs place ≡ Some y → slice_get (xs ++ x ∷ []) place ≡ Some y
@@ -89,18 +93,18 @@ failed-kept events e handle begun failed =
     }
 
 -- one that fails in the last event
-pub failed_last : (events : List Event) (e : Event) (handle begun : ℕ) → begun ≤ length events → IsTurnOf handle e.step → Fails e.entry.did
+pub failed_last : (events : List Event) (e : Event) (handle begun : ℕ) → begun ≤ length events → IsTurnOf handle e → Fails e.entry.did
     → FailedSince (events ++ e ∷ []) handle begun
 failed_last events e handle begun later turn failed =
     record { place = length events; later = later; at = record { event = e; there = slice_get-last events e; turn = turn; failed = failed } }
 
 -- one that has failed did so before the last event, or in it
-pub failed_before : (events : List Event) (e : Event) (handle begun : ℕ) → (IsTurnOf handle e.step → ¬ (Fails e.entry.did))
+pub failed_before : (events : List Event) (e : Event) (handle begun : ℕ) → (IsTurnOf handle e → ¬ (Fails e.entry.did))
     → FailedSince (events ++ e ∷ []) handle begun → FailedSince events handle begun
 failed_before events e handle begun sound failed =
     elim (slice_get-push events e failed.place failed.at.event failed.at.there) [
       | inl old ↦ record { place = failed.place; later = failed.later; at = record { event = failed.at.event; there = old.1; turn = failed.at.turn; failed = failed.at.failed } }
-      | inr last ↦ absurd (sound (subst (λ (x : Event). IsTurnOf handle x.step) (sym last.1) failed.at.turn) (subst (λ (x : Event). Fails x.entry.did) (sym last.1) failed.at.failed))
+      | inr last ↦ absurd (sound (subst (λ (x : Event). IsTurnOf handle x) (sym last.1) failed.at.turn) (subst (λ (x : Event). Fails x.entry.did) (sym last.1) failed.at.failed))
     ]
 
 -- none has failed in a call that begins with the last event

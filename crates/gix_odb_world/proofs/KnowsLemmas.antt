@@ -20,7 +20,7 @@ module _ (first : Volume) (events : List Event) (e : Event) where
   longer : length events ≤ length whole
   longer = omega (arith, length_push events e)
 
-  module _ (handle : ℕ) (other : ¬ IsTurnOf handle e.step) where
+  module _ (handle : ℕ) (other : ¬ IsTurnOf handle e) where
     knows_push : (running : Running) (work : Work) → Knows first events handle running work → Knows first whole handle running work
     knows_push running work knows = (laws_at work).kept first events e handle running (at work).state other knows
 
@@ -38,13 +38,13 @@ begins first events e handle store modes task start =
     let work : Work = begun_with store modes task in
     (laws_at work).starts first events e handle store modes task (at work).state start (sym (at work).is)
 
-pub runs-push : (first : Volume) (events : List Event) (e : Event) (handle : ℕ) (status : Status) → ¬ IsTurnOf handle e.step
+pub runs-push : (first : Volume) (events : List Event) (e : Event) (handle : ℕ) (status : Status) → ¬ IsTurnOf handle e
     → Runs first events handle status → Runs first (events ++ e ∷ []) handle status
 runs-push first events e handle status other runs = runs_over first events e handle other status runs
 
 runs_either : (first : Volume) (events : List Event) (e : Event) (number : ℕ) (status : Status) (other : ℕ) (before : Status) (b : Bool)
     → (other == number) ≡ b
-    → Runs first (events ++ e ∷ []) number status → (other ≢ number → ¬ IsTurnOf other e.step) → Runs first events other before
+    → Runs first (events ++ e ∷ []) number status → (other ≢ number → ¬ IsTurnOf other e) → Runs first events other before
     → Runs first (events ++ e ∷ []) other (if b then status else before)
 runs_either first events e number status other before true same here apart runs = rw (eqb-true other number same) here
 runs_either first events e number status other before false same here apart runs =
@@ -52,7 +52,7 @@ runs_either first events e number status other before false same here apart runs
     runs-push first events e other before (apart differs) runs
 
 pub runs_set : (first : Volume) (events : List Event) (e : Event) (table : ℕ → Status) (number : ℕ) (status : Status)
-    → ((other : ℕ) → Runs first events other (table other)) → ((other : ℕ) → other ≢ number → ¬ IsTurnOf other e.step)
+    → ((other : ℕ) → Runs first events other (table other)) → ((other : ℕ) → other ≢ number → ¬ IsTurnOf other e)
     → Runs first (events ++ e ∷ []) number status
     → (other : ℕ) → Runs first (events ++ e ∷ []) other (with_status table number status other)
 runs_set first events e table number status before apart here other =

@@ -37,6 +37,12 @@ mod DiskTurns
 mod WriteCalls
 mod TurnLemmas
 mod WorldLemmas
+mod ValidLaws
+mod WatchLemmas
+mod FitsLemmas
+mod JudgedLemmas
+mod OneContent
+mod StoreContents
 mod WriteKept
 mod WriteTurn
 mod WriteGoes
@@ -54,3 +60,4 @@ mod Stock
 mod ToldLists
 mod DiskTold
 mod Streams
+mod PackedStill

@@ -53,7 +53,7 @@ looking_feeds store modes code own look (Some (FromCore answer)) =
 
 -- ---- an event that isn't its turn
 
-looking_kept : (first : Volume) (events : List Event) (e : Event) (handle : ℕ) (running : Running) (look : LookUp) → ¬ (IsTurnOf handle e.step)
+looking_kept : (first : Volume) (events : List Event) (e : Event) (handle : ℕ) (running : Running) (look : LookUp) → ¬ (IsTurnOf handle e)
     → IsLooking first events handle running look → IsLooking first (events ++ e ∷ []) handle running look
 looking_kept first events e handle running look other knows =
     let whole : List Event = events ++ e ∷ [] in

@@ -1,6 +1,6 @@
 -- The reply of a query keeps its promise, where all that its handle was told is true of the run.
 use Rattle.std.proofs.Common.{◌≡◌, ℕ, ◌≤◌, true, false, List, length, Contains, Some, Ok, inl, inr, refl, sym, ◌∙◌, ap, subst, arith}
-use Rattle.odb_base.specs.Path.{Path}
+use Rattle.odb_base.specs.Path.{Name, Path}
 use Rattle.odb_tree.specs.Tree.{Tree}
 use Rattle.odb_disk.specs.Ask.{answer_now}
 use Rattle.odb_disk.specs.MemDisk.{Volume, next_fails}
@@ -27,24 +27,28 @@ use Rattle.gix_odb_slots.specs.PackPath.{pack_path}
 use Rattle.gix_pack_files.specs.Pack.{entry_at, header_at, is_pack}
 use Rattle.gix_odb_looks.specs.Caused.{IsCaused}
 use Rattle.gix_odb_looks.specs.Exchange.{AreAsked, Exchange, HasVerdict}
+use Rattle.gix_odb_looks.specs.Fair.{PackedPlace}
 use Rattle.gix_odb_looks.specs.Found.{Gives, IsEntryReply, IsFound, IsHeaderReply, IsInIndex, IsInPack}
 use Rattle.gix_odb_looks.specs.LookUpOrder.{Setting, loose_fed, not_found, result_of}
 use Rattle.gix_odb_looks.specs.Reply.{IsAnswer, IsReplyTo}
 use Rattle.gix_odb_looks.specs.declared.look_up.LookUp.{LookUp}
 use Rattle.gix_odb_looks.proofs.CauseLaws.{each_refusal_has_its_cause, replies_are_of_the_query}
 use Rattle.gix_odb_looks.proofs.FoundLaws.{what_is_found_was_shown}
-use Rattle.gix_odb_looks.proofs.MissLaws.{not_found_had_no_failure, not_found_missed_in_each_folder}
+use Rattle.gix_odb_looks.proofs.MissLaws.{not_found_had_no_failure, not_found_missed_in_each_folder, nothing_still_in_packs_is_missed}
 use Rattle.gix_odb.specs.Contents.{Answer, Contents, HeaderOf, Holds, HoldsEntry, InIndex, InPack, LooseFile, Object, Presence, folder_list, sought}
-use Rattle.gix_odb.specs.Held.{Held, InLooseFile, LiesAt, Place, Still, WasShown, WasShownAt}
+use Rattle.gix_odb.specs.Held.{Held, InLooseFile, InPackFile, LiesAt, Place, Still, WasShown, WasShownAt}
+use Rattle.gix_odb.specs.Moments.{Throughout}
 use Rattle.gix_odb_world.specs.AtWork.{Modes, Store, setting_in}
 use Rattle.gix_odb_world.specs.Causes.{FindCause, GaveSometime, LooseCause, Sometime}
 use Rattle.gix_odb_world.specs.Event.{Event}
 use Rattle.gix_odb_world.specs.Promise.{Claim, Keeps, QueryPromise, claim_of}
 use Rattle.gix_odb_world.specs.Run.{FailedSince, tree_at}
+use Rattle.gix_odb_world.specs.Running.PackedStill.{IndicesShowOne, IsPackedStill}
 use Rattle.gix_odb_world.specs.Running.Query.{IsFit, IsGiven, IsToldWell}
 use Rattle.gix_odb_world.specs.Told.{look_begun, look_now, told_since, view_then}
 use Rattle.gix_odb_world.proofs.FailedLemmas.{fails_now-still}
 use Rattle.gix_odb_world.proofs.FolderLemmas.{VerdictSays, ask_found, folder_says}
+use Rattle.gix_odb_world.proofs.PackedStill.Contents.{lies_indexed}
 
 -- what was so at some moment was so until later
 sometime_later : (begun moment now : ℕ) → moment ≤ now → (P : ℕ → Type 0) → Sometime begun moment P → Sometime begun now P
@@ -53,7 +57,7 @@ sometime_later begun moment now to P was =
 
 module _ (first : Volume) (events : List Event) (handle : ℕ) (store : Store) (modes : Modes) (begun : ℕ) (query : Query) (fits : IsFit store modes query)
     (asked : AreAsked (setting_in store) (look_begun events handle store modes begun query) (told_since events handle begun))
-    (well : IsToldWell first events handle store modes begun) where
+    (well : IsToldWell first events handle store modes begun) (rule : IndicesShowOne (tree_at first events) store (length events)) where
   abbrev trees : ℕ → Tree
   trees = tree_at first events
 
@@ -217,19 +221,41 @@ module _ (first : Volume) (events : List Event) (handle : ℕ) (store : Store) (
             claim_later at.moment at.to reply answer (said loose.0 loose.1 (verdicts.Ends reply) loose.2)
       ]
 
-  -- nothing was found
-  missed : result_of look ≡ Ok (not_found query) → (¬ Failed) × (¬ (Still trees store.parts begun now query id))
-  missed is = (
-    λ failed. not_found_had_no_failure setting query id Shown store.hash view told asked well.truth is (well.failures failed),
-    λ still.
-        let has = not_found_missed_in_each_folder setting query id view told asked is still.folder still.among in
-        let at = given still.folder still.among verdicts.Misses has in
-        let passed = said still.folder still.among verdicts.Misses has in
-        lies still.folder (trees at.moment) still.place (still.always at.moment at.from at.to) passed.1,
-  )
-    where
-      lies : (folder : Path) (tree : Tree) (place : Place) → LiesAt store.parts query tree folder id place → ¬ (¬ (LeadsToFile tree (loose_path folder id)))
-      lies folder tree InLooseFile here passed = passed (record { bytes = here.0; time = here.1.0; given = here.1.1; holds = tt })
+  -- ---- nothing was found
+
+  module _ (is : result_of look ≡ Ok (not_found query)) where
+    none_failed : ¬ Failed
+    none_failed failed = not_found_had_no_failure setting query id Shown store.hash view told asked well.truth is (well.failures failed)
+
+    module _ (folder : Path) (among : Contains (folder_list store.parts) folder) where
+      abbrev has : HasVerdict setting query id told folder verdicts.Misses
+      has = not_found_missed_in_each_folder setting query id view told asked is folder among
+
+      -- the moment at which its loose objects were asked
+      abbrev at : IsGiven first events handle begun has.ask has.answer
+      at = given folder among verdicts.Misses has
+
+      passed : ¬ (LeadsToFile (trees at.moment) (loose_path folder id))
+      passed = (said folder among verdicts.Misses has).1
+
+      -- no index gave it an offset throughout, with a pack beside it
+      not_in_pack : (name : Name) (offset : ℕ) → ¬ (Throughout begun now (λ moment. LiesAt store.parts query (trees moment) folder id (InPackFile name offset)))
+      not_in_pack name offset always =
+          let named = (always at.moment at.from at.to).named in
+          let place : PackedPlace = record { folder = folder; name = name; named = named; offset = offset } in
+          let still : IsPackedStill trees store begun now id place = record {
+            always = λ moment from to. lies_indexed store.parts query (trees moment) store.hash id fits.hashed place (always moment from to);
+            one = rule folder among name named;
+          } in
+          nothing_still_in_packs_is_missed setting store.hash view query id told fits.hashed place among asked (well.fair id place none_failed still) is
+
+      none_still : (place : Place) → ¬ (Throughout begun now (λ moment. LiesAt store.parts query (trees moment) folder id place))
+      none_still InLooseFile always =
+          let here = always at.moment at.from at.to in passed (record { bytes = here.0; time = here.1.0; given = here.1.1; holds = tt })
+      none_still (InPackFile name offset) always = not_in_pack name offset always
+
+    missed : (¬ Failed) × (¬ (Still trees store.parts begun now query id))
+    missed = (none_failed, λ still. none_still still.folder still.among still.place still.always)
 
   refusal : (error : finding.Error) → result_of look ≡ Ok (replies.Refused (call_errors.Find error)) → FindCause trees Failed told store begun now query id error
   refusal error is = by error (each_refusal_has_its_cause Shown setting store.hash query id fits.hashed view well.snapshot told asked well.truth modes.slots 0 well.numbered error is)

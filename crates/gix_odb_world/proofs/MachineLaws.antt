@@ -56,7 +56,7 @@ TakesTurn first events handle running task (Some (ToNewCore slots folders)) = Ma
 
 -- the last event is a turn of the handle that asked so, and made no call of the disk
 pub record IsTurnWithoutCall (first : Volume) (events : List Event) (e : Event) (handle : ℕ) (running : Running) (ask : Option Ask) : Type 0 where
-  pub turn : IsTurnOf handle e.step
+  pub turn : IsTurnOf handle e
   pub did : NoCall e.entry.did
   pub asked : e.asked ≡ told_now (stand_of events handle running) (disk_after first events) ask
   pub change : e.entry.change ≡ None
@@ -191,7 +191,7 @@ pub record KeepsLaws (m : Machine) : Type 1 where
   pub bounded : (store : Store) (modes : Modes) (task : Task) (state : m.State) → m.IsFor task state → (entries : ℕ)
       → m.bound store modes task entries ≡ bound_of_task store modes task entries
   -- an event that isn't its turn leaves what it knows
-  pub kept : (first : Volume) (events : List Event) (e : Event) (handle : ℕ) (running : Running) (state : m.State) → ¬ (IsTurnOf handle e.step)
+  pub kept : (first : Volume) (events : List Event) (e : Event) (handle : ℕ) (running : Running) (state : m.State) → ¬ (IsTurnOf handle e)
       → m.Knows first events handle running state → m.Knows first (events ++ e ∷ []) handle running state
   pub turns : KeepsTurnLaws m
   pub writes : KeepsWriteLaws m

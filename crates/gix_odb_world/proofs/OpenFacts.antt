@@ -28,6 +28,7 @@ use Rattle.gix_odb_world.specs.Valid.{Phase, NoneThere, Idle, Running, are_disti
 use Rattle.gix_odb_world.specs.Valid.{why_not_after, why_not_open}
 use Rattle.gix_odb_world.proofs.DistinctLemmas.{IsDistinct-by_count}
 use Rattle.gix_odb_world.proofs.RunSteps.{front_of_front, length_take, there_in_whole}
+use Rattle.gix_odb_world.proofs.ValidLaws.{valid_if_sound}
 
 -- two hashes that are the same
 pub same_is : (one other : HashKind) → is_same_hash one other ≡ true → one ≡ other
@@ -98,7 +99,7 @@ module _ (first : Volume) where
       let law : Law first (take opened.place events) opened.event = lawful opened.place opened.event opened.there in
       let past = take opened.place events in
       let valid : None ≡ why_not_open (phase_after past handle) (is_openable opened.path opened.folders opened.hash opened.replacements opened.options.max_changes) =
-      sym (ap misuse_of opened.applied) ∙ (law.valid ∙ ap (why_not_after first past) opened.opens) in
+      valid_if_sound first past opened.event law (ap misuse_of opened.applied) ∙ ap (why_not_after first past) opened.opens in
       let good = openable_by (phase_after past handle) _ valid in
       let parts = and_parts (are_good_folders opened.path opened.folders)
       (are_good_replacements opened.hash opened.replacements && nat_le opened.options.max_changes most_changes) good in

@@ -91,7 +91,7 @@ seen_kept first events e running (opens.Listing lister percent minimum) seen = s
 seen_kept first events e running (opens.Registering slots) seen = shown_before first events e running.begun running.store.parts.objects seen
 seen_kept first events e running (opens.Done reply) seen = absurd seen
 
-opening_kept : (first : Volume) (events : List Event) (e : Event) (handle : ℕ) (running : Running) (state : OpenState) → ¬ (IsTurnOf handle e.step)
+opening_kept : (first : Volume) (events : List Event) (e : Event) (handle : ℕ) (running : Running) (state : OpenState) → ¬ (IsTurnOf handle e)
     → IsOpening first events handle running state → IsOpening first (events ++ e ∷ []) handle running state
 opening_kept first events e handle running state other knows =
     let same = told_kept events e handle running.begun knows.since other in

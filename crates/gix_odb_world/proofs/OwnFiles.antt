@@ -41,7 +41,7 @@ module _ (run : LawfulRun) where
         by_writer : (b : ByWriter run now e) (same : Bool) → (b.handle == handle) ≡ same
             → Lost run path (now + 1)
         by_writer b true is = lost_same run now e there path
-            (same_way run now e there path (lost_turn run now e there handle made path hm (subst (λ h. IsTurnOf h e.step) (eqb-true b.handle handle is) b.turn) l)) l
+            (same_way run now e there path (lost_turn run now e there handle made path hm (subst (λ h. IsTurnOf h e) (eqb-true b.handle handle is) b.turn) l)) l
         by_writer b false is = lost_spared run now e there files handle made path hm b (eqb-false b.handle handle is) l
 
         by_kind : Kind first (take now events) e → Lost run path (now + 1)
@@ -61,7 +61,7 @@ module _ (run : LawfulRun) where
       where
         by_writer : (b : ByWriter run now e) (same : Bool) → (b.handle == handle) ≡ same
             → Own run handle made path (now + 1) ⊎ CutNow run now e there handle made path hm o.spot
-        by_writer b true is = inl (own_turn run now e there handle made path hm (subst (λ h. IsTurnOf h e.step) (eqb-true b.handle handle is) b.turn) o after)
+        by_writer b true is = inl (own_turn run now e there handle made path hm (subst (λ h. IsTurnOf h e) (eqb-true b.handle handle is) b.turn) o after)
         by_writer b false is = elim (own_spared run now e there files handle made path hm b (eqb-false b.handle handle is) o) [
           | inl same ↦ inl
               (own_same run now e there handle made path same o)
@@ -163,7 +163,7 @@ module _ (run : LawfulRun) where
         | inl early ↦ λ same. new_apart files calm other handle last made twin path (made_before run now e there other last twin his early) hm is b a (sym same)
         | inr also ↦
             let one : hm.makes.event ≡ his.makes.event = one_event events made hm.makes.event his.makes.event hm.makes.there (ap (slice_get events) (is ∙ sym also) ∙ his.makes.there) in
-            let both : steps.Turn handle ≡ steps.Turn other = sym hm.makes.turn ∙ (ap (λ (x : Event). x.step) one ∙ his.makes.turn) in
+            let both : steps.Turn handle ≡ steps.Turn other = sym hm.makes.turn.step ∙ (ap (λ (x : Event). x.step) one ∙ his.makes.turn.step) in
             absurd (apart (cc both))
       ]
     ]

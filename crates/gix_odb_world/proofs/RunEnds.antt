@@ -17,6 +17,7 @@ use Rattle.gix_odb_world.specs.World.{Explains, IsRunOf}
 use Rattle.gix_odb_world.proofs.EntryLemmas.{each_entry_told}
 use Rattle.gix_odb_world.proofs.NameSteps.{names_stay_whole}
 use Rattle.gix_odb_world.proofs.LawfulRun.{LawfulRun}
+use Rattle.gix_odb_world.proofs.OneContent.{one_content_shown}
 use Rattle.gix_odb_world.proofs.SeatLemmas.{registers_own_throughout, seats_throughout}
 use Rattle.gix_odb_world.proofs.SeatLemmas.Snapshots.{snapshots_never_fall}
 use Rattle.gix_odb_world.proofs.StandAlone.{writes_stand_alone}
@@ -42,6 +43,7 @@ is_run world journals entries each few first events explains =
       seats = seats;
       registers_own = registers_own_throughout first events explains.lawful;
       snapshots = snapshots_never_fall events each_here seats;
+      contents = one_content_shown lawful_run;
       alone = writes_stand_alone lawful_run;
       names = names_stay_whole lawful_run;
     }

@@ -29,7 +29,9 @@ use Rattle.gix_odb_world.specs.Undisturbed.{IsOutside}
 use Rattle.gix_odb_world.specs.Valid.{misuse_of, phase_of, why_not_after, why_not_running}
 use Rattle.gix_odb_world.proofs.LawfulRun.{LawfulRun}
 use Rattle.gix_odb_world.proofs.DiskTurns.{CallsDisk, IsQuiet, called_or_quiet}
+use Rattle.gix_odb_world.specs.Turned.{is_done}
 use Rattle.gix_odb_world.proofs.HistoryLemmas.{disk_after-push, status_of-push}
+use Rattle.gix_odb_world.proofs.ValidLaws.{valid_if_sound}
 pub use Rattle.gix_odb_world.proofs.RunSteps.Fronts.{event_or_end, front_of_front, length_take, none_beyond, take_next, take_none, there_in_front, there_in_whole}
 
 -- ---- what an event is
@@ -79,11 +81,11 @@ module _ (first : Volume) (past : List Event) (e : Event) (law : Law first past 
   no_call : LeavesDisk e.asked → NoCall e.entry.did
   no_call leaves = subst NoCall (sym law.did.1) (left_disk law.did.0 (cores_after past) e.asked leaves)
 
-  turned : IsTurn e.step → None ≡ why_not_after first past e.step → Kind first past e
-  turned is valid =
+  turned : IsTurn e.step → is_done e.outcome ≡ true → None ≡ why_not_after first past e.step → Kind first past e
+  turned is done valid =
       let t = turn_step e.step is in
       let a = at_work (status_of past t.0) (subst (λ s. None ≡ why_not_after first past s) t.1 valid) in
-      let turn : Turns past e t.0 a.0 = record { step = t.1; status = a.1 } in
+      let turn : Turns past e t.0 a.0 = record { turn = record { step = t.1; done = done }; status = a.1 } in
       elim (called_or_quiet first past t.0 a.0 e (law.worked t.0 a.0 turn)) [
         | inl calls ↦ Turned (record { handle = t.0; running = a.0; turn = turn; works = calls })
         | inr quiet ↦ Quiet quiet
@@ -97,14 +99,14 @@ module _ (first : Volume) (past : List Event) (e : Event) (law : Law first past 
   kind_applied step s o other leaves made valid = Quiet (record { none = made; did = no_call leaves; leaves = leaves })
 
   kind_by : (outcome : Outcome) → e.outcome ≡ outcome → Suits e.step outcome e.asked → ChangesAs e.step outcome e.entry.change
-      → misuse_of outcome ≡ why_not_after first past e.step → Kind first past e
-  kind_by outcomes.Applied o suits made valid = kind_applied e.step refl o suits.0 suits.1 made valid
-  kind_by outcomes.Pending o suits made valid = turned suits.0 valid
-  kind_by (outcomes.Reply reply) o suits made valid = turned suits valid
+      → (misuse_of outcome ≡ None → None ≡ why_not_after first past e.step) → Kind first past e
+  kind_by outcomes.Applied o suits made valid = kind_applied e.step refl o suits.0 suits.1 made (valid refl)
+  kind_by outcomes.Pending o suits made valid = turned suits.0 (ap is_done o) (valid refl)
+  kind_by (outcomes.Reply reply) o suits made valid = turned suits (ap is_done o) (valid refl)
   kind_by (outcomes.Misuse why) o suits made valid = Quiet (record { none = made; did = no_call (subst LeavesDisk (sym suits) tt); leaves = subst LeavesDisk (sym suits) tt })
 
   pub kind_of : Kind first past e
-  kind_of = kind_by e.outcome refl law.suits law.change law.valid
+  kind_of = kind_by e.outcome refl law.suits law.change (valid_if_sound first past e law)
 
 -- ---- what it does to the tree
 

@@ -57,6 +57,7 @@ use Rattle.gix_odb_world.proofs.SeatLemmas.Entered.{seated_more, seated_new}
 use Rattle.gix_odb_world.proofs.SeatLemmas.Looked.{out_looked, seated_looked, seated_looking}
 use Rattle.gix_odb_world.proofs.SeatLemmas.Opened.{IsOn, answered_refuses, left_of, on_by, opened_by, reply_of}
 use Rattle.gix_odb_world.proofs.SeatLemmas.Applied.{Carries, Stands, StandsAt, applied_by, asks_of_looks, carry_by, carry_nothing, kept, nowhere_now, set, to_now}
+use Rattle.gix_odb_world.proofs.ValidLaws.{done_if_sound, valid_if_sound}
 
 -- ---- replies that refuse an opening
 
@@ -233,9 +234,9 @@ module _ (past : List Event) (e : Event) where
       pub worked : (number : ℕ) → e.step ≡ steps.Turn number → misuse_of e.outcome ≡ None
           → (running : Running) × (table number ≡ Working running) × Works first past number running e × Turns past e number running
       worked number step sound =
-          let valid : None ≡ why_not_running (phase_of (table number)) = sym sound ∙ (law.valid ∙ ap (why_not_after first past) step) in
+          let valid : None ≡ why_not_running (phase_of (table number)) = valid_if_sound first past e law sound ∙ ap (why_not_after first past) step in
           let a = at_work (table number) valid in
-          let turn : Turns past e number a.0 = record { step = step; status = a.1 } in
+          let turn : Turns past e number a.0 = record { turn = record { step = step; done = done_if_sound e.outcome sound }; status = a.1 } in
           (a.0, a.1, law.worked number a.0 turn, turn)
 
       turn_pending : (step : Step) → e.step ≡ step → IsTurn step → e.outcome ≡ outcomes.Pending → (handle : ℕ)
@@ -258,7 +259,7 @@ module _ (past : List Event) (e : Event) where
 
       pub stands_by : (outcome : Outcome) → e.outcome ≡ outcome → Suits e.step outcome e.asked → (handle : ℕ)
           → Stands now handle (status_after (length past + 1) e.step outcome e.asked table handle)
-      stands_by outcomes.Applied out suits handle = applied_by past e before first e.step suits.0 (ap misuse_of (sym out) ∙ law.valid) (law.applied out) handle
+      stands_by outcomes.Applied out suits handle = applied_by past e before first e.step suits.0 (valid_if_sound first past e law (ap misuse_of out)) (law.applied out) handle
       stands_by outcomes.Pending out suits handle = turn_pending e.step refl suits.0 out handle
       stands_by (outcomes.Reply reply) out suits handle = turn_replied e.step reply refl suits out handle
       stands_by (outcomes.Misuse why) out suits handle = kept past e before handle (carry_nothing past e suits handle)

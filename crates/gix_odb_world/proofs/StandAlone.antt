@@ -40,7 +40,7 @@ module _ (run : LawfulRun) where
 
   -- what another handle's turn does
   module _ (place : ℕ) (e : Event) (other handle made : ℕ) (path s : Path) (calm : IsUndisturbed first events place) (there : slice_get events place ≡ Some e)
-      (turn : IsTurnOf other e.step) (apart : other ≢ handle) (hm : HasMade first events handle made path place) where
+      (turn : IsTurnOf other e) (apart : other ≢ handle) (hm : HasMade first events handle made path place) where
     abbrev Spared : Path → Type 0
     Spared r = SameOnWay (tree place) (tree (place + 1)) true path ⊎ CutsOff (tree place) (tree (place + 1)) path r e
 
@@ -49,13 +49,13 @@ module _ (run : LawfulRun) where
       where
         by_writer : (b : writers.ByWriter run place e) → Spared o.spot
         by_writer b =
-            let both : steps.Turn b.handle ≡ steps.Turn other = sym b.turn ∙ turn in
+            let both : steps.Turn b.handle ≡ steps.Turn other = sym b.turn.step ∙ turn.step in
             let same : b.handle ≡ other = cc both in
             elim (others.own_spared run place e there (along.files_at run place calm) handle made path hm b (λ h. apart (sym same ∙ h)) o) [ inl kept ↦ inl kept | inr c ↦ inr c.cuts ]
 
         by_kind : Kind first (take place events) e → Spared o.spot
         by_kind (Quiet q) = inl (files.same_way run place e there path q.none)
-        by_kind (Made m) = let both : steps.Turn other ≡ steps.Disk m.outside.0 = sym turn ∙ m.outside.1 in absurd (cc both)
+        by_kind (Made m) = let both : steps.Turn other ≡ steps.Disk m.outside.0 = sym turn.step ∙ m.outside.1 in absurd (cc both)
         by_kind (Turned t) = elim (writers.quiet_or_writer run place e there t) [
           | inl none ↦ inl (files.same_way run place e there path none)
           | inr b ↦ by_writer b
@@ -106,7 +106,7 @@ module _ (run : LawfulRun) where
 
   -- a write that renames has its file
   pub own_at_rename : (place : ℕ) (e : Event) (handle made : ℕ) (path : Path) → IsUndisturbed first events place → slice_get events place ≡ Some e
-      → IsTurnOf handle e.step → IsRename e.entry.change → HasMade first events handle made path place → Own handle made path place
+      → IsTurnOf handle e → IsRename e.entry.change → HasMade first events handle made path place → Own handle made path place
   own_at_rename place e handle made path calm there turn renames hm = elim ((along.files_at run place calm).each handle made path hm) [
     | inl o ↦ o
     | inr l ↦ absurd (subst IsRename (turns.lost_turn run place e there handle made path hm turn l) renames)

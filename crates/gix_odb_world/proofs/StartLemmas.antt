@@ -101,7 +101,7 @@ starts_well first events e number store modes call lawful status asked sized has
     }
 
 runs_started : (old : Course) (number : ℕ) (call : Call) → HasSize call → why_not_now old (steps.Start number call) ≡ None → (first : Volume) (events : List Event) (e : Event)
-    → Explains first events old → e.step ≡ steps.Start number call → e.asked ≡ OfNothing → ((other : ℕ) → ¬ IsTurnOf other e.step)
+    → Explains first events old → e.step ≡ steps.Start number call → e.asked ≡ OfNothing → ((other : ℕ) → ¬ IsTurnOf other e)
     → Runs first (events ++ e ∷ []) number (started (length events + 1) call (status_of events number))
 runs_started old number call sized reason first events e explains starts asked no_turn = by (status_of events number) refl (explains.running number)
   where
@@ -124,8 +124,10 @@ pub begun : (old mid new : Course) (number : ℕ) (call : Call) (handle : Handle
     → SetsHandle old mid number (with_work (Some work) (handle_at old number)) → Notes mid new outcomes.Applied Nothing None
     → Continues old (steps.Start number call) new
 begun old mid new number call handle work sized reason there is sets notes =
-    applied old mid new (steps.Start number call) number (with_work (Some work) (handle_at old number)) (λ n status. started n call status)
-    reason sets notes (λ turn. turn) refl (λ other turn. cc) (λ n asked table. refl)
+    applied old mid new old.shown (steps.Start number call) number (with_work (Some work) (handle_at old number)) (λ n status. started n call status)
+    reason
+    (record { table = sets.table; disk = sets.disk; cores = sets.cores; shown = sets.shown; outcomes = sets.outcomes; records = sets.records })
+    notes (λ trees since now is begun k. k) (λ turn. turn) refl (λ other turn. cc) (λ n asked table. refl)
     (λ n status match.
     subst (λ (h : Option Handle). Matches (started n call status) (with_work (Some work) h)) (sym there)
     (matches_started n call status handle work (subst (λ (h : Option Handle). why_not_start (phase_of_handle h) call ≡ None) there reason) is (subst (Matches status) there match)))

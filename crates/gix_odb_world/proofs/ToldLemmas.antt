@@ -1,8 +1,8 @@
 -- What the handle of a query was told, and where its look-up stands, after one event more.
-use Rattle.std.proofs.Common.{◌≡◌, ℕ, zero, suc, ◌+◌, ◌≤◌, Bool, true, false, List, [], ◌∷◌, ◌++◌, length, drop, take, Option, Some, None, refl, sym, ◌∙◌, ap, arith}
+use Rattle.std.proofs.Common.{◌≡◌, ◌⊎◌, ◌&&◌, inl, inr, ℕ, zero, suc, ◌+◌, ◌≤◌, Bool, true, false, List, [], ◌∷◌, ◌++◌, length, drop, take, Option, Some, None, refl, sym, ◌∙◌, ap, arith}
 use Rattle.std.specs.Prelude.{◌==◌, unwrap_or, if◌then◌else◌}
 use Rattle.std.specs.List.{cons_option, filter_map}
-use Rattle.std.proofs.lemmas.Bool.{eqb-true}
+use Rattle.std.proofs.lemmas.Bool.{and_parts, eqb-true, false≢true}
 use Rattle.std.proofs.lemmas.List.{append-nil, length_push}
 use Rattle.std.proofs.Math.Seq.{take-length}
 use Rattle.std.proofs.lemmas.List.Elements.{filter_map-append}
@@ -20,7 +20,7 @@ use Rattle.gix_odb_world.specs.Event.{Asked, Event}
 use Rattle.gix_odb_world.specs.Run.{IsTurnOf}
 use Rattle.gix_odb_world.specs.Seats.{IsSeated}
 use Rattle.gix_odb_world.specs.Told.{exchange_in, exchange_of, told_since, view_then}
-use Rattle.gix_odb_world.specs.Turned.{is_turn_of}
+use Rattle.gix_odb_world.specs.Turned.{is_done, is_turn_of, turns_handle}
 
 -- ---- a look-up behind one exchange more
 
@@ -54,24 +54,44 @@ drop-all (x ∷ xs) = drop-all xs
 
 -- ---- a turn of the handle, and any other step
 
-turned_by : (handle : ℕ) (step : Step) → IsTurnOf handle step → is_turn_of handle step ≡ true
-turned_by handle step is = ap (is_turn_of handle) is ∙ same
+both_true : (a b : Bool) → a ≡ true → b ≡ true → (a && b) ≡ true
+both_true true b one two = two
+both_true false b one two = absurd (false≢true one)
+
+pub turned_by : (handle : ℕ) (e : Event) → IsTurnOf handle e → is_turn_of handle e ≡ true
+turned_by handle e is = both_true (is_done e.outcome) (turns_handle handle e.step) is.done (ap (turns_handle handle) is.step ∙ same)
   where
     same : (handle == handle) ≡ true
     same = grind arith
 
-not_turned : (handle : ℕ) (step : Step) → ¬ (IsTurnOf handle step) → is_turn_of handle step ≡ false
-not_turned handle (steps.Turn other) never = by (handle == other) refl
+turned_step : (handle : ℕ) (step : Step) → turns_handle handle step ≡ true → step ≡ steps.Turn handle
+turned_step handle (steps.Turn other) is = ap steps.Turn (sym (eqb-true handle other is))
+turned_step handle (steps.Open other path folders hash replacements options) is = absurd (false≢true is)
+turned_step handle (steps.Clone other from) is = absurd (false≢true is)
+turned_step handle (steps.Close other) is = absurd (false≢true is)
+turned_step handle (steps.Ignore other) is = absurd (false≢true is)
+turned_step handle (steps.Start other call) is = absurd (false≢true is)
+turned_step handle (steps.Disk change) is = absurd (false≢true is)
+
+turn_by : (handle : ℕ) (e : Event) → is_turn_of handle e ≡ true → IsTurnOf handle e
+turn_by handle e is =
+    let both = and_parts (is_done e.outcome) (turns_handle handle e.step) is in
+    record { step = turned_step handle e.step both.1; done = both.0 }
+
+-- an event is a turn of a handle, or isn't
+pub turn_or_not : (handle : ℕ) (e : Event) → IsTurnOf handle e ⊎ ¬ (IsTurnOf handle e)
+turn_or_not handle e = by (is_turn_of handle e) refl
   where
-    by : (b : Bool) → (handle == other) ≡ b → (handle == other) ≡ false
-    by true is = absurd (never (ap steps.Turn (sym (eqb-true handle other is))))
+    by : (b : Bool) → is_turn_of handle e ≡ b → IsTurnOf handle e ⊎ ¬ (IsTurnOf handle e)
+    by true is = inl (turn_by handle e is)
+    by false is = inr (λ turn. false≢true (sym is ∙ turned_by handle e turn))
+
+pub not_turned : (handle : ℕ) (e : Event) → ¬ (IsTurnOf handle e) → is_turn_of handle e ≡ false
+not_turned handle e never = by (is_turn_of handle e) refl
+  where
+    by : (b : Bool) → is_turn_of handle e ≡ b → is_turn_of handle e ≡ false
+    by true is = absurd (never (turn_by handle e is))
     by false is = is
-not_turned handle (steps.Open other path folders hash replacements options) never = refl
-not_turned handle (steps.Clone other from) never = refl
-not_turned handle (steps.Close other) never = refl
-not_turned handle (steps.Ignore other) never = refl
-not_turned handle (steps.Start other call) never = refl
-not_turned handle (steps.Disk change) never = refl
 
 -- ---- what it was told
 
@@ -93,19 +113,19 @@ module _ (events : List Event) (e : Event) (handle begun : ℕ) (since : begun �
   none_told is = told_by None is ∙ append-nil (told_since events handle begun)
 
   -- an event that isn't its turn tells it nothing
-  pub told_kept : ¬ (IsTurnOf handle e.step) → told_since whole handle begun ≡ told_since events handle begun
-  told_kept other = none_told (ap (λ b. if b then exchange_of e.asked else None) (not_turned handle e.step other))
+  pub told_kept : ¬ (IsTurnOf handle e) → told_since whole handle begun ≡ told_since events handle begun
+  told_kept other = none_told (ap (λ b. if b then exchange_of e.asked else None) (not_turned handle e other))
 
   -- its turn tells it what was asked and answered
-  pub told_turn : IsTurnOf handle e.step → (asked : Asked) → e.asked ≡ asked → (exchange : Exchange) → exchange_of asked ≡ Some exchange
+  pub told_turn : IsTurnOf handle e → (asked : Asked) → e.asked ≡ asked → (exchange : Exchange) → exchange_of asked ≡ Some exchange
       → told_since whole handle begun ≡ told_since events handle begun ++ exchange ∷ []
   told_turn turn asked asked_is exchange is =
-      told_by (Some exchange) (ap (λ b. if b then exchange_of e.asked else None) (turned_by handle e.step turn) ∙ (ap exchange_of asked_is ∙ is))
+      told_by (Some exchange) (ap (λ b. if b then exchange_of e.asked else None) (turned_by handle e turn) ∙ (ap exchange_of asked_is ∙ is))
 
-  pub told_none : IsTurnOf handle e.step → (asked : Asked) → e.asked ≡ asked → exchange_of asked ≡ None
+  pub told_none : IsTurnOf handle e → (asked : Asked) → e.asked ≡ asked → exchange_of asked ≡ None
       → told_since whole handle begun ≡ told_since events handle begun
   told_none turn asked asked_is is =
-      none_told (ap (λ b. if b then exchange_of e.asked else None) (turned_by handle e.step turn) ∙ (ap exchange_of asked_is ∙ is))
+      none_told (ap (λ b. if b then exchange_of e.asked else None) (turned_by handle e turn) ∙ (ap exchange_of asked_is ∙ is))
 
   -- what it saw then stays
   pub view_kept : (core : ℕ) → view_then whole handle core begun ≡ view_then events handle core begun

@@ -20,10 +20,12 @@ use Rattle.gix_odb_core.specs.Steps.{last_state}
 use Rattle.gix_odb_core.specs.declared.journal.Entry.{Entry}
 use Rattle.gix_odb_core.specs.declared.shape.Shape.{Shape}
 use Rattle.gix_odb_core.specs.declared.view.View.{View}
+use Rattle.gix_hash.specs.declared.object_id.ObjectId.{ObjectId}
 use Rattle.gix_odb_packs.specs.declared.answer.Answer.TheVariants as told
 use Rattle.gix_odb_packs.specs.declared.answer.PartAsk.TheVariants as parts
 use Rattle.gix_odb_calls.specs.declared.call.Call.{Call}
 use Rattle.gix_odb_looks.specs.Exchange.{AreAnswered, Exchange, HasFailed, IsAnswerTo, WasTold}
+use Rattle.gix_odb_looks.specs.Fair.{AreFair, IsFair, PackedPlace}
 use Rattle.gix_odb_looks.specs.Laps as streams
 use Rattle.gix_odb_looks.specs.Laps.{AreNumbered, AreWithin, IsNumbered, number_by}
 use Rattle.gix_odb_looks.specs.LookUpOrder.{Setting, ask_of}
@@ -31,7 +33,7 @@ use Rattle.gix_odb_looks.specs.Shown.{IsHanded, IsShownView}
 use Rattle.gix_odb_looks.specs.Stream.{stream_by, stream_in}
 use Rattle.gix_odb_looks.specs.True.{AreTrue, IsTrue}
 use Rattle.gix_odb_looks.specs.declared.look_up.LookUp.{LookUp}
-use Rattle.gix_odb_looks.proofs.CoreLaws.{core_answers_are_numbered, core_answers_are_true, core_answers_suit_their_events, core_answers_tell_no_later_number}
+use Rattle.gix_odb_looks.proofs.CoreLaws.{core_answers_are_fair, core_answers_are_numbered, core_answers_are_true, core_answers_suit_their_events, core_answers_tell_no_later_number}
 use Rattle.gix_odb_looks.proofs.CoreLaws.Wider.{AreTrue-wider, IsHanded-wider, IsShownView-wider}
 use Rattle.gix_odb_looks.proofs.FoundLaws.{what_is_handed_was_shown}
 use Rattle.gix_odb_looks.proofs.HandedLaws.{IsOwnStream, streams_of_look_ups_are_their_own, what_is_handed_can_happen}
@@ -45,11 +47,14 @@ use Rattle.gix_odb_world.specs.Cores.{answer_behind, cores_after, cores_after_as
 use Rattle.gix_odb_world.specs.Event.{Asked, CoreAnswer, CoreEvent, Event, OfCore, OfDisk, ToCore, ToDisk}
 use Rattle.gix_odb_world.specs.Run.{Fails, FailedSince, NoCall, disk_after, tree_at}
 use Rattle.gix_odb_world.specs.Seats.{HasSeat, HasSeatAt, IsSeated}
+use Rattle.gix_odb_world.specs.Running.PackedStill.{IsPackedStill}
 use Rattle.gix_odb_world.specs.Running.Query.{IsGiven, IsLooking, IsToldWell, number_after}
 use Rattle.gix_odb_world.specs.Told.{look_now, told_since, view_then}
 use Rattle.gix_odb_world.proofs.DiskTold.{failed_or_told, is_true, suits}
 use Rattle.gix_odb_world.proofs.HistoryLemmas.{cores_after-push, failed-kept, failed_before, none_failed_yet, tree_at-before}
 use Rattle.gix_odb_world.proofs.MachineLaws.{IsRunning, IsStarted, IsTurnAsking}
+use Rattle.gix_odb_world.proofs.PackedStill.{AreFair-push, told_fairly}
+use Rattle.gix_odb_world.proofs.PackedStill.Moments.{shown_index_is_sound, still_before}
 use Rattle.gix_odb_world.proofs.QuietTurn.{failed_now}
 use Rattle.gix_odb_world.proofs.SeatLemmas.{seats_now}
 use Rattle.gix_odb_world.proofs.SeatLemmas.Elsewhere.{slice_get-set_same}
@@ -147,6 +152,9 @@ module _ (first : Volume) (events : List Event) (e : Event) where
         given = λ ask answer was.
             given_later handle begun ask answer (well.given ask answer (subst (λ xs. WasTold xs (parts.Disk ask) (told.Disk answer)) same was));
         failures = λ failed. subst HasFailed (sym same) (well.failures (fails failed));
+        fair = λ id place works still.
+            subst (AreFair store.hash id place []) (sym same)
+            (well.fair id place (λ failed. works (failed-kept events e handle begun failed)) (still_before first events e store begun id place still));
       }
 
   -- ---- where a query begins
@@ -175,6 +183,7 @@ module _ (first : Volume) (events : List Event) (e : Event) where
         within = λ entries most. subst (AreWithin entries None) (sym none) tt;
         given = λ ask answer was. absurd (nothing_among _ (subst (λ xs. WasTold xs (parts.Disk ask) (told.Disk answer)) none was));
         failures = λ failed. absurd (none_failed_yet whole handle (length events + 1) (omega (arith, longer)) failed);
+        fair = λ id place works still. subst (AreFair store.hash id place []) (sym none) tt;
       }
 
   -- ---- its own turn
@@ -211,6 +220,8 @@ module _ (first : Volume) (events : List Event) (e : Event) where
           → streams.HasAtMost entries (stream_by (stream_in before) exchange.ask exchange.answer)
       given : (ask : DiskAsk) (answer : DiskAnswer) → record { ask = parts.Disk ask; answer = told.Disk answer } ≡ exchange → IsGiven first whole handle begun ask answer
       fails : FailedSince whole handle begun → FailedSince events handle begun ⊎ (exchange.answer ≡ told.Disk (answers.Refused errors.Failed))
+      fair : (id : ObjectId) (place : PackedPlace) → ¬ (FailedSince whole handle begun)
+          → IsPackedStill (tree_at first whole) store begun (length whole) id place → IsFair store.hash id place before exchange.ask exchange.answer
 
     told_more : (exchange : Exchange) → told_since whole handle begun ≡ before ++ exchange ∷ [] → (core < length (cores_after whole)) → IsToldTruly exchange
         → IsToldWell first whole handle store running.modes begun
@@ -245,6 +256,11 @@ module _ (first : Volume) (events : List Event) (e : Event) where
             | inl old ↦ let has = well.failures old in record { exchange = has.exchange; among = among_more before exchange has.exchange has.among; failed = has.failed }
             | inr last ↦ record { exchange = exchange; among = last_among before exchange; failed = last }
           ]);
+      fair = λ id place works still.
+          subst (AreFair store.hash id place []) (sym same)
+          (AreFair-push store.hash id place [] before exchange
+          (well.fair id place (λ failed. works (failed-kept events e handle begun failed)) (still_before first events e store begun id place still))
+          (truly.fair id place works still));
     }
 
     -- ---- an event of the core of its store
@@ -307,12 +323,15 @@ module _ (first : Volume) (events : List Event) (e : Event) where
       later entry among =
           IsHanded-wider (ShownSince first events store) (ShownSince first whole store) (shown_later first events e store) setting store.hash entry.event (stock.of.handed entry among)
 
+      handed_now : IsHanded (ShownSince first whole store) setting store.hash event
+      handed_now =
+          IsHanded-wider (ShownSince first events store) (ShownSince first whole store) (shown_later first events e store) setting store.hash event handed
+
       truly : IsToldTruly exchange
       truly = record {
         truth =
             core_answers_are_true history.opening history.entries handle event answer answer_is (is_opened first events store history stock.of) stock.of.legal
-            (ShownSince first whole store) setting store.hash later
-            (IsHanded-wider (ShownSince first events store) (ShownSince first whole store) (shown_later first events e store) setting store.hash event handed);
+            (ShownSince first whole store) setting store.hash later handed_now;
         fitting = core_answers_suit_their_events history.opening history.entries handle event answer answer_is;
         numbered =
             core_answers_are_numbered history.opening history.entries handle event answer answer_is (number_after 0 before) low
@@ -324,6 +343,12 @@ module _ (first : Volume) (events : List Event) (e : Event) where
         within = λ entries most. within_last entries None before (well.within entries (most_before store begun entries most)) tt;
         given = λ ask own is. absurd (no_event ask event (ap (λ (x : Exchange). x.ask) is));
         fails = λ failed. inl (failed_before events e handle begun (λ turn_it fails. no_failure e.entry.did turn.did fails) failed);
+        fair = λ id place works still.
+            core_answers_are_fair history.opening history.entries handle event answer answer_is (is_opened first events store history stock.of) stock.of.legal
+            (ShownSince first whole store) setting store.hash later handed_now id place
+            (shown_index_is_sound (tree_at first whole) store begun (length whole) id place still well.opened
+            (let since = knows.since in let more = count in omega (arith, since, more)))
+            before;
       }
 
       pub told_well_on_core : IsToldWell first whole handle store running.modes begun
@@ -353,8 +378,11 @@ module _ (first : Volume) (events : List Event) (e : Event) where
           knows.asked dir (inl (disk_asked ∙ ap (λ a. Some (parts.Disk a)) is))
 
       -- the tree that answers is that of the moment before
+      tree_before : tree_at first events (length events) ≡ tree_of disk.state
+      tree_before = ap (λ past. tree_of (disk_after first past).state) (take-length events)
+
       tree_is : tree_at first whole (length events) ≡ tree_of disk.state
-      tree_is = tree_at-before first events e (length events) (omega arith) ∙ ap (λ past. tree_of (disk_after first past).state) (take-length events)
+      tree_is = tree_at-before first events e (length events) (omega arith) ∙ tree_before
 
       disk_truly : IsToldTruly call
       disk_truly = record {
@@ -386,6 +414,8 @@ module _ (first : Volume) (events : List Event) (e : Event) where
               failed = λ fails. failed_now first events e handle running knows.since ask turn (ap (fails_now disk) (sym same) ∙ fails);
             };
         fails = λ failed. failed_or_told first events e handle running knows.since ask turn failed;
+        fair = λ id place works still.
+            told_fairly first events e handle running ran knows.since id place still ask own_stream tree_before turn works;
       }
 
       pub told_well_on_disk : IsToldWell first whole handle store running.modes begun

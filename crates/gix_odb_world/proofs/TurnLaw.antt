@@ -22,7 +22,8 @@ use Rattle.gix_odb_world.specs.Run.{Stand, change_asked, did_asked, did_of_asked
 use Rattle.gix_odb_world.specs.Begun.{BegunAs}
 use Rattle.gix_odb_world.specs.Recorded.{opened_in}
 use Rattle.gix_odb_world.specs.Running.{Runs}
-use Rattle.gix_odb_world.specs.Valid.{phase_of, why_not_running, misuse_of}
+use Rattle.gix_odb_world.specs.Turned.{is_done}
+use Rattle.gix_odb_world.specs.Valid.{IsReason, misuse_of}
 use Rattle.gix_odb_world.specs.Headline.{FailsAsListed, Law, Turns, Works, outcome_of, stand_of}
 use Rattle.gix_odb_world.specs.Changes.{ChangesAs, ChangesAsAsked}
 use Rattle.gix_odb_world.specs.Promise.{Promise}
@@ -43,6 +44,10 @@ use Rattle.gix_odb_world.proofs.TurnLaw.Comes.{come_of, end_of, turn_of}
 misuse_of-turn : (result : Result Reply Work) → misuse_of (outcome_of result) ≡ None
 misuse_of-turn (Ok reply) = refl
 misuse_of-turn (Err work) = refl
+
+done-turn : (result : Result Reply Work) → is_done (outcome_of result) ≡ true
+done-turn (Ok reply) = refl
+done-turn (Err work) = refl
 
 not_applied : (result : Result Reply Work) → ¬ (outcome_of result ≡ outcomes.Applied)
 not_applied (Ok reply) is = cc is
@@ -106,7 +111,7 @@ module _ (first : Volume) (events : List Event) (old : Course) (number : ℕ) (r
     change_is = ap (λ d. change_asked d ask) explains.disk
 
     turn_is : IsTurnAsking first events event number running ask
-    turn_is = turn_asking first events event number running opened ask refl did_is told_is change_is (subst (λ (d : Volume). IsTree (tree_of d.state)) explains.disk tree)
+    turn_is = turn_asking first events event number running opened ask (record { step = refl; done = done-turn after }) did_is told_is change_is (subst (λ (d : Volume). IsTree (tree_of d.state)) explains.disk tree)
 
     abbrev pub WorkNow : Result Reply Work → Type 0
     WorkNow result = ComesTo first events event number running told result
@@ -168,13 +173,13 @@ module _ (first : Volume) (events : List Event) (old : Course) (number : ℕ) (r
     -- what holds of this work holds of the work that a turn of the handle takes
     of_turn : (P : ℕ → Running → Type 0) → P number running → (handle : ℕ) (other : Running) → Turns events event handle other → P handle other
     of_turn P here handle other turns_it =
-        let same : number ≡ handle = cc turns_it.step in
+        let same : number ≡ handle = cc turns_it.turn.step in
         subst (λ h. P h other) same (subst (OfWork (P number)) (sym status ∙ (ap (status_of events) same ∙ turns_it.status)) here)
 
-    pub law : Law first events event
-    law =
+    pub law : IsReason first events (steps.Turn number) None → Law first events event
+    law reason =
         record {
-          valid = misuse_of-turn after ∙ ap (λ s. why_not_running (phase_of s)) (sym status);
+          valid = subst (IsReason first events (steps.Turn number)) (sym (misuse_of-turn after)) reason;
           suits = suits_turn number after told ended;
           change = changes_turn number after event.entry.change;
           failed = subst (FailsAsListed (disk_after first events)) (sym told_is) (fails_listed at (disk_after first events) ask);

@@ -3,7 +3,10 @@ use Rattle.std.proofs.Common.{◌≡◌, ℕ, ◌+◌, Bool, true, false, List, 
 use Rattle.std.specs.Prelude.{if◌then◌else◌, ◌==◌}
 use Rattle.odb_disk.specs.MemDisk.{Volume}
 use Rattle.odb_base.specs.Path.{Path}
-use Rattle.odb_tree.specs.Tree.{IsTree, tree_of}
+use Rattle.odb_tree.specs.Tree.{IsTree, Tree, tree_of}
+use Rattle.gix_odb_shown.specs.HasShown.{Keeps}
+use Rattle.gix_odb_shown.specs.Kept.{Fits, Kept}
+use Rattle.gix_odb_shown.specs.declared.revealed.Revealed.{Revealed}
 use Rattle.odb_tree.specs.declared.change.Change.{Change}
 use Rattle.gix_odb_calls.specs.declared.step.Step.TheVariants as steps
 use Rattle.gix_odb_calls.specs.declared.step.Outcome.{Outcome}
@@ -25,12 +28,17 @@ use Rattle.gix_odb_world.specs.Running.{Runs}
 use Rattle.gix_odb_world.specs.Headline.{outcome_of, stand_of}
 use Rattle.gix_odb_world.specs.WorkOrder.{asks_on, result_in}
 use Rattle.gix_odb_world.specs.World.{Explains, Continues, GoesOn, Matches, handle_at}
-use Rattle.gix_odb_world.specs.Table.{Carries, SetsHandle, Notes, after_turn, state_after, told_in}
+use Rattle.gix_odb_world.specs.Table.{Carries, IsReasonNow, SetsHandle, Notes, after_turn, change_by_handle, state_after, told_in, would_change_now}
 use Rattle.gix_odb_world.proofs.KnowsLemmas.{runs_set}
-use Rattle.gix_odb_world.proofs.StepLemmas.{goes_on, table_noted}
+use Rattle.gix_odb_world.specs.TwoContents.{watched_after}
+use Rattle.gix_odb_world.specs.Watch.{NotesMade, ShowsSecondBy, TellsChange}
+use Rattle.gix_odb_world.proofs.RunSteps.{IsLeft}
+use Rattle.gix_odb_world.proofs.StepLemmas.{goes_on, reason_of_history, table_noted}
 use Rattle.gix_odb_world.specs.Recorded.{opened_in}
-use Rattle.gix_odb_world.specs.Run.{Stand, change_asked, did_of_asked, disk_after_asked, stand, told_now}
+use Rattle.gix_odb_world.specs.Run.{Stand, change_asked, did_of_asked, disk_after_asked, stand, told_now, tree_at}
 use Rattle.gix_odb_world.proofs.WorkLaws.{code_asks, code_feeds}
+use Rattle.gix_odb_world.proofs.ValidLaws.{breaks_not}
+use Rattle.gix_odb_world.proofs.WatchLemmas.{keeps_made, turn_left}
 use Rattle.gix_odb_world.proofs.WorldLemmas.{matches_set}
 use Rattle.gix_odb_world.proofs.TurnLaw.{come, event, law, matches_next, runs_next}
 
@@ -84,7 +92,7 @@ handle_after store modes state (OfNewCore slots folders number seat answer) own 
 }
 
 -- what the code did in a turn of a handle
-record Took (old took mid new : Course) (disk : Volume) (cores : Vec History Global) (number : ℕ) (state : HandleState) (work : Work) (done : Carried) (outcome : Outcome)
+record Took (old took mid new : Course) (disk : Volume) (cores : Vec History Global) (shown : Kept) (number : ℕ) (state : HandleState) (work : Work) (done : Carried) (outcome : Outcome)
     (handle : Option Handle) : Type 0 where
   there : handle_at old number ≡ Some (record { state = state; work = Some work })
   takes : SetsHandle old took number None
@@ -92,11 +100,13 @@ record Took (old took mid new : Course) (disk : Volume) (cores : Vec History Glo
   tree : IsTree (tree_of took.disk.state)
   outcome_is : outcome ≡ outcome_of (result_in done.work)
   handle_is : handle ≡ after_turn done.state (result_in done.work)
-  sets : SetsHandle (record took { disk = disk; cores = cores }) mid number handle
+  reason : IsReasonNow old (steps.Turn number) None
+  noted : NotesMade old.shown (tree_of old.disk.state) done.change shown
+  sets : SetsHandle (record took { disk = disk; cores = cores; shown = shown }) mid number handle
   notes : Notes mid new outcome done.did done.change
 
-module _ (old took mid new : Course) (disk : Volume) (cores : Vec History Global) (number : ℕ) (state : HandleState) (work : Work) (done : Carried) (outcome : Outcome) (handle : Option Handle)
-    (took_it : Took old took mid new disk cores number state work done outcome handle) (first : Volume) (events : List Event) (explains : Explains first events old) where
+module _ (old took mid new : Course) (disk : Volume) (cores : Vec History Global) (shown : Kept) (number : ℕ) (state : HandleState) (work : Work) (done : Carried) (outcome : Outcome) (handle : Option Handle)
+    (took_it : Took old took mid new disk cores shown number state work done outcome handle) (first : Volume) (events : List Event) (explains : Explains first events old) where
   -- by the store of the handle, and the work that it is at
   goes_at : (running : Running) → status_of events number ≡ Working running → running.work ≡ work → IsHandleOf running.store running.modes state
       → (o : Outcome) × GoesOn first events (steps.Turn number) o new
@@ -137,7 +147,7 @@ module _ (old took mid new : Course) (disk : Volume) (cores : Vec History Global
       let next_same : next ≡ next_from told (Working running) result = next_is told running (table number) result status in
       let put : (other : ℕ) → handle_at new other ≡ (if other == number then handle else handle_at old other) =
       λ other.
-      table_noted (record took { disk = disk; cores = cores }) mid new number handle outcome done.did done.change took_it.sets took_it.notes other
+      table_noted (record took { disk = disk; cores = cores; shown = shown }) mid new number handle outcome done.did done.change took_it.sets took_it.notes other
       ∙ (ap (λ before. if other == number then handle else before) (took_it.takes.table other) ∙ set_twice (other == number) handle (handle_at old other)) in
       let here : Matches next handle =
       subst (λ s. Matches s handle) (sym next_same)
@@ -149,7 +159,8 @@ module _ (old took mid new : Course) (disk : Volume) (cores : Vec History Global
       (come first events old number running explains status tree mid.disk.calls.faults counted)) in (
         outcome_of result,
         goes_on first events old new e explains
-            (law first events old number running explains status tree mid.disk.calls.faults counted)
+            (law first events old number running explains status tree mid.disk.calls.faults counted
+            (reason_of_history first events old explains (steps.Turn number) None took_it.reason))
             (took_it.notes.outcomes ∙ (ap (λ os. os ++ outcome ∷ []) (took_it.sets.outcomes ∙ took_it.takes.outcomes) ∙ ap (λ o. old.outcomes ++ o ∷ []) outcome_is))
             (took_it.notes.records
             ∙ (ap (λ rs. rs ++ record { did = done.did; change = done.change; faults = mid.disk.calls.faults } ∷ []) (took_it.sets.records ∙ took_it.takes.records)
@@ -160,7 +171,13 @@ module _ (old took mid new : Course) (disk : Volume) (cores : Vec History Global
             ∙ (carries.cores_are ∙ ap (λ cs. cores_after_asked cs told) (ap (λ (c : Vec History Global). c.items) took_it.takes.cores)))
             (λ other. rw (status_after-turn (length events + 1) number told result table) (matches_set old new table number next handle explains.handles put here other))
             (λ other. rw (status_after-turn (length events + 1) number told result table)
-            (runs_set first events e table number next explains.running (λ o apart turns_it. apart (cc turns_it)) on other)),
+            (runs_set first events e table number next explains.running (λ o apart turns_it. apart (cc turns_it.step)) on other))
+            (subst (Keeps (tree_at first (events ++ e ∷ [])) (watched_after (events ++ e ∷ [])) (length (events ++ e ∷ []))) (sym (took_it.notes.shown ∙ took_it.sets.shown))
+            (keeps_made first events e old.shown shown made explains.watched
+            (subst (λ (d : Volume). IsLeft (tree_of d.state) (tree_of (disk_after_asked d told made).state) made) explains.disk (turn_left place old.disk ask))
+            (λ n since. refl)
+            (subst (λ (d : Volume). NotesMade old.shown (tree_of d.state) made shown) explains.disk
+            (subst (λ c. NotesMade old.shown (tree_of old.disk.state) c shown) change_is took_it.noted)))),
       )
 
   by_status : (status : Status) → status_of events number ≡ status → Matches status (Some (record { state = state; work = Some work }))
@@ -169,14 +186,43 @@ module _ (old took mid new : Course) (disk : Volume) (cores : Vec History Global
   by_status (Resting store modes) is match = absurd (cc match.1)
   by_status (Working running) is match = let both : Some work ≡ Some running.work = match.1 in goes_at running is (sym (cc both)) match.0
 
+-- what was kept after the turn, by what was told of its change before it
+noted_by : (old took : Course) (number : ℕ) (shown : Kept) (revealed : Option Revealed) (change would : Option Change) → SetsHandle old took number None → change ≡ would
+    → Fits old.shown (tree_of old.disk.state) → TellsChange old.shown.folders (tree_of old.disk.state) would revealed → ¬ (ShowsSecondBy old.shown (tree_of old.disk.state) would)
+    → ((tree : Tree) → Fits took.shown tree → TellsChange took.shown.folders tree change revealed → (ShowsSecondBy took.shown tree change → ⊥) → NotesMade took.shown tree change shown)
+    → NotesMade old.shown (tree_of old.disk.state) change shown
+noted_by old took number shown revealed change would takes same fits tells first keeps =
+    subst (λ k. (tree : Tree) → Fits k tree → TellsChange k.folders tree change revealed → (ShowsSecondBy k tree change → ⊥) → NotesMade k tree change shown) takes.shown keeps
+    (tree_of old.disk.state) fits
+    (subst (λ c. TellsChange old.shown.folders (tree_of old.disk.state) c revealed) (sym same) tells)
+    (λ second. first (subst (ShowsSecondBy old.shown (tree_of old.disk.state)) same second))
+
 -- each history goes on by the turn
-pub turned_on : (old took mid new : Course) (disk : Volume) (cores : Vec History Global) (number : ℕ) (state : HandleState) (work : Work) (done : Carried) (outcome : Outcome) (handle : Option Handle)
+pub turned_on : (old took mid new : Course) (disk : Volume) (cores : Vec History Global) (shown : Kept) (number : ℕ) (state : HandleState) (work : Work) (done : Carried) (outcome : Outcome)
+    (handle : Option Handle) (revealed : Option Revealed)
     → handle_at old number ≡ Some (record { state = state; work = Some work }) → SetsHandle old took number None
     → IsTree (tree_of took.disk.state)
     → Carries took.disk disk took.cores.items cores.items state work (told_in took.cores.items took.disk number state work) done
     → outcome ≡ outcome_of (result_in done.work) → handle ≡ after_turn done.state (result_in done.work)
-    → SetsHandle (record took { disk = disk; cores = cores }) mid number handle → Notes mid new outcome done.did done.change → Continues old (steps.Turn number) new
-turned_on old took mid new disk cores number state work done outcome handle there takes tree carries outcome_is handle_is sets notes first events explains =
-    by_status old took mid new disk cores number state work done outcome handle
-    (record { there = there; takes = takes; carries = carries; tree = tree; outcome_is = outcome_is; handle_is = handle_is; sets = sets; notes = notes })
+    → IsReasonNow old (steps.Turn number) None → Fits old.shown (tree_of old.disk.state)
+    → TellsChange old.shown.folders (tree_of old.disk.state) (would_change_now old (steps.Turn number)) revealed
+    → ((tree : Tree) → Fits took.shown tree → TellsChange took.shown.folders tree done.change revealed → (ShowsSecondBy took.shown tree done.change → ⊥)
+    → NotesMade took.shown tree done.change shown)
+    → SetsHandle (record took { disk = disk; cores = cores; shown = shown }) mid number handle → Notes mid new outcome done.did done.change → Continues old (steps.Turn number) new
+turned_on old took mid new disk cores shown number state work done outcome handle revealed there takes tree carries outcome_is handle_is reason fits tells keeps sets notes first events explains =
+    let would : done.change ≡ would_change_now old (steps.Turn number) =
+    carries.change ∙ (ap (λ (d : Volume). change_asked d (asks_on state work)) takes.disk ∙ sym (ap (change_by_handle old.disk) there)) in
+    by_status old took mid new disk cores shown number state work done outcome handle
+    (record {
+      there = there;
+      takes = takes;
+      carries = carries;
+      tree = tree;
+      outcome_is = outcome_is;
+      handle_is = handle_is;
+      reason = reason;
+      noted = noted_by old took number shown revealed done.change (would_change_now old (steps.Turn number)) takes would fits tells (breaks_not _ _ reason) keeps;
+      sets = sets;
+      notes = notes;
+    })
     first events explains (status_of events number) refl (subst (Matches (status_of events number)) there (explains.handles number))

@@ -5,15 +5,19 @@ use Rattle.std.proofs.lemmas.Bool.{cases_lt}
 use Rattle.std.proofs.lemmas.List.{take-append-le, length_push}
 use Rattle.odb_disk.specs.MemDisk.{Volume}
 use Rattle.odb_tree.specs.Tree.{IsTree, tree_of}
+use Rattle.gix_odb_shown.specs.HasShown.{Keeps}
+use Rattle.gix_odb_shown.specs.Kept.{nothing_kept}
 use Rattle.gix_odb_world.specs.declared.handle.Handle.{Handle}
 use Rattle.gix_odb_world.specs.declared.course.Course.{Course}
 use Rattle.gix_odb_world.specs.Cores.{cores_after}
 use Rattle.gix_odb_world.specs.Event.{Event}
 use Rattle.gix_odb_world.specs.Status.{Status, status_of, statuses_from, with_status}
-use Rattle.gix_odb_world.specs.Run.{disk_after}
+use Rattle.gix_odb_world.specs.Run.{disk_after, tree_at}
+use Rattle.gix_odb_world.specs.TwoContents.{watched_after}
 use Rattle.gix_odb_world.specs.Running.{Runs, RunsThroughout}
 use Rattle.gix_odb_world.specs.World.{Explains, Matches, handle_at}
 use Rattle.gix_odb_world.proofs.HistoryLemmas.{IsLawful-none, take-push}
+use Rattle.gix_odb_world.proofs.WatchLemmas.{keeps_none}
 
 throughout_none : (first : Volume) (now handle : ℕ) → Runs first (take now []) handle (status_of (take now []) handle)
 unfolding statuses_from
@@ -21,10 +25,10 @@ throughout_none first zero handle = tt
 throughout_none first (suc now) handle = tt
 
 -- nothing has happened in a world with no handles and no outcomes
-pub explains_none : (world : Course) → IsTree (tree_of world.disk.state) → world.handles.entries ≡ [] → world.cores.items ≡ [] → world.outcomes ≡ [] → world.records ≡ []
+pub explains_none : (world : Course) → IsTree (tree_of world.disk.state) → world.handles.entries ≡ [] → world.cores.items ≡ [] → world.shown ≡ nothing_kept → world.outcomes ≡ [] → world.records ≡ []
     → Explains world.disk [] world
 unfolding disk_after statuses_from cores_after
-explains_none world is_tree handles cores outcomes records =
+explains_none world is_tree handles cores shown outcomes records =
     record {
       outcomes = sym outcomes;
       records = sym records;
@@ -33,6 +37,7 @@ explains_none world is_tree handles cores outcomes records =
       handles = λ handle. rw handles tt;
       running = λ handle. tt;
       lawful = IsLawful-none world.disk;
+      watched = subst (Keeps (tree_at world.disk []) (watched_after []) 0) (sym shown) (keeps_none world.disk);
       start = is_tree;
       throughout = λ now handle within. throughout_none world.disk now handle;
     }

@@ -51,7 +51,7 @@ module _ (first : Volume) (events : List Event) (e : Event) where
   asked_kept handle begun ask answer a = record { place = a.place; later = a.later; at = asked_at_kept handle a.place ask answer a.at }
 
   -- the last event's own call
-  pub asked_now : (handle : ℕ) (ask : DiskAsk) (answer : DiskAnswer) → IsTurnOf handle e.step
+  pub asked_now : (handle : ℕ) (ask : DiskAsk) (answer : DiskAnswer) → IsTurnOf handle e
       → TellsCall (disk_after first events) ask e.entry.did
       → e.asked ≡ OfDisk ask answer → answer ≡ answer_now (disk_after first events) ask → AskedAt first whole handle (length events) ask answer
   asked_now handle ask answer turn did asked given =
@@ -76,7 +76,7 @@ module _ (first : Volume) (events : List Event) (e : Event) where
       (alone place x later (omega (arith, within, long)) (slice_get-kept events e place x there) other))
 
   -- and so did the last one
-  pub alone_now : (handle : ℕ) (path : Path) (from : ℕ) → from ≤ length events → ¬ (IsTurnOf handle e.step)
+  pub alone_now : (handle : ℕ) (path : Path) (from : ℕ) → from ≤ length events → ¬ (IsTurnOf handle e)
       → LeftAlone first whole handle path from (length whole)
       → SameOnWay (tree_at first events (length events)) (tree_at first whole (length events + 1)) true path
   alone_now handle path from soon other alone =
@@ -84,7 +84,7 @@ module _ (first : Volume) (events : List Event) (e : Event) where
       (alone (length events) e soon (omega (arith, length_push events e)) (slice_get-last events e) other)
 
   -- a file that nobody touched is there still
-  holds_kept : (handle begun : ℕ) (path : Path) (bytes : List ℕ) → ¬ (IsTurnOf handle e.step) → HoldsFile first events handle begun path bytes
+  holds_kept : (handle begun : ℕ) (path : Path) (bytes : List ℕ) → ¬ (IsTurnOf handle e) → HoldsFile first events handle begun path bytes
       → HoldsFile first whole handle begun path bytes
   holds_kept handle begun path bytes other h =
       let within : h.made < length events = slice_get_within events h.made h.makes.event h.makes.there in
@@ -100,7 +100,7 @@ module _ (first : Volume) (events : List Event) (e : Event) where
             (before.0, subst (λ n. HasFile (tree_at first whole n) path before.0 bytes 0) (sym (length_push events e)) after);
       }
 
-  holds_push : (handle begun : ℕ) (objects : Path) (number : Option ℕ) (bytes : Option (List ℕ)) → ¬ (IsTurnOf handle e.step)
+  holds_push : (handle begun : ℕ) (objects : Path) (number : Option ℕ) (bytes : Option (List ℕ)) → ¬ (IsTurnOf handle e)
       → Holds first events handle begun objects number bytes → Holds first whole handle begun objects number bytes
   holds_push handle begun objects (Some number) (Some bytes) other h = holds_kept handle begun (temp_path objects number) bytes other h
   holds_push handle begun objects (Some number) None other h = tt
@@ -108,18 +108,18 @@ module _ (first : Volume) (events : List Event) (e : Event) where
 
 -- each turn so far, and the last event where it is one
 pub each_turn_push : (events : List Event) (e : Event) (handle begun : ℕ) (Q : Event → Type 0) → EachTurn events handle begun Q
-    → (IsTurnOf handle e.step → Q e) → EachTurn (events ++ e ∷ []) handle begun Q
+    → (IsTurnOf handle e → Q e) → EachTurn (events ++ e ∷ []) handle begun Q
 each_turn_push events e handle begun Q each here place x later there turn =
     elim (slice_get-push events e place x there) [
       | inl old ↦ each place x later old.1 turn
-      | inr last ↦ subst Q last.1 (here (subst (λ (y : Event). IsTurnOf handle y.step) (sym last.1) turn))
+      | inr last ↦ subst Q last.1 (here (subst (λ (y : Event). IsTurnOf handle y) (sym last.1) turn))
     ]
 
 -- there is none in a call that begins with the last event
 pub each_turn_none : (events : List Event) (handle begun : ℕ) (Q : Event → Type 0) → length events ≤ begun → EachTurn events handle begun Q
 each_turn_none events handle begun Q short place x later there turn = absurd (omega (arith, short, later, slice_get_within events place x there))
 
-untouched_push : (events : List Event) (e : Event) (handle begun : ℕ) (number : Option ℕ) → ¬ (IsTurnOf handle e.step)
+untouched_push : (events : List Event) (e : Event) (handle begun : ℕ) (number : Option ℕ) → ¬ (IsTurnOf handle e)
     → IsUntouched events handle begun number → IsUntouched (events ++ e ∷ []) handle begun number
 untouched_push events e handle begun None other each = each_turn_push events e handle begun _ each (λ turn. absurd (other turn))
 untouched_push events e handle begun (Some number) other each = tt
@@ -144,13 +144,13 @@ stands_at_first first events handle begun w unchanged = record {
 }
 
 -- nothing was changed where the last event changed nothing
-pub unchanged_push : (events : List Event) (e : Event) (handle begun : ℕ) → ChangedNothing events handle begun → (IsTurnOf handle e.step → e.entry.change ≡ None)
+pub unchanged_push : (events : List Event) (e : Event) (handle begun : ℕ) → ChangedNothing events handle begun → (IsTurnOf handle e → e.entry.change ≡ None)
     → ChangedNothing (events ++ e ∷ []) handle begun
 unchanged_push events e handle begun unchanged here = each_turn_push events e handle begun (λ x. x.entry.change ≡ None) unchanged here
 
 -- what a write knows stands over an event that isn't its turn, whatever came in front of it
 pub stands_push : (first : Volume) (events : List Event) (e : Event) (handle begun own : ℕ) (w : ToWrite) (stage : WriteStage)
-    → ¬ (IsTurnOf handle e.step)
+    → ¬ (IsTurnOf handle e)
     → StandsAt first events handle begun own w stage → StandsAt first (events ++ e ∷ []) handle begun own w stage
 stands_push first events e handle begun own w stage other stands =
     record {

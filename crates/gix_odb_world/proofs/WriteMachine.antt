@@ -252,7 +252,7 @@ writing_writes = record {
 
 -- ---- an event that isn't its turn
 
-write_kept : (first : Volume) (events : List Event) (e : Event) (handle : ℕ) (running : Running) (state : WriteState) → ¬ (IsTurnOf handle e.step)
+write_kept : (first : Volume) (events : List Event) (e : Event) (handle : ℕ) (running : Running) (state : WriteState) → ¬ (IsTurnOf handle e)
     → KnowsOfWrite first events handle running state → KnowsOfWrite first (events ++ e ∷ []) handle running state
 write_kept first events e handle running (InFront refresh call) other knows =
     let same = told_kept events e handle running.begun knows.since other in

@@ -102,4 +102,4 @@ HoldsStore events handle store modes = Holds store events handle modes
 
 -- how many turns the handle took after the event that has a number
 abbrev pub turns_since : List Event → (handle number : ℕ) → ℕ
-turns_since events handle number = count_by (λ e. is_turn_of handle e.step) (drop number events)
+turns_since events handle number = count_by (is_turn_of handle) (drop number events)

@@ -25,13 +25,14 @@ use Rattle.gix_odb_world.specs.Entries.{TellsEachEntry}
 use Rattle.gix_odb_world.specs.Recorded.{opened_in}
 use Rattle.gix_odb_world.specs.Seats.{HasSeatThroughout, RegistersOwnThroughout, SnapshotsNeverFall}
 use Rattle.gix_odb_world.specs.Status.{Resting, Running, Status, Task, Working, status_of}
-use Rattle.gix_odb_world.specs.Run.{Stand, change_asked, did_asked, did_of_asked, disk_after, has_failed, stand, told_now, tree_at}
+use Rattle.gix_odb_world.specs.Run.{IsTurnOf, Stand, change_asked, did_asked, did_of_asked, disk_after, has_failed, stand, told_now, tree_at}
 use Rattle.gix_odb_world.specs.Begun.{BegunAs, HoldsStore, IsTaskOf, NoneSince, turns_since}
 use Rattle.gix_odb_world.specs.Changes.{ChangesAs, ChangesAsAsked}
 use Rattle.gix_odb_world.specs.Undisturbed.{WritesStandAlone}
 use Rattle.gix_odb_world.specs.WholeNames.{NamesStayWhole}
 use Rattle.gix_odb_world.specs.Machines.{ask_in, fed_in}
-use Rattle.gix_odb_world.specs.Valid.{why_not_after, misuse_of}
+use Rattle.gix_odb_world.specs.TwoContents.{ShowOneContent}
+use Rattle.gix_odb_world.specs.Valid.{IsReason, misuse_of}
 use Rattle.gix_odb_world.specs.Asks.{AsksAsTask}
 use Rattle.gix_odb_world.specs.Bound.{HasAtMost, bound_of_task}
 use Rattle.gix_odb_world.specs.Promise.{Promise}
@@ -93,9 +94,9 @@ asked_applied past step = OfNothing
 abbrev pub AsksAsApplied : List Event → Event → Type 0
 AsksAsApplied past e = e.outcome ≡ outcomes.Applied → e.asked ≡ asked_applied past e.step
 
--- the handle that the event turns, and what it was at
+-- the handle that the event turns, which isn't misused, and what it was at
 pub record Turns (past : List Event) (e : Event) (handle : ℕ) (running : Running) : Type 0 where
-  pub step : e.step ≡ steps.Turn handle
+  pub turn : IsTurnOf handle e
   pub status : status_of past handle ≡ Working running
 
 -- the outcome of a turn that left its work so
@@ -132,7 +133,7 @@ pub record Works (first : Volume) (past : List Event) (handle : ℕ) (running : 
 -- What an event may be after those before it.
 pub record Law (first : Volume) (past : List Event) (e : Event) : Type 0 where
   -- it is misused exactly where the step isn't valid, with the first reason
-  pub valid : misuse_of e.outcome ≡ why_not_after first past e.step
+  pub valid : IsReason first past e.step (misuse_of e.outcome)
   pub suits : Suits e.step e.outcome e.asked
   pub change : ChangesAs e.step e.outcome e.entry.change
   pub failed : FailsAsListed (disk_after first past) e.asked
@@ -186,6 +187,8 @@ pub record IsRun (first : Volume) (events : List Event) (run : Run) : Type 0 whe
   pub registers_own : RegistersOwnThroughout events
   -- a handle's snapshot is never older than an earlier one that it had from the same core
   pub snapshots : SnapshotsNeverFall events
+  -- from the first open step on that names a folder, no path of an index or of a pack there shows two contents
+  pub contents : ShowOneContent first events
   -- where the run is undisturbed, no write touches the temporary file of another, and a name that a write made stays whole
   pub alone : WritesStandAlone first events
   pub names : NamesStayWhole first events

@@ -7,6 +7,7 @@ pub mod Status
 pub mod Recorded
 pub mod Run
 pub mod Begun
+pub mod TwoContents
 pub mod Valid
 pub mod Causes
 pub mod Writing
@@ -28,5 +29,6 @@ pub mod Handle
 pub mod WorkOrder
 pub mod Made
 pub mod World
+pub mod Watch
 pub mod Table
 pub mod Played

@@ -13,13 +13,13 @@ use Rattle.odb_tree.specs.declared.disk_error.DiskError.TheVariants as disk_erro
 use Rattle.gix_odb_world.specs.Recorded.{path_recorded}
 use Rattle.gix_odb_world.specs.declared.record.Did.{Did}
 use Rattle.gix_odb_world.specs.declared.record.Did.TheVariants.{Nothing, Disk, Core}
-use Rattle.gix_odb_calls.specs.declared.step.Step.{Step}
 use Rattle.gix_odb_calls.specs.declared.step.Step.TheVariants as steps
 use Rattle.gix_odb_core.specs.History.{History, opened}
 use Rattle.gix_odb_core.specs.Replay.{number_behind}
 use Rattle.gix_odb_core.specs.declared.event.Event.TheVariants as core_events
 use Rattle.gix_odb_world.specs.Cores.{answer_behind, history_at}
 use Rattle.gix_odb_world.specs.Event.{Ask, Asked, OfNothing, OfDisk, OfCore, OfNewCore, ToCore, ToDisk, ToNewCore, Event}
+use Rattle.gix_odb_world.specs.Turned.{is_done}
 
 abbrev pub disk_after_change : Volume → Option Change → Volume
 disk_after_change disk None = disk
@@ -102,8 +102,10 @@ disk_after first events = fold disk_after_event first events
 abbrev pub tree_at : Volume → List Event → ℕ → Tree
 tree_at first events number = tree_of (disk_after first (take number events)).state
 
-abbrev pub IsTurnOf : ℕ → Step → Type 0
-IsTurnOf handle step = step ≡ steps.Turn handle
+-- an event is a turn of the handle, and no misused one
+pub record IsTurnOf (handle : ℕ) (e : Event) : Type 0 where
+  pub step : e.step ≡ steps.Turn handle
+  pub done : is_done e.outcome ≡ true
 
 abbrev pub Fails : Did → Type 0
 Fails Nothing = ⊥
@@ -120,7 +122,7 @@ NoCall (Core store entry) = Unit {0}
 pub record FailedAt (events : List Event) (handle number : ℕ) : Type 0 where
   pub event : Event
   pub there : slice_get events number ≡ Some event
-  pub turn : IsTurnOf handle event.step
+  pub turn : IsTurnOf handle event
   pub failed : Fails event.entry.did
 
 -- a call of the disk failed in a turn of the handle, after the step that began its call. (Events are numbered

@@ -1,6 +1,7 @@
 -- What a handle at work knows since its task was set. No public clause needs more of it than its name.
 pub mod Answered
 pub mod Opening
+pub mod PackedStill
 pub mod Query
 pub mod Write
 use Rattle.std.specs.Prelude.{ℕ, ◌≤◌, List, take, length}

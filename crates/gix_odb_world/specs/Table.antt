@@ -34,7 +34,8 @@ use Rattle.gix_odb_world.specs.Status.{after_reply}
 use Rattle.gix_odb_world.specs.WorkOrder.{asks_on, fed_after, fed_on, registered_on}
 use Rattle.gix_odb_world.specs.declared.course.Course.{Course}
 use Rattle.gix_odb_world.specs.World.{handle_at}
-use Rattle.gix_odb_world.specs.Valid.{Phase, NoneThere, Idle, Running, is_openable, most_folders, why_not_change, why_not_idle, why_not_open, why_not_running, why_not_clone, why_not_start}
+use Rattle.gix_odb_world.specs.Watch.{ShowsSecondBy}
+use Rattle.gix_odb_world.specs.Valid.{Phase, NoneThere, Idle, Running, is_openable, most_folders, IsFirstReason, why_not_change, why_not_idle, why_not_open, why_not_running, why_not_clone, why_not_start}
 
 abbrev pub phase_of_work : HashKind → Option Work → Phase
 phase_of_work hash None = Idle hash
@@ -49,7 +50,7 @@ phase_of_handle (Some handle) = phase_of_work handle.state.store.value.object_ha
 abbrev pub phase_now : Course → (number : ℕ) → Phase
 phase_now world number = phase_of_handle (handle_at world number)
 
--- the first reason why a step isn't valid, by the world's own table and disk
+-- the first reason why a step isn't valid, by the world's own table and disk, the rule of two contents aside
 abbrev pub why_not_now : Course → Step → Option Why
 why_not_now world (steps.Open handle path folders hash replacements options) = why_not_open (phase_now world handle) (is_openable path folders hash replacements options.max_changes)
 why_not_now world (steps.Clone handle from) = why_not_clone (phase_now world handle) (phase_now world from)
@@ -58,6 +59,26 @@ why_not_now world (steps.Ignore handle) = why_not_idle (phase_now world handle)
 why_not_now world (steps.Start handle call) = why_not_start (phase_now world handle) call
 why_not_now world (steps.Turn handle) = why_not_running (phase_now world handle)
 why_not_now world (steps.Disk change) = why_not_change world.disk change
+
+-- the change that the turn of a handle would make, by what its code asks for
+abbrev pub change_by_work : Volume → HandleState → Option Work → Option Change
+change_by_work disk state None = None
+change_by_work disk state (Some work) = change_asked disk (asks_on state work)
+
+abbrev pub change_by_handle : Volume → Option Handle → Option Change
+change_by_handle disk None = None
+change_by_handle disk (Some handle) = change_by_work disk handle.state handle.work
+
+-- the change that a step would make, by the world's own table and disk
+abbrev pub would_change_now : Course → Step → Option Change
+would_change_now world (steps.Disk change) = Some change
+would_change_now world (steps.Turn handle) = change_by_handle world.disk (handle_at world handle)
+would_change_now world step = None
+
+-- This is the first reason why a step isn't valid, or there is none, by the world's own table and disk, and by what it keeps of watched
+-- paths.
+abbrev pub IsReasonNow : Course → Step → Option Why → Type 0
+IsReasonNow world step why = IsFirstReason (why_not_now world step) (ShowsSecondBy world.shown (tree_of world.disk.state) (would_change_now world step)) why
 
 -- a handle with other work
 abbrev pub with_work : Option Work → Option Handle → Option Handle
@@ -83,6 +104,7 @@ pub record SetsHandle (old new : Course) (number : ℕ) (handle : Option Handle)
   pub table : (other : ℕ) → handle_at new other ≡ (if other == number then handle else handle_at old other)
   pub disk : new.disk ≡ old.disk
   pub cores : new.cores ≡ old.cores
+  pub shown : new.shown ≡ old.shown
   pub outcomes : new.outcomes ≡ old.outcomes
   pub records : new.records ≡ old.records
 
@@ -92,6 +114,7 @@ pub record Notes (old new : Course) (outcome : Outcome) (did : Did) (change : Op
   pub records : new.records ≡ old.records ++ record { did = did; change = change; faults = old.disk.calls.faults } ∷ []
   pub disk : new.disk ≡ old.disk
   pub cores : new.cores ≡ old.cores
+  pub shown : new.shown ≡ old.shown
   pub handles : new.handles ≡ old.handles
 
 -- a turn is settled: its handle is put back, and its outcome and its record are added

@@ -41,7 +41,7 @@ exchange_of (OfNewCore slots folders store seat answer) = None
 
 -- the same of an event, where it is a turn of the handle
 abbrev pub exchange_in : (handle : ℕ) → Event → Option Exchange
-exchange_in handle e = if is_turn_of handle e.step then exchange_of e.asked else None
+exchange_in handle e = if is_turn_of handle e then exchange_of e.asked else None
 
 -- the exchanges of the turns of a handle after the event that has a number
 unfoldable pub told_since : List Event → (handle number : ℕ) → List Exchange

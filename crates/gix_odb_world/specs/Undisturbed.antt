@@ -61,7 +61,7 @@ pub record CutsOff (before after : Tree) (path s : Path) (e : Event) : Type 0 wh
 abbrev pub IsSpared : Volume → List Event → Type 0
 IsSpared first events =
     (place : ℕ) (e : Event) (other handle made : ℕ) (path s : Path) → IsUndisturbed first events place → slice_get events place ≡ Some e
-    → IsTurnOf other e.step → other ≢ handle
+    → IsTurnOf other e → other ≢ handle
     → HasMade first events handle made path place → file_spot (tree_at first events place) path ≡ Ok s
     → LeavesAlone first events path place ⊎ CutsOff (tree_at first events place) (tree_at first events (place + 1)) path s e
 
@@ -90,7 +90,7 @@ pub record IsCutOff (first : Volume) (events : List Event) (handle made : ℕ) (
   pub there : slice_get events place ≡ Some event
   pub other : ℕ
   pub apart : other ≢ handle
-  pub turn : IsTurnOf other event.step
+  pub turn : IsTurnOf other event
   pub cuts : CutsOff (tree_at first events place) (tree_at first events (place + 1)) path stood.spot event
   pub gone : (r : Path) → file_spot (tree_at first events now) path ≢ Ok r
   pub stays : (step : ℕ) → place ≤ step → step < now → OthersLeave first events stood.spot (place + 1) (step + 1)
@@ -106,7 +106,7 @@ IsKept first events =
 abbrev pub IsAloneAtRename : Volume → List Event → Type 0
 IsAloneAtRename first events =
     (place : ℕ) (e : Event) (handle made : ℕ) (path : Path) → IsUndisturbed first events place → slice_get events place ≡ Some e
-    → IsTurnOf handle e.step → IsRename e.entry.change
+    → IsTurnOf handle e → IsRename e.entry.change
     → HasMade first events handle made path place → LeftAlone first events handle path (made + 1) place
 
 -- two writes that run at one moment have two files

@@ -1,5 +1,5 @@
 -- Which steps are valid, and the first reason why one isn't.
-use Rattle.std.specs.Prelude.{ℕ, Bool, true, false, ◌&&◌, ◌==◌, nat_le, List, ◌∷◌, length, Option, Some, None, if◌then◌else◌}
+use Rattle.std.specs.Prelude.{◌≡◌, ℕ, Bool, true, false, ◌&&◌, ◌==◌, nat_le, List, ◌∷◌, length, Option, Some, None, if◌then◌else◌}
 use Rattle.std.specs.List.{list_all}
 use Rattle.std.specs.Map.{keys_of}
 use Rattle.std.specs.Ordering.{eq_by_cmp}
@@ -19,11 +19,12 @@ use Rattle.gix_odb_calls.specs.declared.step.Step.TheVariants as steps
 use Rattle.gix_odb_calls.specs.declared.step.Outcome.{Outcome}
 use Rattle.gix_odb_calls.specs.declared.step.Outcome.TheVariants as outcomes
 use Rattle.gix_odb_calls.specs.declared.step.Why.{Why}
-use Rattle.gix_odb_calls.specs.declared.step.Why.TheVariants.{HandleTaken, BadOpen, NoHandle, NotRunning, Busy, WrongHash, ImpossibleChange}
+use Rattle.gix_odb_calls.specs.declared.step.Why.TheVariants.{HandleTaken, BadOpen, NoHandle, NotRunning, Busy, WrongHash, ImpossibleChange, TwoContents}
 use Rattle.gix_odb_world.specs.Bound.{most_changes}
 use Rattle.gix_odb_world.specs.Event.{Event}
 use Rattle.gix_odb_world.specs.Status.{Status, Free, Resting, Working, status_of}
 use Rattle.gix_odb_world.specs.Run.{disk_after}
+use Rattle.gix_odb_world.specs.TwoContents.{BreaksRule, would_change}
 
 -- what counts of a handle for validity; of an idle one the hash of its store does too
 pub data Phase : Type 0 where
@@ -104,7 +105,8 @@ why_not_change disk change = if is_possible disk.state change then None else Som
 abbrev pub phase_after : List Event → (handle : ℕ) → Phase
 phase_after events handle = phase_of (status_of events handle)
 
--- The first reason why a step isn't valid after the events of a run, or nothing where it is. Each step sees the whole history.
+-- The first reason why a step isn't valid after the events of a run, the rule of two contents aside, or nothing where there is none.
+-- Each step sees the whole history.
 abbrev pub why_not_after : Volume → List Event → Step → Option Why
 why_not_after first events (steps.Open handle path folders hash replacements options) = why_not_open (phase_after events handle) (is_openable path folders hash replacements options.max_changes)
 why_not_after first events (steps.Clone handle from) = why_not_clone (phase_after events handle) (phase_after events from)
@@ -113,6 +115,16 @@ why_not_after first events (steps.Ignore handle) = why_not_idle (phase_after eve
 why_not_after first events (steps.Start handle call) = why_not_start (phase_after events handle) call
 why_not_after first events (steps.Turn handle) = why_not_running (phase_after events handle)
 why_not_after first events (steps.Disk change) = why_not_change (disk_after first events) change
+
+-- Of a step that breaks the rule of two contents or not, and of which another reason holds or none: the rule is the last reason.
+abbrev pub IsFirstReason : (other : Option Why) → (breaks : Type 0) → Option Why → Type 0
+IsFirstReason (Some other) breaks why = why ≡ Some other
+IsFirstReason None breaks None = ¬ breaks
+IsFirstReason None breaks (Some why) = (why ≡ TwoContents) × breaks
+
+-- This is the first reason why a step isn't valid after the events of a run, or there is none and it is valid.
+abbrev pub IsReason : Volume → List Event → Step → Option Why → Type 0
+IsReason first events step why = IsFirstReason (why_not_after first events step) (BreaksRule first events (would_change first events step)) why
 
 -- the reason that an outcome gives
 abbrev pub misuse_of : Outcome → Option Why

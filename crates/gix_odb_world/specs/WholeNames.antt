@@ -26,7 +26,7 @@ pub record GivesName (events : List Event) (place : ℕ) (w : ToWrite) (to : Pat
   pub event : Event
   pub there : slice_get events place ≡ Some event
   pub handle : ℕ
-  pub turn : IsTurnOf handle event.step
+  pub turn : IsTurnOf handle event
   pub running : Running
   pub call : LooseCall
   pub at : IsAtWrite (status_of (take place events) handle) running call

@@ -1,9 +1,10 @@
 -- How the code of a world stands for a history. No public clause needs more of it than its name.
-use Rattle.std.specs.Prelude.{◌≡◌, ℕ, List, [], ◌∷◌, ◌++◌, map, Option, Some, None}
+use Rattle.std.specs.Prelude.{◌≡◌, ℕ, List, [], ◌∷◌, ◌++◌, map, length, Option, Some, None}
 use Rattle.std.specs.Ordering.{nat_cmp}
 use Rattle.std.specs.BTreeMap.{get}
 use Rattle.odb_disk.specs.MemDisk.{Volume}
 use Rattle.odb_tree.specs.Tree.{IsTree, tree_of}
+use Rattle.gix_odb_shown.specs.HasShown.{Keeps}
 use Rattle.gix_odb_calls.specs.declared.step.Step.{Step}
 use Rattle.gix_odb_calls.specs.declared.step.Outcome.{Outcome}
 use Rattle.gix_odb_world.specs.declared.handle.Handle.{Handle}
@@ -12,7 +13,8 @@ use Rattle.gix_odb_world.specs.Event.{Event}
 use Rattle.gix_odb_world.specs.Status.{Status, Free, Resting, Working, status_of}
 use Rattle.gix_odb_world.specs.Handle.{IsHandleOf}
 use Rattle.gix_odb_world.specs.Cores.{cores_after}
-use Rattle.gix_odb_world.specs.Run.{disk_after}
+use Rattle.gix_odb_world.specs.Run.{disk_after, tree_at}
+use Rattle.gix_odb_world.specs.TwoContents.{watched_after}
 use Rattle.gix_odb_world.specs.Running.{Runs, RunsThroughout}
 use Rattle.gix_odb_world.specs.Headline.{Law, IsLawful}
 
@@ -38,6 +40,8 @@ pub record Explains (first : Volume) (events : List Event) (world : Course) : Ty
   pub handles : (handle : ℕ) → Matches (status_of events handle) (handle_at world handle)
   pub running : (handle : ℕ) → Runs first events handle (status_of events handle)
   pub lawful : IsLawful first events
+  -- what is kept of the watched paths is what they have shown
+  pub watched : Keeps (tree_at first events) (watched_after events) (length events) world.shown
   -- it began with a tree, and each handle had seen what its status says after each event
   pub start : IsTree (tree_of first.state)
   pub throughout : RunsThroughout first events

@@ -60,7 +60,7 @@ name_to_write w = name_for w.known (w.hash) (head_to_write w) w.bytes
 pub record AskedAt (first : Volume) (events : List Event) (handle place : ℕ) (ask : DiskAsk) (answer : DiskAnswer) : Type 0 where
   pub event : Event
   pub there : slice_get events place ≡ Some event
-  pub turn : IsTurnOf handle event.step
+  pub turn : IsTurnOf handle event
   pub did : TellsCall (disk_after first (take place events)) ask event.entry.did
   pub asked : event.asked ≡ OfDisk ask answer
   pub given : answer ≡ answer_now (disk_after first (take place events)) ask
@@ -100,7 +100,7 @@ CauseOfWrite first events handle begun w error =
 
 -- each turn of the handle since its call began has Q
 abbrev pub EachTurn : List Event → (handle begun : ℕ) → (Event → Type 0) → Type 0
-EachTurn events handle begun Q = (place : ℕ) (e : Event) → begun ≤ place → slice_get events place ≡ Some e → IsTurnOf handle e.step → Q e
+EachTurn events handle begun Q = (place : ℕ) (e : Event) → begun ≤ place → slice_get events place ≡ Some e → IsTurnOf handle e → Q e
 
 abbrev pub IsRename : Option Change → Type 0
 IsRename (Some (Rename from to)) = Unit {0}
@@ -136,5 +136,5 @@ LeavesAlone first events path place = SameOnWay (tree_at first events place) (tr
 -- file that it leads to included.
 abbrev pub LeftAlone : Volume → List Event → (handle : ℕ) → Path → (from to : ℕ) → Type 0
 LeftAlone first events handle path from to =
-    (place : ℕ) (e : Event) → from ≤ place → place < to → slice_get events place ≡ Some e → ¬ (IsTurnOf handle e.step)
+    (place : ℕ) (e : Event) → from ≤ place → place < to → slice_get events place ≡ Some e → ¬ (IsTurnOf handle e)
     → LeavesAlone first events path place

@@ -2,30 +2,33 @@
 ghost use Rattle.std.specs.Prelude.{◌≡◌, ◌≢◌, ◌<◌, ◌^◌, ◌↔◌, IsTrue, ◌++◌, ◌∷◌, [], List, IfOk, OnOk, length, None, Some};
 ghost use Rattle.odb_disk.specs.MemDisk.{Volume};
 ghost use Rattle.gix_odb_world.specs.Event.{Event};
-ghost use Rattle.gix_odb_world.specs.Valid as reasons;
-ghost use Rattle.gix_odb_world.specs.Valid.{why_not_after, is_openable};
+ghost use Rattle.gix_odb_world.specs.Valid.{IsReason};
 ghost use Rattle.gix_odb_world.specs.Headline.{IsRun, outcome_of};
 ghost use Rattle.gix_odb_world.specs.WorkOrder.{result_in};
 ghost use Rattle.gix_odb_world.specs.World.{Continues, Explains, IsExplained, handle_at};
-ghost use Rattle.gix_odb_world.specs.Table.{HasOneMore, Notes, SetsHandle, Settles, after_turn, phase_of_handle, why_not_now};
+ghost use Rattle.gix_odb_world.specs.Table.{HasOneMore, Notes, SetsHandle, Settles, after_turn};
 
 use crate::cores::{joined, journals_of, removed};
 use crate::handle::Handle;
 use crate::opening;
 use crate::record::{Did, OutcomeList, Record, RecordList, Run};
 use crate::turn::{Carried, carried_out, settled};
+use crate::watch::{keep, watch_store};
 use crate::work::Work;
 use gix_odb::{CallState, HandleState, OpenState};
 use gix_odb_calls::{Call, IdPairs, Options, Outcome, PathList, Step, Why};
 use gix_odb_core::Core;
+use gix_odb_shown::Shown;
 use odb_base::NoMemory;
 use odb_disk::{Change, Impossible, MemDisk, PathText};
 use std::alloc::Global;
 use std::collections::BTreeMap;
 
 mod handles;
+mod reason;
 
-/// A disk, the handles on it, the cores of their stores, and what has come of the steps so far.
+/// A disk, the handles on it, the cores of their stores, what the watched paths have shown, and what has come of the steps so
+/// far.
 ///
 /// In mid-step no events need lead to it: a core has its entry before the record tells it, and a handle is taken out of the
 /// table for its turn. So what holds of a world between two steps is said of `World`, and not of this type.
@@ -34,6 +37,7 @@ pub struct Course {
     disk: MemDisk,
     handles: BTreeMap<u32, Handle>,
     cores: Vec<Core>,
+    shown: Shown,
     outcomes: OutcomeList,
     records: RecordList,
 }
@@ -49,6 +53,7 @@ impl Course {
             disk,
             handles: BTreeMap::new(alloc),
             cores: Vec::new(alloc),
+            shown: Shown::new(alloc),
             outcomes: OutcomeList::new(alloc),
             records: RecordList::new(alloc),
         }
@@ -60,6 +65,7 @@ impl Course {
     {
         self.handles = BTreeMap::new(alloc);
         self.cores = Vec::new(alloc);
+        self.shown = Shown::new(alloc);
         self.outcomes = OutcomeList::new(alloc);
         self.records = RecordList::new(alloc);
         // The proof takes from this call that the disk shows a tree, as a run's first disk does.
@@ -68,30 +74,10 @@ impl Course {
 
     /// The first reason why a step isn't valid now, or `None` where it is.
     pub fn why_not(&self, alloc: Global, step: &Step) -> Result<Option<Why>, NoMemory>
-        ensures reason { IfOk result (λ why. (first : Volume) (events : List Event) → Explains first events self.now → why ≡ why_not_after first events step.now) }
+        requires explained { IsExplained self.now }
+        ensures reason { IfOk result (λ why. (first : Volume) (events : List Event) → Explains first events self.now → IsReason first events step.now why) }
     {
-        match step {
-            Step::Open {
-                handle,
-                path,
-                folders,
-                hash,
-                replacements,
-                options,
-            } => self.why_not_open(alloc, *handle, path, folders, *hash, replacements, *options),
-            Step::Clone { handle, from } => Ok(self.why_not_clone(*handle, *from)),
-            Step::Close { handle } => Ok(self.why_not_idle(*handle)),
-            Step::Ignore { handle } => Ok(self.why_not_idle(*handle)),
-            Step::Start { handle, call } => Ok(self.why_not_start(*handle, call)),
-            Step::Turn { handle } => Ok(self.why_not_running(*handle)),
-            Step::Disk(change) => {
-                if self.disk.is_possible(alloc, change)? {
-                    Ok(None)
-                } else {
-                    Ok(Some(Why::ImpossibleChange))
-                }
-            }
-        }
+        self.first_reason(alloc, step)
     }
 
     /// The run of the steps so far. Every history that leads here is its own.
@@ -102,6 +88,7 @@ impl Course {
             disk,
             handles: _,
             cores,
+            shown: _,
             outcomes,
             records,
         } = self;
@@ -173,6 +160,7 @@ impl Course {
         replacements: &IdPairs,
         options: Options,
     ) -> Result<(), NoMemory>
+        requires explained { IsExplained self.old }
         ensures continues { OnOk result (Continues self.old (Step.Open number path.now folders.now hash replacements.now options) self.new) }
         ensures noted { OnOk result (HasOneMore self.old self.new) }
     {
@@ -182,6 +170,7 @@ impl Course {
         let Some(state) = opening::begun(alloc, path, folders, hash, replacements, options)? else {
             return self.misuse(Why::BadOpen);
         };
+        watch_store(alloc, &mut self.shown, self.disk.tree(), path, folders)?;
         let work = Some(Work::Opening(OpenState::Looking));
         self.put(number, Handle { state, work })?;
         self.note(Outcome::Applied, Did::Nothing, None)
@@ -253,6 +242,10 @@ impl Course {
         ensures continues { OnOk result (Continues self.old (Step.Turn number) self.new) }
         ensures noted { OnOk result (HasOneMore self.old self.new) }
     {
+        let revealed = match self.judged(alloc, number)? {
+            Ok(revealed) => revealed,
+            Err(why) => return self.misuse(why),
+        };
         let (state, work) = match self.take_work(number) {
             Ok(taken) => taken,
             Err(why) => return self.misuse(why),
@@ -267,6 +260,7 @@ impl Course {
             state,
             work,
         } = carried;
+        keep(&mut self.shown, revealed, &change)?;
         self.settle(number, state, work, did, change)
     }
 
@@ -294,39 +288,21 @@ impl Course {
 
     /// Makes a change that another program makes.
     fn change(&mut self, alloc: Global, change: &Change) -> Result<(), NoMemory>
+        requires explained { IsExplained self.old }
         ensures continues { OnOk result (Continues self.old (Step.Disk change.now) self.new) }
         ensures noted { OnOk result (HasOneMore self.old self.new) }
     {
+        if let Some(why) = self.why_not_change(alloc, change)? {
+            return self.misuse(why);
+        }
+        self.shown.note(alloc, self.disk.tree(), change)?;
         match self.disk.change(alloc, change) {
             Ok(()) => {
                 let made = change.try_clone(alloc)?;
                 self.note(Outcome::Applied, Did::Nothing, Some(made))
             }
-            Err(Impossible::Impossible) => self.misuse(Why::ImpossibleChange),
+            Err(Impossible::Impossible) => unreachable!("the change is possible"),
             Err(Impossible::NoMemory) => Err(NoMemory),
-        }
-    }
-
-    /// Why an open step isn't valid.
-    fn why_not_open(
-        &self,
-        alloc: Global,
-        number: u32,
-        path: &PathText,
-        folders: &PathList,
-        hash: gix_hash::Kind,
-        replacements: &IdPairs,
-        options: Options,
-    ) -> Result<Option<Why>, NoMemory>
-        ensures why { IfOk result (λ why. why ≡ reasons.why_not_open (phase_of_handle (handle_at self.now number)) (is_openable path.now folders.now hash replacements.now options.max_changes)) }
-    {
-        if let Some(why) = self.why_not_free(number) {
-            return Ok(Some(why));
-        }
-        if opening::is_good(alloc, path, folders, hash, replacements, options)? {
-            Ok(None)
-        } else {
-            Ok(Some(Why::BadOpen))
         }
     }
 

@@ -20,6 +20,7 @@ mod opening;
 mod play;
 mod record;
 mod turn;
+mod watch;
 mod work;
 mod world;
 

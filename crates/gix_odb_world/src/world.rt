@@ -4,7 +4,7 @@ ghost use Rattle.odb_disk.specs.MemDisk.{Volume};
 ghost use Rattle.gix_odb_world.specs.Event.{Event};
 ghost use Rattle.gix_odb_world.specs.Headline.{Headline, IsRun};
 ghost use Rattle.gix_odb_world.specs.Table.{HasOneMore};
-ghost use Rattle.gix_odb_world.specs.Valid.{why_not_after};
+ghost use Rattle.gix_odb_world.specs.Valid.{IsReason};
 ghost use Rattle.gix_odb_world.specs.World.{Continues, Explains, GoesOn};
 
 use crate::course::Course;
@@ -38,7 +38,7 @@ impl Model for World {
 
 /// The first reason why a step isn't valid now, or `None` where it is.
 pub fn is_valid(alloc: Global, world: &World, step: &Step) -> Result<Option<Why>, NoMemory>
-    ensures reason { IfOk result (λ why. (first : Volume) (events : List Event) → Explains first events world.now → why ≡ why_not_after first events step.now) }
+    ensures reason { IfOk result (λ why. (first : Volume) (events : List Event) → Explains first events world.now → IsReason first events step.now why) }
 {
     world.course.why_not(alloc, step)
 }

@@ -9,7 +9,7 @@ use Rattle.gix_object.specs.Kind.{kind_word}
 use Rattle.gix_odb_calls.specs.declared.step.Outcome.{Outcome}
 use Rattle.gix_odb_calls.specs.declared.step.Outcome.TheVariants as comes
 use Rattle.gix_odb_calls.specs.declared.step.Why.{Why}
-use Rattle.gix_odb_calls.specs.declared.step.Why.TheVariants.{HandleTaken, BadOpen, NoHandle, NotRunning, Busy, WrongHash, ImpossibleChange}
+use Rattle.gix_odb_calls.specs.declared.step.Why.TheVariants.{HandleTaken, BadOpen, NoHandle, NotRunning, Busy, WrongHash, ImpossibleChange, TwoContents}
 use Rattle.gix_odb_calls.specs.declared.call.Reply.{Reply}
 use Rattle.gix_odb_calls.specs.declared.call.Reply.TheVariants as replies
 use Rattle.gix_odb_calls.specs.declared.call.CallError.{CallError}
@@ -42,6 +42,7 @@ why_text NotRunning = codes "not-running"
 why_text Busy = codes "busy"
 why_text WrongHash = codes "wrong-hash"
 why_text ImpossibleChange = codes "impossible-change"
+why_text TwoContents = codes "two-contents"
 
 abbrev pub load_index_text : load_index.Error → List ℕ
 load_index_text load_index_errors.Io = codes "io"

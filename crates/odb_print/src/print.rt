@@ -270,6 +270,7 @@ fn word_of(why: Why) -> &'static [u8]
         Why::Busy => b"busy",
         Why::WrongHash => b"wrong-hash",
         Why::ImpossibleChange => b"impossible-change",
+        Why::TwoContents => b"two-contents",
     }
 }
 

@@ -21,4 +21,6 @@ pub(crate) const MISUSES: &str = "\
     open 0 /o slots=32768; turn 0|32768 slots are too many\n\
     open 0 /o slots=32767; turn 0; turn 0|pending; 32767 slots\n\
     clone 1 0; clone 1 0; close 0; test 1 E; finish 1; clone 0 1; close 1; test 0 E; turn 0|\
-    misuse HandleTaken; 4: true; true";
+    misuse HandleTaken; 4: true; true\n\
+    make /o/pack; put /o/pack/a.idx x; put /o/pack/a.idx y; put /o/pack/a.idx x; take /o/pack/a.idx; put /o/pack/a.idx y|\
+    misuse TwoContents; misuse TwoContents";

@@ -38,7 +38,7 @@ module _ (run : LawfulRun) where
     pub there : slice_get events place ≡ Some event
     pub other : ℕ
     pub apart : other ≢ handle
-    pub turn : IsTurnOf other event.step
+    pub turn : IsTurnOf other event
     pub cuts : CutsOff (tree place) (tree (place + 1)) path own.spot event
 
   pub record CutOff (handle made : ℕ) (path : Path) (now : ℕ) : Type 0 where

@@ -1,6 +1,7 @@
 -- A turn of a query: what it asks for, and what it comes to.
 use Rattle.std.proofs.Common.{◌≡◌, ℕ, ◌+◌, ◌<◌, List, [], ◌∷◌, ◌++◌, length, Option, None, Some, Ok, Err, Result, refl, sym, ◌∙◌, ap, subst, arith}
 use Rattle.std.proofs.lemmas.List.{length_push}
+use Rattle.std.proofs.Math.Seq.{take-length}
 use Rattle.odb_tree.specs.Tree.{tree_of}
 use Rattle.odb_disk.specs.MemDisk.{Volume}
 use Rattle.odb_disk.specs.Ask.{answer_now}
@@ -33,15 +34,19 @@ use Rattle.gix_odb_world.specs.AtWork.{setting_in}
 use Rattle.gix_odb_world.specs.Bound.{HasAtMost, bound_of_call}
 use Rattle.gix_odb_world.specs.Cores.{answer_behind, history_at, or_before}
 use Rattle.gix_odb_world.specs.Event.{CoreEvent, Event, OfCore, OfDisk, OfNothing, ToCore, ToDisk, answered, part_asked}
-use Rattle.gix_odb_world.specs.Headline.{stand_of}
+use Rattle.gix_odb_world.specs.Headline.{LeavesDisk, stand_of}
 use Rattle.gix_odb_world.specs.Promise.{Promise, QueryPromise}
 use Rattle.gix_odb_world.specs.Run.{FailedSince, change_by, disk_after, tree_at}
+use Rattle.gix_odb_world.specs.Running.PackedStill.{IndicesShowOne}
 use Rattle.gix_odb_world.specs.Running.Query.{IsLooking, IsToldWell, call_of, looking}
 use Rattle.gix_odb_world.specs.Status.{MakeCall, Running, Store}
 use Rattle.gix_odb_world.specs.Told.{look_begun, look_now, told_since, view_then}
 use Rattle.gix_odb_world.proofs.HistoryLemmas.{failed_before}
 use Rattle.gix_odb_world.proofs.LookPromise.{query_promise}
 use Rattle.gix_odb_world.proofs.MachineLaws.{IsRunning, IsTurnAsking, MachineComes, TakesTurn, quiet_turn, told_after}
+use Rattle.gix_odb_world.proofs.PackedStill.Moments.{indices_show_one_later, kept_without_call}
+use Rattle.gix_odb_world.proofs.PackedStill.Rule.{indices_show_one}
+use Rattle.gix_odb_world.proofs.QuietTurn.{shown_now}
 use Rattle.gix_odb_world.proofs.ToldLemmas.{asked-push, behind-push, told_none, told_turn, view_kept}
 use Rattle.gix_odb_world.proofs.ToldWell.{no_failure, told_well_later, told_well_on_core, told_well_on_disk}
 use Rattle.gix_odb_world.proofs.WriteAsk.Quiet.{change_by-quiet}
@@ -141,6 +146,14 @@ module _ (first : Volume) (events : List Event) (handle : ℕ) (running : Runnin
     abbrev whole : List Event
     whole = events ++ e ∷ []
 
+    -- where a turn leaves the tree as it was, each index still shows one content
+    rule_now : tree_at first whole (length events + 1) ≡ tree_of (disk_after first events).state → IndicesShowOne (tree_at first whole) store (length whole)
+    rule_now same =
+        let early = knows.well.opened in
+        let since = knows.since in
+        indices_show_one_later first events e store (omega (arith, early, since))
+        (same ∙ sym (ap (λ past. tree_of (disk_after first past).state) (take-length events))) (indices_show_one first events handle running ran)
+
     by_query : (call : Query) (reply : Reply)
         → QueryPromise (tree_at first whole) (FailedSince whole handle running.begun) (told_since whole handle running.begun) store running.modes running.begun (length whole) call reply
         → Promise first whole handle store running.modes running.begun (MakeCall (call_of call)) reply
@@ -161,7 +174,7 @@ module _ (first : Volume) (events : List Event) (handle : ℕ) (running : Runnin
     begins_same = ap (λ v. looks.started setting v query id) (sym (view_kept events e handle running.begun knows.since running.modes.core))
 
     module _ (told_now_is : List Exchange) (told_is : told_since whole handle running.begun ≡ told_now_is)
-        (well : IsToldWell first whole handle store running.modes running.begun) where
+        (well : IsToldWell first whole handle store running.modes running.begun) (rule : IndicesShowOne (tree_at first whole) store (length whole)) where
       -- a reply of the look-up behind what is told then
       replies : (reply : Reply) → AreAsked setting (look_begun events handle store running.modes running.begun query) told_now_is
           → result_of (behind setting (look_begun events handle store running.modes running.begun query) told_now_is) ≡ Ok reply
@@ -171,7 +184,7 @@ module _ (first : Volume) (events : List Event) (handle : ℕ) (running : Runnin
           (query_promise first whole handle store running.modes running.begun query knows.fits
           (subst (λ l. AreAsked setting l (told_since whole handle running.begun)) begins_same
           (subst (AreAsked setting (look_begun events handle store running.modes running.begun query)) (sym told_is) asked))
-          well reply
+          well rule reply
           (ap (λ l. result_of (behind setting l (told_since whole handle running.begun))) (sym begins_same)
           ∙ (ap (λ xs. result_of (behind setting (look_begun events handle store running.modes running.begun query) xs)) told_is ∙ is)))
 
@@ -186,7 +199,7 @@ module _ (first : Volume) (events : List Event) (handle : ℕ) (running : Runnin
 
     module _ (exchange : Exchange) (asked : ask_of look ≡ Some exchange.ask)
         (told_is : told_since whole handle running.begun ≡ exchanges ++ exchange ∷ [])
-        (well : IsToldWell first whole handle store running.modes running.begun) where
+        (well : IsToldWell first whole handle store running.modes running.begun) (rule : IndicesShowOne (tree_at first whole) store (length whole)) where
       abbrev fed_now : LookUp
       fed_now = fed setting look exchange.answer
 
@@ -230,6 +243,7 @@ module _ (first : Volume) (events : List Event) (handle : ℕ) (running : Runnin
           within = well.within;
           given = well.given;
           failures = well.failures;
+          fair = well.fair;
         };
       }
 
@@ -254,7 +268,7 @@ module _ (first : Volume) (events : List Event) (handle : ℕ) (running : Runnin
 
       goes : (view_now : Option View) (result : Result Reply LookUp) → result_of fed_now ≡ result
           → ComesWith view_now result
-      goes view_now (Ok reply) is = replies (exchanges ++ exchange ∷ []) told_is well reply all_asked (ap result_of (sym stands_on) ∙ is)
+      goes view_now (Ok reply) is = replies (exchanges ++ exchange ∷ []) told_is well rule reply all_asked (ap result_of (sym stands_on) ∙ is)
       goes view_now (Err next) is =
           let same : next ≡ fed_now = left_is fed_now.head fed_now.stage next is in
           subst (λ l. IsLooking first whole handle (record running { modes = record running.modes { view = view_now }; turns = running.turns + 1; work = Calling (Looking l) }) l
@@ -273,16 +287,18 @@ module _ (first : Volume) (events : List Event) (handle : ℕ) (running : Runnin
         let well = told_well_later first events e handle store running.modes running.begun same
         (failed_before events e handle running.begun (λ turn_it failed. no_failure e.entry.did turn.did failed)) knows.since knows.well in
         subst (λ r. MachineComes first events e handle running looking OfNothing r) (sym end.1)
-        (replies exchanges same well end.0 knows.asked (ap result_of (sym knows.is) ∙ end.1))
+        (replies exchanges same well (rule_now (kept_without_call first events e (subst LeavesDisk (sym turn.asked) tt) turn.change)) end.0 knows.asked (ap result_of (sym knows.is) ∙ end.1))
     comes_part (Some (parts.Disk ask)) is turn =
         let answer = answer_now (disk_after first events) ask in
         let exchange : Exchange = record { ask = parts.Disk ask; answer = told.Disk answer } in
         let more = told_turn events e handle running.begun knows.since turn.turn (OfDisk ask answer) turn.asked exchange refl in
-        goes exchange is more (told_well_on_disk first events e handle running look knows ran ask is turn) running.modes.view (result_of (fed setting look (told.Disk answer))) refl
+        goes exchange is more (told_well_on_disk first events e handle running look knows ran ask is turn)
+        (rule_now (shown_now first events e handle running knows.since ask turn (quiet ask is))) running.modes.view (result_of (fed setting look (told.Disk answer))) refl
     comes_part (Some (parts.Core event)) is turn =
         let place = stand_of events handle running in
         let answer = answer_behind (history_at place.cores place.store) place.seat event in
         let exchange : Exchange = record { ask = parts.Core event; answer = told.Core answer } in
         let more = told_turn events e handle running.begun knows.since turn.turn (OfCore place.store place.seat event answer) turn.asked exchange refl in
-        goes exchange is more (told_well_on_core first events e handle running look knows ran event is turn) (or_before (view_in answer) running.modes.view)
+        goes exchange is more (told_well_on_core first events e handle running look knows ran event is turn)
+        (rule_now (kept_without_call first events e (subst LeavesDisk (sym turn.asked) tt) turn.change)) (or_before (view_in answer) running.modes.view)
         (result_of (fed setting look (told.Core answer))) refl

@@ -84,7 +84,7 @@ module _ (run : LawfulRun) where
     keeps =
         subst (λ es. HasWritten first es gives.handle gives.running.begun (to_write gives.running.store.parts.objects gives.running.store.hash w.kind w.size w.bytes w.known) ends.0) (sym upto_is)
         ((lawful place gives.event gives.there).promise gives.handle gives.running (MakeCall (call_to_write w)) (replies.Wrote ends.0)
-        (record { step = gives.turn; status = gives.at.works }) gives.begins ends.1)
+        (record { turn = gives.turn; status = gives.at.works }) gives.begins ends.1)
 
     written : HasWritten first upto gives.handle gives.running.begun w (name_to_write w)
     written =

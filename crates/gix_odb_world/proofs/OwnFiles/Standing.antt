@@ -110,7 +110,7 @@ module _ (run : LawfulRun) where
     changed_to c is = subst (IsLeft (tree now) (tree (now + 1))) is (left_at run now e there)
 
     pub alone_push : (handle from : ℕ) (path : Path) → LeftAlone first events handle path from now
-        → (¬ (IsTurnOf handle e.step) → SameOnWay (tree now) (tree (now + 1)) true path) → LeftAlone first events handle path from (now + 1)
+        → (¬ (IsTurnOf handle e) → SameOnWay (tree now) (tree (now + 1)) true path) → LeftAlone first events handle path from (now + 1)
     alone_push handle from path alone here place x later within at other = by_place (place == now) refl
       where
         by_place : (same : Bool) → (place == now) ≡ same → SameOnWay (tree place) (tree (place + 1)) true path
@@ -118,7 +118,7 @@ module _ (run : LawfulRun) where
         by_place true same =
             let is : now ≡ place = sym (eqb-true place now same) in
             let one : x ≡ e = one_event events now x e (ap (slice_get events) is ∙ at) there in
-            subst (λ n. SameOnWay (tree n) (tree (n + 1)) true path) is (here (λ turn. other (subst (λ (y : Event). IsTurnOf handle y.step) (sym one) turn)))
+            subst (λ n. SameOnWay (tree n) (tree (n + 1)) true path) is (here (λ turn. other (subst (λ (y : Event). IsTurnOf handle y) (sym one) turn)))
 
     -- a write that runs after the event, and has made its file before it, ran before it
     pub made_before : (handle made : ℕ) (path : Path) → HasMade first events handle made path (now + 1) → made < now
@@ -202,7 +202,7 @@ module _ (run : LawfulRun) where
     pub record CutNow (handle made : ℕ) (path : Path) (hm : HasMade first events handle made path now) (s : Path) : Type 0 where
       pub other : ℕ
       pub apart : other ≢ handle
-      pub turn : IsTurnOf other e.step
+      pub turn : IsTurnOf other e
       pub cut : Cut NotTemporary (tree (now + 1)) hm.running.store.parts.objects
       pub cuts : CutsOff (tree now) (tree (now + 1)) path s e
 

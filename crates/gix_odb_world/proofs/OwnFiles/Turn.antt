@@ -42,13 +42,13 @@ module _ (run : LawfulRun) where
   tree = tree_at first events
 
   module _ (now : ℕ) (e : Event) (there : slice_get events now ≡ Some e) where
-    module _ (handle made : ℕ) (path : Path) (hm : HasMade first events handle made path now) (turn : IsTurnOf handle e.step) where
+    module _ (handle made : ℕ) (path : Path) (hm : HasMade first events handle made path now) (turn : IsTurnOf handle e) where
       writes : IsWriting first (take now events) handle hm.running hm.call
       writes = writing_at run now handle hm.running hm.call (within_events run now e there) hm.at
 
       works : CallsDisk first (take now events) handle hm.running e
       works =
-          write_calls first (take now events) handle hm.running e ((lawful now e there).worked handle hm.running (record { step = turn; status = hm.at.works }))
+          write_calls first (take now events) handle hm.running e ((lawful now e there).worked handle hm.running (record { turn = turn; status = hm.at.works }))
           hm.call hm.at.writes writes
 
       own_moves : (c : Change) → e.entry.change ≡ Some c → WriterMoves (tree now) hm.running.store.parts.objects writes.stage c
@@ -87,7 +87,7 @@ module _ (run : LawfulRun) where
               let ends = removing_ends writes.write number refusal answer in
               let done : result_of_write (loose_order.fed hm.call answer) ≡ Ok ends.0 = ap (λ f. result_of_write (loose_order.fed f answer)) same ∙ ends.1 in
               let outcome : e.outcome ≡ outcomes.Reply ends.0 = works.goes ∙ ap outcome_of (ends_as_write hm.running.store hm.running.work hm.call answer ends.0 hm.at.writes done) in
-              no_write_after after.running.store after.running.begun (now + 1) e.step e.outcome e.asked (status_of (take now events)) handle ends.0 turn outcome
+              no_write_after after.running.store after.running.begun (now + 1) e.step e.outcome e.asked (status_of (take now events)) handle ends.0 turn.step outcome
               (at_write_next run now e there handle after.running after.call after.at)
 
           own_by : (c : Change) → e.entry.change ≡ Some c → OwnSpot (changed (tree now) c) path o.spot

@@ -133,7 +133,7 @@ module _ (run : LawfulRun) where
   -- a turn of a write changed the tree
   pub record ByWriter (place : ℕ) (e : Event) : Type 0 where
     pub handle : ℕ
-    pub turn : IsTurnOf handle e.step
+    pub turn : IsTurnOf handle e
     pub running : Running
     pub call : LooseCall
     pub at : IsAtWrite (status_of (take place events) handle) running call
@@ -180,7 +180,7 @@ module _ (run : LawfulRun) where
           let writes : IsWriting first past t.handle t.running call = knows_write first past t.handle t.running t.running.work knows call write in
           inr (record {
             handle = t.handle;
-            turn = t.turn.step;
+            turn = t.turn.turn;
             running = t.running;
             call = call;
             at = record { works = t.turn.status; writes = write };
@@ -196,7 +196,7 @@ module _ (run : LawfulRun) where
 
   -- a turn of a write that renames is its last, and says that the object is written
   pub rename_ends : (place : ℕ) (e : Event) → slice_get events place ≡ Some e → (handle : ℕ) (running : Running) (call : LooseCall)
-      → IsAtWrite (status_of (take place events) handle) running call → IsTurnOf handle e.step → (from to : Path)
+      → IsAtWrite (status_of (take place events) handle) running call → IsTurnOf handle e → (from to : Path)
       → e.entry.change ≡ Some (Rename from to) → (id : ObjectId) × (e.outcome ≡ outcomes.Reply (replies.Wrote id))
   rename_ends place e there handle running call at turn from to moves = by_stage writes.stage refl (moves_of place e handle running call at.writes writes works (Rename from to) moves)
     where
@@ -208,7 +208,7 @@ module _ (run : LawfulRun) where
 
       works : CallsDisk first (take place events) handle running e
       works =
-          write_calls first (take place events) handle running e ((lawful place e there).worked handle running (record { step = turn; status = at.works }))
+          write_calls first (take place events) handle running e ((lawful place e there).worked handle running (record { turn = turn; status = at.works }))
           call at.writes writes
 
       by_stage : (stage : WriteStage) → writes.stage ≡ stage → WriterMoves (tree place) objects stage (Rename from to)

@@ -1,5 +1,6 @@
 -- The law of an event that is no turn, or is misused: it makes no call of the disk.
-use Rattle.std.proofs.Common.{◌≡◌, ◌≢◌, ℕ, List, None, Option, refl, sym, ◌∙◌, ap, subst}
+use Rattle.std.proofs.Common.{◌≡◌, ◌≢◌, ℕ, true, List, None, Option, refl, sym, ◌∙◌, ap, subst}
+use Rattle.std.proofs.lemmas.Bool.{false≢true}
 use Rattle.odb_disk.specs.MemDisk.{Volume}
 use Rattle.odb_tree.specs.declared.change.Change.{Change}
 use Rattle.gix_odb_calls.specs.declared.step.Step.{Step}
@@ -12,7 +13,8 @@ use Rattle.gix_odb_world.specs.declared.record.Did.TheVariants.{Nothing}
 use Rattle.gix_odb_world.specs.Cores.{cores_after}
 use Rattle.gix_odb_world.specs.Event.{Asked, OfCore, OfDisk, OfNewCore, OfNothing, Event}
 use Rattle.gix_odb_world.specs.Run.{did_of_asked, disk_after, disk_after_asked, disk_after_change}
-use Rattle.gix_odb_world.specs.Valid.{misuse_of, phase_of, why_not_after, why_not_running}
+use Rattle.gix_odb_world.specs.Turned.{is_done}
+use Rattle.gix_odb_world.specs.Valid.{IsReason, misuse_of}
 use Rattle.gix_odb_world.specs.Headline.{FailsAsListed, Law, LeavesDisk, Suits, asked_applied}
 use Rattle.gix_odb_world.specs.Changes.{ChangesAs}
 use Rattle.gix_odb_world.proofs.HistoryLemmas.{disk_after-push}
@@ -27,12 +29,12 @@ abbrev pub quiet : Step → Outcome → Option Change → ℕ → Event
 quiet step outcome change faults = apart step outcome Nothing change faults OfNothing
 
 -- a turn that is no misuse gives a reply, or its call goes on
-no_quiet_turn : (handle : ℕ) (outcome : Outcome) (asked : Asked) → Suits (steps.Turn handle) outcome asked → misuse_of outcome ≡ None
+no_quiet_turn : (handle : ℕ) (outcome : Outcome) (asked : Asked) → Suits (steps.Turn handle) outcome asked → is_done outcome ≡ true
     → ((reply : Reply) → outcome ≢ outcomes.Reply reply) → outcome ≢ outcomes.Pending → ⊥
-no_quiet_turn handle outcomes.Applied asked suits valid no_reply not_pending = suits.0 tt
-no_quiet_turn handle outcomes.Pending asked suits valid no_reply not_pending = not_pending refl
-no_quiet_turn handle (outcomes.Reply reply) asked suits valid no_reply not_pending = no_reply reply refl
-no_quiet_turn handle (outcomes.Misuse why) asked suits valid no_reply not_pending = cc
+no_quiet_turn handle outcomes.Applied asked suits done no_reply not_pending = suits.0 tt
+no_quiet_turn handle outcomes.Pending asked suits done no_reply not_pending = not_pending refl
+no_quiet_turn handle (outcomes.Reply reply) asked suits done no_reply not_pending = no_reply reply refl
+no_quiet_turn handle (outcomes.Misuse why) asked suits done no_reply not_pending = false≢true done
 
 -- without a call of the disk the change of the record alone takes it on, and no call failed
 pub left_alone : (disk : Volume) (asked : Asked) (change : Option Change) → LeavesDisk asked → disk_after_asked disk asked change ≡ disk_after_change disk change
@@ -49,7 +51,7 @@ none_fails disk (OfNewCore slots folders store seat answer) leaves = tt
 
 -- it is lawful where it is no reply, and no call goes on
 pub law_apart : (first : Volume) (past : List Event) (step : Step) (outcome : Outcome) (did : Did) (change : Option Change) (faults : ℕ) (asked : Asked)
-    → misuse_of outcome ≡ why_not_after first past step → Suits step outcome asked → LeavesDisk asked → ChangesAs step outcome change
+    → IsReason first past step (misuse_of outcome) → Suits step outcome asked → LeavesDisk asked → ChangesAs step outcome change
     → faults ≡ (disk_after_change (disk_after first past) change).calls.faults → ((reply : Reply) → outcome ≢ outcomes.Reply reply)
     → outcome ≢ outcomes.Pending → did ≡ did_of_asked None (cores_after past) asked → (outcome ≡ outcomes.Applied → asked ≡ asked_applied past step)
     → Law first past (apart step outcome did change faults asked)
@@ -65,9 +67,7 @@ law_apart first past step outcome did change faults asked valid suits leaves mad
       did = (None, tells);
       applied = asks;
       worked = λ handle running turn.
-          let valid_turn : misuse_of outcome ≡ None =
-          subst (λ s. misuse_of outcome ≡ why_not_after first past s) turn.step valid ∙ ap (λ s. why_not_running (phase_of s)) turn.status in
-          absurd (no_quiet_turn handle outcome asked (subst (λ s. Suits s outcome asked) turn.step suits) valid_turn no_reply not_pending);
+          absurd (no_quiet_turn handle outcome asked (subst (λ s. Suits s outcome asked) turn.turn.step suits) turn.turn.done no_reply not_pending);
       promise = λ handle running task reply turn began is. absurd (no_reply reply is);
       in_time = λ handle running task entries turn began is most. absurd (not_pending is);
     }

@@ -50,6 +50,7 @@ use Rattle.gix_odb_world.proofs.RunSteps.{at_work, turn_step}
 use Rattle.gix_odb_world.proofs.Stock.OneCore.{ShownSince}
 use Rattle.gix_odb_world.proofs.Stock.Owned.{AreStocked, Owns, OwnsAt}
 use Rattle.gix_odb_world.proofs.Stock.Step.Grown.{GrowsTo, grown_core, grown_new, grown_same}
+use Rattle.gix_odb_world.proofs.ValidLaws.{done_if_sound, valid_if_sound}
 
 -- the last of a list
 last_is : {A : Type 0} (xs : List A) (x : A) (o : Option A) → last_or o (xs ++ x ∷ []) ≡ Some x
@@ -344,12 +345,12 @@ module _ (first : Volume) (past : List Event) (e : Event) (lawful : IsLawful fir
       → (number : ℕ) × (e.step ≡ steps.Turn number) × (running : Running) × (table number ≡ Working running) × Works first past number running e
   turn_of turn sound =
       let t = turn_step e.step turn in
-      let valid = sym sound ∙ (law.valid ∙ ap (why_not_after first past) t.1) in
+      let valid = valid_if_sound first past e law sound ∙ ap (why_not_after first past) t.1 in
       let a = at_work (table t.0) valid in
-      (t.0, t.1, a.0, a.1, law.worked t.0 a.0 (record { step = t.1; status = a.1 }))
+      (t.0, t.1, a.0, a.1, law.worked t.0 a.0 (record { turn = record { step = t.1; done = done_if_sound e.outcome sound }; status = a.1 }))
 
   by_outcome : (outcome : Outcome) → e.outcome ≡ outcome → Suits e.step outcome e.asked → AreStocked first now
-  by_outcome outcomes.Applied out suits = applied e.step refl out (law.applied out) (sym (ap misuse_of out) ∙ law.valid)
+  by_outcome outcomes.Applied out suits = applied e.step refl out (law.applied out) (valid_if_sound first past e law (ap misuse_of out))
   by_outcome outcomes.Pending out suits = let t = turn_of suits.0 (ap misuse_of out) in pending t.0 t.2 t.1 t.3 t.4 out
   by_outcome (outcomes.Reply reply) out suits = let t = turn_of suits (ap misuse_of out) in replying t.0 t.2 t.1 t.3 t.4 reply out
   by_outcome (outcomes.Misuse why) out suits =

@@ -2,7 +2,6 @@
 use Rattle.std.proofs.Common.{◌≡◌, ◌≢◌, ◌⊎◌, ℕ, ◌+◌, ◌≤◌, Bool, true, false, List, [], ◌∷◌, ◌++◌, length, Contains, Option, Some, None, inl, inr, refl, sym, ◌∙◌, ap, subst, arith}
 use Rattle.std.specs.Prelude.{◌==◌, if◌then◌else◌}
 use Rattle.std.specs.List.{cons_option}
-use Rattle.std.proofs.lemmas.Bool.{eqb-true, eqb-false}
 use Rattle.std.proofs.lemmas.List.{append-nil, length_push}
 use Rattle.std.proofs.Math.Seq.{take-length}
 use Rattle.odb_base.specs.Path.{Path}
@@ -39,21 +38,7 @@ use Rattle.gix_odb_world.proofs.HistoryLemmas.{disk_after-push, tree_at-before}
 use Rattle.gix_odb_world.proofs.RunSteps.{IsTurned, Kind, Made, Quiet, Turned, kind_of}
 use Rattle.gix_odb_world.proofs.Streams.Apart.{AreOpen, AsksOwn, asks_own}
 use Rattle.gix_odb_world.proofs.Streams.OneEvent.{Goes, LeavesStream, StandsOpen, WasAt, goes, kept_open}
-use Rattle.gix_odb_world.proofs.ToldLemmas.{told_by, told_first, told_kept, told_turn}
-
--- a step is a turn of a handle, or isn't
-turn_or_not : (handle : ℕ) (step : Step) → IsTurnOf handle step ⊎ ¬ (IsTurnOf handle step)
-turn_or_not handle (steps.Turn other) = by (handle == other) refl
-  where
-    by : (b : Bool) → (handle == other) ≡ b → IsTurnOf handle (steps.Turn other) ⊎ ¬ (IsTurnOf handle (steps.Turn other))
-    by true is = inl (ap steps.Turn (sym (eqb-true handle other is)))
-    by false is = inr (λ same. let numbers : other ≡ handle = cc same in eqb-false handle other is (sym numbers))
-turn_or_not handle (steps.Open other path folders hash replacements options) = inr (λ same. cc same)
-turn_or_not handle (steps.Clone other from) = inr (λ same. cc same)
-turn_or_not handle (steps.Close other) = inr (λ same. cc same)
-turn_or_not handle (steps.Ignore other) = inr (λ same. cc same)
-turn_or_not handle (steps.Start other call) = inr (λ same. cc same)
-turn_or_not handle (steps.Disk change) = inr (λ same. cc same)
+use Rattle.gix_odb_world.proofs.ToldLemmas.{told_by, told_first, told_kept, told_turn, turn_or_not}
 
 -- what leaves the disk is on no stream
 leaves_stream : (dir : ℕ) (asked : Asked) → LeavesDisk asked → LeavesStream dir asked
@@ -103,7 +88,7 @@ module _ (first : Volume) (past : List Event) (e : Event) (law : Law first past 
     -- it stays where the event leaves the disk
     left_stream : LeavesDisk e.asked → stream_in (told_since now handle begun) ≡ old
     left_stream leaves =
-        streamed_by (exchange_in handle e) (told_by past e handle begun since (exchange_in handle e) refl) ∙ kept_by (is_turn_of handle e.step) e.asked leaves
+        streamed_by (exchange_in handle e) (told_by past e handle begun since (exchange_in handle e) refl) ∙ kept_by (is_turn_of handle e) e.asked leaves
 
   -- ---- the stream of one handle
 
@@ -117,7 +102,7 @@ module _ (first : Volume) (past : List Event) (e : Event) (law : Law first past 
 
   -- or was opened in it, by the turn of the handle
   record OpenedNow (handle dir : ℕ) : Type 0 where
-    turn : IsTurnOf handle e.step
+    turn : IsTurnOf handle e
     path : Path
     opened : answer_now disk (asks.OpenDir path) ≡ answers.Dir dir
 
@@ -141,7 +126,7 @@ module _ (first : Volume) (past : List Event) (e : Event) (law : Law first past 
     }
 
     -- the turn of another handle isn't on it
-    other_turn : ¬ (IsTurnOf handle e.step) → had ≡ Some stream → IsTurned first past e → LeavesStream stream.dir e.asked
+    other_turn : ¬ (IsTurnOf handle e) → had ≡ Some stream → IsTurned first past e → LeavesStream stream.dir e.asked
     other_turn other is t = subst (LeavesStream stream.dir) (sym t.works.told) on_other
       where
         own : AsksOwn past t.handle t.running t.works.ask
@@ -150,10 +135,10 @@ module _ (first : Volume) (past : List Event) (e : Event) (law : Law first past 
         on_other : ¬ (IsOnStream stream.dir t.works.ask)
         on_other on =
             let two = own.on stream.dir on in
-            before.apart handle t.handle at.was t.running (λ same. other (t.turn.step ∙ ap steps.Turn (sym same))) at.status t.turn.status stream two.0 is two.1
+            before.apart handle t.handle at.was t.running (λ same. other (subst (λ h. IsTurnOf h e) (sym same) t.turn.turn)) at.status t.turn.status stream two.0 is two.1
             (sym two.2)
 
-    untold : ¬ (IsTurnOf handle e.step) → stream_in (told_since now handle at.was.begun) ≡ Some stream → Stays handle running stream
+    untold : ¬ (IsTurnOf handle e) → stream_in (told_since now handle at.was.begun) ≡ Some stream → Stays handle running stream
     untold other is = by (kind_of first past e law)
       where
         same : had ≡ Some stream
@@ -166,7 +151,7 @@ module _ (first : Volume) (past : List Event) (e : Event) (law : Law first past 
 
     -- ---- its own call of the disk
 
-    module _ (turn : IsTurnOf handle e.step) (calls : CallsDisk first past handle at.was e) where
+    module _ (turn : IsTurnOf handle e) (calls : CallsDisk first past handle at.was e) where
       own_call : AsksOwn past handle at.was calls.ask
       own_call = asks_own first past handle at.was at.was.work (knows_at handle at.was at.status).1 calls.ask calls.asks
 
@@ -282,7 +267,7 @@ module _ (first : Volume) (past : List Event) (e : Event) (law : Law first past 
           ∙ stream_in-push (told_since past handle at.was.begun) exchange
 
     stays_on : stream_in (told_since now handle at.was.begun) ≡ Some stream → Stays handle running stream
-    stays_on is = elim (turn_or_not handle e.step) [
+    stays_on is = elim (turn_or_not handle e) [
       | inl turn ↦ elim (called_or_quiet first past handle at.was e (law.worked handle at.was (record { step = turn; status = at.status }))) [
         | inl calls ↦ by_ask turn calls calls.ask refl (sym (stream_then turn calls) ∙ is)
         | inr quiet ↦
@@ -319,7 +304,7 @@ module _ (first : Volume) (past : List Event) (e : Event) (law : Law first past 
       let s = before.stands handle had.was had.status had.old had.is in
       new_stream_is_another disk new.path two new.opened had.old.dir s.coming s.is.now (sym same ∙ sym had.number)
   differ handle other one two apart (inr new) (inr further) same =
-      let turns : steps.Turn handle ≡ steps.Turn other = sym new.turn ∙ further.turn in apart (cc turns)
+      let turns : steps.Turn handle ≡ steps.Turn other = sym new.turn.step ∙ further.turn.step in apart (cc turns)
 
   pub open_on : AreOpen first now
   open_on = record {

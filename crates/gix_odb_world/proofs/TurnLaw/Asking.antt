@@ -54,7 +54,7 @@ no_call : (opened : Option Path) (at : Stand) (disk : Volume) (ask : Option Ask)
     → NoCall did
 no_call opened at disk ask did is none = subst NoCall (sym is) none
 
-pub turn_asking : (first : Volume) (events : List Event) (e : Event) (handle : ℕ) (running : Running) (opened : Option Path) (ask : Option Ask) → IsTurnOf handle e.step
+pub turn_asking : (first : Volume) (events : List Event) (e : Event) (handle : ℕ) (running : Running) (opened : Option Path) (ask : Option Ask) → IsTurnOf handle e
     → e.entry.did ≡ did_asked opened (stand_of events handle running) (disk_after first events) ask
     → e.asked ≡ told_now (stand_of events handle running) (disk_after first events) ask
     → e.entry.change ≡ change_asked (disk_after first events) ask → IsTree (tree_of (disk_after first events).state)

@@ -105,7 +105,7 @@ module _ (first : Volume) (events : List Event) (handle : ℕ) (running : Runnin
     -- a turn in which it was told something, and which changed nothing
     module _ (exchange : Exchange) (asked_it : refreshes.ask_of refresh ≡ Some exchange.ask)
         (told_is : told_since whole handle running.begun ≡ exchanges ++ exchange ∷ [])
-        (well : IsAnsweredWell first whole handle store running.begun) (nothing : IsTurnOf handle e.step → e.entry.change ≡ None) where
+        (well : IsAnsweredWell first whole handle store running.begun) (nothing : IsTurnOf handle e → e.entry.change ≡ None) where
       abbrev next : Refresh
       next = refreshes.fed store.parts.objects store.parts.folders refresh exchange.answer
 

@@ -50,7 +50,7 @@ made_before_removal head Named Counted number refusals.NoMemory past at stopped 
 
 -- the last event is a turn of the handle that made this call of the disk
 pub record IsTurnWith (first : Volume) (events : List Event) (e : Event) (handle : ℕ) (ask : DiskAsk) : Type 0 where
-  pub turn : IsTurnOf handle e.step
+  pub turn : IsTurnOf handle e
   pub did : TellsCall (disk_after first events) ask e.entry.did
   pub asked : e.asked ≡ OfDisk ask (answer_now (disk_after first events) ask)
   pub change : e.entry.change ≡ change_by (disk_after first events) ask

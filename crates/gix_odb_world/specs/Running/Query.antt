@@ -7,12 +7,14 @@ use Rattle.odb_disk.specs.declared.ask.DiskAnswer.{DiskAnswer}
 use Rattle.odb_disk.specs.declared.ask.DiskAsk.{DiskAsk}
 use Rattle.odb_tree.specs.Tree.{tree_of}
 use Rattle.gix_hash.specs.ObjectId.{kind_of}
+use Rattle.gix_hash.specs.declared.object_id.ObjectId.{ObjectId}
 use Rattle.gix_odb_calls.specs.declared.query.Query.{Query}
 use Rattle.gix_odb_core.specs.History.{present}
 use Rattle.gix_odb_packs.specs.declared.answer.Answer.TheVariants as told
 use Rattle.gix_odb_packs.specs.declared.answer.PartAsk.TheVariants as asks
 use Rattle.gix_odb_slots.specs.Slots.{same_path}
 use Rattle.gix_odb_looks.specs.Exchange.{AreAnswered, AreAsked, Exchange, HasFailed, WasTold}
+use Rattle.gix_odb_looks.specs.Fair.{AreFair, PackedPlace}
 use Rattle.gix_odb_looks.specs.Laps.{AreNumbered, AreWithin, number_by}
 use Rattle.gix_odb_looks.specs.LookUpOrder as looks
 use Rattle.gix_odb_looks.specs.Shown.{IsShownView}
@@ -28,6 +30,7 @@ use Rattle.gix_odb_world.specs.Cores.{cores_after, history_at}
 use Rattle.gix_odb_world.specs.Event.{Event, part_asked}
 use Rattle.gix_odb_world.specs.Machine.{Machine, by_part}
 use Rattle.gix_odb_world.specs.Run.{FailedSince, tree_at}
+use Rattle.gix_odb_world.specs.Running.PackedStill.{IsPackedStill}
 pub use Rattle.gix_odb_world.specs.Told.{call_of}
 use Rattle.gix_odb_world.specs.Told.{look_begun, look_now, told_since, view_then}
 
@@ -48,7 +51,7 @@ abbrev pub number_after : (before : ℕ) → List Exchange → ℕ
 number_after before [] = before
 number_after before (exchange ∷ exchanges) = number_after (number_by before exchange.answer) exchanges
 
--- all that its handle was told since it began is true of the run
+-- All that its handle was told since it began is true of the run; and where none of it failed, it is fair to what lay still in a pack throughout.
 pub record IsToldWell (first : Volume) (events : List Event) (handle : ℕ) (store : Store) (modes : Modes) (begun : ℕ) : Type 0 where
   pub opened : store.opened ≤ begun
   pub snapshot : IsShownView (WasShownAt (tree_at first events) store.opened (length events)) (setting_in store) store.hash (view_then events handle modes.core begun)
@@ -62,6 +65,8 @@ pub record IsToldWell (first : Volume) (events : List Event) (handle : ℕ) (sto
   pub given : (ask : DiskAsk) (answer : DiskAnswer) → WasTold (told_since events handle begun) (asks.Disk ask) (told.Disk answer)
       → IsGiven first events handle begun ask answer
   pub failures : FailedSince events handle begun → HasFailed (told_since events handle begun)
+  pub fair : (id : ObjectId) (place : PackedPlace) → ¬ (FailedSince events handle begun)
+      → IsPackedStill (tree_at first events) store begun (length events) id place → AreFair store.hash id place [] (told_since events handle begun)
 
 -- ---- what it knows
 

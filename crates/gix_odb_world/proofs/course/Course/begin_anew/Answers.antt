@@ -7,7 +7,8 @@ returns c = record {
     disk = c.args.self.now.disk;
     handles = c.new.result;
     cores = c.new-2.result;
-    outcomes = c.new-3.result;
-    records = c.new-4.result;
-  } c.tree.ensures.is_tree c.new.ensures.empty c.new-2.ensures.items c.new-3.ensures.empty c.new-4.ensures.empty;
+    shown = c.new-3.result;
+    outcomes = c.new-4.result;
+    records = c.new-5.result;
+  } c.tree.ensures.is_tree c.new.ensures.empty c.new-2.ensures.items c.new-3.ensures.empty c.new-4.ensures.empty c.new-5.ensures.empty;
 }

@@ -1,12 +1,15 @@
-use Rattle.std.proofs.Common.{◌≡◌, false, true, sym}
+use Rattle.std.proofs.Common.{◌≡◌, ◌∷◌, false, true, sym, subst}
 use Rattle.std.proofs.lemmas.Result.{on_ok_weaker}
 use Rattle.gix_odb_calls.specs.declared.step.Step.TheVariants as steps
 use Rattle.gix_odb_calls.specs.declared.step.Why.TheVariants.{BadOpen}
+use Rattle.gix_odb_shown.specs.Kept.{Fits}
 use Rattle.gix_odb_world.specs.Handle.{IsOpened}
 use Rattle.gix_odb_world.specs.Table.{phase_of_handle}
 use Rattle.gix_odb_world.specs.Valid.{is_openable}
+use Rattle.gix_odb_world.specs.Watch.{Watches}
 use Rattle.gix_odb_world.specs.World.{handle_at}
 use Rattle.gix_odb_world.proofs.DistinctLemmas.{none_of, some_of}
+use Rattle.gix_odb_world.proofs.FitsLemmas.{fits_now}
 use Rattle.gix_odb_world.proofs.StepLemmas.{misused}
 use Rattle.gix_odb_world.proofs.HandleLemmas.{opened, bad_open, taken}
 use Rattle.gix_odb_world.proofs.course.Course.open.Goals as goal
@@ -39,5 +42,10 @@ returns-clause-continues c =
     (λ state. (is_openable c.args.path.now c.args.folders.now c.args.hash c.args.replacements.now c.args.options.max_changes ≡ true)
     × IsOpened c.args.path.now c.args.folders.now c.args.hash c.args.replacements.now c.args.options state) c.in-Some-2.state c.in_ok-state.ensures.begun c.in-Some-2.is in
     on_ok_weaker c.note.result
-    (opened c.args.self.now c.put.new.self c.note.new.self c.args.number c.args.path.now c.args.folders.now c.args.hash c.args.replacements.now c.args.options c.in-Some-2.state
-    (sym c.in_default.ensures.why) good.0 good.1 c.in_ok-put.ensures.sets) c.note.ensures.notes
+    (opened c.args.self.now c.put.new.self c.note.new.self c.watch_store.new.shown c.args.number c.args.path.now c.args.folders.now c.args.hash c.args.replacements.now c.args.options c.in-Some-2.state
+    (sym c.in_default.ensures.why) good.0 good.1 (subst (λ t. Watches c.args.self.now.shown c.watch_store.new.shown t (c.args.path.now ∷ c.args.folders.now)) c.tree.ensures.shown c.in_ok-watch_store.ensures.watches)
+    c.in_ok-put.ensures.sets) c.note.ensures.notes
+
+-- what is kept fits the disk
+pub watch_store-requires : goal.watch_store-requires
+watch_store-requires c = record { fits = subst (Fits c.args.self.now.shown) (sym c.tree.ensures.shown) (fits_now c.args.self.now c.requires.explained) }

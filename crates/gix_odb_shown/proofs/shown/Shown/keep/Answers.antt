@@ -1,0 +1,20 @@
+use Rattle.std.specs.FinSet as set
+use Rattle.std.proofs.lemmas.Result.{on_ok_weaker}
+use Rattle.gix_odb_shown.proofs.KeptLemmas.{keep_fits, keep_notes}
+use Rattle.gix_odb_shown.proofs.shown.Shown.keep.Goals as goal
+
+pub returns-clause-notes : goal.returns-clause-notes
+returns-clause-notes c =
+    on_ok_weaker c.keep_all.result
+    (λ kept before after fits is.
+    keep_notes c.args.self.now before after fits c.args.revealed.files.items is.reveals (set.from_list c.self.inside.folders.keys) c.self.inside.contents c.keep_all.new.self
+    c.self.inside.plain c.args.revealed.plain c.self.view_is kept)
+    c.keep_all.ensures.kept
+
+pub returns-clause-fits : goal.returns-clause-fits
+returns-clause-fits c =
+    on_ok_weaker c.keep_all.result
+    (λ kept before after fits is first.
+    keep_fits c.args.self.now before after fits c.args.revealed.files.items is.reveals (set.from_list c.self.inside.folders.keys) c.self.inside.contents c.keep_all.new.self
+    c.self.inside.plain c.args.revealed.plain c.self.view_is first is.plain kept)
+    c.keep_all.ensures.kept

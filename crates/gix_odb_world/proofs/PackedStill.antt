@@ -1,0 +1,104 @@
+-- While an object lies still in a pack, what a query is told is fair to it.
+pub mod Directory
+pub mod Answers
+pub mod Moments
+pub mod Contents
+pub mod Rule
+use Rattle.std.proofs.Common.{◌≡◌, ℕ, ◌≤◌, false, List, [], ◌∷◌, ◌++◌, length, Ok, sym, ap, ◌∙◌, subst, append-nil, append_assoc, arith}
+use Rattle.std.proofs.lemmas.Bool.{false_from_ne_true}
+use Rattle.odb_base.specs.Path.{Path}
+use Rattle.odb_tree.specs.Entries.{opened}
+use Rattle.odb_tree.specs.Tree.{tree_of}
+use Rattle.odb_tree.specs.Tree.Follow.{looked}
+use Rattle.odb_tree.specs.declared.entry.Entry.{Entry}
+use Rattle.odb_disk.specs.Ask.{answer_now, fails_now}
+use Rattle.odb_disk.specs.MemDisk.{Volume}
+use Rattle.odb_disk.specs.declared.ask.DiskAsk.{DiskAsk}
+use Rattle.odb_disk.specs.declared.ask.DiskAsk.TheVariants as asks
+use Rattle.gix_hash.specs.declared.kind.Kind.{Kind}
+use Rattle.gix_hash.specs.declared.object_id.ObjectId.{ObjectId}
+use Rattle.gix_odb_packs.specs.PackFolder.{pack_folder}
+use Rattle.gix_odb_packs.specs.declared.answer.Answer.TheVariants as told
+use Rattle.gix_odb_packs.specs.declared.answer.PartAsk.TheVariants as parts
+use Rattle.gix_odb_looks.specs.Exchange.{Exchange}
+use Rattle.gix_odb_looks.specs.Fair.{AreFair, IsDiskFair, IsFair, PackedPlace}
+use Rattle.gix_odb_looks.specs.OpenStream.{ListsFile}
+use Rattle.gix_odb_looks.proofs.HandedLaws.{IsOwnStream}
+use Rattle.gix_odb_looks.proofs.StreamLaws.Directories.{looked_file_is_listed}
+use Rattle.gix_odb_looks.proofs.StreamLaws.Exchanges.{next_answer_is_fair}
+use Rattle.gix_odb_world.specs.AtWork.{Running}
+use Rattle.gix_odb_world.specs.Event.{Event}
+use Rattle.gix_odb_world.specs.Run.{FailedSince, disk_after, tree_at}
+use Rattle.gix_odb_world.specs.Running.PackedStill.{IsPackedStill, LiesIndexed}
+use Rattle.gix_odb_world.specs.Told.{told_since}
+use Rattle.gix_odb_world.proofs.MachineLaws.{IsRunning}
+use Rattle.gix_odb_world.proofs.PackedStill.Answers.{calls_are_fair}
+use Rattle.gix_odb_world.proofs.PackedStill.Moments.{lies_at}
+use Rattle.gix_odb_world.proofs.QuietTurn.{failed_now}
+use Rattle.gix_odb_world.proofs.Streams.{streams_stand}
+use Rattle.gix_odb_world.proofs.Streams.OneEvent.{StandsOpen}
+use Rattle.gix_odb_world.proofs.WriteTurn.Common.{IsTurnWith}
+
+-- exchanges with a fair one behind them are fair
+pub AreFair-push : (hash : Kind) (id : ObjectId) (place : PackedPlace) (past exchanges : List Exchange) (exchange : Exchange)
+    → AreFair hash id place past exchanges → IsFair hash id place (past ++ exchanges) exchange.ask exchange.answer
+    → AreFair hash id place past (exchanges ++ exchange ∷ [])
+AreFair-push hash id place past [] exchange all one =
+    (subst (λ es. IsFair hash id place es exchange.ask exchange.answer) (append-nil past) one, tt)
+AreFair-push hash id place past (first ∷ exchanges) exchange all one = (
+  all.0,
+  AreFair-push hash id place (past ++ first ∷ []) exchanges exchange all.1
+      (subst (λ es. IsFair hash id place es exchange.ask exchange.answer) (sym (append_assoc past (first ∷ []) exchanges)) one),
+)
+
+-- ---- a call of the disk in a turn
+
+module _ (first : Volume) (events : List Event) (e : Event) (handle : ℕ) (running : Running) (ran : IsRunning first events handle running)
+    (since : running.begun ≤ length events) (id : ObjectId) (place : PackedPlace)
+    (still : IsPackedStill (tree_at first (events ++ e ∷ [])) running.store running.begun (length (events ++ e ∷ [])) id place) where
+  abbrev whole : List Event
+  whole = events ++ e ∷ []
+
+  abbrev disk : Volume
+  disk = disk_after first events
+
+  abbrev before : List Exchange
+  before = told_since events handle running.begun
+
+  abbrev hash : Kind
+  hash = running.store.hash
+
+  -- the folder that a stream was opened on listed the index as a file then
+  lists : (folder : Path) (moment : ℕ) → running.begun ≤ moment → moment ≤ length events → (entries : List Entry)
+      → opened (tree_at first events moment) folder ≡ Ok entries → folder ≡ pack_folder place.folder → ListsFile (tree_at first events moment) folder place.name
+  lists folder moment from to entries opens here =
+      let lies = lies_at first events e running.store running.begun id place still moment from to in
+      looked_file_is_listed (tree_at first events moment) folder entries place.name lies.itself.meta opens
+      (ap (λ f. looked (tree_at first events moment) (f ++ place.name ∷ []) false) here ∙ lies.itself.looks) lies.itself.is_file
+
+  module _ (dir : ℕ) (own : IsOwnStream before dir) where
+    stands : StandsOpen first events running own.stream
+    stands = streams_stand first events ran.lawful ran.throughout handle running ran.status own.stream own.told
+
+    -- the next entry of its own stream
+    next_is_fair : IsDiskFair hash id place before (asks.NextEntry dir) (answer_now disk (asks.NextEntry dir))
+    next_is_fair =
+        subst (λ n. IsDiskFair hash id place before (asks.NextEntry n) (answer_now disk (asks.NextEntry n))) own.number
+        (next_answer_is_fair hash id place (tree_at first events stands.moment) disk own.stream stands.coming stands.is
+        (lists own.stream.folder stands.moment stands.from stands.to (own.stream.entries ++ stands.coming) stands.is.fixed)
+        before own.told)
+
+  -- the tree that answers is that of the moment before
+  lies_now : tree_at first events (length events) ≡ tree_of disk.state → LiesIndexed (tree_of disk.state) hash id place
+  lies_now here =
+      subst (λ t. LiesIndexed t hash id place) here
+      (lies_at first events e running.store running.begun id place still (length events) since (omega arith))
+
+  -- it is fair, where it doesn't fail
+  pub told_fairly : (ask : DiskAsk) → ((dir : ℕ) → ask ≡ asks.NextEntry dir → IsOwnStream before dir) → tree_at first events (length events) ≡ tree_of disk.state
+      → IsTurnWith first events e handle ask → ¬ (FailedSince whole handle running.begun)
+      → IsFair hash id place before (parts.Disk ask) (told.Disk (answer_now disk ask))
+  told_fairly ask own here turn works =
+      calls_are_fair hash id place disk (lies_now here) before ask
+      (false_from_ne_true (fails_now disk ask) (λ fails. works (failed_now first events e handle running since ask turn fails)))
+      (λ dir is. next_is_fair dir (own dir is))

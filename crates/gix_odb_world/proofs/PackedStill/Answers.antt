@@ -1,0 +1,89 @@
+-- What the disk answers while an object lies in a pack: the calls that look at its index, its pack or their folder find them.
+use Rattle.std.proofs.Common.{◌≡◌, ℕ, Bool, true, false, List, Result, Ok, refl, sym, ap, ◌∙◌, subst}
+use Rattle.std.specs.Prelude.{if◌then◌else◌}
+use Rattle.odb_base.specs.Path.{Path}
+use Rattle.odb_tree.specs.Entries.{opened}
+use Rattle.odb_tree.specs.Tree.{Tree, tree_of}
+use Rattle.odb_tree.specs.Tree.Follow.{Refusal, looked, read_of}
+use Rattle.odb_tree.specs.declared.disk_error.DiskError.TheVariants as errors
+use Rattle.odb_tree.specs.declared.entry.Entry.{Entry}
+use Rattle.odb_tree.specs.declared.meta.Meta.{Meta}
+use Rattle.odb_disk.specs.Ask.{answer_in, answer_now, answer_of, dir_answer, fails_now, file_answer, meta_answer}
+use Rattle.odb_disk.specs.MemDisk.{Volume}
+use Rattle.odb_disk.specs.StreamAsks.{least_closed}
+use Rattle.odb_disk.specs.declared.ask.DiskAsk.{DiskAsk}
+use Rattle.odb_disk.specs.declared.ask.DiskAsk.TheVariants as asks
+use Rattle.odb_disk.specs.declared.ask.DiskAnswer.TheVariants as answers
+use Rattle.gix_hash.specs.declared.kind.Kind.{Kind}
+use Rattle.gix_hash.specs.declared.object_id.ObjectId.{ObjectId}
+use Rattle.gix_odb_packs.specs.PackFolder.{pack_folder}
+use Rattle.gix_odb_looks.specs.Exchange.{Exchange}
+use Rattle.gix_odb_looks.specs.Fair.{IsDir, IsDiskFair, IsFile, IsFileMeta, IsSoundFile, PackedPlace, index_at, pack_at}
+use Rattle.gix_odb_world.specs.Running.PackedStill.{LiesIndexed}
+use Rattle.gix_odb_world.proofs.PackedStill.Directory.{folder_of_a_name_opens, read_file_is_looked_at}
+
+-- a call that doesn't fail is answered by the tree and the streams
+answers_as_it_is : (disk : Volume) (ask : DiskAsk) → fails_now disk ask ≡ false → answer_now disk ask ≡ answer_in (tree_of disk.state) disk.streams ask
+answers_as_it_is disk ask works =
+    ap (λ (b : Bool). if b then answers.Refused errors.Failed else answer_in (tree_of disk.state) disk.streams ask) works
+
+module _ (hash : Kind) (id : ObjectId) (place : PackedPlace) (tree : Tree) (lies : LiesIndexed tree hash id place) where
+  -- ---- what the tree says
+
+  index_is_read : (path : Path) → path ≡ index_at place → IsSoundFile hash id place (file_answer (read_of tree path))
+  index_is_read path here =
+      subst (λ (r : Result (List ℕ × ℕ) Refusal). IsSoundFile hash id place (file_answer r))
+      (sym (ap (read_of tree) here ∙ lies.shows_index.1)) lies.gives
+
+  pack_is_read : (path : Path) → path ≡ pack_at place → IsFile (file_answer (read_of tree path))
+  pack_is_read path here =
+      subst (λ (r : Result (List ℕ × ℕ) Refusal). IsFile (file_answer r)) (sym (ap (read_of tree) here ∙ lies.shows_pack.1)) tt
+
+  finds_file : (path : Path) (follow : Bool) (meta : Meta) → looked tree path follow ≡ Ok meta → IsFileMeta (answers.Meta meta) → IsFileMeta (meta_answer (looked tree path follow))
+  finds_file path follow meta is file = subst (λ (r : Result Meta Refusal). IsFileMeta (meta_answer r)) (sym is) file
+
+  index_is_looked_at : (path : Path) (follow : Bool) → path ≡ index_at place → IsFileMeta (meta_answer (looked tree path follow))
+  index_is_looked_at path false here =
+      finds_file path false lies.itself.meta (ap (λ p. looked tree p false) here ∙ lies.itself.looks) lies.itself.is_file
+  index_is_looked_at path true here =
+      let found = read_file_is_looked_at tree (index_at place) (lies.index, lies.shows_index.0) lies.shows_index.1 in
+      finds_file path true found.0 (ap (λ p. looked tree p true) here ∙ found.1) found.2
+
+  pack_is_looked_at : (path : Path) (follow : Bool) → path ≡ pack_at place → follow ≡ true → IsFileMeta (meta_answer (looked tree path follow))
+  pack_is_looked_at path false here follows = absurd (cc follows)
+  pack_is_looked_at path true here follows =
+      let found = read_file_is_looked_at tree (pack_at place) (lies.pack, lies.shows_pack.0) lies.shows_pack.1 in
+      finds_file path true found.0 (ap (λ p. looked tree p true) here ∙ found.1) found.2
+
+  folder_is_opened : (dir : ℕ) (path : Path) → path ≡ pack_folder place.folder → IsDir (dir_answer dir (opened tree path))
+  folder_is_opened dir path here =
+      let opens = folder_of_a_name_opens tree (pack_folder place.folder) place.name lies.itself.meta lies.itself.looks in
+      subst (λ (r : Result (List Entry) Refusal). IsDir (dir_answer dir r)) (sym (ap (opened tree) here ∙ opens.1)) tt
+
+-- ---- what the disk answers
+
+module _ (hash : Kind) (id : ObjectId) (place : PackedPlace) (disk : Volume) (lies : LiesIndexed (tree_of disk.state) hash id place) (past : List Exchange) where
+  abbrev tree : Tree
+  tree = tree_of disk.state
+
+  -- each call that doesn't fail is fair, where that for the next entry of a stream is
+  pub calls_are_fair : (ask : DiskAsk) → fails_now disk ask ≡ false
+      → ((dir : ℕ) → ask ≡ asks.NextEntry dir → IsDiskFair hash id place past (asks.NextEntry dir) (answer_now disk (asks.NextEntry dir)))
+      → IsDiskFair hash id place past ask (answer_now disk ask)
+  unfolding answer_of
+  calls_are_fair (asks.Read path) works next =
+      subst (IsDiskFair hash id place past (asks.Read path)) (sym (answers_as_it_is disk (asks.Read path) works))
+      (index_is_read hash id place tree lies path, pack_is_read hash id place tree lies path)
+  calls_are_fair (asks.Look path follow) works next =
+      subst (IsDiskFair hash id place past (asks.Look path follow)) (sym (answers_as_it_is disk (asks.Look path follow) works))
+      (index_is_looked_at hash id place tree lies path follow, pack_is_looked_at hash id place tree lies path follow)
+  calls_are_fair (asks.OpenDir path) works next =
+      subst (IsDiskFair hash id place past (asks.OpenDir path)) (sym (answers_as_it_is disk (asks.OpenDir path) works))
+      (folder_is_opened hash id place tree lies (least_closed disk.streams) path)
+  calls_are_fair (asks.NextEntry dir) works next = next dir refl
+  calls_are_fair (asks.CloseDir dir) works next = tt
+  calls_are_fair (asks.MakeDir path) works next = tt
+  calls_are_fair (asks.NewFile path) works next = tt
+  calls_are_fair (asks.Append path bytes) works next = tt
+  calls_are_fair (asks.Rename from to) works next = tt
+  calls_are_fair (asks.Remove path) works next = tt

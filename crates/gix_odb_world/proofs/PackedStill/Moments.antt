@@ -1,0 +1,101 @@
+-- An object that lies still in a pack, and an index that shows one content, before an event and with it.
+use Rattle.std.proofs.Common.{◌≡◌, ◌⊎◌, inl, inr, ℕ, ◌+◌, ◌<◌, ◌≤◌, List, [], ◌∷◌, ◌++◌, length, Option, None, Ok, ap, ◌∙◌, subst, arith}
+use Rattle.std.proofs.lemmas.Bool.{cases_lt}
+use Rattle.std.proofs.lemmas.List.{length_push}
+use Rattle.odb_base.specs.Path.{Path}
+use Rattle.odb_disk.specs.MemDisk.{Volume}
+use Rattle.odb_tree.specs.Tree.{Tree, tree_of}
+use Rattle.odb_tree.specs.Tree.Follow.{read_of}
+use Rattle.odb_tree.specs.declared.change.Change.{Change}
+use Rattle.gix_hash.specs.declared.object_id.ObjectId.{ObjectId}
+use Rattle.gix_odb_looks.specs.Fair.{IsIndexSound, PackedPlace, index_at}
+use Rattle.gix_odb_looks.specs.Found.{Gives}
+use Rattle.gix_odb.specs.Held.{ShowsOne, WasShownAt, index_path}
+use Rattle.gix_odb_world.specs.AtWork.{Store}
+use Rattle.gix_odb_world.specs.Event.{Asked, Event, OfCore, OfDisk, OfNewCore, OfNothing}
+use Rattle.gix_odb_world.specs.Headline.{LeavesDisk}
+use Rattle.gix_odb_world.specs.Run.{disk_after, disk_after_asked, disk_after_change, tree_at}
+use Rattle.gix_odb_world.specs.Running.PackedStill.{IndicesShowOne, IsPackedStill, LiesIndexed}
+use Rattle.gix_odb_world.proofs.HistoryLemmas.{tree_at-before, tree_at-now}
+use Rattle.gix_odb_world.proofs.Stock.OneCore.{shown_later}
+
+-- what was shown as the index of what lies still is sound
+pub shown_index_is_sound : (trees : ℕ → Tree) (store : Store) (begun now : ℕ) (id : ObjectId) (place : PackedPlace)
+    → IsPackedStill trees store begun now id place → store.opened ≤ begun → begun ≤ now
+    → (bytes : List ℕ) → WasShownAt trees store.opened now (index_at place) bytes → IsIndexSound store.hash id place bytes
+shown_index_is_sound trees store begun now id place still early since bytes was =
+    let lies : LiesIndexed (trees now) store.hash id place = still.always now since (omega arith) in
+    let own : WasShownAt trees store.opened now (index_at place) lies.index =
+    record { moment = now; from = omega (arith, early, since); to = omega arith; was = lies.shows_index } in
+    let same : lies.index ≡ bytes = still.one lies.index bytes own was in
+    subst (λ bs. Gives store.hash bs id place.offset) same lies.gives
+
+module _ (first : Volume) (events : List Event) (e : Event) where
+  abbrev whole : List Event
+  whole = events ++ e ∷ []
+
+  longer : length whole ≡ length events + 1
+  longer = length_push events e
+
+  -- what lay still up to the moment behind an event lay still up to the one before
+  pub still_before : (store : Store) (begun : ℕ) (id : ObjectId) (place : PackedPlace) → IsPackedStill (tree_at first whole) store begun (length whole) id place
+      → IsPackedStill (tree_at first events) store begun (length events) id place
+  still_before store begun id place still = record {
+    always = λ moment from to.
+        let more = longer in
+        subst (λ tree. LiesIndexed tree store.hash id place) (tree_at-before first events e moment to) (still.always moment from (omega (arith, to, more)));
+    one = λ one other was further.
+        still.one one other (shown_later first events e store (index_at place) one was) (shown_later first events e store (index_at place) other further);
+  }
+
+  -- at any moment it lies so
+  pub lies_at : (store : Store) (begun : ℕ) (id : ObjectId) (place : PackedPlace) → IsPackedStill (tree_at first whole) store begun (length whole) id place
+      → (moment : ℕ) → begun ≤ moment → moment ≤ length events → LiesIndexed (tree_at first events moment) store.hash id place
+  lies_at store begun id place still moment from to = (still_before store begun id place still).always moment from to
+
+  -- ---- an event that changes nothing
+
+  left_by : (disk : Volume) (asked : Asked) (change : Option Change) → LeavesDisk asked → change ≡ None
+      → tree_of (disk_after_asked disk asked change).state ≡ tree_of disk.state
+  left_by disk OfNothing change leaves none = ap (λ c. tree_of (disk_after_change disk c).state) none
+  left_by disk (OfDisk ask answer) change leaves none = absurd leaves
+  left_by disk (OfCore core seat event answer) change leaves none = ap (λ c. tree_of (disk_after_change disk c).state) none
+  left_by disk (OfNewCore slots folders core seat answer) change leaves none = ap (λ c. tree_of (disk_after_change disk c).state) none
+
+  -- without a call of the disk, and with no change in its record, it leaves the tree as it was
+  pub kept_without_call : LeavesDisk e.asked → e.entry.change ≡ None → tree_at first whole (length events + 1) ≡ tree_of (disk_after first events).state
+  kept_without_call leaves none = tree_at-now first events e ∙ left_by (disk_after first events) e.asked e.entry.change leaves none
+
+  module _ (opened : ℕ) (early : opened ≤ length events) (quiet : tree_at first whole (length events + 1) ≡ tree_at first events (length events)) (path : Path) where
+    -- what was shown by then was shown before
+    shown_before : (bytes : List ℕ) → WasShownAt (tree_at first whole) opened (length whole) path bytes → WasShownAt (tree_at first events) opened (length events) path bytes
+    shown_before bytes was = by (cases_lt was.moment (length events + 1))
+      where
+        by : (was.moment < length events + 1) ⊎ (length events + 1 ≤ was.moment) → WasShownAt (tree_at first events) opened (length events) path bytes
+        by (inl before) = record {
+          moment = was.moment;
+          from = was.from;
+          to = omega (arith, before);
+          was =
+              subst (λ tree. (time : ℕ) × (read_of tree path ≡ Ok (bytes, time)))
+              (tree_at-before first events e was.moment (omega (arith, before))) was.was;
+        }
+        by (inr behind) =
+            let more = longer in
+            let to = was.to in
+            let last : was.moment ≡ length events + 1 = omega (arith, behind, to, more) in
+            record {
+              moment = length events;
+              from = early;
+              to = omega arith;
+              was = subst (λ tree. (time : ℕ) × (read_of tree path ≡ Ok (bytes, time))) (ap (tree_at first whole) last ∙ quiet) was.was;
+            }
+
+    shows_one_later : ShowsOne (tree_at first events) opened (length events) path → ShowsOne (tree_at first whole) opened (length whole) path
+    shows_one_later shows one other was further = shows one other (shown_before one was) (shown_before other further)
+
+  -- each index shows one content still
+  pub indices_show_one_later : (store : Store) → store.opened ≤ length events → tree_at first whole (length events + 1) ≡ tree_at first events (length events)
+      → IndicesShowOne (tree_at first events) store (length events) → IndicesShowOne (tree_at first whole) store (length whole)
+  indices_show_one_later store early quiet shows folder among name named =
+      shows_one_later store.opened early quiet (index_path folder name) (shows folder among name named)

@@ -1,0 +1,115 @@
+//! The first reason why a step isn't valid.
+ghost use Rattle.std.specs.Prelude.{◌≡◌, IfOk};
+ghost use Rattle.std.specs.Result.{result_err};
+ghost use Rattle.odb_tree.specs.Tree.{tree_of};
+ghost use Rattle.gix_odb_shown.specs.Kept.{Fits};
+ghost use Rattle.gix_odb_world.specs.Table.{IsReasonNow, phase_of_handle, would_change_now};
+ghost use Rattle.gix_odb_world.specs.Valid as valid;
+ghost use Rattle.gix_odb_world.specs.Valid.{is_openable};
+ghost use Rattle.gix_odb_world.specs.Watch.{TellsChange};
+ghost use Rattle.gix_odb_world.specs.World.{handle_at};
+
+use super::Course;
+use crate::handle::Handle;
+use crate::opening;
+use crate::watch::judged;
+use gix_odb_calls::{IdPairs, Options, PathList, Step, Why};
+use gix_odb_shown::Revealed;
+use odb_base::NoMemory;
+use odb_disk::{Change, PathText};
+use std::alloc::Global;
+
+impl Course {
+    /// The first reason why a step isn't valid now, or `None` where it is.
+    pub(super) fn first_reason(&self, alloc: Global, step: &Step) -> Result<Option<Why>, NoMemory>
+        requires fits { Fits self.now.shown (tree_of self.now.disk.state) }
+        ensures reason { IfOk result (IsReasonNow self.now step.now) }
+    {
+        match step {
+            Step::Open {
+                handle,
+                path,
+                folders,
+                hash,
+                replacements,
+                options,
+            } => self.why_not_open(alloc, *handle, path, folders, *hash, replacements, *options),
+            Step::Clone { handle, from } => Ok(self.why_not_clone(*handle, *from)),
+            Step::Close { handle } => Ok(self.why_not_idle(*handle)),
+            Step::Ignore { handle } => Ok(self.why_not_idle(*handle)),
+            Step::Start { handle, call } => Ok(self.why_not_start(*handle, call)),
+            Step::Turn { handle } => self.why_not_turn(alloc, *handle),
+            Step::Disk(change) => self.why_not_change(alloc, change),
+        }
+    }
+
+    /// Why an open step isn't valid.
+    fn why_not_open(
+        &self,
+        alloc: Global,
+        number: u32,
+        path: &PathText,
+        folders: &PathList,
+        hash: gix_hash::Kind,
+        replacements: &IdPairs,
+        options: Options,
+    ) -> Result<Option<Why>, NoMemory>
+        ensures why { IfOk result (λ why. why ≡ valid.why_not_open (phase_of_handle (handle_at self.now number)) (is_openable path.now folders.now hash replacements.now options.max_changes)) }
+    {
+        if let Some(why) = self.why_not_free(number) {
+            return Ok(Some(why));
+        }
+        if opening::is_good(alloc, path, folders, hash, replacements, options)? {
+            Ok(None)
+        } else {
+            Ok(Some(Why::BadOpen))
+        }
+    }
+
+    /// Why another program's change isn't valid.
+    pub(super) fn why_not_change(&self, alloc: Global, change: &Change) -> Result<Option<Why>, NoMemory>
+        requires fits { Fits self.now.shown (tree_of self.now.disk.state) }
+        ensures why { IfOk result (IsReasonNow self.now (Step.Disk change.now)) }
+    {
+        if !self.disk.is_possible(alloc, change)? {
+            return Ok(Some(Why::ImpossibleChange));
+        }
+        if self.shown.is_second(alloc, self.disk.tree(), change)? {
+            return Ok(Some(Why::TwoContents));
+        }
+        Ok(None)
+    }
+
+    /// Why a turn isn't valid; or what its change would make watched paths show, if it would make one.
+    pub(super) fn judged(
+        &self,
+        alloc: Global,
+        number: u32,
+    ) -> Result<Result<Option<Revealed>, Why>, NoMemory>
+        requires fits { Fits self.now.shown (tree_of self.now.disk.state) }
+        ensures why { IfOk result (λ judged. IsReasonNow self.now (Step.Turn number) (result_err judged)) }
+        ensures tells { IfOk result (λ judged. IfOk judged (TellsChange self.now.shown.folders (tree_of self.now.disk.state) (would_change_now self.now (Step.Turn number)))) }
+    {
+        match self.handles.get(&number) {
+            None => Ok(Err(Why::NoHandle)),
+            Some(Handle { state, work }) => match work {
+                None => Ok(Err(Why::NotRunning)),
+                Some(work) => judged(alloc, &self.disk, &self.shown, state, work),
+            },
+        }
+    }
+
+    /// Why a turn isn't valid.
+    fn why_not_turn(&self, alloc: Global, number: u32) -> Result<Option<Why>, NoMemory>
+        requires fits { Fits self.now.shown (tree_of self.now.disk.state) }
+        ensures why { IfOk result (IsReasonNow self.now (Step.Turn number)) }
+    {
+        match self.judged(alloc, number)? {
+            Ok(revealed) => {
+                drop(revealed);
+                Ok(None)
+            }
+            Err(why) => Ok(Some(why)),
+        }
+    }
+}

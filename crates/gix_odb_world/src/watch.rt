@@ -1,0 +1,137 @@
+//! The rule of two contents: which folders are watched, and what a turn would make their paths show.
+ghost use Rattle.std.specs.Prelude.{◌≡◌, ◌∷◌, IfOk, None, OnOk, Some};
+ghost use Rattle.std.specs.Option.{option_map};
+ghost use Rattle.std.specs.Result.{result_err};
+ghost use Rattle.odb_disk.specs.Ask.{change_of_ask, fails_now};
+ghost use Rattle.odb_tree.specs.Tree.{Tree as TreeValue, tree_of};
+ghost use Rattle.gix_odb_shown.specs.Kept.{Fits};
+ghost use Rattle.gix_odb_world.specs.Run.{change_asked, change_by, has_failed};
+ghost use Rattle.gix_odb_world.specs.Valid.{IsFirstReason};
+ghost use Rattle.gix_odb_world.specs.Watch.{NotesMade, ShowsSecondBy, TellsChange, Watches};
+ghost use Rattle.gix_odb_world.specs.WorkOrder.{asks_on};
+
+use crate::work::Work;
+use gix_odb::HandleState;
+use gix_odb_calls::{PathList, Why};
+use gix_odb_packs::PartAsk;
+use gix_odb_shown::{Revealed, Shown};
+use odb_base::NoMemory;
+use odb_disk::{Change, DiskAnswer, DiskAsk, DiskError, MemDisk, PathText, Tree};
+use std::alloc::Global;
+
+/// Watches the folders of a store from now on.
+pub fn watch_store(
+    alloc: Global,
+    shown: &mut Shown,
+    tree: &Tree,
+    path: &PathText,
+    folders: &PathList,
+) -> Result<(), NoMemory>
+    requires fits { Fits shown.old tree.now }
+    ensures watches { OnOk result (Watches shown.old shown.new tree.now (path.now ∷ folders.now)) }
+{
+    shown.watch(alloc, path, tree)?;
+    watch_each(alloc, shown, tree, folders.as_slice())
+}
+
+/// Watches some folders from now on.
+fn watch_each(
+    alloc: Global,
+    shown: &mut Shown,
+    tree: &Tree,
+    folders: &[PathText],
+) -> Result<(), NoMemory>
+    requires fits { Fits shown.old tree.now }
+    ensures watches { OnOk result (Watches shown.old shown.new tree.now folders.now) }
+{
+    for folder in folders {
+        shown.watch(alloc, folder, tree)?;
+    }
+    Ok(())
+}
+
+/// What the turn of a piece of work would make watched paths show, if it would change the tree; or that this would be a second
+/// content.
+pub fn judged(
+    alloc: Global,
+    disk: &MemDisk,
+    shown: &Shown,
+    handle: &HandleState,
+    work: &Work,
+) -> Result<Result<Option<Revealed>, Why>, NoMemory>
+    requires fits { Fits shown.now (tree_of disk.now.state) }
+    ensures why { IfOk result (λ judged. IsFirstReason None (ShowsSecondBy shown.now (tree_of disk.now.state) (change_asked disk.now (asks_on handle.now work.now))) (result_err judged)) }
+    ensures tells { IfOk result (λ judged. IfOk judged (TellsChange shown.now.folders (tree_of disk.now.state) (change_asked disk.now (asks_on handle.now work.now)))) }
+{
+    if work.registers().is_some() {
+        return Ok(Ok(None));
+    }
+    match work.ask(alloc, handle)? {
+        Some(PartAsk::Disk(ask)) => judged_call(alloc, disk, shown, &ask),
+        _ => Ok(Ok(None)),
+    }
+}
+
+/// The same of a call of the disk.
+fn judged_call(
+    alloc: Global,
+    disk: &MemDisk,
+    shown: &Shown,
+    ask: &DiskAsk,
+) -> Result<Result<Option<Revealed>, Why>, NoMemory>
+    requires fits { Fits shown.now (tree_of disk.now.state) }
+    ensures why { IfOk result (λ judged. IsFirstReason None (ShowsSecondBy shown.now (tree_of disk.now.state) (change_by disk.now ask.now)) (result_err judged)) }
+    ensures tells { IfOk result (λ judged. IfOk judged (TellsChange shown.now.folders (tree_of disk.now.state) (change_by disk.now ask.now))) }
+{
+    // The proof takes from this call that the disk shows a tree, in which the change of a call is possible.
+    let tree = disk.tree();
+    let Some(change) = disk.change_of(alloc, ask)? else {
+        return Ok(Ok(None));
+    };
+    let revealed = shown.revealed(alloc, tree, &change)?;
+    if !shown.has_second(&revealed) {
+        return Ok(Ok(Some(revealed)));
+    }
+    if fails(alloc, disk, ask)? {
+        return Ok(Ok(Some(revealed)));
+    }
+    Ok(Err(Why::TwoContents))
+}
+
+/// Whether a call would fail now. A disk doesn't tell which of its calls are to fail, so a copy of it makes the call.
+fn fails(alloc: Global, disk: &MemDisk, ask: &DiskAsk) -> Result<bool, NoMemory>
+    ensures fails { IfOk result (λ fails. fails ≡ fails_now disk.now ask.now) }
+{
+    let mut copy = disk.try_clone(alloc)?;
+    let answer = copy.carry_out(alloc, ask)?;
+    Ok(is_failure(&answer))
+}
+
+fn is_failure(answer: &DiskAnswer) -> bool
+    ensures failure { result ≡ has_failed answer.now }
+{
+    match answer {
+        DiskAnswer::Refused(DiskError::Failed) => true,
+        _ => false,
+    }
+}
+
+/// Keeps what the change of a turn made watched paths show, if it made one.
+pub fn keep(
+    shown: &mut Shown,
+    revealed: Option<Revealed>,
+    change: &Option<Change>,
+) -> Result<(), NoMemory>
+    ensures noted { OnOk result ((tree : TreeValue) → Fits shown.old tree → TellsChange shown.old.folders tree change.now revealed → (ShowsSecondBy shown.old tree change.now → ⊥) → NotesMade shown.old tree change.now shown.new) }
+{
+    let Some(revealed) = revealed else {
+        return Ok(());
+    };
+    match change {
+        Some(_) => shown.keep(revealed),
+        None => {
+            drop(revealed);
+            Ok(())
+        }
+    }
+}
