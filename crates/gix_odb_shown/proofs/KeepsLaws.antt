@@ -1,33 +1,17 @@
 -- Laws of what watched paths have shown, for callers: what is kept tells of the trees so far, from moment to moment.
-use Rattle.std.proofs.Common.{◌≡◌, ◌⊎◌, inl, inr, ℕ, ◌+◌, ◌≤◌, Bool, true, false, List, [], ◌∷◌, ◌++◌, codes, nat_eq, Option, Some, None, is_some, Ok, if◌then◌else◌, ◌||◌, refl, sym, ap, ◌∙◌, subst, arith}
+use Rattle.std.proofs.Common.{◌≡◌, ◌⊎◌, inl, inr, ℕ, ◌+◌, ◌≤◌, Bool, true, false, List, Option, Some, None, is_some, if◌then◌else◌, ◌||◌, refl, sym, ap, ◌∙◌, subst, arith}
 use Rattle.std.specs.FinMap as finite
 use Rattle.std.specs.FinSet as set
-use Rattle.std.specs.List.{ends_with}
 use Rattle.std.specs.Option.{option_or}
 use Rattle.std.specs.Ordering.{eq_by_cmp}
 use Rattle.std.proofs.lemmas.Bool.{false≢true, cases_lt}
-use Rattle.odb_base.specs.Path.{Name, Path, path_cmp, same_name}
+use Rattle.odb_base.specs.Path.{Path, path_cmp}
 use Rattle.odb_base.specs.PathLaws.{path_order}
 use Rattle.odb_tree.specs.Tree.{Tree}
-use Rattle.odb_tree.specs.Tree.Follow.{read_of}
-use Rattle.gix_odb_shown.specs.Watched.{Shows, pack_directory}
-use Rattle.gix_odb_shown.specs.declared.watched.WatchedKind.TheVariants.{PackOrIndex, MultiIndex}
+use Rattle.gix_odb_shown.specs.Watched.{Shows}
 use Rattle.gix_odb_shown.specs.Kept.{Kept, Folders, key_cmp, ShowsInOne, IsSecond, Notes, Fits, nothing_kept}
 use Rattle.gix_odb_shown.specs.HasShown.{Since, AreBegun, with_since, HasShown, ShowsSecond, Keeps}
 use Rattle.gix_odb_shown.proofs.KeptLemmas.{nothing_fits, one_more}
-
--- a path of an index or of a pack shows what a read of it gives
-pub shows_read : (folder : Path) (tree : Tree) (name : Name) (bytes : List ℕ) (at : ℕ) → (ends_with nat_eq name (codes ".idx") || ends_with nat_eq name (codes ".pack")) ≡ true
-    → read_of tree (pack_directory folder ++ name ∷ []) ≡ Ok (bytes, at) → Shows folder tree (pack_directory folder ++ name ∷ []) 0 bytes
-shows_read folder tree name bytes at named reads = record {
-  name = name;
-  path_is = refl;
-  kind = PackOrIndex;
-  is_watched = ap (λ b. if b then Some PackOrIndex else (if same_name name (codes "multi-pack-index") then Some MultiIndex else None)) named;
-  at = at;
-  reads = reads;
-  counts = refl;
-}
 
 -- nothing is watched, and nothing is kept
 pub keeps_nothing : (trees : ℕ → Tree) (now : ℕ) → Keeps trees (λ folder. None) now nothing_kept

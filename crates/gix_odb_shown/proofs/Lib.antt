@@ -1,5 +1,6 @@
 -- Lemmas of this crate; callers may cite those that are public.
 pub mod KeepsLaws
+pub mod ReadLaws
 mod ListLemmas
 mod EntryLemmas
 mod FilesLemmas

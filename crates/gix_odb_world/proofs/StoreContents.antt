@@ -13,7 +13,7 @@ use Rattle.odb_base.specs.PathLaws.{path_order}
 use Rattle.odb_tree.specs.Tree.Follow.{read_of}
 use Rattle.gix_odb_shown.specs.HasShown.{HasShown, Since, with_since}
 use Rattle.gix_odb_shown.specs.Watched.{pack_directory}
-use Rattle.gix_odb_shown.proofs.KeepsLaws.{shows_read}
+use Rattle.gix_odb_shown.proofs.ReadLaws.{shows_read}
 use Rattle.gix_odb_calls.specs.declared.step.Outcome.TheVariants as outcomes
 use Rattle.gix_odb_calls.specs.declared.step.Step.TheVariants as steps
 use Rattle.gix_odb.specs.Contents.{StoreData, folder_list}
