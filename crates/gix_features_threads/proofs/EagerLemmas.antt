@@ -1,5 +1,5 @@
 -- Lemmas on what a worker sends of an iterator's items.
-use Rattle.std.proofs.Common.{◌≡◌, List, [], ◌∷◌, ◌++◌, map, refl, sym, ap, ◌∙◌, subst, append_assoc, Option, Some, None}
+use Rattle.std.proofs.Common.{◌≡◌, true, false, List, [], ◌∷◌, ◌++◌, map, refl, sym, ap, ◌∙◌, subst, append_assoc, Option, Some, None}
 use Rattle.std.proofs.lemmas.List.{append-nil, map-append}
 use Rattle.std.specs.Iterator.{Yields, Drains}
 use Rattle.std.specs.declared.alloc.Global.{Global}
@@ -8,7 +8,8 @@ use Rattle.std.specs.declared.snapshot.Snapshot.{Snapshot}
 use Rattle.std.specs.Vec.Iter.{into_iter_items}
 use Rattle.gix_features_threads.specs.declared.parallel.eager.messages.Message.{Message}
 use Rattle.gix_features_threads.specs.declared.parallel.eager.messages.Message.TheVariants.{Begun, Chunk, Whole}
-use Rattle.gix_features_threads.specs.Ends.{Begins}
+use Rattle.gix_features_threads.specs.declared.ends.Hand.{Hand}
+use Rattle.gix_features_threads.specs.Ends.{hand, Begins}
 use Rattle.gix_features_threads.specs.declared.parallel.eager.source.Worker.{Worker}
 use Rattle.gix_features_threads.specs.declared.parallel.eager.source.Source.{Source}
 use Rattle.gix_features_threads.specs.declared.parallel.eager.source.Source.TheVariants.{Elsewhere, Here, Ended}
@@ -35,7 +36,7 @@ module _ {I T : Type 0} (steps : I → Option T → I → Type 0) where
   -- and that there are no more
   Tells-end : (s i u : I) (chunks : List (Vec T Global)) → Tells steps s (map Chunk chunks) i → steps i None u
       → (t : I) × Tells steps s (map Chunk chunks ++ Whole ∷ []) t
-  Tells-end s i u [] none ends = (s, refl, u, subst (λ (k : I). steps k None u) (sym none) ends)
+  Tells-end s i u [] none ends = (s, (refl, u, subst (λ (k : I). steps k None u) (sym none) ends))
   Tells-end s i u (c ∷ chunks) some ends = let rest = Tells-end some.0 i u chunks some.2 ends in (rest.0, (some.0, some.1, rest.1))
 
   -- what is told by chunks
@@ -49,7 +50,7 @@ module _ {I T : Type 0} (steps : I → Option T → I → Type 0) where
   Tells-whole : (s t : I) (chunks : List (Vec T Global)) (rest : List (Message I T)) → Tells steps s (map Chunk chunks ++ Whole ∷ rest) t → Drains steps s (items_in chunks)
   Tells-whole s t [] rest told = (told.1, (s, refl, told.2))
   Tells-whole s t (c ∷ chunks) rest told = let more = Tells-whole told.0 t chunks rest told.2 in
-      (more.0, (more.1, Yields-append s told.0 more.1 c.items (items_in chunks) told.1 more.2, more.3))
+      (more.0, (more.1.0, Yields-append s told.0 more.1.0 c.items (items_in chunks) told.1 more.1.1, more.1.2))
 
   -- ---- what the worker may send
 
@@ -73,6 +74,29 @@ module _ {I T : Type 0} (steps : I → Option T → I → Type 0) where
 
   pub told_whole : (sent : List (Message I T)) (i u : I) → IsSent steps sent i → steps i None u → IsTold steps (sent ++ Whole ∷ [])
   told_whole sent i u was ends = subst (λ (l : List (Message I T)). IsTold steps (l ++ Whole ∷ [])) (sym was.messages) (Tells-end was.start.value i u was.chunks was.tells ends)
+
+  -- ---- a new channel, over which the iterator was sent and taken before it became two ends
+
+  pub ends_begun : (first : I) (start : Snapshot I) (message : Message I T) (v0 v1 v2 v3 v4 : Hand (Message I T)) → start.value ≡ first → v0 ≡ hand true true [] []
+      → v1 ≡ hand v0.sends v0.takes (v0.sent ++ Begun start ∷ []) v0.taken
+      → (v2 ≡ hand v1.sends v1.takes v1.sent (v1.taken ++ message ∷ [])) × Begins (IsTold steps) (v1.taken ++ message ∷ [])
+      × (v1.sends ≡ true → Begins (λ all. v1.sent ≡ all) (v1.taken ++ message ∷ []))
+      → v3 ≡ hand true false v2.sent [] → v4 ≡ hand false true [] v2.taken
+      → (v3.sends ≡ true) × IsSent steps v3.sent first × (v4.takes ≡ true) × AreTaken first v4.taken []
+  ends_begun first start message v0 v1 v2 v3 v4 from new sent told left right =
+      let sends : v1.sends ≡ true = ap (λ (v : Hand (Message I T)). v.sends) sent ∙ ap (λ (v : Hand (Message I T)). v.sends) new in
+      let all : v1.sent ≡ Begun start ∷ [] = ap (λ (v : Hand (Message I T)). v.sent) sent ∙ ap (λ (v : Hand (Message I T)). v.sent ++ Begun start ∷ []) new in
+      let none : v1.taken ≡ [] = ap (λ (v : Hand (Message I T)). v.taken) sent ∙ ap (λ (v : Hand (Message I T)). v.taken) new in
+      let begins = told.2 sends in
+      let front : Begun start ∷ [] ≡ message ∷ begins.0 = sym all ∙ begins.1 ∙ ap (λ (l : List (Message I T)). (l ++ message ∷ []) ++ begins.0) none in
+      let same : message ≡ Begun start = cc front in
+      let taken : v4.taken ≡ Begun start ∷ [] = ap (λ (v : Hand (Message I T)). v.taken) right ∙ ap (λ (v : Hand (Message I T)). v.taken) told.0
+          ∙ ap (λ (l : List (Message I T)). l ++ message ∷ []) none ∙ ap (λ (m : Message I T). m ∷ []) same in (
+        ap (λ (v : Hand (Message I T)). v.sends) left,
+        sent_begun start v3.sent first (ap (λ (v : Hand (Message I T)). v.sent) left ∙ ap (λ (v : Hand (Message I T)). v.sent) told.0 ∙ all) from,
+        ap (λ (v : Hand (Message I T)). v.takes) right,
+        record { start = start; chunks = []; messages = taken; from_first = from; in_chunks = refl },
+      )
 
   -- ---- what is taken
 

@@ -1,4 +1,13 @@
 -- The item at the place is consumed, if there is one.
-use Rattle.std.proofs.Common.{refl}
+use Rattle.std.proofs.Common.{refl, sym, arith}
 use Rattle.gix_features_threads.specs.Rounds.{Turn}
 use Rattle.gix_features_threads.proofs.parallel.rounds.turn.Goals as goal
+
+pub returns-then-place-run : goal.returns-then-place-run
+returns-then-place-run g c = record {
+  turn = Turn.Takes _ (omega arith) (sym c.index_mut-run-place.is)
+      (record { item = _; state = _; shows = (refl, refl); item_left = _; state_left = _; met = c.consume.ensures; leaves = (refl, refl) });
+}
+
+pub returns-else-place-run : goal.returns-else-place-run
+returns-else-place-run g c = record { turn = Turn.Idle (omega arith) }
