@@ -10,6 +10,7 @@ use Rattle.gix_features_threads.specs.declared.parallel.eager.messages.Message.{
 use Rattle.gix_features_threads.specs.declared.parallel.eager.messages.Message.TheVariants.{Begun, Chunk, Whole}
 use Rattle.gix_features_threads.specs.declared.ends.Hand.{Hand}
 use Rattle.gix_features_threads.specs.Ends.{hand, Begins}
+use Rattle.gix_features_threads.specs.EagerJobs.{IsBegun, IsKnown}
 use Rattle.gix_features_threads.specs.declared.parallel.eager.source.Worker.{Worker}
 use Rattle.gix_features_threads.specs.declared.parallel.eager.source.Source.{Source}
 use Rattle.gix_features_threads.specs.declared.parallel.eager.source.Source.TheVariants.{Elsewhere, Here, Ended}
@@ -69,42 +70,58 @@ module _ {I T : Type 0} (steps : I → Option T → I → Type 0) where
     tells = Tells-push was.start.value i j was.chunks chunk was.tells more;
   }
 
+  -- the same, up to a state that has another name
+  pub sent_chunk_to : (sent now : List (Message I T)) (i j k : I) (chunk : Vec T Global) → IsSent steps sent i → Yields steps i chunk.items j → j ≡ k
+      → now ≡ sent ++ Chunk chunk ∷ [] → IsSent steps now k
+  sent_chunk_to sent now i j k chunk was more same is = subst (λ (t : I). IsSent steps now t) same (sent_chunk sent now i j chunk was more is)
+
   pub told_sent : (sent : List (Message I T)) (i : I) → IsSent steps sent i → IsTold steps sent
   told_sent sent i was = subst (IsTold steps) (sym was.messages) (i, was.tells)
 
   pub told_whole : (sent : List (Message I T)) (i u : I) → IsSent steps sent i → steps i None u → IsTold steps (sent ++ Whole ∷ [])
   told_whole sent i u was ends = subst (λ (l : List (Message I T)). IsTold steps (l ++ Whole ∷ [])) (sym was.messages) (Tells-end was.start.value i u was.chunks was.tells ends)
 
-  -- ---- a new channel, over which the iterator was sent and taken before it became two ends
+  -- ---- a new channel, over which how the iterator is was sent and taken before it became two ends
 
-  pub ends_begun : (first : I) (start : Snapshot I) (message : Message I T) (v0 v1 v2 v3 v4 : Hand (Message I T)) → start.value ≡ first → v0 ≡ hand true true [] []
-      → v1 ≡ hand v0.sends v0.takes (v0.sent ++ Begun start ∷ []) v0.taken
-      → (v2 ≡ hand v1.sends v1.takes v1.sent (v1.taken ++ message ∷ [])) × Begins (IsTold steps) (v1.taken ++ message ∷ [])
-      × (v1.sends ≡ true → Begins (λ all. v1.sent ≡ all) (v1.taken ++ message ∷ []))
-      → v3 ≡ hand true false v2.sent [] → v4 ≡ hand false true [] v2.taken
-      → (v3.sends ≡ true) × IsSent steps v3.sent first × (v4.takes ≡ true) × AreTaken first v4.taken []
-  ends_begun first start message v0 v1 v2 v3 v4 from new sent told left right =
-      let sends : v1.sends ≡ true = ap (λ (v : Hand (Message I T)). v.sends) sent ∙ ap (λ (v : Hand (Message I T)). v.sends) new in
-      let all : v1.sent ≡ Begun start ∷ [] = ap (λ (v : Hand (Message I T)). v.sent) sent ∙ ap (λ (v : Hand (Message I T)). v.sent ++ Begun start ∷ []) new in
-      let none : v1.taken ≡ [] = ap (λ (v : Hand (Message I T)). v.taken) sent ∙ ap (λ (v : Hand (Message I T)). v.taken) new in
-      let begins = told.2 sends in
-      let front : Begun start ∷ [] ≡ message ∷ begins.0 = sym all ∙ begins.1 ∙ ap (λ (l : List (Message I T)). (l ++ message ∷ []) ++ begins.0) none in
-      let same : message ≡ Begun start = cc front in
-      let taken : v4.taken ≡ Begun start ∷ [] = ap (λ (v : Hand (Message I T)). v.taken) right ∙ ap (λ (v : Hand (Message I T)). v.taken) told.0
-          ∙ ap (λ (l : List (Message I T)). l ++ message ∷ []) none ∙ ap (λ (m : Message I T). m ∷ []) same in (
-        ap (λ (v : Hand (Message I T)). v.sends) left,
-        sent_begun start v3.sent first (ap (λ (v : Hand (Message I T)). v.sent) left ∙ ap (λ (v : Hand (Message I T)). v.sent) told.0 ∙ all) from,
-        ap (λ (v : Hand (Message I T)). v.takes) right,
-        record { start = start; chunks = []; messages = taken; from_first = from; in_chunks = refl },
-      )
+  pub told_begun_at : (start : Snapshot I) (v : Hand (Message I T)) → v ≡ hand true true [] [] → IsTold steps (v.sent ++ Begun start ∷ [])
+  told_begun_at start v new = subst (λ (u : Hand (Message I T)). IsTold steps (u.sent ++ Begun start ∷ [])) (sym new) (told_begun start)
+
+  pub sent_is_begun : (first : I) (start : Snapshot I) (v w : Hand (Message I T)) → start.value ≡ first → v ≡ hand true true [] []
+      → w ≡ hand v.sends v.takes (v.sent ++ Begun start ∷ []) v.taken → IsBegun first w
+  sent_is_begun first start v w from new sent = record {
+    start = start;
+    from_first = from;
+    begun = sent ∙ ap (λ (u : Hand (Message I T)). hand u.sends u.takes (u.sent ++ Begun start ∷ []) u.taken) new;
+  }
+
+  pub taken_is_known : (first : I) (message : Message I T) (v w : Hand (Message I T)) → IsBegun first v
+      → (w ≡ hand v.sends v.takes v.sent (v.taken ++ message ∷ [])) × Begins (IsTold steps) (v.taken ++ message ∷ [])
+      × (v.sends ≡ true → Begins (λ all. v.sent ≡ all) (v.taken ++ message ∷ [])) → IsKnown steps first w
+  taken_is_known first message v w was told =
+      let sent : v.sent ≡ Begun was.start ∷ [] = ap (λ (u : Hand (Message I T)). u.sent) was.begun in
+      let none : v.taken ≡ [] = ap (λ (u : Hand (Message I T)). u.taken) was.begun in
+      let begins = told.2 (ap (λ (u : Hand (Message I T)). u.sends) was.begun) in
+      let front : Begun was.start ∷ [] ≡ message ∷ begins.0 = sym sent ∙ begins.1 ∙ ap (λ (l : List (Message I T)). (l ++ message ∷ []) ++ begins.0) none in
+      let same : message ≡ Begun was.start = cc front in
+      let taken : w.taken ≡ Begun was.start ∷ [] = ap (λ (u : Hand (Message I T)). u.taken) told.0 ∙ ap (λ (l : List (Message I T)). l ++ message ∷ []) none
+          ∙ ap (λ (m : Message I T). m ∷ []) same in
+      record {
+        sends = ap (λ (u : Hand (Message I T)). u.sends) told.0 ∙ ap (λ (u : Hand (Message I T)). u.sends) was.begun;
+        takes = ap (λ (u : Hand (Message I T)). u.takes) told.0 ∙ ap (λ (u : Hand (Message I T)). u.takes) was.begun;
+        sent = sent_begun was.start w.sent first (ap (λ (u : Hand (Message I T)). u.sent) told.0 ∙ sent) was.from_first;
+        taken = record { start = was.start; chunks = []; messages = taken; from_first = was.from_first; in_chunks = refl };
+      }
+
+  pub split_known : (first : I) (v l r : Hand (Message I T)) → IsKnown steps first v → l ≡ hand true false v.sent [] → r ≡ hand false true [] v.taken
+      → (l.sends ≡ true) × IsSent steps l.sent first × (r.takes ≡ true) × AreTaken first r.taken []
+  split_known first v l r known left right = (
+    ap (λ (u : Hand (Message I T)). u.sends) left,
+    subst (λ (s : List (Message I T)). IsSent steps s first) (sym (ap (λ (u : Hand (Message I T)). u.sent) left)) known.sent,
+    ap (λ (u : Hand (Message I T)). u.takes) right,
+    subst (λ (s : List (Message I T)). AreTaken first s []) (sym (ap (λ (u : Hand (Message I T)). u.taken) right)) known.taken,
+  )
 
   -- ---- what is taken
-
-  pub taken_begun : (first : I) (start : Snapshot I) (message : Message I T) (taken : List (Message I T)) → start.value ≡ first → taken ≡ [] ++ message ∷ []
-      → Begins (λ all. [] ++ Begun start ∷ [] ≡ all) ([] ++ message ∷ []) → AreTaken first taken []
-  taken_begun first start message taken from is begins =
-      let same : message ≡ Begun start = cc begins.1 in
-      record { start = start; chunks = []; messages = is ∙ ap (λ (m : Message I T). m ∷ []) same; from_first = from; in_chunks = refl }
 
   pub taken_chunk : (first : I) (taken now : List (Message I T)) (items : List T) (chunk : Vec T Global) → AreTaken first taken items → now ≡ taken ++ Chunk chunk ∷ []
       → Begins (IsTold steps) (taken ++ Chunk chunk ∷ []) → AreTaken first now (items ++ chunk.items) × (t : I) × Yields steps first (items ++ chunk.items) t
@@ -144,20 +161,27 @@ module _ {I T : Type 0} (steps : I → Option T → I → Type 0) where
   came_taken first source worker items is came = subst (λ (s : Source I T). CameOf steps first s items) is came.of
 
   -- a further item of the iterator that is here
-  pub came_here : (first at next : I) (source : Source I T) (items : List T) (x : T) → source ≡ Here at → steps at (Some x) next → Came steps first source (items ++ [])
+  came_here-none : (first at next : I) (source : Source I T) (items : List T) (x : T) → source ≡ Here at → steps at (Some x) next → Came steps first source (items ++ [])
       → Came steps first (Here next) ((items ++ x ∷ []) ++ [])
-  came_here first at next source items x is step came =
+  came_here-none first at next source items x is step came =
       let yields : Yields steps first (items ++ []) at = subst (λ (s : Source I T). CameOf steps first s (items ++ [])) is came.of in
       let further : Yields steps first ((items ++ []) ++ x ∷ []) next = Yields-append first at next (items ++ []) (x ∷ []) yields (next, step, refl) in
       let all : Yields steps first ((items ++ x ∷ []) ++ []) next = subst (λ (l : List T). Yields steps first l next)
       (ap (λ (l : List T). l ++ x ∷ []) (append-nil items) ∙ sym (append-nil (items ++ x ∷ []))) further in
       record { of = all; drawn = (next, all) }
 
+  pub came_here : (first at next : I) (source : Source I T) (items at_hand : List T) (x : T) → at_hand ≡ [] → source ≡ Here at → steps at (Some x) next
+      → Came steps first source (items ++ at_hand) → Came steps first (Here next) ((items ++ x ∷ []) ++ at_hand)
+  came_here first at next source items at_hand x used is step came = subst (λ (l : List T). Came steps first (Here next) ((items ++ x ∷ []) ++ l)) (sym used)
+      (came_here-none first at next source items x is step (subst (λ (l : List T). Came steps first source (items ++ l)) used came))
+
   -- the end of the iterator that is here
-  pub came_all_here : (first at next : I) (source : Source I T) (items : List T) → source ≡ Here at → steps at None next → Came steps first source (items ++ []) → Drains steps first items
-  came_all_here first at next source items is step came =
-      let yields : Yields steps first (items ++ []) at = subst (λ (s : Source I T). CameOf steps first s (items ++ [])) is came.of in
-      (next, (at, subst (λ (l : List T). Yields steps first l at) (append-nil items) yields, step))
+  pub came_all_here : (first at next : I) (source : Source I T) (items at_hand : List T) (answer : Option T) → ((x : T) → answer ≡ Some x → ⊥) → at_hand ≡ []
+      → source ≡ Here at → steps at answer next → Came steps first source (items ++ at_hand) → Drains steps first items
+  came_all_here first at next source items at_hand None not used is step came =
+      let yields : Yields steps first (items ++ at_hand) at = subst (λ (s : Source I T). CameOf steps first s (items ++ at_hand)) is came.of in
+      (next, (at, subst (λ (l : List T). Yields steps first l at) (ap (λ (l : List T). items ++ l) used ∙ append-nil items) yields, step))
+  came_all_here first at next source items at_hand (Some x) not used is step came = absurd (not x refl)
 
   -- an iterator that has ended
   pub came_all : (first : I) (source : Source I T) (items : List T) → source ≡ Ended → Came steps first source (items ++ []) → Drains steps first items

@@ -1,10 +1,10 @@
 //! How a worker begins: it awaits its job in a thread of its own.
-ghost use Rattle.std.specs.Prelude.{◌≡◌, ◌<◌, [], true, IfOk, IfErr};
+ghost use Rattle.std.specs.Prelude.{◌≡◌, ◌<◌, [], true, IfOk, IfErr, OnOk};
 ghost use Rattle.crossbeam_channel.specs.Ends.{sends_on, receives_on};
 ghost use Rattle.crossbeam_channel.specs.Claims.{view, IsSeatAt};
 ghost use Rattle.gix_features_threads.specs.Ends.{hand};
 ghost use Rattle.gix_features_threads.specs.EagerMessages.{IsSent, AreTaken};
-ghost use Rattle.gix_features_threads.specs.EagerJobs.{CanBegin};
+ghost use Rattle.gix_features_threads.specs.EagerJobs.{CanBegin, IsBegun, IsKnown};
 ghost use Rattle.gix_features_threads.specs.Eager.{MayDraw, Came};
 
 use super::messages::{EagerPass, Faithful, Message, Receiver, Sender, channel};
@@ -64,13 +64,8 @@ where
         × AreTaken iter.now (view e.takes).taken []) }
 {
     let (sender, receiver, mut sends) = channel(alloc, in_flight)?;
-    let start = Snapshot::of(iter);
-    let Ok(()) = sender.send_as::<Sends, H>(rt, &mut sends, Message::Begun(start)) else {
-        return Err(NoMemory);
-    };
-    let Ok(_) = receiver.recv_as::<Takes<Faithful>, H>(rt, &mut sends) else {
-        return Err(NoMemory);
-    };
+    send_begun(rt, &sender, &mut sends, iter)?;
+    take_begun(rt, &receiver, &mut sends)?;
     let takes = sender.another::<Roles>(&mut sends);
     Ok(Ends {
         sender,
@@ -78,6 +73,46 @@ where
         receiver,
         takes,
     })
+}
+
+/// Sends how an iterator is, through a new channel.
+fn send_begun<I: Iterator, H: Wait>(
+    rt: &H,
+    sender: &Sender<I>,
+    pass: &mut EagerPass<I>,
+    iter: &I,
+) -> Result<(), NoMemory>
+where
+    I::Item: Drop,
+    requires seated { IsSeatAt (sends_on sender.now) pass.old }
+    requires fresh { view pass.old ≡ hand true true [] [] }
+    ensures seated { IsSeatAt (sends_on sender.now) pass.new }
+    ensures sent { OnOk result (IsBegun iter.now (view pass.new)) }
+{
+    let start = Snapshot::of(iter);
+    match sender.send_as::<Sends, H>(rt, pass, Message::Begun(start)) {
+        Ok(()) => Ok(()),
+        Err(_) => Err(NoMemory),
+    }
+}
+
+/// Takes how an iterator was, where that alone was sent.
+fn take_begun<I: Iterator, H: Wait>(
+    rt: &H,
+    receiver: &Receiver<I>,
+    pass: &mut EagerPass<I>,
+) -> Result<(), NoMemory>
+where
+    I::Item: Drop,
+    requires seated { IsSeatAt (receives_on receiver.now) pass.old }
+    requires takes { (view pass.old).takes ≡ true }
+    ensures seated { IsSeatAt (receives_on receiver.now) pass.new }
+    ensures taken { OnOk result ((first : I) → IsBegun first (view pass.old) → IsKnown I.next_gives first (view pass.new)) }
+{
+    match receiver.recv_as::<Takes<Faithful>, H>(rt, pass) {
+        Ok(_) => Ok(()),
+        Err(_) => Err(NoMemory),
+    }
 }
 
 /// A worker that draws an iterator's items; or the iterator, where no thread can be started.
