@@ -1,5 +1,5 @@
 -- Lemmas on what a worker sends of an iterator's items.
-use Rattle.std.proofs.Common.{◌≡◌, true, false, List, [], ◌∷◌, ◌++◌, map, refl, sym, ap, ◌∙◌, subst, append_assoc, Option, Some, None}
+use Rattle.std.proofs.Common.{◌≡◌, true, false, List, [], ◌∷◌, ◌++◌, map, All, refl, sym, ap, ◌∙◌, subst, arith, append_assoc, Option, Some, None}
 use Rattle.std.proofs.lemmas.List.{append-nil, map-append}
 use Rattle.std.specs.Iterator.{Yields, Drains}
 use Rattle.std.specs.declared.alloc.Global.{Global}
@@ -16,7 +16,9 @@ use Rattle.gix_features_threads.specs.declared.parallel.eager.source.Source.{Sou
 use Rattle.gix_features_threads.specs.declared.parallel.eager.source.Source.TheVariants.{Elsewhere, Here, Ended}
 use Rattle.gix_features_threads.specs.declared.parallel.eager.iter.EagerIter.{EagerIter}
 use Rattle.gix_features_threads.specs.EagerMessages.{items_in, Tells, IsTold, IsSent, AreTaken}
-use Rattle.gix_features_threads.specs.Eager.{taken_of, CameOf, Came, HasGiven}
+use Rattle.gix_features_threads.specs.declared.parallel.eager.choice.EagerIterIf.{EagerIterIf}
+use Rattle.gix_features_threads.specs.declared.parallel.eager.choice.EagerIterIf.TheVariants.{OnDemand}
+use Rattle.gix_features_threads.specs.Eager.{taken_of, CameOf, Came, HasGiven, HasGivenIf}
 
 items_in-push : {T : Type 0} (chunks : List (Vec T Global)) (chunk : Vec T Global) → items_in (chunks ++ chunk ∷ []) ≡ items_in chunks ++ chunk.items
 items_in-push [] chunk = append-nil chunk.items
@@ -206,3 +208,15 @@ module _ {I T : Type 0} (steps : I → Option T → I → Type 0) where
   pub given_used : {H : Type 0} (first : I) (eager : EagerIter I H T) (items : List T) → into_iter_items eager.at_hand ≡ [] → HasGiven steps first eager items
       → Came steps first eager.source (items ++ [])
   given_used first eager items used was = subst (λ (l : List T). Came steps first eager.source (items ++ l)) used was
+
+  -- a further item of an iterator that is asked as it is needed
+  pub came_on_demand : {H : Type 0} (first at next : I) (eager : EagerIterIf I H T) (items : List T) (x : T) → eager ≡ OnDemand at → steps at (Some x) next
+      → HasGivenIf steps first eager items → Yields steps first (items ++ x ∷ []) next
+  came_on_demand first at next eager items x is step was =
+      Yields-append first at next items (x ∷ []) (subst (λ (e : EagerIterIf I H T). HasGivenIf steps first e items) is was) (next, step, refl)
+
+-- what holds of each that was sent holds of the first that is taken
+pub first_taken : {X : Type 0} (P : X → Type 0) (taken : List X) (x : X) → taken ≡ [] → Begins (λ xs. All P xs) (taken ++ x ∷ []) → P x
+first_taken P taken x none begins =
+    let all : All P (x ∷ begins.0) = subst (λ l. All P ((l ++ x ∷ []) ++ begins.0)) none begins.1 in
+    all 0 x (omega arith)

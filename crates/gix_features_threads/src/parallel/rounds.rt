@@ -44,7 +44,7 @@ where
     let cut = low.saturating_mul(place.size).min(items.len());
     let (mine, others) = items.split_at_mut(cut);
     let (first, rest) = states.split_at_mut(low);
-    both_halves(
+    let (a, b) = both_halves(
         rt,
         place,
         consume,
@@ -54,7 +54,8 @@ where
         count - low,
         others,
         rest,
-    )
+    );
+    first_error(a, b)
 }
 
 /// A round of the workers of both halves, of which one has its items and the other has its own.
@@ -70,7 +71,7 @@ fn both_halves<H, T, S, E, K>(
     high: usize,
     others: &mut [T],
     rest: &mut [S],
-) -> Result<(), E>
+) -> (Result<(), E>, Result<(), E>)
 where
     H: Threads + Sync,
     T: Send,
@@ -80,8 +81,8 @@ where
     requires some { (0 < low) × (0 < high) }
     requires count { (length first.old ≡ low) × (length rest.old ≡ high) }
     requires consumes { K.IsAlwaysCallable consume.now }
-    ensures both { (a : _) × (b : _) × Round (ChangesTo K.Fn consume.now) place.now.size place.now.at first.old mine.old a first.new mine.new
-        × Round (ChangesTo K.Fn consume.now) place.now.size place.now.at rest.old others.old b rest.new others.new × (result ≡ first_of a b) }
+    ensures front { Round (ChangesTo K.Fn consume.now) place.now.size place.now.at first.old mine.old result.0 first.new mine.new }
+    ensures back { Round (ChangesTo K.Fn consume.now) place.now.size place.now.at rest.old others.old result.1 rest.new others.new }
 {
     let mut front = || -> Result<(), E>
         requires { IsSync H.row × IsSync K.row × IsSend T.row × IsSend S.row × IsSend E.row × (0 < low) × (length first.now ≡ low) × K.IsAlwaysCallable consume.now }
@@ -91,8 +92,7 @@ where
         requires { IsSync H.row × IsSync K.row × IsSend T.row × IsSend S.row × IsSend E.row × (0 < high) × (length rest.now ≡ high) × K.IsAlwaysCallable consume.now }
         ensures { Round (ChangesTo K.Fn consume.entry.now) place.entry.now.size place.entry.now.at rest.entry.now others.entry.now result rest.exit.now others.exit.now }
     { round(rt, place, consume, high, others, rest) };
-    let (a, b) = join_mut(rt, &mut front, &mut back);
-    first_error(a, b)
+    join_mut(rt, &mut front, &mut back)
 }
 
 /// The first error, where there is one.

@@ -96,9 +96,13 @@ where
 {
     'rounds: for at in 0..size {
         let workers = states.len();
-        round(rt, &Place { size, at }, consume, workers, items, states)?;
-        if periodic().is_none() {
-            return Ok(());
+        match round(rt, &Place { size, at }, consume, workers, items, states) {
+            Ok(()) => {}
+            Err(error) => return Err(error),
+        }
+        match periodic() {
+            Some(()) => {}
+            None => return Ok(()),
         }
     }
     Ok(())

@@ -109,10 +109,10 @@ where
     ensures seated { IsSeatAt (receives_on receiver.now) pass.new }
     ensures taken { OnOk result ((first : I) → IsBegun first (view pass.old) → IsKnown I.next_gives first (view pass.new)) }
 {
-    match receiver.recv_as::<Takes<Faithful>, H>(rt, pass) {
-        Ok(_) => Ok(()),
-        Err(_) => Err(NoMemory),
-    }
+    let Ok(_) = receiver.recv_as::<Takes<Faithful>, H>(rt, pass) else {
+        return Err(NoMemory);
+    };
+    Ok(())
 }
 
 /// A worker that draws an iterator's items; or the iterator, where no thread can be started.

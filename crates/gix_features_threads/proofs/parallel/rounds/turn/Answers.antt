@@ -5,7 +5,7 @@ use Rattle.gix_features_threads.proofs.parallel.rounds.turn.Goals as goal
 
 pub returns-then-place-run : goal.returns-then-place-run
 returns-then-place-run g c = record {
-  turn = Turn.Takes _ (omega arith) (sym c.index_mut-run-place.is)
+  turn = Turn.Takes _ (omega arith) (sym c.index-run-place.is)
       (record { item = _; state = _; shows = (refl, refl); item_left = _; state_left = _; met = c.consume.ensures; leaves = (refl, refl) });
 }
 

@@ -6,5 +6,5 @@ use Rattle.gix_features_threads.proofs.parallel.eager.starting.take_begun.Goals 
 pub recv_as-requires-clause-rule : goal.recv_as-requires-clause-rule
 recv_as-requires-clause-rule g c = (takes (IsTold g.I.Iterator.next_gives) _ _ c.requires.takes, nothing (IsTold g.I.Iterator.next_gives) _ _)
 
-pub returns-in-Ok-clause-taken : goal.returns-in-Ok-clause-taken
-returns-in-Ok-clause-taken g c first begun = taken_is_known g.I.Iterator.next_gives first _ _ _ begun c.in-Ok.ensures.rule
+pub returns-clause-taken : goal.returns-clause-taken
+returns-clause-taken g c first begun = taken_is_known g.I.Iterator.next_gives first _ _ _ begun c.in-Ok.ensures.rule

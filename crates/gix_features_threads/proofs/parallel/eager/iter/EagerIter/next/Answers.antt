@@ -7,6 +7,6 @@ use Rattle.gix_features_threads.proofs.parallel.eager.iter.EagerIter.next.Goals 
 pub drawing-init : goal.drawing-init
 drawing-init g c = record { ready = c.requires.ready; same = λ first items was. was }
 
-pub returns-in-Some-clause-given : goal.returns-in-Some-clause-given
-returns-in-Some-clause-given g c first items was =
-    given_next g.I.Iterator.next_gives first _ _ items c.in-Some.item refl c.in-Some.ensures.cases.0 (c.drawing.invariant.same first items was)
+pub returns-in-Some-next-clause-given : goal.returns-in-Some-next-clause-given
+returns-in-Some-next-clause-given g c first items was =
+    given_next g.I.Iterator.next_gives first _ _ items c.in-Some-next.item refl c.in-Some-next.ensures.cases.0 (c.drawing.invariant.same first items was)

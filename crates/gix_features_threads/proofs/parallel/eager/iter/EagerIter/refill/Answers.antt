@@ -4,7 +4,7 @@ use Rattle.gix_features_threads.proofs.EagerLemmas.{came_taken, given_chunk}
 use Rattle.gix_features_threads.proofs.parallel.eager.iter.EagerIter.refill.Goals as goal
 
 pub returns-in-Ok-Some-clause-more : goal.returns-in-Ok-Some-clause-more
-returns-in-Ok-Some-clause-more g c yes first items was =
+returns-in-Ok-Some-clause-more g c is_more first items was =
     let steps = g.I.Iterator.next_gives in
     let taken = came_taken steps first c.args.self.now.source _ _ c.in-Elsewhere.is was in
-    given_chunk steps first c.args.self.now _ items _ c.requires.used c.into_iter.ensures (c.in-Ok-Some.ensures.taken first _ taken)
+    given_chunk steps first c.args.self.now _ items _ c.requires.used c.into_iter.ensures.rest (c.in-Ok-Some.ensures.taken first _ taken)
