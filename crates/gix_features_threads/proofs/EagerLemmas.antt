@@ -5,7 +5,6 @@ use Rattle.std.specs.Iterator.{Yields, Drains}
 use Rattle.std.specs.declared.alloc.Global.{Global}
 use Rattle.std.specs.declared.vec.Vec.{Vec}
 use Rattle.std.specs.declared.snapshot.Snapshot.{Snapshot}
-use Rattle.std.specs.Vec.Iter.{into_iter_items}
 use Rattle.gix_features_threads.specs.declared.parallel.eager.messages.Message.{Message}
 use Rattle.gix_features_threads.specs.declared.parallel.eager.messages.Message.TheVariants.{Begun, Chunk, Whole}
 use Rattle.gix_features_threads.specs.declared.ends.Hand.{Hand}
@@ -14,11 +13,10 @@ use Rattle.gix_features_threads.specs.EagerJobs.{IsBegun, IsKnown}
 use Rattle.gix_features_threads.specs.declared.parallel.eager.source.Worker.{Worker}
 use Rattle.gix_features_threads.specs.declared.parallel.eager.source.Source.{Source}
 use Rattle.gix_features_threads.specs.declared.parallel.eager.source.Source.TheVariants.{Elsewhere, Here, Ended}
-use Rattle.gix_features_threads.specs.declared.parallel.eager.iter.EagerIter.{EagerIter}
 use Rattle.gix_features_threads.specs.EagerMessages.{items_in, Tells, IsTold, IsSent, AreTaken}
 use Rattle.gix_features_threads.specs.declared.parallel.eager.choice.EagerIterIf.{EagerIterIf}
 use Rattle.gix_features_threads.specs.declared.parallel.eager.choice.EagerIterIf.TheVariants.{OnDemand}
-use Rattle.gix_features_threads.specs.Eager.{taken_of, CameOf, Came, HasGiven, HasGivenIf}
+use Rattle.gix_features_threads.specs.Eager.{taken_of, CameOf, Came, HasGivenIf}
 
 items_in-push : {T : Type 0} (chunks : List (Vec T Global)) (chunk : Vec T Global) → items_in (chunks ++ chunk ∷ []) ≡ items_in chunks ++ chunk.items
 items_in-push [] chunk = append-nil chunk.items
@@ -192,27 +190,21 @@ module _ {I T : Type 0} (steps : I → Option T → I → Type 0) where
   -- ---- what was given
 
   -- the next of the items at hand
-  pub given_next : {H : Type 0} (first : I) (before after : EagerIter I H T) (items : List T) (x : T) → after.source ≡ before.source
-      → into_iter_items before.at_hand ≡ x ∷ into_iter_items after.at_hand → HasGiven steps first before items → HasGiven steps first after (items ++ x ∷ [])
-  given_next first before after items x same gives was = subst (λ (s : Source I T). Came steps first s ((items ++ x ∷ []) ++ into_iter_items after.at_hand)) (sym same)
-      (subst (λ (l : List T). Came steps first before.source l)
-      (ap (λ (l : List T). items ++ l) gives ∙ sym (append_assoc items (x ∷ []) (into_iter_items after.at_hand))) was)
+  pub given_next : (first : I) (source : Source I T) (before after items : List T) (x : T) → before ≡ x ∷ after → Came steps first source (items ++ before)
+      → Came steps first source ((items ++ x ∷ []) ++ after)
+  given_next first source before after items x gives was = subst (λ (l : List T). Came steps first source l)
+      (ap (λ (l : List T). items ++ l) gives ∙ sym (append_assoc items (x ∷ []) after)) was
 
   -- a chunk is at hand where nothing was
-  pub given_chunk : {H : Type 0} (first : I) (before after : EagerIter I H T) (items chunk : List T) → into_iter_items before.at_hand ≡ [] → into_iter_items after.at_hand ≡ chunk
-      → Came steps first after.source ((items ++ into_iter_items before.at_hand) ++ chunk) → HasGiven steps first after items
-  given_chunk first before after items chunk used more came = subst (λ (l : List T). Came steps first after.source l)
+  pub given_chunk : (first : I) (source : Source I T) (before after items chunk : List T) → before ≡ [] → after ≡ chunk
+      → Came steps first source ((items ++ before) ++ chunk) → Came steps first source (items ++ after)
+  given_chunk first source before after items chunk used more came = subst (λ (l : List T). Came steps first source l)
       (ap (λ (l : List T). (items ++ l) ++ chunk) used ∙ ap (λ (l : List T). l ++ chunk) (append-nil items) ∙ ap (λ (l : List T). items ++ l) (sym more)) came
-
-  -- nothing is at hand
-  pub given_used : {H : Type 0} (first : I) (eager : EagerIter I H T) (items : List T) → into_iter_items eager.at_hand ≡ [] → HasGiven steps first eager items
-      → Came steps first eager.source (items ++ [])
-  given_used first eager items used was = subst (λ (l : List T). Came steps first eager.source (items ++ l)) used was
 
   -- a further item of an iterator that is asked as it is needed
   pub came_on_demand : {H : Type 0} (first at next : I) (eager : EagerIterIf I H T) (items : List T) (x : T) → eager ≡ OnDemand at → steps at (Some x) next
       → HasGivenIf steps first eager items → Yields steps first (items ++ x ∷ []) next
-  came_on_demand first at next eager items x is step was =
+  came_on_demand {H = H} first at next eager items x is step was =
       Yields-append first at next items (x ∷ []) (subst (λ (e : EagerIterIf I H T). HasGivenIf steps first e items) is was) (next, step, refl)
 
 -- what holds of each that was sent holds of the first that is taken

@@ -90,10 +90,10 @@ where
     ensures sent { OnOk result (IsBegun iter.now (view pass.new)) }
 {
     let start = Snapshot::of(iter);
-    match sender.send_as::<Sends, H>(rt, pass, Message::Begun(start)) {
-        Ok(()) => Ok(()),
-        Err(_) => Err(NoMemory),
-    }
+    let Ok(()) = sender.send_as::<Sends, H>(rt, pass, Message::Begun(start)) else {
+        return Err(NoMemory);
+    };
+    Ok(())
 }
 
 /// Takes how an iterator was, where that alone was sent.

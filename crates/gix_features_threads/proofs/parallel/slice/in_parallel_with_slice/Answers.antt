@@ -8,7 +8,7 @@ use Rattle.gix_features_threads.proofs.parallel.slice.in_parallel_with_slice.Goa
 pub returns-in-Ok : goal.returns-in-Ok
 returns-in-Ok g c = record {
   answer = rounds_done (BeginsAs g.N.Fn c.args.new_thread_state) (ChangesTo g.K.Fn c.args.consume) _ (EndsAs g.L.Fn c.args.state_to_rval) _ _ _ _ _ _ _ _ _ _ _ _
-      c.num_threads-workers.ensures.number c.div_ceil-size.ensures c.as_mut_slice.ensures.value c.in_ok-states.ensures.begun c.in-Ok.ensures.rounds refl c.in_ok-values_of.ensures.ended;
+      c.num_threads-workers.ensures.number c.div_ceil-size.ensures c.as_mut_slice.ensures.value c.in_ok-states.ensures.begun c.in-Ok.ensures.rounds refl c.in_ok-values_of-in-Ok.ensures.ended;
 }
 
 pub returns : goal.returns

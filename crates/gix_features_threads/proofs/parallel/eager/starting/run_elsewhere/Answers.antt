@@ -1,5 +1,6 @@
 use Rattle.std.proofs.Common.{rules}
 use Rattle.std.proofs.lemmas.List.Elements.{All-push}
+use Rattle.gix_features_threads.specs.EagerJobs.{CanBegin}
 use Rattle.gix_features_threads.proofs.EndsLemmas.{sends, forks, nothing}
 use Rattle.gix_features_threads.proofs.parallel.eager.starting.run_elsewhere.Goals as goal
 
@@ -10,4 +11,4 @@ pub spawn-requires-send-F : goal.spawn-requires-send-F
 spawn-requires-send-F g c κs within = ?
 
 pub send_as-requires-clause-rule : goal.send_as-requires-clause-rule
-send_as-requires-clause-rule g c = (sends _ _ _ _ _ (search rules) (λ law. All-push _ _ _ law c.requires.can), nothing _ _ _)
+send_as-requires-clause-rule g c = (sends _ _ _ _ _ (search rules) (λ law. All-push (CanBegin g.I.Iterator.can_next g.I.Iterator.next_gives) _ _ law c.requires.can), nothing _ _ _)

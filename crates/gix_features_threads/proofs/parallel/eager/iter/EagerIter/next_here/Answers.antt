@@ -8,4 +8,4 @@ returns-in-Some-clause-given g c first items was =
 
 pub returns-clause-given : goal.returns-clause-given
 returns-clause-given g c first items was =
-    came_all_here g.I.Iterator.next_gives first _ _ c.args.self.now.source items _ c.next.result c.in_default.not-Some c.requires.used c.in-Here.is c.next.ensures.steps was
+    came_all_here g.I.Iterator.next_gives first _ _ c.args.self.now.source items _ c.next.result c.in_default-next.not-Some c.requires.used c.in-Here.is c.next.ensures.steps was
