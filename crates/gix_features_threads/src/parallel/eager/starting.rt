@@ -1,41 +1,22 @@
-//! How a worker begins: it awaits its job in a thread of its own.
-ghost use Rattle.std.specs.Prelude.{◌≡◌, ◌<◌, [], true, IfOk, IfErr, OnOk};
+//! How a worker begins, of whose messages it is known from the first what they tell of the iterator.
+ghost use Rattle.std.specs.Prelude.{◌≡◌, ◌<◌, [], true, IfOk, OnOk};
 ghost use Rattle.crossbeam_channel.specs.Ends.{sends_on, receives_on};
 ghost use Rattle.crossbeam_channel.specs.Claims.{view, IsSeatAt};
 ghost use Rattle.gix_features_threads.specs.Ends.{hand};
 ghost use Rattle.gix_features_threads.specs.EagerMessages.{IsSent, AreTaken};
-ghost use Rattle.gix_features_threads.specs.EagerJobs.{CanBegin, IsBegun, IsKnown};
+ghost use Rattle.gix_features_threads.specs.EagerJobs.{IsBegun, IsKnown};
 ghost use Rattle.gix_features_threads.specs.Eager.{MayDraw, Came};
 
+use super::elsewhere::run_elsewhere;
 use super::messages::{EagerPass, Faithful, Message, Receiver, Sender, channel};
 use super::source::{Source, Worker};
-use super::worker::{Job, draw_all};
-use crate::ends::{Hand, InOrder, Law, Roles, Sends, Takes};
-use crossbeam_channel::{Pass, RuledReceiver, RuledSender, SendError, bounded_with};
+use super::worker::Job;
+use crate::ends::{Roles, Sends, Takes};
 use odb_disk::NoMemory;
 use std::alloc::Global;
 use std::snapshot::Snapshot;
 use std::sync::Wait;
-use std::thread;
-use std::thread::{JoinHandle, Threads};
-
-/// A job that a worker can begin with.
-pub struct Ready;
-
-impl<I: Iterator> Law<Job<I>> for Ready
-where
-    I::Item: Drop,
-{
-    ghost use Rattle.std.specs.Prelude.{All};
-
-    ghost keeps = { λ jobs. All (CanBegin I.can_next I.next_gives) jobs };
-}
-
-type JobSender<I> = RuledSender<Job<I>, Hand<Job<I>>, InOrder<Ready>>;
-
-type JobReceiver<I> = RuledReceiver<Job<I>, Hand<Job<I>>, InOrder<Ready>>;
-
-type JobPass<I> = Pass<Job<I>, Hand<Job<I>>>;
+use std::thread::Threads;
 
 /// Both ends of a channel, over which nothing went but how the iterator was.
 struct Ends<I: Iterator>
@@ -152,74 +133,5 @@ where
             handle,
         })),
         Err(job) => Ok(Source::Here(job.into_inner())),
-    }
-}
-
-/// Does a job in a thread of its own. The job comes back where no thread can be started.
-fn run_elsewhere<I, H>(
-    rt: H,
-    alloc: Global,
-    job: Job<I>,
-) -> Result<Result<JoinHandle<()>, Job<I>>, NoMemory>
-where
-    I: Iterator + Send + Drop + 'static,
-    I::Item: Send + Drop + 'static,
-    H: Threads + Wait + Copy + Send + 'static,
-    requires can { CanBegin I.can_next I.next_gives job }
-    ensures same { IfOk result (λ r. IfErr r (λ back. back ≡ job)) }
-{
-    let (to, jobs, mut pass) = job_channel(alloc)?;
-    let theirs = to.another::<Roles>(&mut pass);
-    let await_job = move ||
-        requires { IsSeatAt (receives_on jobs) theirs × ((view theirs).takes ≡ true) × ((view theirs).taken ≡ []) }
-    { work(&rt, jobs, theirs) };
-    let Ok(handle) = thread::spawn(&rt, await_job) else {
-        return Ok(Err(job));
-    };
-    match to.send_as::<Sends, H>(&rt, &mut pass, job) {
-        Ok(()) => Ok(Ok(handle)),
-        Err(SendError::Disconnected(job)) => Ok(Err(join_first(&rt, to, handle, job))),
-        Err(SendError::OutOfMemory(job)) => Ok(Err(join_first(&rt, to, handle, job))),
-    }
-}
-
-/// Joins a thread that got no job.
-fn join_first<I: Iterator, H: Threads>(
-    rt: &H,
-    to: JobSender<I>,
-    handle: JoinHandle<()>,
-    job: Job<I>,
-) -> Job<I>
-where
-    I::Item: Drop,
-    ensures same { result ≡ job }
-{
-    drop(to);
-    handle.join(rt);
-    job
-}
-
-/// A channel for one job, and the pass of whoever sends and takes it.
-fn job_channel<I: Iterator + Drop>(
-    alloc: Global,
-) -> Result<(JobSender<I>, JobReceiver<I>, JobPass<I>), NoMemory>
-where
-    I::Item: Drop,
-    ensures ends { IfOk result (λ r. (receives_on r.1 ≡ sends_on r.0) × IsSeatAt (sends_on r.0) r.2 × (view r.2 ≡ hand true true [] [])) }
-{
-    Ok(bounded_with(alloc, 1)?)
-}
-
-/// Awaits a job, and does it. There is none where whoever has it is gone.
-fn work<I: Iterator + Drop, H: Wait>(rt: &H, jobs: JobReceiver<I>, mut pass: JobPass<I>)
-where
-    I::Item: Drop,
-    requires seated { IsSeatAt (receives_on jobs) pass }
-    requires takes { (view pass).takes ≡ true }
-    requires none { (view pass).taken ≡ [] }
-{
-    if let Ok(job) = jobs.recv_as::<Takes<Ready>, H>(rt, &mut pass) {
-        drop(jobs);
-        draw_all(rt, job);
     }
 }
