@@ -6,6 +6,6 @@ pub use gix_features_parts::parallel::{
     optimize_chunk_size_and_thread_limit,
 };
 pub use gix_features_threads::parallel::{
-    EagerIter, EagerIterIf, ParallelError, Scope, Stepwise, build_thread, in_parallel,
-    in_parallel_if, in_parallel_with_finalize, in_parallel_with_slice, join, threads,
+    ParallelError, Scope, Stepwise, build_thread, in_parallel, in_parallel_if,
+    in_parallel_with_finalize, in_parallel_with_slice, join, threads,
 };

@@ -3,7 +3,6 @@ mod WorkersLemmas
 mod ReducedLemmas
 mod RoundsLemmas
 mod EndsLemmas
-mod EagerLemmas
 pub mod PipeLemmas
 pub mod WorkersLaws
 pub mod PipeLaws

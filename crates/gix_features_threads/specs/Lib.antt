@@ -6,6 +6,3 @@ pub mod Dealt
 pub mod Ends
 pub mod PipeSeats
 pub mod Pipe
-pub mod EagerMessages
-pub mod EagerJobs
-pub mod Eager

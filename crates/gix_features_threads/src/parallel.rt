@@ -1,7 +1,6 @@
 //! Items that several workers consume at once.
 mod calls;
 mod deal;
-mod eager;
 mod outputs;
 mod reducing;
 mod rounds;
@@ -11,7 +10,6 @@ mod stepwise;
 mod work;
 
 pub use calls::{ParallelError, in_parallel, in_parallel_if, in_parallel_with_finalize};
-pub use eager::{EagerIter, EagerIterIf};
 pub use scopes::{Scope, build_thread, join, threads};
 pub use slice::in_parallel_with_slice;
 pub use stepwise::{Finalize, Stepwise};

@@ -2,8 +2,6 @@
 #![tactic(auto)]
 
 #[cfg(test)]
-mod eager;
-#[cfg(test)]
 mod pipes;
 #[cfg(test)]
 mod slices;
