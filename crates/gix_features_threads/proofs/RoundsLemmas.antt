@@ -1,6 +1,6 @@
 -- Lemmas on the rounds in which workers consume a slice.
 use Rattle.std.proofs.Common.{◌≡◌, ℕ, zero, suc, ◌+◌, ◌*◌, ◌<◌, ◌≤◌, List, [], ◌∷◌, ◌++◌, length, take, drop, min, set, get_or, refl, sym, ap, ◌∙◌, subst, arith, append_assoc, Option, Result, Ok, Err}
-use Rattle.std.proofs.lemmas.List.{drop-take, drop-drop, take_min, drop_min}
+use Rattle.std.proofs.lemmas.List.{drop-take, drop-drop, take_min, drop_min, take_all, drop_all, append-nil}
 use native.Mathlib.Nat.{zero-mul, suc-mul}
 use Rattle.std.specs.List.{AllZip}
 use Rattle.gix_features_threads.specs.Rounds.{run_of, first_of, Turn, Round, Rounds, Begin, IsOfRounds}
@@ -78,6 +78,11 @@ AllZip-push R (w ∷ xs) [] x y all one = absurd all
 AllZip-push R (w ∷ xs) (z ∷ ys) x y all one = (all.0, AllZip-push R xs ys x y all.1 one)
 
 -- ---- what rounds come to
+
+-- a vector whose slice was changed and keeps its length
+pub restored : {X : Type 0} (n : ℕ) (new old : List X) → n ≡ length old → length new ≡ length old → take n (new ++ drop (length new) old) ≡ new
+restored n new old long same =
+    ap (λ l. take n (new ++ l)) (drop_all (length new) old (omega (arith, same))) ∙ ap (take n) (append-nil new) ∙ take_all n new (omega (arith, long, same))
 
 module _ {S T E P V W : Type 0} (begins : ℕ → S → Type 0) (consumes : T → S → Result (Unit {0}) E → T → S → Type 0) (asks : P → Option (Unit {0}) → P → Type 0) (ends : S → V → Type 0) (listed : W → List V) where
   pub rounds_done : (n workers size : ℕ) (p : P) (shown firsts lasts ended : List S) (items left : List T) (values : W) → workers ≡ n → size ≡ run_of workers (length items)
