@@ -104,7 +104,7 @@ module _ {I T : Type 0} (steps : I → Option T → I → Type 0) where
       let front : Begun was.start ∷ [] ≡ message ∷ begins.0 = sym sent ∙ begins.1 ∙ ap (λ (l : List (Message I T)). (l ++ message ∷ []) ++ begins.0) none in
       let same : message ≡ Begun was.start = cc front in
       let taken : w.taken ≡ Begun was.start ∷ [] = ap (λ (u : Hand (Message I T)). u.taken) told.0 ∙ ap (λ (l : List (Message I T)). l ++ message ∷ []) none
-          ∙ ap (λ (m : Message I T). m ∷ []) same in
+      ∙ ap (λ (m : Message I T). m ∷ []) same in
       record {
         sends = ap (λ (u : Hand (Message I T)). u.sends) told.0 ∙ ap (λ (u : Hand (Message I T)). u.sends) was.begun;
         takes = ap (λ (u : Hand (Message I T)). u.takes) told.0 ∙ ap (λ (u : Hand (Message I T)). u.takes) was.begun;

@@ -1,5 +1,5 @@
 -- Lemmas on the rounds in which workers consume a slice.
-use Rattle.std.proofs.Common.{◌≡◌, ℕ, zero, suc, ◌+◌, ◌*◌, ◌<◌, ◌≤◌, List, [], ◌∷◌, ◌++◌, length, take, drop, min, set, get_or, refl, sym, ap, ◌∙◌, subst, arith, append_assoc, Option, Result, Ok, Err}
+use Rattle.std.proofs.Common.{◌≡◌, ℕ, zero, suc, ◌+◌, ◌*◌, List, [], ◌∷◌, ◌++◌, length, take, drop, min, set, get_or, refl, sym, ap, ◌∙◌, subst, arith, append_assoc, Option, Result, Ok, Err}
 use Rattle.std.proofs.lemmas.List.{drop-take, drop-drop, take_min, drop_min, take_all, drop_all, append-nil}
 use native.Mathlib.Nat.{zero-mul, suc-mul}
 use Rattle.std.specs.List.{AllZip}

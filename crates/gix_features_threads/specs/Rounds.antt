@@ -1,5 +1,5 @@
 -- What workers make of a slice in rounds: each has a run of its items, and a round takes one item of each run.
-use Rattle.std.specs.Prelude.{◌≡◌, ℕ, ◌+◌, ◌*◌, ◌/◌, ◌%◌, ◌<◌, ◌≤◌, min, List, [], ◌∷◌, ◌++◌, length, take, drop, slice_index_or, slice_set, Option, Some, None, Result, Ok, Err, IfOk, IfErr}
+use Rattle.std.specs.Prelude.{◌≡◌, ℕ, ◌+◌, ◌/◌, ◌%◌, ◌<◌, ◌≤◌, min, List, [], ◌∷◌, ◌++◌, length, take, drop, slice_index_or, slice_set, Option, Some, None, Result, Ok, Err, IfOk, IfErr}
 use Rattle.std.specs.Fn.{Shared}
 use Rattle.std.specs.List.{AllZip}
 use Rattle.std.specs.Borrow.{MutBor}

@@ -63,12 +63,7 @@ where
 }
 
 /// Joins a thread that got no task.
-fn join_first<K: Task, H: Threads>(
-    rt: &H,
-    to: TaskSender<K>,
-    handle: JoinHandle<()>,
-    task: K,
-) -> K
+fn join_first<K: Task, H: Threads>(rt: &H, to: TaskSender<K>, handle: JoinHandle<()>, task: K) -> K
     ensures same { result ≡ task }
 {
     drop(to);

@@ -10,7 +10,7 @@ returns-in-Ok g c = record {
   answer = rounds_done (BeginsAs g.N.Fn c.args.new_thread_state) (ChangesTo g.K.Fn c.args.consume) _ (EndsAs g.L.Fn c.args.state_to_rval) _ _ _ _ _ _ _ _ _ _ _ _
       c.num_threads-workers.ensures.number c.div_ceil-size.ensures c.as_mut_slice.ensures.value c.in_ok-states.ensures.begun c.in-Ok.ensures.rounds
       (restored c.in_ok-states.states.len c.in_rounds.new.states c.in_ok-states.states.items c.in_ok-states.states.ok.0
-          (omega (arith, c.in_rounds.auto.states, ap length c.as_mut_slice.ensures.value)))
+      (omega (arith, c.in_rounds.auto.states, ap length c.as_mut_slice.ensures.value)))
       c.in_ok-values_of-in-Ok.ensures.ended;
 }
 

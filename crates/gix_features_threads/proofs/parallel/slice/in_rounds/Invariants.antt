@@ -1,4 +1,4 @@
-use Rattle.std.proofs.Common.{ℕ, ◌<◌, List, length, Result}
+use Rattle.std.proofs.Common.{◌<◌, List, length, Result}
 use Rattle.gix_features_threads.specs.Rounds.{ChangesTo, Rounds}
 use Rattle.gix_features_threads.proofs.parallel.slice.in_rounds.Given as goal
 

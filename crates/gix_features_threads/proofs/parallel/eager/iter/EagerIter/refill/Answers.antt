@@ -1,5 +1,4 @@
 -- A chunk is at hand where nothing was; and where the worker said that these were all, they were.
-use Rattle.std.proofs.Common.{refl, true≢false}
 use Rattle.gix_features_threads.proofs.EagerLemmas.{came_taken, given_chunk}
 use Rattle.gix_features_threads.proofs.parallel.eager.iter.EagerIter.refill.Goals as goal
 
