@@ -1,0 +1,17 @@
+use Rattle.std.proofs.Common.{◌∙◌, ap, List}
+use Rattle.std.specs.List.{list_any}
+use Rattle.odb_tree.specs.Tree.Change.{changed}
+use Rattle.gix_odb_shown.specs.Kept.{Kept}
+use Rattle.gix_odb_shown.specs.Files.{differs}
+use Rattle.gix_odb_shown.specs.declared.shown_file.ShownFile.{ShownFile}
+use Rattle.gix_odb_shown.proofs.KeptLemmas.{second_answered}
+use Rattle.gix_odb_shown.proofs.shown.Shown.is_second.Goals as goal
+
+pub returns : goal.returns
+returns c = record {
+  second =
+      second_answered c.args.self.now c.args.tree.now (changed c.args.tree.now c.args.change.now) c.in_ok-revealed.revealed.files.items c.requires.fits
+      c.in_ok-revealed.ensures.reveals c.differs_from_one.result
+      (c.differs_from_one.ensures.differs ∙ ap (λ (files : List ShownFile). list_any (differs c.self.inside.contents) files) c.deref.ensures.value
+      ∙ ap (λ (k : Kept). list_any (differs k.contents) c.in_ok-revealed.revealed.files.items) c.self.view_is);
+}

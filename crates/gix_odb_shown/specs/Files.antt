@@ -1,0 +1,64 @@
+-- The files that a tree shows in pack directories, as lists. No public clause cites this.
+use Rattle.std.specs.Prelude.{◌≡◌, ◌⊎◌, ◌++◌, ℕ, Bool, false, not, List, [], ◌∷◌, Option, Some, None, Result, Ok, Err, unwrap_or}
+use Rattle.std.specs.Result.{result_ok}
+use Rattle.std.specs.List.{flat_map}
+use Rattle.std.specs.FinMap as finite
+use Rattle.odb_base.specs.Path.{Name, Path, same_name}
+use Rattle.odb_tree.specs.Tree.{Tree}
+use Rattle.odb_tree.specs.Tree.Follow.{Refusal, read_of}
+use Rattle.odb_tree.specs.Entries.{opened}
+use Rattle.odb_tree.specs.declared.entry.Entry.{Entry}
+use Rattle.gix_odb_shown.specs.Watched.{watched_kind, counted, pack_directory}
+use Rattle.gix_odb_shown.specs.Kept.{Contents, Folders, ShowsInOne}
+use Rattle.gix_odb_shown.specs.declared.watched.WatchedKind.{WatchedKind}
+use Rattle.gix_odb_shown.specs.declared.shown_file.ShownFile.{ShownFile}
+
+-- an element is one of these
+abbrev pub IsIn : {X : Type 0} → List X → X → Type 0
+IsIn [] x = ⊥
+IsIn (y ∷ ys) x = (y ≡ x) ⊎ IsIn ys x
+
+-- what a read of a path gives, if it is that of a watched kind
+abbrev pub file_read : Path → Option WatchedKind → Result (List ℕ × ℕ) Refusal → List ShownFile
+file_read path None told = []
+file_read path (Some kind) (Err refusal) = []
+file_read path (Some kind) (Ok file) = record { key = (path, counted kind file.1); bytes = file.0 } ∷ []
+
+-- what a tree shows at a name of a directory
+abbrev pub files_at : Tree → Path → Name → List ShownFile
+files_at tree directory name = file_read (directory ++ name ∷ []) (watched_kind name) (read_of tree (directory ++ name ∷ []))
+
+-- the entries of a directory, or none where there is no directory
+abbrev pub listed : Tree → Path → List Entry
+listed tree directory = unwrap_or (result_ok (opened tree directory)) []
+
+-- what a tree shows in the pack directory of a folder
+unfoldable pub files_in : Tree → Path → List ShownFile
+files_in tree folder = flat_map (λ entry. files_at tree (pack_directory folder) entry.name) (listed tree (pack_directory folder))
+
+-- whether other bytes than a file's are kept under its key
+abbrev pub is_other : Option (List ℕ) → List ℕ → Bool
+is_other None bytes = false
+is_other (Some first) bytes = not (same_name first bytes)
+
+abbrev pub differs : Contents → ShownFile → Bool
+differs contents file = is_other (finite.get contents file.key) file.bytes
+
+-- what is kept after a file: under a key the first bytes stay
+abbrev pub first_kept : Option (List ℕ) → Contents → ShownFile → Contents
+first_kept None contents file = finite.insert contents file.key file.bytes
+first_kept (Some first) contents file = contents
+
+abbrev pub with_file : Contents → ShownFile → Contents
+with_file contents file = first_kept (finite.get contents file.key) contents file
+
+-- and after files, one by one
+abbrev pub with_files : Contents → List ShownFile → Contents
+with_files contents [] = contents
+with_files contents (file ∷ files) = with_files (with_file contents file) files
+
+-- The files are what watched paths show in a tree that comes after another one: all that they didn't show before.
+pub record Reveals (folders : Folders) (before after : Tree) (files : List ShownFile) : Type 0 where
+  pub shown : (file : ShownFile) → IsIn files file → ShowsInOne folders after file.key.0 file.key.1 file.bytes
+  pub whole : (path : Path) (time : ℕ) (bytes : List ℕ) → ShowsInOne folders after path time bytes
+      → ShowsInOne folders before path time bytes ⊎ IsIn files (record { key = (path, time); bytes = bytes })

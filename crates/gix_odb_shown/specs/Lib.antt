@@ -1,0 +1,8 @@
+-- Which paths are watched and what a tree shows at them; which folders are plain; what is kept of that; and what was shown over a family
+-- of trees. The others are inner words.
+pub mod Watched
+pub mod Plain
+pub mod Kept
+pub mod HasShown
+pub mod Files
+pub mod Seen

@@ -1,0 +1,21 @@
+//! What the paths have shown that indices and packs stand at: no such path shows two contents while its folder is watched.
+//!
+//! `specs/Watched.antt` says which paths are watched, `specs/HasShown.antt` what they have shown over a family of trees.
+//! ```rust
+//! let mut shown = Shown::new(alloc);
+//! shown.watch(alloc, &folder, disk.tree())?;
+//! if !shown.is_second(alloc, disk.tree(), &change)? {
+//!     shown.note(alloc, disk.tree(), &change)?;
+//!     disk.change(alloc, &change)?;
+//! }
+//! ```
+#![tactic(auto)]
+
+mod contents;
+mod plain;
+mod seen;
+mod shown;
+mod shown_file;
+mod watched;
+
+pub use shown::Shown;

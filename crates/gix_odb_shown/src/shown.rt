@@ -1,0 +1,156 @@
+//! What the watched paths of folders have shown.
+ghost use Rattle.std.specs.Prelude.{◌≡◌, ◌↔◌, IsTrue, true, false, IfOk, IfSome, OnOk};
+ghost use Rattle.std.specs.FinSet as set;
+ghost use Rattle.odb_tree.specs.Tree.{Tree as TreeValue};
+ghost use Rattle.odb_tree.specs.Tree.Change.{changed, is_possible_in};
+ghost use Rattle.gix_odb_shown.specs.Files.{Reveals};
+ghost use Rattle.gix_odb_shown.specs.Kept.{Fits, IsSecond, Notes, nothing_kept};
+ghost use Rattle.gix_odb_shown.specs.Plain.{ArePlain};
+
+use crate::contents::Contents;
+use crate::plain::{are_plain, is_plain};
+use crate::seen::seen_in;
+use crate::shown_file::{ShownFile, files_in, files_of_all};
+use odb_base::{NoMemory, PathText};
+use odb_tree::{Change, Impossible, Tree};
+use std::alloc::Global;
+use std::collections::BTreeSet;
+use std::marker::Model;
+
+/// What the indices, packs and multi-pack indices of watched folders have shown.
+#[derive(Drop)]
+pub struct Shown {
+    folders: BTreeSet<PathText>,
+    contents: Contents,
+    /// No link is on the way of a watched path. Where this isn't known, it is false.
+    plain: bool,
+}
+
+impl Model for Shown {
+    ghost use Rattle.std.specs.FinSet as set;
+    ghost use Rattle.gix_odb_shown.specs.Kept.{Kept, coded_kept};
+
+    ghost Value = { Kept };
+
+    ghost coded = { coded_kept };
+
+    ghost view = { λ s. record { folders = set.from_list s.folders.keys; contents = s.contents; plain = s.plain } };
+}
+
+impl Shown {
+    /// No folder is watched.
+    pub fn new(alloc: Global) -> Shown
+        ensures empty { result ≡ nothing_kept }
+    {
+        Shown {
+            folders: BTreeSet::new(alloc),
+            contents: Contents::new(alloc),
+            plain: true,
+        }
+    }
+
+    /// Watches a folder from now on, and notes what the tree shows in it.
+    pub fn watch(&mut self, alloc: Global, folder: &PathText, tree: &Tree) -> Result<(), NoMemory>
+        requires fits { Fits self.old tree.now }
+        ensures notes { OnOk result (Notes self.old (set.insert self.old.folders folder.now) tree.now self.new) }
+        ensures fits { OnOk result (Fits self.new tree.now) }
+    {
+        if self.folders.contains(folder) {
+            return Ok(());
+        }
+        let files = files_in(alloc, tree, folder)?;
+        self.plain = is_plain(alloc, tree, folder)? && self.plain;
+        self.folders.insert(folder.try_clone(alloc)?)?;
+        self.contents.keep_all(files)
+    }
+
+    /// Whether a watched path would show a second content after a change.
+    pub fn is_second(&self, alloc: Global, tree: &Tree, change: &Change) -> Result<bool, NoMemory>
+        requires fits { Fits self.now tree.now }
+        requires possible { is_possible_in tree.now change.now ≡ true }
+        ensures second { IfOk result (λ second. IsTrue second ↔ IsSecond self.now (changed tree.now change.now)) }
+    {
+        let revealed = self.revealed(alloc, tree, change)?;
+        Ok(self.contents.differs_from_one(&revealed.files))
+    }
+
+    /// Notes what a change makes watched paths show. It is told of the tree before the change.
+    pub fn note(&mut self, alloc: Global, tree: &Tree, change: &Change) -> Result<(), NoMemory>
+        requires fits { Fits self.old tree.now }
+        requires possible { is_possible_in tree.now change.now ≡ true }
+        requires first { IsSecond self.old (changed tree.now change.now) → ⊥ }
+        ensures notes { OnOk result (Notes self.old self.old.folders (changed tree.now change.now) self.new) }
+        ensures fits { OnOk result (Fits self.new (changed tree.now change.now)) }
+    {
+        let Revealed { files, plain } = self.revealed(alloc, tree, change)?;
+        self.plain = plain;
+        self.contents.keep_all(files)
+    }
+
+    /// What a change makes watched paths show, but for what they show already.
+    fn revealed(&self, alloc: Global, tree: &Tree, change: &Change) -> Result<Revealed, NoMemory>
+        requires fits { Fits self.now tree.now }
+        requires possible { is_possible_in tree.now change.now ≡ true }
+        ensures reveals { IfOk result (λ revealed. Reveals self.now.folders tree.now (changed tree.now change.now) revealed.files.items) }
+        ensures plain { IfOk result (λ revealed. revealed.plain ≡ true → ArePlain (changed tree.now change.now) self.now.folders) }
+    {
+        match self.seen(alloc, tree, change)? {
+            Some(files) => Ok(Revealed { files, plain: true }),
+            None => revealed_by_tree(alloc, &self.folders, &changed(alloc, tree, change)?),
+        }
+    }
+
+    /// What a change makes watched paths show, where no link is on their way and the change tells it.
+    fn seen(
+        &self,
+        alloc: Global,
+        tree: &Tree,
+        change: &Change,
+    ) -> Result<Option<Vec<ShownFile>>, NoMemory>
+        requires fits { Fits self.now tree.now }
+        requires possible { is_possible_in tree.now change.now ≡ true }
+        ensures reveals { IfOk result (λ seen. IfSome seen (λ files. Reveals self.now.folders tree.now (changed tree.now change.now) files.items)) }
+        ensures plain { IfOk result (λ seen. IfSome seen (λ files. ArePlain (changed tree.now change.now) self.now.folders)) }
+    {
+        if self.plain {
+            seen_in(alloc, tree, &self.folders, change)
+        } else {
+            Ok(None)
+        }
+    }
+}
+
+/// What a change makes watched paths show, but for what they show already.
+#[derive(Drop)]
+struct Revealed {
+    files: Vec<ShownFile>,
+    /// No link is on the way of a watched path after the change.
+    plain: bool,
+}
+
+/// All that a tree shows in the folders.
+fn revealed_by_tree(
+    alloc: Global,
+    folders: &BTreeSet<PathText>,
+    after: &Tree,
+) -> Result<Revealed, NoMemory>
+    ensures reveals { IfOk result (λ revealed. (before : TreeValue) → Reveals (set.from_list folders.now.keys) before after.now revealed.files.items) }
+    ensures plain { IfOk result (λ revealed. revealed.plain ≡ true → ArePlain after.now (set.from_list folders.now.keys)) }
+{
+    let files = files_of_all(alloc, after, folders)?;
+    let plain = are_plain(alloc, after, folders)?;
+    Ok(Revealed { files, plain })
+}
+
+/// The tree after a change that is possible.
+fn changed(alloc: Global, tree: &Tree, change: &Change) -> Result<Tree, NoMemory>
+    requires possible { is_possible_in tree.now change.now ≡ true }
+    ensures changed { IfOk result (λ after. after ≡ changed tree.now change.now) }
+{
+    let mut after = tree.try_clone(alloc)?;
+    match after.change(alloc, change) {
+        Ok(()) => Ok(after),
+        Err(Impossible::Impossible) => unreachable!("the change is possible"),
+        Err(Impossible::NoMemory) => Err(NoMemory),
+    }
+}

@@ -1,0 +1,70 @@
+//! Which changes show a second content, in the pack directories of folders and through links.
+use crate::words::{compare, halves, made_all};
+use std::test::Fail;
+
+/// In a folder `/o` with its pack directory, which is watched.
+const FOLDER: &str = "\
+    put /o/pack/a.idx 1 x, put /o/pack/a.idx 2 x|made made ;\
+    put /o/pack/a.idx 1 x, put /o/pack/a.idx 1 y|made second ;\
+    put /o/pack/a.pack 1 x, more /o/pack/a.pack y|made second ;\
+    put /o/pack/a.pack 1 x, more /o/pack/a.pack |made made ;\
+    put /o/pack/a.pack 1 x, take /o/pack/a.pack, put /o/pack/a.pack 1 y|made made second ;\
+    put /o/pack/a.pack 1 x, take /o/pack/a.pack, put /o/pack/a.pack 1 x|made made made ;\
+    put /o/pack/.idx 1 x, put /o/pack/.idx 1 y|made second ;\
+    put /o/pack/a.rev 1 x, put /o/pack/a.rev 1 y|made made ;\
+    put /o/a.idx 1 x, put /o/a.idx 1 y|made made ;\
+    put /o/pack/a.idx 1 x, put /o/pack/b.idx 1 y, move /o/pack/b.idx /o/pack/a.idx|made made second ;\
+    put /o/pack/a.idx 1 x, put /t 1 x, move /t /o/pack/a.idx|made made made ;\
+    put /o/pack/a.idx 1 x, put /t 1 y, move /t /o/pack/a.idx|made made second ;\
+    put /o/pack/a.idx 1 x, move /o/pack /q, make /o/pack, put /o/pack/a.idx 1 y|made made made second ;\
+    put /o/pack/a.idx 1 x, make /q, put /q/a.idx 1 y, move /o/pack /p, move /q /o/pack|made made made made second ;\
+    make /o/pack/a.idx, take /o/pack/a.idx, put /o/pack/a.idx 1 x|made made made ;\
+    put /o/pack/a.idx 1 x, time /o/pack/a.idx 2|made made ;\
+    put /o/pack/a/a.idx 1 x|no ";
+
+/// There the multi-pack index has one content at each time.
+const MULTI_INDEX: &str = "\
+    put /o/pack/multi-pack-index 1 x, put /o/pack/multi-pack-index 2 y|made made ;\
+    put /o/pack/multi-pack-index 1 x, put /o/pack/multi-pack-index 1 y|made second ;\
+    put /o/pack/multi-pack-index 1 x, put /o/pack/multi-pack-index 2 y, put /o/pack/multi-pack-index 1 y|made made second ;\
+    put /o/pack/multi-pack-index 1 x, put /o/pack/multi-pack-index 2 y, put /o/pack/multi-pack-index 1 x|made made made ;\
+    put /o/pack/multi-pack-index 1 x, put /o/pack/multi-pack-index 2 y, time /o/pack/multi-pack-index 1|made made second ";
+
+/// There links lead from a watched path, and to the folders.
+const LINKS: &str = "\
+    put /t 1 x, link /o/pack/a.idx /t, put /t 1 y|made made second ;\
+    put /t 1 x, link /o/pack/a.idx /t, put /t 2 x|made made made ;\
+    put /t 1 x, put /u 1 y, link /o/pack/a.idx /t, link /o/pack/a.idx /u|made made made second ;\
+    put /t 1 x, link /o/pack/a.idx /t, take /t, put /u 1 y, move /u /t|made made made made second ;\
+    link /o/pack/a.idx /t, put /t 1 x, put /t 1 y|made made second ;\
+    link /p /o, watch /p, put /o/pack/a.idx 1 x, put /o/pack/a.idx 1 y|made watched made second ;\
+    link /p /o, watch /p, put /o/pack/a.idx 1 x, make /q, make /q/pack, put /q/pack/a.idx 1 y, link /p /q|made watched made made made made second ;\
+    link /o/pack/a.idx /o/pack/a.idx, put /o/pack/a.idx 1 x|made made ";
+
+/// Folders that are watched later.
+const LATER: &str = "\
+    make /p, make /p/pack, put /p/pack/a.idx 1 x, put /p/pack/a.idx 1 y, watch /p, put /p/pack/a.idx 1 x|made made made made watched second ;\
+    watch /p, make /p, make /p/pack, put /p/pack/a.idx 1 x, put /p/pack/a.idx 1 y|watched made made made second ;\
+    watch /o, put /o/pack/a.idx 1 x, watch /o, put /o/pack/a.idx 1 y|watched made watched second ;\
+    make /p, make /q, make /q/pack, put /q/pack/a.idx 1 x, watch /p, move /q/pack /p/pack, put /p/pack/a.idx 1 y|made made made made watched made second ";
+
+fn check(rt: &HostRuntime, rows: &str) -> Result<(), Fail> {
+    let alloc = rt.alloc();
+    for row in rows.split(';') {
+        let (steps, want) = halves(row);
+        let steps = format!(in alloc; "make /o, make /o/pack, watch /o, {steps}")?;
+        let want = format!(in alloc; "made made watched {want}")?;
+        let found = made_all(alloc, steps.as_str())?;
+        compare(steps.as_str(), found.as_str(), want.as_str())?;
+    }
+    Ok(())
+}
+
+// Catches a second content that is let through or made up: by a time, a removal, a move, a link, or before a folder is watched.
+#[test]
+fn second_contents(rt: HostRuntime) -> Result<(), Fail> {
+    for rows in [FOLDER, MULTI_INDEX, LINKS, LATER] {
+        check(&rt, rows)?;
+    }
+    Ok(())
+}
