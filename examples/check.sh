@@ -124,6 +124,7 @@ if [ "$found" != 'status 5' ]; then
     printf 'examples: want of memory comes to\n%s\n' "$found" >&2
     wrong=1
 fi
+./check_failing_find.sh "$program" || wrong=1
 ./check_list_walk.sh || wrong=1
 ./check_probe_index.sh || wrong=1
 exit "$wrong"

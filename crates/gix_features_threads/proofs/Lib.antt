@@ -4,6 +4,7 @@ mod ReducedLemmas
 mod RoundsLemmas
 mod EndsLemmas
 mod EagerLemmas
+mod SendLemmas
 pub mod PipeLemmas
 pub mod WorkersLaws
 pub mod PipeLaws

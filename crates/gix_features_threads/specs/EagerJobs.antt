@@ -1,9 +1,14 @@
 -- What a worker begins with that draws an iterator's items. No clause of a public call cites this.
-use Rattle.std.specs.Prelude.{◌≡◌, true, Option}
+use Rattle.std.specs.Prelude.{◌≡◌, true, [], ◌∷◌, Option}
+use Rattle.std.specs.declared.snapshot.Snapshot.{Snapshot}
 use Rattle.crossbeam_channel.specs.Ends.{sends_on}
 use Rattle.crossbeam_channel.specs.Claims.{view, IsSeatAt}
 use Rattle.gix_features_threads.specs.declared.parallel.eager.worker.Job.{Job}
-use Rattle.gix_features_threads.specs.EagerMessages.{IsSent}
+use Rattle.gix_features_threads.specs.declared.ends.Hand.{Hand}
+use Rattle.gix_features_threads.specs.declared.parallel.eager.messages.Message.{Message}
+use Rattle.gix_features_threads.specs.declared.parallel.eager.messages.Message.TheVariants.{Begun}
+use Rattle.gix_features_threads.specs.Ends.{hand}
+use Rattle.gix_features_threads.specs.EagerMessages.{IsSent, AreTaken}
 
 -- The job's end of its channel has its pass, what was sent is that the iterator is as it is, and the iterator may be asked.
 pub record CanBegin {I T : Type 0} (can : I → Type 0) (steps : I → Option T → I → Type 0) (job : Job I T) : Type 0 where
@@ -11,3 +16,16 @@ pub record CanBegin {I T : Type 0} (can : I → Type 0) (steps : I → Option T 
   pub sends : (view job.pass).sends ≡ true
   pub sent : IsSent steps (view job.pass).sent job.iter
   pub asked : can job.iter
+
+-- How an iterator is was sent, and nothing else; nothing was taken.
+pub record IsBegun {I T : Type 0} (first : I) (v : Hand (Message I T)) : Type 0 where
+  pub start : Snapshot I
+  pub from_first : start.value ≡ first
+  pub begun : v ≡ hand true true (Begun start ∷ []) []
+
+-- How an iterator is was sent and taken, by who may do both.
+pub record IsKnown {I T : Type 0} (steps : I → Option T → I → Type 0) (first : I) (v : Hand (Message I T)) : Type 0 where
+  pub sends : v.sends ≡ true
+  pub takes : v.takes ≡ true
+  pub sent : IsSent steps v.sent first
+  pub taken : AreTaken first v.taken []

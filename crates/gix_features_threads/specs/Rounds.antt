@@ -1,5 +1,5 @@
 -- What workers make of a slice in rounds: each has a run of its items, and a round takes one item of each run.
-use Rattle.std.specs.Prelude.{◌≡◌, ℕ, suc, ◌+◌, ◌*◌, ◌/◌, ◌%◌, ◌<◌, ◌≤◌, min, List, [], ◌∷◌, ◌++◌, length, take, drop, slice_index_or, slice_set, Option, Some, None, Result, Ok, Err, IfOk, IfErr}
+use Rattle.std.specs.Prelude.{◌≡◌, ℕ, ◌+◌, ◌/◌, ◌%◌, ◌<◌, ◌≤◌, min, List, [], ◌∷◌, ◌++◌, length, take, drop, slice_index_or, slice_set, Option, Some, None, Result, Ok, Err, IfOk, IfErr}
 use Rattle.std.specs.Fn.{Shared}
 use Rattle.std.specs.List.{AllZip}
 use Rattle.std.specs.Borrow.{MutBor}
@@ -37,7 +37,7 @@ module _ {S T E : Type 0} (consumes : T → S → Result (Unit {0}) E → T → 
       Stops : {p q : P} {ss ts : List S} {items left : List T} {place : ℕ} → place < size
           → Round size place ss items (Ok tt) ts left → asks p None q → Rounds size place p ss items (Ok tt) ts left
       Goes : {p q : P} {ss ts us : List S} {items next left : List T} {place : ℕ} {answer : Result (Unit {0}) E} → place < size
-          → Round size place ss items (Ok tt) ts next → asks p (Some tt) q → Rounds size (suc place) q ts next answer us left
+          → Round size place ss items (Ok tt) ts next → asks p (Some tt) q → Rounds size (place + 1) q ts next answer us left
           → Rounds size place p ss items answer us left
 
 -- a call with an item and a state may give an answer, and leave another item and another state

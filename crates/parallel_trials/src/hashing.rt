@@ -30,12 +30,8 @@ impl Reduce for Hashes {
 
     fn finalize(self) -> Result<u64, NoMemory> {
         let Hashes { hasher } = self;
-        let hash = hasher.finalize();
-        let mut number = 0u64;
-        for byte in &hash[..8] {
-            number = number << 8 | u64::from(*byte);
-        }
-        Ok(number)
+        let [a, b, c, d, e, f, g, h, ..] = hasher.finalize();
+        Ok(u64::from_be_bytes([a, b, c, d, e, f, g, h]))
     }
 }
 

@@ -15,6 +15,7 @@ use std::thread::Threads;
 const IN_FLIGHT: usize = 4;
 
 /// What was seen.
+#[derive(Clone, Copy)]
 pub struct Seen {
     /// How many outputs were read, each in its turn.
     pub read: u32,

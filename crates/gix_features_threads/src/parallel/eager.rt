@@ -1,5 +1,6 @@
 //! Items of an iterator that a worker draws ahead.
 mod choice;
+mod elsewhere;
 mod iter;
 mod messages;
 mod source;

@@ -5,13 +5,22 @@ ghost use Rattle.gix_features_threads.specs.Rounds.{ChangesTo, Turn, Round, firs
 
 use std::thread::{Threads, join_mut};
 
+/// Which round it is.
+// Workers share it: a number that the closures of both halves captured would have no generated proof.
+#[derive(Clone, Copy)]
+pub(crate) struct Place {
+    /// How many items each run has, but those at the end.
+    pub(crate) size: usize,
+    /// Which item of its run each worker consumes.
+    pub(crate) at: usize,
+}
+
 /// Each worker consumes the item at a place of its run, all at once where threads can be started. Each run has so many
 /// items, but those at the end. The error of the first worker that has one is the answer.
 #[cycle(halves)]
 pub(crate) fn round<H, T, S, E, K>(
     rt: &H,
-    size: usize,
-    place: usize,
+    place: &Place,
     consume: &K,
     count: usize,
     items: &mut [T],
@@ -26,18 +35,17 @@ where
     requires some { 0 < count }
     requires count { length states.old ≡ count }
     requires consumes { K.IsAlwaysCallable consume.now }
-    ensures round { Round (ChangesTo K.Fn consume.now) size place states.old items.old result states.new items.new }
+    ensures round { Round (ChangesTo K.Fn consume.now) place.now.size place.now.at states.old items.old result states.new items.new }
 {
     if count == 1 {
-        return alone(size, place, consume, items, states);
+        return alone(place, consume, items, states);
     }
     let low = count / 2;
-    let cut = low.saturating_mul(size).min(items.len());
+    let cut = low.saturating_mul(place.size).min(items.len());
     let (mine, others) = items.split_at_mut(cut);
     let (first, rest) = states.split_at_mut(low);
-    both_halves(
+    let (a, b) = both_halves(
         rt,
-        size,
         place,
         consume,
         low,
@@ -46,7 +54,8 @@ where
         count - low,
         others,
         rest,
-    )
+    );
+    first_error(a, b)
 }
 
 /// A round of the workers of both halves, of which one has its items and the other has its own.
@@ -54,8 +63,7 @@ where
 #[cycle(halves)]
 fn both_halves<H, T, S, E, K>(
     rt: &H,
-    size: usize,
-    place: usize,
+    place: &Place,
     consume: &K,
     low: usize,
     mine: &mut [T],
@@ -63,7 +71,7 @@ fn both_halves<H, T, S, E, K>(
     high: usize,
     others: &mut [T],
     rest: &mut [S],
-) -> Result<(), E>
+) -> (Result<(), E>, Result<(), E>)
 where
     H: Threads + Sync,
     T: Send,
@@ -73,21 +81,18 @@ where
     requires some { (0 < low) × (0 < high) }
     requires count { (length first.old ≡ low) × (length rest.old ≡ high) }
     requires consumes { K.IsAlwaysCallable consume.now }
-    ensures both { (a : _) × (b : _) × Round (ChangesTo K.Fn consume.now) size place first.old mine.old a first.new mine.new
-        × Round (ChangesTo K.Fn consume.now) size place rest.old others.old b rest.new others.new × (result ≡ first_of a b) }
+    ensures front { Round (ChangesTo K.Fn consume.now) place.now.size place.now.at first.old mine.old result.0 first.new mine.new }
+    ensures back { Round (ChangesTo K.Fn consume.now) place.now.size place.now.at rest.old others.old result.1 rest.new others.new }
 {
     let mut front = || -> Result<(), E>
         requires { IsSync H.row × IsSync K.row × IsSend T.row × IsSend S.row × IsSend E.row × (0 < low) × (length first.now ≡ low) × K.IsAlwaysCallable consume.now }
-        ensures { Round (ChangesTo K.Fn consume.entry.now) size place first.entry.now mine.entry.now result first.exit.now mine.exit.now }
-    { round(rt, size, place, consume, low, mine, first) };
-    // A number that both closures captured would be lent twice, which has no generated proof.
-    let (run, at) = (size, place);
+        ensures { Round (ChangesTo K.Fn consume.entry.now) place.entry.now.size place.entry.now.at first.entry.now mine.entry.now result first.exit.now mine.exit.now }
+    { round(rt, place, consume, low, mine, first) };
     let mut back = || -> Result<(), E>
         requires { IsSync H.row × IsSync K.row × IsSend T.row × IsSend S.row × IsSend E.row × (0 < high) × (length rest.now ≡ high) × K.IsAlwaysCallable consume.now }
-        ensures { Round (ChangesTo K.Fn consume.entry.now) run at rest.entry.now others.entry.now result rest.exit.now others.exit.now }
-    { round(rt, run, at, consume, high, others, rest) };
-    let (a, b) = join_mut(rt, &mut front, &mut back);
-    first_error(a, b)
+        ensures { Round (ChangesTo K.Fn consume.entry.now) place.entry.now.size place.entry.now.at rest.entry.now others.entry.now result rest.exit.now others.exit.now }
+    { round(rt, place, consume, high, others, rest) };
+    join_mut(rt, &mut front, &mut back)
 }
 
 /// The first error, where there is one.
@@ -102,19 +107,18 @@ fn first_error<E: Drop>(a: Result<(), E>, b: Result<(), E>) -> Result<(), E>
 
 /// A round of one worker.
 fn alone<T, S, E, K: Fn(&mut T, &mut S) -> Result<(), E>>(
-    size: usize,
-    place: usize,
+    place: &Place,
     consume: &K,
     items: &mut [T],
     states: &mut [S],
 ) -> Result<(), E>
     requires one { length states.old ≡ 1 }
     requires consumes { K.IsAlwaysCallable consume.now }
-    ensures round { Round (ChangesTo K.Fn consume.now) size place states.old items.old result states.new items.new }
+    ensures round { Round (ChangesTo K.Fn consume.now) place.now.size place.now.at states.old items.old result states.new items.new }
 {
-    let cut = size.min(items.len());
+    let cut = place.size.min(items.len());
     let (run, _) = items.split_at_mut(cut);
-    turn(place, consume, run, &mut states[0])
+    turn(place.at, consume, run, &mut states[0])
 }
 
 /// A worker's turn: it consumes the item at a place of its run, if there is one.

@@ -7,7 +7,7 @@ ghost use Rattle.gix_features_threads.specs.Reduced.{IfReduced};
 ghost use Rattle.gix_features_threads.specs.Rounds.{ChangesTo, Begin, Rounds, IsOfRounds};
 
 use super::calls::ParallelError;
-use super::rounds::round;
+use super::rounds::{Place, round};
 use gix_features_parts::parallel::num_threads;
 use odb_disk::NoMemory;
 use std::alloc::Global;
@@ -94,11 +94,15 @@ where
     ensures rounds { Rounds (ChangesTo K.Fn consume.now) (λ p r q. P.step p r q) size 0 periodic states.old items.old result
         states.new items.new }
 {
-    'rounds: for place in 0..size {
+    'rounds: for at in 0..size {
         let workers = states.len();
-        round(rt, size, place, consume, workers, items, states)?;
-        if periodic().is_none() {
-            return Ok(());
+        match round(rt, &Place { size, at }, consume, workers, items, states) {
+            Ok(()) => {}
+            Err(error) => return Err(error),
+        }
+        match periodic() {
+            Some(()) => {}
+            None => return Ok(()),
         }
     }
     Ok(())

@@ -1,41 +1,22 @@
-//! How a worker begins: it awaits its job in a thread of its own.
-ghost use Rattle.std.specs.Prelude.{◌≡◌, ◌<◌, [], true, IfOk, IfErr};
+//! How a worker begins, of whose messages it is known from the first what they tell of the iterator.
+ghost use Rattle.std.specs.Prelude.{◌≡◌, ◌<◌, [], true, IfOk, OnOk};
 ghost use Rattle.crossbeam_channel.specs.Ends.{sends_on, receives_on};
 ghost use Rattle.crossbeam_channel.specs.Claims.{view, IsSeatAt};
 ghost use Rattle.gix_features_threads.specs.Ends.{hand};
 ghost use Rattle.gix_features_threads.specs.EagerMessages.{IsSent, AreTaken};
-ghost use Rattle.gix_features_threads.specs.EagerJobs.{CanBegin};
+ghost use Rattle.gix_features_threads.specs.EagerJobs.{IsBegun, IsKnown};
 ghost use Rattle.gix_features_threads.specs.Eager.{MayDraw, Came};
 
+use super::elsewhere::run_elsewhere;
 use super::messages::{EagerPass, Faithful, Message, Receiver, Sender, channel};
 use super::source::{Source, Worker};
-use super::worker::{Job, draw_all};
-use crate::ends::{Hand, InOrder, Law, Roles, Sends, Takes};
-use crossbeam_channel::{Pass, RuledReceiver, RuledSender, SendError, bounded_with};
+use super::worker::Job;
+use crate::ends::{Roles, Sends, Takes};
 use odb_disk::NoMemory;
 use std::alloc::Global;
 use std::snapshot::Snapshot;
 use std::sync::Wait;
-use std::thread;
-use std::thread::{JoinHandle, Threads};
-
-/// A job that a worker can begin with.
-pub struct Ready;
-
-impl<I: Iterator> Law<Job<I>> for Ready
-where
-    I::Item: Drop,
-{
-    ghost use Rattle.std.specs.Prelude.{All};
-
-    ghost keeps = { λ jobs. All (CanBegin I.can_next I.next_gives) jobs };
-}
-
-type JobSender<I> = RuledSender<Job<I>, Hand<Job<I>>, InOrder<Ready>>;
-
-type JobReceiver<I> = RuledReceiver<Job<I>, Hand<Job<I>>, InOrder<Ready>>;
-
-type JobPass<I> = Pass<Job<I>, Hand<Job<I>>>;
+use std::thread::Threads;
 
 /// Both ends of a channel, over which nothing went but how the iterator was.
 struct Ends<I: Iterator>
@@ -64,13 +45,8 @@ where
         × AreTaken iter.now (view e.takes).taken []) }
 {
     let (sender, receiver, mut sends) = channel(alloc, in_flight)?;
-    let start = Snapshot::of(iter);
-    let Ok(()) = sender.send_as::<Sends, H>(rt, &mut sends, Message::Begun(start)) else {
-        return Err(NoMemory);
-    };
-    let Ok(_) = receiver.recv_as::<Takes<Faithful>, H>(rt, &mut sends) else {
-        return Err(NoMemory);
-    };
+    send_begun(rt, &sender, &mut sends, iter)?;
+    take_begun(rt, &receiver, &mut sends)?;
     let takes = sender.another::<Roles>(&mut sends);
     Ok(Ends {
         sender,
@@ -78,6 +54,46 @@ where
         receiver,
         takes,
     })
+}
+
+/// Sends how an iterator is, through a new channel.
+fn send_begun<I: Iterator, H: Wait>(
+    rt: &H,
+    sender: &Sender<I>,
+    pass: &mut EagerPass<I>,
+    iter: &I,
+) -> Result<(), NoMemory>
+where
+    I::Item: Drop,
+    requires seated { IsSeatAt (sends_on sender.now) pass.old }
+    requires fresh { view pass.old ≡ hand true true [] [] }
+    ensures seated { IsSeatAt (sends_on sender.now) pass.new }
+    ensures sent { OnOk result (IsBegun iter.now (view pass.new)) }
+{
+    let start = Snapshot::of(iter);
+    let Ok(()) = sender.send_as::<Sends, H>(rt, pass, Message::Begun(start)) else {
+        return Err(NoMemory);
+    };
+    Ok(())
+}
+
+/// Takes how an iterator was, where that alone was sent.
+fn take_begun<I: Iterator, H: Wait>(
+    rt: &H,
+    receiver: &Receiver<I>,
+    pass: &mut EagerPass<I>,
+) -> Result<(), NoMemory>
+where
+    I::Item: Drop,
+    requires seated { IsSeatAt (receives_on receiver.now) pass.old }
+    requires takes { (view pass.old).takes ≡ true }
+    ensures seated { IsSeatAt (receives_on receiver.now) pass.new }
+    ensures taken { OnOk result ((first : I) → IsBegun first (view pass.old) → IsKnown I.next_gives first (view pass.new)) }
+{
+    let Ok(_) = receiver.recv_as::<Takes<Faithful>, H>(rt, pass) else {
+        return Err(NoMemory);
+    };
+    Ok(())
 }
 
 /// A worker that draws an iterator's items; or the iterator, where no thread can be started.
@@ -117,74 +133,5 @@ where
             handle,
         })),
         Err(job) => Ok(Source::Here(job.into_inner())),
-    }
-}
-
-/// Does a job in a thread of its own. The job comes back where no thread can be started.
-fn run_elsewhere<I, H>(
-    rt: H,
-    alloc: Global,
-    job: Job<I>,
-) -> Result<Result<JoinHandle<()>, Job<I>>, NoMemory>
-where
-    I: Iterator + Send + Drop + 'static,
-    I::Item: Send + Drop + 'static,
-    H: Threads + Wait + Copy + Send + 'static,
-    requires can { CanBegin I.can_next I.next_gives job }
-    ensures same { IfOk result (λ r. IfErr r (λ back. back ≡ job)) }
-{
-    let (to, jobs, mut pass) = job_channel(alloc)?;
-    let theirs = to.another::<Roles>(&mut pass);
-    let await_job = move ||
-        requires { IsSeatAt (receives_on jobs) theirs × ((view theirs).takes ≡ true) × ((view theirs).taken ≡ []) }
-    { work(&rt, jobs, theirs) };
-    let Ok(handle) = thread::spawn(&rt, await_job) else {
-        return Ok(Err(job));
-    };
-    match to.send_as::<Sends, H>(&rt, &mut pass, job) {
-        Ok(()) => Ok(Ok(handle)),
-        Err(SendError::Disconnected(job)) => Ok(Err(join_first(&rt, to, handle, job))),
-        Err(SendError::OutOfMemory(job)) => Ok(Err(join_first(&rt, to, handle, job))),
-    }
-}
-
-/// Joins a thread that got no job.
-fn join_first<I: Iterator, H: Threads>(
-    rt: &H,
-    to: JobSender<I>,
-    handle: JoinHandle<()>,
-    job: Job<I>,
-) -> Job<I>
-where
-    I::Item: Drop,
-    ensures same { result ≡ job }
-{
-    drop(to);
-    handle.join(rt);
-    job
-}
-
-/// A channel for one job, and the pass of whoever sends and takes it.
-fn job_channel<I: Iterator + Drop>(
-    alloc: Global,
-) -> Result<(JobSender<I>, JobReceiver<I>, JobPass<I>), NoMemory>
-where
-    I::Item: Drop,
-    ensures ends { IfOk result (λ r. (receives_on r.1 ≡ sends_on r.0) × IsSeatAt (sends_on r.0) r.2 × (view r.2 ≡ hand true true [] [])) }
-{
-    Ok(bounded_with(alloc, 1)?)
-}
-
-/// Awaits a job, and does it. There is none where whoever has it is gone.
-fn work<I: Iterator + Drop, H: Wait>(rt: &H, jobs: JobReceiver<I>, mut pass: JobPass<I>)
-where
-    I::Item: Drop,
-    requires seated { IsSeatAt (receives_on jobs) pass }
-    requires takes { (view pass).takes ≡ true }
-    requires none { (view pass).taken ≡ [] }
-{
-    if let Ok(job) = jobs.recv_as::<Takes<Ready>, H>(rt, &mut pass) {
-        drop(jobs);
-        draw_all(rt, job);
     }
 }

@@ -5,6 +5,7 @@ ghost use Rattle.crossbeam_channel.specs.Claims.{view, IsSeatAt};
 ghost use Rattle.gix_features_threads.specs.EagerMessages.{IsTold, AreDrawn};
 ghost use Rattle.gix_features_threads.specs.EagerJobs.{CanBegin};
 
+use super::elsewhere::Task;
 use super::messages::{EagerPass, Message, Sender};
 use crate::ends::Sends;
 use odb_disk::NoMemory;
@@ -41,6 +42,17 @@ where
             size: _,
         } = self;
         iter
+    }
+}
+
+impl<I: Iterator + Drop> Task for Job<I>
+where
+    I::Item: Drop,
+{
+    ghost can_begin = { CanBegin I.can_next I.next_gives };
+
+    fn run<H: Wait>(self, rt: &H) {
+        draw_all(rt, self);
     }
 }
 

@@ -1,12 +1,12 @@
 -- The rounds of both halves of the workers are one round.
-use Rattle.std.proofs.Common.{◌≡◌, ◌*◌, ◌/◌, length, min, refl, arith}
+use Rattle.std.proofs.Common.{◌/◌, refl, arith}
 use Rattle.gix_features_threads.specs.Rounds.{ChangesTo}
 use Rattle.gix_features_threads.proofs.RoundsLemmas.{Round-halves}
 use Rattle.gix_features_threads.proofs.parallel.rounds.+halves.Goals as goal
 
 pub round-returns : goal.round-returns
-round-returns g t c =
-    let both = c.both_halves.ensures.both in
-    Round-halves (ChangesTo g.K.Fn c.args.consume.now) c.args.size c.args.place (c.args.count / 2) c.min-cut.result c.args.states.now _ _ c.args.items.now _ _ both.0 both.1 _
-    _ _ _ _ _ _ c.split_at_mut-first.ensures.value c.split_at_mut-first.ensures.front_len (omega (arith, c.min-cut.ensures)) c.split_at_mut-mine.ensures.front c.split_at_mut-mine.ensures.back
-    refl refl both.4 both.2 both.3
+round-returns g t c = record {
+  round = Round-halves (ChangesTo g.K.Fn c.args.consume.now) c.args.place.now.size c.args.place.now.at (c.args.count / 2) c.min-cut.result c.args.states.now _ _ c.args.items.now _ _ _ _ _
+      _ _ _ _ _ _ c.split_at_mut-first.ensures.value c.split_at_mut-first.ensures.front_len (omega (arith, c.min-cut.ensures)) c.split_at_mut-mine.ensures.front c.split_at_mut-mine.ensures.back
+      refl refl c.first_error.ensures.first c.both_halves-a.ensures.front c.both_halves-a.ensures.back;
+}

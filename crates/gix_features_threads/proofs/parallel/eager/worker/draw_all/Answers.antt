@@ -1,7 +1,6 @@
 -- What is sent goes on with what was sent: the next items, or that there are no more.
-use Rattle.std.proofs.Common.{◌≡◌, refl, sym, subst, rules}
-use Rattle.gix_features_threads.specs.EagerMessages.{IsSent}
-use Rattle.gix_features_threads.proofs.EagerLemmas.{sent_chunk, told_sent, told_whole}
+use Rattle.std.proofs.Common.{refl, rules}
+use Rattle.gix_features_threads.proofs.EagerLemmas.{sent_chunk, sent_chunk_to, told_sent, told_whole}
 use Rattle.gix_features_threads.proofs.parallel.eager.worker.draw_all.Goals as goal
 
 pub send-requires-clause-told : goal.send-requires-clause-told
@@ -10,8 +9,8 @@ send-requires-clause-told g c =
     let drawn = c.in-Ok.ensures.drawn in
     told_sent steps _ _ (sent_chunk steps _ _ _ _ c.in-Ok.chunk c.drawing.invariant.sent drawn.yields refl)
 
-pub send-then-has_ended-requires-clause-told : goal.send-then-has_ended-requires-clause-told
-send-then-has_ended-requires-clause-told g c =
+pub send-requires-then-has_ended-clause-told : goal.send-requires-then-has_ended-clause-told
+send-requires-then-has_ended-clause-told g c =
     let steps = g.I.Iterator.next_gives in
     let drawn = c.in-Ok.ensures.drawn in
     told_whole steps _ _ _ (sent_chunk steps _ _ _ _ c.in-Ok.chunk c.drawing.invariant.sent drawn.yields (c.send.ensures.sent (search rules))) (drawn.ended c.if-has_ended.true)
@@ -24,6 +23,6 @@ drawing-preserved g c =
     record {
       seated = c.send.ensures.seated.0;
       sends = c.send.ensures.seated.1;
-      sent = subst (λ t. IsSent steps _ t) more.0 (sent_chunk steps _ _ _ _ c.in-Ok.chunk c.drawing.invariant.sent drawn.yields (c.send.ensures.sent (search rules)));
+      sent = sent_chunk_to steps _ _ _ _ _ c.in-Ok.chunk c.drawing.invariant.sent drawn.yields more.0 (c.send.ensures.sent (search rules));
       asked = more.1;
     }

@@ -1,7 +1,5 @@
 -- Nothing is at hand at first.
-use Rattle.gix_features_threads.specs.Eager.{Came}
-use Rattle.std.proofs.Common.{List, sym, subst, ◌++◌, []}
 use Rattle.gix_features_threads.proofs.parallel.eager.iter.EagerIter.new.Goals as goal
 
 pub returns-clause-begun : goal.returns-clause-begun
-returns-clause-begun g c = rw c.into_iter-at_hand.ensures c.in_ok-source.ensures.none
+returns-clause-begun g c = rw (c.into_iter-at_hand.ensures.rest, c.new.ensures.items) c.in_ok-source.ensures.none

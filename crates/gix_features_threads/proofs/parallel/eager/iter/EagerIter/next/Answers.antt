@@ -1,12 +1,10 @@
 -- What is at hand is given first, and each chunk is at hand where nothing was.
-use Rattle.gix_features_threads.proofs.DealtLemmas.{into_iter-end, into_iter-left}
 use Rattle.gix_features_threads.proofs.EagerLemmas.{given_next}
-use Rattle.std.proofs.Common.{refl}
 use Rattle.gix_features_threads.proofs.parallel.eager.iter.EagerIter.next.Goals as goal
 
 pub drawing-init : goal.drawing-init
 drawing-init g c = record { ready = c.requires.ready; same = λ first items was. was }
 
-pub returns-in-Some-clause-given : goal.returns-in-Some-clause-given
-returns-in-Some-clause-given g c first items was =
-    given_next g.I.Iterator.next_gives first _ _ items c.in-Some.item refl c.in-Some.ensures.cases.0 (c.drawing.invariant.same first items was)
+pub returns-in-Some-next-clause-given : goal.returns-in-Some-next-clause-given
+returns-in-Some-next-clause-given g c first items was =
+    given_next g.I.Iterator.next_gives first _ _ _ items c.in-Some-next.item c.in-Some-next.ensures.cases.0 (c.drawing.invariant.same first items was)

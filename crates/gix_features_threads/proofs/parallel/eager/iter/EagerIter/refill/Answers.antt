@@ -1,10 +1,10 @@
 -- A chunk is at hand where nothing was; and where the worker said that these were all, they were.
-use Rattle.std.proofs.Common.{refl, true≢false}
 use Rattle.gix_features_threads.proofs.EagerLemmas.{came_taken, given_chunk}
 use Rattle.gix_features_threads.proofs.parallel.eager.iter.EagerIter.refill.Goals as goal
 
 pub returns-in-Ok-Some-clause-more : goal.returns-in-Ok-Some-clause-more
-returns-in-Ok-Some-clause-more g c yes first items was =
+returns-in-Ok-Some-clause-more g c is_more first items was =
     let steps = g.I.Iterator.next_gives in
     let taken = came_taken steps first c.args.self.now.source _ _ c.in-Elsewhere.is was in
-    given_chunk steps first c.args.self.now _ items _ c.requires.used c.into_iter.ensures (c.in-Ok-Some.ensures.taken first _ taken)
+    let told = rw c.in-Ok-Some.field-0-is at c.in-Ok-Some.ensures.taken in
+    given_chunk steps first _ _ _ items _ c.requires.used c.into_iter.ensures.rest (told first _ taken)

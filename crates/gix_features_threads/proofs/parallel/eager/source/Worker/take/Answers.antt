@@ -12,7 +12,7 @@ pub returns-in-Ok-Chunk-clause-taken : goal.returns-in-Ok-Chunk-clause-taken
 returns-in-Ok-Chunk-clause-taken g c first items was =
     let told = rw c.in-Ok-Chunk.field-0-is at c.in-Ok-Chunk.ensures.rule in
     let more = taken_chunk g.I.Iterator.next_gives first _ _ items c.in-Ok-Chunk.chunk was (ap (λ v. v.taken) told.0) told.1 in
-    record { of = more.0; drawn = more.1 }
+    record { of = more.0; drawn = (more.1, more.2) }
 
 pub returns-in-Ok-Whole-clause-taken : goal.returns-in-Ok-Whole-clause-taken
 returns-in-Ok-Whole-clause-taken g c first items was =

@@ -1,0 +1,10 @@
+use Rattle.std.proofs.Common.{sym, subst}
+use Rattle.gix_odb_shown.specs.Kept.{Fits, Kept}
+use Rattle.gix_odb_shown.proofs.KeepsLaws.{keeps_nothing}
+use Rattle.shown_tests.proofs.words.made_all.Goals as goal
+
+-- at first nothing is kept
+pub loop-words-init : goal.loop-words-init
+loop-words-init c =
+    let kept = keeps_nothing (λ moment. c.in_ok-tree.tree) 0 in
+    subst (λ (kept : Kept). Fits kept c.in_ok-tree.tree) (sym c.new-shown.ensures.empty) kept.fits
