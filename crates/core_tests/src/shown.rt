@@ -23,7 +23,7 @@ pub fn put_answer(text: &mut Text, answer: &Result<Effect, Refusal>) {
 fn put_effect(text: &mut Text, effect: &Effect) {
     match effect {
         Effect::Seen(view) => put_view(text, "seen #", view),
-        Effect::Reported { view, report } => put_reported(text, view, report),
+        Effect::Reported { view, report } => put_reported(text, view, report.value()),
         Effect::Removed => text.put("removed"),
         Effect::Put { view, stored } => {
             put_view(text, if *stored { "stored #" } else { "left #" }, view);

@@ -69,7 +69,7 @@ pub enum Effect {
     /// The view.
     Seen(View),
     /// The report, beside the view.
-    Reported { view: View, report: Report },
+    Reported { view: View, report: Shared<Report> },
     /// The handle is gone.
     Removed,
     /// Whether the file was stored, beside the view.

@@ -1,5 +1,5 @@
 //! What is counted of a core, and what it reports.
-ghost use Rattle.std.specs.Prelude.{◌≡◌, IfOk};
+ghost use Rattle.std.specs.Prelude.{◌≡◌};
 ghost use Rattle.gix_odb_core.specs.Countable.{IsCountable};
 ghost use Rattle.gix_odb_core.specs.Metrics.{metrics_of};
 
@@ -8,7 +8,7 @@ use crate::event::PassWhy;
 use crate::shape::Shape;
 use gix_odb_slots::ListedList;
 use gix_odb_slots::counts::{count_unused, disposable_tally, listed_tally};
-use odb_base::{NoMemory, PathText, Sequence};
+use odb_base::{PathText, Sequence};
 
 /// Counts over a core.
 #[derive(Clone, Copy, Debug, Default, PartialEq, Eq)]
@@ -42,30 +42,15 @@ pub struct Passed {
     pub why: PassWhy,
 }
 
-/// The files that were passed over, in the order of the journal. A report that is handed over and its entry in the journal share them.
+/// The files that were passed over, in the order of the journal.
 pub type PassedList = Shared<Sequence<Passed>>;
 
-/// What a core reports of itself.
+/// What a core reports of itself. The one that is handed over and the one in the journal are the same.
 #[derive(Drop)]
 pub struct Report {
     pub metrics: Metrics,
     pub listed: ListedList,
     pub passed_over: PassedList,
-}
-
-impl Report {
-    /// A copy, which shares the lists.
-    pub fn try_clone(&self) -> Result<Report, NoMemory>
-        ensures copy { IfOk result (λ copy. copy ≡ self.now) }
-    {
-        let listed = self.listed.try_clone()?;
-        let passed_over = self.passed_over.try_clone()?;
-        Ok(Report {
-            metrics: self.metrics,
-            listed,
-            passed_over,
-        })
-    }
 }
 
 impl Shape {

@@ -121,7 +121,7 @@ impl State {
     }
 
     /// What a core reports of itself.
-    fn report(&self, alloc: Global) -> Result<Report, NoMemory>
+    fn report(&self, alloc: Global) -> Result<Shared<Report>, NoMemory>
         requires kept { IsKept self.now }
         ensures report { IfOk result (λ report. report ≡ report_of self.now.shape self.now.journal.entries.items) }
     {
@@ -131,11 +131,12 @@ impl State {
             self.shape.list.as_slice(),
         )?;
         let passed_over = reported(alloc, self.passed.as_slice())?;
-        Ok(Report {
+        let report = Report {
             metrics: self.shape.metrics(self.refreshes),
             listed,
             passed_over,
-        })
+        };
+        Ok(Shared::new(alloc, report)?)
     }
 
     /// What an event comes to.
@@ -166,7 +167,8 @@ impl State {
         (self.journal.entries.len() as u64).saturating_add(1)
     }
 
-    /// Makes room for the event's entry, and for one more for each handle that will be registered then.
+    /// Makes room for the event's entry, and for one more for each handle that will be registered then. A journal that begins
+    /// gets just this room, since those of most stores stay short.
     fn make_room(&mut self, event: &Event) -> Result<(), NoMemory>
         ensures same { self.new ≡ entered self.old self.new.journal }
         ensures entries { self.new.journal.entries.items ≡ self.old.journal.entries.items }
@@ -178,7 +180,11 @@ impl State {
             Event::Register { .. } => handles + 2,
             _ => handles + 1,
         };
-        self.journal.entries.reserve(room)?;
+        if self.journal.entries.is_empty() {
+            self.journal.entries.reserve_exact(room)?;
+        } else {
+            self.journal.entries.reserve(room)?;
+        }
         Ok(())
     }
 

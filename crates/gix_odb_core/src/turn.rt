@@ -2,6 +2,7 @@
 ghost use Rattle.std.specs.Prelude.{◌≡◌, IfOk};
 ghost use Rattle.gix_odb_core.specs.Turn.{answer_with, quiet};
 
+use crate::Shared;
 use crate::event::{Effect, Refusal};
 use crate::metrics::Report;
 use crate::shape::Shelf;
@@ -12,7 +13,7 @@ use odb_base::NoMemory;
 #[derive(Drop)]
 pub(crate) enum Told {
     Seen,
-    Reported(Report),
+    Reported(Shared<Report>),
     Removed,
     Put { stored: bool },
     Published,
@@ -37,7 +38,7 @@ impl Turn {
     }
 }
 
-fn reported(report: &Report, view: &View) -> Result<Effect, NoMemory>
+fn reported(report: &Shared<Report>, view: &View) -> Result<Effect, NoMemory>
     ensures effect { IfOk result (λ effect. effect ≡ Effect.Reported view.now report.now) }
 {
     let view = view.try_clone()?;

@@ -38,7 +38,7 @@ impl MemDisk {
     ghost use Rattle.std.specs.FinSet as set;
     ghost use Rattle.odb_tree.specs.Tree.{IsTree, tree_of};
     ghost use Rattle.odb_tree.specs.Tree.Change.{is_possible};
-    ghost use Rattle.odb_disk.specs.Ask.{change_of_ask};
+    ghost use Rattle.odb_disk.specs.Ask.{change_of_ask, fails_now};
     ghost use Rattle.odb_disk.specs.MemDisk.{new_volume, after_outside_change, after_call, next_fails};
 
     /// The root alone, device 0, inode number 1, and no call that is to fail.
@@ -81,6 +81,16 @@ impl MemDisk {
         ensures change { IfOk result (λ change. change ≡ change_of_ask (tree_of self.now.state) ask.now) }
     {
         change_of(alloc, &self.tree, ask)
+    }
+
+    /// Whether a call would fail, were it made now.
+    pub fn fails_now(&self, ask: &DiskAsk) -> bool
+        ensures fails { result ≡ fails_now self.now ask.now }
+    {
+        match ask {
+            DiskAsk::CloseDir { .. } => false,
+            _ => self.calls.next_fails(),
+        }
     }
 
     /// The tree that the disk shows now.
