@@ -2,10 +2,10 @@
 ghost use Rattle.std.specs.Prelude.{◌≡◌, ◌∷◌, IfOk, None, OnOk, Some};
 ghost use Rattle.std.specs.Option.{option_map};
 ghost use Rattle.std.specs.Result.{result_err};
-ghost use Rattle.odb_disk.specs.Ask.{change_of_ask, fails_now};
+ghost use Rattle.odb_disk.specs.Ask.{change_of_ask};
 ghost use Rattle.odb_tree.specs.Tree.{Tree as TreeValue, tree_of};
 ghost use Rattle.gix_odb_shown.specs.Kept.{Fits};
-ghost use Rattle.gix_odb_world.specs.Run.{change_asked, change_by, has_failed};
+ghost use Rattle.gix_odb_world.specs.Run.{change_asked, change_by};
 ghost use Rattle.gix_odb_world.specs.Valid.{IsFirstReason};
 ghost use Rattle.gix_odb_world.specs.Watch.{NotesMade, ShowsSecondBy, TellsChange, Watches};
 ghost use Rattle.gix_odb_world.specs.WorkOrder.{asks_on};
@@ -16,7 +16,7 @@ use gix_odb_calls::{PathList, Why};
 use gix_odb_packs::PartAsk;
 use gix_odb_shown::{Revealed, Shown};
 use odb_base::NoMemory;
-use odb_disk::{Change, DiskAnswer, DiskAsk, DiskError, MemDisk, PathText, Tree};
+use odb_disk::{Change, DiskAsk, MemDisk, PathText, Tree};
 use std::alloc::Global;
 
 /// Watches the folders of a store from now on.
@@ -85,35 +85,17 @@ fn judged_call(
 {
     // The proof takes from this call that the disk shows a tree, in which the change of a call is possible.
     let tree = disk.tree();
+    if disk.fails_now(ask) {
+        return Ok(Ok(None));
+    }
     let Some(change) = disk.change_of(alloc, ask)? else {
         return Ok(Ok(None));
     };
     let revealed = shown.revealed(alloc, tree, &change)?;
-    if !shown.has_second(&revealed) {
-        return Ok(Ok(Some(revealed)));
+    if shown.has_second(&revealed) {
+        return Ok(Err(Why::TwoContents));
     }
-    if fails(alloc, disk, ask)? {
-        return Ok(Ok(Some(revealed)));
-    }
-    Ok(Err(Why::TwoContents))
-}
-
-/// Whether a call would fail now. A disk doesn't tell which of its calls are to fail, so a copy of it makes the call.
-fn fails(alloc: Global, disk: &MemDisk, ask: &DiskAsk) -> Result<bool, NoMemory>
-    ensures fails { IfOk result (λ fails. fails ≡ fails_now disk.now ask.now) }
-{
-    let mut copy = disk.try_clone(alloc)?;
-    let answer = copy.carry_out(alloc, ask)?;
-    Ok(is_failure(&answer))
-}
-
-fn is_failure(answer: &DiskAnswer) -> bool
-    ensures failure { result ≡ has_failed answer.now }
-{
-    match answer {
-        DiskAnswer::Refused(DiskError::Failed) => true,
-        _ => false,
-    }
+    Ok(Ok(Some(revealed)))
 }
 
 /// Keeps what the change of a turn made watched paths show, if it made one.
