@@ -17,14 +17,14 @@ returns-in-Some-clause-continues c =
 
 pub returns-in_ok-made-in-Ok-clause-continues : goal.returns-in_ok-made-in-Ok-clause-continues
 returns-in_ok-made-in-Ok-clause-continues c =
-    on_ok_weaker c.note-2.result
-    (made_change c.args.self.now c.note-2.new.self c.note.new.self c.change.new.self c.args.change.now c.in_ok-made-in-Ok.made
+    on_ok_weaker c.note-in-Ok.result
+    (made_change c.args.self.now c.note-in-Ok.new.self c.note.new.self c.change.new.self c.args.change.now c.in_ok-made-in-Ok.made
     (subst (IsReasonNow c.args.self.now (steps.Disk c.args.change.now)) c.in_default.is c.in_ok-why.ensures.why)
     (record {
       notes = subst (λ t. Notes c.args.self.now.shown c.args.self.now.shown.folders (changed t c.args.change.now) c.note.new.self) c.tree.ensures.shown c.in_ok-note.ensures.notes;
       fits = subst (λ t. Fits c.note.new.self (changed t c.args.change.now)) c.tree.ensures.shown c.in_ok-note.ensures.fits;
     })
-    c.in-Ok.ensures.made c.in_ok-made-in-Ok.ensures.copy) c.note-2.ensures.notes
+    c.in-Ok.ensures.made c.in_ok-made-in-Ok.ensures.copy) c.note-in-Ok.ensures.notes
 
 pub why_not_change-requires : goal.why_not_change-requires
 why_not_change-requires c = record { fits = fits_now c.args.self.now c.requires.explained }
