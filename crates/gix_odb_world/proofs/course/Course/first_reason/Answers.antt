@@ -3,7 +3,7 @@ use Rattle.std.specs.Result.{IfOk}
 use Rattle.gix_odb_calls.specs.declared.step.Step.{Step}
 use Rattle.gix_odb_world.specs.Table.{IsReasonNow}
 use Rattle.gix_odb_world.proofs.ValidLaws.{if_reason_is, reason_is}
-use Rattle.gix_odb_world.proofs.course.reason.Course.first_reason.Goals as goal
+use Rattle.gix_odb_world.proofs.course.Course.first_reason.Goals as goal
 
 pub returns-in-Open : goal.returns-in-Open
 returns-in-Open c = record {
