@@ -1,8 +1,9 @@
--- What a turn's call of the disk would make watched paths show, and whether it is a second content.
-use Rattle.std.proofs.Common.{◌≡◌, Bool, true, false, Option, Some, None, Result, Ok, Err, OnOk, refl, sym, ap, ◌∙◌, subst}
-use Rattle.std.specs.Prelude.{if◌then◌else◌}
-use Rattle.std.specs.Result.{IfOk, result_err}
-use Rattle.odb_disk.specs.Ask.{change_of_ask, fails_now}
+-- What is judged of a turn that may change what watched paths show, and what is kept after it.
+use Rattle.std.proofs.Common.{◌≡◌, ◌≢◌, ℕ, true, false, Option, Some, None, is_some, Result, Ok, Err, OnOk, refl, sym, ap, subst}
+use Rattle.std.specs.Prelude.{IfOk}
+use Rattle.std.specs.Result.{result_err}
+use Rattle.std.proofs.lemmas.Bool.{false≢true}
+use Rattle.odb_disk.specs.Ask.{change_of_ask}
 use Rattle.odb_disk.specs.MemDisk.{Volume}
 use Rattle.odb_disk.specs.declared.ask.DiskAsk.{DiskAsk}
 use Rattle.odb_disk.proofs.AskedLaws.{asked_possible}
@@ -13,85 +14,62 @@ use Rattle.gix_odb_shown.specs.Kept.{Fits, IsSecond, Kept, Notes}
 use Rattle.gix_odb_shown.specs.Revealed.{IsRevealed}
 use Rattle.gix_odb_shown.specs.declared.revealed.Revealed.{Revealed}
 use Rattle.gix_odb_calls.specs.declared.step.Why.{Why}
-use Rattle.gix_odb_calls.specs.declared.step.Why.TheVariants.{TwoContents}
-use Rattle.gix_odb_world.specs.Run.{change_by}
+use Rattle.gix_odb_packs.specs.declared.answer.PartAsk.{PartAsk}
+use Rattle.gix_odb_packs.specs.declared.answer.PartAsk.TheVariants as parts
+use Rattle.gix_odb.specs.declared.handle_state.HandleState.{HandleState}
+use Rattle.gix_odb_world.specs.Event.{Ask, ToDisk, part_asked}
+use Rattle.gix_odb_world.specs.Run.{change_asked}
 use Rattle.gix_odb_world.specs.Valid.{IsFirstReason}
 use Rattle.gix_odb_world.specs.Watch.{NotesMade, ShowsSecondBy, TellsChange}
+use Rattle.gix_odb_world.specs.WorkOrder.{asks_or}
 
--- what is judged of a call
-abbrev pub IsJudged : Volume → Kept → DiskAsk → Result (Option Revealed) Why → Type 0
-IsJudged disk kept ask judged =
-    IsFirstReason None (ShowsSecondBy kept (tree_of disk.state) (change_by disk ask)) (result_err judged)
-    × IfOk judged (TellsChange kept.folders (tree_of disk.state) (change_by disk ask))
+-- the change of a call is possible in the tree of the disk
+pub told_possible : (disk : Volume) (ask : DiskAsk) (told : Tree) → told ≡ tree_of disk.state → (change : Change) → Some change ≡ change_of_ask (tree_of disk.state) ask
+    → IsTree (tree_of disk.state) → is_possible_in told change ≡ true
+told_possible disk ask told shown change is is_tree =
+    subst (λ t. is_possible_in t change ≡ true) (sym shown) (asked_possible (tree_of disk.state) is_tree ask change (sym is))
 
-module _ (disk : Volume) (kept : Kept) (ask : DiskAsk) where
-  abbrev tree : Tree
-  tree = tree_of disk.state
+-- ---- what is judged of a turn
 
-  -- a call that makes no change shows nothing
-  none_by : (fails : Bool) → change_of_ask tree ask ≡ None → (if fails then None else change_of_ask tree ask) ≡ None
-  none_by true none = refl
-  none_by false none = none
+-- what is judged of what a turn asks for
+abbrev pub IsJudgedOf : Volume → Kept → Option Ask → Result (Option Revealed) Why → Type 0
+IsJudgedOf disk kept asked judged =
+    IsFirstReason None (ShowsSecondBy kept (tree_of disk.state) (change_asked disk asked)) (result_err judged)
+    × IfOk judged (TellsChange kept.folders (tree_of disk.state) (change_asked disk asked))
 
-  first_by : (change : Option Change) → change ≡ None → IsFirstReason None (ShowsSecondBy kept tree change) None × TellsChange kept.folders tree change None
-  first_by None none = (λ second. second, tt)
-  first_by (Some change) none = absurd (cc none)
+-- a turn that has a core made changes nothing
+pub judged_registering : (disk : Volume) (kept : Kept) (handle : HandleState) (slots : Option ℕ) (asked : Option PartAsk) → is_some slots ≡ true
+    → IsJudgedOf disk kept (asks_or handle slots asked) (Ok None)
+judged_registering disk kept handle None asked registers = absurd (false≢true registers)
+judged_registering disk kept handle (Some slots) asked registers = (λ second. second, tt)
 
-  pub judged_none : None ≡ change_of_ask tree ask → IsJudged disk kept ask (Ok None)
-  judged_none none = first_by (change_by disk ask) (none_by (fails_now disk ask) (sym none))
+-- nor does one that asks nothing of the disk
+pub judged_undisked : (disk : Volume) (kept : Kept) (handle : HandleState) (slots : Option ℕ) (asked : Option PartAsk) → ((ask : DiskAsk) → asked ≢ Some (parts.Disk ask))
+    → IsJudgedOf disk kept (asks_or handle slots asked) (Ok None)
+judged_undisked disk kept handle (Some slots) asked none = (λ second. second, tt)
+judged_undisked disk kept handle None None none = (λ second. second, tt)
+judged_undisked disk kept handle None (Some (parts.Disk ask)) none = absurd (none ask refl)
+judged_undisked disk kept handle None (Some (parts.Core event)) none = (λ second. second, tt)
 
-  module _ (change : Change) (is : Some change ≡ change_of_ask tree ask) where
-    pub judged_possible : IsTree tree → is_possible_in tree change ≡ true
-    judged_possible is_tree = asked_possible tree is_tree ask change (sym is)
-
-    made_by : (fails : Bool) → fails_now disk ask ≡ fails → change_by disk ask ≡ (if fails then None else Some change)
-    made_by fails same = ap (λ b. if b then None else change_of_ask tree ask) same ∙ ap (λ o. if fails then None else o) (sym is)
-
-    module _ (revealed : Revealed) (reveals : IsRevealed kept.folders tree (changed tree change) revealed) where
-      -- one that fails changes nothing
-      pub judged_failing : fails_now disk ask ≡ true → IsJudged disk kept ask (Ok (Some revealed))
-      judged_failing fails =
-          let none : change_by disk ask ≡ None = made_by true fails in (
-            subst (λ c. IsFirstReason None (ShowsSecondBy kept tree c) None) (sym none) (λ breaks. breaks),
-            subst (λ c. TellsChange kept.folders tree c (Some revealed)) (sym none) tt,
-          )
-
-      -- one that shows no second content is let through, whether it fails or not
-      pub judged_clear : ¬ (IsSecond kept (changed tree change)) → IsJudged disk kept ask (Ok (Some revealed))
-      judged_clear never = by (fails_now disk ask) refl
-        where
-          by : (fails : Bool) → fails_now disk ask ≡ fails → IsJudged disk kept ask (Ok (Some revealed))
-          by true fails = judged_failing fails
-          by false fails =
-              let made : change_by disk ask ≡ Some change = made_by false fails in (
-                subst (λ c. IsFirstReason None (ShowsSecondBy kept tree c) None) (sym made) never,
-                subst (λ c. TellsChange kept.folders tree c (Some revealed)) (sym made) reveals,
-              )
-
-    -- and one that shows one isn't
-    pub judged_second : IsSecond kept (changed tree change) → fails_now disk ask ≡ false → IsJudged disk kept ask (Err TwoContents)
-    judged_second second fails =
-        let made : change_by disk ask ≡ Some change = made_by false fails in
-        (subst (λ c. IsFirstReason None (ShowsSecondBy kept tree c) (Some TwoContents)) (sym made) (refl, second), tt)
+-- what a turn asks for that asks for a call of the disk
+pub asks_call : (handle : HandleState) (slots : Option ℕ) (asked : Option PartAsk) (ask : DiskAsk) → is_some slots ≡ false → asked ≡ Some (parts.Disk ask)
+    → Some (ToDisk ask) ≡ asks_or handle slots asked
+asks_call handle (Some slots) asked ask registers is = absurd (false≢true (sym registers))
+asks_call handle None asked ask registers is = sym (ap part_asked is)
 
 -- ---- what is kept after a turn
 
--- where nothing was told of a change, there was none
-pub kept_untold : (kept : Kept) (change : Option Change) (t : Tree) → Fits kept t → TellsChange kept.folders t change None → (ShowsSecondBy kept t change → ⊥) → NotesMade kept t change kept
-kept_untold kept None t fits tells first = refl
-kept_untold kept (Some change) t fits tells first = absurd tells
-
--- a call that was refused, or failed, made none
-pub kept_unmade : (kept : Kept) (change : Option Change) (revealed : Option Revealed) → change ≡ None → (t : Tree) → Fits kept t → TellsChange kept.folders t change revealed
-    → (ShowsSecondBy kept t change → ⊥) → NotesMade kept t change kept
-kept_unmade kept None revealed is t fits tells first = refl
-kept_unmade kept (Some change) revealed is t fits tells first = absurd (cc is)
-
-pub kept_made : {A E : Type 0} (old new : Kept) (revealed : Revealed) (change : Option Change) (made : Change) → change ≡ Some made → (answer : Result A E)
+-- the change that was told of is noted
+pub kept_made : {A E : Type 0} (old new : Kept) (told : Option Revealed) (revealed : Revealed) → told ≡ Some revealed → (change : Option Change) (made : Change) → change ≡ Some made
+    → (answer : Result A E)
     → OnOk answer ((before after : Tree) → Fits old before → IsRevealed old.folders before after revealed → Notes old old.folders after new)
     → OnOk answer ((before after : Tree) → Fits old before → IsRevealed old.folders before after revealed → (IsSecond old after → ⊥) → Fits new after)
-    → OnOk answer ((t : Tree) → Fits old t → TellsChange old.folders t change (Some revealed) → (ShowsSecondBy old t change → ⊥) → NotesMade old t change new)
-kept_made old new revealed None made is answer notes fits = absurd (cc is)
-kept_made old new revealed (Some change) made is (Ok done) notes fits =
-    λ t own tells first. record { notes = notes t (changed t change) own tells; fits = fits t (changed t change) own tells first }
-kept_made old new revealed (Some change) made is (Err error) notes fits = tt
+    → OnOk answer ((t : Tree) → Fits old t → TellsChange old.folders t change told → (ShowsSecondBy old t change → ⊥) → NotesMade old t change new)
+kept_made old new None revealed told_is change made is answer notes fits = absurd (cc told_is)
+kept_made old new (Some own) revealed told_is None made is answer notes fits = absurd (cc is)
+kept_made old new (Some own) revealed told_is (Some change) made is (Ok done) notes fits =
+    λ t here tells first.
+    let same : own ≡ revealed = cc told_is in
+    let shows : IsRevealed old.folders t (changed t change) revealed = subst (IsRevealed old.folders t (changed t change)) same tells in
+    record { notes = notes t (changed t change) here shows; fits = fits t (changed t change) here shows first }
+kept_made old new (Some own) revealed told_is (Some change) made is (Err error) notes fits = tt

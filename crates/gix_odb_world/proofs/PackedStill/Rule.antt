@@ -1,13 +1,11 @@
 -- What a run says of the indices of a store: none shows two contents while its store is open.
-use Rattle.std.proofs.Common.{◌≡◌, ℕ, Bool, true, false, List, length, take, Option, None, Some, refl, subst}
-use Rattle.std.specs.Prelude.{◌&&◌, ◌||◌, codes, if◌then◌else◌, nat_eq, nat_lt}
+use Rattle.std.proofs.Common.{◌≡◌, ℕ, Bool, true, false, List, length, take, Some, refl, subst}
+use Rattle.std.specs.Prelude.{◌&&◌, ◌||◌, codes, nat_eq, nat_lt}
 use Rattle.std.specs.List.{ends_with}
-use Rattle.odb_base.specs.Path.{Name, is_name, same_name}
+use Rattle.std.proofs.lemmas.Bool.{false≢true}
+use Rattle.odb_base.specs.Path.{Name, is_name}
 use Rattle.odb_disk.specs.MemDisk.{Volume}
 use Rattle.gix_odb_packs.specs.PackFolder.{is_index_name}
-use Rattle.gix_odb_shown.specs.Watched.{watched_kind}
-use Rattle.gix_odb_shown.specs.declared.watched.WatchedKind.{WatchedKind}
-use Rattle.gix_odb_shown.specs.declared.watched.WatchedKind.TheVariants.{MultiIndex, PackOrIndex}
 use Rattle.gix_odb_world.specs.AtWork.{Modes, Running, Store}
 use Rattle.gix_odb_world.specs.Begun.{FromClone, FromOpen, Holds, IsOpenStore, OpenedBy}
 use Rattle.gix_odb_world.specs.Event.{Event}
@@ -55,15 +53,14 @@ last_of true true c is = is
 last_of true false c is = absurd (cc is)
 last_of false b c is = absurd (cc is)
 
-by_ending : (ends other : Bool) (rest : Option WatchedKind) → ends ≡ true → (if ends || other then Some PackOrIndex else rest) ≡ Some PackOrIndex
-by_ending true other rest is = refl
-by_ending false other rest is = absurd (cc is)
+one_of : (a b : Bool) → a ≡ true → (a || b) ≡ true
+one_of true b is = refl
+one_of false b is = absurd (false≢true is)
 
--- it is watched
-index_is_watched : (name : Name) → is_index_name name ≡ true → watched_kind name ≡ Some PackOrIndex
-index_is_watched name named =
-    by_ending (ends_with nat_eq name (codes ".idx")) (ends_with nat_eq name (codes ".pack"))
-    (if same_name name (codes "multi-pack-index") then Some MultiIndex else None)
+-- its ending is that of an index or of a pack
+index_ends : (name : Name) → is_index_name name ≡ true → (ends_with nat_eq name (codes ".idx") || ends_with nat_eq name (codes ".pack")) ≡ true
+index_ends name named =
+    one_of (ends_with nat_eq name (codes ".idx")) (ends_with nat_eq name (codes ".pack"))
     (last_of (is_name name) (nat_lt 4 (length name)) (ends_with nat_eq name (codes ".idx")) named)
 
 -- No step of a lawful run makes a path of an index show a second content, from the first opening on that names its folder.
@@ -73,5 +70,5 @@ indices_show_one first events handle running ran folder among name named one oth
     let run : LawfulRun = record { first = first; events = events; start = ran.start; lawful = ran.lawful; throughout = ran.throughout } in
     let stems = subst (Stems events handle) ran.status (stems_now first events ran.lawful handle) in
     let opened = opened_by running.store events handle running.modes stems.0 in
-    shows_one run opened.0 running.store opened.1 folder among name (index_is_watched name named) was.moment further.moment one other was.was.0 further.was.0
+    shows_one run opened.0 running.store opened.1 folder among name (index_ends name named) was.moment further.moment one other was.was.0 further.was.0
     was.from was.to further.from further.to was.was.1 further.was.1
