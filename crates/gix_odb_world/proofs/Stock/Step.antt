@@ -41,6 +41,7 @@ use Rattle.gix_odb_world.specs.Running.{Knows, Runs}
 use Rattle.gix_odb_world.specs.Seats.{HasSeat, IsNowhere}
 use Rattle.gix_odb_world.specs.Status.{Free, Resting, Status, Working, cloned, come_to, ignoring_from, refuses_opening, replied, started, status_after, status_of, turned, with_status}
 use Rattle.gix_odb_world.specs.Told.{told_since, view_then}
+use Rattle.gix_odb_world.specs.Turned.{is_done}
 use Rattle.gix_odb_world.specs.Valid.{misuse_of, why_not_after}
 use Rattle.gix_odb_world.proofs.HistoryLemmas.{slice_get-last, status_of-push}
 use Rattle.gix_odb_world.proofs.SeatLemmas.{seats_now}
@@ -227,7 +228,7 @@ module _ (first : Volume) (past : List Event) (e : Event) (lawful : IsLawful fir
     opening_made task task_is opens_it reply out sound =
         by reply sound
         (subst (λ t. Promise first now number running.store running.modes running.begun t reply) (task_is ∙ opens_it)
-        (law.promise number running running.task reply (record { step = step; status = status }) works.begins out))
+        (law.promise number running running.task reply (record { turn = record { step = step; done = ap is_done out }; status = status }) works.begins out))
       where
         by : (reply : Reply) → refuses_opening reply ≡ false → Promise first now number running.store running.modes running.begun OpenStore reply
             → (slots : ℕ) × (folders : ℕ) × (core : ℕ) × (seat : ℕ) × (answer : CoreAnswer) × (e.asked ≡ OfNewCore slots folders core seat answer)

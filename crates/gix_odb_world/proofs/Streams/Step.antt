@@ -268,7 +268,7 @@ module _ (first : Volume) (past : List Event) (e : Event) (law : Law first past 
 
     stays_on : stream_in (told_since now handle at.was.begun) ≡ Some stream → Stays handle running stream
     stays_on is = elim (turn_or_not handle e) [
-      | inl turn ↦ elim (called_or_quiet first past handle at.was e (law.worked handle at.was (record { step = turn; status = at.status }))) [
+      | inl turn ↦ elim (called_or_quiet first past handle at.was e (law.worked handle at.was (record { turn = turn; status = at.status }))) [
         | inl calls ↦ by_ask turn calls calls.ask refl (sym (stream_then turn calls) ∙ is)
         | inr quiet ↦
             kept (sym (left_stream handle at.was.begun since quiet.leaves) ∙ is) (leaves_stream stream.dir e.asked quiet.leaves)
