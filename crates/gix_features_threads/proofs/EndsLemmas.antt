@@ -82,6 +82,10 @@ module _ {T : Type 0} (Law : List T → Type 0) where
   pub nothing : (port : ℕ) (v : Hand T) → Learns (IsInOrder Law) port v (λ items. ⊤)
   nothing port v items views h at = tt
 
+  -- what was taken and what the channel holds keeps to the law
+  pub rests : (port : ℕ) (v : Hand T) → v.takes ≡ true → Learns (IsInOrder Law) port v (λ items. Law (v.taken ++ items))
+  rests port v may items views h at = subst Law (h.4 ∙ ap (λ l. l ++ items) (sym ((h.6 port v at).1 may).1)) h.5
+
   pub forks : (port : ℕ) (v : Hand T) → v.sends ≡ true → v.takes ≡ true → Forks (IsInOrder Law) port v (hand true false v.sent []) (hand false true [] v.taken)
   forks port v a b items views h at =
       let left : Hand T = hand true false v.sent [] in

@@ -7,7 +7,7 @@ use Rattle.gix_features_threads.specs.declared.io.pipe.ends.PipeError.{PipeError
 use Rattle.gix_features_threads.specs.declared.io.pipe.ends.Piece.{Piece}
 use Rattle.gix_features_threads.specs.declared.io.pipe.ends.Piece.TheVariants.{Written, Failed}
 use Rattle.gix_features_threads.specs.declared.io.pipe.reader.Reader.{Reader}
-use Rattle.gix_features_threads.specs.Pipe.{Item, Byte, Failure, items_of, taken, Reads, gives_something, bytes_of}
+use Rattle.gix_features_threads.specs.Pipe.{Item, Byte, Failure, items_of, taken, Reads, HasEnded, IsNoted, gives_something, bytes_of}
 
 pub items_of-append : (xs ys : List Piece) → items_of (xs ++ ys) ≡ items_of xs ++ items_of ys
 items_of-append [] ys = refl
@@ -101,6 +101,13 @@ pub Reads-into : (a b c : Reader) (filled room given : ℕ) (out part : List ℕ
 Reads-into a b c filled room given out part within few first second = subst (λ (l : List ℕ). Reads a c (map Byte l))
     (sym (take_into filled room given out part within few))
     (subst (Reads a c) (sym (map-append Byte (take filled out) (take given part))) (Reads-then a b c (map Byte (take filled out)) (map Byte (take given part)) first second))
+
+-- a reader without the note, and one that ended
+pub noted_none : (reader : Reader) → reader.has_ended ≡ false → IsNoted reader
+noted_none reader none told = absurd (true≢false (sym told ∙ none))
+
+pub noted_ended : (reader : Reader) → HasEnded reader → IsNoted reader
+noted_ended reader ended told = ended
 
 -- what is known of an answer that is none
 pub none_known : {X P : Type 0} (answer : Option X) → ((x : X) → answer ≡ Some x → ⊥) → IfNone answer P → P

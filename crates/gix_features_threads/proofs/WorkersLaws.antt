@@ -3,7 +3,7 @@ use Rattle.std.proofs.Common.{◌≡◌, ◌≢◌, ℕ, zero, suc, ◌+◌, ◌
 use Rattle.std.proofs.lemmas.Bool.{cases_lt}
 use Rattle.std.proofs.lemmas.List.{length-map, nil_from_length}
 use Rattle.gix_features_threads.specs.Workers.{share, Works, AreWorked}
-use Rattle.gix_features_threads.specs.Reduced.{IsChosen}
+use Rattle.gix_features_threads.specs.Reduced.{IsAnswer, IsChosen}
 use Rattle.gix_features_threads.specs.Dealt.{turn_after, turns_before}
 use Rattle.gix_features_threads.proofs.DealtLemmas.{eq_or_ne, turns-first, turn_after-lt, share-mine, share-other}
 
@@ -59,6 +59,22 @@ module _ {S T O L : Type 0} (begins : ℕ → S → Type 0) (consumes : S → T 
       let one = worked.each k there b in
       ap (λ i. share n i outputs) (turns-first n k) ∙ Works-map (share n k items) (share n k outputs) one.worked ∙ sym (share-map makes n k items)
       ∙ ap (λ i. share n i (map makes items)) (sym (turns-first n k)))
+
+  -- So the answer is what a reducer comes to that is fed these outputs.
+  pub answer_of_outputs : {A : Type 0} (gives : List T → Type 0) (reduces : List O → A → Type 0) (n : ℕ) (answer : A) → 0 < n
+      → IsAnswer gives (AreWorked begins consumes ends n) reduces answer → (items : List T) × gives items × reduces (map makes items) answer
+  answer_of_outputs gives reduces n answer some is =
+      (is.items, is.given, subst (λ (l : List O). reduces l answer) (same_outputs n is.items is.outputs is.lasts some is.worked) is.reduced)
+
+  -- Where there is one way to draw the items and one to reduce outputs too, the answer is the same for each number of workers.
+  pub same_answers : {A : Type 0} (gives : List T → Type 0) (reduces : List O → A → Type 0) → ((xs ys : List T) → gives xs → gives ys → xs ≡ ys)
+      → ((os : List O) (a b : A) → reduces os a → reduces os b → a ≡ b) → (n m : ℕ) (a b : A) → 0 < n → 0 < m
+      → IsAnswer gives (AreWorked begins consumes ends n) reduces a → IsAnswer gives (AreWorked begins consumes ends m) reduces b → a ≡ b
+  same_answers gives reduces one_list one_answer n m a b some some' is is' =
+      let first = answer_of_outputs gives reduces n a some is in
+      let second = answer_of_outputs gives reduces m b some' is' in
+      one_answer (map makes first.0) a b first.2
+      (subst (λ (l : List T). reduces (map makes l) b) (one_list second.0 first.0 second.1 first.1) second.2)
 
 -- where the condition doesn't hold there is one worker
 few_or_more : (n : ℕ) → (n ≤ 1) ⊎ (1 < n)

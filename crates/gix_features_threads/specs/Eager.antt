@@ -31,6 +31,22 @@ MayDraw can Ended = ⊤
 abbrev pub IsReady : {I H T : Type 0} → (I → Type 0) → EagerIter I H T → Type 0
 IsReady can eager = MayDraw can eager.source
 
+-- There are no more items: none is at hand, and none is drawn any more.
+abbrev pub IsOver : {I H T : Type 0} → EagerIter I H T → Type 0
+IsOver eager = (eager.source ≡ Ended) × (into_iter_items eager.at_hand ≡ [])
+
+-- whether nothing comes behind an answer: it is the end, or that there was no memory
+abbrev pub is_last : {T : Type 0} → Option (Result T NoMemory) → Bool
+is_last None = true
+is_last (Some (Ok item)) = false
+is_last (Some (Err failed)) = true
+
+-- whether an answer is that there was no memory
+abbrev pub is_want : {T : Type 0} → Option (Result T NoMemory) → Bool
+is_want None = false
+is_want (Some (Ok item)) = false
+is_want (Some (Err failed)) = true
+
 -- an iterator by its steps
 module _ {I T : Type 0} (steps : I → Option T → I → Type 0) where
   -- These items came of an iterator, which was so at first: in a worker's messages, or from the iterator that is here, or they were all.
@@ -68,6 +84,11 @@ module _ {I T : Type 0} (steps : I → Option T → I → Type 0) where
 abbrev pub IsReadyIf : {I H T : Type 0} → (I → Type 0) → EagerIterIf I H T → Type 0
 IsReadyIf can (Eager eager) = IsReady can eager
 IsReadyIf can (OnDemand iter) = can iter
+
+-- There are no more items. Of what is drawn as it is asked for nothing may be asked behind its end.
+abbrev pub IsOverIf : {I H T : Type 0} → EagerIterIf I H T → Type 0
+IsOverIf (Eager eager) = IsOver eager
+IsOverIf (OnDemand iter) = ⊥
 
 -- whether items are drawn ahead
 abbrev pub is_eager : {I H T : Type 0} → EagerIterIf I H T → Bool

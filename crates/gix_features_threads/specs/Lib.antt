@@ -1,4 +1,4 @@
--- Workers and what they make of items, in the order to read them.
+-- Workers and what they make of items, rounds over a slice, pipes, and items that are drawn ahead, in the order to read them.
 pub mod Workers
 pub mod Reduced
 pub mod Rounds

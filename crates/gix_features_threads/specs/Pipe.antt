@@ -3,6 +3,7 @@ use Rattle.std.specs.Prelude.{◌≡◌, ℕ, ◌<◌, Bool, true, false, List, 
 use Rattle.std.specs.Borrow.{Bor}
 use Rattle.crossbeam_channel.specs.Ends.{sends_on, receives_on}
 use Rattle.crossbeam_channel.specs.Claims.{view}
+use Rattle.crossbeam_channel.specs.Fifo.{Held}
 use Rattle.gix_features_threads.specs.declared.io.pipe.ends.PipeError.{PipeError}
 use Rattle.gix_features_threads.specs.declared.io.pipe.ends.Piece.{Piece}
 use Rattle.gix_features_threads.specs.declared.io.pipe.ends.Piece.TheVariants.{Written, Failed}
@@ -57,9 +58,17 @@ pub record Reads (before after : Reader) (given : List Item) : Type 0 where
   pub in_order : items_of (before.next ∷ pieces) ≡ given ++ items_of (after.next ∷ [])
   pub channel : receives_on after.receiver ≡ receives_on before.receiver
 
+-- At one moment of a call the channel held no piece. A pipe has no law that would tell more of that moment.
+abbrev pub HeldNone : Type 0
+HeldNone = Held 0 (λ (pieces : List Piece). ⊤)
+
 -- Nothing is at hand, and the channel said that the writer is gone and that it holds no piece.
 abbrev pub HasEnded : Reader → Type 0
-HasEnded reader = (reader.next ≡ Written []) × (reader.has_ended ≡ true)
+HasEnded reader = (reader.next ≡ Written []) × (reader.has_ended ≡ true) × HeldNone
+
+-- The note that the pipe ended was made in the last call, if it is there.
+abbrev pub IsNoted : Reader → Type 0
+IsNoted reader = reader.has_ended ≡ true → HasEnded reader
 
 -- why a read gives fewer bytes than were asked for: an error is next, or the pipe ended
 abbrev pub IsShort : Reader → ℕ → Type 0

@@ -1,5 +1,5 @@
 -- What workers make of items: item i is consumed by worker i mod n, whose state is what its earlier items left.
-use Rattle.std.specs.Prelude.{◌≡◌, ℕ, zero, suc, ◌-◌, ◌<◌, List, [], ◌∷◌, length, slice_index_or}
+use Rattle.std.specs.Prelude.{◌≡◌, ℕ, zero, suc, ◌-◌, ◌<◌, List, [], ◌∷◌, length, slice_index_or, ⊤}
 use Rattle.std.specs.Fn.{Shared, FnReturns}
 use Rattle.std.specs.Borrow.{MutBor}
 
@@ -31,6 +31,10 @@ module _ {S T O L : Type 0} (begins : ℕ → S → Type 0) (consumes : S → T 
     pub one_each : length outputs ≡ length items
     pub workers : length lasts ≡ n
     pub each : (k : ℕ) (d : L) → k < n → IsWorked k (share n k items) (share n k outputs) (slice_index_or lasts k d)
+
+-- the outputs that n workers make of items, whatever comes of their last states
+abbrev pub AreMade : {S T O : Type 0} → (ℕ → S → Type 0) → (S → T → O → S → Type 0) → ℕ → List T → List O → List (Unit {0}) → Type 0
+AreMade begins consumes n = AreWorked {L = Unit {0}} begins consumes (λ _ _. ⊤) n
 
 -- a call with a worker's number may give its first state
 abbrev pub BeginsAs : {N S : Type 0} → Shared N (ℕ × Unit {0}) S → N → ℕ → S → Type 0

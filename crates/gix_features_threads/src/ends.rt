@@ -78,7 +78,8 @@ impl<T> Lesson<T, Hand<T>> for Sends {
     ghost fact = { λ _ _. ⊤ };
 }
 
-/// Something is taken, which begins what was sent; or there was nothing at a moment.
+/// Something is taken, which begins what was sent; or there was nothing at a moment, when what had been taken was all that
+/// was sent.
 pub struct Takes<L> {
     law: PhantomData<L>,
 }
@@ -91,10 +92,10 @@ impl<T, L: Law<T>> Outcome<T, Hand<T>> for Takes<L> {
         × (v.sends ≡ true → Begins (λ all. v.sent ≡ all) (v.taken ++ x ∷ [])) };
 }
 
-impl<T, L> Lesson<T, Hand<T>> for Takes<L> {
-    ghost use Rattle.std.specs.Prelude.{⊤};
+impl<T, L: Law<T>> Lesson<T, Hand<T>> for Takes<L> {
+    ghost use Rattle.std.specs.Prelude.{◌++◌};
 
-    ghost fact = { λ _ _. ⊤ };
+    ghost fact = { λ v items. L.keeps (v.taken ++ items) };
 }
 
 /// What an end that sends and takes knows of the channel.

@@ -1,8 +1,8 @@
 //! Calls that make one result of what workers make of items.
-ghost use Rattle.std.specs.Prelude.{◌≡◌, ℕ, ◌<◌, ◌≤◌, List, ⊤};
+ghost use Rattle.std.specs.Prelude.{◌≡◌, ℕ, ◌<◌, ◌≤◌};
 ghost use Rattle.std.specs.Iterator.{IsFinite, Drains};
 ghost use Rattle.gix_features_parts.specs.Sizes.{threads_of};
-ghost use Rattle.gix_features_threads.specs.Workers.{BeginsAs, ConsumesTo, EndsAs, AreWorked};
+ghost use Rattle.gix_features_threads.specs.Workers.{BeginsAs, ConsumesTo, EndsAs, AreWorked, AreMade};
 ghost use Rattle.gix_features_threads.specs.Reduced.{IfReduced, IsAnswer, IsFinalAnswer, IsChosen, Reduces};
 
 use super::outputs::{work_all, work_and_end};
@@ -63,8 +63,8 @@ where
     requires finite { IsFinite (I.remaining input) }
     requires begins { (k : ℕ) → k < threads_of thread_limit cores → N.pre new_thread_state k }
     requires consumes { C.IsAlwaysCallable consume }
-    ensures answer { IfReduced result (IsAnswer (Drains I.next_gives input) (AreWorked {L = Unit {0}} (BeginsAs N.Fn new_thread_state)
-        (ConsumesTo C.Fn consume) (λ _ _. ⊤) (threads_of thread_limit cores)) (Reduces R.feeds R.comes_to reducer)) }
+    ensures answer { IfReduced result (IsAnswer (Drains I.next_gives input) (AreMade (BeginsAs N.Fn new_thread_state)
+        (ConsumesTo C.Fn consume) (threads_of thread_limit cores)) (Reduces R.feeds R.comes_to reducer)) }
 {
     let workers = num_threads(thread_limit, cores);
     run(
@@ -102,15 +102,15 @@ where
     C: Fn(I::Item, &mut S) -> O + Sync + Drop,
     R: Reduce<Input = O> + Drop,
     R::FeedProduce: Drop,
-    requires condition { B.pre condition }
+    requires condition { 1 < threads_of thread_limit cores → B.pre condition }
     requires some { 0 < threads_of thread_limit cores }
     requires can { I.can_next input }
     requires finite { IsFinite (I.remaining input) }
     requires begins { (k : ℕ) → k < threads_of thread_limit cores → N.pre new_thread_state k }
     requires consumes { C.IsAlwaysCallable consume }
     ensures answer { (workers : ℕ) × IsChosen (B.post condition) (threads_of thread_limit cores) workers
-        × IfReduced result (IsAnswer (Drains I.next_gives input) (AreWorked {L = Unit {0}} (BeginsAs N.Fn new_thread_state)
-        (ConsumesTo C.Fn consume) (λ _ _. ⊤) workers) (Reduces R.feeds R.comes_to reducer)) }
+        × IfReduced result (IsAnswer (Drains I.next_gives input) (AreMade (BeginsAs N.Fn new_thread_state)
+        (ConsumesTo C.Fn consume) workers) (Reduces R.feeds R.comes_to reducer)) }
 {
     let workers = choose(condition, num_threads(thread_limit, cores));
     run(
@@ -126,7 +126,7 @@ where
 
 /// How many workers there are: one, unless there may be more and the condition holds.
 fn choose<B: FnOnce() -> bool + Drop>(condition: B, most: usize) -> usize
-    requires condition { B.pre condition }
+    requires condition { 1 < most → B.pre condition }
     requires some { 0 < most }
     ensures chosen { IsChosen (B.post condition) most result }
     ensures few { (0 < result) × (result ≤ most) }
@@ -162,8 +162,8 @@ where
     requires finite { IsFinite (I.remaining input) }
     requires begins { (k : ℕ) → k < workers → N.pre new_thread_state k }
     requires consumes { C.IsAlwaysCallable consume }
-    ensures answer { IfReduced result (IsAnswer (Drains I.next_gives input) (AreWorked {L = Unit {0}} (BeginsAs N.Fn new_thread_state)
-        (ConsumesTo C.Fn consume) (λ _ _. ⊤) workers) (Reduces R.feeds R.comes_to reducer)) }
+    ensures answer { IfReduced result (IsAnswer (Drains I.next_gives input) (AreMade (BeginsAs N.Fn new_thread_state)
+        (ConsumesTo C.Fn consume) workers) (Reduces R.feeds R.comes_to reducer)) }
 {
     let made = work_all(
         rt,

@@ -1,9 +1,9 @@
 //! Outputs that are fed to a reducer step by step.
-ghost use Rattle.std.specs.Prelude.{◌≡◌, ℕ, ◌<◌, List, ⊤, IfOk};
+ghost use Rattle.std.specs.Prelude.{◌≡◌, ℕ, ◌<◌, List, Result, IfOk};
 ghost use Rattle.std.specs.Iterator.{IsFinite, Drains};
 ghost use Rattle.std.specs.Vec.Iter.{into_iter_items};
 ghost use Rattle.gix_features_parts.specs.Sizes.{threads_of};
-ghost use Rattle.gix_features_threads.specs.Workers.{BeginsAs, ConsumesTo, AreWorked};
+ghost use Rattle.gix_features_threads.specs.Workers.{BeginsAs, ConsumesTo, AreMade};
 ghost use Rattle.gix_features_threads.specs.Reduced.{IfReduced, Reduces, IsStep};
 
 use super::calls::ParallelError;
@@ -67,7 +67,7 @@ where
         requires consumes { C.IsAlwaysCallable consume }
         ensures reducer { IfOk result (λ steps. steps.reducer ≡ reducer) }
         ensures outputs { IfOk result (λ steps. (items : List I.Item) × (lasts : List (Unit {0})) × Drains I.next_gives input items
-            × AreWorked (BeginsAs N.Fn new_thread_state) (ConsumesTo C.Fn consume) (λ _ _. ⊤) (threads_of thread_limit cores) items
+            × AreMade (BeginsAs N.Fn new_thread_state) (ConsumesTo C.Fn consume) (threads_of thread_limit cores) items
             (into_iter_items steps.outputs) lasts) }
     {
         let workers = num_threads(thread_limit, cores);
@@ -85,7 +85,13 @@ where
             reducer,
         })
     }
+}
 
+impl<R: Reduce + Drop> Stepwise<R>
+where
+    R::Input: Drop,
+    R::FeedProduce: Drop,
+{
     /// What the reducer gives of the next item's output, also after an error.
     pub fn next<H: Threads>(
         &mut self,
@@ -114,24 +120,27 @@ where
 pub trait Finalize {
     type Reduce: Reduce;
 
+    /// What it comes to where the rest is fed.
+    ghost comes_to: { Self → Result Self.Reduce.Output Self.Reduce.Error → Type 0 };
+
     /// Feeds the rest, up to the reducer's first error.
     fn finalize<H: Threads>(
         self,
         rt: &H,
-    ) -> Result<<Self::Reduce as Reduce>::Output, ParallelError<<Self::Reduce as Reduce>::Error>>;
+    ) -> Result<<Self::Reduce as Reduce>::Output, ParallelError<<Self::Reduce as Reduce>::Error>>
+        ensures reduced { IfReduced result (comes_to self) };
 }
 
 impl<R: Reduce + Drop> Finalize for Stepwise<R>
 where
-    R::Input: Send + Drop,
+    R::Input: Drop,
     R::FeedProduce: Drop,
 {
     type Reduce = R;
 
-    fn finalize<H: Threads>(self, _rt: &H) -> Result<R::Output, ParallelError<R::Error>>
-        ensures reduced { IfReduced result (Reduces R.feeds R.comes_to self.reducer (into_iter_items self.outputs)) }
-    {
-        let Stepwise { outputs, reducer } = self;
-        reduce_rest(outputs, reducer)
+    ghost comes_to = { λ s answer. Reduces R.feeds R.comes_to s.reducer (into_iter_items s.outputs) answer };
+
+    fn finalize<H: Threads>(self, rt: &H) -> Result<R::Output, ParallelError<R::Error>> {
+        self.finalize(rt)
     }
 }

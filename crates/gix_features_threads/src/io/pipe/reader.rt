@@ -17,14 +17,15 @@ pub struct Reader {
     pub(crate) pass: PipePass,
     /// What is at hand of the last piece that was taken out of the channel.
     pub(crate) next: Piece,
-    /// Whether the channel said that the writer is gone and that it holds no piece. Its answer alone sets this.
+    /// Whether the channel said in the last read that the writer is gone and that it holds no piece. Its answer alone sets
+    /// this, and each read begins without it.
     pub(crate) has_ended: bool,
     ghost seated: { IsSeatAt (receives_on receiver) pass } by { Prim.hlevel seat_props },
     ghost takes: { (view pass).takes ≡ true },
 }
 
 impl Reader {
-    ghost use Rattle.gix_features_threads.specs.Pipe.{Byte, Failure, taken, Reads, HasEnded, IsShort, HasAtHand, HasFailed, at_hand, gives_something};
+    ghost use Rattle.gix_features_threads.specs.Pipe.{Byte, Failure, taken, Reads, HasEnded, HeldNone, IsNoted, IsShort, HasAtHand, HasFailed, at_hand, gives_something};
     ghost use Rattle.gix_features_threads.specs.declared.io.pipe.ends.Piece.TheVariants.{Written, Failed};
 
     /// The end of a pipe, with its pass, and what it knows.
@@ -49,7 +50,9 @@ impl Reader {
         ensures rest { IfOk result (λ count. drop count out.new ≡ drop count out.old) }
         ensures short { IfOk result (λ count. count < length out.old → IsShort self.new count) }
         ensures error { IfErr result (λ error. Reads self.old self.new (Failure error ∷ []) × (out.new ≡ out.old)) }
+        ensures noted { IsNoted self.new }
     {
+        self.begin();
         let mut filled = 0;
         'filling: for _ in rt.forever() {
             if filled == out.len() || !self.reach(rt) {
@@ -95,7 +98,9 @@ impl Reader {
         ensures filled { OnOk result (Reads self.old self.new []) }
         ensures end { OnOk result (at_hand self.new ≡ [] → HasEnded self.new) }
         ensures error { IfErr result (λ error. Reads self.old self.new (Failure error ∷ [])) }
+        ensures noted { IsNoted self.new }
     {
+        self.begin();
         if !self.reach(rt) {
             return Ok(());
         }
@@ -115,11 +120,20 @@ impl Reader {
         }
     }
 
+    /// Forgets what the channel said in earlier calls.
+    fn begin(&mut self)
+        ensures nothing { Reads self.old self.new [] }
+        ensures none { self.new.has_ended ≡ false }
+    {
+        self.has_ended = false;
+    }
+
     /// Takes pieces out of the channel until there is something to give. It answers whether there is.
     fn reach<R: Wait>(&mut self, rt: &R) -> bool
         ensures nothing { Reads self.old self.new [] }
         ensures there { result ≡ true → gives_something self.new.next ≡ true }
         ensures ended { result ≡ false → HasEnded self.new }
+        ensures note { result ≡ true → self.new.has_ended ≡ self.old.has_ended }
     {
         'reaching: for _ in rt.forever() {
             if self.has_something() {
@@ -147,7 +161,8 @@ impl Reader {
     fn refill<R: Wait>(&mut self, rt: &R) -> bool
         ensures took { result ≡ true → taken self.new ≡ taken self.old ++ self.new.next ∷ [] }
         ensures ended { result ≡ false → (taken self.new ≡ taken self.old) × (self.new.next ≡ self.old.next)
-            × (self.new.has_ended ≡ true) }
+            × (self.new.has_ended ≡ true) × HeldNone }
+        ensures note { result ≡ true → self.new.has_ended ≡ self.old.has_ended }
         ensures channel { receives_on self.new.receiver ≡ receives_on self.old.receiver }
     {
         match self
@@ -169,6 +184,7 @@ impl Reader {
     fn failure(&mut self) -> Option<PipeError>
         ensures given { IfSome result (λ error. Reads self.old self.new (Failure error ∷ [])) }
         ensures none { IfNone result ((self.new ≡ self.old) × ((error : PipeError) → self.old.next ≡ Failed error → ⊥)) }
+        ensures note { self.new.has_ended ≡ self.old.has_ended }
     {
         if let Piece::Written(_) = self.next {
             return None;
@@ -186,6 +202,7 @@ impl Reader {
         ensures rest { drop result out.new ≡ drop result out.old }
         ensures none { result ≡ 0 → 0 < length out.old → gives_something self.old.next ≡ true
             → (error : PipeError) × (self.new.next ≡ Failed error) }
+        ensures note { self.new.has_ended ≡ self.old.has_ended }
     {
         let Piece::Written(bytes) = &mut self.next else {
             return 0;

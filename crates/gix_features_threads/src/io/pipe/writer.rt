@@ -1,5 +1,5 @@
 //! The end of a pipe that writes.
-ghost use Rattle.std.specs.Prelude.{◌≡◌, ◌∷◌, ◌++◌, [], List, length, true, OnOk, IfOk, IfErr, OnErr};
+ghost use Rattle.std.specs.Prelude.{◌≡◌, ◌∷◌, ◌++◌, [], List, length, true, Ok, OnOk, IfOk, IfErr, OnErr};
 ghost use Rattle.crossbeam_channel.specs.Ends.{sends_on};
 ghost use Rattle.crossbeam_channel.specs.Claims.{view, IsSeatAt};
 ghost use Rattle.gix_features_threads.specs.PipeSeats.{seat_props};
@@ -67,6 +67,7 @@ impl Writer {
 
     /// Does nothing: what was written is in the pipe.
     pub fn flush(&mut self) -> Result<(), Gone>
+        ensures done { result ≡ Ok tt }
         ensures same { written self.new ≡ written self.old }
         ensures pipe { sends_on self.new.sender ≡ sends_on self.old.sender }
     {
@@ -98,7 +99,7 @@ impl Writer {
         match self.sender.send_as::<Sends, R>(rt, &mut self.pass, piece) {
             Ok(()) => Ok(()),
             Err(SendError::Disconnected(piece)) => Err(piece),
-            Err(SendError::OutOfMemory(piece)) => Err(piece),
+            Err(SendError::OutOfMemory(_)) => unreachable!(),
         }
     }
 }

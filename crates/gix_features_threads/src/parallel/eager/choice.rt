@@ -1,6 +1,6 @@
 //! The items of an iterator, which are drawn ahead where a condition holds.
-ghost use Rattle.std.specs.Prelude.{◌<◌, [], IfOk, IfSome};
-ghost use Rattle.gix_features_threads.specs.Eager.{IsReadyIf, HasGivenIf, GivesNextIf, is_eager};
+ghost use Rattle.std.specs.Prelude.{◌≡◌, ◌<◌, [], true, None, IfOk, IfSome};
+ghost use Rattle.gix_features_threads.specs.Eager.{IsReadyIf, HasGivenIf, GivesNextIf, IsOverIf, is_last, is_want, is_eager};
 
 use super::iter::EagerIter;
 use odb_disk::NoMemory;
@@ -62,6 +62,10 @@ where
         requires ready { IsReadyIf I.can_next self.old }
         ensures ready { IfSome result (λ _. IsReadyIf I.can_next self.new) }
         ensures given { GivesNextIf I.next_gives self.old result self.new }
+        ensures over { is_last result ≡ true → is_eager self.old ≡ true → IsOverIf self.new }
+        ensures stays { IsOverIf self.old → (result ≡ None) × IsOverIf self.new }
+        ensures want { is_want result ≡ true → is_eager self.old ≡ true }
+        ensures choice { is_eager self.new ≡ is_eager self.old }
     {
         match self {
             EagerIterIf::Eager(eager) => eager.next(),

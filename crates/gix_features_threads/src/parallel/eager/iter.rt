@@ -1,8 +1,8 @@
 //! The items of an iterator, which a worker draws ahead.
-ghost use Rattle.std.specs.Prelude.{◌≡◌, ◌<◌, ◌++◌, [], true, false, List, IfOk};
+ghost use Rattle.std.specs.Prelude.{◌≡◌, ◌<◌, ◌++◌, [], true, false, List, None, IfOk, OnErr};
 ghost use Rattle.std.specs.Iterator.{Drains};
 ghost use Rattle.std.specs.Vec.Iter.{into_iter_items};
-ghost use Rattle.gix_features_threads.specs.Eager.{IsReady, HasGiven, GivesNext, has_worker};
+ghost use Rattle.gix_features_threads.specs.Eager.{IsReady, HasGiven, GivesNext, IsOver, is_last, is_want, has_worker};
 ghost use Rattle.gix_features_threads.specs.declared.parallel.eager.source.Source.TheVariants.{Ended};
 
 use super::source::Source;
@@ -82,6 +82,9 @@ where
         requires ready { IsReady I.can_next self.old }
         ensures ready { IsReady I.can_next self.new }
         ensures given { GivesNext I.next_gives self.old result self.new }
+        ensures over { is_last result ≡ true → IsOver self.new }
+        ensures stays { IsOver self.old → (result ≡ None) × IsOver self.new }
+        ensures want { is_want result ≡ true → has_worker self.old.source ≡ true }
     {
         let rt = self.rt;
         'drawing: for _ in rt.forever() {
@@ -107,6 +110,9 @@ where
         requires used { into_iter_items self.old.at_hand ≡ [] }
         ensures ready { IsReady I.can_next self.new }
         ensures given { GivesNext I.next_gives self.old result self.new }
+        ensures over { is_last result ≡ true → IsOver self.new }
+        ensures stays { IsOver self.old → (result ≡ None) × IsOver self.new }
+        ensures want { is_want result ≡ false }
     {
         let Source::Here(iter) = &mut self.source else {
             return None;
@@ -128,6 +134,9 @@ where
             → HasGiven I.next_gives first self.old items → HasGiven I.next_gives first self.new items) }
         ensures all { IfOk result (λ more. more ≡ false → (first : I) (items : List I.Item)
             → HasGiven I.next_gives first self.old items → Drains I.next_gives first items) }
+        ensures goes_on { IfOk result (λ more. more ≡ true → has_worker self.new.source ≡ true) }
+        ensures over { IfOk result (λ more. more ≡ false → IsOver self.new) }
+        ensures broken { OnErr result (IsOver self.new) }
     {
         let rt = self.rt;
         let Source::Elsewhere(worker) = &mut self.source else {
@@ -152,6 +161,7 @@ where
     /// Nothing more is drawn. A worker is ended.
     fn end(&mut self)
         ensures ended { self.new.source ≡ Ended }
+        ensures same { self.new.at_hand ≡ self.old.at_hand }
     {
         let rt = self.rt;
         mem::replace(&mut self.source, Source::Ended).end(&rt);

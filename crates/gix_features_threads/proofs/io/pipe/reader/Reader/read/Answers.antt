@@ -1,10 +1,21 @@
 -- What was given so far, what nothing adds to, and what is given next.
-use Rattle.std.proofs.Common.{◌≡◌, ◌≤◌, ◌+◌, ◌-◌, ◌∷◌, [], length, map, take, drop, refl, sym, ◌∙◌, subst, arith, rules}
+use Rattle.std.proofs.Common.{◌≡◌, ◌≤◌, ◌+◌, ◌-◌, ◌∷◌, [], length, map, take, drop, refl, sym, ap, ◌∙◌, subst, arith, rules}
 use Rattle.gix_features_threads.specs.Pipe.{Byte, Failure, Reads}
-use Rattle.gix_features_threads.proofs.PipeLemmas.{Reads-then, Reads-idle, Reads-into, none_known, rest_into}
+use Rattle.gix_features_threads.proofs.PipeLemmas.{Reads-then, Reads-idle, Reads-into, none_known, rest_into, noted_none, noted_ended}
+use Rattle.gix_features_threads.specs.declared.io.pipe.reader.Reader.{Reader}
 use borrow.Rule.Slice.PartMut.{put_mid}
 use Rattle.gix_features_threads.proofs.io.pipe.reader.Reader.read.Goals as goal
 use Rattle.gix_features_threads.proofs.io.pipe.reader.Reader.read.Goals.{then-filled-eq0+in_default, else-filled-eq0, then-filled-out-via-then-filled-out, then-filled-out-via-else-filled-out+then-not-reach}
+
+pub filling-init : goal.filling-init
+filling-init g c = record { within = omega arith; given = c.begin.ensures.nothing; rest = refl; note = c.begin.ensures.none }
+
+pub returns-then-filled-out-clause-noted : goal.returns-then-filled-out-clause-noted
+returns-then-filled-out-clause-noted g c =
+    elim c.then-filled-out.branch [
+      | then-filled-out-via-then-filled-out w ↦ rw w.self-is (noted_none c.filling.self c.filling.invariant.note)
+      | then-filled-out-via-else-filled-out+then-not-reach w ↦ rw w.self-is (noted_ended w.reach.new.self (w.reach.ensures.ended (search rules)))
+    ]
 
 pub returns-then-filled-out-clause-given : goal.returns-then-filled-out-clause-given
 returns-then-filled-out-clause-given g c =
@@ -20,6 +31,18 @@ returns-in-Some-failure-clause-error g c =
           (Reads-then c.args.self.now c.filling.self c.reach.new.self [] [] begun c.reach.ensures.nothing) c.in-Some-failure.ensures.given,
       subst (λ n. drop n c.filling.out ≡ drop n c.args.out.now) c.if-filled-eq0.true c.filling.invariant.rest,
     )
+
+pub returns-in-Some-failure-clause-noted : goal.returns-in-Some-failure-clause-noted
+returns-in-Some-failure-clause-noted g c =
+    noted_none c.failure.new.self (c.failure.ensures.note ∙ c.reach.ensures.note (search rules) ∙ c.filling.invariant.note)
+
+pub returns-then-given-eq0-clause-noted : goal.returns-then-given-eq0-clause-noted
+returns-then-given-eq0-clause-noted g c =
+    let same : c.if-filled-eq0.self ≡ c.reach.new.self = elim c.if-filled-eq0.branch [
+      | then-filled-eq0+in_default w ↦ w.self-is ∙ (none_known w.failure.result w.in_default.not-Some w.failure.ensures.none).0
+      | else-filled-eq0 w ↦ w.self-is
+    ] in
+    noted_none c.give-given.new.self (c.give-given.ensures.note ∙ ap (λ (r : Reader). r.has_ended) same ∙ c.reach.ensures.note (search rules) ∙ c.filling.invariant.note)
 
 pub returns-then-given-eq0-clause-given : goal.returns-then-given-eq0-clause-given
 returns-then-given-eq0-clause-given g c =
@@ -51,4 +74,5 @@ filling-preserved g c =
           c.filling.out c.give-given.new.out c.filling.invariant.within few begun c.give-given.ensures.given;
       rest = rest_into c.filling.filled (length c.filling.out - c.filling.filled) c.give-given.result c.filling.out c.give-given.new.out c.args.out.now
           c.filling.invariant.within refl few c.give-given.ensures.rest c.filling.invariant.rest;
+      note = c.give-given.ensures.note ∙ ap (λ (r : Reader). r.has_ended) same ∙ c.reach.ensures.note (search rules) ∙ c.filling.invariant.note;
     }

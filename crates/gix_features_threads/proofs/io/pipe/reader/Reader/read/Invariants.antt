@@ -1,4 +1,4 @@
-use Rattle.std.proofs.Common.{◌≡◌, ◌≤◌, length, map, take, drop}
+use Rattle.std.proofs.Common.{◌≡◌, ◌≤◌, false, length, map, take, drop}
 use Rattle.gix_features_threads.specs.Pipe.{Reads, Byte}
 use Rattle.gix_features_threads.proofs.io.pipe.reader.Reader.read.Given as goal
 
@@ -6,6 +6,7 @@ use Rattle.gix_features_threads.proofs.io.pipe.reader.Reader.read.Given as goal
 abbrev pub invariant-filling : goal.invariant-filling
 invariant-filling g l = record {
   within : l.filled ≤ length l.out;
-  given : Reads l.initial.self l.self (map Byte (take l.filled l.out));
+  given : Reads l.fn.self l.self (map Byte (take l.filled l.out));
   rest : drop l.filled l.out ≡ drop l.filled l.initial.out;
+  note : l.self.has_ended ≡ false;
 }

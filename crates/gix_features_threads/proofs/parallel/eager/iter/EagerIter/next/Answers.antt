@@ -1,9 +1,10 @@
 -- What is at hand is given first, and each chunk is at hand where nothing was.
+use Rattle.std.proofs.Common.{refl}
 use Rattle.gix_features_threads.proofs.EagerLemmas.{given_next}
 use Rattle.gix_features_threads.proofs.parallel.eager.iter.EagerIter.next.Goals as goal
 
 pub drawing-init : goal.drawing-init
-drawing-init g c = record { ready = c.requires.ready; same = λ first items was. was }
+drawing-init g c = record { ready = c.requires.ready; same = λ first items was. was; over = λ is_over. is_over; worker = refl }
 
 pub returns-in-Some-next-clause-given : goal.returns-in-Some-next-clause-given
 returns-in-Some-next-clause-given g c first items was =

@@ -1,12 +1,12 @@
 -- A chunk goes on with what was taken, and the last message says that it was all.
 use Rattle.std.proofs.Common.{ap}
 use Rattle.gix_features_threads.specs.EagerMessages.{IsTold}
-use Rattle.gix_features_threads.proofs.EndsLemmas.{takes, nothing}
+use Rattle.gix_features_threads.proofs.EndsLemmas.{takes, rests}
 use Rattle.gix_features_threads.proofs.EagerLemmas.{taken_chunk, taken_whole}
 use Rattle.gix_features_threads.proofs.parallel.eager.source.Worker.take.Goals as goal
 
 pub recv_as-requires-clause-rule : goal.recv_as-requires-clause-rule
-recv_as-requires-clause-rule g c = (takes (IsTold g.I.Iterator.next_gives) _ _ c.requires.ready.1, nothing (IsTold g.I.Iterator.next_gives) _ _)
+recv_as-requires-clause-rule g c = (takes (IsTold g.I.Iterator.next_gives) _ _ c.requires.ready.1, rests (IsTold g.I.Iterator.next_gives) _ _ c.requires.ready.1)
 
 pub returns-in-Ok-Chunk-clause-taken : goal.returns-in-Ok-Chunk-clause-taken
 returns-in-Ok-Chunk-clause-taken g c first items was =
