@@ -67,7 +67,11 @@ impl Course {
     }
 
     /// Why another program's change isn't valid.
-    pub(super) fn why_not_change(&self, alloc: Global, change: &Change) -> Result<Option<Why>, NoMemory>
+    pub(super) fn why_not_change(
+        &self,
+        alloc: Global,
+        change: &Change,
+    ) -> Result<Option<Why>, NoMemory>
         requires fits { Fits self.now.shown (tree_of self.now.disk.state) }
         ensures why { IfOk result (IsReasonNow self.now (Step.Disk change.now)) }
     {
