@@ -28,7 +28,7 @@ use Rattle.gix_odb_world.specs.Running.{Runs}
 use Rattle.gix_odb_world.specs.Headline.{outcome_of, stand_of}
 use Rattle.gix_odb_world.specs.WorkOrder.{asks_on, result_in}
 use Rattle.gix_odb_world.specs.World.{Explains, Continues, GoesOn, Matches, handle_at}
-use Rattle.gix_odb_world.specs.Table.{Carries, IsReasonNow, SetsHandle, Notes, after_turn, change_by_handle, state_after, told_in, would_change_now}
+use Rattle.gix_odb_world.specs.Table.{Carries, IsReasonNow, KeepsTurn, SetsHandle, Settles, Notes, TakesTurn, after_turn, change_by_handle, state_after, told_in, would_change_now}
 use Rattle.gix_odb_world.proofs.KnowsLemmas.{runs_set}
 use Rattle.gix_odb_world.specs.TwoContents.{watched_after}
 use Rattle.gix_odb_world.specs.Watch.{NotesMade, ShowsSecondBy, TellsChange}
@@ -226,3 +226,18 @@ turned_on old took mid new disk cores shown number state work done outcome handl
       notes = notes;
     })
     first events explains (status_of events number) refl (subst (Matches (status_of events number)) there (explains.handles number))
+
+-- ---- a turn in its parts
+
+pub keeps_turn : (old new : Course) (number : ℕ) (done : Carried) (revealed : Option Revealed) (shown : Kept)
+    → ((tree : Tree) → Fits old.shown tree → TellsChange old.shown.folders tree done.change revealed → (ShowsSecondBy old.shown tree done.change → ⊥)
+    → NotesMade old.shown tree done.change shown)
+    → Settles (record old { shown = shown }) new number (after_turn done.state (result_in done.work)) (outcome_of (result_in done.work)) done.did done.change
+    → KeepsTurn old new number done revealed
+keeps_turn old new number done revealed shown keeps settles = record { shown = shown; keeps = keeps; settles = settles }
+
+pub takes_turn : (old new : Course) (number : ℕ) (state : HandleState) (work : Work) (revealed : Option Revealed) (disk : Volume) (cores : Vec History Global) (done : Carried)
+    → IsTree (tree_of old.disk.state)
+    → Carries old.disk disk old.cores.items cores.items state work (told_in old.cores.items old.disk number state work) done
+    → KeepsTurn (record old { disk = disk; cores = cores }) new number done revealed → TakesTurn old new number state work revealed
+takes_turn old new number state work revealed disk cores done tree carries keeps = record { disk = disk; cores = cores; done = done; tree = tree; carries = carries; keeps = keeps }

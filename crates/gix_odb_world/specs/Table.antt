@@ -1,8 +1,9 @@
 -- What the code of a world does with its table of handles and its lists. No public clause cites this.
-use Rattle.std.specs.Prelude.{◌≡◌, ℕ, ◌+◌, ◌<◌, ◌≤◌, ◌==◌, length, true, [], ◌∷◌, ◌++◌, List, Option, Some, None, Result, Ok, Err, if◌then◌else◌}
+use Rattle.std.specs.Prelude.{◌≡◌, ℕ, ◌+◌, ◌<◌, ◌≤◌, ◌==◌, length, true, [], ◌∷◌, ◌++◌, List, Vec, Option, Some, None, Result, Ok, Err, if◌then◌else◌}
+use Rattle.std.specs.declared.alloc.Global.{Global}
 use Rattle.odb_base.specs.Path.{Path}
 use Rattle.odb_disk.specs.Ask.{answer_now, change_of_ask}
-use Rattle.odb_tree.specs.Tree.{tree_of}
+use Rattle.odb_tree.specs.Tree.{IsTree, Tree, tree_of}
 use Rattle.odb_disk.specs.MemDisk.{Volume}
 use Rattle.odb_disk.specs.declared.ask.DiskAsk.{DiskAsk}
 use Rattle.odb_tree.specs.declared.change.Change.{Change}
@@ -23,6 +24,8 @@ use Rattle.gix_odb_packs.specs.declared.answer.Answer.TheVariants as told
 use Rattle.gix_odb_packs.specs.declared.answer.PartAsk.{PartAsk}
 use Rattle.gix_odb_packs.specs.declared.answer.PartAsk.TheVariants as asks
 use Rattle.gix_odb_world.specs.declared.turn.Carried.{Carried}
+use Rattle.gix_odb_shown.specs.Kept.{Fits, Kept}
+use Rattle.gix_odb_shown.specs.declared.revealed.Revealed.{Revealed}
 use Rattle.gix_odb_world.specs.Cores.{answer_behind, cores_after_asked, history_at, or_before}
 use Rattle.gix_odb_world.specs.Event.{Asked, CoreAnswer, CoreEvent, OfCore, OfDisk, OfNewCore, OfNothing, answered}
 use Rattle.gix_odb_slots.specs.PackId.{most_slots}
@@ -31,10 +34,11 @@ use Rattle.gix_odb_world.specs.Made.{MakesCore}
 use Rattle.gix_odb_world.specs.Recorded.{opened_in}
 use Rattle.gix_odb_world.specs.Run.{change_asked, did_of, did_of_asked, disk_after_asked, has_failed, stand, told_now}
 use Rattle.gix_odb_world.specs.Status.{after_reply}
-use Rattle.gix_odb_world.specs.WorkOrder.{asks_on, fed_after, fed_on, registered_on}
+use Rattle.gix_odb_world.specs.WorkOrder.{asks_on, fed_after, fed_on, registered_on, result_in}
 use Rattle.gix_odb_world.specs.declared.course.Course.{Course}
+use Rattle.gix_odb_world.specs.Headline.{outcome_of}
 use Rattle.gix_odb_world.specs.World.{handle_at}
-use Rattle.gix_odb_world.specs.Watch.{ShowsSecondBy}
+use Rattle.gix_odb_world.specs.Watch.{NotesMade, ShowsSecondBy, TellsChange}
 use Rattle.gix_odb_world.specs.Valid.{Phase, NoneThere, Idle, Running, is_openable, most_folders, IsFirstReason, why_not_change, why_not_idle, why_not_open, why_not_running, why_not_clone, why_not_start}
 
 abbrev pub phase_of_work : HashKind → Option Work → Phase
@@ -199,3 +203,19 @@ pub record Carries (disk disk_then : Volume) (cores cores_then : List History) (
   pub work_is : done.work ≡ fed_after state work (answered asked)
   pub disk_is : disk_then ≡ disk_after_asked disk asked (change_asked disk (asks_on state work))
   pub cores_are : cores_then ≡ cores_after_asked cores asked
+
+-- A turn that came to `done` was settled behind what was told of its change: what is kept of watched paths is so by then.
+pub record KeepsTurn (old new : Course) (number : ℕ) (done : Carried) (revealed : Option Revealed) : Type 0 where
+  pub shown : Kept
+  pub keeps : (tree : Tree) → Fits old.shown tree → TellsChange old.shown.folders tree done.change revealed → (ShowsSecondBy old.shown tree done.change → ⊥)
+      → NotesMade old.shown tree done.change shown
+  pub settles : Settles (record old { shown = shown }) new number (after_turn done.state (result_in done.work)) (outcome_of (result_in done.work)) done.did done.change
+
+-- the work of a handle that was out of the table was carried out, and its turn settled
+pub record TakesTurn (old new : Course) (number : ℕ) (state : HandleState) (work : Work) (revealed : Option Revealed) : Type 0 where
+  pub disk : Volume
+  pub cores : Vec History Global
+  pub done : Carried
+  pub tree : IsTree (tree_of old.disk.state)
+  pub carries : Carries old.disk disk old.cores.items cores.items state work (told_in old.cores.items old.disk number state work) done
+  pub keeps : KeepsTurn (record old { disk = disk; cores = cores }) new number done revealed

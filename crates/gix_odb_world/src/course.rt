@@ -1,12 +1,14 @@
 //! How far a world has come: its disk, its handles and cores, and what its steps came to; and what each step makes of it.
-ghost use Rattle.std.specs.Prelude.{◌≡◌, ◌≢◌, ◌<◌, ◌^◌, ◌↔◌, IsTrue, ◌++◌, ◌∷◌, [], List, IfOk, OnOk, length, None, Some};
+ghost use Rattle.std.specs.Prelude.{◌≡◌, ◌≢◌, ◌<◌, ◌^◌, ◌↔◌, ℕ, IsTrue, ◌++◌, ◌∷◌, [], List, IfOk, OnOk, length, None, Some};
 ghost use Rattle.odb_disk.specs.MemDisk.{Volume};
+ghost use Rattle.odb_tree.specs.Tree.{tree_of};
 ghost use Rattle.gix_odb_world.specs.Event.{Event};
 ghost use Rattle.gix_odb_world.specs.Valid.{IsReason};
 ghost use Rattle.gix_odb_world.specs.Headline.{IsRun, outcome_of};
-ghost use Rattle.gix_odb_world.specs.WorkOrder.{result_in};
+ghost use Rattle.gix_odb_world.specs.Watch.{TellsChange};
+ghost use Rattle.gix_odb_world.specs.WorkOrder.{ask_on, registers_in, result_in};
 ghost use Rattle.gix_odb_world.specs.World.{Continues, Explains, IsExplained, handle_at};
-ghost use Rattle.gix_odb_world.specs.Table.{HasOneMore, Notes, SetsHandle, Settles, after_turn};
+ghost use Rattle.gix_odb_world.specs.Table.{CanHappenAt, FitsCore, HasOneMore, IsReasonNow, KeepsTurn, Notes, SetsHandle, Settles, TakesTurn, after_turn, would_change_now};
 
 use crate::cores::{joined, journals_of, removed};
 use crate::handle::Handle;
@@ -18,7 +20,7 @@ use crate::work::Work;
 use gix_odb::{CallState, HandleState, OpenState};
 use gix_odb_calls::{Call, IdPairs, Options, Outcome, PathList, Step, Why};
 use gix_odb_core::Core;
-use gix_odb_shown::Shown;
+use gix_odb_shown::{Revealed, Shown};
 use odb_base::NoMemory;
 use odb_disk::{Change, Impossible, MemDisk, PathText};
 use std::alloc::Global;
@@ -242,26 +244,86 @@ impl Course {
         ensures continues { OnOk result (Continues self.old (Step.Turn number) self.new) }
         ensures noted { OnOk result (HasOneMore self.old self.new) }
     {
-        let revealed = match self.judged(alloc, number)? {
-            Ok(revealed) => revealed,
-            Err(why) => return self.misuse(why),
-        };
-        let (state, work) = match self.take_work(number) {
-            Ok(taken) => taken,
-            Err(why) => return self.misuse(why),
-        };
+        let judged = self.judged(alloc, number)?;
+        match judged {
+            Ok(revealed) => self.make_turn(alloc, number, revealed),
+            Err(why) => self.misuse(why),
+        }
+    }
+
+    /// Makes a turn that is valid, and of which was told what its change would make watched paths show.
+    fn make_turn(
+        &mut self,
+        alloc: Global,
+        number: u32,
+        revealed: Option<Revealed>,
+    ) -> Result<(), NoMemory>
+        requires explained { IsExplained self.old }
+        requires valid { IsReasonNow self.old (Step.Turn number) None }
+        requires tells { TellsChange self.old.shown.folders (tree_of self.old.disk.state) (would_change_now self.old (Step.Turn number)) revealed }
+        ensures continues { OnOk result (Continues self.old (Step.Turn number) self.new) }
+        ensures noted { OnOk result (HasOneMore self.old self.new) }
+    {
+        match self.take_work(number) {
+            Ok((state, work)) => self.carry_out(alloc, number, state, work, revealed),
+            Err(why) => {
+                drop(revealed);
+                self.misuse(why)
+            }
+        }
+    }
+
+    /// Carries out what the work of a handle asks for that was taken out of the table, and puts the handle back.
+    fn carry_out(
+        &mut self,
+        alloc: Global,
+        number: u32,
+        state: HandleState,
+        work: Work,
+        revealed: Option<Revealed>,
+    ) -> Result<(), NoMemory>
+        requires fits { (slots : ℕ) → registers_in work ≡ Some slots → FitsCore slots state }
+        requires can_happen { CanHappenAt self.old.cores.items number state (ask_on state work) }
+        requires free { handle_at self.old number ≡ None }
+        ensures takes { OnOk result (TakesTurn self.old self.new number state work revealed) }
+    {
         // The proof takes from this call that the disk shows a tree, each node of which lies in a directory: what a call of
         // the disk changes and what it leaves alone is told of trees.
         let _ = self.disk.tree();
-        let carried = carried_out(alloc, &mut self.disk, &mut self.cores, number, state, work)?;
-        let Carried {
-            did,
-            change,
-            state,
-            work,
-        } = carried;
-        keep(&mut self.shown, revealed, &change)?;
-        self.settle(number, state, work, did, change)
+        match carried_out(alloc, &mut self.disk, &mut self.cores, number, state, work) {
+            Ok(carried) => self.keep_and_settle(number, carried, revealed),
+            Err(error) => {
+                drop(revealed);
+                Err(error)
+            }
+        }
+    }
+
+    /// Keeps what a turn made watched paths show, puts its handle back, and adds its outcome and its record.
+    fn keep_and_settle(
+        &mut self,
+        number: u32,
+        carried: Carried,
+        revealed: Option<Revealed>,
+    ) -> Result<(), NoMemory>
+        requires free { handle_at self.old number ≡ None }
+        ensures keeps { OnOk result (KeepsTurn self.old self.new number carried revealed) }
+    {
+        match keep(&mut self.shown, revealed, &carried.change) {
+            Ok(()) => {
+                let Carried {
+                    did,
+                    change,
+                    state,
+                    work,
+                } = carried;
+                self.settle(number, state, work, did, change)
+            }
+            Err(error) => {
+                drop(carried);
+                Err(error)
+            }
+        }
     }
 
     /// Puts a handle back after its turn, and adds the outcome and the record of the turn.

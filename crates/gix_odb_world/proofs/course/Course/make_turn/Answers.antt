@@ -1,0 +1,52 @@
+use Rattle.std.proofs.Common.{[], ◌∷◌, ◌++◌, None, refl, sym, ap, ◌∙◌, subst, Vec, Global}
+use Rattle.std.proofs.lemmas.Result.{on_ok_weaker}
+use Rattle.gix_odb_core.specs.History.{History}
+use Rattle.gix_odb_calls.specs.declared.step.Outcome.TheVariants.{Misuse}
+use Rattle.gix_odb_calls.specs.declared.step.Step.TheVariants as steps
+use Rattle.gix_odb_world.specs.declared.course.Course.{Course}
+use Rattle.gix_odb_world.specs.declared.record.Did.TheVariants.{Nothing}
+use Rattle.gix_odb_world.specs.Headline.{outcome_of}
+use Rattle.gix_odb_world.specs.Table.{CanHappenAt, Notes}
+use Rattle.gix_odb_world.specs.WorkOrder.{ask_on, result_in}
+use Rattle.gix_odb_world.proofs.ExplainedFits.{fits_core}
+use Rattle.gix_odb_world.proofs.ExplainedSeats.{turn_can_happen}
+use Rattle.gix_odb_world.proofs.FitsLemmas.{fits_now}
+use Rattle.gix_odb_world.proofs.StepLemmas.{misused}
+use Rattle.gix_odb_world.proofs.TurnLemmas.{turned_on}
+use Rattle.gix_odb_world.proofs.course.Course.make_turn.Goals as goal
+
+-- a turn of a handle that isn't at work leaves it as it was
+pub returns-in-Err-clause-continues : goal.returns-in-Err-clause-continues
+returns-in-Err-clause-continues c =
+    on_ok_weaker c.misuse.result
+    (λ notes. misused c.args.self.now c.misuse.new.self (steps.Turn c.args.number) c.in-Err.why (sym c.in-Err.ensures.why)
+    (subst (λ (world : Course). Notes world c.misuse.new.self (Misuse c.in-Err.why) Nothing None) c.in-Err.ensures.kept notes))
+    c.misuse.ensures.notes
+
+pub returns-in-Ok-clause-continues : goal.returns-in-Ok-clause-continues
+returns-in-Ok-clause-continues c =
+    on_ok_weaker c.carry_out.result
+    (λ turn. turned_on c.args.self.now c.take_work.new.self turn.keeps.settles.mid c.carry_out.new.self turn.disk turn.cores turn.keeps.shown c.args.number
+    c.in-Ok.state c.in-Ok.work turn.done _ _ c.args.revealed
+    c.in-Ok.ensures.taken c.in-Ok.ensures.sets turn.tree turn.carries refl refl
+    c.requires.valid (fits_now c.args.self.now c.requires.explained) c.requires.tells turn.keeps.keeps
+    turn.keeps.settles.sets turn.keeps.settles.notes) c.carry_out.ensures.takes
+
+pub returns-in-Ok-clause-noted : goal.returns-in-Ok-clause-noted
+returns-in-Ok-clause-noted c =
+    on_ok_weaker c.carry_out.result
+    (λ turn. (
+      outcome_of (result_in turn.done.work),
+      turn.keeps.settles.notes.outcomes
+          ∙ ap (λ outcomes. outcomes ++ outcome_of (result_in turn.done.work) ∷ []) (turn.keeps.settles.sets.outcomes ∙ c.in-Ok.ensures.sets.outcomes),
+    )) c.carry_out.ensures.takes
+
+-- for a store whose handle is to be registered a core can be made
+pub carry_out-requires-clause-fits : goal.carry_out-requires-clause-fits
+carry_out-requires-clause-fits c = fits_core c.args.self.now c.args.number c.in-Ok.state c.in-Ok.work c.in-Ok.ensures.taken c.requires.explained
+
+-- and an event of a core that the work asks for can happen
+pub carry_out-requires-clause-can_happen : goal.carry_out-requires-clause-can_happen
+carry_out-requires-clause-can_happen c =
+    subst (λ (cores : Vec History Global). CanHappenAt cores.items c.args.number c.in-Ok.state (ask_on c.in-Ok.state c.in-Ok.work)) (sym c.in-Ok.ensures.sets.cores)
+    (turn_can_happen c.args.self.now c.requires.explained c.args.number c.in-Ok.state c.in-Ok.work c.in-Ok.ensures.taken)
