@@ -1,8 +1,9 @@
 #!/usr/bin/env python3
-"""Time of workers that hash buffers, memory of a pipe, and a reader that stops half way. See README.md."""
+"""Time of workers that hash buffers, memory of a pipe, readers that stop half way, and rounds. See README.md."""
 
 import argparse
 import os
+import re
 import subprocess
 import sys
 import time
@@ -13,7 +14,9 @@ BUFFERS, KIB = 64, 4096
 ROUNDS = 9
 PIECES, PIECE_KIB = 16384, 64
 MOST_PEAK = 64 * 2**20
-ITEMS, STOP_WORKERS = 10000, 8
+ITEMS, STOP_WORKERS, IN_FLIGHT = 10000, 8, 4
+CHUNK = 64
+ROUND_ITEMS = 4096
 
 
 def run(program, *words):
@@ -52,10 +55,34 @@ def passing(program):
 
 
 def stopping(program):
-    """Prints what a reader saw that stops half way, and tells whether it is anything else than wanted."""
+    """Prints what was seen of a pipe whose reader stops half way, and tells whether it is anything else than wanted."""
     seconds, _, output = run(program, "stop", ITEMS, STOP_WORKERS)
     print("stop: %s, in %.2f s" % (output, seconds))
-    return output != "read %d of %d in order; the writer was told: true" % (ITEMS // 2, ITEMS)
+    seen = re.fullmatch(r"read (\d+), written (\d+), came back (\d+)", output)
+    if not seen:
+        return True
+    read, written, back = map(int, seen.groups())
+    return read != ITEMS // 2 or written + back != ITEMS or not read <= written <= read + IN_FLIGHT
+
+
+def drawing(program):
+    """Prints how many numbers came that a worker drew ahead, and tells whether it is another number than wanted."""
+    seconds, _, output = run(program, "draw", ITEMS, CHUNK)
+    print("draw: %s of %d, in %.2f s" % (output, ITEMS, seconds))
+    return int(output) != ITEMS // 2
+
+
+def rounds(program):
+    """Prints what a round costs with each number of workers, and tells whether the items came out wrong."""
+    wrong = False
+    for workers in WORKERS:
+        best = float("inf")
+        for _ in range(ROUNDS):
+            seconds, _, output = run(program, "slice", ROUND_ITEMS, workers)
+            best, wrong = min(best, seconds), wrong or int(output) != 2 * ROUND_ITEMS
+        count = -(-ROUND_ITEMS // workers)
+        print("slice: %d rounds of %d in %.3f s, %.1f us a round" % (count, workers, best, best / count * 1e6))
+    return wrong
 
 
 def main():
@@ -65,7 +92,7 @@ def main():
     words = parser.parse_args()
     if not os.access(words.program, os.X_OK):
         sys.exit("no program at %s: build it with rt run in crates/parallel_trials" % words.program)
-    if sum([trial(words.program) for trial in (hashing, passing, stopping)]):
+    if sum([trial(words.program) for trial in (hashing, passing, stopping, drawing, rounds)]):
         sys.exit("a bound was missed")
 
 

@@ -66,7 +66,7 @@ pub fn hash_of_all<H: Threads + Sync>(
 fn buffers_of(alloc: Global, count: usize, len: usize) -> Result<Vec<Vec<u8>>, NoMemory> {
     let mut buffers = Vec::new(alloc);
     for number in 0..count {
-        buffers.push(vec![in alloc; number as u8; len]?)?;
+        buffers.push(vec![in alloc; (number % 256) as u8; len]?)?;
     }
     Ok(buffers)
 }

@@ -2,13 +2,17 @@
 //!
 //! `parallel_trials hash WORKERS BUFFERS KIB` hashes so many buffers of so many KiB with so many workers, and prints a
 //! number that all hashes make. `parallel_trials pipe PIECES KIB` passes so many pieces from one thread to another, and
-//! prints how many bytes came. `parallel_trials stop ITEMS WORKERS` sends what workers make of so many items to a slow
-//! reader that stops half way, and prints what it saw.
+//! prints how many bytes came. `parallel_trials stop ITEMS WORKERS` has workers write so many numbers into one pipe, whose
+//! slow reader stops half way, and prints what was seen. `parallel_trials draw ITEMS CHUNK` has a worker draw so many numbers
+//! ahead, of which a slow consumer takes half. `parallel_trials slice ITEMS WORKERS` has workers change the items of a slice in
+//! rounds.
 #![tactic(auto)]
 
+mod drawing;
 mod fault;
 mod hashing;
 mod passing;
+mod rounds;
 mod show;
 mod stopping;
 mod trial;

@@ -1,9 +1,11 @@
 //! Trials that are made, and what they come to.
 ghost use Rattle.parallel_trials.specs.Asked.{IsBounded};
 
+use crate::drawing::draw_half;
 use crate::fault::Fault;
 use crate::hashing::hash_of_all;
 use crate::passing::pass;
+use crate::rounds::double_all;
 use crate::stopping::stop_half_way;
 use crate::trial::Trial;
 use std::alloc::Global;
@@ -11,7 +13,7 @@ use std::sync::Wait;
 use std::thread::Threads;
 
 /// Makes a trial, and prints what it comes to.
-pub fn show<R: Threads + Wait + Sync + Print>(
+pub fn show<R: Threads + Wait + Print + Copy + Send + Sync + 'static>(
     rt: &R,
     alloc: Global,
     trial: Trial,
@@ -33,8 +35,16 @@ pub fn show<R: Threads + Wait + Sync + Print>(
         }
         Trial::Stop { items, workers } => {
             let seen = stop_half_way(rt, alloc, items, workers)?;
-            let (read, was_told) = (seen.read, seen.was_told);
-            println!(rt; "read {read} of {items} in order; the writer was told: {was_told}")?;
+            let (read, written, back) = (seen.read, seen.written, seen.came_back);
+            println!(rt; "read {read}, written {written}, came back {back}")?;
+        }
+        Trial::Draw { items, chunk_size } => {
+            let count = draw_half(*rt, alloc, items, chunk_size)?;
+            println!(rt; "{count}")?;
+        }
+        Trial::Slice { items, workers } => {
+            let sum = double_all(rt, alloc, items, workers)?;
+            println!(rt; "{sum}")?;
         }
     }
     Ok(())

@@ -1,91 +1,118 @@
-//! Workers whose outputs go to a slow reader that stops half way.
+//! Workers that write into one pipe, of which a slow reader reads the first half.
 ghost use Rattle.std.specs.Prelude.{◌<◌, ◌≤◌};
+ghost use Rattle.std.specs.Thread.{IsSync};
 
 use gix_features_parts::parallel::Reduce;
 use gix_features_threads::io::pipe;
-use gix_features_threads::io::pipe::{Reader, Writer};
-use gix_features_threads::parallel::{in_parallel, join};
+use gix_features_threads::io::pipe::{Gone, Reader, Writer};
+use gix_features_threads::parallel::{ParallelError, in_parallel, join};
 use odb_base::NoMemory;
 use sha1::Sha1;
 use std::alloc::Global;
-use std::sync::Wait;
+use std::mem;
+use std::sync::{Mutex, Wait};
 use std::thread::Threads;
 
-/// How many outputs may be on their way.
+/// How many numbers may be on their way.
 const IN_FLIGHT: usize = 4;
 
 /// What was seen.
 #[derive(Clone, Copy)]
 pub struct Seen {
-    /// How many outputs were read, each in its turn.
+    /// How many different numbers were read.
     pub read: u32,
-    /// Whether the writer was told that the reader is gone.
-    pub was_told: bool,
+    /// How many were written.
+    pub written: u32,
+    /// How many came back whole, since the reader is gone.
+    pub came_back: u32,
 }
 
-/// Writes each output to a pipe, until nobody reads.
+/// What became of a number.
+#[derive(Clone, Copy)]
+enum Fate {
+    Written,
+    CameBack,
+    /// There was no memory for it, or less of it came back.
+    Lost,
+}
+
+/// Counts what became of numbers, up to the first that is lost.
 #[derive(Drop)]
-struct ToPipe<'r, H: Wait> {
-    rt: &'r H,
-    alloc: Global,
-    writer: Writer,
+struct Counts {
+    written: u32,
+    came_back: u32,
 }
 
-impl<'r, H: Wait> Reduce for ToPipe<'r, H> {
-    type Input = u32;
+impl Reduce for Counts {
+    type Input = Fate;
 
     type FeedProduce = ();
 
-    type Output = ();
+    type Output = (u32, u32);
 
-    type Error = ();
+    type Error = NoMemory;
 
-    fn feed(&mut self, number: u32) -> Result<(), ()> {
-        let (rt, alloc) = (self.rt, self.alloc);
-        let bytes = number.to_le_bytes();
-        match self.writer.write(rt, alloc, bytes.as_slice()) {
-            Ok(_) => Ok(()),
-            Err(_) => Err(()),
+    fn feed(&mut self, fate: Fate) -> Result<(), NoMemory> {
+        match fate {
+            Fate::Written => self.written = self.written.saturating_add(1),
+            Fate::CameBack => self.came_back = self.came_back.saturating_add(1),
+            Fate::Lost => return Err(NoMemory),
         }
+        Ok(())
     }
 
-    fn finalize(self) -> Result<(), ()> {
-        Ok(())
+    fn finalize(self) -> Result<(u32, u32), NoMemory> {
+        Ok((self.written, self.came_back))
     }
 }
 
-/// Has workers consume so many numbers. A slow reader takes the first half of what they make.
+/// Has workers write so many numbers into one pipe. A slow reader reads half as many, and goes.
 pub fn stop_half_way<H: Threads + Wait + Sync>(
     rt: &H,
     alloc: Global,
     items: u32,
     workers: usize,
-) -> Result<Seen, NoMemory>
+) -> Result<Seen, ParallelError<NoMemory>>
     requires some { 0 < workers }
 {
     let (writer, reader) = pipe::unidirectional(alloc, IN_FLIGHT)?;
-    let to_pipe = ToPipe { rt, alloc, writer };
-    let (is_whole, read) = join(
+    let is_new = notes(alloc, items as usize)?;
+    let (counts, read) = join(
         rt,
-        move || work(rt, alloc, items, workers, to_pipe),
-        || read_some(rt, reader, items / 2),
+        move || -> Result<(u32, u32), ParallelError<NoMemory>>
+            requires { IsSync H.row × (0 < workers) }
+        { write_all(rt, alloc, items, workers, writer) },
+        || read_some(rt, reader, is_new, items / 2),
     );
+    let (written, came_back) = counts?;
     Ok(Seen {
         read,
-        was_told: !is_whole,
+        written,
+        came_back,
     })
 }
 
-/// Whether all outputs were written.
-fn work<'r, H: Threads + Wait + Sync>(
+/// A note of each of so many numbers that it didn't come yet.
+fn notes(alloc: Global, items: usize) -> Result<Vec<bool>, NoMemory> {
+    Ok(vec![in alloc; true; items]?)
+}
+
+/// How many of the numbers workers could write, and how many came back.
+fn write_all<H: Threads + Wait + Sync>(
     rt: &H,
     alloc: Global,
     items: u32,
     workers: usize,
-    to_pipe: ToPipe<'r, H>,
-) -> bool
+    writer: Writer,
+) -> Result<(u32, u32), ParallelError<NoMemory>>
     requires some { 0 < workers }
 {
+    let shared = Mutex::new(writer);
+    let to = &shared;
+    let counts = Counts {
+        written: 0,
+        came_back: 0,
+    };
     in_parallel(
         rt,
         alloc,
@@ -93,28 +120,44 @@ fn work<'r, H: Threads + Wait + Sync>(
         Some(workers),
         1,
         |_| (),
-        |number, _state: &mut ()| number,
-        to_pipe,
+        move |number, _state: &mut ()| write_one(rt, alloc, to, number),
+        counts,
     )
-    .is_ok()
 }
 
-/// Reads so many numbers, slowly. It answers how many came in their turn.
-fn read_some<H: Wait>(rt: &H, mut reader: Reader, count: u32) -> u32
-    ensures { result ≤ count }
-{
-    let mut bytes = [0u8; 4];
-    for number in 0..count {
-        let is_whole = reader.read(rt, &mut bytes).is_ok();
-        if !is_whole || u32::from_le_bytes(bytes) != number {
-            return number;
+/// Writes a number, once no other worker writes and there is room.
+fn write_one<H: Wait>(rt: &H, alloc: Global, to: &Mutex<Writer>, number: u32) -> Fate {
+    let bytes = number.to_le_bytes();
+    match to.lock(rt).write(rt, alloc, bytes.as_slice()) {
+        Ok(_) => Fate::Written,
+        Err(Gone::Piece(piece)) if piece.as_slice() == bytes.as_slice() => Fate::CameBack,
+        Err(_) => Fate::Lost,
+    }
+}
+
+/// Reads so many numbers, slowly. It answers how many different ones came.
+fn read_some<H: Wait>(rt: &H, mut reader: Reader, mut is_new: Vec<bool>, count: u32) -> u32 {
+    let mut fresh = 0u32;
+    for _ in 0..count {
+        let mut bytes = [0u8; 4];
+        let len = reader.read(rt, &mut bytes).unwrap_or(0);
+        if len == 4 && is_first(is_new.as_mut_slice(), u32::from_le_bytes(bytes)) {
+            fresh = fresh.saturating_add(1);
         }
         linger();
     }
-    count
+    fresh
+}
+
+/// Whether a number is one of these that didn't come before. It is noted.
+fn is_first(is_new: &mut [bool], number: u32) -> bool {
+    match is_new.get_mut(number as usize) {
+        Some(is_new) => mem::replace(is_new, false),
+        None => false,
+    }
 }
 
 /// Takes a while.
-fn linger() {
+pub fn linger() {
     let _ = Sha1::digest([0u8; 4096].as_slice());
 }

@@ -23,6 +23,14 @@ pub enum Trial {
         items: u32,
         workers: usize,
     },
+    Draw {
+        items: u32,
+        chunk_size: usize,
+    },
+    Slice {
+        items: usize,
+        workers: usize,
+    },
 }
 
 /// The trial that words ask for, if they are understood.
@@ -41,6 +49,14 @@ pub fn trial_of(words: &[String]) -> Option<Trial>
         }),
         [name, items, workers] if name.as_str() == "stop" => Some(Trial::Stop {
             items: number(items)? as u32,
+            workers: number(workers)?,
+        }),
+        [name, items, chunk_size] if name.as_str() == "draw" => Some(Trial::Draw {
+            items: number(items)? as u32,
+            chunk_size: number(chunk_size)?,
+        }),
+        [name, items, workers] if name.as_str() == "slice" => Some(Trial::Slice {
+            items: number(items)?,
             workers: number(workers)?,
         }),
         _ => None,

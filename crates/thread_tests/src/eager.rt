@@ -8,11 +8,15 @@ use std::sync::Wait;
 use std::test::Fail;
 use std::thread::Threads;
 
+/// Stands for want of memory among numbers.
+const WANT: u32 = u32::MAX;
+
 /// The number that is answered, or 0 where there is none.
 fn number_of(answer: Option<Result<u32, NoMemory>>) -> u32 {
     match answer {
         Some(Ok(number)) => number,
-        _ => 0,
+        Some(Err(NoMemory)) => WANT,
+        None => 0,
     }
 }
 
@@ -38,7 +42,8 @@ fn is_drawn<H: Threads + Wait + Copy + Send + 'static>(
     [first, second, third, fourth] == wanted
 }
 
-// Catches an item of a chunk that is lost, an end before the last item, and an item after the end.
+// Catches an item of a chunk that is lost, an end before the last item, want of memory in place of the end, and an item after
+// the end.
 #[test]
 fn draws_ahead(rt: HostRuntime) -> Result<(), Fail> {
     let alloc: Global = rt.alloc();
@@ -51,7 +56,7 @@ fn draws_ahead(rt: HostRuntime) -> Result<(), Fail> {
     Ok(())
 }
 
-/// Whether the numbers from 1 to 3 are given, where it is chosen whether they are drawn ahead.
+/// Whether the numbers from 1 to 3 are given and then the end, where it is chosen whether they are drawn ahead.
 fn is_chosen<H: Threads + Wait + Copy + Send + 'static>(rt: H, alloc: Global, ahead: bool) -> bool {
     let Ok(mut numbers) = EagerIterIf::new(rt, alloc, move || ahead, 1..4u32, 2, 1) else {
         return false;
@@ -63,11 +68,14 @@ fn is_chosen<H: Threads + Wait + Copy + Send + 'static>(rt: H, alloc: Global, ah
     let Some(Ok(second)) = numbers.next() else {
         return false;
     };
-    let third = number_of(numbers.next());
-    is_ahead == ahead && [first, second, third] == [1, 2, 3]
+    let Some(Ok(third)) = numbers.next() else {
+        return false;
+    };
+    let last = number_of(numbers.next());
+    is_ahead == ahead && [first, second, third, last] == [1, 2, 3, 0]
 }
 
-// Catches a condition that isn't heeded.
+// Catches a condition that isn't heeded, and want of memory in place of the end.
 #[test]
 fn draws_ahead_if(rt: HostRuntime) -> Result<(), Fail> {
     let alloc: Global = rt.alloc();

@@ -6,6 +6,8 @@ mod eager;
 #[cfg(test)]
 mod pipes;
 #[cfg(test)]
+mod scopes;
+#[cfg(test)]
 mod slices;
 #[cfg(test)]
 mod workers;

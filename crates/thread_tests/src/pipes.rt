@@ -61,7 +61,7 @@ fn gone(rt: HostRuntime) -> Result<(), Fail> {
 
 /// Writes two bytes, and then sends an error. It answers whether both are in the pipe.
 fn fail<R: Wait>(rt: &R, alloc: Global, writer: &mut Writer) -> Result<bool, NoMemory> {
-    let error = PipeError::Sent(ByteList::from_slice(alloc, b"no")?);
+    let error = error_of(alloc, b"no")?;
     let is_written = writer.write(rt, alloc, b"ab").is_ok();
     Ok(is_written && writer.send_error(rt, error).is_ok())
 }
@@ -97,5 +97,90 @@ fn lends(rt: HostRuntime) -> Result<(), Fail> {
     reader.consume(2);
     let third = first_of(reader.fill_buf(&rt));
     assert!(rt; is_written && first == b'a' && third == b'c');
+    Ok(())
+}
+
+/// An error of a text, where there is memory for it.
+fn error_of(alloc: Global, text: &[u8]) -> Result<PipeError, NoMemory> {
+    Ok(PipeError::Sent(ByteList::from_slice(alloc, text)?))
+}
+
+/// Whether an error comes back that nobody takes.
+fn comes_back<R: Wait>(rt: &R, alloc: Global) -> Result<bool, NoMemory> {
+    let (mut writer, reader) = pipe::unidirectional(alloc, 1)?;
+    drop(reader);
+    match writer.send_error(rt, error_of(alloc, b"no")?) {
+        Ok(()) => Ok(false),
+        Err(PipeError::Sent(text)) => Ok(text.as_slice() == b"no".as_slice()),
+    }
+}
+
+// Catches an error that is lost where nobody reads it.
+#[test]
+fn error_gone(rt: HostRuntime) -> Result<(), Fail> {
+    let alloc: Global = rt.alloc();
+    assert!(rt; comes_back(&rt, alloc)?);
+    Ok(())
+}
+
+/// A reader of a pipe into which these bytes were written and whose writer is gone.
+fn left_with<R: Wait>(rt: &R, alloc: Global, bytes: &[u8]) -> Result<Reader, NoMemory> {
+    let (mut writer, reader) = pipe::unidirectional(alloc, 1)?;
+    if writer.write(rt, alloc, bytes).is_err() || writer.flush().is_err() {
+        return Err(NoMemory);
+    }
+    Ok(reader)
+}
+
+/// Whether a reader has these bytes at hand once it was filled.
+fn is_filled<R: Wait>(rt: &R, reader: &mut Reader, wanted: &[u8]) -> bool {
+    reader.fill(rt).is_ok() && *reader.front() == *wanted
+}
+
+/// How many bytes a reader lends, or 9 where it answers an error.
+fn lent<R: Wait>(rt: &R, reader: &mut Reader) -> usize {
+    match reader.fill_buf(rt) {
+        Ok(bytes) => bytes.len(),
+        Err(_) => 9,
+    }
+}
+
+// Catches bytes that aren't at hand once they were waited for, an end that is taken for an error, and an end that isn't the end
+// at the next read.
+#[test]
+fn ends(rt: HostRuntime) -> Result<(), Fail> {
+    let alloc: Global = rt.alloc();
+    let mut reader = left_with(&rt, alloc, b"abc")?;
+    let is_at_hand = is_filled(&rt, &mut reader, b"abc");
+    let mut out = [0u8; 4];
+    let first = reader.read(&rt, &mut out).unwrap_or(9);
+    let second = reader.read(&rt, &mut out).unwrap_or(9);
+    let third = lent(&rt, &mut reader);
+    assert!(rt;
+        is_at_hand && first == 3 && second == 0 && third == 0 && is_filled(&rt, &mut reader, b"")
+    );
+    Ok(())
+}
+
+/// What is read of a pipe whose ends were put together between two writes.
+fn read_together<R: Wait>(rt: &R, alloc: Global) -> Result<[u8; 4], NoMemory> {
+    let (mut writer, reader) = pipe::unidirectional(alloc, 2)?;
+    let is_begun = writer.write(rt, alloc, b"ab").is_ok();
+    let (mut writer, mut reader) = pipe::together(writer, reader);
+    let is_written = writer.write(rt, alloc, b"cd").is_ok();
+    let mut out = [0u8; 4];
+    let count = reader.read(rt, &mut out).unwrap_or(0);
+    if is_begun && is_written && count == 4 {
+        Ok(out)
+    } else {
+        Err(NoMemory)
+    }
+}
+
+// Catches bytes that are lost where both ends are put together, and ends that are no more of one pipe.
+#[test]
+fn one_thread(rt: HostRuntime) -> Result<(), Fail> {
+    let alloc: Global = rt.alloc();
+    assert!(rt; read_together(&rt, alloc)? == *b"abcd");
     Ok(())
 }

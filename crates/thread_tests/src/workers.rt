@@ -1,100 +1,202 @@
-//! Numbers that two workers double into a list.
+//! Numbers that two workers put their counts to, and that go into a list.
 use gix_features_parts::parallel::Reduce;
 use gix_features_threads::parallel::{
-    Stepwise, in_parallel, in_parallel_if, in_parallel_with_finalize,
+    Finalize, ParallelError, Stepwise, in_parallel, in_parallel_if, in_parallel_with_finalize,
 };
-use odb_disk::NoMemory;
 use std::alloc::Global;
+use std::sync::atomic::{AtomicU64, Ordering};
 use std::test::Fail;
+use std::thread::Threads;
+
+/// Why there is no list.
+#[derive(Clone, Copy, PartialEq)]
+enum Refused {
+    /// This number isn't taken.
+    Number(u32),
+    /// The list isn't given away.
+    List,
+    NoMemory,
+}
 
 /// Puts what it is fed into a list.
 #[derive(Drop)]
-struct Collected {
+struct Collected<'f> {
     all: Vec<u32>,
+    /// The number that isn't taken, or that the list isn't given away.
+    refuses: Option<Refused>,
+    /// How many numbers were fed.
+    fed: &'f AtomicU64,
 }
 
-impl Collected {
-    fn new(alloc: Global) -> Collected {
-        Collected {
-            all: Vec::new(alloc),
-        }
-    }
-}
-
-impl Reduce for Collected {
+impl<'f> Reduce for Collected<'f> {
     type Input = u32;
 
     type FeedProduce = ();
 
     type Output = Vec<u32>;
 
-    type Error = NoMemory;
+    type Error = Refused;
 
-    fn feed(&mut self, item: u32) -> Result<(), NoMemory> {
-        self.all.push(item)?;
+    fn feed(&mut self, item: u32) -> Result<(), Refused> {
+        self.fed.fetch_add(1, Ordering::SeqCst);
+        if self.refuses == Some(Refused::Number(item)) {
+            return Err(Refused::Number(item));
+        }
+        if self.all.push(item).is_err() {
+            return Err(Refused::NoMemory);
+        }
         Ok(())
     }
 
-    fn finalize(self) -> Result<Vec<u32>, NoMemory> {
-        Ok(self.all)
+    fn finalize(self) -> Result<Vec<u32>, Refused> {
+        if self.refuses == Some(Refused::List) {
+            Err(Refused::List)
+        } else {
+            Ok(self.all)
+        }
     }
 }
 
-/// The double of a number, which is counted.
-fn double(item: u32, count: &mut u32) -> u32 {
+/// Ten times a number, and how many numbers its worker had.
+fn counted(item: u32, count: &mut u32) -> u32 {
     *count = count.wrapping_add(1);
-    item.wrapping_mul(2)
+    item.wrapping_mul(10).wrapping_add(*count)
 }
 
-// Catches an output that is lost, fed twice, or fed out of the order of the items.
-#[test]
-fn doubles(rt: HostRuntime) -> Result<(), Fail> {
-    let alloc: Global = rt.alloc();
-    let list = Collected::new(alloc);
-    let all = in_parallel(&rt, alloc, 1..4u32, None, 2, |_| 0, double, list)?;
-    assert_eq!(rt; all.as_slice(), [2, 4, 6].as_slice());
-    Ok(())
+/// A call.
+#[derive(Clone, Copy)]
+enum Call {
+    Plain,
+    /// It has two workers where this holds.
+    If(bool),
+    /// How many numbers each worker had is fed too.
+    Counted,
+    /// The list is made step by step, of which so many are made one by one.
+    Steps(u32),
 }
 
-// Catches a condition that isn't heeded where it is false.
-#[test]
-fn doubles_alone(rt: HostRuntime) -> Result<(), Fail> {
-    let alloc: Global = rt.alloc();
-    let list = Collected::new(alloc);
-    let all = in_parallel_if(&rt, alloc, || false, 1..4u32, None, 2, |_| 0, double, list)?;
-    assert_eq!(rt; all.as_slice(), [2, 4, 6].as_slice());
-    Ok(())
+/// What a call makes of the numbers from 1 to 3.
+fn answer_of<'f, H: Threads + Sync>(
+    rt: &H,
+    alloc: Global,
+    call: Call,
+    list: Collected<'f>,
+) -> Result<Vec<u32>, ParallelError<Refused>> {
+    match call {
+        Call::Plain => in_parallel(rt, alloc, 1..4u32, None, 2, |_| 0, counted, list),
+        Call::If(holds) => in_parallel_if(
+            rt,
+            alloc,
+            move || holds,
+            1..4u32,
+            None,
+            2,
+            |_| 0,
+            counted,
+            list,
+        ),
+        Call::Counted => in_parallel_with_finalize(
+            rt,
+            alloc,
+            1..4u32,
+            Some(2),
+            1,
+            |_| 0,
+            counted,
+            |count| count,
+            list,
+        ),
+        Call::Steps(steps) => stepped(rt, alloc, steps, list),
+    }
 }
 
-// Catches items that aren't dealt in turn, and counts that aren't in the order of the workers.
-#[test]
-fn counts(rt: HostRuntime) -> Result<(), Fail> {
-    let alloc: Global = rt.alloc();
-    let list = Collected::new(alloc);
-    let all = in_parallel_with_finalize(
-        &rt,
-        alloc,
-        1..4u32,
-        Some(2),
-        1,
-        |_| 0,
-        double,
-        |n| n,
-        list,
-    )?;
-    assert_eq!(rt; all.as_slice(), [2, 4, 6, 2, 1].as_slice());
-    Ok(())
+/// What comes of so many steps, whatever they give, and of the rest.
+fn stepped<'f, H: Threads + Sync>(
+    rt: &H,
+    alloc: Global,
+    steps: u32,
+    list: Collected<'f>,
+) -> Result<Vec<u32>, ParallelError<Refused>> {
+    let mut rest = Stepwise::new(rt, alloc, 1..4u32, None, 2, |_| 0, counted, list)?;
+    for _ in 0..steps {
+        let _ = rest.next(rt);
+    }
+    end(rt, rest)
 }
 
-// Catches an output that is fed twice, and one that isn't fed at the end.
+/// What comes of the rest.
+fn end<H: Threads, F: Finalize>(
+    rt: &H,
+    steps: F,
+) -> Result<<F::Reduce as Reduce>::Output, ParallelError<<F::Reduce as Reduce>::Error>> {
+    steps.finalize(rt)
+}
+
+/// A call over the numbers from 1 to 3; what its list refuses; the list, with 0 behind its end, or why there is none; and how
+/// many numbers were fed.
+type Row = (Call, Option<Refused>, Result<[u32; 5], Refused>, u64);
+
+const FIRST: Refused = Refused::Number(11);
+
+const SECOND: Refused = Refused::Number(21);
+
+const LAST: Refused = Refused::Number(1);
+
+const ROWS: [Row; 14] = [
+    (Call::Plain, None, Ok([11, 21, 32, 0, 0]), 3),
+    (Call::Plain, Some(SECOND), Err(SECOND), 2),
+    (Call::Plain, Some(Refused::List), Err(Refused::List), 3),
+    (Call::If(true), None, Ok([11, 21, 32, 0, 0]), 3),
+    (Call::If(true), Some(FIRST), Err(FIRST), 1),
+    (Call::If(false), None, Ok([11, 22, 33, 0, 0]), 3),
+    (Call::If(false), Some(Refused::List), Err(Refused::List), 3),
+    (Call::Counted, None, Ok([11, 21, 32, 2, 1]), 5),
+    (Call::Counted, Some(LAST), Err(LAST), 5),
+    (Call::Counted, Some(SECOND), Err(SECOND), 2),
+    (Call::Steps(1), None, Ok([11, 21, 32, 0, 0]), 3),
+    (Call::Steps(3), Some(SECOND), Ok([11, 32, 0, 0, 0]), 3),
+    (Call::Steps(0), Some(SECOND), Err(SECOND), 2),
+    (Call::Steps(4), Some(Refused::List), Err(Refused::List), 3),
+];
+
+/// Whether a call gives what its row says.
+fn is_right<H: Threads + Sync>(rt: &H, alloc: Global, row: &Row) -> bool {
+    let (call, refuses, wanted, count) = row;
+    let fed = AtomicU64::new(0);
+    let list = Collected {
+        all: Vec::new(alloc),
+        refuses: *refuses,
+        fed: &fed,
+    };
+    let answer = answer_of(rt, alloc, *call, list);
+    is_same(answer, wanted) && fed.load(Ordering::SeqCst) == *count
+}
+
+/// Whether an answer is that of a row.
+fn is_same(
+    answer: Result<Vec<u32>, ParallelError<Refused>>,
+    wanted: &Result<[u32; 5], Refused>,
+) -> bool {
+    match (answer, wanted) {
+        (Ok(all), Ok(wanted)) => is_list(all.as_slice(), wanted),
+        (Err(ParallelError::Reduce(refused)), Err(wanted)) => refused == *wanted,
+        _ => false,
+    }
+}
+
+/// Whether these numbers are those, behind which there may be zeros.
+fn is_list(all: &[u32], wanted: &[u32; 5]) -> bool {
+    let count = all.len().min(5);
+    all.len() <= 5 && all == &wanted[..count] && wanted[count..].iter().all(|number| *number == 0)
+}
+
+// Catches an output that is lost, fed twice, or fed out of the order of the items; an error that doesn't stop the feed, or is
+// lost; a condition that isn't heeded; items that aren't dealt in turn; and a step after an error that feeds nothing.
 #[test]
-fn doubles_step_by_step(rt: HostRuntime) -> Result<(), Fail> {
+fn lists(rt: HostRuntime) -> Result<(), Fail> {
     let alloc: Global = rt.alloc();
-    let list = Collected::new(alloc);
-    let mut steps = Stepwise::new(&rt, alloc, 1..4u32, None, 2, |_| 0, double, list)?;
-    let has_first = steps.next(&rt).is_some();
-    let all = steps.finalize(&rt)?;
-    assert!(rt; has_first);
-    assert_eq!(rt; all.as_slice(), [2, 4, 6].as_slice());
+    for (number, row) in ROWS.iter().enumerate() {
+        assert!(rt; is_right(&rt, alloc, row), "row {number}");
+    }
     Ok(())
 }

@@ -1,0 +1,7 @@
+use Rattle.std.specs.Prelude.{⊤}
+use Rattle.gix_features_threads.specs.Eager.{IsReady}
+use Rattle.parallel_trials.proofs.drawing.draw_half.Given as goal
+
+-- the numbers may be asked
+abbrev pub invariant-loop-wanted : goal.invariant-loop-wanted
+invariant-loop-wanted g l = IsReady (λ _. ⊤) l.numbers

@@ -1,0 +1,35 @@
+//! Numbers that a worker draws ahead for a slow consumer, which stops half way.
+ghost use Rattle.std.specs.Prelude.{◌<◌, ◌≤◌};
+
+use crate::stopping::linger;
+use gix_features_threads::parallel::EagerIter;
+use odb_base::NoMemory;
+use std::alloc::Global;
+use std::sync::Wait;
+use std::thread::Threads;
+
+/// How many chunks may be on their way.
+const IN_FLIGHT: usize = 2;
+
+/// Takes the first half of so many numbers, which a worker draws ahead in chunks, slowly. It answers how many came in their
+/// turn.
+pub fn draw_half<H: Threads + Wait + Copy + Send + 'static>(
+    rt: H,
+    alloc: Global,
+    items: u32,
+    chunk_size: usize,
+) -> Result<u32, NoMemory>
+    requires size { 0 < chunk_size }
+{
+    let mut numbers = EagerIter::new(rt, alloc, 0..items, chunk_size, IN_FLIGHT)?;
+    let mut count = 0u32;
+    for wanted in 0..items / 2 {
+        match numbers.next() {
+            Some(Ok(number)) if number == wanted => count = count.saturating_add(1),
+            Some(Err(NoMemory)) => return Err(NoMemory),
+            _ => {}
+        }
+        linger();
+    }
+    Ok(count)
+}

@@ -1,0 +1,51 @@
+//! Numbers of a slice that workers double in rounds.
+ghost use Rattle.std.specs.Prelude.{◌<◌, ◌≤◌};
+
+use gix_features_threads::parallel::{ParallelError, in_parallel_with_slice};
+use odb_base::NoMemory;
+use std::alloc::Global;
+use std::thread::Threads;
+
+/// Has workers double so many numbers, each of which is 1. It answers what they come to together.
+pub fn double_all<H: Threads + Sync>(
+    rt: &H,
+    alloc: Global,
+    items: usize,
+    workers: usize,
+) -> Result<u64, ParallelError<NoMemory>>
+    requires some { 0 < workers }
+{
+    let mut numbers = ones(alloc, items)?;
+    in_parallel_with_slice(
+        rt,
+        alloc,
+        numbers.as_mut_slice(),
+        Some(workers),
+        1,
+        |_| (),
+        |number: &mut u64, _state: &mut ()| double(number),
+        || Some(()),
+        |_state| (),
+    )?;
+    Ok(sum_of(numbers.as_slice()))
+}
+
+/// So many numbers, each of which is 1.
+fn ones(alloc: Global, items: usize) -> Result<Vec<u64>, NoMemory> {
+    Ok(vec![in alloc; 1u64; items]?)
+}
+
+/// Doubles a number, unless it is a large one.
+fn double(number: &mut u64) -> Result<(), NoMemory> {
+    *number = number.saturating_mul(2);
+    Ok(())
+}
+
+/// The sum of numbers, or the greatest number where it is more.
+fn sum_of(numbers: &[u64]) -> u64 {
+    let mut sum = 0u64;
+    for number in numbers {
+        sum = sum.saturating_add(*number);
+    }
+    sum
+}
