@@ -1,5 +1,5 @@
-//! Buffers that several workers hash.
-ghost use Rattle.std.specs.Prelude.{◌<◌, ◌≤◌};
+//! Messages that several workers hash.
+ghost use Rattle.std.specs.Prelude.{◌<◌};
 
 use gix_features_parts::parallel::Reduce;
 use gix_features_threads::parallel::{ParallelError, in_parallel};
@@ -35,7 +35,14 @@ impl Reduce for Hashes {
     }
 }
 
-/// The first eight bytes of a hash of the hashes of so many buffers, as a number. Workers take the hashes.
+/// A message of one KiB over and over.
+#[derive(Drop)]
+struct Message {
+    piece: Vec<u8>,
+    kib: usize,
+}
+
+/// The first eight bytes of a hash of the hashes of so many messages of so many KiB, as a number. Workers take the hashes.
 pub fn hash_of_all<H: Threads + Sync>(
     rt: &H,
     alloc: Global,
@@ -44,16 +51,15 @@ pub fn hash_of_all<H: Threads + Sync>(
     kib: usize,
 ) -> Result<u64, ParallelError<NoMemory>>
     requires some { 0 < workers }
-    requires few { kib ≤ 65_536 }
 {
-    let buffers = buffers_of(alloc, count, kib * 1024)?;
+    let messages = messages_of(alloc, count, kib)?;
     let hashes = Hashes {
         hasher: Sha1::new(),
     };
     in_parallel(
         rt,
         alloc,
-        buffers.into_iter(),
+        messages.into_iter(),
         Some(workers),
         1,
         |_| (),
@@ -62,16 +68,22 @@ pub fn hash_of_all<H: Threads + Sync>(
     )
 }
 
-/// So many buffers of so many bytes.
-fn buffers_of(alloc: Global, count: usize, len: usize) -> Result<Vec<Vec<u8>>, NoMemory> {
-    let mut buffers = Vec::new(alloc);
+/// So many messages of so many KiB. They take little memory, so that what is measured is the work of the workers.
+fn messages_of(alloc: Global, count: usize, kib: usize) -> Result<Vec<Message>, NoMemory> {
+    let mut messages = Vec::new(alloc);
     for number in 0..count {
-        buffers.push(vec![in alloc; (number % 256) as u8; len]?)?;
+        let piece = vec![in alloc; (number % 256) as u8; 1024]?;
+        messages.push(Message { piece, kib })?;
     }
-    Ok(buffers)
+    Ok(messages)
 }
 
-/// The hash of a buffer.
-fn hash_of(buffer: Vec<u8>, _state: &mut ()) -> [u8; 20] {
-    Sha1::digest(buffer.as_slice())
+/// The hash of a message.
+fn hash_of(message: Message, _state: &mut ()) -> [u8; 20] {
+    let Message { piece, kib } = message;
+    let mut hasher = Sha1::new();
+    for _ in 0..kib {
+        hasher.update(piece.as_slice());
+    }
+    hasher.finalize()
 }

@@ -1,6 +1,6 @@
 //! Trials of the parts of `gix_features` that start threads, for measuring.
 //!
-//! `parallel_trials hash WORKERS BUFFERS KIB` hashes so many buffers of so many KiB with so many workers, and prints a
+//! `parallel_trials hash WORKERS MESSAGES KIB` hashes so many messages of so many KiB with so many workers, and prints a
 //! number that all hashes make. `parallel_trials pipe PIECES KIB` passes so many pieces from one thread to another, and
 //! prints how many bytes came. `parallel_trials stop ITEMS WORKERS` has workers write so many numbers into one pipe, whose
 //! slow reader stops half way, and prints what was seen. `parallel_trials draw ITEMS CHUNK` has a worker draw so many numbers

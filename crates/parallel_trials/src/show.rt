@@ -23,10 +23,10 @@ pub fn show<R: Threads + Wait + Print + Copy + Send + Sync + 'static>(
     match trial {
         Trial::Hash {
             workers,
-            buffers,
+            messages,
             kib,
         } => {
-            let number = hash_of_all(rt, alloc, workers, buffers, kib)?;
+            let number = hash_of_all(rt, alloc, workers, messages, kib)?;
             println!(rt; "{number}")?;
         }
         Trial::Pipe { pieces, kib } => {

@@ -12,7 +12,7 @@ const MOST: u64 = 65_536;
 pub enum Trial {
     Hash {
         workers: usize,
-        buffers: usize,
+        messages: usize,
         kib: usize,
     },
     Pipe {
@@ -38,9 +38,9 @@ pub fn trial_of(words: &[String]) -> Option<Trial>
     ensures bounded { IfSome result IsBounded }
 {
     match words {
-        [name, workers, buffers, kib] if name.as_str() == "hash" => Some(Trial::Hash {
+        [name, workers, messages, kib] if name.as_str() == "hash" => Some(Trial::Hash {
             workers: number(workers)?,
-            buffers: number(buffers)?,
+            messages: number(messages)?,
             kib: number(kib)?,
         }),
         [name, pieces, kib] if name.as_str() == "pipe" => Some(Trial::Pipe {
