@@ -1,5 +1,5 @@
 #!/usr/bin/env python3
-"""Time of workers that hash buffers, memory of a pipe, readers that stop half way, and rounds. See README.md."""
+"""Time of workers that hash messages, memory of a pipe, readers that stop half way, and rounds. See README.md."""
 
 import argparse
 import os
@@ -10,7 +10,7 @@ import time
 
 WORKERS = (1, 2, 4)
 MOST_SHARE = {1: 1, 2: 0.6, 4: 0.35}
-BUFFERS, KIB = 64, 4096
+MESSAGES, KIB = 64, 4096
 ROUNDS = 9
 PIECES, PIECE_KIB = 16384, 64
 MOST_PEAK = 64 * 2**20
@@ -36,7 +36,7 @@ def hashing(program):
     best, hashes = dict.fromkeys(WORKERS, float("inf")), set()
     for _ in range(ROUNDS):
         for workers in WORKERS:
-            seconds, _, output = run(program, "hash", workers, BUFFERS, KIB)
+            seconds, _, output = run(program, "hash", workers, MESSAGES, KIB)
             best[workers] = min(best[workers], seconds)
             hashes.add(output)
     print("workers  seconds  share  wanted")
