@@ -31,17 +31,29 @@ def run(program, *words):
     return time.perf_counter() - begun, usage.ru_maxrss * 1024, output
 
 
+def apart(program, count):
+    """Seconds of so many processes side by side that hash an equal part each, with one worker."""
+    begun = time.perf_counter()
+    words = [program, "hash", "1", str(MESSAGES // count), str(KIB)]
+    children = [subprocess.Popen(words, stdout=subprocess.DEVNULL) for _ in range(count)]
+    if any(child.wait() for child in children):
+        sys.exit("%s ended badly" % " ".join(words))
+    return time.perf_counter() - begun
+
+
 def hashing(program):
-    """Prints the time of each number of workers beside that of one, and tells whether a bound was missed."""
-    best, hashes = dict.fromkeys(WORKERS, float("inf")), set()
+    """Prints the time of each number of workers beside that of one, and that of as many processes, which tells what the
+    machine can do. Tells whether a bound was missed."""
+    best, processes, hashes = dict.fromkeys(WORKERS, float("inf")), dict.fromkeys(WORKERS, float("inf")), set()
     for _ in range(ROUNDS):
         for workers in WORKERS:
             seconds, _, output = run(program, "hash", workers, MESSAGES, KIB)
             best[workers] = min(best[workers], seconds)
+            processes[workers] = min(processes[workers], apart(program, workers))
             hashes.add(output)
-    print("workers  seconds  share  wanted")
+    print("workers  seconds  share  wanted  processes")
     for workers in WORKERS:
-        print("%7d  %7.3f  %5.2f  %6.2f" % (workers, best[workers], best[workers] / best[1], MOST_SHARE[workers]))
+        print("%7d  %7.3f  %5.2f  %6.2f  %9.3f" % (workers, best[workers], best[workers] / best[1], MOST_SHARE[workers], processes[workers]))
     if len(hashes) != 1:
         print("the hashes differ: %s" % ", ".join(sorted(hashes)))
     return len(hashes) != 1 or any(best[workers] > MOST_SHARE[workers] * best[1] for workers in WORKERS)
