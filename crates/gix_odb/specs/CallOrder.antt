@@ -27,11 +27,11 @@ use Rattle.gix_odb_looks.specs.LookUpOrder.{Setting}
 use Rattle.gix_odb_refresh.specs.RefreshOrder as refreshes
 use Rattle.gix_odb_refresh.specs.declared.refresh.Refresh.{Refresh}
 use Rattle.gix_odb_refresh.specs.declared.refresh.Refresh.TheVariants as fronts
-use Rattle.gix_odb_core.specs.declared.view.View.{View}
-use Rattle.gix_odb_packs.specs.declared.answer.Answer.{Answer}
-use Rattle.gix_odb_packs.specs.declared.answer.Answer.TheVariants as told
-use Rattle.gix_odb_packs.specs.declared.answer.PartAsk.{PartAsk}
-use Rattle.gix_odb_packs.specs.declared.answer.PartAsk.TheVariants as asks
+use Rattle.gix_odb_events.specs.declared.view.View.{View}
+use Rattle.gix_odb_events.specs.declared.answer.Answer.{Answer}
+use Rattle.gix_odb_events.specs.declared.answer.Answer.TheVariants as told
+use Rattle.gix_odb_events.specs.declared.answer.PartAsk.{PartAsk}
+use Rattle.gix_odb_events.specs.declared.answer.PartAsk.TheVariants as asks
 use Rattle.gix_odb_calls.specs.declared.query.Query.{Query}
 use Rattle.gix_odb_calls.specs.declared.query.Query.TheVariants.{Find, Header, Test}
 use Rattle.gix_odb_calls.specs.declared.load_index.Error as load

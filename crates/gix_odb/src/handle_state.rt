@@ -4,7 +4,7 @@ ghost use Rattle.gix_odb.specs.HandleState.{replaced_by, sought_by};
 
 use gix_hash::ObjectId;
 use gix_odb_calls::{Query, StoreParts};
-use gix_odb_core::View;
+use gix_odb_events::View;
 use odb_base::NoMemory;
 use std::alloc::Global;
 use std::sync::Arc;

@@ -13,7 +13,7 @@ use odb_disk::{DiskAnswer, DiskAsk, DiskError, Kind};
 use std::alloc::Global;
 
 /// The most slots that a store may have: 2^15 - 1. A pack's number has 32 bits, and the lowest 15 of them are the slot
-/// that its index stands in (`PackId::to_intrinsic_pack_id` of `gix_odb_core`).
+/// that its index stands in (`PackId::to_intrinsic_pack_id` of `gix_odb_slots`).
 const MAX_SLOTS: u64 = 32767;
 
 /// Where an opening stands.

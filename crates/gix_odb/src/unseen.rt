@@ -2,7 +2,8 @@
 ghost use Rattle.std.specs.Prelude.{◌≡◌, IfOk};
 ghost use Rattle.gix_odb.specs.HandleState as handles;
 
-use gix_odb_core::{LoadedList, Shared, SlotIndexMarker, Snapshot, TodoList, View};
+use gix_odb_events::{SlotIndexMarker, Snapshot, View};
+use gix_odb_slots::{LoadedList, Shared, TodoList};
 use odb_base::NoMemory;
 use std::alloc::Global;
 

@@ -8,14 +8,15 @@ use Rattle.gix_odb_core.proofs.ShapeLaws.{possible_journal_grows}
 use Rattle.gix_odb_core.specs.Causes.{HasTooFewSlots, StandsAtLast}
 use Rattle.gix_odb_core.specs.Core.{IsCore, shape_of}
 use Rattle.gix_odb_core.specs.Possible.{IsComplete, IsPossible, lacks_memory}
-use Rattle.gix_odb_core.specs.Replay.{Answer, Appends, CanHappen, IsLegal, IsNeverRefused, IsNext, answer_of, number_behind, replay}
+use Rattle.gix_odb_core.specs.Replay.{Appends, CanHappen, IsLegal, IsNeverRefused, IsNext, answer_of, number_behind, replay}
+use Rattle.gix_odb_events.specs.Answers.{Answer}
 use Rattle.gix_odb_core.specs.State.{IsNextState, IsSameState, entries_in, entry_of}
 use Rattle.gix_odb_core.specs.Steps.{after}
 use Rattle.gix_odb_core.specs.declared.apply.Opening.{Opening}
-use Rattle.gix_odb_core.specs.declared.event.Event.{Event}
-use Rattle.gix_odb_core.specs.declared.event.Event.TheVariants as event
-use Rattle.gix_odb_core.specs.declared.event.Refusal.{Refusal}
-use Rattle.gix_odb_core.specs.declared.event.Refusal.TheVariants as refusals
+use Rattle.gix_odb_events.specs.declared.event.Event.{Event}
+use Rattle.gix_odb_events.specs.declared.event.Event.TheVariants as event
+use Rattle.gix_odb_events.specs.declared.event.Refusal.{Refusal}
+use Rattle.gix_odb_events.specs.declared.event.Refusal.TheVariants as refusals
 use Rattle.gix_odb_core.specs.declared.journal.Entry.{Entry}
 use Rattle.gix_odb_core.specs.declared.shape.Shape.{Shape}
 use Rattle.gix_odb_core.specs.declared.state.State.{State}

@@ -8,7 +8,7 @@ use Rattle.gix_odb_slots.specs.OnDiskFile.{file_at, is_loaded, loaded, passed, p
 use Rattle.gix_odb_core.specs.Origins.{PassesOver, PutsIndex, PutsPack}
 use Rattle.gix_odb_slots.specs.Slots.{Slot, filled_put_back, filled_trashed, index_put_back, index_trashed, same_path}
 use Rattle.gix_odb_slots.specs.Files.{index_passed, index_with, passed_at, slot_passed, slot_with_index, slot_with_pack, stored_at, takes, with_index}
-use Rattle.gix_odb_core.specs.declared.event.Event.{Event}
+use Rattle.gix_odb_events.specs.declared.event.Event.{Event}
 use Rattle.gix_odb_slots.specs.declared.on_disk_file.FileState.{FileState}
 use Rattle.gix_odb_slots.specs.declared.on_disk_file.FileState.TheVariants.{Unloaded, Loaded, Garbage, Missing}
 use Rattle.gix_odb_slots.specs.declared.on_disk_file.OnDiskFile.{OnDiskFile}

@@ -3,7 +3,9 @@ use Rattle.std.proofs.Common.{Contains, ◌≡◌, ℕ, suc, ◌<◌, Bool, true
 use Rattle.std.specs.List.{cons_option, list_any}
 use Rattle.std.proofs.lemmas.List.Elements.{Contains-get_or}
 use Rattle.gix_odb_core.specs.Handles.{is_any_stable}
-use Rattle.gix_odb_core.specs.Listed.{HasRow, HasRowsInOrder, Refreshes}
+use Rattle.gix_odb_core.specs.Listed.{HasRowsInOrder}
+use Rattle.gix_odb_events.specs.Answers.{Refreshes}
+use Rattle.gix_odb_events.specs.View.{HasRow}
 use Rattle.gix_odb_slots.specs.Counts.{listed_in}
 use Rattle.gix_odb_slots.specs.Publish.{slot_at}
 use Rattle.gix_odb_core.specs.Replay.{answer_of, publish_answer}
@@ -11,7 +13,7 @@ use Rattle.gix_odb_slots.specs.Slots.{has_disposable, holds, index_path, Slot}
 use Rattle.gix_odb_core.specs.Steps.{Publishing, Outdated, TooFew, Overflows, Unchanged, Published, after, publishing, shape_published}
 use Rattle.gix_odb_slots.specs.Shown.{is_listed, loaded_index, shown_slot, todo_of, unloaded_slot}
 use Rattle.gix_odb_core.specs.Views.{view_of}
-use Rattle.gix_odb_core.specs.declared.event.Event.TheVariants as event
+use Rattle.gix_odb_events.specs.declared.event.Event.TheVariants as event
 use Rattle.gix_odb_core.specs.declared.journal.Entry.{Entry}
 use Rattle.gix_odb_slots.specs.declared.listing.Listing.{Listing}
 use Rattle.gix_odb_slots.specs.declared.listing.ListingRow.{ListingRow}
@@ -19,7 +21,7 @@ use Rattle.gix_odb_core.specs.declared.shape.Shape.{Shape}
 use Rattle.gix_odb_slots.specs.declared.slot.Filled.{Filled}
 use Rattle.gix_odb_slots.specs.declared.loaded.LoadedIndex.{LoadedIndex}
 use Rattle.gix_odb_slots.specs.declared.loaded.SnapshotIndex.{SnapshotIndex}
-use Rattle.gix_odb_core.specs.declared.view.View.{View}
+use Rattle.gix_odb_events.specs.declared.view.View.{View}
 use Rattle.gix_odb_slots.proofs.DisposableLaws.{listed_slot_has_no_disposable}
 use Rattle.gix_odb_slots.proofs.PublishLaws.{filled_from_holds, length-list_after, listed_slot_holds_its_row}
 use Rattle.gix_odb_core.proofs.ShownLemmas.{gives, shown_unlisted}

@@ -3,7 +3,7 @@ use Rattle.std.proofs.Common.{◌≡◌, ℕ, length, ap, ◌∙◌}
 use Rattle.std.specs.List.{count_by}
 use Rattle.std.specs.Option.{is_none}
 use Rattle.gix_odb_core.specs.Metrics.{metrics_of}
-use Rattle.gix_odb_core.specs.declared.metrics.Metrics.{Metrics}
+use Rattle.gix_odb_events.specs.declared.metrics.Metrics.{Metrics}
 use Rattle.gix_odb_core.specs.declared.shape.Shape.{Shape}
 use Rattle.gix_odb_slots.specs.Counts.{disposable_in, listed_in}
 use Rattle.gix_odb_slots.specs.Tally.{tally_of}

@@ -8,8 +8,8 @@ use Rattle.gix_odb_core.specs.Origins.{PassesOver, PutsPack}
 use Rattle.gix_odb_core.specs.Possible.{IsOpened}
 use Rattle.gix_odb_core.specs.Replay.{after_entry, replay}
 use Rattle.gix_odb_slots.specs.Slots.{PackFile, Slot, new_filled, new_index, new_pack, new_packs}
-use Rattle.gix_odb_core.specs.declared.event.Event.{Event}
-use Rattle.gix_odb_core.specs.declared.event.Refusal.TheVariants as refusals
+use Rattle.gix_odb_events.specs.declared.event.Event.{Event}
+use Rattle.gix_odb_events.specs.declared.event.Refusal.TheVariants as refusals
 use Rattle.gix_odb_core.specs.declared.journal.Entry.{Entry}
 use Rattle.gix_odb_slots.specs.declared.listing.ListingRow.{ListingRow}
 use Rattle.gix_odb_slots.specs.declared.on_disk_file.FileState.TheVariants.{Missing}

@@ -9,9 +9,10 @@ use Rattle.gix_odb_core.specs.Origins.{ArePacksTold, IsIndexTold, IsMultiOf, IsO
 use Rattle.gix_odb_core.specs.Possible.{IsOpened}
 use Rattle.gix_odb_slots.specs.Publish.{slot_at}
 use Rattle.gix_odb_core.specs.Quiet.{has_no_effect}
-use Rattle.gix_odb_core.specs.Replay.{Answer, AreNext, IsLegal, IsNext, after_entry, is_refresh, replay}
+use Rattle.gix_odb_core.specs.Replay.{AreNext, IsLegal, IsNext, after_entry, is_refresh, replay}
+use Rattle.gix_odb_events.specs.Answers.{Answer}
 use Rattle.gix_odb_slots.specs.Slots.{PackFile, Slot, is_index_of, new_filled, new_index, new_pack, new_packs, same_path}
-use Rattle.gix_odb_core.specs.declared.event.Event.{Event}
+use Rattle.gix_odb_events.specs.declared.event.Event.{Event}
 use Rattle.gix_odb_core.specs.declared.journal.Entry.{Entry}
 use Rattle.gix_odb_slots.specs.declared.listing.ListingRow.{ListingRow}
 use Rattle.gix_odb_slots.specs.declared.on_disk_file.OnDiskFile.{OnDiskFile}

@@ -10,10 +10,11 @@ use Rattle.std.proofs.Math.ListN.{get_or-append}
 use Rattle.std.proofs.lemmas.List.Elements.{filter_map-append}
 use Rattle.std.proofs.lemmas.List.Sums.{sum_by_push}
 use Rattle.std.proofs.lemmas.Option.{get_or_from_slice_get, slice_get-get_or, slice_get_within}
-use Rattle.gix_odb_core.specs.Replay.{Answer, AreNext, IsLegal, IsNext, after_answer, after_entry, is_refresh, number_behind, passed_by, passed_in, refreshes_in, replay}
+use Rattle.gix_odb_core.specs.Replay.{AreNext, IsLegal, IsNext, after_answer, after_entry, is_refresh, number_behind, passed_by, passed_in, refreshes_in, replay}
+use Rattle.gix_odb_events.specs.Answers.{Answer}
 use Rattle.gix_odb_core.specs.State.{newest}
 use Rattle.gix_odb_core.specs.Steps.{after}
-use Rattle.gix_odb_core.specs.declared.event.Refusal.TheVariants as refusals
+use Rattle.gix_odb_events.specs.declared.event.Refusal.TheVariants as refusals
 use Rattle.gix_odb_core.specs.declared.journal.Entry.{Entry}
 use Rattle.gix_odb_core.specs.declared.shape.Shape.{Shape}
 

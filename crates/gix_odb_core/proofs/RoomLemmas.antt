@@ -10,7 +10,8 @@ use Rattle.gix_odb_slots.specs.Publish.{free_places, is_unsettled, list_after, n
 use Rattle.gix_odb_slots.specs.Slots.{Slot}
 use Rattle.gix_odb_core.specs.Shelf.{shelf_of}
 use Rattle.gix_odb_core.specs.Steps.{Outdated, Overflows, Published, TooFew, Unchanged, is_confirmed}
-use Rattle.gix_odb_core.specs.Steps.{publishing, last_generation, last_state, settled_as, takes_over, with_list, with_room, would_overflow}
+use Rattle.gix_odb_core.specs.Steps.{publishing, settled_as, takes_over, with_list, with_room, would_overflow}
+use Rattle.gix_odb_events.specs.View.{last_generation, last_state}
 use Rattle.gix_odb_slots.specs.declared.listing.Listing.{Listing}
 use Rattle.gix_odb_slots.specs.declared.listing.ListingRow.{ListingRow}
 use Rattle.gix_odb_core.specs.Turn.{changes_to, publish_turn, quiet, stands}

@@ -11,8 +11,8 @@ use Rattle.gix_odb_core.specs.Replay.{CanHappen, after_entry, replay}
 use Rattle.gix_odb_slots.specs.Slots.{HasDifferentPaths, IsApart, Slot, new_filled, new_index, same_index, same_path}
 use Rattle.gix_odb_core.specs.Steps.{IsShape, after, is_read, opening_shape, shape_published}
 use Rattle.gix_odb_slots.specs.Files.{slot_passed, slot_with_index, slot_with_pack}
-use Rattle.gix_odb_core.specs.declared.event.Event.{Event}
-use Rattle.gix_odb_core.specs.declared.event.Event.TheVariants as event
+use Rattle.gix_odb_events.specs.declared.event.Event.{Event}
+use Rattle.gix_odb_events.specs.declared.event.Event.TheVariants as event
 use Rattle.gix_odb_core.specs.declared.journal.Entry.{Entry}
 use Rattle.gix_odb_slots.specs.declared.listing.Listing.{Listing}
 use Rattle.gix_odb_slots.specs.declared.listing.ListingRow.{ListingRow}

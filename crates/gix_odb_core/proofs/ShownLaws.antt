@@ -1,7 +1,8 @@
 -- Laws of what a view shows: each shown index is of a row that the journal published, and its bytes and those of its packs were stored by entries.
 use Rattle.std.proofs.Common.{◌≡◌, ℕ, ◌<◌, true, List, length, Option, Some, None, option_map, refl, subst, arith}
 use Rattle.gix_pack_files.specs.FileBytes.{FileBytes}
-use Rattle.gix_odb_core.specs.Views.{IsShown, view_of}
+use Rattle.gix_odb_core.specs.Views.{view_of}
+use Rattle.gix_odb_events.specs.View.{IsShown}
 use Rattle.gix_odb_slots.specs.OnDiskFile.{loaded}
 use Rattle.gix_odb_core.specs.Origins.{IsIndexTold, IsLoadedTold, IsMultiOf, IsShownTold, IsTold}
 use Rattle.gix_odb_core.specs.Possible.{IsOpened}

@@ -3,7 +3,8 @@ use Rattle.std.proofs.Common.{Contains, ◌≡◌, ℕ, zero, suc, ◌+◌, Bool
 use Rattle.std.proofs.Common.{inl, inr, refl, sym, ap, subst, ◌∙◌, arith, eqb-true}
 use Rattle.std.specs.List.{cons_option, enumerate_from, filter_map}
 use Rattle.std.proofs.lemmas.Map.Views.{Contains-from_any}
-use Rattle.gix_odb_core.specs.Views.{IsShown, view_of}
+use Rattle.gix_odb_core.specs.Views.{view_of}
+use Rattle.gix_odb_events.specs.View.{IsShown}
 use Rattle.gix_odb_slots.specs.Publish.{slot_at}
 use Rattle.gix_odb_slots.specs.Slots.{Slot, index_path}
 use Rattle.gix_odb_slots.specs.Shown.{is_listed, kept_at, loaded_index, shown_slot}

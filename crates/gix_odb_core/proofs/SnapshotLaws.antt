@@ -6,24 +6,26 @@ use Rattle.std.proofs.lemmas.List.Elements.{filter-append, filter_map-append}
 use Rattle.std.proofs.lemmas.Option.{slice_get-get_or}
 use Rattle.std.proofs.Math.Seq.{get_or-append_seam, take-append_seam}
 use Rattle.gix_odb_core.specs.Handles.{registered}
-use Rattle.gix_odb_core.specs.Views.{IsShown, view_of}
+use Rattle.gix_odb_core.specs.Views.{view_of}
+use Rattle.gix_odb_events.specs.View.{IsShown, last_state}
 use Rattle.gix_odb_slots.specs.Kept.{ShowsAgain}
 use Rattle.gix_odb_core.specs.Possible.{IsNeverRemoved, IsPossible}
 use Rattle.gix_odb_slots.specs.Publish.{slot_at}
-use Rattle.gix_odb_core.specs.Replay.{AreNext, IsLegal, IsNext, answer_of, number_behind, publish_answer, put_answer, replay, snapshot_of, view_in}
+use Rattle.gix_odb_core.specs.Replay.{AreNext, IsLegal, IsNext, answer_of, number_behind, publish_answer, put_answer, replay, snapshot_of}
+use Rattle.gix_odb_events.specs.Answers.{view_in}
 use Rattle.gix_odb_core.specs.Snapshots.{IsHandedLast, handed_to}
 use Rattle.gix_odb_core.specs.State.{newest}
-use Rattle.gix_odb_core.specs.Steps.{Publishing, Outdated, TooFew, Overflows, Unchanged, Published, after, last_state, publishing, shape_published}
+use Rattle.gix_odb_core.specs.Steps.{Publishing, Outdated, TooFew, Overflows, Unchanged, Published, after, publishing, shape_published}
 use Rattle.gix_odb_slots.specs.Files.{slot_with_index, slot_with_pack}
-use Rattle.gix_odb_core.specs.declared.event.Effect.TheVariants as effects
-use Rattle.gix_odb_core.specs.declared.event.Event.{Event}
-use Rattle.gix_odb_core.specs.declared.event.Event.TheVariants as event
-use Rattle.gix_odb_core.specs.declared.event.Refusal.TheVariants as refusals
+use Rattle.gix_odb_events.specs.declared.event.Effect.TheVariants as effects
+use Rattle.gix_odb_events.specs.declared.event.Event.{Event}
+use Rattle.gix_odb_events.specs.declared.event.Event.TheVariants as event
+use Rattle.gix_odb_events.specs.declared.event.Refusal.TheVariants as refusals
 use Rattle.gix_odb_core.specs.declared.journal.Entry.{Entry}
 use Rattle.gix_odb_core.specs.declared.shape.Shape.{Shape}
 use Rattle.gix_odb_slots.specs.declared.slot.Filled.{Filled}
 use Rattle.gix_odb_slots.specs.declared.loaded.SnapshotIndex.{SnapshotIndex}
-use Rattle.gix_odb_core.specs.declared.view.View.{View}
+use Rattle.gix_odb_events.specs.declared.view.View.{View}
 use Rattle.gix_odb_core.proofs.NumberLaws.{entries_lower_no_number}
 use Rattle.gix_odb_core.proofs.OrderLaws.{replay_of_joined_journals}
 use Rattle.gix_odb_core.proofs.ReplayLemmas.{after_answer-changes, newest-push, next_first, next_rest, replay-push}

@@ -6,7 +6,8 @@ use Rattle.std.proofs.lemmas.List.Elements.{All-head, All-tail, AllZip-get_or, l
 use Rattle.odb_base.specs.Path.{Path}
 use Rattle.gix_pack_files.specs.FileBytes.{FileBytes}
 use Rattle.gix_odb_core.specs.Handles.{is_any_stable, registered}
-use Rattle.gix_odb_core.specs.Views.{IsShown, view_of}
+use Rattle.gix_odb_core.specs.Views.{view_of}
+use Rattle.gix_odb_events.specs.View.{IsShown}
 use Rattle.gix_odb_slots.specs.Kept.{KeepsRead, KeepsReadFiles, KeepsReadIndex, ShowsAgain}
 use Rattle.gix_odb_slots.specs.OnDiskFile.{loaded}
 use Rattle.gix_odb_core.specs.Possible.{IsNeverRemoved, IsPossible, is_remove}
@@ -15,7 +16,7 @@ use Rattle.gix_odb_core.specs.Replay.{after_entry, replay}
 use Rattle.gix_odb_slots.specs.Slots.{PackFile, Slot, index_path}
 use Rattle.gix_odb_core.specs.Steps.{after}
 use Rattle.gix_odb_slots.specs.Shown.{loaded_index, shown_slot}
-use Rattle.gix_odb_core.specs.declared.event.Event.{Event}
+use Rattle.gix_odb_events.specs.declared.event.Event.{Event}
 use Rattle.gix_odb_core.specs.declared.journal.Entry.{Entry}
 use Rattle.gix_odb_slots.specs.declared.on_disk_file.OnDiskFile.{OnDiskFile}
 use Rattle.gix_odb_core.specs.declared.shape.Shape.{Shape}

@@ -5,18 +5,20 @@ use Rattle.std.specs.List.{cons_option}
 use Rattle.std.proofs.lemmas.Bool.{eqb-false}
 use Rattle.gix_odb_core.specs.Handles.{Handles, registered}
 use Rattle.gix_odb_core.specs.Possible.{IsNeverRemoved, IsOpened, IsPossible}
-use Rattle.gix_odb_core.specs.Replay.{AreNext, IsLegal, IsNext, after_entry, answer_of, number_behind, replay, snapshot_of, view_in}
+use Rattle.gix_odb_core.specs.Replay.{AreNext, IsLegal, IsNext, after_entry, answer_of, number_behind, replay, snapshot_of}
+use Rattle.gix_odb_events.specs.Answers.{view_in}
 use Rattle.gix_odb_core.specs.Rising.{IsRising}
 use Rattle.gix_odb_core.specs.Snapshots.{IsHandedLast, handed_to}
 use Rattle.gix_odb_core.specs.Steps.{after}
 use Rattle.gix_odb_core.specs.Turn.{handles_after}
-use Rattle.gix_odb_core.specs.Views.{IsShown, view_of}
-use Rattle.gix_odb_core.specs.declared.event.Event.{Event}
-use Rattle.gix_odb_core.specs.declared.event.Event.TheVariants as event
-use Rattle.gix_odb_core.specs.declared.event.Refusal.TheVariants as refusals
+use Rattle.gix_odb_core.specs.Views.{view_of}
+use Rattle.gix_odb_events.specs.View.{IsShown}
+use Rattle.gix_odb_events.specs.declared.event.Event.{Event}
+use Rattle.gix_odb_events.specs.declared.event.Event.TheVariants as event
+use Rattle.gix_odb_events.specs.declared.event.Refusal.TheVariants as refusals
 use Rattle.gix_odb_core.specs.declared.journal.Entry.{Entry}
 use Rattle.gix_odb_core.specs.declared.shape.Shape.{Shape}
-use Rattle.gix_odb_core.specs.declared.view.View.{View}
+use Rattle.gix_odb_events.specs.declared.view.View.{View}
 use Rattle.gix_odb_slots.specs.Kept.{ShowsAgain}
 use Rattle.gix_odb_slots.specs.Publish.{slot_at}
 use Rattle.gix_odb_slots.specs.Shown.{shown_slot}

@@ -7,21 +7,23 @@ use Rattle.gix_odb_core.proofs.ReplayLemmas.{newest-push, passed_in-push, refres
 use Rattle.gix_odb_core.proofs.StepLemmas.{numbered-after}
 use Rattle.gix_odb_core.proofs.TurnLemmas.{after-turn, answer-turn, settled-handles, view_behind-turn}
 use Rattle.gix_odb_core.specs.Countable.{IsCountable, LeavesFewPacks}
-use Rattle.gix_odb_core.specs.Replay.{Answer, CanHappen, answer_of, is_refresh, number_behind, passed_by, passed_in, refreshes_in}
+use Rattle.gix_odb_core.specs.Replay.{CanHappen, answer_of, is_refresh, number_behind, passed_by, passed_in, refreshes_in}
+use Rattle.gix_odb_events.specs.Answers.{Answer}
 use Rattle.gix_odb_core.specs.Shelf.{settled_by}
 use Rattle.gix_odb_core.specs.State.{IsKept, IsNextState, IsPlan, entered, entries_in, entry_of, newest, noted, removed, settled_with, view_behind}
 use Rattle.gix_odb_core.specs.Steps.{after}
 use Rattle.gix_odb_core.specs.Turn.{answer_with, handles_after, turn_of}
-use Rattle.gix_odb_core.specs.Views.{view_at, view_of}
-use Rattle.gix_odb_core.specs.declared.event.Effect.TheVariants as effects
-use Rattle.gix_odb_core.specs.declared.event.Event.{Event}
-use Rattle.gix_odb_core.specs.declared.event.Event.TheVariants as event
+use Rattle.gix_odb_core.specs.Views.{view_of}
+use Rattle.gix_odb_events.specs.View.{view_at}
+use Rattle.gix_odb_events.specs.declared.event.Effect.TheVariants as effects
+use Rattle.gix_odb_events.specs.declared.event.Event.{Event}
+use Rattle.gix_odb_events.specs.declared.event.Event.TheVariants as event
 use Rattle.gix_odb_core.specs.declared.journal.Entry.{Entry}
 use Rattle.gix_odb_core.specs.declared.shape.Shape.{Shape}
 use Rattle.gix_odb_core.specs.declared.shape.Shelf.{Shelf}
 use Rattle.gix_odb_core.specs.declared.plan.Plan.{Plan}
 use Rattle.gix_odb_core.specs.declared.state.State.{State}
-use Rattle.gix_odb_core.specs.declared.view.View.{View}
+use Rattle.gix_odb_events.specs.declared.view.View.{View}
 
 -- what holds of a state whose parts are those of the state before and an event
 module _ (old now : State) (seat : ℕ) (happens : Event) (given : Answer) (kept : IsKept old) (can : CanHappen old.shape seat happens)

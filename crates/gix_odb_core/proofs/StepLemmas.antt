@@ -7,10 +7,11 @@ use Rattle.gix_odb_slots.proofs.SlotsAfterLemmas.{length-slots_after}
 use Rattle.gix_odb_core.proofs.TurnLemmas.{after-turn}
 use Rattle.gix_odb_core.specs.Handles.{is_any_stable}
 use Rattle.gix_odb_slots.specs.Publish.{slot_at}
-use Rattle.gix_odb_core.specs.Steps.{Publishing, after, last_state, shape_published, shape_stored}
+use Rattle.gix_odb_core.specs.Steps.{Publishing, after, shape_published, shape_stored}
+use Rattle.gix_odb_events.specs.View.{last_state}
 use Rattle.gix_odb_slots.specs.Files.{slot_passed, slot_with_index, slot_with_pack}
-use Rattle.gix_odb_core.specs.declared.event.Event.{Event}
-use Rattle.gix_odb_core.specs.declared.event.Event.TheVariants as event
+use Rattle.gix_odb_events.specs.declared.event.Event.{Event}
+use Rattle.gix_odb_events.specs.declared.event.Event.TheVariants as event
 use Rattle.gix_odb_core.specs.Shelf.{settled_by}
 use Rattle.gix_odb_core.specs.Turn.{turn_of}
 use Rattle.gix_odb_core.specs.declared.journal.Entry.{Entry}

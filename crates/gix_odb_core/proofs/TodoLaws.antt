@@ -1,6 +1,7 @@
 -- Laws of what is still to be loaded: it is the index of a listed slot, of a row that a listing published, and nothing of it was read.
 use Rattle.std.proofs.Common.{Contains, ◌≡◌, ℕ, ◌<◌, List, length, Option, Some, None, refl, sym, ap, subst, ◌∙◌, arith}
-use Rattle.gix_odb_core.specs.Views.{IsShown, view_of}
+use Rattle.gix_odb_core.specs.Views.{view_of}
+use Rattle.gix_odb_events.specs.View.{IsShown}
 use Rattle.gix_odb_core.specs.Possible.{IsOpened}
 use Rattle.gix_odb_slots.specs.Publish.{slot_at}
 use Rattle.gix_odb_core.specs.Replay.{IsLegal, replay}

@@ -5,17 +5,19 @@ use Rattle.gix_odb_slots.proofs.PassLemmas.{slots-same}
 use Rattle.gix_odb_core.proofs.PublishingRule.{listed_slots, publishing_rule}
 use Rattle.gix_odb_core.proofs.RoomLemmas.{slots-stand}
 use Rattle.gix_odb_slots.specs.Publish.{slot_at}
-use Rattle.gix_odb_core.specs.Replay.{Answer, answer_of, publish_answer, put_answer}
+use Rattle.gix_odb_core.specs.Replay.{answer_of, publish_answer, put_answer}
+use Rattle.gix_odb_events.specs.Answers.{Answer}
 use Rattle.gix_odb_core.specs.Shelf.{settled_by, shelf_of}
 use Rattle.gix_odb_core.specs.State.{view_behind}
-use Rattle.gix_odb_core.specs.Steps.{Publishing, Outdated, TooFew, Overflows, Unchanged, Published, after, last_state, publishing, shape_published, shape_stored}
+use Rattle.gix_odb_core.specs.Steps.{Publishing, Outdated, TooFew, Overflows, Unchanged, Published, after, publishing, shape_published, shape_stored}
+use Rattle.gix_odb_events.specs.View.{last_state}
 use Rattle.gix_odb_slots.specs.Files.{slot_passed, slot_turns_missing, slot_with_index, slot_with_pack}
 use Rattle.gix_odb_core.specs.Turn.{answer_with, changes_to, handles_after, pass_turn, publish_turn, put_turn, quiet, stands, turn_of}
 use Rattle.gix_odb_core.specs.Views.{view_of}
-use Rattle.gix_odb_core.specs.declared.event.Effect.TheVariants as effects
-use Rattle.gix_odb_core.specs.declared.event.Event.{Event}
-use Rattle.gix_odb_core.specs.declared.event.Event.TheVariants as event
-use Rattle.gix_odb_core.specs.declared.event.Refusal.TheVariants as refusals
+use Rattle.gix_odb_events.specs.declared.event.Effect.TheVariants as effects
+use Rattle.gix_odb_events.specs.declared.event.Event.{Event}
+use Rattle.gix_odb_events.specs.declared.event.Event.TheVariants as event
+use Rattle.gix_odb_events.specs.declared.event.Refusal.TheVariants as refusals
 use Rattle.gix_odb_core.specs.declared.journal.Entry.{Entry}
 use Rattle.gix_odb_slots.specs.declared.listing.Listing.{Listing}
 use Rattle.gix_odb_slots.specs.declared.listing.ListingRow.{ListingRow}
@@ -25,7 +27,7 @@ use Rattle.gix_odb_slots.specs.declared.slot.Filled.{Filled}
 use Rattle.gix_odb_core.specs.declared.turn.Told.TheVariants as told
 use Rattle.gix_odb_core.specs.declared.turn.Turn.{Turn}
 use Rattle.gix_odb_slots.specs.Slots.{Slot}
-use Rattle.gix_odb_core.specs.declared.view.View.{View}
+use Rattle.gix_odb_events.specs.declared.view.View.{View}
 
 -- ---- a file that is stored
 

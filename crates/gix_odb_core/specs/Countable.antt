@@ -2,8 +2,8 @@
 use Rattle.std.specs.Prelude.{◌≤◌, All, length, Option}
 use Rattle.std.specs.Option.{IfSome}
 use Rattle.gix_odb_slots.specs.Tally.{HasFewPacks}
-use Rattle.gix_odb_core.specs.declared.event.Event.{Event}
-use Rattle.gix_odb_core.specs.declared.event.Event.TheVariants as event
+use Rattle.gix_odb_events.specs.declared.event.Event.{Event}
+use Rattle.gix_odb_events.specs.declared.event.Event.TheVariants as event
 use Rattle.gix_odb_core.specs.declared.shape.Shape.{Shape}
 use Rattle.gix_odb_core.specs.declared.shape.Shelf.{Shelf}
 use Rattle.gix_odb_slots.specs.PackId.{most_slots}

@@ -7,6 +7,8 @@ pub use Rattle.gix_odb_slots.specs.Files
 pub use Rattle.gix_odb_slots.specs.Shown
 pub use Rattle.gix_odb_slots.specs.Counts
 pub use Rattle.gix_odb_slots.specs.Kept
+pub use Rattle.gix_odb_events.specs.View
+pub use Rattle.gix_odb_events.specs.Answers
 pub mod Handles
 pub mod Views
 pub mod Metrics

@@ -4,12 +4,13 @@ use Rattle.std.specs.List.{AllByRecursion, Contains}
 use Rattle.odb_base.specs.Path.{Path}
 use Rattle.gix_pack_files.specs.FileBytes.{FileBytes}
 use Rattle.gix_odb_slots.specs.OnDiskFile.{loaded}
-use Rattle.gix_odb_core.specs.Replay.{Answer, is_refresh}
+use Rattle.gix_odb_core.specs.Replay.{is_refresh}
+use Rattle.gix_odb_events.specs.Answers.{Answer}
 use Rattle.gix_odb_slots.specs.Slots.{PackFile, holds, new_packs}
-use Rattle.gix_odb_core.specs.declared.event.Effect.TheVariants as effects
-use Rattle.gix_odb_core.specs.declared.event.Event.{Event}
-use Rattle.gix_odb_core.specs.declared.event.Event.TheVariants as event
-use Rattle.gix_odb_core.specs.declared.event.PassWhy.{PassWhy}
+use Rattle.gix_odb_events.specs.declared.event.Effect.TheVariants as effects
+use Rattle.gix_odb_events.specs.declared.event.Event.{Event}
+use Rattle.gix_odb_events.specs.declared.event.Event.TheVariants as event
+use Rattle.gix_odb_events.specs.declared.event.PassWhy.{PassWhy}
 use Rattle.gix_odb_core.specs.declared.journal.Entry.{Entry}
 use Rattle.gix_odb_slots.specs.declared.listing.Listing.{Listing}
 use Rattle.gix_odb_slots.specs.declared.listing.ListingRow.{ListingRow}

@@ -1,11 +1,12 @@
 -- Shapes that a core is made with, and what holds of the journals of cores, for laws of what journals replay to.
 use Rattle.std.specs.Prelude.{◌≡◌, Bool, true, false, ◌==◌, ◌&&◌, not, List, [], ◌∷◌, ℕ, Err}
 use Rattle.std.specs.List.{AllPass}
-use Rattle.gix_odb_core.specs.Replay.{Answer, CanHappen, after_entry}
+use Rattle.gix_odb_core.specs.Replay.{CanHappen, after_entry}
+use Rattle.gix_odb_events.specs.Answers.{Answer}
 use Rattle.gix_odb_core.specs.Steps.{opening_shape}
-use Rattle.gix_odb_core.specs.declared.event.Event.{Event}
-use Rattle.gix_odb_core.specs.declared.event.Event.TheVariants as event
-use Rattle.gix_odb_core.specs.declared.event.Refusal.TheVariants as refusals
+use Rattle.gix_odb_events.specs.declared.event.Event.{Event}
+use Rattle.gix_odb_events.specs.declared.event.Event.TheVariants as event
+use Rattle.gix_odb_events.specs.declared.event.Refusal.TheVariants as refusals
 use Rattle.gix_odb_core.specs.declared.journal.Entry.{Entry}
 use Rattle.gix_odb_core.specs.declared.shape.Shape.{Shape}
 

@@ -1,9 +1,9 @@
 -- Entries of a journal that change nothing, for laws of what journals replay to.
 use Rattle.std.specs.Prelude.{Bool, true, false, ◌||◌, Ok, Err}
-use Rattle.gix_odb_core.specs.Replay.{Answer}
-use Rattle.gix_odb_core.specs.declared.event.Effect.TheVariants as effects
-use Rattle.gix_odb_core.specs.declared.event.Event.{Event}
-use Rattle.gix_odb_core.specs.declared.event.Event.TheVariants as event
+use Rattle.gix_odb_events.specs.Answers.{Answer}
+use Rattle.gix_odb_events.specs.declared.event.Effect.TheVariants as effects
+use Rattle.gix_odb_events.specs.declared.event.Event.{Event}
+use Rattle.gix_odb_events.specs.declared.event.Event.TheVariants as event
 use Rattle.gix_odb_core.specs.declared.journal.Entry.{Entry}
 
 -- an event that only asks

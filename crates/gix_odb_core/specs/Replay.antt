@@ -1,29 +1,26 @@
 -- What events answer; and what a journal replays to.
-use Rattle.std.specs.Prelude.{◌≡◌, ℕ, ◌+◌, ◌⊎◌, Bool, true, false, ◌==◌, List, [], ◌∷◌, length, map, min, take, slice_get, ◌++◌, filter, count_by, Option, Some, None, Result, Ok, Err, if◌then◌else◌}
+use Rattle.std.specs.Prelude.{◌≡◌, ℕ, ◌+◌, ◌⊎◌, Bool, true, false, ◌==◌, List, [], ◌∷◌, length, map, min, take, slice_get, ◌++◌, filter, count_by, Option, Some, None, Ok, Err, if◌then◌else◌}
 use Rattle.std.specs.List.{filter_map, last_or}
+use Rattle.gix_odb_events.specs.Answers.{Answer, view_in}
 use Rattle.gix_odb_core.specs.Handles.{IsRegistered, registered}
 use Rattle.gix_odb_slots.specs.Counts.{listed_in, listed_of}
 use Rattle.gix_odb_core.specs.Metrics.{metrics_of}
 use Rattle.gix_odb_slots.specs.Publish.{slot_at}
 use Rattle.gix_odb_slots.specs.Slots.{HasDifferentPaths}
-use Rattle.gix_odb_core.specs.Steps.{Publishing, Outdated, TooFew, Overflows, Unchanged, Published, after, last_state, publishing}
+use Rattle.gix_odb_core.specs.Steps.{Publishing, Outdated, TooFew, Overflows, Unchanged, Published, after, publishing}
+use Rattle.gix_odb_events.specs.View.{last_state}
 use Rattle.gix_odb_slots.specs.Files.{slot_with_index, slot_with_pack}
 use Rattle.gix_odb_core.specs.Views.{view_of}
-use Rattle.gix_odb_core.specs.declared.event.Effect.{Effect}
-use Rattle.gix_odb_core.specs.declared.event.Effect.TheVariants as effects
-use Rattle.gix_odb_core.specs.declared.event.Event.{Event}
-use Rattle.gix_odb_core.specs.declared.event.Event.TheVariants as event
-use Rattle.gix_odb_core.specs.declared.event.Refusal.{Refusal}
-use Rattle.gix_odb_core.specs.declared.event.Refusal.TheVariants as refusals
+use Rattle.gix_odb_events.specs.declared.event.Effect.TheVariants as effects
+use Rattle.gix_odb_events.specs.declared.event.Event.{Event}
+use Rattle.gix_odb_events.specs.declared.event.Event.TheVariants as event
+use Rattle.gix_odb_events.specs.declared.event.Refusal.TheVariants as refusals
 use Rattle.gix_odb_core.specs.declared.journal.Entry.{Entry}
-use Rattle.gix_odb_core.specs.declared.metrics.Passed.{Passed}
-use Rattle.gix_odb_core.specs.declared.metrics.Report.{Report}
+use Rattle.gix_odb_events.specs.declared.metrics.Passed.{Passed}
+use Rattle.gix_odb_events.specs.declared.metrics.Report.{Report}
 use Rattle.gix_odb_core.specs.declared.shape.Shape.{Shape}
 use Rattle.gix_odb_slots.specs.declared.slot.Filled.{Filled}
-use Rattle.gix_odb_core.specs.declared.view.View.{View}
-
-abbrev pub Answer : Type 0
-Answer = Result Effect Refusal
+use Rattle.gix_odb_events.specs.declared.view.View.{View}
 
 -- ---- what a journal tells besides
 
@@ -120,15 +117,6 @@ CanHappen shape seat event.Upgrade = registered shape.handles seat ≡ Some fals
 CanHappen shape seat event.Remove = IsRegistered shape.handles seat
 CanHappen shape seat (event.Publish listing) = HasDifferentPaths listing.rows
 CanHappen shape seat other = Unit {0}
-
--- the view that an effect hands over
-abbrev pub view_in : Answer → Option View
-view_in (Ok (effects.Seen view)) = Some view
-view_in (Ok (effects.Reported view report)) = Some view
-view_in (Ok (effects.Put view stored)) = Some view
-view_in (Ok (effects.Published view)) = Some view
-view_in (Ok (effects.Unchanged view)) = Some view
-view_in answer = None
 
 -- a handle's snapshot: the view of its last entry that handed one over
 abbrev pub snapshot_of : (seat : ℕ) → List Entry → Option View

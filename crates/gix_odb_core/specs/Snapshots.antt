@@ -1,9 +1,9 @@
 -- Which entry of a journal handed a handle its snapshot, for laws of what journals tell.
 use Rattle.std.specs.Prelude.{◌≡◌, ◌++◌, ◌==◌, ℕ, List, [], ◌∷◌, filter, Some}
 use Rattle.std.specs.List.{filter_map}
-use Rattle.gix_odb_core.specs.Replay.{view_in}
+use Rattle.gix_odb_events.specs.Answers.{view_in}
 use Rattle.gix_odb_core.specs.declared.journal.Entry.{Entry}
-use Rattle.gix_odb_core.specs.declared.view.View.{View}
+use Rattle.gix_odb_events.specs.declared.view.View.{View}
 
 -- the views that entries handed to the handle of a seat, in order
 abbrev pub handed_to : (seat : ℕ) → List Entry → List View

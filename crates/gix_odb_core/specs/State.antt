@@ -3,20 +3,22 @@ use Rattle.std.specs.Prelude.{◌≡◌, ℕ, ◌+◌, ◌≤◌, ◌++◌, List
 use Rattle.std.specs.Option.{option_to_list}
 use Rattle.gix_odb_core.specs.Countable.{IsCountable}
 use Rattle.gix_odb_core.specs.Handles.{without_seat}
-use Rattle.gix_odb_core.specs.Replay.{Answer, answer_of, is_refresh, number_behind, passed_by, passed_in, refreshes_in}
+use Rattle.gix_odb_core.specs.Replay.{answer_of, is_refresh, number_behind, passed_by, passed_in, refreshes_in}
+use Rattle.gix_odb_events.specs.Answers.{Answer}
 use Rattle.gix_odb_core.specs.Shelf.{settled_by, shown_of}
-use Rattle.gix_odb_core.specs.Steps.{after, last_state}
+use Rattle.gix_odb_core.specs.Steps.{after}
+use Rattle.gix_odb_events.specs.View.{last_state, view_at}
 use Rattle.gix_odb_core.specs.Turn.{answer_with, handles_after}
-use Rattle.gix_odb_core.specs.Views.{view_at, view_of}
-use Rattle.gix_odb_core.specs.declared.event.Event.{Event}
-use Rattle.gix_odb_core.specs.declared.event.Event.TheVariants as event
+use Rattle.gix_odb_core.specs.Views.{view_of}
+use Rattle.gix_odb_events.specs.declared.event.Event.{Event}
+use Rattle.gix_odb_events.specs.declared.event.Event.TheVariants as event
 use Rattle.gix_odb_core.specs.declared.journal.Entry.{Entry}
 use Rattle.gix_odb_core.specs.declared.journal.Journal.{Journal}
 use Rattle.gix_odb_core.specs.declared.shape.Shelf.{Shelf}
 use Rattle.gix_odb_core.specs.declared.plan.Plan.{Plan}
 use Rattle.gix_odb_core.specs.declared.state.State.{State}
 use Rattle.gix_odb_core.specs.declared.turn.Turn.{Turn}
-use Rattle.gix_odb_core.specs.declared.view.View.{View}
+use Rattle.gix_odb_events.specs.declared.view.View.{View}
 
 abbrev pub entries_in : State → List Entry
 entries_in state = state.journal.entries.items

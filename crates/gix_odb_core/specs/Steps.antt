@@ -1,13 +1,14 @@
 -- What an event makes of a shape, and what it answers.
 use Rattle.std.specs.Prelude.{ℕ, ◌+◌, ◌-◌, Bool, true, false, ◌&&◌, ◌||◌, ◌==◌, not, List, [], length, replicate, ◌≤◌, Option, Some, None, is_some, nat_eq, nat_lt, slice_set, if◌then◌else◌}
 use Rattle.std.specs.List.{AllPass, IsDistinct, filter_map, list_any}
+use Rattle.gix_odb_events.specs.View.{last_generation, last_state}
 use Rattle.gix_odb_core.specs.Handles.{is_any_stable, with_seat, without_seat}
 use Rattle.gix_odb_slots.specs.Files.{slot_passed, slot_with_index, slot_with_pack}
 use Rattle.gix_odb_slots.specs.OnDiskFile.{is_loaded}
 use Rattle.gix_odb_slots.specs.Publish.{free_places, list_after, new_rows, same_list, slot_at, slots_after, taken}
 use Rattle.gix_odb_slots.specs.Slots.{IsApart, Slot}
-use Rattle.gix_odb_core.specs.declared.event.Event.{Event}
-use Rattle.gix_odb_core.specs.declared.event.Event.TheVariants as event
+use Rattle.gix_odb_events.specs.declared.event.Event.{Event}
+use Rattle.gix_odb_events.specs.declared.event.Event.TheVariants as event
 use Rattle.gix_odb_slots.specs.declared.listing.Listing.{Listing}
 use Rattle.gix_odb_slots.specs.declared.listing.ListingRow.{ListingRow}
 use Rattle.gix_odb_core.specs.declared.shape.Shape.{Shape}
@@ -21,13 +22,6 @@ opening_shape slots folders generation state =
     record { folders = folders; slots = replicate slots None; list = []; read = false; list_no = 0; generation = generation; state_id = state; handles = [] }
 
 -- ---- the answer to a listing
-
--- the greatest numbers of the generation, and of the state
-abbrev pub last_generation : ℕ
-last_generation = 4294967295
-
-abbrev pub last_state : ℕ
-last_state = 18446744073709551615
 
 -- what publishing a listing comes to
 pub data Publishing : Type 0 where

@@ -4,14 +4,16 @@ use Rattle.std.specs.List.{list_any}
 use Rattle.odb_base.specs.Path.{Path}
 use Rattle.gix_odb_core.specs.Handles.{Handles, with_seat, without_seat}
 use Rattle.gix_odb_slots.specs.Publish.{is_unsettled, list_after, slot_at}
-use Rattle.gix_odb_core.specs.Replay.{Answer, report_of}
+use Rattle.gix_odb_core.specs.Replay.{report_of}
+use Rattle.gix_odb_events.specs.Answers.{Answer}
 use Rattle.gix_odb_core.specs.Shelf.{shelf_of}
-use Rattle.gix_odb_core.specs.Steps.{Publishing, Outdated, TooFew, Overflows, Unchanged, Published, is_confirmed, last_state, publishing}
+use Rattle.gix_odb_core.specs.Steps.{Publishing, Outdated, TooFew, Overflows, Unchanged, Published, is_confirmed, publishing}
+use Rattle.gix_odb_events.specs.View.{last_state}
 use Rattle.gix_odb_slots.specs.Files.{slot_passed, slot_turns_missing, slot_with_index, slot_with_pack}
-use Rattle.gix_odb_core.specs.declared.event.Effect.TheVariants as effects
-use Rattle.gix_odb_core.specs.declared.event.Event.{Event}
-use Rattle.gix_odb_core.specs.declared.event.Event.TheVariants as event
-use Rattle.gix_odb_core.specs.declared.event.Refusal.TheVariants as refusals
+use Rattle.gix_odb_events.specs.declared.event.Effect.TheVariants as effects
+use Rattle.gix_odb_events.specs.declared.event.Event.{Event}
+use Rattle.gix_odb_events.specs.declared.event.Event.TheVariants as event
+use Rattle.gix_odb_events.specs.declared.event.Refusal.TheVariants as refusals
 use Rattle.gix_odb_core.specs.declared.journal.Entry.{Entry}
 use Rattle.gix_odb_slots.specs.declared.listing.ListingRow.{ListingRow}
 use Rattle.gix_odb_core.specs.declared.shape.Shape.{Shape}
@@ -20,7 +22,7 @@ use Rattle.gix_odb_slots.specs.declared.slot.Filled.{Filled}
 use Rattle.gix_odb_core.specs.declared.turn.Told.{Told}
 use Rattle.gix_odb_core.specs.declared.turn.Told.TheVariants as told
 use Rattle.gix_odb_core.specs.declared.turn.Turn.{Turn}
-use Rattle.gix_odb_core.specs.declared.view.View.{View}
+use Rattle.gix_odb_events.specs.declared.view.View.{View}
 
 -- an answer, with the view that it hands over
 abbrev pub answer_with : Told → View → Answer

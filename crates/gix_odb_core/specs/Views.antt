@@ -1,10 +1,8 @@
 -- What a core shows: the loaded files of the listed slots, those of the others, and what is still to be loaded.
-use Rattle.std.specs.Prelude.{ℕ, ◌⊎◌}
-use Rattle.std.specs.List.{Contains}
+use Rattle.std.specs.Prelude.{ℕ}
 use Rattle.gix_odb_slots.specs.Shown.{shown_indices, shown_kept, shown_todo}
-use Rattle.gix_odb_slots.specs.declared.loaded.SnapshotIndex.{SnapshotIndex}
 use Rattle.gix_odb_core.specs.declared.shape.Shape.{Shape}
-use Rattle.gix_odb_core.specs.declared.view.View.{View}
+use Rattle.gix_odb_events.specs.declared.view.View.{View}
 
 -- what a shape shows behind the entry of a number
 abbrev pub view_of : Shape → ℕ → View
@@ -20,11 +18,3 @@ view_of shape entry =
       read = shape.read;
       todo = shown_todo shape.slots shape.list;
     }
-
--- the same view, handed over with another entry
-abbrev pub view_at : View → ℕ → View
-view_at view entry = record view { snapshot = record view.snapshot { entry = entry } }
-
--- a view shows an index, listed or kept
-abbrev pub IsShown : View → SnapshotIndex → Type 0
-IsShown view index = Contains view.snapshot.indices index ⊎ Contains view.snapshot.kept index

@@ -1,9 +1,7 @@
 //! The core of a store: its state, and the journal of what happened to it.
-use crate::event::{Effect, Event, Refusal};
 use crate::journal::Journal;
-use crate::metrics::Metrics;
 use crate::state::State;
-use crate::view::View;
+use gix_odb_events::{Effect, Event, Metrics, Refusal, View};
 use odb_base::NoMemory;
 use std::alloc::Global;
 use std::marker::Model;

@@ -3,13 +3,13 @@ ghost use Rattle.std.specs.Prelude.{◌≡◌, ◌<◌, ◌+◌, IfOk, Some, sli
 ghost use Rattle.gix_odb_slots.specs.Files.{slot_with_index, slot_with_pack};
 ghost use Rattle.gix_odb_slots.specs.Publish.{slot_at};
 ghost use Rattle.gix_odb_core.specs.Shelf.{shelf_of};
-ghost use Rattle.gix_odb_core.specs.Steps.{last_state};
+ghost use Rattle.gix_odb_events.specs.View.{last_state};
 ghost use Rattle.gix_odb_core.specs.Turn.{pass_turn, put_turn};
 
 use crate::Shared;
-use crate::event::Refusal;
 use crate::shape::{Shape, Shelf};
 use crate::turn::{Told, Turn};
+use gix_odb_events::Refusal;
 use gix_odb_slots::Filled;
 use gix_odb_slots::pass::{slot_passed, slot_turns_missing};
 use gix_odb_slots::put::{slot_with_index, slot_with_pack};

@@ -3,7 +3,7 @@ ghost use Rattle.std.specs.Prelude.{◌≡◌, length, slice_get};
 ghost use Rattle.std.specs.Option.{option_copied};
 ghost use Rattle.gix_odb_core.specs.Journal.{entries_of};
 
-use crate::event::{Effect, Event, Refusal};
+use gix_odb_events::{Effect, Event, Refusal};
 
 /// An event, and what it was answered.
 #[derive(Drop)]

@@ -4,10 +4,9 @@ ghost use Rattle.gix_odb_core.specs.State.{IsPlan, view_behind};
 ghost use Rattle.gix_odb_core.specs.Turn.{answer_with};
 ghost use Rattle.gix_odb_slots.specs.PackId.{most_slots};
 
-use crate::event::{Effect, Refusal};
 use crate::shape::Shelf;
 use crate::turn::{Told, Turn, answer};
-use crate::view::View;
+use gix_odb_events::{Effect, Refusal, View};
 use odb_base::NoMemory;
 use std::alloc::Global;
 

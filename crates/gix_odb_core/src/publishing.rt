@@ -9,9 +9,9 @@ ghost use Rattle.gix_odb_core.specs.Steps.{publishing, settled_as, with_list, wi
 ghost use Rattle.gix_odb_core.specs.Turn.{publish_turn, stands};
 ghost use Rattle.gix_odb_slots.specs.PackId.{most_slots};
 
-use crate::event::Refusal;
 use crate::shape::{Shape, Shelf};
 use crate::turn::{Told, Turn};
+use gix_odb_events::Refusal;
 use gix_odb_slots::publish::{
     count_new, free_places, is_any_unsettled, list_after, list_as_is, slots_after, takes_over,
 };

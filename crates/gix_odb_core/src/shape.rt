@@ -6,7 +6,7 @@ ghost use Rattle.gix_odb_slots.specs.PackId.{most_slots};
 
 use crate::Shared;
 use crate::handles::HandleTable;
-use crate::view::{SlotIndexMarker, Snapshot, View};
+use gix_odb_events::{SlotIndexMarker, Snapshot, View};
 use gix_odb_slots::shown::{shown_indices, shown_kept, shown_todo};
 use gix_odb_slots::slots::empty_slots;
 use gix_odb_slots::{Slot, SlotList, TodoList};

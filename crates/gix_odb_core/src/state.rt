@@ -9,13 +9,11 @@ ghost use Rattle.gix_odb_core.specs.Turn.{turn_of};
 ghost use Rattle.gix_odb_slots.specs.PackId.{most_slots};
 
 use crate::Shared;
-use crate::event::{Effect, Event, PassWhy, Refusal};
 use crate::journal::{Entry, Journal};
-use crate::metrics::{Passed, PassedList, Report};
 use crate::plan::{Plan, planned};
 use crate::shape::{Shape, Shelf};
 use crate::turn::{Told, Turn};
-use crate::view::View;
+use gix_odb_events::{Effect, Event, PassWhy, Passed, PassedList, Refusal, Report, View};
 use gix_odb_slots::report::report_listed;
 use odb_base::{NoMemory, PathText, Sequence};
 use std::alloc::Global;

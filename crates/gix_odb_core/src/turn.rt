@@ -3,10 +3,8 @@ ghost use Rattle.std.specs.Prelude.{◌≡◌, IfOk};
 ghost use Rattle.gix_odb_core.specs.Turn.{answer_with, quiet};
 
 use crate::Shared;
-use crate::event::{Effect, Refusal};
-use crate::metrics::Report;
 use crate::shape::Shelf;
-use crate::view::View;
+use gix_odb_events::{Effect, Refusal, Report, View};
 use odb_base::NoMemory;
 
 /// What an event answers, without the view that it hands over.

@@ -10,10 +10,10 @@ use Rattle.gix_hash.specs.declared.object_id.ObjectId.{ObjectId}
 use Rattle.gix_pack_files.specs.Index.{is_index}
 use Rattle.gix_pack_files.specs.Pack.{is_pack}
 use Rattle.gix_odb_slots.specs.declared.pack_id.PackId.{PackId}
-use Rattle.gix_odb_core.specs.declared.event.Event.TheVariants as events
-use Rattle.gix_odb_core.specs.declared.view.View.{View}
-use Rattle.gix_odb_packs.specs.declared.answer.PartAsk.{PartAsk}
-use Rattle.gix_odb_packs.specs.declared.answer.PartAsk.TheVariants as asks
+use Rattle.gix_odb_events.specs.declared.event.Event.TheVariants as events
+use Rattle.gix_odb_events.specs.declared.view.View.{View}
+use Rattle.gix_odb_events.specs.declared.answer.PartAsk.{PartAsk}
+use Rattle.gix_odb_events.specs.declared.answer.PartAsk.TheVariants as asks
 use Rattle.gix_odb_calls.specs.declared.query.Query.{Query}
 use Rattle.gix_odb_looks.specs.Exchange.{AreAsked, Exchange, behind}
 use Rattle.gix_odb_looks.specs.LookUpOrder.{Setting, ask_of, started}

@@ -14,7 +14,7 @@ use Rattle.gix_odb_slots.specs.Slots.{PackFile}
 use Rattle.gix_odb_slots.specs.declared.loaded.LoadedIndex.{LoadedIndex}
 use Rattle.gix_odb_slots.specs.declared.loaded.LoadedIndex.TheVariants.{Single, Multi}
 use Rattle.gix_odb_slots.specs.declared.loaded.SnapshotIndex.{SnapshotIndex}
-use Rattle.gix_odb_core.specs.declared.view.View.{View}
+use Rattle.gix_odb_events.specs.declared.view.View.{View}
 use Rattle.gix_odb_packs.specs.Goal.{given_by}
 use Rattle.gix_odb_packs.specs.Search.{at_spot, first_of, given_or_not, in_file, in_packs, rest_behind, search}
 use Rattle.gix_odb_packs.specs.Spot.{spot_in}

@@ -16,12 +16,12 @@ use Rattle.gix_hash.specs.ObjectId.{kind_of}
 use Rattle.gix_hash.specs.declared.kind.Kind.{Kind}
 use Rattle.gix_hash.specs.declared.object_id.ObjectId.{ObjectId}
 use Rattle.gix_odb_loose.specs.LooseOrder.{disk_ask_of}
-use Rattle.gix_odb_core.specs.declared.event.Event.TheVariants as events
-use Rattle.gix_odb_core.specs.declared.view.View.{View}
+use Rattle.gix_odb_events.specs.declared.event.Event.TheVariants as events
+use Rattle.gix_odb_events.specs.declared.view.View.{View}
 use Rattle.gix_odb_packs.specs.ListOrder as lists
 use Rattle.gix_odb_packs.specs.TryOrder as tries
-use Rattle.gix_odb_packs.specs.declared.answer.PartAsk.TheVariants as asks
-use Rattle.gix_odb_packs.specs.declared.answer.PartAsk.{PartAsk}
+use Rattle.gix_odb_events.specs.declared.answer.PartAsk.TheVariants as asks
+use Rattle.gix_odb_events.specs.declared.answer.PartAsk.{PartAsk}
 use Rattle.gix_odb_packs.specs.declared.trier.Stage.TheVariants as tries_stages
 use Rattle.gix_odb_packs.specs.declared.trier.Stage.{Stage}
 use Rattle.gix_odb_calls.specs.declared.call.CallError.TheVariants as call_errors

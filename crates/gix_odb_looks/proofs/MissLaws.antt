@@ -12,10 +12,10 @@ use Rattle.odb_base.specs.Path.{Path}
 use Rattle.gix_hash.specs.ObjectId.{kind_of}
 use Rattle.gix_hash.specs.declared.kind.Kind.{Kind}
 use Rattle.gix_hash.specs.declared.object_id.ObjectId.{ObjectId}
-use Rattle.gix_odb_core.specs.declared.view.View.{View}
-use Rattle.gix_odb_packs.specs.declared.answer.Answer.{Answer}
-use Rattle.gix_odb_packs.specs.declared.answer.PartAsk.{PartAsk}
-use Rattle.gix_odb_packs.specs.declared.answer.PartAsk.TheVariants as asks
+use Rattle.gix_odb_events.specs.declared.view.View.{View}
+use Rattle.gix_odb_events.specs.declared.answer.Answer.{Answer}
+use Rattle.gix_odb_events.specs.declared.answer.PartAsk.{PartAsk}
+use Rattle.gix_odb_events.specs.declared.answer.PartAsk.TheVariants as asks
 use Rattle.gix_odb_calls.specs.declared.query.Query.{Query}
 use Rattle.gix_odb_calls.specs.declared.verdict.Verdict.{Verdict}
 use Rattle.gix_odb_calls.specs.declared.verdict.Verdict.TheVariants as verdicts

@@ -15,10 +15,10 @@ use Rattle.gix_odb_core.specs.Origins.{ArePacksTold, IsLoadedTold, IsShownTold, 
 use Rattle.gix_odb_core.specs.Possible.{IsOpened}
 use Rattle.gix_odb_core.specs.Replay.{IsLegal, replay}
 use Rattle.gix_odb_core.specs.Views.{view_of}
-use Rattle.gix_odb_core.specs.declared.event.Event.{Event}
+use Rattle.gix_odb_events.specs.declared.event.Event.{Event}
 use Rattle.gix_odb_core.specs.declared.journal.Entry.{Entry}
 use Rattle.gix_odb_core.specs.declared.shape.Shape.{Shape}
-use Rattle.gix_odb_core.specs.declared.view.View.{View}
+use Rattle.gix_odb_events.specs.declared.view.View.{View}
 use Rattle.gix_odb_core.proofs.ShownLaws.{journal_tells_what_is_shown}
 use Rattle.gix_odb_core.proofs.TodoLaws.{journal_tells_what_is_to_be_loaded}
 use Rattle.gix_odb_looks.specs.LookUpOrder.{Setting}

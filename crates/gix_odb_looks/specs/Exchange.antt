@@ -8,14 +8,14 @@ use Rattle.odb_disk.specs.declared.ask.DiskAsk.{DiskAsk}
 use Rattle.gix_hash.specs.declared.object_id.ObjectId.{ObjectId}
 use Rattle.gix_odb_loose.specs.LooseOrder.{disk_ask_of, reply_of}
 use Rattle.gix_odb_loose.specs.declared.call.LooseReply.{LooseReply}
-use Rattle.gix_odb_core.specs.Replay.{view_in}
-use Rattle.gix_odb_core.specs.declared.event.Effect.TheVariants as effects
-use Rattle.gix_odb_core.specs.declared.event.Event.TheVariants as events
-use Rattle.gix_odb_core.specs.declared.view.View.{View}
-use Rattle.gix_odb_packs.specs.declared.answer.Answer.{Answer}
-use Rattle.gix_odb_packs.specs.declared.answer.Answer.TheVariants as told
-use Rattle.gix_odb_packs.specs.declared.answer.PartAsk.{PartAsk}
-use Rattle.gix_odb_packs.specs.declared.answer.PartAsk.TheVariants as asks
+use Rattle.gix_odb_events.specs.Answers.{view_in}
+use Rattle.gix_odb_events.specs.declared.event.Effect.TheVariants as effects
+use Rattle.gix_odb_events.specs.declared.event.Event.TheVariants as events
+use Rattle.gix_odb_events.specs.declared.view.View.{View}
+use Rattle.gix_odb_events.specs.declared.answer.Answer.{Answer}
+use Rattle.gix_odb_events.specs.declared.answer.Answer.TheVariants as told
+use Rattle.gix_odb_events.specs.declared.answer.PartAsk.{PartAsk}
+use Rattle.gix_odb_events.specs.declared.answer.PartAsk.TheVariants as asks
 use Rattle.gix_odb_calls.specs.Verdict.{asking, verdict_on}
 use Rattle.gix_odb_calls.specs.declared.query.Query.{Query}
 use Rattle.gix_odb_calls.specs.declared.verdict.Verdict.{Verdict}

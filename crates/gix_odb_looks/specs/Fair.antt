@@ -15,16 +15,17 @@ use Rattle.gix_odb_slots.specs.Slots.{PackFile}
 use Rattle.gix_odb_slots.specs.declared.listing.ListingRow.{ListingRow}
 use Rattle.gix_odb_slots.specs.declared.loaded.LoadedIndex.TheVariants.{Single}
 use Rattle.gix_odb_slots.specs.declared.loaded.SnapshotIndex.{SnapshotIndex}
-use Rattle.gix_odb_core.specs.Listed.{HasRow, Refreshes}
-use Rattle.gix_odb_core.specs.Replay as core
-use Rattle.gix_odb_core.specs.declared.event.Event.{Event}
-use Rattle.gix_odb_core.specs.declared.event.Event.TheVariants as events
-use Rattle.gix_odb_core.specs.declared.view.View.{View}
+use Rattle.gix_odb_events.specs.Answers.{Refreshes}
+use Rattle.gix_odb_events.specs.View.{HasRow}
+use Rattle.gix_odb_events.specs.Answers as core
+use Rattle.gix_odb_events.specs.declared.event.Event.{Event}
+use Rattle.gix_odb_events.specs.declared.event.Event.TheVariants as events
+use Rattle.gix_odb_events.specs.declared.view.View.{View}
 use Rattle.gix_odb_packs.specs.PackFolder.{is_index_name, pack_folder}
-use Rattle.gix_odb_packs.specs.declared.answer.Answer.{Answer}
-use Rattle.gix_odb_packs.specs.declared.answer.Answer.TheVariants as told
-use Rattle.gix_odb_packs.specs.declared.answer.PartAsk.{PartAsk}
-use Rattle.gix_odb_packs.specs.declared.answer.PartAsk.TheVariants as asks
+use Rattle.gix_odb_events.specs.declared.answer.Answer.{Answer}
+use Rattle.gix_odb_events.specs.declared.answer.Answer.TheVariants as told
+use Rattle.gix_odb_events.specs.declared.answer.PartAsk.{PartAsk}
+use Rattle.gix_odb_events.specs.declared.answer.PartAsk.TheVariants as asks
 use Rattle.gix_odb_looks.specs.Exchange.{Exchange, IsAnswerTo}
 use Rattle.gix_odb_looks.specs.Found.{Gives}
 use Rattle.gix_odb_looks.specs.LookUpOrder.{view_of}

@@ -1,15 +1,15 @@
 -- How many turns a look-up may take, by what it is told: a lap is one way through all that a list names, and through the folders.
 use Rattle.std.specs.Prelude.{◌≡◌, ◌≢◌, ℕ, ◌+◌, ◌*◌, ◌≤◌, List, [], ◌∷◌, length, Option, Some, None, Ok}
-use Rattle.gix_odb_core.specs.Replay as core
-use Rattle.gix_odb_core.specs.Steps.{last_state}
-use Rattle.gix_odb_core.specs.declared.event.Effect.TheVariants as effects
-use Rattle.gix_odb_core.specs.declared.event.Event.{Event}
-use Rattle.gix_odb_core.specs.declared.event.Event.TheVariants as events
-use Rattle.gix_odb_core.specs.declared.view.View.{View}
-use Rattle.gix_odb_packs.specs.declared.answer.Answer.{Answer}
-use Rattle.gix_odb_packs.specs.declared.answer.Answer.TheVariants as told
-use Rattle.gix_odb_packs.specs.declared.answer.PartAsk.{PartAsk}
-use Rattle.gix_odb_packs.specs.declared.answer.PartAsk.TheVariants as asks
+use Rattle.gix_odb_events.specs.Answers as core
+use Rattle.gix_odb_events.specs.View.{last_state}
+use Rattle.gix_odb_events.specs.declared.event.Effect.TheVariants as effects
+use Rattle.gix_odb_events.specs.declared.event.Event.{Event}
+use Rattle.gix_odb_events.specs.declared.event.Event.TheVariants as events
+use Rattle.gix_odb_events.specs.declared.view.View.{View}
+use Rattle.gix_odb_events.specs.declared.answer.Answer.{Answer}
+use Rattle.gix_odb_events.specs.declared.answer.Answer.TheVariants as told
+use Rattle.gix_odb_events.specs.declared.answer.PartAsk.{PartAsk}
+use Rattle.gix_odb_events.specs.declared.answer.PartAsk.TheVariants as asks
 use Rattle.gix_odb_looks.specs.Exchange.{Exchange}
 use Rattle.gix_odb_looks.specs.LookUpOrder.{view_of}
 use Rattle.gix_odb_looks.specs.Stream.{Stream, stream_by}

@@ -12,12 +12,12 @@ use Rattle.gix_odb_slots.specs.declared.listing.ListingRow.{ListingRow}
 use Rattle.gix_odb_slots.specs.declared.loaded.LoadedIndex.TheVariants.{Single}
 use Rattle.gix_odb_slots.specs.declared.loaded.SnapshotIndex.{SnapshotIndex}
 use Rattle.gix_odb_slots.specs.declared.loaded.Todo.{Todo}
-use Rattle.gix_odb_core.specs.declared.event.Event.{Event}
-use Rattle.gix_odb_core.specs.declared.event.Event.TheVariants as events
-use Rattle.gix_odb_core.specs.declared.view.View.{View}
+use Rattle.gix_odb_events.specs.declared.event.Event.{Event}
+use Rattle.gix_odb_events.specs.declared.event.Event.TheVariants as events
+use Rattle.gix_odb_events.specs.declared.view.View.{View}
 use Rattle.gix_odb_packs.specs.PackFolder.{is_index_name, pack_folder}
-use Rattle.gix_odb_packs.specs.declared.answer.PartAsk.{PartAsk}
-use Rattle.gix_odb_packs.specs.declared.answer.PartAsk.TheVariants as asks
+use Rattle.gix_odb_events.specs.declared.answer.PartAsk.{PartAsk}
+use Rattle.gix_odb_events.specs.declared.answer.PartAsk.TheVariants as asks
 use Rattle.gix_odb_looks.specs.LookUpOrder.{Setting}
 
 -- the folders of a store, the objects directory first

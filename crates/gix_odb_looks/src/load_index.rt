@@ -3,7 +3,7 @@ ghost use Rattle.std.specs.Prelude.{◌≡◌};
 ghost use Rattle.gix_odb_looks.specs.LoadIndex.{of_refusal};
 
 use gix_odb_calls::load_index::Error;
-use gix_odb_core::Refusal;
+use gix_odb_events::Refusal;
 
 /// The error of a look-up whose event was refused.
 pub fn of_refusal(refusal: Refusal) -> Error

@@ -11,9 +11,10 @@ mod parts;
 
 use gix_hash::ObjectId;
 use gix_odb_calls::{Query, Reply, StoreParts};
-use gix_odb_core::{Event, Listing, Refusal, View};
+use gix_odb_events::{Answer, Event, PartAsk, Refusal, View};
 use gix_odb_loose::LooseCall;
-use gix_odb_packs::{Answer, Lister, Notes, PartAsk, Trier};
+use gix_odb_packs::{Lister, Notes, Trier};
+use gix_odb_slots::Listing;
 use odb_base::{NoMemory, PathText};
 use std::alloc::Global;
 

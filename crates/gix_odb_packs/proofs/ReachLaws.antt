@@ -12,9 +12,9 @@ use Rattle.gix_odb_slots.specs.Slots.{same_path}
 use Rattle.gix_odb_slots.proofs.SlotLemmas.{same_path-true}
 use Rattle.gix_odb_slots.specs.declared.loaded.SnapshotIndex.{SnapshotIndex}
 use Rattle.gix_odb_slots.specs.declared.loaded.Todo.{Todo}
-use Rattle.gix_odb_core.specs.Replay.{view_in}
-use Rattle.gix_odb_core.specs.declared.event.Effect.{Effect}
-use Rattle.gix_odb_core.specs.declared.view.View.{View}
+use Rattle.gix_odb_events.specs.Answers.{view_in}
+use Rattle.gix_odb_events.specs.declared.event.Effect.{Effect}
+use Rattle.gix_odb_events.specs.declared.view.View.{View}
 use Rattle.gix_odb_packs.specs.Search.{first_of, left_by, rest_behind, search, tried, with_absent}
 use Rattle.gix_odb_packs.specs.TryOrder.{at_search, at_todo, index_stored, is_at, or_else, own_index, search_stored, seek, shown_in, shown_or_own}
 use Rattle.gix_odb_packs.specs.declared.goal.Goal.{Goal}

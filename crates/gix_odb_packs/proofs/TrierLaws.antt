@@ -12,8 +12,8 @@ use Rattle.gix_pack_files.specs.Index.{is_index}
 use Rattle.gix_pack_files.specs.Pack.{Entry, entry_at, header_at, is_pack}
 use Rattle.gix_pack_files.specs.declared.data.Error as pack
 use Rattle.gix_pack_files.specs.declared.data.entry.Header as pack_header
-use Rattle.gix_odb_core.specs.declared.event.Effect.{Effect}
-use Rattle.gix_odb_core.specs.declared.event.Refusal.{Refusal}
+use Rattle.gix_odb_events.specs.declared.event.Effect.{Effect}
+use Rattle.gix_odb_events.specs.declared.event.Refusal.{Refusal}
 use Rattle.gix_odb_slots.specs.OnDiskFile.{loaded}
 use Rattle.gix_odb_slots.specs.Slots.{PackFile}
 use Rattle.gix_odb_slots.specs.declared.loaded.SnapshotIndex.{SnapshotIndex}
@@ -23,8 +23,8 @@ use Rattle.gix_odb_packs.specs.Search.{at_spot, first_of, given_or_not, in_file,
 use Rattle.gix_odb_packs.specs.Spot.{spot_in}
 use Rattle.gix_odb_packs.specs.TryOrder.{at, ask_of, ask_at, noting, why_of, is_failed, at_search, at_todo, behind_core, behind_disk, by_answer}
 use Rattle.gix_odb_packs.specs.TryOrder.{by_given, fed, index_read, pack_read, refused, search_stored, seek, pack_behind, shown_behind, shown_or_own}
-use Rattle.gix_odb_packs.specs.declared.answer.Answer.{Answer}
-use Rattle.gix_odb_packs.specs.declared.answer.Answer.TheVariants as told
+use Rattle.gix_odb_events.specs.declared.answer.Answer.{Answer}
+use Rattle.gix_odb_events.specs.declared.answer.Answer.TheVariants as told
 use Rattle.gix_odb_packs.specs.declared.goal.Error.{Error}
 use Rattle.gix_odb_packs.specs.declared.goal.Error.TheVariants as errors
 use Rattle.gix_odb_packs.specs.declared.goal.Found.{Found}
@@ -45,9 +45,9 @@ use Rattle.gix_odb_packs.specs.declared.trier.Tried.{Tried}
 use Rattle.gix_odb_packs.specs.declared.trier.Tried.TheVariants as ends
 use Rattle.gix_odb_packs.specs.declared.trier.Trier.{Trier}
 use Rattle.gix_odb_packs.specs.declared.search.Notes.{Notes}
-use Rattle.gix_odb_core.specs.declared.event.PassWhy.TheVariants as whys
-use Rattle.gix_odb_packs.specs.declared.answer.PartAsk.TheVariants as asks
-use Rattle.gix_odb_core.specs.declared.event.Event.{Event}
+use Rattle.gix_odb_events.specs.declared.event.PassWhy.TheVariants as whys
+use Rattle.gix_odb_events.specs.declared.answer.PartAsk.TheVariants as asks
+use Rattle.gix_odb_events.specs.declared.event.Event.{Event}
 
 -- ---- what a pack gives
 

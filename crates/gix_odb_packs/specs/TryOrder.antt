@@ -5,10 +5,10 @@ pub mod Index
 pub mod Pack
 use Rattle.std.specs.Prelude.{Ok, Err}
 use Rattle.odb_disk.specs.declared.ask.DiskAnswer.{DiskAnswer}
-use Rattle.gix_odb_core.specs.declared.event.Effect.{Effect}
-use Rattle.gix_odb_core.specs.declared.event.Refusal.{Refusal}
-use Rattle.gix_odb_packs.specs.declared.answer.Answer.{Answer}
-use Rattle.gix_odb_packs.specs.declared.answer.Answer.TheVariants as told
+use Rattle.gix_odb_events.specs.declared.event.Effect.{Effect}
+use Rattle.gix_odb_events.specs.declared.event.Refusal.{Refusal}
+use Rattle.gix_odb_events.specs.declared.answer.Answer.{Answer}
+use Rattle.gix_odb_events.specs.declared.answer.Answer.TheVariants as told
 use Rattle.gix_odb_packs.specs.declared.goal.Goal.{Goal}
 use Rattle.gix_odb_packs.specs.declared.trier.Ahead.{Ahead}
 use Rattle.gix_odb_packs.specs.declared.trier.Stage.{Stage}

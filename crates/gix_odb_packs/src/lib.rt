@@ -15,7 +15,6 @@
 //! ```
 #![tactic(auto)]
 
-mod answer;
 mod folders;
 mod goal;
 mod lister;
@@ -25,8 +24,8 @@ mod search;
 mod spot;
 mod trier;
 
-pub use answer::{Answer, PartAsk};
 pub use folders::pack_folder;
+pub use gix_odb_events::{Answer, PartAsk};
 pub use goal::{Error, Found, Goal, Wanted};
 pub use lister::{EntryList, ListHead, ListStage, ListStep, Lister};
 pub use rest::Rest;

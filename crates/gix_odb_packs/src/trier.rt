@@ -6,11 +6,11 @@ ghost use Rattle.gix_odb_packs.specs.TryOrder as order;
 mod read;
 mod stored;
 
-use crate::answer::{Answer, PartAsk};
 use crate::goal::{Error, Found, Goal};
 use crate::rest::Rest;
 use crate::search::{Notes, Sought, WantedPack};
-use gix_odb_core::{Effect, Event, PackId, PassWhy, Refusal, Shared, SnapshotIndex, Todo};
+use gix_odb_events::{Answer, Effect, Event, PartAsk, PassWhy, Refusal};
+use gix_odb_slots::{PackId, Shared, SnapshotIndex, Todo};
 use gix_pack_files::{data, index};
 use odb_base::{NoMemory, PathText};
 use odb_disk::{DiskAnswer, DiskAsk};

@@ -1,7 +1,7 @@
 -- What each exchange of a machine keeps holds behind all of them; and machines behind one exchange more.
 use Rattle.std.proofs.Common.{◌≡◌, ℕ, ◌+◌, List, [], ◌∷◌, ◌++◌, length, Contains, Option, Some, None, refl, sym, ap, subst, append_assoc, append-nil, arith}
-use Rattle.gix_odb_packs.specs.declared.answer.Answer.{Answer}
-use Rattle.gix_odb_packs.specs.declared.answer.PartAsk.{PartAsk}
+use Rattle.gix_odb_events.specs.declared.answer.Answer.{Answer}
+use Rattle.gix_odb_events.specs.declared.answer.PartAsk.{PartAsk}
 use Rattle.gix_odb_looks.specs.Exchange.{Exchange}
 use Rattle.gix_odb_looks.proofs.FoundLaws.Lists.{has_first, has_later}
 use Rattle.gix_odb_refresh.specs.Asked.{AreAsked, behind, one_more, turns_of}

@@ -1,13 +1,13 @@
 -- What a refresh is told, and why one is refused.
 use Rattle.std.specs.Prelude.{◌≡◌, ◌⊎◌, ℕ, false, List, Some, Ok, Err}
-use Rattle.gix_odb_core.specs.Replay.{view_in}
-use Rattle.gix_odb_core.specs.declared.event.Effect.{Effect}
-use Rattle.gix_odb_core.specs.declared.event.Event.TheVariants as events
-use Rattle.gix_odb_core.specs.declared.event.Refusal.{Refusal}
-use Rattle.gix_odb_core.specs.declared.event.Refusal.TheVariants as refusals
-use Rattle.gix_odb_core.specs.declared.view.View.{View}
-use Rattle.gix_odb_packs.specs.declared.answer.Answer.TheVariants as told
-use Rattle.gix_odb_packs.specs.declared.answer.PartAsk.TheVariants as asks
+use Rattle.gix_odb_events.specs.Answers.{view_in}
+use Rattle.gix_odb_events.specs.declared.event.Effect.{Effect}
+use Rattle.gix_odb_events.specs.declared.event.Event.TheVariants as events
+use Rattle.gix_odb_events.specs.declared.event.Refusal.{Refusal}
+use Rattle.gix_odb_events.specs.declared.event.Refusal.TheVariants as refusals
+use Rattle.gix_odb_events.specs.declared.view.View.{View}
+use Rattle.gix_odb_events.specs.declared.answer.Answer.TheVariants as told
+use Rattle.gix_odb_events.specs.declared.answer.PartAsk.TheVariants as asks
 use Rattle.gix_odb_calls.specs.declared.load_index.Error.{Error}
 use Rattle.gix_odb_calls.specs.declared.load_index.Error.TheVariants as errors
 use Rattle.gix_odb_looks.specs.Caused.{IsNoFolder, IsRefused}

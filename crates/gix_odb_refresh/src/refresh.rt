@@ -3,15 +3,16 @@
 ghost use Rattle.std.specs.Prelude.{◌≡◌, List, IfOk, Err, Ok};
 ghost use Rattle.std.specs.Option.{option_map};
 ghost use Rattle.odb_base.specs.Path.{Path};
-ghost use Rattle.gix_odb_packs.specs.declared.answer.Answer.TheVariants as told;
+ghost use Rattle.gix_odb_events.specs.declared.answer.Answer.TheVariants as told;
 ghost use Rattle.gix_odb_refresh.specs.RefreshOrder.{ask_of, opened_in, started};
 ghost use Rattle.gix_odb_refresh.specs.RefreshOrder as order;
 
 use gix_odb_calls::{StoreParts, load_index};
-use gix_odb_core::{Effect, Event, Listing, Refusal, View};
+use gix_odb_events::{Answer, Effect, Event, PartAsk, Refusal, View};
 use gix_odb_looks::of_refusal;
 use gix_odb_packs::longest_first::longest_first;
-use gix_odb_packs::{Answer, ListStep, Lister, PartAsk};
+use gix_odb_packs::{ListStep, Lister};
+use gix_odb_slots::Listing;
 use odb_base::{NoMemory, PathText};
 use odb_disk::DiskAnswer;
 use std::alloc::Global;

@@ -7,8 +7,8 @@ use Rattle.odb_disk.specs.declared.ask.DiskAnswer.{DiskAnswer}
 use Rattle.odb_disk.specs.declared.ask.DiskAsk.{DiskAsk}
 use Rattle.odb_disk.specs.declared.ask.DiskAsk.TheVariants as asks
 use Rattle.gix_odb_core.specs.History.{History}
-use Rattle.gix_odb_packs.specs.declared.answer.Answer.TheVariants as told
-use Rattle.gix_odb_packs.specs.declared.answer.PartAsk.TheVariants as parts
+use Rattle.gix_odb_events.specs.declared.answer.Answer.TheVariants as told
+use Rattle.gix_odb_events.specs.declared.answer.PartAsk.TheVariants as parts
 use Rattle.gix_odb_looks.specs.Exchange.{AreAnswered, Exchange, IsAnswerTo}
 use Rattle.gix_odb_looks.specs.Laps as laps
 use Rattle.gix_odb_looks.specs.Laps.{AreWithin}

@@ -6,9 +6,10 @@ use Rattle.odb_disk.specs.MemDisk.{Volume}
 use Rattle.gix_odb.specs.declared.handle_state.HandleState.{HandleState}
 use Rattle.gix_odb_calls.specs.declared.store_parts.StoreParts.{StoreParts}
 use Rattle.gix_odb_core.specs.History.{History}
-use Rattle.gix_odb_core.specs.Replay.{number_behind, view_in}
-use Rattle.gix_odb_core.specs.declared.event.Event.TheVariants as core_events
-use Rattle.gix_odb_core.specs.declared.view.View.{View}
+use Rattle.gix_odb_core.specs.Replay.{number_behind}
+use Rattle.gix_odb_events.specs.Answers.{view_in}
+use Rattle.gix_odb_events.specs.declared.event.Event.TheVariants as core_events
+use Rattle.gix_odb_events.specs.declared.view.View.{View}
 use Rattle.gix_odb_calls.specs.declared.step.Step.TheVariants as steps
 use Rattle.gix_odb_calls.specs.declared.step.Outcome.TheVariants as outcomes
 use Rattle.gix_odb_calls.specs.declared.step.Why.{Why}

@@ -29,7 +29,7 @@ use Rattle.gix_odb_world.specs.declared.course.Course.{Course}
 use Rattle.gix_hash.specs.ObjectId.{id_cmp}
 use Rattle.gix_odb_core.specs.History.{History}
 use Rattle.gix_odb_core.specs.Replay.{number_behind}
-use Rattle.gix_odb_core.specs.declared.event.Event.TheVariants as core_events
+use Rattle.gix_odb_events.specs.declared.event.Event.TheVariants as core_events
 use Rattle.gix_odb_world.specs.Bound.{most_changes}
 use Rattle.gix_odb_world.specs.Cores.{answer_behind, cores_after, cores_after_asked, history_at}
 use Rattle.gix_odb_world.specs.Event.{Asked, Event, OfCore}

@@ -3,7 +3,7 @@ use Rattle.std.proofs.Common.{◌≡◌, ◌≤◌, List, length, map, ap, ◌�
 use Rattle.std.specs.List.{All}
 use Rattle.gix_odb_core.specs.History.{History}
 use Rattle.gix_odb_core.specs.Journal.{entries_of}
-use Rattle.gix_odb_core.specs.Steps.{last_state}
+use Rattle.gix_odb_events.specs.View.{last_state}
 use Rattle.gix_odb_core.specs.declared.journal.Journal.{Journal}
 use Rattle.odb_disk.specs.MemDisk.{Volume}
 use Rattle.gix_odb_world.specs.declared.course.Course.{Course}

@@ -16,7 +16,7 @@ use Rattle.gix_odb.specs.declared.handle_state.HandleState.{HandleState}
 use Rattle.gix_odb_world.specs.declared.work.Work.{Work}
 use Rattle.gix_odb_world.specs.declared.course.Course.{Course}
 use Rattle.gix_odb_core.specs.History.{History}
-use Rattle.gix_odb_core.specs.Replay.{view_in}
+use Rattle.gix_odb_events.specs.Answers.{view_in}
 use Rattle.gix_odb_world.specs.declared.turn.Carried.{Carried}
 use Rattle.gix_odb_world.specs.Cores.{cores_after, cores_after_asked, or_before}
 use Rattle.gix_odb_world.specs.Event.{Ask, Asked, OfCore, OfDisk, OfNewCore, OfNothing, Event, answered}

@@ -12,8 +12,8 @@ use Rattle.gix_odb_calls.specs.declared.call.Call.TheVariants as calls
 use Rattle.gix_odb_calls.specs.declared.query.Query.{Query}
 use Rattle.gix_odb_calls.specs.declared.query.Query.TheVariants.{Find, Header, Test}
 use Rattle.gix_odb_looks.specs.LookUpOrder.{ask_of}
-use Rattle.gix_odb_packs.specs.declared.answer.PartAsk.{PartAsk}
-use Rattle.gix_odb_packs.specs.declared.answer.PartAsk.TheVariants as parts
+use Rattle.gix_odb_events.specs.declared.answer.PartAsk.{PartAsk}
+use Rattle.gix_odb_events.specs.declared.answer.PartAsk.TheVariants as parts
 use Rattle.gix_odb.specs.Contents.{folder_list}
 use Rattle.gix_odb.specs.OpenOrder as openings
 use Rattle.gix_odb_refresh.specs.RefreshOrder as refreshes

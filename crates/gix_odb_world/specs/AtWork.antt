@@ -1,13 +1,13 @@
 -- What a handle is at: a task in a store, and the work that is left of it.
 use Rattle.std.specs.Prelude.{ℕ, Bool, true, false, Option, None, unwrap_or}
 use Rattle.gix_hash.specs.declared.kind.Kind.{Kind as HashKind}
-use Rattle.gix_odb_core.specs.declared.view.View.{View}
+use Rattle.gix_odb_events.specs.declared.view.View.{View}
 use Rattle.gix_odb.specs.Contents.{StoreData}
 use Rattle.gix_odb.specs.HandleState.{unseen}
 use Rattle.gix_odb_looks.specs.LookUpOrder.{Setting}
 use Rattle.gix_odb_calls.specs.declared.call.Call.{Call}
 use Rattle.gix_odb_calls.specs.declared.init.Slots.{Slots}
-use Rattle.gix_odb_core.specs.Replay.{view_in}
+use Rattle.gix_odb_events.specs.Answers.{view_in}
 use Rattle.gix_odb_world.specs.Cores.{or_before}
 use Rattle.gix_odb_world.specs.Event.{Asked, OfCore, OfDisk, OfNewCore, OfNothing}
 use Rattle.gix_odb_world.specs.declared.work.Work.{Work}

@@ -2,8 +2,8 @@
 use Rattle.std.specs.Prelude.{◌≡◌, ℕ, List, Option, Some, None, Result, Ok, Err}
 use Rattle.odb_disk.specs.MemDisk.{Volume}
 use Rattle.odb_disk.specs.declared.ask.DiskAnswer.{DiskAnswer}
-use Rattle.gix_odb_packs.specs.declared.answer.Answer as parts
-use Rattle.gix_odb_packs.specs.declared.answer.Answer.TheVariants as told
+use Rattle.gix_odb_events.specs.declared.answer.Answer as parts
+use Rattle.gix_odb_events.specs.declared.answer.Answer.TheVariants as told
 use Rattle.gix_odb_calls.specs.declared.call.Reply.{Reply}
 use Rattle.gix_odb_loose.specs.declared.call.LooseCall.{LooseCall}
 use Rattle.gix_odb_world.specs.declared.work.Work.{Work}

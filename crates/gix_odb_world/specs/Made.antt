@@ -1,9 +1,9 @@
 -- What the code makes of cores. No public clause cites this.
 use Rattle.std.specs.Prelude.{◌≡◌, ℕ, false, List, Some}
 use Rattle.gix_odb_core.specs.History.{History, opened}
-use Rattle.gix_odb_core.specs.Replay.{view_in}
-use Rattle.gix_odb_core.specs.declared.event.Event.TheVariants as events
-use Rattle.gix_odb_core.specs.declared.view.View.{View}
+use Rattle.gix_odb_events.specs.Answers.{view_in}
+use Rattle.gix_odb_events.specs.declared.event.Event.TheVariants as events
+use Rattle.gix_odb_events.specs.declared.view.View.{View}
 use Rattle.gix_odb_world.specs.Cores.{answer_behind, entered, history_at}
 use Rattle.gix_odb_world.specs.Event.{CoreAnswer}
 

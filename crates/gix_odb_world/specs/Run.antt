@@ -16,7 +16,7 @@ use Rattle.gix_odb_world.specs.declared.record.Did.TheVariants.{Nothing, Disk, C
 use Rattle.gix_odb_calls.specs.declared.step.Step.TheVariants as steps
 use Rattle.gix_odb_core.specs.History.{History, opened}
 use Rattle.gix_odb_core.specs.Replay.{number_behind}
-use Rattle.gix_odb_core.specs.declared.event.Event.TheVariants as core_events
+use Rattle.gix_odb_events.specs.declared.event.Event.TheVariants as core_events
 use Rattle.gix_odb_world.specs.Cores.{answer_behind, history_at}
 use Rattle.gix_odb_world.specs.Event.{Ask, Asked, OfNothing, OfDisk, OfCore, OfNewCore, ToCore, ToDisk, ToNewCore, Event}
 use Rattle.gix_odb_world.specs.Turned.{is_done}

@@ -1,8 +1,8 @@
 -- What the code of a handle's work asks, and what an answer makes of it. No public clause cites this.
 use Rattle.std.specs.Prelude.{ℕ, ◌+◌, length, Option, Some, None, Result, Ok, Err}
-use Rattle.gix_odb_packs.specs.declared.answer.Answer as parts
-use Rattle.gix_odb_packs.specs.declared.answer.Answer.TheVariants as told
-use Rattle.gix_odb_packs.specs.declared.answer.PartAsk.{PartAsk}
+use Rattle.gix_odb_events.specs.declared.answer.Answer as parts
+use Rattle.gix_odb_events.specs.declared.answer.Answer.TheVariants as told
+use Rattle.gix_odb_events.specs.declared.answer.PartAsk.{PartAsk}
 use Rattle.gix_odb.specs.CallOrder as calls
 use Rattle.gix_odb.specs.CallOrder.{disk_part}
 use Rattle.gix_odb.specs.HandleState.{setting_at}

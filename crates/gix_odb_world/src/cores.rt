@@ -3,7 +3,8 @@ ghost use Rattle.std.specs.Prelude.{◌≡◌, ◌<◌, ◌≤◌, All, IfOk, Is
 ghost use Rattle.gix_odb_core.specs.Handles.{IsRegistered, registered};
 ghost use Rattle.gix_odb_core.specs.History.{History, present};
 ghost use Rattle.gix_odb_core.specs.Journal.{entries_of};
-ghost use Rattle.gix_odb_core.specs.Replay.{CanHappen, number_behind, view_in};
+ghost use Rattle.gix_odb_core.specs.Replay.{CanHappen, number_behind};
+ghost use Rattle.gix_odb_events.specs.Answers.{view_in};
 ghost use Rattle.gix_odb_slots.specs.PackId.{most_slots};
 ghost use Rattle.gix_odb_world.specs.Cores.{answer_behind, cores_after_asked, entered, history_at, registered_at};
 ghost use Rattle.gix_odb_world.specs.Event.{OfCore};
@@ -11,7 +12,8 @@ ghost use Rattle.gix_odb_world.specs.Headline.{IsJournal};
 ghost use Rattle.gix_odb_world.specs.Made.{MakesCore, joined_answer};
 
 use crate::record::Did;
-use gix_odb_core::{Core, Effect, Event, Journal, Refusal, View};
+use gix_odb_core::{Core, Journal};
+use gix_odb_events::{Effect, Event, Refusal, View};
 use odb_base::{NoMemory, Sequence};
 use std::alloc::Global;
 

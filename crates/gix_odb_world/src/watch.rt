@@ -13,7 +13,7 @@ ghost use Rattle.gix_odb_world.specs.WorkOrder.{asks_on};
 use crate::work::Work;
 use gix_odb::HandleState;
 use gix_odb_calls::{PathList, Why};
-use gix_odb_packs::PartAsk;
+use gix_odb_events::PartAsk;
 use gix_odb_shown::{Revealed, Shown};
 use odb_base::NoMemory;
 use odb_disk::{Change, DiskAsk, MemDisk, PathText, Tree};

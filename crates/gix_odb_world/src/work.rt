@@ -9,7 +9,7 @@ ghost use Rattle.gix_odb_world.specs.WorkOrder.{ask_on, fed_on, opening_fed, reg
 
 use gix_odb::{CallState, HandleState, OpenState};
 use gix_odb_calls::Reply;
-use gix_odb_packs::{Answer, PartAsk};
+use gix_odb_events::{Answer, PartAsk};
 use odb_base::NoMemory;
 use odb_disk::PathText;
 use std::alloc::Global;

@@ -10,10 +10,10 @@ use Rattle.odb_tree.specs.declared.meta.Kind.{Kind}
 use Rattle.odb_tree.specs.declared.meta.Kind.TheVariants as kinds
 use Rattle.gix_odb_slots.specs.PackId.{most_slots}
 use Rattle.gix_odb_packs.specs.ListOrder as lists
-use Rattle.gix_odb_packs.specs.declared.answer.Answer.{Answer}
-use Rattle.gix_odb_packs.specs.declared.answer.Answer.TheVariants as told
-use Rattle.gix_odb_packs.specs.declared.answer.PartAsk.{PartAsk}
-use Rattle.gix_odb_packs.specs.declared.answer.PartAsk.TheVariants as asks
+use Rattle.gix_odb_events.specs.declared.answer.Answer.{Answer}
+use Rattle.gix_odb_events.specs.declared.answer.Answer.TheVariants as told
+use Rattle.gix_odb_events.specs.declared.answer.PartAsk.{PartAsk}
+use Rattle.gix_odb_events.specs.declared.answer.PartAsk.TheVariants as asks
 use Rattle.gix_odb_packs.specs.declared.lister.ListStep.{ListStep}
 use Rattle.gix_odb_packs.specs.declared.lister.ListStep.TheVariants as listed
 use Rattle.gix_odb_packs.specs.declared.lister.Lister.{Lister}

@@ -13,8 +13,8 @@ use Rattle.gix_odb_loose.specs.LooseFile.{loose_path}
 use Rattle.gix_odb_loose.specs.LooseOrder.Answered.{tested_by}
 use Rattle.gix_odb_loose.specs.declared.find.Error as loose
 use Rattle.gix_odb_loose.specs.declared.find.Error.TheVariants as loose_errors
-use Rattle.gix_odb_core.specs.declared.event.Refusal.{Refusal}
-use Rattle.gix_odb_core.specs.declared.event.Refusal.TheVariants as refusals
+use Rattle.gix_odb_events.specs.declared.event.Refusal.{Refusal}
+use Rattle.gix_odb_events.specs.declared.event.Refusal.TheVariants as refusals
 use Rattle.gix_odb_packs.specs.declared.goal.Error as pack
 use Rattle.gix_odb_packs.specs.declared.goal.Error.TheVariants as pack_errors
 use Rattle.gix_odb_packs.specs.declared.goal.Found.{Found}

@@ -7,21 +7,21 @@ use Rattle.odb_disk.specs.declared.ask.DiskAnswer.{DiskAnswer}
 use Rattle.gix_hash.specs.declared.kind.Kind.{Kind}
 use Rattle.gix_hash.specs.declared.object_id.ObjectId.{ObjectId}
 use Rattle.gix_odb_loose.specs.declared.call.LooseCall.{LooseCall}
-use Rattle.gix_odb_core.specs.Replay as core
-use Rattle.gix_odb_core.specs.Steps.{last_state}
-use Rattle.gix_odb_core.specs.declared.event.Effect.{Effect}
-use Rattle.gix_odb_core.specs.declared.event.Effect.TheVariants as effects
-use Rattle.gix_odb_core.specs.declared.event.Event.TheVariants as events
-use Rattle.gix_odb_core.specs.declared.view.View.{View}
+use Rattle.gix_odb_events.specs.Answers as core
+use Rattle.gix_odb_events.specs.View.{last_state}
+use Rattle.gix_odb_events.specs.declared.event.Effect.{Effect}
+use Rattle.gix_odb_events.specs.declared.event.Effect.TheVariants as effects
+use Rattle.gix_odb_events.specs.declared.event.Event.TheVariants as events
+use Rattle.gix_odb_events.specs.declared.view.View.{View}
 use Rattle.gix_odb_slots.specs.declared.listing.Listing.{Listing}
 use Rattle.gix_odb_slots.specs.declared.loaded.Todo.{Todo}
 use Rattle.gix_odb_packs.specs.ListOrder as lists
 use Rattle.gix_odb_packs.specs.TryOrder.{seek}
 use Rattle.gix_odb_packs.specs.TryOrder as tries
-use Rattle.gix_odb_packs.specs.declared.answer.Answer.{Answer}
-use Rattle.gix_odb_packs.specs.declared.answer.Answer.TheVariants as told
-use Rattle.gix_odb_packs.specs.declared.answer.PartAsk.{PartAsk}
-use Rattle.gix_odb_packs.specs.declared.answer.PartAsk.TheVariants as asks
+use Rattle.gix_odb_events.specs.declared.answer.Answer.{Answer}
+use Rattle.gix_odb_events.specs.declared.answer.Answer.TheVariants as told
+use Rattle.gix_odb_events.specs.declared.answer.PartAsk.{PartAsk}
+use Rattle.gix_odb_events.specs.declared.answer.PartAsk.TheVariants as asks
 use Rattle.gix_odb_packs.specs.declared.lister.ListStep.{ListStep}
 use Rattle.gix_odb_packs.specs.declared.lister.ListStep.TheVariants as listed
 use Rattle.gix_odb_packs.specs.declared.search.Notes.{Notes}
@@ -30,8 +30,8 @@ use Rattle.gix_odb_packs.specs.declared.goal.Goal.{Goal}
 use Rattle.gix_odb_packs.proofs.TrierLaws.{Comes, fed-comes, seek-comes}
 use Rattle.gix_odb_looks.specs.Caused.{IsRefused}
 use Rattle.gix_odb_looks.specs.Exchange.{HasFailed}
-use Rattle.gix_odb_core.specs.declared.event.Event.{Event}
-use Rattle.gix_odb_core.specs.declared.event.Refusal.{Refusal}
+use Rattle.gix_odb_events.specs.declared.event.Event.{Event}
+use Rattle.gix_odb_events.specs.declared.event.Refusal.{Refusal}
 use Rattle.gix_odb_packs.specs.declared.lister.Lister.{Lister}
 use Rattle.gix_odb_packs.specs.declared.trier.Stage.{Stage as TryStage}
 use Rattle.gix_odb_packs.specs.declared.trier.Stage.TheVariants as try_stages

@@ -8,11 +8,11 @@ use Rattle.gix_odb_slots.specs.PackPath.{pack_path}
 use Rattle.gix_odb_slots.specs.declared.loaded.SnapshotIndex.{SnapshotIndex}
 use Rattle.gix_odb_core.specs.Replay.{answer_of}
 use Rattle.gix_odb_core.specs.Steps.{after}
-use Rattle.gix_odb_core.specs.declared.event.Event.{Event}
-use Rattle.gix_odb_core.specs.declared.event.Event.TheVariants as events
+use Rattle.gix_odb_events.specs.declared.event.Event.{Event}
+use Rattle.gix_odb_events.specs.declared.event.Event.TheVariants as events
 use Rattle.gix_odb_core.specs.declared.journal.Entry.{Entry}
 use Rattle.gix_odb_core.specs.declared.shape.Shape.{Shape}
-use Rattle.gix_odb_core.specs.declared.view.View.{View}
+use Rattle.gix_odb_events.specs.declared.view.View.{View}
 use Rattle.gix_odb_core.proofs.ListingLaws.{refreshed_view_has_each_row}
 use Rattle.gix_odb_looks.specs.Fair.{HasRows, IsIndexFair, IsIndexSound, IsViewFair, PackedPlace, index_at}
 use Rattle.gix_odb_looks.specs.LookUpOrder.{Setting}

@@ -18,12 +18,14 @@ use Rattle.gix_odb_slots.specs.declared.loaded.Todo.{Todo}
 use Rattle.gix_odb_slots.specs.declared.slot.Filled.{Filled}
 use Rattle.gix_odb_slots.proofs.SlotsAfterLemmas.{filled_within}
 use Rattle.gix_odb_core.specs.Handles.{is_any_stable}
-use Rattle.gix_odb_core.specs.Replay.{Answer, after_answer, after_entry, replay}
-use Rattle.gix_odb_core.specs.Steps.{IsShape, Publishing, Outdated, TooFew, Overflows, Unchanged, Published, after, is_confirmed, last_generation, last_state}
+use Rattle.gix_odb_core.specs.Replay.{after_answer, after_entry, replay}
+use Rattle.gix_odb_events.specs.Answers.{Answer}
+use Rattle.gix_odb_core.specs.Steps.{IsShape, Publishing, Outdated, TooFew, Overflows, Unchanged, Published, after, is_confirmed}
+use Rattle.gix_odb_events.specs.View.{last_generation, last_state}
 use Rattle.gix_odb_core.specs.Steps.{publishing, shape_published, shape_stored, takes_over, with_list}
-use Rattle.gix_odb_core.specs.declared.event.Event.{Event}
-use Rattle.gix_odb_core.specs.declared.event.Event.TheVariants as events
-use Rattle.gix_odb_core.specs.declared.event.Refusal.TheVariants as refusals
+use Rattle.gix_odb_events.specs.declared.event.Event.{Event}
+use Rattle.gix_odb_events.specs.declared.event.Event.TheVariants as events
+use Rattle.gix_odb_events.specs.declared.event.Refusal.TheVariants as refusals
 use Rattle.gix_odb_core.specs.declared.journal.Entry.{Entry}
 use Rattle.gix_odb_core.specs.declared.shape.Shape.{Shape}
 

@@ -13,17 +13,17 @@ use Rattle.gix_pack_files.specs.FileBytes.{FileBytes}
 use Rattle.gix_pack_files.specs.Index.{is_index}
 use Rattle.gix_pack_files.specs.Pack.{is_pack}
 use Rattle.gix_odb_slots.specs.declared.loaded.Todo.{Todo}
-use Rattle.gix_odb_core.specs.Replay.{view_in}
-use Rattle.gix_odb_core.specs.declared.event.Effect.{Effect}
-use Rattle.gix_odb_core.specs.declared.event.PassWhy.TheVariants as whys
-use Rattle.gix_odb_core.specs.declared.event.Refusal.{Refusal}
-use Rattle.gix_odb_core.specs.declared.view.View.{View}
+use Rattle.gix_odb_events.specs.Answers.{view_in}
+use Rattle.gix_odb_events.specs.declared.event.Effect.{Effect}
+use Rattle.gix_odb_events.specs.declared.event.PassWhy.TheVariants as whys
+use Rattle.gix_odb_events.specs.declared.event.Refusal.{Refusal}
+use Rattle.gix_odb_events.specs.declared.view.View.{View}
 use Rattle.gix_odb_packs.specs.Goal.{given_by}
 use Rattle.gix_odb_packs.specs.Search.{rest_behind, search, tried, with_absent}
 use Rattle.gix_odb_packs.specs.TryOrder.{ask_at, at, at_search, at_todo, behind_core, behind_disk, by_answer, by_given, index_read, noting}
 use Rattle.gix_odb_packs.specs.TryOrder.{pack_behind, pack_read, read_of, refused, seek, shown_behind, shown_or_own, why_of}
-use Rattle.gix_odb_packs.specs.declared.answer.Answer.{Answer}
-use Rattle.gix_odb_packs.specs.declared.answer.Answer.TheVariants as told
+use Rattle.gix_odb_events.specs.declared.answer.Answer.{Answer}
+use Rattle.gix_odb_events.specs.declared.answer.Answer.TheVariants as told
 use Rattle.gix_odb_packs.specs.declared.goal.Error as goals
 use Rattle.gix_odb_packs.specs.declared.goal.Error.TheVariants as pack_errors
 use Rattle.gix_odb_packs.specs.declared.goal.Found.{Found}

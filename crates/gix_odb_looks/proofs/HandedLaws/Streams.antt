@@ -9,13 +9,13 @@ use Rattle.odb_tree.specs.declared.entry.Entry.{Entry}
 use Rattle.odb_tree.specs.declared.meta.Kind.{Kind}
 use Rattle.odb_tree.specs.declared.meta.Kind.TheVariants as kinds
 use Rattle.gix_odb_slots.specs.declared.listing.ListingRow.{ListingRow}
-use Rattle.gix_odb_core.specs.Replay as core
+use Rattle.gix_odb_events.specs.Answers as core
 use Rattle.gix_odb_packs.specs.ListOrder.{ask_at, at_paths, behind_folder, by_index, by_kind, by_pack, by_pack_kind, fed_at, opened, read, with_row}
 use Rattle.gix_odb_packs.specs.PackFolder.{index_paths}
-use Rattle.gix_odb_packs.specs.declared.answer.Answer.{Answer}
-use Rattle.gix_odb_packs.specs.declared.answer.Answer.TheVariants as told
-use Rattle.gix_odb_packs.specs.declared.answer.PartAsk.{PartAsk}
-use Rattle.gix_odb_packs.specs.declared.answer.PartAsk.TheVariants as asks
+use Rattle.gix_odb_events.specs.declared.answer.Answer.{Answer}
+use Rattle.gix_odb_events.specs.declared.answer.Answer.TheVariants as told
+use Rattle.gix_odb_events.specs.declared.answer.PartAsk.{PartAsk}
+use Rattle.gix_odb_events.specs.declared.answer.PartAsk.TheVariants as asks
 use Rattle.gix_odb_packs.specs.declared.lister.ListHead.{ListHead}
 use Rattle.gix_odb_packs.specs.declared.lister.ListStage.{ListStage}
 use Rattle.gix_odb_packs.specs.declared.lister.ListStage.TheVariants as stages

@@ -14,15 +14,15 @@ use Rattle.gix_pack_files.specs.Index.{is_index}
 use Rattle.gix_pack_files.specs.Pack.{is_pack}
 use Rattle.gix_odb_slots.specs.PackPath.{pack_path}
 use Rattle.gix_odb_slots.specs.declared.loaded.SnapshotIndex.{SnapshotIndex}
-use Rattle.gix_odb_core.specs.Replay.{view_in}
-use Rattle.gix_odb_core.specs.declared.event.Effect.{Effect}
-use Rattle.gix_odb_core.specs.declared.event.PassWhy.{PassWhy}
-use Rattle.gix_odb_core.specs.declared.event.PassWhy.TheVariants as whys
-use Rattle.gix_odb_core.specs.declared.view.View.{View}
+use Rattle.gix_odb_events.specs.Answers.{view_in}
+use Rattle.gix_odb_events.specs.declared.event.Effect.{Effect}
+use Rattle.gix_odb_events.specs.declared.event.PassWhy.{PassWhy}
+use Rattle.gix_odb_events.specs.declared.event.PassWhy.TheVariants as whys
+use Rattle.gix_odb_events.specs.declared.view.View.{View}
 use Rattle.gix_odb_packs.specs.Goal.{given_by}
 use Rattle.gix_odb_packs.specs.TryOrder.{ask_at, at, by_answer, by_given, fed, index_or_bad, index_read, noting, own_index, pack_behind, pack_read, why_of}
-use Rattle.gix_odb_packs.specs.declared.answer.Answer.{Answer}
-use Rattle.gix_odb_packs.specs.declared.answer.Answer.TheVariants as told
+use Rattle.gix_odb_events.specs.declared.answer.Answer.{Answer}
+use Rattle.gix_odb_events.specs.declared.answer.Answer.TheVariants as told
 use Rattle.gix_odb_packs.specs.declared.goal.Error.{Error}
 use Rattle.gix_odb_packs.specs.declared.goal.Error.TheVariants as errors
 use Rattle.gix_odb_packs.specs.declared.goal.Found.{Found}

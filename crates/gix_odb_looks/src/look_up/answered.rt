@@ -3,7 +3,7 @@ ghost use Rattle.std.specs.Prelude.{◌≡◌, IfOk, Some, Ok, Err};
 ghost use Rattle.std.specs.Option.{option_copied};
 ghost use Rattle.gix_odb_looks.specs.LookUpOrder.{setting_of};
 ghost use Rattle.gix_odb_looks.specs.LookUpOrder as order;
-ghost use Rattle.gix_odb_packs.specs.declared.answer.Answer.TheVariants as told;
+ghost use Rattle.gix_odb_events.specs.declared.answer.Answer.TheVariants as told;
 
 use super::parts::{
     by_tried, by_verdict, ended, is_unsettled, listing_from, load_refused, try_view, unsettled,
@@ -12,10 +12,11 @@ use super::{LookHead, LookStage, LookUp, LooseRound, Part, Purpose, Setting};
 use crate::load_index::of_refusal;
 use gix_odb_calls::load_index;
 use gix_odb_calls::verdict::verdict_on;
-use gix_odb_core::{Effect, Listing, Refusal, View};
+use gix_odb_events::{Answer, Effect, Refusal, View};
 use gix_odb_loose::LooseCall;
 use gix_odb_packs::longest_first::longest_first;
-use gix_odb_packs::{Answer, ListStep, Lister, Notes, Trier};
+use gix_odb_packs::{ListStep, Lister, Notes, Trier};
+use gix_odb_slots::Listing;
 use odb_base::NoMemory;
 use odb_disk::DiskAnswer;
 use std::alloc::Global;

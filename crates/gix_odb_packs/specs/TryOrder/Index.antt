@@ -7,14 +7,14 @@ use Rattle.odb_tree.specs.declared.disk_error.DiskError.TheVariants as disk_erro
 use Rattle.gix_hash.specs.ObjectId.{kind_of}
 use Rattle.gix_pack_files.specs.FileBytes.{FileBytes}
 use Rattle.gix_pack_files.specs.Index.{is_index}
-use Rattle.gix_odb_core.specs.Replay.{view_in}
+use Rattle.gix_odb_events.specs.Answers.{view_in}
 use Rattle.gix_odb_slots.specs.Slots.{new_packs, same_path}
-use Rattle.gix_odb_core.specs.declared.event.Effect.{Effect}
-use Rattle.gix_odb_core.specs.declared.event.PassWhy.{PassWhy}
-use Rattle.gix_odb_core.specs.declared.event.PassWhy.TheVariants as whys
+use Rattle.gix_odb_events.specs.declared.event.Effect.{Effect}
+use Rattle.gix_odb_events.specs.declared.event.PassWhy.{PassWhy}
+use Rattle.gix_odb_events.specs.declared.event.PassWhy.TheVariants as whys
 use Rattle.gix_odb_slots.specs.declared.loaded.LoadedIndex.TheVariants.{Single}
 use Rattle.gix_odb_slots.specs.declared.loaded.SnapshotIndex.{SnapshotIndex}
-use Rattle.gix_odb_core.specs.declared.view.View.{View}
+use Rattle.gix_odb_events.specs.declared.view.View.{View}
 use Rattle.gix_odb_packs.specs.Search.{tried}
 use Rattle.gix_odb_packs.specs.declared.goal.Goal.{Goal}
 use Rattle.gix_odb_packs.specs.declared.search.Notes.{Notes}

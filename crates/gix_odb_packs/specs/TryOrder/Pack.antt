@@ -6,12 +6,12 @@ use Rattle.odb_tree.specs.declared.disk_error.DiskError.TheVariants as disk_erro
 use Rattle.gix_hash.specs.ObjectId.{kind_of}
 use Rattle.gix_pack_files.specs.FileBytes.{FileBytes}
 use Rattle.gix_pack_files.specs.Pack.{is_pack}
-use Rattle.gix_odb_core.specs.Replay.{view_in}
+use Rattle.gix_odb_events.specs.Answers.{view_in}
 use Rattle.gix_odb_slots.specs.OnDiskFile.{loaded}
 use Rattle.gix_odb_slots.specs.Slots.{PackFile, same_path}
-use Rattle.gix_odb_core.specs.declared.event.Effect.{Effect}
+use Rattle.gix_odb_events.specs.declared.event.Effect.{Effect}
 use Rattle.gix_odb_slots.specs.declared.loaded.SnapshotIndex.{SnapshotIndex}
-use Rattle.gix_odb_core.specs.declared.view.View.{View}
+use Rattle.gix_odb_events.specs.declared.view.View.{View}
 use Rattle.gix_odb_packs.specs.Goal.{given_by}
 use Rattle.gix_odb_packs.specs.Search.{with_absent}
 use Rattle.gix_odb_packs.specs.declared.goal.Error.{Error}

@@ -5,7 +5,8 @@ ghost use Rattle.gix_odb_packs.specs.TryOrder.{index_or_bad, index_missed, index
 use super::{Ahead, IndexPlace, Stage, Tried, at};
 use crate::goal::{Error, Goal};
 use crate::search::{Notes, WantedPack};
-use gix_odb_core::{PassWhy, Shared};
+use gix_odb_events::PassWhy;
+use gix_odb_slots::Shared;
 use gix_pack_files::{data, index};
 use odb_base::{ByteList, NoMemory};
 use odb_disk::{DiskAnswer, DiskError};

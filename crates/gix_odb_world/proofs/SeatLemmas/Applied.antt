@@ -15,10 +15,10 @@ use Rattle.gix_odb_core.specs.History.{History, present}
 use Rattle.gix_odb_core.specs.Replay.{number_behind}
 use Rattle.gix_odb_core.specs.Steps.{after}
 use Rattle.gix_odb_core.specs.Views.{view_of}
-use Rattle.gix_odb_core.specs.declared.event.Effect.{Effect}
-use Rattle.gix_odb_core.specs.declared.event.Effect.TheVariants as effects
-use Rattle.gix_odb_core.specs.declared.event.Event.TheVariants as core_events
-use Rattle.gix_odb_core.specs.declared.view.View.{View}
+use Rattle.gix_odb_events.specs.declared.event.Effect.{Effect}
+use Rattle.gix_odb_events.specs.declared.event.Effect.TheVariants as effects
+use Rattle.gix_odb_events.specs.declared.event.Event.TheVariants as core_events
+use Rattle.gix_odb_events.specs.declared.view.View.{View}
 use Rattle.gix_odb_calls.specs.declared.step.Step.{Step}
 use Rattle.gix_odb_calls.specs.declared.step.Step.TheVariants as steps
 use Rattle.gix_odb_calls.specs.declared.step.Outcome.TheVariants as outcomes

@@ -7,12 +7,13 @@ use Rattle.std.proofs.lemmas.Bool.{eqb-true, eqb-false}
 use Rattle.std.proofs.lemmas.List.{length-replicate}
 use Rattle.gix_odb_core.specs.Handles.{registered}
 use Rattle.gix_odb_core.specs.History.{History, opened, present}
-use Rattle.gix_odb_core.specs.Replay.{snapshot_of, view_in}
+use Rattle.gix_odb_core.specs.Replay.{snapshot_of}
+use Rattle.gix_odb_events.specs.Answers.{view_in}
 use Rattle.gix_odb_core.specs.Snapshots.{handed_to}
-use Rattle.gix_odb_core.specs.declared.event.Effect.{Effect}
-use Rattle.gix_odb_core.specs.declared.event.Event.TheVariants as events
+use Rattle.gix_odb_events.specs.declared.event.Effect.{Effect}
+use Rattle.gix_odb_events.specs.declared.event.Event.TheVariants as events
 use Rattle.gix_odb_core.specs.declared.journal.Entry.{Entry}
-use Rattle.gix_odb_core.specs.declared.view.View.{View}
+use Rattle.gix_odb_events.specs.declared.view.View.{View}
 use Rattle.gix_odb_core.proofs.HandleLemmas.{with_seat-same}
 use Rattle.gix_odb_core.proofs.SnapshotLaws.{handed-append}
 use Rattle.gix_odb_world.specs.AtWork.{Modes}

@@ -4,10 +4,11 @@ use Rattle.std.specs.Prelude.{◌==◌, IsSome, slice_get, unwrap_or}
 use Rattle.std.proofs.lemmas.Bool.{eqb-true, eqb-false}
 use Rattle.gix_odb_core.specs.Handles.{Handles, registered}
 use Rattle.gix_odb_core.specs.History.{History, opened, present}
-use Rattle.gix_odb_core.specs.Replay.{snapshot_of, view_in}
+use Rattle.gix_odb_core.specs.Replay.{snapshot_of}
+use Rattle.gix_odb_events.specs.Answers.{view_in}
 use Rattle.gix_odb_core.specs.Turn.{handles_after}
-use Rattle.gix_odb_core.specs.declared.event.Event.TheVariants as core_events
-use Rattle.gix_odb_core.specs.declared.event.Refusal.TheVariants as refusals
+use Rattle.gix_odb_events.specs.declared.event.Event.TheVariants as core_events
+use Rattle.gix_odb_events.specs.declared.event.Refusal.TheVariants as refusals
 use Rattle.gix_odb_core.specs.declared.shape.Shape.{Shape}
 use Rattle.gix_odb_core.proofs.HandleLemmas.{handles-after}
 use Rattle.gix_odb_core.proofs.OrderLaws.{replay_of_joined_journals}

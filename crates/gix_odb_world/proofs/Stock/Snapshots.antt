@@ -7,13 +7,14 @@ use Rattle.std.proofs.lemmas.List.Elements.{Contains-append_left}
 use Rattle.odb_disk.specs.MemDisk.{Volume}
 use Rattle.gix_odb_core.specs.History.{History, opened}
 use Rattle.gix_odb_core.specs.Possible.{IsOpened, IsPossible}
-use Rattle.gix_odb_core.specs.Replay.{IsLegal, IsNext, number_behind, replay, snapshot_of, view_in}
+use Rattle.gix_odb_core.specs.Replay.{IsLegal, IsNext, number_behind, replay, snapshot_of}
+use Rattle.gix_odb_events.specs.Answers.{view_in}
 use Rattle.gix_odb_core.specs.Snapshots.{IsHandedLast}
 use Rattle.gix_odb_core.specs.Steps.{IsShape}
 use Rattle.gix_odb_core.specs.Views.{view_of}
 use Rattle.gix_odb_core.specs.declared.journal.Entry.{Entry}
 use Rattle.gix_odb_core.specs.declared.shape.Shape.{Shape}
-use Rattle.gix_odb_core.specs.declared.view.View.{View}
+use Rattle.gix_odb_events.specs.declared.view.View.{View}
 use Rattle.gix_odb_core.proofs.NumberLaws.{entries_lower_no_number}
 use Rattle.gix_odb_core.proofs.ShapeLaws.{journal_comes_to_a_shape, possible_journal_splits}
 use Rattle.gix_odb_core.proofs.SnapshotLaws.{entry_hands_the_view_behind_it, snapshot_is_the_last_view_handed}

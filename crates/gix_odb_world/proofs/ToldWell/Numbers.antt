@@ -2,7 +2,7 @@
 use Rattle.std.proofs.Common.{ℕ, ◌<◌, ◌≤◌, false, List, [], ◌∷◌, length, inl, inr, sym, subst, arith}
 use Rattle.std.proofs.lemmas.List.{length_push}
 use Rattle.gix_odb_core.specs.History.{History, opened, present}
-use Rattle.gix_odb_core.specs.declared.event.Event.TheVariants as core_events
+use Rattle.gix_odb_events.specs.declared.event.Event.TheVariants as core_events
 use Rattle.gix_odb_core.specs.declared.shape.Shape.{Shape}
 use Rattle.gix_odb_core.proofs.NumberLaws.{entries_lower_no_number}
 use Rattle.gix_odb_core.proofs.OrderLaws.{replay_of_joined_journals}

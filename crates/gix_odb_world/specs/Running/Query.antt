@@ -10,8 +10,8 @@ use Rattle.gix_hash.specs.ObjectId.{kind_of}
 use Rattle.gix_hash.specs.declared.object_id.ObjectId.{ObjectId}
 use Rattle.gix_odb_calls.specs.declared.query.Query.{Query}
 use Rattle.gix_odb_core.specs.History.{present}
-use Rattle.gix_odb_packs.specs.declared.answer.Answer.TheVariants as told
-use Rattle.gix_odb_packs.specs.declared.answer.PartAsk.TheVariants as asks
+use Rattle.gix_odb_events.specs.declared.answer.Answer.TheVariants as told
+use Rattle.gix_odb_events.specs.declared.answer.PartAsk.TheVariants as asks
 use Rattle.gix_odb_slots.specs.Slots.{same_path}
 use Rattle.gix_odb_looks.specs.Exchange.{AreAnswered, AreAsked, Exchange, HasFailed, WasTold}
 use Rattle.gix_odb_looks.specs.Fair.{AreFair, PackedPlace}

@@ -1,6 +1,6 @@
 use Rattle.std.proofs.Common.{◌∙◌, ap}
 use Rattle.std.proofs.lemmas.Result.{IfOk-weaker}
-use Rattle.gix_odb_packs.specs.declared.answer.Answer.TheVariants as told
+use Rattle.gix_odb_events.specs.declared.answer.Answer.TheVariants as told
 use Rattle.gix_odb_world.specs.WorkOrder.{fed_on}
 use Rattle.gix_odb_world.proofs.CarriedLemmas.{fed_seeing}
 use Rattle.gix_odb_world.proofs.turn.answered_by_core.Goals as goal

@@ -1,10 +1,11 @@
 use Rattle.std.proofs.Common.{sym, subst}
 use Rattle.gix_odb_core.proofs.CoreLemmas.{never_refused-other}
 use Rattle.gix_odb_core.proofs.StateLemmas.{removed-next}
-use Rattle.gix_odb_core.specs.Replay.{Answer, CanHappen}
+use Rattle.gix_odb_core.specs.Replay.{CanHappen}
+use Rattle.gix_odb_events.specs.Answers.{Answer}
 use Rattle.gix_odb_core.specs.State.{IsNextState}
-use Rattle.gix_odb_core.specs.declared.event.Event.{Event}
-use Rattle.gix_odb_core.specs.declared.event.Event.TheVariants as event
+use Rattle.gix_odb_events.specs.declared.event.Event.{Event}
+use Rattle.gix_odb_events.specs.declared.event.Event.TheVariants as event
 use Rattle.gix_odb_core.proofs.state.State.apply.Goals as goal
 
 pub returns-in-Remove-clause-next : goal.returns-in-Remove-clause-next

@@ -1,7 +1,8 @@
 use Rattle.std.proofs.Common.{length, sym, ap, subst, ◌∙◌, arith}
 use Rattle.gix_odb_core.proofs.StateLemmas.{settled-next}
 use Rattle.gix_odb_core.proofs.TurnLemmas.{no_memory-answer}
-use Rattle.gix_odb_core.specs.Replay.{Answer, number_behind}
+use Rattle.gix_odb_core.specs.Replay.{number_behind}
+use Rattle.gix_odb_events.specs.Answers.{Answer}
 use Rattle.gix_odb_core.specs.State.{IsNextState, entries_in}
 use Rattle.gix_odb_core.specs.declared.journal.Entry.{Entry}
 use Rattle.gix_odb_core.proofs.state.State.take_in.Goals as goal

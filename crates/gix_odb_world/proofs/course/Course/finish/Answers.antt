@@ -1,5 +1,5 @@
 use Rattle.std.proofs.Common.{◌≤◌, length, arith}
-use Rattle.gix_odb_core.specs.Steps.{last_state}
+use Rattle.gix_odb_events.specs.View.{last_state}
 use Rattle.gix_odb_world.proofs.RunEnds.{is_run}
 use Rattle.gix_odb_world.proofs.course.Course.finish.Goals as goal
 

@@ -1,8 +1,8 @@
 //! What happens to a core, and what it answers.
 ghost use Rattle.std.specs.Prelude.{◌≡◌, Ok};
 ghost use Rattle.std.specs.Option.{option_copied};
-ghost use Rattle.gix_odb_core.specs.Replay.{view_in};
-ghost use Rattle.gix_odb_core.specs.declared.event.Refusal.TheVariants.{NoMemory as out_of_memory};
+ghost use Rattle.gix_odb_events.specs.Answers.{view_in};
+ghost use Rattle.gix_odb_events.specs.declared.event.Refusal.TheVariants.{NoMemory as out_of_memory};
 
 use crate::metrics::Report;
 use crate::view::View;

@@ -1,9 +1,8 @@
 //! What a handle sees of a core.
 ghost use Rattle.std.specs.Prelude.{◌≡◌, IfOk};
-ghost use Rattle.gix_odb_core.specs.Views.{view_at};
+ghost use Rattle.gix_odb_events.specs.View.{view_at};
 
-use crate::Shared;
-use gix_odb_slots::{LoadedList, TodoList};
+use gix_odb_slots::{LoadedList, Shared, TodoList};
 use odb_base::NoMemory;
 
 /// Which state of a core a snapshot shows.
@@ -57,7 +56,7 @@ impl Snapshot {
 
 impl View {
     /// A copy, which shares the lists, as one that is handed over with another entry.
-    pub(crate) fn at(&self, entry: u64) -> Result<View, NoMemory>
+    pub fn at(&self, entry: u64) -> Result<View, NoMemory>
         ensures copy { IfOk result (λ copy. copy ≡ view_at self.now entry) }
     {
         let snapshot = self.snapshot.at(entry)?;

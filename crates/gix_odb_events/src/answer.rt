@@ -1,5 +1,5 @@
 //! What a machine asks for, and what it is answered.
-use gix_odb_core::{Effect, Event, Refusal};
+use crate::event::{Effect, Event, Refusal};
 use odb_disk::{DiskAnswer, DiskAsk};
 
 /// What a machine asks for.

@@ -1,0 +1,48 @@
+//! What is counted of a core, and what it reports.
+
+use crate::event::PassWhy;
+use gix_odb_slots::{ListedList, Shared};
+use odb_base::{PathText, Sequence};
+
+/// Counts over a core.
+#[derive(Clone, Copy, Debug, Default, PartialEq, Eq)]
+pub struct Metrics {
+    /// How many handles are registered.
+    pub num_handles: usize,
+    /// How many listings were published or confirmed the list.
+    pub num_refreshes: usize,
+    /// How many listed slots have their index loaded.
+    pub open_reachable_indices: usize,
+    /// How many slots are listed.
+    pub known_reachable_indices: usize,
+    /// How many packs of listed slots are loaded.
+    pub open_reachable_packs: usize,
+    /// How many packs the listed slots have.
+    pub known_packs: usize,
+    /// How many slots are empty.
+    pub unused_slots: usize,
+    /// How many filled slots have a file that is garbage or missing.
+    pub unreachable_indices: usize,
+    /// How many packs of these are loaded.
+    pub unreachable_packs: usize,
+    /// How many folders there are.
+    pub loose_dbs: usize,
+}
+
+/// A file that was passed over.
+#[derive(Drop)]
+pub struct Passed {
+    pub path: Shared<PathText>,
+    pub why: PassWhy,
+}
+
+/// The files that were passed over, in the order of the journal.
+pub type PassedList = Shared<Sequence<Passed>>;
+
+/// What a core reports of itself. The one that is handed over and the one in the journal are the same.
+#[derive(Drop)]
+pub struct Report {
+    pub metrics: Metrics,
+    pub listed: ListedList,
+    pub passed_over: PassedList,
+}
