@@ -1,7 +1,5 @@
 pub use Rattle.gix_pack_tables.specs.Bytes
 pub use Rattle.gix_pack_tables.specs.Rows
-pub use Rattle.gix_pack_tables.specs.WrittenPack
-pub use Rattle.gix_pack_tables.specs.WrittenTables
 pub mod MultiIndex
 pub mod MultiIndexRows
 pub mod ChunkTable

@@ -9,7 +9,7 @@ ghost use Rattle.gix_multi_index.specs.MultiIndexLayout.{AreIn, IsIn, IsInIfTher
 
 use crate::layout::{Span, Spans};
 use gix_hash::Kind;
-use gix_pack_tables::read::bytes::{behind_first, long_at, part_of, trailer_place};
+use gix_pack_tables::bytes::{behind_first, long_at, part_of, trailer_place};
 
 /// How long the header is: `MIDX`, the version, the hash's number, the numbers of chunks and of base files, and the number of packs.
 pub const HEADER_LEN: usize = 12;

@@ -10,7 +10,7 @@ use crate::parts::read;
 use crate::rows::Rows;
 use crate::walk::Iter;
 use gix_hash::{Kind, ObjectId, Prefix};
-use gix_pack_tables::read::bytes::is_within;
+use gix_pack_tables::bytes::is_within;
 use odb_base::{ByteList, NoMemory, PathName, Sequence};
 use std::alloc::Global;
 use std::marker::Model;

@@ -7,7 +7,7 @@ ghost use Rattle.odb_base.specs.Path.{name_cmp};
 ghost use Rattle.gix_multi_index.specs.MultiIndex.Held.{has_form as form_fits, holds_names, is_index_name as name_fits, name_parts};
 ghost use Rattle.gix_multi_index.specs.MultiIndexNames.{go_on};
 
-use gix_pack_tables::read::bytes::behind_first;
+use gix_pack_tables::bytes::behind_first;
 use odb_base::{NoMemory, PathName, Sequence};
 use std::alloc::Global;
 

@@ -13,8 +13,8 @@ use crate::chunks::{PACK_COUNT_PLACE, has_front, has_table, kind_of, spans_of};
 use crate::layout::{Layout, Span, Spans};
 use crate::names::names_in;
 use gix_hash::{Kind, SHA1_LEN, SHA256_LEN};
-use gix_pack_tables::read::bytes::{behind_first, number_at, part_of};
-use gix_pack_tables::read::tables::{COUNTS_LEN, WIDE_LEN, counts_agree, is_named, is_rising};
+use gix_pack_tables::bytes::{behind_first, number_at, part_of};
+use gix_pack_tables::tables::{COUNTS_LEN, WIDE_LEN, counts_agree, is_named, is_rising};
 use odb_base::{NoMemory, PathName, Sequence};
 use std::alloc::Global;
 

@@ -7,9 +7,9 @@ ghost use Rattle.gix_pack_tables.specs.Rows.{PackRow, IsPrefixRun, IsRowOf};
 use crate::layout::{Layout, Span};
 use crate::parts::{OFFSET_ROW_LEN, span_in};
 use gix_hash::{Kind, ObjectId, Prefix};
-use gix_pack_tables::read::bytes::{long_at, number_at, part_of};
-use gix_pack_tables::read::search;
-use gix_pack_tables::read::tables::{HIGH_BIT, WIDE_LEN};
+use gix_pack_tables::bytes::{long_at, number_at, part_of};
+use gix_pack_tables::search;
+use gix_pack_tables::tables::{HIGH_BIT, WIDE_LEN};
 use std::ops::Range;
 
 // The rows of a multi-index in its bytes: the hash of their ids, and where they stand.

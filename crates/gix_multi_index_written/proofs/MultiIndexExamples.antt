@@ -10,9 +10,9 @@ use Rattle.gix_multi_index.specs.MultiIndex.Chunks.{Chunk, ends_at}
 use Rattle.gix_multi_index.specs.MultiIndex.{MultiIndex, are_parts, multi_index_from, multi_index_of, parts_of, read_of}
 use Rattle.gix_multi_index.specs.MultiIndex.Held.{holds_names, is_index_name, names_rise}
 use Rattle.gix_multi_index.specs.declared.file.Error.TheVariants.{AboveLimit, BadMultiIndex}
-use Rattle.gix_pack_tables.specs.WrittenTables.{narrow_from}
+use Rattle.gix_pack_written.specs.WrittenTables.{narrow_from}
 use Rattle.gix_multi_index_written.specs.WrittenMultiIndex.{chunk_table, chunks_written, multi_front}
-use Rattle.gix_pack_tables.proofs.ExampleIds.{first, second}
+use Rattle.gix_pack_written.proofs.ExampleIds.{first, second}
 
 -- ---- names
 

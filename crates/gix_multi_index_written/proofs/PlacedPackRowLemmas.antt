@@ -5,10 +5,11 @@ use Rattle.std.specs.List.{enumerate_from, flat_map, sum_by}
 use Rattle.std.proofs.lemmas.List.Sums.{sum_by-cons}
 use Rattle.gix_hash.specs.declared.kind.Kind.{Kind}
 use Rattle.gix_object.specs.Data.{Object}
-use Rattle.gix_pack_tables.specs.PlacedRow.{placed_from, row_of}
+use Rattle.gix_pack_written.specs.PlacedRow.{placed_from, row_of}
 use Rattle.gix_pack_tables.specs.Rows.{PackRow}
-use Rattle.gix_pack_tables.specs.WrittenPack.{entries_place, entry_of, id_of_object, rows_in_order}
-use Rattle.gix_pack_tables.proofs.PlacedLemmas.{length-placed_from, rows_placed}
+use Rattle.gix_pack_files.specs.Pack.{entries_place}
+use Rattle.gix_pack_written.specs.WrittenPack.{entry_of, id_of_object, rows_in_order}
+use Rattle.gix_pack_written.proofs.PlacedLemmas.{length-placed_from, rows_placed}
 use Rattle.gix_multi_index_written.specs.PlacedPackRow.{pack_row_of, placed_in}
 use Rattle.gix_multi_index_written.specs.WrittenMultiIndex.{Named, in_pack, rows_in_pack, rows_in_packs}
 

@@ -18,21 +18,22 @@ use Rattle.gix_multi_index.specs.MultiIndex.Chunks.{Chunk, ChunkRow, chunk_at, c
 use Rattle.gix_multi_index.specs.MultiIndex.Chunks.{has_header, has_room, hash_in, hash_of_number, header_len, kind_in, packs_in, row_len, the_one, trailer_place}
 use Rattle.gix_multi_index.specs.MultiIndex.{MultiIndex, Parts, at_most_one, multi_index_from, multi_index_of, parts_of}
 use Rattle.gix_multi_index_written.specs.MultiIndexChunks.{bytes_over, front_with}
-use Rattle.gix_pack_tables.specs.PlacedRow.{IsPlaced, id_of, offset_of, pack_of, placed_from}
+use Rattle.gix_pack_written.specs.PlacedRow.{IsPlaced, id_of, offset_of, pack_of, placed_from}
 use Rattle.gix_multi_index_written.specs.PlacedPackRow.{multi_placed, pack_row_of, placed_in}
 use Rattle.gix_pack_tables.specs.Rows.{PackRow, counts_of}
-use Rattle.gix_pack_tables.specs.WrittenTables.{is_wide, long_number_bytes, number_bytes, table_of}
+use Rattle.gix_pack_written.specs.WrittenTables.{is_wide, long_number_bytes, number_bytes, table_of}
 use Rattle.gix_multi_index_written.specs.WrittenMultiIndex.{Named, chunk_table, chunks_written, hash_number, name_bytes, names_of, needs_wide}
 use Rattle.gix_multi_index_written.specs.WrittenMultiIndex.{offsets_written, pack_and_offset, padded, rows_in_packs, CanBeWritten, ReadsMultiIndex, chunks_place}
-use Rattle.gix_pack_tables.specs.WrittenPack.{entries_place, entry_of}
-use Rattle.gix_pack_tables.specs.declared.write.rows.Placed.{Placed}
+use Rattle.gix_pack_files.specs.Pack.{entries_place}
+use Rattle.gix_pack_written.specs.WrittenPack.{entry_of}
+use Rattle.gix_pack_written.specs.declared.rows.Placed.{Placed}
 use Rattle.gix_multi_index_written.proofs.WrittenMultiIndexLemmas.{chunks_seen, multi_each, multi_few, multi_rising, multi_table_seen}
 use Rattle.gix_multi_index_written.proofs.WrittenPartsLemmas.{parts_written, told}
 use Rattle.gix_multi_index_written.proofs.WrittenPartsLemmas.Rows.{IsInPack}
-use Rattle.gix_pack_tables.proofs.PlacedLemmas.{each_append}
-use Rattle.gix_pack_tables.proofs.TableLemmas.{each_of_table, is_table}
+use Rattle.gix_pack_written.proofs.PlacedLemmas.{each_append}
+use Rattle.gix_pack_written.proofs.TableLemmas.{each_of_table, is_table}
 use Rattle.gix_multi_index_written.proofs.WrittenChunkLemmas.{chunks_back, ends_back, length-chunk_table, rows_back, rows_from, whole, HaveNames}
-use Rattle.gix_pack_tables.proofs.WrittenTableLemmas.{length-hash_of, number_back}
+use Rattle.gix_pack_written.proofs.WrittenTableLemmas.{length-hash_of, number_back}
 
 number_hash : (hash : Kind) → hash_of_number (hash_number hash) ≡ Some hash
 number_hash Sha1 = refl

@@ -13,19 +13,19 @@ use Rattle.gix_hash.specs.declared.object_id.ObjectId.{ObjectId}
 use Rattle.gix_multi_index.specs.MultiIndex.Chunks.{Chunk}
 use Rattle.gix_multi_index.specs.MultiIndex.Held.{are_names, is_index_name, names_rise}
 use Rattle.gix_multi_index_written.specs.MultiIndexChunks.{below_first, chunk_seen, front_with, objects_over, offset_chunks, one_chunk}
-use Rattle.gix_pack_tables.specs.PlacedRow.{IsPlaced, id_of, offset_of, pack_of}
+use Rattle.gix_pack_written.specs.PlacedRow.{IsPlaced, id_of, offset_of, pack_of}
 use Rattle.gix_multi_index_written.specs.PlacedPackRow.{multi_placed, pack_row_of, placed_in}
 use Rattle.gix_pack_tables.specs.Rows.{PackRow, counts_of, is_rising}
-use Rattle.gix_pack_tables.specs.WrittenTables.{number_bytes, table_of}
+use Rattle.gix_pack_written.specs.WrittenTables.{number_bytes, table_of}
 use Rattle.gix_multi_index_written.specs.WrittenMultiIndex.{Named, chunk_table, chunks_written, hash_number, multi_bytes, multi_front}
 use Rattle.gix_multi_index_written.specs.WrittenMultiIndex.{multi_index_of_packs, name_bytes, named_seen, names_of, padded, rows_in_packs, IsMultiIndexOf, chunks_place}
-use Rattle.gix_pack_tables.specs.WrittenPack.{object_seen}
+use Rattle.gix_pack_written.specs.WrittenPack.{object_seen}
 use Rattle.gix_multi_index_written.specs.declared.writing.Chunk as kept
 use Rattle.gix_multi_index_written.specs.declared.named_pack.NamedPack as given
-use Rattle.gix_pack_tables.specs.declared.write.rows.Placed.{Placed}
+use Rattle.gix_pack_written.specs.declared.rows.Placed.{Placed}
 use Rattle.gix_multi_index_written.proofs.PlacedPackRowLemmas.{length-placed_in, pack_rows_placed}
-use Rattle.gix_pack_tables.proofs.TableLemmas.{each_of_table, is_table, length-table_of, rising-table_of}
-use Rattle.gix_pack_tables.proofs.TableLemmas.Seen.{map-table_of}
+use Rattle.gix_pack_written.proofs.TableLemmas.{each_of_table, is_table, length-table_of, rising-table_of}
+use Rattle.gix_pack_written.proofs.TableLemmas.Seen.{map-table_of}
 
 -- ---- the whole
 

@@ -12,15 +12,15 @@ use Rattle.gix_pack_tables.specs.Bytes.{long_numbers, number_at, numbers, same, 
 use Rattle.gix_multi_index.specs.MultiIndex.Chunks.{last_count_place}
 use Rattle.gix_multi_index.specs.MultiIndex.{MultiIndex, Parts, are_parts, have_lengths, multi_index_from, objects_in, offset_rows, pack_row, part_ids}
 use Rattle.gix_multi_index.specs.MultiIndex.Held.{are_names, has_offset, name_parts, offset_of_bytes}
-use Rattle.gix_pack_tables.specs.PlacedRow.{id_of, offset_of, pack_of, IsPlaced}
+use Rattle.gix_pack_written.specs.PlacedRow.{id_of, offset_of, pack_of, IsPlaced}
 use Rattle.gix_multi_index_written.specs.PlacedPackRow.{pack_row_of}
 use Rattle.gix_pack_tables.specs.Rows.{PackRow, counts_of, ids_of, is_named_below, is_rising, offset_in}
-use Rattle.gix_pack_tables.specs.WrittenTables.{is_wide, long_number_bytes, narrow_from, number_bytes}
+use Rattle.gix_pack_written.specs.WrittenTables.{is_wide, long_number_bytes, narrow_from, number_bytes}
 use Rattle.gix_multi_index_written.specs.WrittenMultiIndex.{name_bytes, needs_wide, offsets_written, pack_and_offset, padded}
-use Rattle.gix_pack_tables.specs.declared.write.rows.Placed.{Placed}
+use Rattle.gix_pack_written.specs.declared.rows.Placed.{Placed}
 use Rattle.gix_multi_index_written.proofs.WrittenChunkLemmas.{names_held, names_taken}
-use Rattle.gix_pack_tables.proofs.WrittenTableLemmas.{counts_back, ids_back, last_count, length-counts, length-ids, length-long_number_bytes}
-use Rattle.gix_pack_tables.proofs.WrittenTableLemmas.{length-narrow_from, length-number_bytes, long_numbers_back, narrow_named, narrow_small, offsets_back, same_itself, wide_small}
+use Rattle.gix_pack_written.proofs.WrittenTableLemmas.{counts_back, ids_back, last_count, length-counts, length-ids, length-long_number_bytes}
+use Rattle.gix_pack_written.proofs.WrittenTableLemmas.{length-narrow_from, length-number_bytes, long_numbers_back, narrow_named, narrow_small, offsets_back, same_itself, wide_small}
 use Rattle.gix_multi_index_written.proofs.WrittenPartsLemmas.Rows.{IsInPack, Pair, length-pairs, length-zip, pairs_back, rows_named, rows_paired}
 
 -- ---- the parts

@@ -7,9 +7,9 @@ use Rattle.odb_base.specs.Path.{name_cmp}
 use Rattle.gix_hash.specs.declared.kind.Kind.{Kind as HashKind}
 use Rattle.gix_multi_index.specs.MultiIndex.Chunks.{Chunk, multi_index_start}
 use Rattle.gix_multi_index_written.specs.WrittenMultiIndex.{Named, chunk_table, chunks_place, hash_number, named_seen, names_of, offsets_written, pack_and_offset, wide_chunk}
-use Rattle.gix_pack_tables.specs.PlacedRow.{offset_of, pack_of}
-use Rattle.gix_pack_tables.specs.WrittenTables.{is_wide, long_number_bytes, narrow_from}
-use Rattle.gix_pack_tables.specs.declared.write.rows.Placed.{Placed}
+use Rattle.gix_pack_written.specs.PlacedRow.{offset_of, pack_of}
+use Rattle.gix_pack_written.specs.WrittenTables.{is_wide, long_number_bytes, narrow_from}
+use Rattle.gix_pack_written.specs.declared.rows.Placed.{Placed}
 use Rattle.gix_multi_index_written.specs.declared.named_pack.NamedPack as given
 use Rattle.gix_multi_index_written.specs.declared.writing.Chunk as kept
 

@@ -1,11 +1,11 @@
 -- No public clause cites this module: the rows of several packs as the encoder of multi-pack indices keeps them.
 use Rattle.std.specs.Prelude.{ℕ, ◌+◌, List, [], ◌∷◌, ◌++◌, map}
 use Rattle.gix_hash.specs.declared.kind.Kind.{Kind as HashKind}
-use Rattle.gix_pack_tables.specs.PlacedRow.{id_of, placed_from}
+use Rattle.gix_pack_written.specs.PlacedRow.{id_of, placed_from}
 use Rattle.gix_pack_tables.specs.Rows.{PackRow}
-use Rattle.gix_pack_tables.specs.WrittenPack.{entries_place}
-use Rattle.gix_pack_tables.specs.WrittenTables.{table_of}
-use Rattle.gix_pack_tables.specs.declared.write.rows.Placed.{Placed}
+use Rattle.gix_pack_files.specs.Pack.{entries_place}
+use Rattle.gix_pack_written.specs.WrittenTables.{table_of}
+use Rattle.gix_pack_written.specs.declared.rows.Placed.{Placed}
 use Rattle.gix_multi_index_written.specs.declared.named_pack.NamedPack as given
 use Rattle.gix_multi_index_written.specs.WrittenMultiIndex.{Named, named_seen}
 

@@ -11,9 +11,9 @@ use Rattle.gix_pack_tables.specs.Rows.{Row, PackRow, counts_of, rows_limit}
 use Rattle.gix_multi_index.specs.MultiIndex.Chunks.{Chunk, header_len, multi_index_start, name_len, row_len}
 use Rattle.gix_multi_index.specs.MultiIndex.Held.{are_names}
 use Rattle.gix_multi_index.specs.MultiIndex.{multi_index_of}
-use Rattle.gix_pack_tables.specs.WrittenPack.{object_seen, rows_in_order}
+use Rattle.gix_pack_written.specs.WrittenPack.{object_seen, rows_in_order}
 use Rattle.gix_multi_index_written.specs.declared.named_pack.NamedPack as given
-use Rattle.gix_pack_tables.specs.WrittenTables.{IsTableOf, table_of, is_wide, narrow_from, number_bytes, long_number_bytes}
+use Rattle.gix_pack_written.specs.WrittenTables.{IsTableOf, table_of, is_wide, narrow_from, number_bytes, long_number_bytes}
 
 -- a pack that is named: the name of its index, and its objects
 pub record Named : Type 0 where

@@ -1,5 +1,5 @@
 //! A pack as the encoder of multi-pack indices is given it.
-use gix_pack_tables::Object;
+use gix_pack_written::Object;
 use odb_base::{PathName, Sequence};
 
 /// A pack to be put into a multi-pack index: the name of its index, and its objects in order.

@@ -6,19 +6,19 @@ ghost use Rattle.gix_hash.specs.ObjectId.{bytes_of};
 ghost use Rattle.gix_multi_index.specs.MultiIndex.Held.{are_names};
 ghost use Rattle.gix_multi_index_written.specs.MultiIndexChunks.{below_first, bytes_over, chunk_seen, front_with, most_chunks, names_given};
 ghost use Rattle.gix_multi_index_written.specs.MultiIndexChunks.{narrow_chunk, objects_over, offset_chunks, one_chunk, place_bytes, wide_rows_chunk, Gains};
-ghost use Rattle.gix_pack_tables.specs.PlacedRow.{id_of, offset_of, pack_of, ArePlaced, IsPlaced};
+ghost use Rattle.gix_pack_written.specs.PlacedRow.{id_of, offset_of, pack_of, ArePlaced, IsPlaced};
 ghost use Rattle.gix_multi_index_written.specs.PlacedPackRow.{pack_row_of, placed_in, rows_given};
 ghost use Rattle.gix_pack_tables.specs.Rows.{counts_of, is_rising, rows_limit};
-ghost use Rattle.gix_pack_tables.specs.WrittenTables.{narrow_from, number_bytes};
+ghost use Rattle.gix_pack_written.specs.WrittenTables.{narrow_from, number_bytes};
 ghost use Rattle.gix_multi_index_written.specs.WrittenMultiIndex.{chunk_table, chunks_place, chunks_written, hash_number, multi_index_of_packs};
 ghost use Rattle.gix_multi_index_written.specs.WrittenMultiIndex.{name_bytes, named_seen, needs_wide as need_wide, padded, CanBeWritten, IsMultiIndexOf, ReadsMultiIndex};
 
 use crate::named_pack::NamedPack;
 use gix_hash::Kind;
 use gix_multi_index::{HEADER_LEN, NAME_LEN, ROW_LEN, is_name};
-use gix_pack_tables::write::bytes::{put_hash, put_long, put_number, put_zeros};
-use gix_pack_tables::write::rows::{Placed, put_rows, table_of};
-use gix_pack_tables::write::tables::{is_wide, narrow_of, put_counts, put_ids, put_wide};
+use gix_pack_written::bytes::{put_hash, put_long, put_number, put_zeros};
+use gix_pack_written::rows::{Placed, put_rows, table_of};
+use gix_pack_written::tables::{is_wide, narrow_of, put_counts, put_ids, put_wide};
 use odb_base::{ByteList, NoMemory, PathName};
 use std::alloc::Global;
 

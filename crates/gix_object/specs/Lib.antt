@@ -3,4 +3,4 @@ pub mod Loose
 pub mod Id
 pub mod Data
 pub mod Stream
-pub mod Limit
+pub use Rattle.odb_base.specs.Limit

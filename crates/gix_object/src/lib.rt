@@ -15,12 +15,11 @@ pub mod encode;
 mod find;
 mod id;
 mod kind;
-mod limit;
 mod write;
 
 pub use data::{Data, Header};
 pub use find::{Exists, Find, FindHeader};
 pub use id::compute_hash;
 pub use kind::Kind;
-pub use limit::is_within;
+pub use odb_base::is_within;
 pub use write::{Write, WriteTo};

@@ -1,13 +1,13 @@
 pub use Rattle.gix_pack_tables.specs.Bytes
 pub use Rattle.gix_pack_tables.specs.Rows
-pub use Rattle.gix_pack_tables.specs.WrittenPack
-pub use Rattle.gix_pack_tables.specs.WrittenTables
 pub use Rattle.gix_pack_files.specs.FileBytes
 pub use Rattle.gix_pack_files.specs.Pack
-pub use Rattle.gix_pack_files.specs.ReadPack
 pub use Rattle.gix_pack_files.specs.Index
 pub use Rattle.gix_pack_files.specs.IndexRows
-pub use Rattle.gix_pack_files.specs.WrittenIndex
+pub use Rattle.gix_pack_written.specs.WrittenPack
+pub use Rattle.gix_pack_written.specs.WrittenTables
+pub use Rattle.gix_pack_written.specs.WrittenIndex
+pub use Rattle.gix_pack_written.specs.ReadPack
 pub use Rattle.gix_multi_index.specs.MultiIndex
 pub use Rattle.gix_multi_index.specs.MultiIndexRows
 pub use Rattle.gix_multi_index_written.specs.WrittenMultiIndex

@@ -10,10 +10,9 @@ use Rattle.std.proofs.Math.Nat.{pow-le-pow_right, pow-suc}
 use Rattle.std.proofs.Math.Seq.{drop-cons, drop-length}
 use Rattle.gix_hash.specs.declared.kind.Kind.{Kind}
 use Rattle.gix_pack_tables.specs.Bytes.{part, trailer_place}
-use Rattle.gix_pack_files.specs.Pack.{code_of, head_at, header_len, rest_at, size_bits, slice_at}
+use Rattle.gix_pack_files.specs.Pack.{code_of, entries_place, head_at, header_len, rest_at, size_bits, slice_at}
 use Rattle.gix_pack_files.specs.PackHead.{head_from, head_whole, sized}
 use Rattle.gix_pack_files.specs.declared.data.Error.TheVariants.{BadEntry}
-use Rattle.gix_pack_tables.specs.WrittenPack.{entries_place}
 
 -- ---- tests of numbers
 

@@ -1,9 +1,4 @@
 mod PackLemmas
-mod EntryLemmas
-mod ReadHeaderLemmas
-mod ReadBackLemmas
-mod PackExamples
+pub mod EntryLemmas
 mod IndexLemmas
 mod IndexRowsLemmas
-mod WrittenIndexLemmas
-mod IndexExamples

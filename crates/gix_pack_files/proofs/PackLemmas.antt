@@ -3,8 +3,7 @@ use Rattle.std.proofs.Common.{◌≡◌, ℕ, ◌+◌, ◌≤◌, true, List, le
 use Rattle.std.proofs.lemmas.Bool.{and_parts, leb-true}
 use Rattle.gix_hash.specs.Kind.{len_in_bytes_of}
 use Rattle.gix_hash.specs.declared.kind.Kind.{Kind}
-use Rattle.gix_pack_files.specs.Pack.{is_pack}
-use Rattle.gix_pack_tables.specs.WrittenPack.{entries_place}
+use Rattle.gix_pack_files.specs.Pack.{entries_place, is_pack}
 
 -- a pack has room for its header and its trailing hash
 pub has_room : (kind : Kind) (bytes : List ℕ) → is_pack kind bytes ≡ true → entries_place + len_in_bytes_of kind ≤ length bytes

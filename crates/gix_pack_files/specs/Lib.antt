@@ -1,12 +1,7 @@
 pub use Rattle.gix_pack_tables.specs.Bytes
 pub use Rattle.gix_pack_tables.specs.Rows
-pub use Rattle.gix_pack_tables.specs.WrittenPack
-pub use Rattle.gix_pack_tables.specs.WrittenTables
 pub mod FileBytes
 pub mod Pack
 pub mod PackHead
-pub mod ReadPack
 pub mod Index
 pub mod IndexRows
-pub mod WrittenIndex
-pub mod PlacedIndexRow

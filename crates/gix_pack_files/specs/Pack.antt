@@ -16,7 +16,6 @@ use Rattle.gix_hash.specs.declared.kind.Kind.{Kind as HashKind}
 use Rattle.gix_object.specs.declared.kind.Kind.{Kind}
 use Rattle.gix_object.specs.declared.kind.Kind.TheVariants.{Commit, Tree, Blob, Tag}
 use Rattle.gix_pack_tables.specs.Bytes.{is_within, part, number_at, trailer_place}
-use Rattle.gix_pack_tables.specs.WrittenPack.{entries_place, longest_header}
 use Rattle.gix_pack_files.specs.declared.data.entry.Header.{Header}
 use Rattle.gix_pack_files.specs.declared.data.entry.Entry as found
 use Rattle.gix_pack_files.specs.declared.data.Error.{Error}
@@ -29,6 +28,10 @@ version_place = 4
 -- where the number of objects stands: behind the version
 abbrev pub count_place : ℕ
 count_place = 8
+
+-- where the entries begin: behind `PACK`, the version and the number of objects, of four bytes each
+abbrev pub entries_place : ℕ
+entries_place = 12
 
 abbrev pub version_in : List ℕ → ℕ
 version_in bytes = number_at version_place bytes
@@ -49,6 +52,14 @@ abbrev pub rest_at : HashKind → List ℕ → ℕ → List ℕ
 rest_at kind bytes offset = drop offset (take (trailer_place kind bytes) bytes)
 
 -- ---- the header of an entry
+
+-- in how many bytes of seven bits a size is told at most: four of its 64 bits stand in the first byte of the header, and 60 are left
+abbrev pub most_size_bytes : ℕ
+most_size_bytes = 9
+
+-- how long a header is at most: its first byte, and those
+abbrev pub longest_header : ℕ
+longest_header = 10
 
 -- it ends with the first byte whose bit 7 is clear
 abbrev pub header_len : List ℕ → ℕ

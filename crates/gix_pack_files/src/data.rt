@@ -1,25 +1,24 @@
 //! Packs: the entries of objects, one behind another.
 ghost use Rattle.std.specs.Prelude.{◌≡◌, ◌≤◌, ◌↔◌, length, option_map, true, IfOk, IfErr, IsOk, IsTrue};
-ghost use Rattle.gix_pack_files.specs.Pack.{entry_at, entry_seen, head_at, header_at, is_pack, is_version as version_is_read};
+ghost use Rattle.gix_pack_files.specs.Pack.{entries_place, entry_at, entry_seen, head_at, header_at, is_pack, is_version as version_is_read};
 ghost use Rattle.gix_pack_files.specs.Pack.{kind_of_code, object_behind, objects_in, slice_at, version_in};
 ghost use Rattle.gix_pack_tables.specs.Bytes.{trailer_place};
-ghost use Rattle.gix_pack_tables.specs.WrittenPack.{entries_place};
 ghost use Rattle.gix_pack_files.specs.PackHead.{head_seen};
 
 pub mod entry;
 mod entry_head;
-mod writing;
 
 use crate::file_bytes::FileBytes;
 pub use entry::{Entry, Header};
 use entry_head::{Head, read_head};
 use gix_hash::Kind;
-use gix_pack_tables::read::bytes::{behind_first, is_within};
-use gix_pack_tables::write::entries::ENTRIES_PLACE;
+use gix_pack_tables::bytes::{behind_first, is_within};
 use odb_base::ByteList;
 use std::marker::Model;
 use thiserror::Error;
-pub use writing::encode;
+
+/// Where the entries of a pack begin: behind `PACK`, the version and the number of objects, of four bytes each.
+pub const ENTRIES_PLACE: u64 = 12;
 
 // Where the version stands: behind `PACK`.
 const VERSION_PLACE: usize = 4;

@@ -4,7 +4,7 @@ ghost use Rattle.gix_hash.specs.Kind.{len_in_bytes_of};
 ghost use Rattle.gix_pack_tables.specs.Bytes.{long_number_at, number_at as number_of, part as part_of, trailer_place as place_of_trailer};
 
 use gix_hash::Kind;
-use gix_pack_tables::read::bytes;
+use gix_pack_tables::bytes;
 use odb_base::ByteList;
 
 // A file that ends with a hash: its bytes, and the hash that its ids are of.

@@ -6,21 +6,19 @@ ghost use Rattle.gix_pack_files.specs.Index.{has_length as length_fits, ids_plac
 ghost use Rattle.gix_pack_files.specs.Index.{narrow_offsets, objects_in, offsets_place, tables_agree, wide_offsets, wides_in, wides_place};
 
 mod walk;
-mod writing;
 
 use crate::file_bytes::FileBytes;
 use gix_hash::{Kind, ObjectId, Prefix, SHA1_LEN, SHA256_LEN};
-use gix_pack_tables::read::search;
-use gix_pack_tables::read::tables::{self, HIGH_BIT, WIDE_LEN};
+use gix_pack_tables::search;
+use gix_pack_tables::tables::{self, HIGH_BIT, WIDE_LEN};
 use odb_base::ByteList;
 use std::marker::Model;
 use std::ops::Range;
 use thiserror::Error;
 pub use walk::Iter;
-pub use writing::encode;
 
 /// What each index begins with: the mark of indices that have a version, and version 2.
-const SIGNATURE: [u8; 8] = [255, 116, 79, 99, 0, 0, 0, 2];
+pub const SIGNATURE: [u8; 8] = [255, 116, 79, 99, 0, 0, 0, 2];
 
 // Where the 256 counts begin: behind the mark and the version.
 const COUNTS_PLACE: usize = 8;

@@ -1,4 +1,4 @@
-//! Packs and their indices, read from bytes and written to them.
+//! Packs and their indices, read from bytes. They are written in `gix_pack_written`.
 //!
 //! Reading takes exactly what the grammars of `specs/` allow, and keeps the bytes. What is asked of an
 //! index is answered from its rows, whatever way they are searched.

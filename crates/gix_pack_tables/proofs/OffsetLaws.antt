@@ -1,10 +1,6 @@
 -- The laws of offsets as four bytes tell them, for callers: an offset below the high bit is itself, and others name a wide one.
-use Rattle.std.proofs.Common.{◌≡◌, ℕ, ◌-◌, ◌<◌, ◌≤◌, ◌⊎◌, true, false, List, slice_index, arith}
+use Rattle.std.proofs.Common.{◌≡◌, ℕ, ◌-◌, ◌<◌, ◌≤◌, true, List, slice_index, arith}
 use Rattle.gix_pack_tables.specs.Rows.{high_bit, is_named_below, offset_in}
-use Rattle.gix_pack_tables.specs.WrittenTables.{is_wide}
-
-pub wide_or_low : (offset : ℕ) → ((is_wide offset ≡ true) × (high_bit ≤ offset)) ⊎ ((is_wide offset ≡ false) × (offset < high_bit))
-wide_or_low offset = grind arith
 
 pub offset_in-low : (wides : List ℕ) (narrow : ℕ) → narrow < high_bit → offset_in wides narrow ≡ narrow
 offset_in-low wides narrow low = grind arith

@@ -4,7 +4,7 @@ use Rattle.std.specs.Int.{w32, w64, from_be_bytes}
 use lib.Pointwise.{pointwise}
 use Rattle.gix_hash.specs.Kind.{len_in_bytes_of}
 use Rattle.gix_hash.specs.declared.kind.Kind.{Kind}
-pub use Rattle.gix_object.specs.Limit.{is_within}
+pub use Rattle.odb_base.specs.Limit.{is_within}
 
 -- whether two lists have the same bytes
 abbrev pub same : List ℕ → List ℕ → Bool

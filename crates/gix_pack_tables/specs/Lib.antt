@@ -1,5 +1,2 @@
 pub mod Bytes
 pub mod Rows
-pub mod WrittenPack
-pub mod WrittenTables
-pub mod PlacedRow

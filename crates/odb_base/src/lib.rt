@@ -1,5 +1,5 @@
 //! What every crate of the object database stands on: the error for want of memory, lists of bytes and of
-//! other items, paths, numbers as texts, and the words that tie an answer to a count of faults.
+//! other items, paths, numbers as texts, limits of sizes, and the words that tie an answer to a count of faults.
 //!
 //! A call that takes memory is passed the allocator, and answers `NoMemory` where there is none left.
 //! A list of bytes is seen by a contract as that list, whatever room it has.
@@ -12,6 +12,7 @@
 mod bad_path;
 mod byte_list;
 mod decimal;
+mod limit;
 mod no_memory;
 mod path;
 mod path_name;
@@ -20,6 +21,7 @@ mod sequence;
 pub use bad_path::BadPath;
 pub use byte_list::ByteList;
 pub use decimal::parse_decimal;
+pub use limit::is_within;
 pub use no_memory::NoMemory;
 pub use path::PathText;
 pub use path_name::PathName;

@@ -9,8 +9,7 @@ use gix_hash::Kind;
 use gix_multi_index_written as multi_index;
 use gix_multi_index_written::NamedPack;
 use gix_object::encode;
-use gix_pack_files::{data, index};
-use gix_pack_tables::Object;
+use gix_pack_written::{Object, data, index};
 use odb_base::{ByteList, NoMemory};
 use std::alloc::Global;
 

@@ -8,7 +8,7 @@ use crate::split::{at_colon, at_equals, parts_of};
 use gix_multi_index_written as multi_index;
 use gix_multi_index_written::NamedPack;
 use gix_object::Kind;
-use gix_pack_tables::Object;
+use gix_pack_written::Object;
 use odb_base::{ByteList, NoMemory, PathName, Sequence};
 use std::alloc::Global;
 

@@ -9,14 +9,15 @@ use Rattle.gix_hash.specs.declared.kind.Kind.{Kind}
 use Rattle.gix_multi_index.specs.MultiIndex.Chunks.{Chunk}
 use Rattle.gix_multi_index.specs.MultiIndex.Held.{are_names, is_index_name}
 use Rattle.gix_multi_index_written.specs.MultiIndexChunks.{below_first, bytes_over, chunk_seen}
-use Rattle.gix_pack_tables.specs.PlacedRow.{offset_of, pack_of, placed_from}
+use Rattle.gix_pack_written.specs.PlacedRow.{offset_of, pack_of, placed_from}
 use Rattle.gix_multi_index_written.specs.PlacedPackRow.{placed_in}
-use Rattle.gix_pack_tables.specs.WrittenTables.{is_wide, narrow_from}
+use Rattle.gix_pack_written.specs.WrittenTables.{is_wide, narrow_from}
 use Rattle.gix_multi_index_written.specs.WrittenMultiIndex.{chunk_table, chunks_place, name_bytes, named_seen, names_of, needs_wide, pack_and_offset}
-use Rattle.gix_pack_tables.specs.WrittenPack.{entries_place, object_seen}
+use Rattle.gix_pack_files.specs.Pack.{entries_place}
+use Rattle.gix_pack_written.specs.WrittenPack.{object_seen}
 use Rattle.gix_multi_index_written.specs.declared.writing.Chunk as kept
 use Rattle.gix_multi_index_written.specs.declared.named_pack.NamedPack as given
-use Rattle.gix_pack_tables.specs.declared.write.rows.Placed.{Placed}
+use Rattle.gix_pack_written.specs.declared.rows.Placed.{Placed}
 use Rattle.gix_multi_index_written.proofs.WrittenMultiIndexLemmas.{names_more, no_names}
 
 -- ---- loops

@@ -9,12 +9,12 @@ use Rattle.gix_hash.specs.declared.kind.Kind.{Kind}
 use Rattle.gix_pack_tables.specs.Bytes.{number_at, table}
 use Rattle.gix_multi_index.specs.MultiIndex.Held.{has_offset, offset_of_bytes}
 use Rattle.gix_multi_index.specs.MultiIndex.{pack_row}
-use Rattle.gix_pack_tables.specs.PlacedRow.{id_of, offset_of, pack_of, IsPlaced}
+use Rattle.gix_pack_written.specs.PlacedRow.{id_of, offset_of, pack_of, IsPlaced}
 use Rattle.gix_multi_index_written.specs.PlacedPackRow.{pack_row_of}
 use Rattle.gix_pack_tables.specs.Rows.{PackRow}
 use Rattle.gix_multi_index_written.specs.WrittenMultiIndex.{pack_and_offset}
-use Rattle.gix_pack_tables.specs.declared.write.rows.Placed.{Placed}
-use Rattle.gix_pack_tables.proofs.WrittenTableLemmas.{length_flat, table_back}
+use Rattle.gix_pack_written.specs.declared.rows.Placed.{Placed}
+use Rattle.gix_pack_written.proofs.WrittenTableLemmas.{length_flat, table_back}
 
 -- ---- rows of packs and offsets
 

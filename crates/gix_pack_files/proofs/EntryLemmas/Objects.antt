@@ -5,13 +5,12 @@ use Rattle.std.proofs.lemmas.Bool.{and_parts, cases_lt, le-ltb, leb-true, lt-ltb
 use Rattle.gix_hash.specs.declared.kind.Kind.{Kind}
 use Rattle.gix_pack_tables.specs.Bytes.{is_within, part, trailer_place}
 use Rattle.gix_object.specs.declared.kind.Kind.{Kind as ObjectKind}
-use Rattle.gix_pack_files.specs.Pack.{Head, begins_with_header, head_at, head_of, header_at, header_len, kind_of_code, object_behind, rest_at}
+use Rattle.gix_pack_files.specs.Pack.{Head, begins_with_header, entries_place, head_at, head_of, header_at, header_len, kind_of_code, object_behind, rest_at}
 use Rattle.gix_pack_files.specs.PackHead.{head_from}
 use Rattle.gix_pack_files.specs.declared.data.Error.{Error}
 use Rattle.gix_pack_files.specs.declared.data.Error.TheVariants.{BadEntry, OutOfMemory}
 use Rattle.gix_pack_files.specs.declared.data.entry.Header.{Header}
 use Rattle.gix_pack_files.proofs.EntryLemmas.{head_before, head_behind, head_within}
-use Rattle.gix_pack_tables.specs.WrittenPack.{entries_place}
 
 -- ---- the object behind a header
 

@@ -1,13 +1,14 @@
 //! The header of an entry, read from the bytes that begin with it.
 ghost use Rattle.std.specs.Prelude.{◌≡◌, ◌<◌, ◌≤◌, length, nat_lt, IfSome};
 ghost use Rattle.std.specs.List.{position};
-ghost use Rattle.gix_pack_tables.specs.WrittenPack.{longest_header, most_size_bytes};
-ghost use Rattle.gix_pack_files.specs.Pack.{size_bits};
+ghost use Rattle.gix_pack_files.specs.Pack.{longest_header, most_size_bytes, size_bits};
 ghost use Rattle.gix_pack_files.specs.PackHead.{head_from, head_seen, head_whole};
 
 use super::Error;
-use gix_pack_tables::read::bytes::{behind_first, part_of};
-use gix_pack_tables::write::entries::LONGEST_HEADER;
+use gix_pack_tables::bytes::{behind_first, part_of};
+
+// How long a header is at most: a first byte with four bits of the size, and nine with seven each.
+const LONGEST_HEADER: usize = 10;
 
 // A size below 2^64 has four bits in the first byte, and a number below this in the others.
 const HIGH_LIMIT: u64 = 1 << 60;

@@ -2,9 +2,9 @@
 use Rattle.std.proofs.Common.{List, map, ap, subst, ◌∙◌}
 use Rattle.std.specs.List.{AllByRecursion}
 use Rattle.gix_multi_index_written.specs.PlacedPackRow.{pack_row_of}
-use Rattle.gix_pack_tables.specs.PlacedRow.{IsPlaced}
+use Rattle.gix_pack_written.specs.PlacedRow.{IsPlaced}
 use Rattle.gix_multi_index_written.specs.WrittenMultiIndex.{chunks_written, named_seen, names_of}
-use Rattle.gix_pack_tables.specs.declared.write.rows.Placed.{Placed}
+use Rattle.gix_pack_written.specs.declared.rows.Placed.{Placed}
 use Rattle.gix_multi_index_written.proofs.WrittenMultiIndexLemmas.{multi_each, multi_few, multi_rising, multi_rows_are}
 use Rattle.gix_multi_index_written.proofs.writing.chunks_of_packs.Goals as goal
 

@@ -1,5 +1,5 @@
 use Rattle.std.proofs.Common.{◌≡◌, drop, map}
-use Rattle.gix_pack_tables.specs.PlacedRow.{offset_of}
+use Rattle.gix_pack_written.specs.PlacedRow.{offset_of}
 use Rattle.gix_multi_index_written.specs.WrittenMultiIndex.{needs_wide}
 use Rattle.gix_multi_index_written.proofs.writing.needs_wide.Given as goal
 

@@ -1,9 +1,9 @@
 -- The counts are put into an empty list.
 use Rattle.std.proofs.Common.{List, ℕ, ◌++◌, map, ap, ◌∙◌, codes}
 use Rattle.gix_multi_index_written.specs.MultiIndexChunks.{chunk_seen, one_chunk}
-use Rattle.gix_pack_tables.specs.PlacedRow.{id_of}
+use Rattle.gix_pack_written.specs.PlacedRow.{id_of}
 use Rattle.gix_pack_tables.specs.Rows.{counts_of}
-use Rattle.gix_pack_tables.specs.WrittenTables.{number_bytes}
+use Rattle.gix_pack_written.specs.WrittenTables.{number_bytes}
 use Rattle.gix_multi_index_written.proofs.writing.push_counts.Goals as goal
 
 pub returns-clause-chunk : goal.returns-clause-chunk

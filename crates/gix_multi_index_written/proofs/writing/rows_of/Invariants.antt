@@ -1,7 +1,7 @@
 use Rattle.std.proofs.Common.{◌≡◌, ◌++◌, map, drop}
 use Rattle.std.specs.List.{AllByRecursion}
 use Rattle.gix_multi_index_written.specs.PlacedPackRow.{placed_in}
-use Rattle.gix_pack_tables.specs.PlacedRow.{IsPlaced}
+use Rattle.gix_pack_written.specs.PlacedRow.{IsPlaced}
 use Rattle.gix_multi_index_written.specs.WrittenMultiIndex.{named_seen}
 use Rattle.gix_multi_index_written.proofs.writing.rows_of.Given as goal
 

@@ -1,0 +1,10 @@
+pub mod WrittenPackLemmas
+pub mod PlacedLemmas
+pub mod TableLemmas
+pub mod WrittenTableLemmas
+mod ReadHeaderLemmas
+mod ReadBackLemmas
+mod PackExamples
+mod WrittenIndexLemmas
+mod IndexExamples
+pub mod ExampleIds

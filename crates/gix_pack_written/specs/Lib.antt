@@ -1,0 +1,7 @@
+-- What is written for objects, their pack and its index, and what is read back of it; then the rows as the encoders keep them.
+pub mod WrittenPack
+pub mod WrittenTables
+pub mod WrittenIndex
+pub mod ReadPack
+pub mod PlacedRow
+pub mod PlacedIndexRow
