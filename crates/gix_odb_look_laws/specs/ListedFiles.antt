@@ -2,12 +2,12 @@
 use Rattle.std.specs.Prelude.{◌≡◌, ◌&&◌, ◌++◌, Bool, true, false, List, [], ◌∷◌, Option, Some, None, Result, Ok, Err}
 use Rattle.std.specs.List.{filter, filter_map}
 use Rattle.odb_base.specs.Path.{Path}
-use Rattle.odb_tree.specs.Entries.{opened}
-use Rattle.odb_tree.specs.Tree.{Tree}
-use Rattle.odb_tree.specs.Tree.Follow.{Refusal, looked}
-use Rattle.odb_tree.specs.declared.disk_error.DiskError.TheVariants as disk_errors
-use Rattle.odb_tree.specs.declared.entry.Entry.{Entry}
-use Rattle.odb_tree.specs.declared.meta.Meta.{Meta}
+use Rattle.odb_nodes.specs.Entries.{opened}
+use Rattle.odb_nodes.specs.Tree.{Tree}
+use Rattle.odb_nodes.specs.Tree.Follow.{Refusal, looked}
+use Rattle.odb_nodes.specs.declared.disk_error.DiskError.TheVariants as disk_errors
+use Rattle.odb_nodes.specs.declared.entry.Entry.{Entry}
+use Rattle.odb_nodes.specs.declared.meta.Meta.{Meta}
 use Rattle.odb_disk.specs.Ask.{answer_of, dir_answer}
 use Rattle.odb_disk.specs.declared.ask.DiskAnswer.{DiskAnswer}
 use Rattle.odb_disk.specs.declared.ask.DiskAnswer.TheVariants as answers

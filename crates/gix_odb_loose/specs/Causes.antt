@@ -20,7 +20,7 @@ use Rattle.gix_odb_loose.specs.declared.write.Error.TheVariants as write_errors
 use Rattle.gix_odb_loose.specs.declared.write.Message.{Message}
 use Rattle.gix_odb_loose.specs.declared.write.Message.TheVariants as messages
 use Rattle.odb_base.specs.Path.{Path}
-use Rattle.odb_tree.specs.Tree.Follow.{WrongKind, LinkLoop}
+use Rattle.odb_nodes.specs.Tree.Follow.{WrongKind, LinkLoop}
 use Rattle.gix_object.specs.Limit.{is_within}
 use Rattle.gix_object.specs.Loose.{IsLoose}
 use Rattle.gix_object.specs.declared.kind.Kind.{Kind}

@@ -5,7 +5,7 @@ pub mod AtStage
 pub mod SameAsks
 pub mod Standing
 use Rattle.std.specs.Prelude.{◌≡◌, ◌⊎◌, ℕ, List, Option, Some, None, Result, Ok, Err}
-use Rattle.odb_tree.specs.Tree.{State}
+use Rattle.odb_nodes.specs.Tree.{State}
 use Rattle.gix_hash.specs.declared.object_id.ObjectId.{ObjectId}
 use Rattle.gix_odb_loose.specs.WriteOrder.{error_from}
 use Rattle.gix_odb_loose.specs.declared.write_streamed.StreamJob.{StreamJob}

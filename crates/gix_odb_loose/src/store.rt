@@ -1,8 +1,8 @@
 //! A folder of loose objects as a value, and its calls that find.
 ghost use Rattle.std.specs.Prelude.{◌≡◌, ◌≤◌, ◌↔◌, true, [], None, IfOk, IfErr, IfSome, OnErr, IsTrue};
 ghost use Rattle.odb_base.specs.Faults.{Rose};
-ghost use Rattle.odb_tree.specs.Tree.{tree_of};
-ghost use Rattle.odb_tree.specs.Tree.Follow.{looked, read_of};
+ghost use Rattle.odb_nodes.specs.Tree.{tree_of};
+ghost use Rattle.odb_nodes.specs.Tree.Follow.{looked, read_of};
 ghost use Rattle.odb_disk.specs.Ask.{AnswersAsk, meta_answer, file_answer};
 ghost use Rattle.gix_hash.specs.ObjectId.{kind_of};
 ghost use Rattle.gix_object.specs.Data.{found_of};

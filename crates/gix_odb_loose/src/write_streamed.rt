@@ -2,7 +2,7 @@
 //! between two turns a write stands at a stage that asks the disk.
 ghost use Rattle.std.specs.Prelude.{◌≡◌, ◌<◌, ◌≤◌, ◌++◌, ℕ, List, [], length, nat_lt, false, Option, IfOk, OnOk, Some, None};
 ghost use Rattle.odb_disk.specs.StreamAsks.{is_of_streams};
-ghost use Rattle.odb_tree.specs.Tree.{State};
+ghost use Rattle.odb_nodes.specs.Tree.{State};
 ghost use Rattle.gix_odb_loose.specs.WriteOrder.{write_ask};
 ghost use Rattle.gix_odb_loose.specs.WriteOrder.{temp_path as temp_path_of};
 ghost use Rattle.gix_odb_loose.specs.declared.write_order.WriteHead.{WriteHead as head_of_write};

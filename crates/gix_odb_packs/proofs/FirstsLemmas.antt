@@ -10,7 +10,7 @@ use Rattle.std.specs.Cmp.Lexicographic.{texts_ties}
 use Rattle.std.proofs.lemmas.Bool.{cases_Bool, cond-true, cond-false, not-true, not-false}
 use Rattle.std.proofs.lemmas.List.{drop_more, map-append}
 use Rattle.odb_base.specs.Path.{Name, name_cmp, same_name}
-use Rattle.odb_tree.specs.declared.entry.Entry.{Entry}
+use Rattle.odb_nodes.specs.declared.entry.Entry.{Entry}
 use Rattle.gix_odb_packs.specs.PackFolder.{firsts_without}
 
 abbrev names_of : List (Bor Name) → List Name

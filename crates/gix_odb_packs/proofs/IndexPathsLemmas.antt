@@ -4,7 +4,7 @@ use denote.Ref.{Bor}
 use Rattle.std.specs.List.{filter}
 use Rattle.std.proofs.lemmas.List.{map-append}
 use Rattle.odb_base.specs.Path.{Path}
-use Rattle.odb_tree.specs.declared.entry.Entry.{Entry}
+use Rattle.odb_nodes.specs.declared.entry.Entry.{Entry}
 use Rattle.gix_odb_packs.specs.PackFolder.{is_index_entry}
 
 abbrev path_in : Path → Entry → Path

@@ -5,11 +5,11 @@ use Rattle.odb_disk.specs.declared.ask.DiskAsk.{DiskAsk}
 use Rattle.odb_disk.specs.declared.ask.DiskAsk.TheVariants as asks
 use Rattle.odb_disk.specs.declared.ask.DiskAnswer.{DiskAnswer}
 use Rattle.odb_disk.specs.declared.ask.DiskAnswer.TheVariants as answers
-use Rattle.odb_tree.specs.declared.disk_error.DiskError.TheVariants as disk_errors
-use Rattle.odb_tree.specs.declared.entry.Entry.{Entry}
-use Rattle.odb_tree.specs.declared.meta.Kind.TheVariants as kinds
-use Rattle.odb_tree.specs.declared.meta.Kind.{Kind}
-use Rattle.odb_tree.specs.declared.meta.Meta.{Meta}
+use Rattle.odb_nodes.specs.declared.disk_error.DiskError.TheVariants as disk_errors
+use Rattle.odb_nodes.specs.declared.entry.Entry.{Entry}
+use Rattle.odb_nodes.specs.declared.meta.Kind.TheVariants as kinds
+use Rattle.odb_nodes.specs.declared.meta.Kind.{Kind}
+use Rattle.odb_nodes.specs.declared.meta.Meta.{Meta}
 use Rattle.gix_odb_slots.specs.PackPath.{pack_path}
 use Rattle.gix_odb_slots.specs.declared.listing.ListingRow.{ListingRow}
 use Rattle.gix_odb_packs.specs.PackFolder.{index_paths, pack_folder}

@@ -2,9 +2,9 @@
 use Rattle.std.specs.Prelude.{◌++◌, ◌&&◌, Bool, true, false, List, [], ◌∷◌, length, map, filter, codes, nat_eq, nat_lt, if◌then◌else◌}
 use Rattle.std.specs.List.{ends_with, list_any}
 use Rattle.odb_base.specs.Path.{Name, Path, is_name, same_name}
-use Rattle.odb_tree.specs.declared.entry.Entry.{Entry}
-use Rattle.odb_tree.specs.declared.meta.Kind.{Kind}
-use Rattle.odb_tree.specs.declared.meta.Kind.TheVariants.{File}
+use Rattle.odb_nodes.specs.declared.entry.Entry.{Entry}
+use Rattle.odb_nodes.specs.declared.meta.Kind.{Kind}
+use Rattle.odb_nodes.specs.declared.meta.Kind.TheVariants.{File}
 
 -- the folder of a store's folder that packs stand in
 abbrev pub pack_folder : Path → Path

@@ -11,7 +11,7 @@ use Rattle.odb_base.specs.Path.{Path}
 use Rattle.odb_disk.specs.Ask.{change_of_ask}
 use Rattle.odb_disk.specs.declared.ask.DiskAsk.{DiskAsk}
 use Rattle.odb_disk.specs.declared.ask.DiskAsk.TheVariants as disk_asks
-use Rattle.odb_tree.specs.Tree.{Tree}
+use Rattle.odb_nodes.specs.Tree.{Tree}
 use Rattle.gix_hash.specs.declared.kind.Kind.{Kind as HashKind}
 use Rattle.gix_odb_slots.specs.Slots.{same_path}
 use Rattle.gix_odb_slots.specs.declared.listing.Listing.{Listing}

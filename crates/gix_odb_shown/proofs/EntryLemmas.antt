@@ -5,16 +5,16 @@ use Rattle.std.specs.Option.{option_map}
 use Rattle.std.specs.Ordering.{eq_by_cmp}
 use Rattle.std.specs.FinMap.{find}
 use Rattle.odb_base.specs.Path.{Name, Path, path_cmp}
-use Rattle.odb_tree.specs.Tree.{Tree, node_at}
-use Rattle.odb_tree.specs.Tree.Nodes.{entries_of, node_at-entries_of}
-use Rattle.odb_tree.specs.Tree.Follow.{Pass, Reached, Onward, Missing, Blocked, pass, past, beyond, at_last, ending, Place, Refusal, LinkLoop, arrives, followed_within, followed, most_links, file_of_place, read_of}
-use Rattle.odb_tree.specs.Entries.{entry_of, entry_in, entries_in, entries_at, entries_at_place, opened}
-use Rattle.odb_tree.specs.declared.entry.Entry.{Entry}
-use Rattle.odb_tree.specs.declared.node.Node.{Node}
-use Rattle.odb_tree.specs.declared.node.Content.{Content}
-use Rattle.odb_tree.specs.declared.node.Content.TheVariants.{File, Dir, Link}
-use Rattle.odb_tree.proofs.TreeLemmas.{same_path}
-use Rattle.odb_tree.proofs.TreeLemmas.Change.{name_in-push}
+use Rattle.odb_nodes.specs.Tree.{Tree, node_at}
+use Rattle.odb_nodes.specs.Tree.Nodes.{entries_of, node_at-entries_of}
+use Rattle.odb_nodes.specs.Tree.Follow.{Pass, Reached, Onward, Missing, Blocked, pass, past, beyond, at_last, ending, Place, Refusal, LinkLoop, arrives, followed_within, followed, most_links, file_of_place, read_of}
+use Rattle.odb_nodes.specs.Entries.{entry_of, entry_in, entries_in, entries_at, entries_at_place, opened}
+use Rattle.odb_nodes.specs.declared.entry.Entry.{Entry}
+use Rattle.odb_nodes.specs.declared.node.Node.{Node}
+use Rattle.odb_nodes.specs.declared.node.Content.{Content}
+use Rattle.odb_nodes.specs.declared.node.Content.TheVariants.{File, Dir, Link}
+use Rattle.odb_nodes.proofs.TreeLemmas.{same_path}
+use Rattle.odb_nodes.proofs.TreeLemmas.Change.{name_in-push}
 use Rattle.gix_odb_shown.specs.Files.{IsIn, listed}
 use Rattle.gix_odb_shown.proofs.ListLemmas.{in_filter_map}
 

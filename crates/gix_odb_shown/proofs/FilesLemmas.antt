@@ -5,11 +5,11 @@ use Rattle.std.specs.Ordering.{eq_by_cmp}
 use Rattle.std.specs.FinSet as set
 use Rattle.odb_base.specs.Path.{Name, Path, path_cmp}
 use Rattle.odb_base.specs.PathLaws.{path_order}
-use Rattle.odb_tree.specs.Tree.{Tree}
-use Rattle.odb_tree.specs.Tree.Follow.{Refusal, read_of}
-use Rattle.odb_tree.specs.Entries.{entry_of}
-use Rattle.odb_tree.specs.declared.entry.Entry.{Entry}
-use Rattle.odb_tree.proofs.TreeLemmas.{same_path, own_path}
+use Rattle.odb_nodes.specs.Tree.{Tree}
+use Rattle.odb_nodes.specs.Tree.Follow.{Refusal, read_of}
+use Rattle.odb_nodes.specs.Entries.{entry_of}
+use Rattle.odb_nodes.specs.declared.entry.Entry.{Entry}
+use Rattle.odb_nodes.proofs.TreeLemmas.{same_path, own_path}
 use Rattle.gix_odb_shown.specs.Watched.{Shows, pack_directory, watched_kind, counted}
 use Rattle.gix_odb_shown.specs.Kept.{Folders, ShowsInOne}
 use Rattle.gix_odb_shown.specs.Files.{IsIn, Reveals, file_read, files_at, files_in, listed}

@@ -7,7 +7,7 @@ use Rattle.std.specs.Ordering.{eq_by_cmp}
 use Rattle.std.proofs.lemmas.Bool.{false≢true, cases_lt}
 use Rattle.odb_base.specs.Path.{Path, path_cmp}
 use Rattle.odb_base.specs.PathLaws.{path_order}
-use Rattle.odb_tree.specs.Tree.{Tree}
+use Rattle.odb_nodes.specs.Tree.{Tree}
 use Rattle.gix_odb_shown.specs.Watched.{Shows}
 use Rattle.gix_odb_shown.specs.Kept.{Kept, Folders, key_cmp, ShowsInOne, IsSecond, Notes, Fits, nothing_kept}
 use Rattle.gix_odb_shown.specs.HasShown.{Since, AreBegun, with_since, HasShown, ShowsSecond, Keeps}

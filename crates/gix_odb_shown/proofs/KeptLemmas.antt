@@ -12,9 +12,9 @@ use Rattle.std.proofs.lemmas.Bool.{false≢true, or_right, or_cases, cases_Bool}
 use Rattle.odb_base.specs.Path.{Name, Path, path_cmp, same_name}
 use Rattle.odb_base.specs.PathLaws.{one_place, path_order, parent_of-push}
 use Rattle.odb_base.specs.Path.{parent_of}
-use Rattle.odb_tree.specs.Tree.{Tree}
-use Rattle.odb_tree.specs.Tree.Follow.{Refusal}
-use Rattle.odb_tree.proofs.TreeLemmas.{same_path, own_path}
+use Rattle.odb_nodes.specs.Tree.{Tree}
+use Rattle.odb_nodes.specs.Tree.Follow.{Refusal}
+use Rattle.odb_nodes.proofs.TreeLemmas.{same_path, own_path}
 use Rattle.gix_odb_shown.specs.Watched.{Shows, pack_directory}
 use Rattle.gix_odb_shown.specs.Plain.{ArePlain, IsPlain}
 use Rattle.gix_odb_shown.specs.Kept.{Kept, Contents, Folders, key_cmp, ShowsInOne, IsSecond, Notes, LiesInOne, Fits, nothing_kept}

@@ -5,19 +5,19 @@ use Rattle.std.specs.FinSet as set
 use Rattle.std.proofs.lemmas.Bool.{false≢true, not-true, false_from_ne_true, or_cases}
 use Rattle.odb_base.specs.Path.{Name, Path, parent_of, same_name}
 use Rattle.odb_base.specs.PathLaws.{goes_beyond, lies_below, parent_of-nothing, parent_of-push, parent_of-some}
-use Rattle.odb_tree.specs.Tree.{Tree, is_directory, node_at}
-use Rattle.odb_tree.specs.Tree.Follow.{Pass, Reached, Onward, Missing, Blocked, Refusal, Absent, at_last, ending, file_of, file_of_place, followed, most_links, pass, read_of}
-use Rattle.odb_tree.specs.Tree.Way.{is_link, is_link_content, on_way, ways_onward, ways_within}
-use Rattle.odb_tree.specs.Entries.{entry_of, kind_of}
-use Rattle.odb_tree.specs.Tree.Change.{is_possible_in}
-use Rattle.odb_tree.specs.declared.change.Change.TheVariants.{PutFile}
-use Rattle.odb_tree.specs.declared.node.Content.{Content}
-use Rattle.odb_tree.specs.declared.node.Content.TheVariants.{File, Dir, Link}
-use Rattle.odb_tree.specs.declared.node.Node.{Node}
-use Rattle.odb_tree.proofs.TreeLemmas.Change.{lies_in-push, split_last}
-use Rattle.odb_tree.proofs.TreeLemmas.Follow.{IsDir, IsDir-from, followed_missing, followed_reached, pass_ends, pass_further}
-use Rattle.odb_tree.proofs.TreeLemmas.Possible.{can_put_file}
-use Rattle.odb_tree.specs.declared.entry.Entry.{Entry}
+use Rattle.odb_nodes.specs.Tree.{Tree, is_directory, node_at}
+use Rattle.odb_nodes.specs.Tree.Follow.{Pass, Reached, Onward, Missing, Blocked, Refusal, Absent, at_last, ending, file_of, file_of_place, followed, most_links, pass, read_of}
+use Rattle.odb_nodes.specs.Tree.Way.{is_link, is_link_content, on_way, ways_onward, ways_within}
+use Rattle.odb_nodes.specs.Entries.{entry_of, kind_of}
+use Rattle.odb_nodes.specs.Tree.Change.{is_possible_in}
+use Rattle.odb_nodes.specs.declared.change.Change.TheVariants.{PutFile}
+use Rattle.odb_nodes.specs.declared.node.Content.{Content}
+use Rattle.odb_nodes.specs.declared.node.Content.TheVariants.{File, Dir, Link}
+use Rattle.odb_nodes.specs.declared.node.Node.{Node}
+use Rattle.odb_nodes.proofs.TreeLemmas.Change.{lies_in-push, split_last}
+use Rattle.odb_nodes.proofs.TreeLemmas.Follow.{IsDir, IsDir-from, followed_missing, followed_reached, pass_ends, pass_further}
+use Rattle.odb_nodes.proofs.TreeLemmas.Possible.{can_put_file}
+use Rattle.odb_nodes.specs.declared.entry.Entry.{Entry}
 use Rattle.gix_odb_shown.specs.Plain.{AreDirectories, ArePlain, IsPlain}
 use Rattle.gix_odb_shown.specs.Files.{IsIn, listed}
 use Rattle.gix_odb_shown.specs.Seen.{is_link_kind, is_some_kind, is_watched_link}

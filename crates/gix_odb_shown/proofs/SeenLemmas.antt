@@ -5,21 +5,21 @@ use Rattle.std.specs.Option.{option_map}
 use Rattle.std.specs.FinSet as set
 use Rattle.std.proofs.lemmas.Bool.{false≢true, false_from_ne_true, or_from}
 use Rattle.odb_base.specs.Path.{Name, Path, last_name, same_name}
-use Rattle.odb_tree.specs.Tree.{Tree, node_at}
-use Rattle.odb_tree.specs.Tree.Follow.{Absent, Refusal, file_of, read_of}
-use Rattle.odb_tree.specs.Tree.Change.{changed, put_node, put_over}
-use Rattle.odb_tree.specs.Tree.Way.{is_link, is_link_content}
-use Rattle.odb_tree.specs.Tree.Write as writing
-use Rattle.odb_tree.specs.Tree.Write.{and_then, change_of_append, file_spot}
-use Rattle.odb_tree.specs.declared.change.Change.{Change}
-use Rattle.odb_tree.specs.declared.change.Change.TheVariants.{PutFile, MakeDir, PutLink, Rename, Append, Remove, SetTime}
-use Rattle.odb_tree.specs.declared.node.Content.{Content}
-use Rattle.odb_tree.specs.declared.node.Content.TheVariants.{File, Dir, Link}
-use Rattle.odb_tree.specs.declared.node.Node.{Node}
-use Rattle.odb_tree.proofs.TreeLemmas.{node_at-put, node_at-taken, other_path}
-use Rattle.odb_tree.proofs.TreeLemmas.Change.{made-put_file, made-remove}
-use Rattle.odb_tree.proofs.TreeLemmas.Write.{file_at}
-use Rattle.odb_tree.proofs.WriteLaws.{at_place, touches}
+use Rattle.odb_nodes.specs.Tree.{Tree, node_at}
+use Rattle.odb_nodes.specs.Tree.Follow.{Absent, Refusal, file_of, read_of}
+use Rattle.odb_nodes.specs.Tree.Change.{changed, put_node, put_over}
+use Rattle.odb_nodes.specs.Tree.Way.{is_link, is_link_content}
+use Rattle.odb_nodes.specs.Tree.Write as writing
+use Rattle.odb_nodes.specs.Tree.Write.{and_then, change_of_append, file_spot}
+use Rattle.odb_nodes.specs.declared.change.Change.{Change}
+use Rattle.odb_nodes.specs.declared.change.Change.TheVariants.{PutFile, MakeDir, PutLink, Rename, Append, Remove, SetTime}
+use Rattle.odb_nodes.specs.declared.node.Content.{Content}
+use Rattle.odb_nodes.specs.declared.node.Content.TheVariants.{File, Dir, Link}
+use Rattle.odb_nodes.specs.declared.node.Node.{Node}
+use Rattle.odb_nodes.proofs.TreeLemmas.{node_at-put, node_at-taken, other_path}
+use Rattle.odb_nodes.proofs.TreeLemmas.Change.{made-put_file, made-remove}
+use Rattle.odb_nodes.proofs.TreeLemmas.Write.{file_at}
+use Rattle.odb_nodes.proofs.WriteLaws.{at_place, touches}
 use Rattle.gix_odb_shown.specs.Watched.{counted, pack_directory, watched_kind}
 use Rattle.gix_odb_shown.specs.Plain.{ArePlain}
 use Rattle.gix_odb_shown.specs.Kept.{Folders, ShowsInOne}

@@ -6,15 +6,15 @@ use Rattle.std.specs.Cmp.Lexicographic.{bytes_decides}
 use Rattle.std.proofs.lemmas.Bool.{and_parts, false≢true, false_from_ne_true}
 use Rattle.odb_base.specs.Path.{Name, Path, last_name, parent_of, same_name}
 use Rattle.odb_base.specs.PathLaws.{parent_of-push, parent_of-some}
-use Rattle.odb_tree.specs.Tree.{Tree, is_directory, node_at}
-use Rattle.odb_tree.specs.Tree.Follow.{read_of}
-use Rattle.odb_tree.specs.Tree.Change.{changed}
-use Rattle.odb_tree.specs.Tree.Way.{is_link}
-use Rattle.odb_tree.specs.declared.change.Change.{Change}
-use Rattle.odb_tree.proofs.TreeLemmas.{cases_path}
-use Rattle.odb_tree.proofs.TreeLemmas.Moved.{begins-append, begins-own}
-use Rattle.odb_tree.proofs.WayLaws.{read_kept, same_untouched}
-use Rattle.odb_tree.proofs.WriteLaws.{touches, untouched}
+use Rattle.odb_nodes.specs.Tree.{Tree, is_directory, node_at}
+use Rattle.odb_nodes.specs.Tree.Follow.{read_of}
+use Rattle.odb_nodes.specs.Tree.Change.{changed}
+use Rattle.odb_nodes.specs.Tree.Way.{is_link}
+use Rattle.odb_nodes.specs.declared.change.Change.{Change}
+use Rattle.odb_nodes.proofs.TreeLemmas.{cases_path}
+use Rattle.odb_nodes.proofs.TreeLemmas.Moved.{begins-append, begins-own}
+use Rattle.odb_nodes.proofs.WayLaws.{read_kept, same_untouched}
+use Rattle.odb_nodes.proofs.WriteLaws.{touches, untouched}
 use Rattle.gix_odb_shown.specs.Watched.{pack_directory, watched_kind}
 use Rattle.gix_odb_shown.specs.Plain.{ArePlain}
 use Rattle.gix_odb_shown.specs.Kept.{Folders, ShowsInOne}

@@ -4,10 +4,10 @@ use Rattle.std.specs.Result.{result_ok}
 use Rattle.std.specs.List.{flat_map}
 use Rattle.std.specs.FinMap as finite
 use Rattle.odb_base.specs.Path.{Name, Path, same_name}
-use Rattle.odb_tree.specs.Tree.{Tree}
-use Rattle.odb_tree.specs.Tree.Follow.{Refusal, read_of}
-use Rattle.odb_tree.specs.Entries.{opened}
-use Rattle.odb_tree.specs.declared.entry.Entry.{Entry}
+use Rattle.odb_nodes.specs.Tree.{Tree}
+use Rattle.odb_nodes.specs.Tree.Follow.{Refusal, read_of}
+use Rattle.odb_nodes.specs.Entries.{opened}
+use Rattle.odb_nodes.specs.declared.entry.Entry.{Entry}
 use Rattle.gix_odb_shown.specs.Watched.{watched_kind, counted, pack_directory}
 use Rattle.gix_odb_shown.specs.Kept.{Contents, Folders, ShowsInOne}
 use Rattle.gix_odb_shown.specs.declared.watched.WatchedKind.{WatchedKind}

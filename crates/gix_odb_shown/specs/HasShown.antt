@@ -5,7 +5,7 @@ use Rattle.std.specs.Ordering.{eq_by_cmp}
 use Rattle.std.specs.FinMap as finite
 use Rattle.std.specs.FinSet as set
 use Rattle.odb_base.specs.Path.{Path, path_cmp}
-use Rattle.odb_tree.specs.Tree.{Tree}
+use Rattle.odb_nodes.specs.Tree.{Tree}
 use Rattle.gix_odb_shown.specs.Watched.{Shows}
 use Rattle.gix_odb_shown.specs.Kept.{Kept, Fits}
 

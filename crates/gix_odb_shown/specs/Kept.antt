@@ -6,7 +6,7 @@ use Rattle.std.specs.FinSet as set
 use Rattle.std.specs.Ordering.{nat_cmp, ordering_then}
 use Rattle.std.specs.declared.cmp.Ordering.{Ordering}
 use Rattle.odb_base.specs.Path.{Name, Path, path_cmp}
-use Rattle.odb_tree.specs.Tree.{Tree}
+use Rattle.odb_nodes.specs.Tree.{Tree}
 use Rattle.gix_odb_shown.specs.Watched.{Shows, pack_directory}
 use Rattle.gix_odb_shown.specs.Plain.{ArePlain}
 

@@ -2,8 +2,8 @@
 use Rattle.std.specs.Prelude.{◌≡◌, ◌++◌, true, false, [], ◌∷◌, Some}
 use Rattle.std.specs.FinSet as set
 use Rattle.odb_base.specs.Path.{Name, Path, path_cmp}
-use Rattle.odb_tree.specs.Tree.{Tree, node_at, is_directory}
-use Rattle.odb_tree.specs.Tree.Way.{is_link}
+use Rattle.odb_nodes.specs.Tree.{Tree, node_at, is_directory}
+use Rattle.odb_nodes.specs.Tree.Way.{is_link}
 use Rattle.gix_odb_shown.specs.Watched.{pack_directory, watched_kind}
 use Rattle.gix_odb_shown.specs.declared.watched.WatchedKind.{WatchedKind}
 

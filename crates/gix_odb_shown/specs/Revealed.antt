@@ -1,6 +1,6 @@
 -- What a change would make watched paths show, as it is handed from the judging of the change to its noting.
 use Rattle.std.specs.Prelude.{◌≡◌, true}
-use Rattle.odb_tree.specs.Tree.{Tree}
+use Rattle.odb_nodes.specs.Tree.{Tree}
 use Rattle.gix_odb_shown.specs.Files.{Reveals}
 use Rattle.gix_odb_shown.specs.Kept.{Folders}
 use Rattle.gix_odb_shown.specs.Plain.{ArePlain}

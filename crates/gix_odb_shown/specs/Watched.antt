@@ -2,8 +2,8 @@
 use Rattle.std.specs.Prelude.{◌≡◌, ◌++◌, ◌||◌, ℕ, List, [], ◌∷◌, codes, nat_eq, Option, Some, None, Ok, if◌then◌else◌}
 use Rattle.std.specs.List.{ends_with}
 use Rattle.odb_base.specs.Path.{Name, Path, same_name}
-use Rattle.odb_tree.specs.Tree.{Tree}
-use Rattle.odb_tree.specs.Tree.Follow.{read_of}
+use Rattle.odb_nodes.specs.Tree.{Tree}
+use Rattle.odb_nodes.specs.Tree.Follow.{read_of}
 use Rattle.gix_odb_shown.specs.declared.watched.WatchedKind.{WatchedKind}
 use Rattle.gix_odb_shown.specs.declared.watched.WatchedKind.TheVariants.{PackOrIndex, MultiIndex}
 

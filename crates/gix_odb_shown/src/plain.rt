@@ -2,14 +2,15 @@
 ghost use Rattle.std.specs.Prelude.{◌≡◌, true, IfOk};
 ghost use Rattle.std.specs.List.{list_any};
 ghost use Rattle.std.specs.FinSet as set;
-ghost use Rattle.odb_tree.specs.Tree.{is_directory, node_at};
+ghost use Rattle.odb_nodes.specs.Tree.{is_directory, node_at};
 ghost use Rattle.gix_odb_shown.specs.Plain.{AreDirectories, ArePlain, IsPlain};
 ghost use Rattle.gix_odb_shown.specs.Seen.{is_watched_link};
 
 use crate::shown_file::listed;
 use crate::watched::{pack_directory, watched_kind};
 use odb_base::{BadPath, ByteList, NoMemory, PathText};
-use odb_tree::{Change, Entry, EntryQueue, Kind, Tree};
+use odb_nodes::{Change, Entry, EntryQueue, Kind};
+use odb_tree::Tree;
 use std::alloc::Global;
 use std::collections::BTreeSet;
 

@@ -3,14 +3,15 @@ ghost use Rattle.std.specs.Prelude.{◌≡◌, ◌∷◌, [], IfOk};
 ghost use Rattle.std.specs.Option.{option_map};
 ghost use Rattle.std.specs.FinSet as set;
 ghost use Rattle.odb_base.specs.Path.{last_name, parent_of};
-ghost use Rattle.odb_tree.specs.Tree.Write.{file_spot};
+ghost use Rattle.odb_nodes.specs.Tree.Write.{file_spot};
 ghost use Rattle.gix_odb_shown.specs.Watched.{counted};
 ghost use Rattle.gix_odb_shown.specs.Seen.{append_seen, both_seen, holds_packs, is_above, off_seen, put_seen, removed_seen, seen_in, stand_of, watched_at};
 
 use crate::shown_file::ShownFile;
 use crate::watched::{WatchedKind, counted, pack_directory, watched_kind};
 use odb_base::{ByteList, NoMemory, PathText};
-use odb_tree::{Change, DiskError, Tree};
+use odb_nodes::{Change, DiskError};
+use odb_tree::Tree;
 use std::alloc::Global;
 use std::collections::BTreeSet;
 
@@ -118,7 +119,7 @@ fn both_seen(
     }
 }
 
-#[tactic(auto, unfolding(odb_tree::specs::Tree::Write::change_of_append))]
+#[tactic(auto, unfolding(odb_nodes::specs::Tree::Write::change_of_append))]
 fn append_seen(
     alloc: Global,
     tree: &Tree,

@@ -1,8 +1,8 @@
 //! What the watched paths of folders have shown.
 ghost use Rattle.std.specs.Prelude.{◌≡◌, ◌↔◌, IsTrue, true, false, IfOk, IfSome, OnOk};
 ghost use Rattle.std.specs.FinSet as set;
-ghost use Rattle.odb_tree.specs.Tree.{Tree as TreeValue};
-ghost use Rattle.odb_tree.specs.Tree.Change.{changed, is_possible_in};
+ghost use Rattle.odb_nodes.specs.Tree.{Tree as TreeValue};
+ghost use Rattle.odb_nodes.specs.Tree.Change.{changed, is_possible_in};
 ghost use Rattle.gix_odb_shown.specs.Files.{Reveals};
 ghost use Rattle.gix_odb_shown.specs.Kept.{Fits, IsSecond, Notes, nothing_kept};
 ghost use Rattle.gix_odb_shown.specs.Plain.{ArePlain};
@@ -14,7 +14,8 @@ use crate::revealed::Revealed;
 use crate::seen::seen_in;
 use crate::shown_file::{ShownFile, files_in, files_of_all};
 use odb_base::{NoMemory, PathText};
-use odb_tree::{Change, Impossible, Tree};
+use odb_nodes::{Change, Impossible};
+use odb_tree::Tree;
 use std::alloc::Global;
 use std::collections::BTreeSet;
 use std::marker::Model;

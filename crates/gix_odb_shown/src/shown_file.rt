@@ -6,7 +6,8 @@ ghost use Rattle.gix_odb_shown.specs.Files.{files_at, files_in, listed};
 
 use crate::watched::{counted, pack_directory, watched_kind};
 use odb_base::{BadPath, ByteList, NoMemory, PathName, PathText};
-use odb_tree::{DiskError, EntryQueue, Tree};
+use odb_nodes::{DiskError, EntryQueue};
+use odb_tree::Tree;
 use std::alloc::Global;
 use std::collections::BTreeSet;
 

@@ -1,6 +1,6 @@
 -- Which condition an answer of a find tells.
 use Rattle.std.proofs.Common.{ℕ, List, inr}
-use Rattle.odb_tree.specs.Tree.{State}
+use Rattle.odb_nodes.specs.Tree.{State}
 use Rattle.gix_hash.specs.declared.object_id.ObjectId.{ObjectId}
 use Rattle.gix_object.specs.declared.kind.Kind.{Kind}
 use Rattle.gix_odb_loose.specs.Store.{store_hash}

@@ -2,7 +2,7 @@
 use Rattle.std.proofs.Common.{◌≡◌, ℕ, List, [], ◌∷◌, ◌++◌, length, Option, Some, None, Result, Ok, Err, refl, sym, ap, ◌∙◌}
 use Rattle.std.specs.Prelude.{if◌then◌else◌, IfOk, OnOk}
 use Rattle.odb_base.specs.declared.no_memory.NoMemory.{NoMemory}
-use Rattle.odb_tree.specs.Tree.{tree_of}
+use Rattle.odb_nodes.specs.Tree.{tree_of}
 use Rattle.odb_disk.specs.MemDisk.{Volume}
 use Rattle.odb_disk.specs.Ask.{after_ask, answer_now, change_of_ask}
 use Rattle.odb_disk.specs.declared.ask.DiskAsk.{DiskAsk}

@@ -6,10 +6,10 @@ use Rattle.std.proofs.Common.{◌≡◌, ◌≢◌, inl, inr, ℕ, zero, suc, �
 use Rattle.std.specs.Prelude.{slice_get, ◌==◌}
 use Rattle.std.proofs.lemmas.Bool.{cases_lt, eqb-false, eqb-true}
 use Rattle.odb_base.specs.Path.{Path}
-use Rattle.odb_tree.specs.Tree.{IsTree, Tree}
-use Rattle.odb_tree.specs.Tree.Way.{SameOnWay}
-use Rattle.odb_tree.specs.Tree.Write.{spot}
-use Rattle.odb_tree.proofs.OwnWayLaws.{Stops, stop_below_root, stops_kept}
+use Rattle.odb_nodes.specs.Tree.{IsTree, Tree}
+use Rattle.odb_nodes.specs.Tree.Way.{SameOnWay}
+use Rattle.odb_nodes.specs.Tree.Write.{spot}
+use Rattle.odb_nodes.proofs.OwnWayLaws.{Stops, stop_below_root, stops_kept}
 use Rattle.gix_odb_loose.specs.WriteOrder.{temp_name}
 use Rattle.gix_odb_loose.proofs.NameLaws.{IsTemporary}
 use Rattle.gix_odb_world.specs.Event.{Event}

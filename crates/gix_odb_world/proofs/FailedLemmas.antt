@@ -1,20 +1,20 @@
 -- A call of a disk in memory fails where its number is listed, if it has one, and nowhere else.
 use Rattle.std.proofs.Common.{◌≡◌, ℕ, Bool, true, false, List, [], ◌∷◌, Option, Some, None, Ok, Err, Result, refl, sym, ap, ◌∙◌}
 use Rattle.std.specs.Prelude.{if◌then◌else◌, ◌&&◌}
-use Rattle.odb_tree.specs.Tree.{Tree, tree_of}
-use Rattle.odb_tree.specs.Tree.Follow.{Refusal, Absent, WrongKind, LinkLoop, looked, read_of}
-use Rattle.odb_tree.specs.Tree.Write as writing
-use Rattle.odb_tree.specs.Tree.Write.{change_of_make_dir, change_of_new_file, change_of_append, change_of_rename, change_of_remove}
+use Rattle.odb_nodes.specs.Tree.{Tree, tree_of}
+use Rattle.odb_nodes.specs.Tree.Follow.{Refusal, Absent, WrongKind, LinkLoop, looked, read_of}
+use Rattle.odb_nodes.specs.Tree.Write as writing
+use Rattle.odb_nodes.specs.Tree.Write.{change_of_make_dir, change_of_new_file, change_of_append, change_of_rename, change_of_remove}
 use Rattle.odb_disk.specs.MemDisk.{Volume, next_fails, after_call}
 use Rattle.odb_disk.specs.StreamAsks.{is_of_streams, least_closed}
 use Rattle.odb_disk.specs.Streams.{Streams, still_gives}
-use Rattle.odb_tree.specs.Entries.{opened}
+use Rattle.odb_nodes.specs.Entries.{opened}
 use Rattle.odb_disk.proofs.StillAskLaws.{answer_now-still, counted-still}
 use Rattle.odb_disk.specs.Ask.{answer_in, answer_of, answer_now, dir_answer, entry_answer, fails_now, meta_answer, file_answer, write_answer, error_of, error_of_write}
-use Rattle.odb_tree.specs.declared.change.Change.{Change}
-use Rattle.odb_tree.specs.declared.entry.Entry.{Entry}
-use Rattle.odb_tree.specs.declared.meta.Meta.{Meta}
-use Rattle.odb_tree.specs.declared.disk_error.DiskError.TheVariants as disk_errors
+use Rattle.odb_nodes.specs.declared.change.Change.{Change}
+use Rattle.odb_nodes.specs.declared.entry.Entry.{Entry}
+use Rattle.odb_nodes.specs.declared.meta.Meta.{Meta}
+use Rattle.odb_nodes.specs.declared.disk_error.DiskError.TheVariants as disk_errors
 use Rattle.odb_disk.specs.declared.ask.DiskAsk.{DiskAsk}
 use Rattle.odb_disk.specs.declared.ask.DiskAsk.TheVariants.{Look, Read, OpenDir, NextEntry, CloseDir, MakeDir, NewFile, Append, Rename, Remove}
 use Rattle.odb_disk.specs.declared.ask.DiskAnswer.{DiskAnswer}

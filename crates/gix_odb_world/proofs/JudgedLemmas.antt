@@ -4,9 +4,9 @@ use Rattle.odb_disk.specs.Ask.{change_of_ask}
 use Rattle.odb_disk.specs.MemDisk.{Volume}
 use Rattle.odb_disk.specs.declared.ask.DiskAsk.{DiskAsk}
 use Rattle.odb_disk.proofs.AskedLaws.{asked_possible}
-use Rattle.odb_tree.specs.Tree.{IsTree, Tree, tree_of}
-use Rattle.odb_tree.specs.Tree.Change.{changed, is_possible_in}
-use Rattle.odb_tree.specs.declared.change.Change.{Change}
+use Rattle.odb_nodes.specs.Tree.{IsTree, Tree, tree_of}
+use Rattle.odb_nodes.specs.Tree.Change.{changed, is_possible_in}
+use Rattle.odb_nodes.specs.declared.change.Change.{Change}
 use Rattle.gix_odb_shown.specs.Kept.{Fits, IsSecond, Kept, Notes}
 use Rattle.gix_odb_shown.specs.Revealed.{IsRevealed}
 use Rattle.gix_odb_shown.specs.declared.revealed.Revealed.{Revealed}

@@ -1,7 +1,7 @@
 -- The reply of a query keeps its promise, where all that its handle was told is true of the run.
 use Rattle.std.proofs.Common.{◌≡◌, ℕ, ◌≤◌, true, false, List, length, Contains, Some, Ok, inl, inr, refl, sym, ◌∙◌, ap, subst, arith}
 use Rattle.odb_base.specs.Path.{Name, Path}
-use Rattle.odb_tree.specs.Tree.{Tree}
+use Rattle.odb_nodes.specs.Tree.{Tree}
 use Rattle.odb_disk.specs.Ask.{answer_now}
 use Rattle.odb_disk.specs.MemDisk.{Volume, next_fails}
 use Rattle.gix_hash.specs.ObjectId.{kind_of}

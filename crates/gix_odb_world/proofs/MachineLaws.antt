@@ -2,7 +2,7 @@
 -- which are folded by the machines and so stand above them.
 use Rattle.std.proofs.Common.{◌≡◌, ◌⊎◌, ℕ, ◌+◌, ◌<◌, ◌≤◌, List, [], ◌∷◌, ◌++◌, length, Option, Some, None, Result, Ok, Err, refl, sym, ap, ◌∙◌, subst}
 use Rattle.odb_disk.specs.MemDisk.{Volume}
-use Rattle.odb_tree.specs.Tree.{IsTree, tree_of}
+use Rattle.odb_nodes.specs.Tree.{IsTree, tree_of}
 use Rattle.odb_disk.specs.declared.ask.DiskAsk.{DiskAsk}
 use Rattle.odb_disk.specs.declared.ask.DiskAnswer.{DiskAnswer}
 use Rattle.gix_odb.specs.CallOrder.{HasSize, IsOfHash, result_of_write}

@@ -4,11 +4,11 @@ use Rattle.std.proofs.Common.{◌≡◌, ◌⊎◌, inl, inr, ℕ, zero, suc, �
 use Rattle.std.specs.Prelude.{◌==◌}
 use Rattle.std.proofs.lemmas.Bool.{eqb-false, eqb-true}
 use Rattle.odb_base.specs.Path.{Path}
-use Rattle.odb_tree.specs.Tree.{Tree}
-use Rattle.odb_tree.specs.Tree.Way.{crosses}
-use Rattle.odb_tree.specs.Tree.Write.{spot}
-use Rattle.odb_tree.proofs.OwnWayLaws.{OwnSpot, own_kept}
-use Rattle.odb_tree.proofs.WayLaws.{read_kept}
+use Rattle.odb_nodes.specs.Tree.{Tree}
+use Rattle.odb_nodes.specs.Tree.Way.{crosses}
+use Rattle.odb_nodes.specs.Tree.Write.{spot}
+use Rattle.odb_nodes.proofs.OwnWayLaws.{OwnSpot, own_kept}
+use Rattle.odb_nodes.proofs.WayLaws.{read_kept}
 use Rattle.gix_odb_world.specs.Run.{tree_at}
 use Rattle.gix_odb_world.specs.Undisturbed.{IsUndisturbed}
 use Rattle.gix_odb_world.specs.WholeNames.{GivesAgain, GivesName, HoldsWhole, LeavesAlone, NamesStayWhole, name_path}

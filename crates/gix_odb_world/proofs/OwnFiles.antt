@@ -9,10 +9,10 @@ use Rattle.std.proofs.Common.{◌≡◌, ◌≢◌, ◌⊎◌, inl, inr, ℕ, ze
 use Rattle.std.specs.Prelude.{slice_get, ◌==◌}
 use Rattle.std.proofs.lemmas.Bool.{cases_lt, eqb-false, eqb-true}
 use Rattle.odb_base.specs.Path.{Path}
-use Rattle.odb_tree.specs.Tree.{Tree}
-use Rattle.odb_tree.specs.Tree.Write.{spot, vacant}
-use Rattle.odb_tree.specs.declared.change.Change.TheVariants.{PutFile}
-use Rattle.odb_tree.proofs.OwnWayLaws.{OwnSpot, own_not_vacant}
+use Rattle.odb_nodes.specs.Tree.{Tree}
+use Rattle.odb_nodes.specs.Tree.Write.{spot, vacant}
+use Rattle.odb_nodes.specs.declared.change.Change.TheVariants.{PutFile}
+use Rattle.odb_nodes.proofs.OwnWayLaws.{OwnSpot, own_not_vacant}
 use Rattle.gix_odb_calls.specs.declared.step.Step.TheVariants as steps
 use Rattle.gix_odb_world.specs.Event.{Event}
 use Rattle.gix_odb_world.specs.Run.{IsTurnOf, tree_at}

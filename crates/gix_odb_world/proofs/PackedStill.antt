@@ -7,10 +7,10 @@ pub mod Rule
 use Rattle.std.proofs.Common.{◌≡◌, ℕ, ◌≤◌, false, List, [], ◌∷◌, ◌++◌, length, Ok, sym, ap, ◌∙◌, subst, append-nil, append_assoc, arith}
 use Rattle.std.proofs.lemmas.Bool.{false_from_ne_true}
 use Rattle.odb_base.specs.Path.{Path}
-use Rattle.odb_tree.specs.Entries.{opened}
-use Rattle.odb_tree.specs.Tree.{tree_of}
-use Rattle.odb_tree.specs.Tree.Follow.{looked}
-use Rattle.odb_tree.specs.declared.entry.Entry.{Entry}
+use Rattle.odb_nodes.specs.Entries.{opened}
+use Rattle.odb_nodes.specs.Tree.{tree_of}
+use Rattle.odb_nodes.specs.Tree.Follow.{looked}
+use Rattle.odb_nodes.specs.declared.entry.Entry.{Entry}
 use Rattle.odb_disk.specs.Ask.{answer_now, fails_now}
 use Rattle.odb_disk.specs.MemDisk.{Volume}
 use Rattle.odb_disk.specs.declared.ask.DiskAsk.{DiskAsk}

@@ -5,13 +5,13 @@ use Rattle.std.specs.Prelude.{slice_get, if◌then◌else◌}
 use Rattle.odb_base.specs.Path.{Path}
 use Rattle.odb_disk.specs.Ask.{change_of_ask, fails_now}
 use Rattle.odb_disk.specs.MemDisk.{Volume, after_outside_change}
-use Rattle.odb_tree.specs.Tree.{IsTree, Tree, tree_of}
-use Rattle.odb_tree.specs.Tree.Change.{changed, is_possible}
-use Rattle.odb_tree.specs.Tree.Write.{written}
+use Rattle.odb_nodes.specs.Tree.{IsTree, Tree, tree_of}
+use Rattle.odb_nodes.specs.Tree.Change.{changed, is_possible}
+use Rattle.odb_nodes.specs.Tree.Write.{written}
 use Rattle.odb_disk.specs.declared.ask.DiskAsk.{DiskAsk}
-use Rattle.odb_tree.specs.declared.change.Change.{Change}
-use Rattle.odb_tree.proofs.TreeLemmas.Changed.{IsTree-changed, after_change-tree, is_possible-tree_of}
-use Rattle.odb_tree.proofs.WriteLaws.{tree_of-written}
+use Rattle.odb_nodes.specs.declared.change.Change.{Change}
+use Rattle.odb_nodes.proofs.TreeLemmas.Changed.{IsTree-changed, after_change-tree, is_possible-tree_of}
+use Rattle.odb_nodes.proofs.WriteLaws.{tree_of-written}
 use Rattle.odb_disk.proofs.AskedLaws.{IsTree-asked}
 use Rattle.gix_odb_core.specs.History.{History}
 use Rattle.gix_odb_world.specs.Cores.{cores_after}

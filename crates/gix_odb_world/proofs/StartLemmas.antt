@@ -25,7 +25,7 @@ use Rattle.gix_odb_world.specs.Valid.{phase_of, why_not_of_hash, why_not_start}
 use Rattle.gix_odb_world.specs.World.{Continues, Explains, Matches, handle_at}
 use Rattle.gix_odb_world.specs.Table.{SetsHandle, Notes, phase_of_handle, phase_of_work, why_not_now, with_work}
 use Rattle.std.specs.Prelude.{slice_get, unwrap_or}
-use Rattle.odb_tree.specs.Tree.{IsTree, tree_of}
+use Rattle.odb_nodes.specs.Tree.{IsTree, tree_of}
 use Rattle.gix_odb_calls.specs.Hashes.{is_of_hash}
 use Rattle.gix_odb_world.specs.Begun.{HoldsStore}
 use Rattle.gix_odb_world.specs.Cores.{cores_after, cores_after_asked}

@@ -5,13 +5,13 @@ use Rattle.std.specs.Prelude.{if◌then◌else◌, ◌==◌}
 use Rattle.std.proofs.lemmas.Bool.{false≢true}
 use Rattle.std.proofs.lemmas.List.{map-append, take_more}
 use Rattle.odb_disk.specs.MemDisk.{Volume, after_outside_change}
-use Rattle.odb_tree.specs.Tree.{Tree, tree_of}
-use Rattle.odb_tree.specs.Tree.Change.{changed, is_possible, is_possible_in}
-use Rattle.odb_tree.proofs.TreeLemmas.Changed.{after_change-tree, is_possible-tree_of}
+use Rattle.odb_nodes.specs.Tree.{Tree, tree_of}
+use Rattle.odb_nodes.specs.Tree.Change.{changed, is_possible, is_possible_in}
+use Rattle.odb_nodes.proofs.TreeLemmas.Changed.{after_change-tree, is_possible-tree_of}
 use Rattle.gix_odb_shown.specs.HasShown.{AreBegun, Keeps, ShowsSecond, Since}
 use Rattle.gix_odb_shown.specs.Kept.{IsSecond, Kept}
 use Rattle.gix_odb_shown.proofs.KeepsLaws.{second_shown, shown_second}
-use Rattle.odb_tree.specs.declared.change.Change.{Change}
+use Rattle.odb_nodes.specs.declared.change.Change.{Change}
 use Rattle.gix_odb_calls.specs.declared.step.Step.{Step}
 use Rattle.gix_odb_calls.specs.declared.step.Step.TheVariants as steps
 use Rattle.gix_odb_calls.specs.declared.step.Outcome.{Outcome}

@@ -10,7 +10,7 @@ use Rattle.std.proofs.lemmas.Option.{slice_get_within}
 use Rattle.std.proofs.Math.Seq.{take-length}
 use Rattle.odb_base.specs.Path.{Name, Path, path_cmp}
 use Rattle.odb_base.specs.PathLaws.{path_order}
-use Rattle.odb_tree.specs.Tree.Follow.{read_of}
+use Rattle.odb_nodes.specs.Tree.Follow.{read_of}
 use Rattle.gix_odb_shown.specs.HasShown.{HasShown, Since, with_since}
 use Rattle.gix_odb_shown.specs.Watched.{pack_directory}
 use Rattle.gix_odb_shown.proofs.ReadLaws.{shows_read}

@@ -3,11 +3,11 @@ use Rattle.std.proofs.Common.{◌≡◌, ℕ, ◌+◌, Bool, true, false, List, 
 use Rattle.std.specs.Prelude.{if◌then◌else◌, ◌==◌}
 use Rattle.odb_disk.specs.MemDisk.{Volume}
 use Rattle.odb_base.specs.Path.{Path}
-use Rattle.odb_tree.specs.Tree.{IsTree, Tree, tree_of}
+use Rattle.odb_nodes.specs.Tree.{IsTree, Tree, tree_of}
 use Rattle.gix_odb_shown.specs.HasShown.{Keeps}
 use Rattle.gix_odb_shown.specs.Kept.{Fits, Kept}
 use Rattle.gix_odb_shown.specs.declared.revealed.Revealed.{Revealed}
-use Rattle.odb_tree.specs.declared.change.Change.{Change}
+use Rattle.odb_nodes.specs.declared.change.Change.{Change}
 use Rattle.gix_odb_calls.specs.declared.step.Step.TheVariants as steps
 use Rattle.gix_odb_calls.specs.declared.step.Outcome.{Outcome}
 use Rattle.gix_odb_calls.specs.declared.call.Reply.{Reply}

@@ -8,11 +8,11 @@ use Rattle.std.proofs.lemmas.List.{length_push, take_more}
 use Rattle.std.proofs.lemmas.List.Sums.{fold_push}
 use Rattle.odb_base.specs.Path.{Path, path_cmp}
 use Rattle.odb_disk.specs.MemDisk.{Volume}
-use Rattle.odb_tree.specs.Tree.{Tree, tree_of}
-use Rattle.odb_tree.specs.Tree.Change.{changed}
-use Rattle.odb_tree.specs.Tree.Write.{written}
-use Rattle.odb_tree.specs.declared.change.Change.{Change}
-use Rattle.odb_tree.proofs.WriteLaws.{tree_of-written}
+use Rattle.odb_nodes.specs.Tree.{Tree, tree_of}
+use Rattle.odb_nodes.specs.Tree.Change.{changed}
+use Rattle.odb_nodes.specs.Tree.Write.{written}
+use Rattle.odb_nodes.specs.declared.change.Change.{Change}
+use Rattle.odb_nodes.proofs.WriteLaws.{tree_of-written}
 use Rattle.gix_odb_shown.specs.HasShown.{AreBegun, HasShown, Keeps, Since, with_since}
 use Rattle.gix_odb_shown.specs.Kept.{Fits, Kept, Notes, nothing_kept}
 use Rattle.gix_odb_shown.specs.Watched.{Shows}

@@ -4,7 +4,7 @@ use Rattle.std.specs.Prelude.{if◌then◌else◌, ◌==◌}
 use Rattle.std.proofs.lemmas.Bool.{cases_lt}
 use Rattle.std.proofs.lemmas.List.{take-append-le, length_push}
 use Rattle.odb_disk.specs.MemDisk.{Volume}
-use Rattle.odb_tree.specs.Tree.{IsTree, tree_of}
+use Rattle.odb_nodes.specs.Tree.{IsTree, tree_of}
 use Rattle.gix_odb_shown.specs.HasShown.{Keeps}
 use Rattle.gix_odb_shown.specs.Kept.{nothing_kept}
 use Rattle.gix_odb_world.specs.declared.handle.Handle.{Handle}

@@ -3,13 +3,13 @@ use Rattle.std.proofs.Common.{◌≡◌, ◌⊎◌, ℕ, ◌<◌, ◌≤◌, ◌
 use Rattle.std.proofs.lemmas.List.{length-take}
 use Rattle.odb_base.specs.Path.{Path}
 use Rattle.odb_disk.specs.MemDisk.{Volume}
-use Rattle.odb_tree.specs.Tree.{Tree, tree_of}
-use Rattle.odb_tree.specs.Tree.Write.{change_of_append, change_of_make_dir, change_of_new_file, change_of_remove, change_of_rename}
+use Rattle.odb_nodes.specs.Tree.{Tree, tree_of}
+use Rattle.odb_nodes.specs.Tree.Write.{change_of_append, change_of_make_dir, change_of_new_file, change_of_remove, change_of_rename}
 use Rattle.odb_disk.specs.declared.ask.DiskAnswer.TheVariants as answers
 use Rattle.odb_disk.specs.declared.ask.DiskAsk.TheVariants as asks
-use Rattle.odb_tree.specs.declared.change.Change.{Change}
-use Rattle.odb_tree.proofs.TreeLemmas.Write.{movable_at, removable_at, replaceable_at, vacant_at}
-use Rattle.odb_tree.proofs.WayWriteLaws.{append_change, make_dir_change, new_file_change, remove_change, rename_change}
+use Rattle.odb_nodes.specs.declared.change.Change.{Change}
+use Rattle.odb_nodes.proofs.TreeLemmas.Write.{movable_at, removable_at, replaceable_at, vacant_at}
+use Rattle.odb_nodes.proofs.WayWriteLaws.{append_change, make_dir_change, new_file_change, remove_change, rename_change}
 use Rattle.gix_hash.specs.declared.object_id.ObjectId.{ObjectId}
 use Rattle.gix_object.specs.Loose.{header_of}
 use Rattle.gix_object.proofs.LooseLaws.{length-header_of-fits}

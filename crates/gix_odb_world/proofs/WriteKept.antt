@@ -7,13 +7,13 @@ use Rattle.std.proofs.Math.Seq.{take-append_seam}
 use Rattle.odb_base.specs.Path.{Path}
 use Rattle.odb_disk.specs.Ask.{answer_now}
 use Rattle.odb_disk.specs.MemDisk.{Volume}
-use Rattle.odb_tree.specs.Tree.{Tree}
-use Rattle.odb_tree.specs.Tree.Way.{SameOnWay}
-use Rattle.odb_tree.specs.declared.change.Change.{Change}
+use Rattle.odb_nodes.specs.Tree.{Tree}
+use Rattle.odb_nodes.specs.Tree.Way.{SameOnWay}
+use Rattle.odb_nodes.specs.declared.change.Change.{Change}
 use Rattle.odb_disk.specs.declared.ask.DiskAnswer.{DiskAnswer}
 use Rattle.odb_disk.specs.declared.ask.DiskAsk.{DiskAsk}
-use Rattle.odb_tree.specs.OwnFile.{HasFile}
-use Rattle.odb_tree.proofs.OwnFileLaws.{has_file_kept}
+use Rattle.odb_nodes.specs.OwnFile.{HasFile}
+use Rattle.odb_nodes.proofs.OwnFileLaws.{has_file_kept}
 use Rattle.gix_odb_loose.specs.Exchanges.{Exchange}
 use Rattle.gix_odb_loose.specs.WriteAsks.{write_of}
 use Rattle.gix_odb_loose.specs.WriteOrder.{temp_path, number_made}

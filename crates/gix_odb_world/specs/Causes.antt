@@ -1,10 +1,10 @@
 -- Why an opening or a call is refused: each error, and what the run shows where it is given.
 use Rattle.std.specs.Prelude.{◌≡◌, ℕ, ◌<◌, true, List, Contains, Result, Ok, Err}
 use Rattle.odb_base.specs.Path.{Path}
-use Rattle.odb_tree.specs.Tree.{Tree}
-use Rattle.odb_tree.specs.Tree.Follow.{Refusal, looked, read_of}
-use Rattle.odb_tree.specs.declared.meta.Meta.{Meta}
-use Rattle.odb_tree.specs.declared.meta.Kind.TheVariants as kinds
+use Rattle.odb_nodes.specs.Tree.{Tree}
+use Rattle.odb_nodes.specs.Tree.Follow.{Refusal, looked, read_of}
+use Rattle.odb_nodes.specs.declared.meta.Meta.{Meta}
+use Rattle.odb_nodes.specs.declared.meta.Kind.TheVariants as kinds
 use Rattle.gix_hash.specs.declared.object_id.ObjectId.{ObjectId}
 use Rattle.gix_odb_loose.specs.Causes.{Cause}
 use Rattle.gix_odb_loose.specs.LooseFile.{Reading, loose_path}

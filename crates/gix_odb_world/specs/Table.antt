@@ -3,10 +3,10 @@ use Rattle.std.specs.Prelude.{◌≡◌, ℕ, ◌+◌, ◌<◌, ◌≤◌, ◌==
 use Rattle.std.specs.declared.alloc.Global.{Global}
 use Rattle.odb_base.specs.Path.{Path}
 use Rattle.odb_disk.specs.Ask.{answer_now, change_of_ask}
-use Rattle.odb_tree.specs.Tree.{IsTree, Tree, tree_of}
+use Rattle.odb_nodes.specs.Tree.{IsTree, Tree, tree_of}
 use Rattle.odb_disk.specs.MemDisk.{Volume}
 use Rattle.odb_disk.specs.declared.ask.DiskAsk.{DiskAsk}
-use Rattle.odb_tree.specs.declared.change.Change.{Change}
+use Rattle.odb_nodes.specs.declared.change.Change.{Change}
 use Rattle.gix_hash.specs.declared.kind.Kind.{Kind as HashKind}
 use Rattle.gix_odb_calls.specs.declared.call.Reply.{Reply}
 use Rattle.gix_odb_calls.specs.declared.step.Step.{Step}

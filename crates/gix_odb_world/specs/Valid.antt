@@ -10,8 +10,8 @@ use Rattle.gix_hash.specs.declared.kind.Kind.{Kind as HashKind}
 use Rattle.gix_hash.specs.declared.object_id.ObjectId.{ObjectId}
 use Rattle.gix_hash.specs.ObjectId.{id_cmp}
 use Rattle.odb_disk.specs.MemDisk.{Volume}
-use Rattle.odb_tree.specs.Tree.Change.{is_possible}
-use Rattle.odb_tree.specs.declared.change.Change.{Change}
+use Rattle.odb_nodes.specs.Tree.Change.{is_possible}
+use Rattle.odb_nodes.specs.declared.change.Change.{Change}
 use Rattle.gix_odb_calls.specs.Hashes.{is_of_hash, is_pair_of}
 use Rattle.gix_odb_calls.specs.declared.call.Call.{Call}
 use Rattle.gix_odb_calls.specs.declared.step.Step.{Step}

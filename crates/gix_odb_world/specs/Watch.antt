@@ -1,9 +1,9 @@
 -- What the code of a world makes of what it keeps of watched paths. No public clause cites this.
 use Rattle.std.specs.Prelude.{◌≡◌, ℕ, List, Option, Some, None}
 use Rattle.odb_base.specs.Path.{Path}
-use Rattle.odb_tree.specs.Tree.{Tree}
-use Rattle.odb_tree.specs.Tree.Change.{changed}
-use Rattle.odb_tree.specs.declared.change.Change.{Change}
+use Rattle.odb_nodes.specs.Tree.{Tree}
+use Rattle.odb_nodes.specs.Tree.Change.{changed}
+use Rattle.odb_nodes.specs.declared.change.Change.{Change}
 use Rattle.gix_odb_shown.specs.Kept.{Fits, Folders, IsSecond, Kept, Notes}
 use Rattle.gix_odb_shown.specs.HasShown.{AreBegun, Keeps, Since}
 use Rattle.gix_odb_shown.specs.Revealed.{IsRevealed}

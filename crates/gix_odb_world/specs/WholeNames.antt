@@ -2,10 +2,10 @@
 use Rattle.std.specs.Prelude.{◌≡◌, ◌⊎◌, ℕ, ◌<◌, ◌≤◌, false, List, ◌++◌, length, take, slice_get, Some, Ok}
 use Rattle.odb_base.specs.Path.{Path}
 use Rattle.odb_disk.specs.MemDisk.{Volume}
-use Rattle.odb_tree.specs.Tree.Follow.{read_of}
-use Rattle.odb_tree.specs.Tree.Way.{crosses}
-use Rattle.odb_tree.specs.Tree.Write.{spot}
-use Rattle.odb_tree.specs.declared.change.Change.TheVariants.{Rename}
+use Rattle.odb_nodes.specs.Tree.Follow.{read_of}
+use Rattle.odb_nodes.specs.Tree.Way.{crosses}
+use Rattle.odb_nodes.specs.Tree.Write.{spot}
+use Rattle.odb_nodes.specs.declared.change.Change.TheVariants.{Rename}
 use Rattle.gix_object.specs.Loose.{header_of}
 use Rattle.gix_odb_loose.specs.LooseFile.{loose_path}
 use Rattle.gix_odb_loose.specs.declared.call.LooseCall.{LooseCall}

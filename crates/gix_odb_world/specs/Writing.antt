@@ -3,15 +3,15 @@ use Rattle.std.specs.Prelude.{◌≡◌, ◌⊎◌, ℕ, ◌+◌, ◌<◌, ◌�
 use Rattle.odb_base.specs.Path.{Path}
 use Rattle.odb_disk.specs.Ask.{op_of, answer_now}
 use Rattle.odb_disk.specs.MemDisk.{Volume}
-use Rattle.odb_tree.specs.Tree.Way.{SameOnWay}
+use Rattle.odb_nodes.specs.Tree.Way.{SameOnWay}
 use Rattle.odb_disk.specs.declared.ask.DiskAnswer.{DiskAnswer}
 use Rattle.odb_disk.specs.declared.ask.DiskAnswer.TheVariants as answers
 use Rattle.odb_disk.specs.declared.ask.DiskAsk.{DiskAsk}
 use Rattle.odb_disk.specs.declared.ask.DiskAsk.TheVariants as asks
-use Rattle.odb_tree.specs.declared.change.Change.{Change}
-use Rattle.odb_tree.specs.declared.change.Change.TheVariants.{PutFile, Rename}
-use Rattle.odb_tree.specs.declared.disk_error.DiskError.{DiskError}
-use Rattle.odb_tree.specs.declared.disk_error.DiskError.TheVariants as disk_errors
+use Rattle.odb_nodes.specs.declared.change.Change.{Change}
+use Rattle.odb_nodes.specs.declared.change.Change.TheVariants.{PutFile, Rename}
+use Rattle.odb_nodes.specs.declared.disk_error.DiskError.{DiskError}
+use Rattle.odb_nodes.specs.declared.disk_error.DiskError.TheVariants as disk_errors
 use Rattle.gix_hash.specs.declared.kind.Kind.{Kind as HashKind}
 use Rattle.gix_hash.specs.declared.object_id.ObjectId.{ObjectId}
 use Rattle.gix_object.specs.declared.kind.Kind.{Kind}

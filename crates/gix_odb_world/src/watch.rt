@@ -3,7 +3,7 @@ ghost use Rattle.std.specs.Prelude.{◌≡◌, ◌∷◌, IfOk, None, OnOk, Some
 ghost use Rattle.std.specs.Option.{option_map};
 ghost use Rattle.std.specs.Result.{result_err};
 ghost use Rattle.odb_disk.specs.Ask.{change_of_ask};
-ghost use Rattle.odb_tree.specs.Tree.{Tree as TreeValue, tree_of};
+ghost use Rattle.odb_nodes.specs.Tree.{Tree as TreeValue, tree_of};
 ghost use Rattle.gix_odb_shown.specs.Kept.{Fits};
 ghost use Rattle.gix_odb_world.specs.Run.{change_asked, change_by};
 ghost use Rattle.gix_odb_world.specs.Valid.{IsFirstReason};

@@ -6,7 +6,7 @@ use Rattle.std.specs.List.{list_any}
 use Rattle.std.specs.Result.{IfOk, IsErr, OnErr}
 use Rattle.std.proofs.lemmas.Result.{IfOk-from_err}
 use Rattle.odb_disk.specs.Source.{Adds}
-use Rattle.odb_tree.specs.Tree.{State}
+use Rattle.odb_nodes.specs.Tree.{State}
 use Rattle.odb_disk.specs.Streams.{Streams}
 use Rattle.walkdir.proofs.WholeWalks.{begun_keeps}
 use Rattle.walkdir.specs.Failures.{failures_among, failures_given}

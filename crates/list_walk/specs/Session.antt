@@ -3,7 +3,7 @@ use Rattle.std.specs.Prelude.{◌≡◌, ◌⊎◌, ℕ, Bool, true, false, List
 use Rattle.odb_base.specs.Faults.{Rose}
 use Rattle.odb_disk.specs.Streams.{Streams}
 use Rattle.odb_program.specs.Session.{Output, Wrote, WroteFront}
-use Rattle.odb_tree.specs.Tree.{State}
+use Rattle.odb_nodes.specs.Tree.{State}
 use Rattle.walkdir.specs.OwnStreams.{AreBack}
 use Rattle.list_walk.specs.Asked.{options_of}
 use Rattle.list_walk.specs.Visits.{Moment, Visits, VisitsCut}

@@ -2,7 +2,7 @@
 use Rattle.std.specs.Prelude.{◌≡◌, ℕ, List, [], ◌∷◌, ◌++◌, Option, Result, Ok, Err, IfSome}
 use Rattle.odb_base.specs.Path.{Path}
 use Rattle.odb_disk.specs.Streams.{Streams}
-use Rattle.odb_tree.specs.Tree.{State, tree_of}
+use Rattle.odb_nodes.specs.Tree.{State, tree_of}
 use Rattle.walkdir.specs.Failures.{Costs, failures_among}
 use Rattle.walkdir.specs.Progress.{Progress}
 use Rattle.walkdir.specs.Walk.{IsWalk}

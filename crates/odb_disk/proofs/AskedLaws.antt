@@ -1,12 +1,12 @@
 -- Laws of the calls that write, given as values, for callers: the change that a call makes is possible, and leaves a tree.
 use Rattle.std.proofs.Common.{◌≡◌, true, Some, Result, Ok, Err}
 use Rattle.std.specs.Result.{result_ok}
-use Rattle.odb_tree.specs.Tree.{Tree, IsTree}
-use Rattle.odb_tree.specs.Tree.Change.{changed, is_possible_in}
-use Rattle.odb_tree.specs.Tree.Write.{change_of_append, change_of_make_dir, change_of_new_file, change_of_remove, change_of_rename}
-use Rattle.odb_tree.specs.declared.change.Change.{Change}
-use Rattle.odb_tree.proofs.TreeLemmas.Changed.{IsTree-changed}
-use Rattle.odb_tree.proofs.TreeLemmas.Write.{make_dir_possible, new_file_possible, append_possible, rename_possible, remove_possible}
+use Rattle.odb_nodes.specs.Tree.{Tree, IsTree}
+use Rattle.odb_nodes.specs.Tree.Change.{changed, is_possible_in}
+use Rattle.odb_nodes.specs.Tree.Write.{change_of_append, change_of_make_dir, change_of_new_file, change_of_remove, change_of_rename}
+use Rattle.odb_nodes.specs.declared.change.Change.{Change}
+use Rattle.odb_nodes.proofs.TreeLemmas.Changed.{IsTree-changed}
+use Rattle.odb_nodes.proofs.TreeLemmas.Write.{make_dir_possible, new_file_possible, append_possible, rename_possible, remove_possible}
 use Rattle.odb_disk.specs.Ask.{change_of_ask}
 use Rattle.odb_disk.specs.declared.ask.DiskAsk.{DiskAsk}
 use Rattle.odb_disk.specs.declared.ask.DiskAsk.TheVariants as asks

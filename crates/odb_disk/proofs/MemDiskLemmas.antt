@@ -3,21 +3,21 @@ use Rattle.std.proofs.Common.{◌≡◌, ℕ, ◌<◌, ◌^◌, true, List, leng
 use Rattle.std.specs.Ordering.{nat_cmp}
 use Rattle.std.specs.FinSet as set
 use Rattle.odb_base.specs.Path.{Path}
-use Rattle.odb_tree.specs.Tree.{Tree, State, IsTree, tree_of, state_of, bare_tree}
-use Rattle.odb_tree.specs.Tree.Change.{changed, is_possible_in, after_change}
-use Rattle.odb_tree.specs.Answers.{Answers}
+use Rattle.odb_nodes.specs.Tree.{Tree, State, IsTree, tree_of, state_of, bare_tree}
+use Rattle.odb_nodes.specs.Tree.Change.{changed, is_possible_in, after_change}
+use Rattle.odb_nodes.specs.Answers.{Answers}
 use Rattle.odb_sources.specs.Calls as calls
 use Rattle.odb_sources.specs.Calls.{Calls, no_calls}
 use Rattle.odb_disk.specs.Streams.{Streams, IsLeastClosed, Opens, no_streams, with_opened}
-use Rattle.odb_tree.specs.Entries.{opened}
+use Rattle.odb_nodes.specs.Entries.{opened}
 use Rattle.odb_disk.specs.MemDisk.{Volume, after_call, after_outside_change, next_fails, new_volume}
-use Rattle.odb_tree.specs.declared.change.Change.{Change}
-use Rattle.odb_tree.specs.declared.change.Impossible.{Impossible}
-use Rattle.odb_tree.specs.declared.entry.Entry.{Entry}
-use Rattle.odb_tree.specs.declared.disk_error.DiskError.{DiskError}
+use Rattle.odb_nodes.specs.declared.change.Change.{Change}
+use Rattle.odb_nodes.specs.declared.change.Impossible.{Impossible}
+use Rattle.odb_nodes.specs.declared.entry.Entry.{Entry}
+use Rattle.odb_nodes.specs.declared.disk_error.DiskError.{DiskError}
 use Rattle.odb_disk.proofs.StreamsLemmas.{free_number}
-use Rattle.odb_tree.proofs.TreeLemmas.{tree_of-state_of}
-use Rattle.odb_tree.proofs.TreeLemmas.Changed.{IsTree-changed}
+use Rattle.odb_nodes.proofs.TreeLemmas.{tree_of-state_of}
+use Rattle.odb_nodes.proofs.TreeLemmas.Changed.{IsTree-changed}
 
 -- a tree stays a tree, made a change or refused one
 pub IsTree-after : (r : Result (Unit {0}) Impossible) (t u : Tree) (change : Change) → IsTree t → OnOk r (u ≡ changed t change) → OnOk r (is_possible_in t change ≡ true) → OnErr r (u ≡ t) → IsTree u

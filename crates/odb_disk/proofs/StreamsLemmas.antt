@@ -15,8 +15,8 @@ use Rattle.std.specs.BTreeMap.{is_at}
 use Rattle.odb_base.specs.Path.{is_name}
 use Rattle.odb_disk.specs.StreamNumbers.{AreOpenBelow}
 use Rattle.odb_disk.specs.Streams.{Gives, IsAtEnd, IsClosed, IsLeastClosed, GivesFirst, TakesNext, lists_only, still_gives, with_opened, Streams}
-use Rattle.odb_tree.specs.declared.entry.Entry.{Entry}
-use Rattle.odb_tree.specs.declared.disk_error.DiskError.TheVariants as errors
+use Rattle.odb_nodes.specs.declared.entry.Entry.{Entry}
+use Rattle.odb_nodes.specs.declared.disk_error.DiskError.TheVariants as errors
 
 abbrev Lists : Type 0
 Lists = List (ℕ × List Entry)

@@ -1,8 +1,8 @@
 -- When a call of a disk fails: only by a fault of the disk's own.
 use Rattle.std.specs.Prelude.{ℕ, ◌≤◌, Result, IsErrOf}
 use Rattle.odb_base.specs.Faults.{Rose}
-use Rattle.odb_tree.specs.declared.disk_error.DiskError.{DiskError}
-use Rattle.odb_tree.specs.declared.disk_error.DiskError.TheVariants as errors
+use Rattle.odb_nodes.specs.declared.disk_error.DiskError.{DiskError}
+use Rattle.odb_nodes.specs.declared.disk_error.DiskError.TheVariants as errors
 
 -- the count of faults never falls, and a call fails only where it rose
 pub record FailsOnlyByFault {A : Type 0} (before now : ℕ) (result : Result A DiskError) : Type 0 where

@@ -5,10 +5,10 @@ use Rattle.std.specs.FinSet as set
 use Rattle.std.specs.Coded.{Coded, code_by, coded×}
 use Rattle.odb_sources.specs.Calls as calls
 use Rattle.odb_sources.specs.Calls.{Calls, coded_calls, no_calls}
-use Rattle.odb_tree.specs.Tree.{State, coded_state, state_of, bare_tree}
-use Rattle.odb_tree.specs.Tree.Change.{after_change}
+use Rattle.odb_nodes.specs.Tree.{State, coded_state, state_of, bare_tree}
+use Rattle.odb_nodes.specs.Tree.Change.{after_change}
 use Rattle.odb_disk.specs.Streams.{Streams, coded_streams, no_streams}
-use Rattle.odb_tree.specs.declared.change.Change.{Change}
+use Rattle.odb_nodes.specs.declared.change.Change.{Change}
 
 -- a disk in memory at one moment
 pub record Volume : Type 0 where

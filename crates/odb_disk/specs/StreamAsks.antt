@@ -3,11 +3,11 @@ use Rattle.std.specs.Prelude.{◌≡◌, ℕ, ◌+◌, max, fold, find, Bool, tr
 use Rattle.std.specs.List.{range_with_len}
 use Rattle.std.specs.FinMap as finite
 use Rattle.odb_base.specs.Path.{Path}
-use Rattle.odb_tree.specs.Tree.{Tree, State, tree_of}
-use Rattle.odb_tree.specs.Tree.Follow.{Refusal}
+use Rattle.odb_nodes.specs.Tree.{Tree, State, tree_of}
+use Rattle.odb_nodes.specs.Tree.Follow.{Refusal}
 use Rattle.odb_disk.specs.Streams.{Streams, AnswersOpen, Opens, GivesFirst, IsAtEnd, Gives, still_gives, is_open, with_stream, with_opened, with_closed}
-use Rattle.odb_tree.specs.Entries.{opened}
-use Rattle.odb_tree.specs.declared.entry.Entry.{Entry}
+use Rattle.odb_nodes.specs.Entries.{opened}
+use Rattle.odb_nodes.specs.declared.entry.Entry.{Entry}
 use Rattle.odb_disk.specs.declared.ask.DiskAsk.{DiskAsk}
 use Rattle.odb_disk.specs.declared.ask.DiskAsk.TheVariants as asks
 use Rattle.odb_disk.specs.declared.ask.DiskAnswer.{DiskAnswer}

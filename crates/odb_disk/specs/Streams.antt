@@ -5,13 +5,13 @@ use Rattle.std.specs.Ordering.{nat_cmp}
 use Rattle.std.specs.FinMap as finite
 use Rattle.std.specs.Coded.{Coded, code_by, coded×, coded_ℕ, coded_list}
 use Rattle.odb_base.specs.Path.{Path, is_name}
-use Rattle.odb_tree.specs.Tree.{State, tree_of}
-use Rattle.odb_tree.specs.Tree.Follow.{Refusal}
-use Rattle.odb_tree.specs.Answers.{Answers}
-use Rattle.odb_tree.specs.Entries.{opened, coded_entry}
-use Rattle.odb_tree.specs.declared.entry.Entry.{Entry}
-use Rattle.odb_tree.specs.declared.disk_error.DiskError.{DiskError}
-use Rattle.odb_tree.specs.declared.disk_error.DiskError.TheVariants as errors
+use Rattle.odb_nodes.specs.Tree.{State, tree_of}
+use Rattle.odb_nodes.specs.Tree.Follow.{Refusal}
+use Rattle.odb_nodes.specs.Answers.{Answers}
+use Rattle.odb_nodes.specs.Entries.{opened, coded_entry}
+use Rattle.odb_nodes.specs.declared.entry.Entry.{Entry}
+use Rattle.odb_nodes.specs.declared.disk_error.DiskError.{DiskError}
+use Rattle.odb_nodes.specs.declared.disk_error.DiskError.TheVariants as errors
 
 -- ---- the streams of a disk
 

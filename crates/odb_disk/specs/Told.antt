@@ -1,8 +1,8 @@
 -- What a disk answered to a call, as a value.
 use Rattle.std.specs.Prelude.{ℕ, List, Option, Some, None, Result, Ok, Err}
-use Rattle.odb_tree.specs.declared.meta.Meta.{Meta}
-use Rattle.odb_tree.specs.declared.entry.Entry.{Entry}
-use Rattle.odb_tree.specs.declared.disk_error.DiskError.{DiskError}
+use Rattle.odb_nodes.specs.declared.meta.Meta.{Meta}
+use Rattle.odb_nodes.specs.declared.entry.Entry.{Entry}
+use Rattle.odb_nodes.specs.declared.disk_error.DiskError.{DiskError}
 use Rattle.odb_disk.specs.declared.ask.DiskAnswer.{DiskAnswer}
 use Rattle.odb_disk.specs.declared.ask.DiskAnswer.TheVariants as answers
 

@@ -3,10 +3,10 @@ ghost use Rattle.std.specs.Prelude.{◌≡◌, ◌≤◌, false, Result, IfOk, I
 ghost use Rattle.std.specs.Option.{option_map};
 ghost use Rattle.std.specs.Result.{result_ok};
 ghost use Rattle.odb_base.specs.Faults.{Rose};
-ghost use Rattle.odb_tree.specs.Tree.{IsTree, tree_of};
-ghost use Rattle.odb_tree.specs.Tree.Write.{Refusal};
-ghost use Rattle.odb_tree.specs.Answers.{Tells};
-ghost use Rattle.odb_tree.specs.declared.change.Change.{Change as ChangeValue};
+ghost use Rattle.odb_nodes.specs.Tree.{IsTree, tree_of};
+ghost use Rattle.odb_nodes.specs.Tree.Write.{Refusal};
+ghost use Rattle.odb_nodes.specs.Answers.{Tells};
+ghost use Rattle.odb_nodes.specs.declared.change.Change.{Change as ChangeValue};
 ghost use Rattle.odb_disk.specs.Ask.{answer_of, change_of_ask, op_of, path_asked, state_told_after, AnswersAsk, ran_out};
 ghost use Rattle.odb_disk.specs.Told.{told_look, told_read, told_open, told_next, told_write};
 ghost use Rattle.odb_disk.specs.StreamAsks.{is_of_streams, AnswersStreams};

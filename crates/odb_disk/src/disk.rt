@@ -1,12 +1,12 @@
 //! The trait of a disk.
 ghost use Rattle.std.specs.Prelude.{◌≡◌, ℕ, Option, IfOk, IfSome, OnOk, OnErr};
-ghost use Rattle.odb_tree.specs.Tree.{IsTree, State, tree_of};
-ghost use Rattle.odb_tree.specs.Tree.Follow.{looked, read_of};
-ghost use Rattle.odb_tree.specs.Tree.Write.{change_of_make_dir, change_of_new_file, change_of_append, change_of_rename, change_of_remove, done, written_as};
+ghost use Rattle.odb_nodes.specs.Tree.{IsTree, State, tree_of};
+ghost use Rattle.odb_nodes.specs.Tree.Follow.{looked, read_of};
+ghost use Rattle.odb_nodes.specs.Tree.Write.{change_of_make_dir, change_of_new_file, change_of_append, change_of_rename, change_of_remove, done, written_as};
 ghost use Rattle.odb_disk.specs.Disk.{FailsOnlyByFault};
-ghost use Rattle.odb_tree.specs.Answers.{Answers, AnswersWrite};
+ghost use Rattle.odb_nodes.specs.Answers.{Answers, AnswersWrite};
 ghost use Rattle.odb_disk.specs.Streams.{Streams, AnswersOpen, Opens, Gives, with_closed};
-ghost use Rattle.odb_tree.specs.Entries.{opened};
+ghost use Rattle.odb_nodes.specs.Entries.{opened};
 ghost use Rattle.odb_disk.specs.Told.{told_look, told_read, told_open, told_next, told_write};
 ghost use Rattle.odb_disk.specs.declared.ask.DiskAsk.{DiskAsk as ask_value};
 ghost use Rattle.odb_disk.specs.declared.ask.DiskAsk.TheVariants as asks;

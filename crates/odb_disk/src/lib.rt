@@ -23,4 +23,5 @@ pub use odb_base::{BadPath, ByteList, NoMemory, PathName, PathText};
 pub use odb_sources::{
     Failed, MemSink, MemSource, ReadError, Sink, Source, StdSink, StdSource, read_file, write_all,
 };
-pub use odb_tree::{Change, DiskError, Entry, EntryQueue, Impossible, Kind, Meta, Tree};
+pub use odb_nodes::{Change, DiskError, Entry, EntryQueue, Impossible, Kind, Meta};
+pub use odb_tree::Tree;

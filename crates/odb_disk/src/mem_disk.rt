@@ -25,7 +25,7 @@ impl Model for MemDisk {
 
     ghost coded = { coded_volume };
 
-    ghost use Rattle.odb_tree.specs.Tree.{IsTree, state_of};
+    ghost use Rattle.odb_nodes.specs.Tree.{IsTree, state_of};
 
     ghost view = { λ d. record { state = state_of d.tree; streams = d.streams; calls = d.calls } };
 
@@ -36,8 +36,8 @@ impl MemDisk {
     ghost use Rattle.std.specs.Prelude.{◌≡◌, ◌≤◌, true, false, IsTrue, IfOk, OnOk, OnErr, IsErrOf};
     ghost use Rattle.odb_base.specs.Faults.{Rose};
     ghost use Rattle.std.specs.FinSet as set;
-    ghost use Rattle.odb_tree.specs.Tree.{IsTree, tree_of};
-    ghost use Rattle.odb_tree.specs.Tree.Change.{is_possible};
+    ghost use Rattle.odb_nodes.specs.Tree.{IsTree, tree_of};
+    ghost use Rattle.odb_nodes.specs.Tree.Change.{is_possible};
     ghost use Rattle.odb_disk.specs.Ask.{change_of_ask, fails_now};
     ghost use Rattle.odb_disk.specs.MemDisk.{new_volume, after_outside_change, after_call, next_fails};
 

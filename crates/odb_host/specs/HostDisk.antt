@@ -7,12 +7,12 @@ use Rattle.std.specs.declared.fs.FileType.{FileType}
 use Rattle.std.specs.declared.fs.Metadata.{Metadata}
 use Rattle.std.specs.Fs.{file_type, metadata_len}
 use Rattle.odb_base.specs.Path.{Name, is_name}
-use Rattle.odb_tree.specs.declared.entry.Entry.{Entry}
-use Rattle.odb_tree.specs.declared.meta.Kind.{Kind}
-use Rattle.odb_tree.specs.declared.meta.Kind.TheVariants.{File, Dir, Link}
-use Rattle.odb_tree.specs.declared.meta.Meta.{Meta}
-use Rattle.odb_tree.specs.declared.disk_error.DiskError.{DiskError}
-use Rattle.odb_tree.specs.declared.disk_error.DiskError.TheVariants as errors
+use Rattle.odb_nodes.specs.declared.entry.Entry.{Entry}
+use Rattle.odb_nodes.specs.declared.meta.Kind.{Kind}
+use Rattle.odb_nodes.specs.declared.meta.Kind.TheVariants.{File, Dir, Link}
+use Rattle.odb_nodes.specs.declared.meta.Meta.{Meta}
+use Rattle.odb_nodes.specs.declared.disk_error.DiskError.{DiskError}
+use Rattle.odb_nodes.specs.declared.disk_error.DiskError.TheVariants as errors
 use Rattle.odb_sources.specs.declared.source.ReadError.{ReadError}
 use Rattle.odb_sources.specs.declared.source.ReadError.TheVariants as read_errors
 

@@ -8,24 +8,24 @@ use Rattle.std.specs.BTreeMap.Range.{entries_between}
 use Rattle.std.specs.List.{cons_option, filter_map}
 use Rattle.std.proofs.lemmas.Bool.{false≢true}
 use Rattle.odb_base.specs.Path.{Name, Path, path_cmp}
-use Rattle.odb_tree.specs.Tree.{Tree, node_at, name_in, is_directory, is_directory_content}
-use Rattle.odb_tree.specs.Tree.Follow as following
-use Rattle.odb_tree.specs.Tree.Follow.{Place, followed}
-use Rattle.odb_tree.specs.Tree.Write as writing
-use Rattle.odb_tree.specs.Tree.Write.{from_followed, refusal_from}
-use Rattle.odb_tree.specs.TreeCalls.{path_of_place}
-use Rattle.odb_tree.specs.Answers.{Tells, Answers}
-use Rattle.odb_tree.specs.Entries.{kind_of, entry_of, entry_in, entries_in, entries_at, entries_at_place, opened}
-use Rattle.odb_tree.specs.declared.entry.Entry.{Entry}
-use Rattle.odb_tree.specs.declared.meta.Kind.{Kind}
-use Rattle.odb_tree.specs.declared.disk_error.DiskError.{DiskError}
-use Rattle.odb_tree.specs.declared.disk_error.DiskError.TheVariants as errors
-use Rattle.odb_tree.specs.declared.node.Node.{Node}
-use Rattle.odb_tree.specs.declared.node.Content.{Content}
-use Rattle.odb_tree.specs.declared.node.Content.TheVariants.{File, Dir, Link}
-use Rattle.odb_tree.proofs.TreeLemmas.Change.{name_in-path}
+use Rattle.odb_nodes.specs.Tree.{Tree, node_at, name_in, is_directory, is_directory_content}
+use Rattle.odb_nodes.specs.Tree.Follow as following
+use Rattle.odb_nodes.specs.Tree.Follow.{Place, followed}
+use Rattle.odb_nodes.specs.Tree.Write as writing
+use Rattle.odb_nodes.specs.Tree.Write.{from_followed, refusal_from}
+use Rattle.odb_nodes.specs.TreeCalls.{path_of_place}
+use Rattle.odb_nodes.specs.Answers.{Tells, Answers}
+use Rattle.odb_nodes.specs.Entries.{kind_of, entry_of, entry_in, entries_in, entries_at, entries_at_place, opened}
+use Rattle.odb_nodes.specs.declared.entry.Entry.{Entry}
+use Rattle.odb_nodes.specs.declared.meta.Kind.{Kind}
+use Rattle.odb_nodes.specs.declared.disk_error.DiskError.{DiskError}
+use Rattle.odb_nodes.specs.declared.disk_error.DiskError.TheVariants as errors
+use Rattle.odb_nodes.specs.declared.node.Node.{Node}
+use Rattle.odb_nodes.specs.declared.node.Content.{Content}
+use Rattle.odb_nodes.specs.declared.node.Content.TheVariants.{File, Dir, Link}
+use Rattle.odb_nodes.proofs.TreeLemmas.Change.{name_in-path}
 use Rattle.odb_tree.proofs.NamesLemmas.{before_names}
-use Rattle.odb_tree.proofs.WriteCallsLemmas.Spots.{led_to}
+use Rattle.odb_nodes.proofs.WriteCallsLemmas.Spots.{led_to}
 
 abbrev pub Nodes : Type 0
 Nodes = List (Path × Node)

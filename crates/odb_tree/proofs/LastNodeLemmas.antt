@@ -11,9 +11,9 @@ use Rattle.std.proofs.lemmas.Bool.{false≢true, and_from}
 use Rattle.std.proofs.lemmas.List.{append_cancel_left}
 use Rattle.odb_base.specs.Path.{Name, Path, HasSameFirst, IsCommonFront, name_cmp, path_cmp, same_name}
 use Rattle.odb_base.specs.PathLaws.{goes_beyond}
-use Rattle.odb_tree.specs.Tree.{Tree, IsTree, node_at, is_directory}
-use Rattle.odb_tree.specs.TreeCalls.{IsLastBefore}
-use Rattle.odb_tree.proofs.TreeLemmas.Follow.{IsShort, IsDir-from, way_is_directory}
+use Rattle.odb_nodes.specs.Tree.{Tree, IsTree, node_at, is_directory}
+use Rattle.odb_nodes.specs.TreeCalls.{IsLastBefore}
+use Rattle.odb_nodes.proofs.TreeLemmas.Follow.{IsShort, IsDir-from, way_is_directory}
 
 -- ---- paths in order
 

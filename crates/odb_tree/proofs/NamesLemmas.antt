@@ -10,12 +10,12 @@ use lib.Pointwise.{pointwise}
 use Rattle.std.proofs.lemmas.Bool.{false≢true, and_parts, and_from, false_from_ne_true}
 use Rattle.std.proofs.lemmas.List.{take-append-drop}
 use Rattle.odb_base.specs.Path.{Name, Path, name_cmp, path_cmp, same_name}
-use Rattle.odb_tree.specs.Tree.{Tree, IsTree, node_at, names_in}
-use Rattle.odb_tree.specs.Tree.Change.{is_nil}
-use Rattle.odb_tree.specs.declared.node.Node.{Node}
+use Rattle.odb_nodes.specs.Tree.{Tree, IsTree, node_at, names_in}
+use Rattle.odb_nodes.specs.Tree.Change.{is_nil}
+use Rattle.odb_nodes.specs.declared.node.Node.{Node}
 use Rattle.odb_base.specs.PathLaws.{path_order}
-use Rattle.odb_tree.proofs.TreeLemmas.Follow.{IsDir-from, way_is_directory}
-use Rattle.odb_tree.proofs.TreeLemmas.Change.{no_names_below, nil_names}
+use Rattle.odb_nodes.proofs.TreeLemmas.Follow.{IsDir-from, way_is_directory}
+use Rattle.odb_nodes.proofs.TreeLemmas.Change.{no_names_below, nil_names}
 
 -- ---- paths in order
 

@@ -4,10 +4,10 @@ use Rattle.std.specs.Option.{option_or}
 use Rattle.std.specs.Map.{lookup}
 use Rattle.std.specs.BTreeMap.{is_at}
 use Rattle.odb_base.specs.Path.{Path, path_cmp}
-use Rattle.odb_tree.specs.Tree.{Tree, node_at, with_node, without, tree_of_entries}
-use Rattle.odb_tree.specs.Tree.Nodes.{same_tree}
-use Rattle.odb_tree.specs.declared.node.Node.{Node}
-use Rattle.odb_tree.proofs.TreeLemmas.{node_at-entries, node_at-put, node_at-put_other, node_at-taken, node_at-taken_other, cases_path, other_path}
+use Rattle.odb_nodes.specs.Tree.{Tree, node_at, with_node, without, tree_of_entries}
+use Rattle.odb_nodes.specs.Tree.Nodes.{same_tree}
+use Rattle.odb_nodes.specs.declared.node.Node.{Node}
+use Rattle.odb_nodes.proofs.TreeLemmas.{node_at-entries, node_at-put, node_at-put_other, node_at-taken, node_at-taken_other, cases_path, other_path}
 
 pub none_copied : (all none rest : List (Path × Node)) (q : Path) → none ≡ [] → rest ≡ all
     → node_at (tree_of_entries all) q ≡ option_or (node_at (tree_of_entries none) q) (lookup (is_at (path_cmp q)) rest)

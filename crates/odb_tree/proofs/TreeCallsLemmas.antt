@@ -1,14 +1,14 @@
 -- From the steps of following a path to what a look and a read answer.
 use Rattle.std.proofs.Common.{◌≡◌, ℕ, Bool, true, [], Result, Ok, Err, ap}
 use Rattle.odb_base.specs.Path.{Path}
-use Rattle.odb_tree.specs.Tree.{Tree}
-use Rattle.odb_tree.specs.Tree.Follow.{Place, Refusal, pass, followed_within, meta_of, meta_of_place, file_of, file_of_place, looked, read_of, most_links}
-use Rattle.odb_tree.specs.Answers.{Answers}
-use Rattle.odb_tree.specs.TreeCalls.{Ends, Leads, node_of_place}
-use Rattle.odb_tree.specs.declared.node.Node.{Node}
-use Rattle.odb_tree.specs.declared.disk_error.DiskError.{DiskError}
-use Rattle.odb_tree.specs.declared.disk_error.DiskError.TheVariants as errors
-use Rattle.odb_tree.proofs.TreeLemmas.Follow.{followed_missing, followed_blocked}
+use Rattle.odb_nodes.specs.Tree.{Tree}
+use Rattle.odb_nodes.specs.Tree.Follow.{Place, Refusal, pass, followed_within, meta_of, meta_of_place, file_of, file_of_place, looked, read_of, most_links}
+use Rattle.odb_nodes.specs.Answers.{Answers}
+use Rattle.odb_nodes.specs.TreeCalls.{Ends, Leads, node_of_place}
+use Rattle.odb_nodes.specs.declared.node.Node.{Node}
+use Rattle.odb_nodes.specs.declared.disk_error.DiskError.{DiskError}
+use Rattle.odb_nodes.specs.declared.disk_error.DiskError.TheVariants as errors
+use Rattle.odb_nodes.proofs.TreeLemmas.Follow.{followed_missing, followed_blocked}
 
 -- an error of a pass is the answer
 pub Leads-from_end : (links : ℕ) (t : Tree) (follow : Bool) (path : Path) (e : DiskError) → Ends e (pass t follow [] path) → Leads (Err e) (followed_within links t follow path)

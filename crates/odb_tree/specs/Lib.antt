@@ -1,10 +1,12 @@
--- What a tree is, what it lists, and what its calls answer; from TreeNumbers on, what only this crate's own proofs cite.
-pub mod Node
-pub mod Tree
-pub mod Entries
-pub mod Answers
-pub mod OwnFile
-pub mod TreeNumbers
-pub mod TreeCalls
+-- What a tree is, by the crate below; from WellKept on, what only this crate's own proofs cite.
+pub use Rattle.odb_nodes.specs.Node
+pub use Rattle.odb_nodes.specs.Tree
+pub use Rattle.odb_nodes.specs.Entries
+pub use Rattle.odb_nodes.specs.Answers
+pub use Rattle.odb_nodes.specs.OwnFile
+pub use Rattle.odb_nodes.specs.TreeNumbers
+pub mod WellKept
+pub use Rattle.odb_nodes.specs.TreeCalls
+pub mod PassCalls
 pub mod TreeMoves
 pub mod Listing

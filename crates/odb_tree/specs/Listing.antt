@@ -5,10 +5,10 @@ use Rattle.std.specs.declared.ops.Bound.TheVariants.{Excluded, Unbounded}
 use Rattle.std.specs.BTreeMap.Range.{entries_between}
 use Rattle.std.specs.List.{filter_map, starts_with}
 use Rattle.odb_base.specs.Path.{Path, path_cmp, same_name}
-use Rattle.odb_tree.specs.Tree.{Tree, node_at}
-use Rattle.odb_tree.specs.Tree.Nodes.{entries_of}
-use Rattle.odb_tree.specs.Entries.{entry_in}
-use Rattle.odb_tree.specs.declared.entry.Entry.{Entry}
+use Rattle.odb_nodes.specs.Tree.{Tree, node_at}
+use Rattle.odb_nodes.specs.Tree.Nodes.{entries_of}
+use Rattle.odb_nodes.specs.Entries.{entry_in}
+use Rattle.odb_nodes.specs.declared.entry.Entry.{Entry}
 
 -- the entries of a directory whose paths come behind another one
 abbrev pub entries_after : Tree → Path → Path → List Entry

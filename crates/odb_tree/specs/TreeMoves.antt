@@ -4,8 +4,8 @@ use Rattle.std.specs.Ordering.{eq_by_cmp, is_gt}
 use Rattle.std.specs.declared.cmp.Ordering.TheVariants.{Less}
 use Rattle.std.specs.List.{list_any, starts_with}
 use Rattle.odb_base.specs.Path.{Path, path_cmp, same_name}
-use Rattle.odb_tree.specs.Tree.{Tree, node_at, with_node, without}
-use Rattle.odb_tree.specs.declared.node.Node.{Node}
+use Rattle.odb_nodes.specs.Tree.{Tree, node_at, with_node, without}
+use Rattle.odb_nodes.specs.declared.node.Node.{Node}
 
 -- the first node behind a path lies below a directory
 pub record IsNextBelow (tree : Tree) (base last path : Path) : Type 0 where

@@ -1,7 +1,7 @@
-//! The tree of a disk: what stands at which path, how a path is followed, what a change makes of it, what a directory
-//! lists, which change a call that writes makes, and why it is refused.
+//! The tree of a disk in memory: what stands at which path, and what changes and calls make of it.
 //!
-//! Read `tree` first; `specs/Tree.antt` says what a tree is.
+//! Read `tree` first. What a tree is, how a path is followed and what a change makes of it is said in `odb_nodes`, whose
+//! names this crate hands on.
 //! ```rust
 //! let mut tree = Tree::bare(alloc)?;
 //! let path = PathText::parse(alloc, "/o")?;
@@ -10,18 +10,10 @@
 //! ```
 #![tactic(auto)]
 
-mod change;
-mod disk_error;
-mod entry;
-mod meta;
-mod node;
 mod node_map;
 mod node_moves;
 mod tree;
 
-pub use change::{Change, Impossible};
-pub use disk_error::DiskError;
-pub use entry::{Entry, EntryQueue};
-pub use meta::{Kind, Meta};
 pub use odb_base::{BadPath, ByteList, NoMemory, PathName, PathText};
+pub use odb_nodes::{Change, DiskError, Entry, EntryQueue, Impossible, Kind, Meta};
 pub use tree::Tree;

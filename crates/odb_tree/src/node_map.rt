@@ -1,15 +1,15 @@
 //! The nodes of a tree by their paths, and its free inode numbers.
 ghost use Rattle.std.specs.Prelude.{◌≡◌, ◌≢◌, ◌↔◌, ◌==◌, ◌&&◌, ◌+◌, ◌-◌, ◌^◌, ◌<◌, ℕ, true, false, not, IfOk, OnOk, OnErr, IsTrue, IsSome, Some, None, if◌then◌else◌};
 ghost use Rattle.odb_base.specs.Path.{Path};
-ghost use Rattle.odb_tree.specs.Tree.{node_at, tree_of_entries, with_node, without, IsTree, names_in};
+ghost use Rattle.odb_nodes.specs.Tree.{node_at, tree_of_entries, with_node, without, IsTree, names_in};
 ghost use Rattle.std.specs.Option.{option_copied};
-ghost use Rattle.odb_tree.specs.Tree.Change.{is_nil, longer, with_time};
-ghost use Rattle.odb_tree.specs.TreeCalls.{IsLastBefore};
-ghost use Rattle.odb_tree.specs.TreeNumbers.{is_listed, last_number, Frees, IsLeastFree};
-ghost use Rattle.odb_tree.specs.declared.node.Node.{Node as NodeValue};
+ghost use Rattle.odb_nodes.specs.Tree.Change.{is_nil, longer, with_time};
+ghost use Rattle.odb_nodes.specs.TreeCalls.{IsLastBefore};
+ghost use Rattle.odb_nodes.specs.TreeNumbers.{is_listed, last_number, Frees, IsLeastFree};
+ghost use Rattle.odb_nodes.specs.declared.node.Node.{Node as NodeValue};
 
-use crate::node::{Content, Node};
 use crate::{NoMemory, PathText};
+use odb_nodes::{Content, Node};
 use std::alloc::Global;
 use std::collections::{BTreeMap, BTreeSet};
 use std::ops::Bound;

@@ -4,13 +4,13 @@ ghost use Rattle.std.specs.Prelude.{◌≡◌, ◌++◌, ◌∷◌, [], ℕ, tru
 ghost use Rattle.std.specs.Option.{IfNone};
 ghost use Rattle.std.specs.List.{starts_with};
 ghost use Rattle.odb_base.specs.Path.{Path, same_name};
-ghost use Rattle.odb_tree.specs.Tree.{node_at, tree_of_entries, is_directory, IsTree};
-ghost use Rattle.odb_tree.specs.Tree.Change.{with_moved};
+ghost use Rattle.odb_nodes.specs.Tree.{node_at, tree_of_entries, is_directory, IsTree};
+ghost use Rattle.odb_nodes.specs.Tree.Change.{with_moved};
 ghost use Rattle.odb_tree.specs.TreeMoves.{IsNextBelow, NoneBehind, ArePathsBelow, moved_path, is_among, with_copy, with_copies, without_all};
 
-use crate::node::Node;
 use crate::node_map::{put, take};
 use crate::{NoMemory, PathText};
+use odb_nodes::Node;
 use std::alloc::Global;
 use std::collections::BTreeMap;
 use std::ops::Bound;

@@ -1,9 +1,9 @@
 //! The tree of a disk in memory: its nodes, and what stands at a path by its names alone.
-use crate::node::{Content, Node};
 use crate::node_map::{
     append, copied, copied_numbers, number_for, put_content, put_over, use_number,
 };
 use crate::{NoMemory, PathText};
+use odb_nodes::{Content, Node};
 use std::alloc::Global;
 use std::collections::{BTreeMap, BTreeSet};
 use std::marker::Model;
@@ -26,13 +26,13 @@ pub struct Tree {
 }
 
 impl Model for Tree {
-    ghost use Rattle.odb_tree.specs.Tree.{Tree as TreeValue, coded_tree, tree_of_entries};
+    ghost use Rattle.odb_nodes.specs.Tree.{Tree as TreeValue, coded_tree, tree_of_entries};
 
     ghost Value = { TreeValue };
 
     ghost coded = { coded_tree };
 
-    ghost use Rattle.odb_tree.specs.TreeNumbers.{IsWellKept};
+    ghost use Rattle.odb_tree.specs.WellKept.{IsWellKept};
 
     ghost view = { λ t. tree_of_entries t.nodes.entries };
 
@@ -45,10 +45,10 @@ const MAX_LINKS: u8 = 40;
 impl Tree {
     ghost use Rattle.std.specs.Prelude.{◌≡◌, true, false, IfOk, OnOk, OnErr, IsSome, IfSome, Some, None};
     ghost use Rattle.std.specs.Option.{option_copied};
-    ghost use Rattle.odb_tree.specs.Tree.{IsTree, node_at, with_node, bare_tree, is_directory};
-    ghost use Rattle.odb_tree.specs.Tree.Change.{is_file, is_file_content, longer, parent_node, device_of, lies_in_directory, least_free};
-    ghost use Rattle.odb_tree.specs.Tree.Way.{is_link};
-    ghost use Rattle.odb_tree.specs.declared.node.Node.{Node as NodeValue};
+    ghost use Rattle.odb_nodes.specs.Tree.{IsTree, node_at, with_node, bare_tree, is_directory};
+    ghost use Rattle.odb_nodes.specs.Tree.Change.{is_file, is_file_content, longer, parent_node, device_of, lies_in_directory, least_free};
+    ghost use Rattle.odb_nodes.specs.Tree.Way.{is_link};
+    ghost use Rattle.odb_nodes.specs.declared.node.Node.{Node as NodeValue};
 
     /// The root alone, on device 0, with inode number 1.
     pub fn bare(alloc: Global) -> Result<Tree, NoMemory>

@@ -3,8 +3,8 @@ use Rattle.std.proofs.Common.{◌≡◌, ◌≢◌, ℕ, ◌+◌, Bool, true, fa
 use Rattle.std.specs.List.{AllZip}
 use Rattle.odb_base.specs.Decimal.{number_of}
 use Rattle.odb_base.specs.Path.{Path, path_of}
-use Rattle.odb_tree.specs.declared.change.Change.{Change}
-use Rattle.odb_tree.specs.declared.change.Change.TheVariants as made
+use Rattle.odb_nodes.specs.declared.change.Change.{Change}
+use Rattle.odb_nodes.specs.declared.change.Change.TheVariants as made
 use Rattle.odb_script.specs.Change.{change_of, device}
 use Rattle.odb_script.specs.Content.{content_of}
 use Rattle.odb_script.specs.Line.{outside_item, setup_item}

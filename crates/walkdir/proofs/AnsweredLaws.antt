@@ -5,7 +5,7 @@ use Rattle.odb_disk.specs.CallsMade.{Leads}
 use Rattle.odb_disk.specs.declared.ask.DiskAsk.{DiskAsk}
 use Rattle.odb_disk.specs.declared.ask.DiskAnswer.{DiskAnswer}
 use Rattle.odb_disk.specs.Streams.{Streams}
-use Rattle.odb_tree.specs.Tree.{State}
+use Rattle.odb_nodes.specs.Tree.{State}
 use Rattle.odb_base.specs.Path.{Path}
 use Rattle.walkdir.proofs.AnsweredLemmas.{error_seen, error_wider, item_later, leads_still, leads_then}
 use Rattle.walkdir.proofs.AnsweredLemmas.Calls.{look_refused, no_memory_told}

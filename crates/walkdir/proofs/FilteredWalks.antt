@@ -9,7 +9,7 @@ use denote.Ref.{Bor}
 use Rattle.odb_disk.specs.declared.ask.DiskAsk.{DiskAsk}
 use Rattle.odb_disk.specs.declared.ask.DiskAnswer.{DiskAnswer}
 use Rattle.odb_disk.specs.Streams.{Streams}
-use Rattle.odb_tree.specs.Tree.{State}
+use Rattle.odb_nodes.specs.Tree.{State}
 use Rattle.odb_disk.specs.CallsMade.{Leads}
 use Rattle.walkdir.proofs.AnsweredLemmas.{item_later, leads_still, leads_then}
 use Rattle.walkdir.proofs.AnsweredLemmas.Steps.{tells_still, tells_then}

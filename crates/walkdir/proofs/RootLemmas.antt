@@ -4,12 +4,12 @@ use Rattle.std.specs.Option.{option_to_list}
 use Rattle.odb_base.specs.Path.{Path}
 use Rattle.odb_disk.specs.Ask.{error_of}
 use Rattle.odb_disk.specs.Streams.{Streams}
-use Rattle.odb_tree.specs.Tree.{State, tree_of}
-use Rattle.odb_tree.specs.Tree.Follow.{Refusal, looked}
-use Rattle.odb_tree.specs.Tree.Follow as trees
-use Rattle.odb_tree.specs.declared.meta.Meta.{Meta}
-use Rattle.odb_tree.specs.declared.disk_error.DiskError.{DiskError}
-use Rattle.odb_tree.specs.declared.disk_error.DiskError.TheVariants as refusals
+use Rattle.odb_nodes.specs.Tree.{State, tree_of}
+use Rattle.odb_nodes.specs.Tree.Follow.{Refusal, looked}
+use Rattle.odb_nodes.specs.Tree.Follow as trees
+use Rattle.odb_nodes.specs.declared.meta.Meta.{Meta}
+use Rattle.odb_nodes.specs.declared.disk_error.DiskError.{DiskError}
+use Rattle.odb_nodes.specs.declared.disk_error.DiskError.TheVariants as refusals
 use Rattle.walkdir.specs.Error.{io_error, is_no_memory}
 use Rattle.walkdir.specs.Progress.{Progress, Keeps}
 use Rattle.walkdir.specs.Stack.{StandsFor, Nothing, ancestors}

@@ -10,7 +10,7 @@ use Rattle.odb_base.specs.Faults.{Rose}
 use Rattle.odb_disk.specs.declared.ask.DiskAsk.{DiskAsk}
 use Rattle.odb_disk.specs.declared.ask.DiskAnswer.{DiskAnswer}
 use Rattle.odb_disk.specs.Streams.{Streams}
-use Rattle.odb_tree.specs.Tree.{State, Tree, tree_of}
+use Rattle.odb_nodes.specs.Tree.{State, Tree, tree_of}
 use Rattle.walkdir.proofs.OneListLaws.{walk_is_one}
 use Rattle.walkdir.proofs.WalkLaws.{same_walk}
 use Rattle.walkdir.specs.OnDisk.{NextOn, at_walk}

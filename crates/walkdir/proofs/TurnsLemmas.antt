@@ -6,7 +6,7 @@ use Rattle.std.specs.Prelude.{IfSome}
 use Rattle.std.specs.Option.{option_to_list}
 use Rattle.odb_base.specs.Path.{Path}
 use Rattle.odb_disk.specs.Streams.{Streams}
-use Rattle.odb_tree.specs.Tree.{State}
+use Rattle.odb_nodes.specs.Tree.{State}
 use Rattle.walkdir.specs.Progress.{Progress, GivesNext, Keeps, StillGives, still_to_come}
 use Rattle.walkdir.specs.Stack.{StandsFor}
 use Rattle.walkdir.specs.Walk.{Walking, Item}

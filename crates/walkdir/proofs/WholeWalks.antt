@@ -6,7 +6,7 @@ use Rattle.odb_base.specs.Faults.{Rose}
 use Rattle.odb_disk.specs.declared.ask.DiskAsk.{DiskAsk}
 use Rattle.odb_disk.specs.declared.ask.DiskAnswer.{DiskAnswer}
 use Rattle.odb_disk.specs.Streams.{Streams}
-use Rattle.odb_tree.specs.Tree.{State, Tree, tree_of}
+use Rattle.odb_nodes.specs.Tree.{State, Tree, tree_of}
 use Rattle.walkdir.proofs.FailuresLaws.{costs_begun, costs_later, fails_none, fails_then}
 use Rattle.walkdir.proofs.ProgressLemmas.{has_streams}
 use Rattle.walkdir.proofs.StillGivesLemmas.{something_left}

@@ -1,8 +1,8 @@
 -- The directories that a walk entered above a place: what they are is fixed by the tree, the root and the place.
 use Rattle.std.specs.Prelude.{◌≡◌, ℕ, ◌+◌, false, List, [], ◌∷◌, length, Option, Ok}
 use Rattle.odb_base.specs.Path.{Path}
-use Rattle.odb_tree.specs.Tree.Follow.{looked}
-use Rattle.odb_tree.specs.declared.meta.Meta.{Meta}
+use Rattle.odb_nodes.specs.Tree.Follow.{looked}
+use Rattle.odb_nodes.specs.declared.meta.Meta.{Meta}
 use Rattle.walkdir.specs.Walk.{Walking, Ancestor}
 use Rattle.walkdir.specs.Walk.Entries.{enter, entering, entry_by, taken_for}
 use Rattle.walkdir.specs.Within.{IsChild}

@@ -7,7 +7,7 @@ use denote.Ref.{Bor}
 use Rattle.odb_disk.specs.declared.ask.DiskAsk.{DiskAsk}
 use Rattle.odb_disk.specs.declared.ask.DiskAnswer.{DiskAnswer}
 use Rattle.odb_disk.specs.Streams.{Streams}
-use Rattle.odb_tree.specs.Tree.{State, tree_of}
+use Rattle.odb_nodes.specs.Tree.{State, tree_of}
 use Rattle.walkdir.specs.Above.{AreAbove}
 use Rattle.walkdir.specs.Answered.{AreTold, IsStackTold}
 use Rattle.walkdir.specs.Entered.{StaysOut}

@@ -1,7 +1,7 @@
 -- A walk on the disk that is lent to it, by the meanings of the disk and of what the walk keeps beside it.
 use Rattle.std.specs.Prelude.{◌≡◌, ℕ, true, Option, None}
 use Rattle.odb_disk.specs.Streams.{Streams}
-use Rattle.odb_tree.specs.Tree.{State}
+use Rattle.odb_nodes.specs.Tree.{State}
 use Rattle.odb_disk.specs.declared.ask.DiskAsk.{DiskAsk}
 use Rattle.odb_disk.specs.declared.ask.DiskAnswer.{DiskAnswer}
 use Rattle.walkdir.specs.Answered.{TellsOn}

@@ -82,7 +82,7 @@ impl WalkDir<NoSort> {
 
 impl<S: Drop> WalkDir<S> {
     ghost use Rattle.odb_disk.specs.Streams.{Streams};
-    ghost use Rattle.odb_tree.specs.Tree.{Tree};
+    ghost use Rattle.odb_nodes.specs.Tree.{Tree};
     ghost use Rattle.walkdir.specs.BuiltWalk.{walking};
     ghost use Rattle.walkdir.specs.Progress.{begun, has_its_streams};
     ghost use Rattle.walkdir.specs.StackProgress.{progress};

@@ -19,8 +19,8 @@ pub struct DirEntry {
 
 impl DirEntry {
     ghost use Rattle.std.specs.Prelude.{IfOk, IfSome};
-    ghost use Rattle.odb_tree.specs.Tree.{tree_of};
-    ghost use Rattle.odb_tree.specs.Tree.Follow.{looked};
+    ghost use Rattle.odb_nodes.specs.Tree.{tree_of};
+    ghost use Rattle.odb_nodes.specs.Tree.Follow.{looked};
     ghost use Rattle.walkdir.specs.Answered.{LooksBy};
     ghost use Rattle.walkdir.specs.Entry.{file_name_of, is_behind_link, is_dir, is_link, entry_at};
     ghost use Rattle.walkdir.specs.Failures.{Costs, failures_of};

@@ -8,7 +8,7 @@ use denote.Ref.{Bor}
 use Rattle.odb_disk.specs.declared.ask.DiskAsk.{DiskAsk}
 use Rattle.odb_disk.specs.declared.ask.DiskAnswer.{DiskAnswer}
 use Rattle.odb_disk.specs.Streams.{Streams}
-use Rattle.odb_tree.specs.Tree.{State}
+use Rattle.odb_nodes.specs.Tree.{State}
 use Rattle.walkdir.proofs.FilteredWalks.{FiltersOn, Kept, kept_along, kept_filters, kept_then}
 use Rattle.walkdir.proofs.FailuresLaws.{costs_begun, costs_fewer, fails_fewer, fails_next, fails_none, fails_skipped, fails_then, failures-last, memory_is_no_failure}
 use Rattle.walkdir.proofs.WholeWalks.{failures_along}

@@ -10,16 +10,16 @@ use Rattle.std.specs.declared.cmp.Ordering.{Ordering}
 use Rattle.std.specs.declared.cmp.Ordering.TheVariants.{Less, Equal, Greater}
 use Rattle.std.proofs.lemmas.Bool.{false_from_ne_true, or_from}
 use Rattle.odb_base.specs.Path.{Name, Path, path_cmp, same_name}
-use Rattle.odb_tree.specs.Entries.{opened}
-use Rattle.odb_tree.specs.Tree.{Tree, name_in, names_in}
-use Rattle.odb_tree.specs.Tree.Follow.{Place, Refusal, followed, listed, names_of, names_of_place}
-use Rattle.odb_tree.specs.Tree.Nodes.{entries_of, entries_of-sorted, names_in-entries_of}
-use Rattle.odb_tree.specs.declared.entry.Entry.{Entry}
-use Rattle.odb_tree.specs.declared.node.Content.{Content}
-use Rattle.odb_tree.specs.declared.node.Content.TheVariants.{File, Dir, Link}
-use Rattle.odb_tree.specs.declared.node.Node.{Node}
-use Rattle.odb_tree.proofs.TreeLemmas.{own_path, second}
-use Rattle.odb_tree.proofs.TreeLemmas.Change.{name_in-path}
+use Rattle.odb_nodes.specs.Entries.{opened}
+use Rattle.odb_nodes.specs.Tree.{Tree, name_in, names_in}
+use Rattle.odb_nodes.specs.Tree.Follow.{Place, Refusal, followed, listed, names_of, names_of_place}
+use Rattle.odb_nodes.specs.Tree.Nodes.{entries_of, entries_of-sorted, names_in-entries_of}
+use Rattle.odb_nodes.specs.declared.entry.Entry.{Entry}
+use Rattle.odb_nodes.specs.declared.node.Content.{Content}
+use Rattle.odb_nodes.specs.declared.node.Content.TheVariants.{File, Dir, Link}
+use Rattle.odb_nodes.specs.declared.node.Node.{Node}
+use Rattle.odb_nodes.proofs.TreeLemmas.{own_path, second}
+use Rattle.odb_nodes.proofs.TreeLemmas.Change.{name_in-path}
 use Rattle.gix_odb_packs.specs.PackFolder.{firsts, firsts_without}
 use Rattle.gix_odb_packs.proofs.ReachLemmas.{first_or_later, none_in}
 use Rattle.gix_odb_looks.proofs.FoundLaws.Lists.{has_first, has_later}

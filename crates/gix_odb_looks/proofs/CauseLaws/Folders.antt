@@ -6,11 +6,11 @@ use Rattle.odb_base.specs.Path.{Path}
 use Rattle.odb_disk.specs.declared.ask.DiskAnswer.{DiskAnswer}
 use Rattle.odb_disk.specs.declared.ask.DiskAnswer.TheVariants as answers
 use Rattle.odb_disk.specs.declared.ask.DiskAsk.{DiskAsk}
-use Rattle.odb_tree.specs.declared.disk_error.DiskError.TheVariants as disk_errors
-use Rattle.odb_tree.specs.declared.entry.Entry.{Entry}
-use Rattle.odb_tree.specs.declared.meta.Kind.{Kind}
-use Rattle.odb_tree.specs.declared.meta.Kind.TheVariants as kinds
-use Rattle.odb_tree.specs.declared.meta.Meta.{Meta}
+use Rattle.odb_nodes.specs.declared.disk_error.DiskError.TheVariants as disk_errors
+use Rattle.odb_nodes.specs.declared.entry.Entry.{Entry}
+use Rattle.odb_nodes.specs.declared.meta.Kind.{Kind}
+use Rattle.odb_nodes.specs.declared.meta.Kind.TheVariants as kinds
+use Rattle.odb_nodes.specs.declared.meta.Meta.{Meta}
 use Rattle.gix_hash.specs.declared.object_id.ObjectId.{ObjectId}
 use Rattle.gix_odb_slots.specs.declared.listing.ListingRow.{ListingRow}
 use Rattle.gix_odb_loose.specs.LooseOrder.{disk_ask_of, reply_of}

@@ -3,7 +3,7 @@ use Rattle.std.proofs.Common.{◌≡◌, ℕ, true, false, List, Contains, Some,
 use Rattle.odb_base.specs.Path.{Path}
 use Rattle.odb_disk.specs.declared.ask.DiskAnswer.{DiskAnswer}
 use Rattle.odb_disk.specs.declared.ask.DiskAnswer.TheVariants as answers
-use Rattle.odb_tree.specs.declared.disk_error.DiskError.TheVariants as disk_errors
+use Rattle.odb_nodes.specs.declared.disk_error.DiskError.TheVariants as disk_errors
 use Rattle.gix_hash.specs.declared.kind.Kind.{Kind}
 use Rattle.gix_hash.specs.declared.object_id.ObjectId.{ObjectId}
 use Rattle.gix_odb_loose.specs.LooseOrder.{reply_of}

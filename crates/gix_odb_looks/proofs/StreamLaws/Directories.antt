@@ -5,14 +5,14 @@ use Rattle.std.proofs.Common.{refl, sym, ap, ◌∙◌, subst, append_assoc, app
 use Rattle.std.proofs.lemmas.List.{length-map}
 use Rattle.std.proofs.lemmas.List.Elements.{Contains-append_left, Contains-append_right}
 use Rattle.odb_base.specs.Path.{Name, Path}
-use Rattle.odb_tree.specs.Entries.{entry_of, opened}
-use Rattle.odb_tree.specs.Tree.{State, Tree, node_at, tree_of}
-use Rattle.odb_tree.specs.Tree.Follow.{listed, looked}
-use Rattle.odb_tree.specs.declared.change.Change.{Change}
-use Rattle.odb_tree.specs.declared.disk_error.DiskError.TheVariants as errors
-use Rattle.odb_tree.specs.declared.entry.Entry.{Entry}
-use Rattle.odb_tree.specs.declared.meta.Kind.TheVariants as kinds
-use Rattle.odb_tree.specs.declared.meta.Meta.{Meta}
+use Rattle.odb_nodes.specs.Entries.{entry_of, opened}
+use Rattle.odb_nodes.specs.Tree.{State, Tree, node_at, tree_of}
+use Rattle.odb_nodes.specs.Tree.Follow.{listed, looked}
+use Rattle.odb_nodes.specs.declared.change.Change.{Change}
+use Rattle.odb_nodes.specs.declared.disk_error.DiskError.TheVariants as errors
+use Rattle.odb_nodes.specs.declared.entry.Entry.{Entry}
+use Rattle.odb_nodes.specs.declared.meta.Kind.TheVariants as kinds
+use Rattle.odb_nodes.specs.declared.meta.Meta.{Meta}
 use Rattle.odb_disk.specs.Ask.{after_ask, answer_now}
 use Rattle.odb_disk.specs.MemDisk.{Volume, after_outside_change}
 use Rattle.odb_disk.specs.declared.ask.DiskAnswer.{DiskAnswer}

@@ -7,16 +7,16 @@ use Rattle.std.specs.Option.{option_map}
 use Rattle.std.specs.Ordering.{eq_by_cmp}
 use Rattle.std.proofs.lemmas.List.Elements.{All-contains, All-from_recursion, Contains-append_left, Contains-append_right}
 use Rattle.odb_base.specs.Path.{Name, Path, path_cmp}
-use Rattle.odb_tree.specs.Entries.{entries_at, entries_at_place, entries_in, entry_in, entry_of, opened}
-use Rattle.odb_tree.specs.Tree.{Tree, name_in, names_in, node_at}
-use Rattle.odb_tree.specs.Tree.Follow.{Place, Refusal, followed, listed, names_of, names_of_place}
-use Rattle.odb_tree.specs.Tree.Nodes.{entries_of, entries_of-sorted, names_in-entries_of, node_at-entries_of}
-use Rattle.odb_tree.specs.declared.entry.Entry.{Entry}
-use Rattle.odb_tree.specs.declared.node.Content.{Content}
-use Rattle.odb_tree.specs.declared.node.Content.TheVariants.{File, Dir, Link}
-use Rattle.odb_tree.specs.declared.node.Node.{Node}
-use Rattle.odb_tree.proofs.TreeLemmas.{find_later, find_own, same_path, second}
-use Rattle.odb_tree.proofs.TreeLemmas.Change.{name_in-path, name_in-push}
+use Rattle.odb_nodes.specs.Entries.{entries_at, entries_at_place, entries_in, entry_in, entry_of, opened}
+use Rattle.odb_nodes.specs.Tree.{Tree, name_in, names_in, node_at}
+use Rattle.odb_nodes.specs.Tree.Follow.{Place, Refusal, followed, listed, names_of, names_of_place}
+use Rattle.odb_nodes.specs.Tree.Nodes.{entries_of, entries_of-sorted, names_in-entries_of, node_at-entries_of}
+use Rattle.odb_nodes.specs.declared.entry.Entry.{Entry}
+use Rattle.odb_nodes.specs.declared.node.Content.{Content}
+use Rattle.odb_nodes.specs.declared.node.Content.TheVariants.{File, Dir, Link}
+use Rattle.odb_nodes.specs.declared.node.Node.{Node}
+use Rattle.odb_nodes.proofs.TreeLemmas.{find_later, find_own, same_path, second}
+use Rattle.odb_nodes.proofs.TreeLemmas.Change.{name_in-path, name_in-push}
 
 abbrev Nodes : Type 0
 Nodes = List (Path × Node)

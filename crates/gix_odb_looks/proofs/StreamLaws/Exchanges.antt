@@ -1,9 +1,9 @@
 -- Laws of what exchanges tell of the stream that is open: they tell what it has given, and its next answer is fair.
 use Rattle.std.proofs.Common.{◌≡◌, ℕ, List, [], ◌∷◌, ◌++◌, length, Option, Some, None, Ok, refl, sym, subst}
 use Rattle.odb_base.specs.Path.{Name, Path}
-use Rattle.odb_tree.specs.Tree.{Tree}
-use Rattle.odb_tree.specs.Tree.Follow.{listed}
-use Rattle.odb_tree.specs.declared.entry.Entry.{Entry}
+use Rattle.odb_nodes.specs.Tree.{Tree}
+use Rattle.odb_nodes.specs.Tree.Follow.{listed}
+use Rattle.odb_nodes.specs.declared.entry.Entry.{Entry}
 use Rattle.odb_disk.specs.Ask.{after_ask, answer_now}
 use Rattle.odb_disk.specs.MemDisk.{Volume}
 use Rattle.odb_disk.specs.declared.ask.DiskAnswer.{DiskAnswer}

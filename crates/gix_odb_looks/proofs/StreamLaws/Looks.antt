@@ -2,16 +2,16 @@
 use Rattle.std.proofs.Common.{◌≡◌, ℕ, zero, suc, true, false, [], ◌∷◌, ◌++◌, Option, Some, None, Result, Ok, Err}
 use Rattle.std.proofs.Common.{refl, sym, ap, ◌∙◌, subst, append_assoc}
 use Rattle.odb_base.specs.Path.{Name, Path}
-use Rattle.odb_tree.specs.Entries.{entry_of, kind_of}
-use Rattle.odb_tree.specs.Tree.{Tree, node_at}
+use Rattle.odb_nodes.specs.Entries.{entry_of, kind_of}
+use Rattle.odb_nodes.specs.Tree.{Tree, node_at}
 use Rattle.gix_odb_looks.specs.OpenStream.{entry_from}
-use Rattle.odb_tree.specs.Tree.Follow.{Absent, Blocked, LinkLoop, Missing, Onward, Pass, Place, Reached, Refusal}
-use Rattle.odb_tree.specs.Tree.Follow.{arrives, at_last, beyond, ending, followed, followed_within, looked}
-use Rattle.odb_tree.specs.Tree.Follow.{meta_of, meta_of_place, meta_with, most_links, pass, past}
-use Rattle.odb_tree.specs.declared.meta.Meta.{Meta}
-use Rattle.odb_tree.specs.declared.node.Content.{Content}
-use Rattle.odb_tree.specs.declared.node.Content.TheVariants.{File, Dir, Link}
-use Rattle.odb_tree.specs.declared.node.Node.{Node}
+use Rattle.odb_nodes.specs.Tree.Follow.{Absent, Blocked, LinkLoop, Missing, Onward, Pass, Place, Reached, Refusal}
+use Rattle.odb_nodes.specs.Tree.Follow.{arrives, at_last, beyond, ending, followed, followed_within, looked}
+use Rattle.odb_nodes.specs.Tree.Follow.{meta_of, meta_of_place, meta_with, most_links, pass, past}
+use Rattle.odb_nodes.specs.declared.meta.Meta.{Meta}
+use Rattle.odb_nodes.specs.declared.node.Content.{Content}
+use Rattle.odb_nodes.specs.declared.node.Content.TheVariants.{File, Dir, Link}
+use Rattle.odb_nodes.specs.declared.node.Node.{Node}
 
 module _ (tree : Tree) (name : Name) where
   -- what a directory at a path says of one name more

@@ -8,11 +8,11 @@ use Rattle.std.proofs.lemmas.Option.{slice_get_within}
 use Rattle.odb_base.specs.Path.{Name, Path, same_name}
 use Rattle.odb_disk.specs.declared.ask.DiskAnswer.{DiskAnswer}
 use Rattle.odb_disk.specs.declared.ask.DiskAnswer.TheVariants as answers
-use Rattle.odb_tree.specs.declared.disk_error.DiskError.TheVariants as disk_errors
-use Rattle.odb_tree.specs.declared.entry.Entry.{Entry}
-use Rattle.odb_tree.specs.declared.meta.Kind.{Kind}
-use Rattle.odb_tree.specs.declared.meta.Kind.TheVariants as kinds
-use Rattle.odb_tree.specs.declared.meta.Meta.{Meta}
+use Rattle.odb_nodes.specs.declared.disk_error.DiskError.TheVariants as disk_errors
+use Rattle.odb_nodes.specs.declared.entry.Entry.{Entry}
+use Rattle.odb_nodes.specs.declared.meta.Kind.{Kind}
+use Rattle.odb_nodes.specs.declared.meta.Kind.TheVariants as kinds
+use Rattle.odb_nodes.specs.declared.meta.Meta.{Meta}
 use Rattle.gix_odb_slots.specs.declared.listing.ListingRow.{ListingRow}
 use Rattle.gix_odb_packs.specs.ListOrder.{ask_at, at_paths, behind_folder, by_index, by_kind, by_pack, by_pack_kind, fed, fed_at, opened, read, with_row}
 use Rattle.gix_odb_packs.specs.PackFolder.{firsts, firsts_without, index_paths, is_index_entry}

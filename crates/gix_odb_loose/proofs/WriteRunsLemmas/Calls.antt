@@ -3,7 +3,7 @@ use Rattle.std.specs.Prelude.{◌≡◌, ⊤, ℕ, List, [], ◌++◌, length, d
 use Rattle.std.proofs.Common.{inl, inr, sym, ap, ◌∙◌, subst, arith}
 use Rattle.std.proofs.Math.Seq.{drop-append_seam}
 use Rattle.odb_base.specs.Faults.{Rose}
-use Rattle.odb_tree.specs.Tree.{State}
+use Rattle.odb_nodes.specs.Tree.{State}
 use Rattle.gix_hash.specs.Hash.{hash_of}
 use Rattle.gix_hash.specs.ObjectId.{kind_of}
 use Rattle.gix_hash.specs.declared.kind.Kind.{Kind as HashKind}

@@ -3,9 +3,9 @@ use Rattle.std.specs.Prelude.{ℕ, ◌==◌, Bool, true, false, not, List, [], �
 use Rattle.odb_base.specs.Path.{Path}
 use Rattle.odb_disk.specs.declared.ask.DiskAnswer.{DiskAnswer}
 use Rattle.odb_disk.specs.declared.ask.DiskAnswer.TheVariants as answers
-use Rattle.odb_tree.specs.declared.disk_error.DiskError.TheVariants as disk_errors
-use Rattle.odb_tree.specs.declared.meta.Kind.{Kind as NodeKind}
-use Rattle.odb_tree.specs.declared.meta.Kind.TheVariants as nodes
+use Rattle.odb_nodes.specs.declared.disk_error.DiskError.TheVariants as disk_errors
+use Rattle.odb_nodes.specs.declared.meta.Kind.{Kind as NodeKind}
+use Rattle.odb_nodes.specs.declared.meta.Kind.TheVariants as nodes
 use Rattle.gix_object.specs.Limit.{is_within}
 use Rattle.gix_object.specs.Loose.{LooseObject, loose_of}
 use Rattle.gix_object.specs.declared.kind.Kind.{Kind}

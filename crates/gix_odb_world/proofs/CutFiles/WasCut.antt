@@ -2,9 +2,9 @@
 use Rattle.std.proofs.Common.{◌≡◌, ◌≢◌, ◌⊎◌, ℕ, ◌+◌, ◌<◌, ◌≤◌, true, Some}
 use Rattle.std.specs.Prelude.{slice_get}
 use Rattle.odb_base.specs.Path.{Path}
-use Rattle.odb_tree.specs.Tree.{Tree}
-use Rattle.odb_tree.specs.Tree.Way.{SameOnWay}
-use Rattle.odb_tree.proofs.OwnWayLaws.{Stops}
+use Rattle.odb_nodes.specs.Tree.{Tree}
+use Rattle.odb_nodes.specs.Tree.Way.{SameOnWay}
+use Rattle.odb_nodes.proofs.OwnWayLaws.{Stops}
 use Rattle.gix_odb_loose.proofs.NameLaws.{IsTemporary}
 use Rattle.gix_odb_world.specs.Event.{Event}
 use Rattle.gix_odb_world.specs.Run.{IsTurnOf, tree_at}

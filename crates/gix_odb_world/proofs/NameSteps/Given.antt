@@ -5,17 +5,17 @@ use Rattle.std.proofs.lemmas.Bool.{cases_lt}
 use Rattle.std.proofs.lemmas.List.{length_push}
 use Rattle.std.proofs.lemmas.Option.{slice_get_within}
 use Rattle.odb_base.specs.Path.{Path}
-use Rattle.odb_tree.specs.Tree.{IsTree, Tree, tree_of}
-use Rattle.odb_tree.specs.Tree.Change.{changed}
-use Rattle.odb_tree.specs.Tree.Follow.{read_of}
-use Rattle.odb_tree.specs.Tree.Way.{SameOnWay, crosses}
-use Rattle.odb_tree.specs.Tree.Write.{change_of_rename, file_spot, spot}
+use Rattle.odb_nodes.specs.Tree.{IsTree, Tree, tree_of}
+use Rattle.odb_nodes.specs.Tree.Change.{changed}
+use Rattle.odb_nodes.specs.Tree.Follow.{read_of}
+use Rattle.odb_nodes.specs.Tree.Way.{SameOnWay, crosses}
+use Rattle.odb_nodes.specs.Tree.Write.{change_of_rename, file_spot, spot}
 use Rattle.odb_disk.specs.declared.ask.DiskAnswer.TheVariants as answers
 use Rattle.odb_disk.specs.declared.ask.DiskAsk.TheVariants as asks
-use Rattle.odb_tree.specs.declared.change.Change.TheVariants.{PutFile, Rename}
-use Rattle.odb_tree.proofs.OwnWayLaws.{OwnSpot, moved_onto, moved_onto_crosses, moved_onto_reads, own_rename}
-use Rattle.odb_tree.proofs.TreeLemmas.Write.{replaceable_at}
-use Rattle.odb_tree.proofs.WayWriteLaws.{rename_file_spot, rename_spot}
+use Rattle.odb_nodes.specs.declared.change.Change.TheVariants.{PutFile, Rename}
+use Rattle.odb_nodes.proofs.OwnWayLaws.{OwnSpot, moved_onto, moved_onto_crosses, moved_onto_reads, own_rename}
+use Rattle.odb_nodes.proofs.TreeLemmas.Write.{replaceable_at}
+use Rattle.odb_nodes.proofs.WayWriteLaws.{rename_file_spot, rename_spot}
 use Rattle.gix_hash.specs.declared.object_id.ObjectId.{ObjectId}
 use Rattle.gix_odb_loose.specs.WriteOrder.{temp_path}
 use Rattle.gix_odb_calls.specs.declared.call.Reply.TheVariants as replies

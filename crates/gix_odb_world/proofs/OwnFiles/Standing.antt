@@ -5,13 +5,13 @@ use Rattle.std.proofs.lemmas.Bool.{eqb-false, eqb-true}
 use Rattle.std.proofs.lemmas.Option.{slice_get_within}
 use Rattle.odb_base.specs.Path.{Path, parent_of}
 use Rattle.odb_base.specs.PathLaws.{parent_of-push, parent_of-some}
-use Rattle.odb_tree.specs.Tree.{Tree}
-use Rattle.odb_tree.specs.Tree.Change.{changed}
-use Rattle.odb_tree.specs.Tree.Way.{SameOnWay}
-use Rattle.odb_tree.specs.Tree.Write.{file_spot, spot}
-use Rattle.odb_tree.specs.declared.change.Change.{Change}
-use Rattle.odb_tree.specs.declared.change.Change.TheVariants.{PutFile}
-use Rattle.odb_tree.proofs.OwnWayLaws.{Cut, OwnSpot, cut_kept, cut_no_file, own_kept}
+use Rattle.odb_nodes.specs.Tree.{Tree}
+use Rattle.odb_nodes.specs.Tree.Change.{changed}
+use Rattle.odb_nodes.specs.Tree.Way.{SameOnWay}
+use Rattle.odb_nodes.specs.Tree.Write.{file_spot, spot}
+use Rattle.odb_nodes.specs.declared.change.Change.{Change}
+use Rattle.odb_nodes.specs.declared.change.Change.TheVariants.{PutFile}
+use Rattle.odb_nodes.proofs.OwnWayLaws.{Cut, OwnSpot, cut_kept, cut_no_file, own_kept}
 use Rattle.gix_odb_loose.specs.WriteOrder.{number_made, temp_name, temp_path}
 use Rattle.gix_odb_loose.specs.declared.call.LooseCall.{LooseCall}
 use Rattle.gix_odb_loose.specs.declared.call.Stage.TheVariants.{Writing}

@@ -4,12 +4,12 @@ use Rattle.std.specs.Prelude.{slice_get}
 use Rattle.std.proofs.lemmas.Option.{slice_get_within}
 use Rattle.odb_base.specs.Path.{Path}
 use Rattle.odb_disk.specs.Ask.{answer_now}
-use Rattle.odb_tree.specs.Tree.{Tree}
-use Rattle.odb_tree.specs.Tree.Change.{changed}
-use Rattle.odb_tree.specs.Tree.Write.{change_of_append}
-use Rattle.odb_tree.specs.declared.change.Change.{Change}
-use Rattle.odb_tree.proofs.OwnWayLaws.{OwnSpot, own_appended, own_foldered, own_kept}
-use Rattle.odb_tree.proofs.WayWriteLaws.{rename_change}
+use Rattle.odb_nodes.specs.Tree.{Tree}
+use Rattle.odb_nodes.specs.Tree.Change.{changed}
+use Rattle.odb_nodes.specs.Tree.Write.{change_of_append}
+use Rattle.odb_nodes.specs.declared.change.Change.{Change}
+use Rattle.odb_nodes.proofs.OwnWayLaws.{OwnSpot, own_appended, own_foldered, own_kept}
+use Rattle.odb_nodes.proofs.WayWriteLaws.{rename_change}
 use Rattle.gix_odb_loose.specs.LooseFile.{loose_path}
 use Rattle.gix_odb_loose.specs.LooseOrder as loose_order
 use Rattle.gix_odb_loose.specs.WriteOrder.{number_made, temp_path}

@@ -2,12 +2,12 @@
 use Rattle.std.proofs.Common.{◌≡◌, ℕ, Bool, true, false, List, Result, Ok, refl, sym, ap, ◌∙◌, subst}
 use Rattle.std.specs.Prelude.{if◌then◌else◌}
 use Rattle.odb_base.specs.Path.{Path}
-use Rattle.odb_tree.specs.Entries.{opened}
-use Rattle.odb_tree.specs.Tree.{Tree, tree_of}
-use Rattle.odb_tree.specs.Tree.Follow.{Refusal, looked, read_of}
-use Rattle.odb_tree.specs.declared.disk_error.DiskError.TheVariants as errors
-use Rattle.odb_tree.specs.declared.entry.Entry.{Entry}
-use Rattle.odb_tree.specs.declared.meta.Meta.{Meta}
+use Rattle.odb_nodes.specs.Entries.{opened}
+use Rattle.odb_nodes.specs.Tree.{Tree, tree_of}
+use Rattle.odb_nodes.specs.Tree.Follow.{Refusal, looked, read_of}
+use Rattle.odb_nodes.specs.declared.disk_error.DiskError.TheVariants as errors
+use Rattle.odb_nodes.specs.declared.entry.Entry.{Entry}
+use Rattle.odb_nodes.specs.declared.meta.Meta.{Meta}
 use Rattle.odb_disk.specs.Ask.{answer_in, answer_now, answer_of, dir_answer, fails_now, file_answer, meta_answer}
 use Rattle.odb_disk.specs.MemDisk.{Volume}
 use Rattle.odb_disk.specs.StreamAsks.{least_closed}

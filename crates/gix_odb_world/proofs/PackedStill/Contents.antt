@@ -1,7 +1,7 @@
 -- What lies in a pack for a call lies there for its look-up: the index gives the id the offset.
 use Rattle.std.proofs.Common.{◌≡◌, ℕ, List, subst}
 use Rattle.odb_base.specs.Path.{Name}
-use Rattle.odb_tree.specs.Tree.{Tree}
+use Rattle.odb_nodes.specs.Tree.{Tree}
 use Rattle.gix_hash.specs.ObjectId.{kind_of}
 use Rattle.gix_hash.specs.declared.kind.Kind.{Kind}
 use Rattle.gix_hash.specs.declared.object_id.ObjectId.{ObjectId}

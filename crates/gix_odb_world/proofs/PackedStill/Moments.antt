@@ -4,9 +4,9 @@ use Rattle.std.proofs.lemmas.Bool.{cases_lt}
 use Rattle.std.proofs.lemmas.List.{length_push}
 use Rattle.odb_base.specs.Path.{Path}
 use Rattle.odb_disk.specs.MemDisk.{Volume}
-use Rattle.odb_tree.specs.Tree.{Tree, tree_of}
-use Rattle.odb_tree.specs.Tree.Follow.{read_of}
-use Rattle.odb_tree.specs.declared.change.Change.{Change}
+use Rattle.odb_nodes.specs.Tree.{Tree, tree_of}
+use Rattle.odb_nodes.specs.Tree.Follow.{read_of}
+use Rattle.odb_nodes.specs.declared.change.Change.{Change}
 use Rattle.gix_hash.specs.declared.object_id.ObjectId.{ObjectId}
 use Rattle.gix_odb_looks.specs.Fair.{IsIndexSound, PackedPlace, index_at}
 use Rattle.gix_odb_looks.specs.Found.{Gives}

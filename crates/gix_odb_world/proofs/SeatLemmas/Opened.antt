@@ -4,9 +4,9 @@ use Rattle.std.specs.Prelude.{if◌then◌else◌, nat_le}
 use Rattle.odb_base.specs.Path.{Path}
 use Rattle.odb_disk.specs.declared.ask.DiskAnswer.{DiskAnswer}
 use Rattle.odb_disk.specs.declared.ask.DiskAnswer.TheVariants as answers
-use Rattle.odb_tree.specs.declared.disk_error.DiskError.TheVariants as disk_errors
-use Rattle.odb_tree.specs.declared.meta.Kind.{Kind}
-use Rattle.odb_tree.specs.declared.meta.Kind.TheVariants as kinds
+use Rattle.odb_nodes.specs.declared.disk_error.DiskError.TheVariants as disk_errors
+use Rattle.odb_nodes.specs.declared.meta.Kind.{Kind}
+use Rattle.odb_nodes.specs.declared.meta.Kind.TheVariants as kinds
 use Rattle.gix_odb.specs.OpenOrder.{begun, fed, listed_on, looked, numbered, refused, result_of, shown, slots_for}
 use Rattle.gix_odb_slots.specs.PackId.{most_slots}
 use Rattle.gix_odb_packs.specs.ListOrder as lists

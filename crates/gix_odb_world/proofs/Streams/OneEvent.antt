@@ -4,9 +4,9 @@ use Rattle.std.specs.Prelude.{◌==◌, if◌then◌else◌}
 use Rattle.std.proofs.lemmas.Bool.{eqb-true}
 use Rattle.std.proofs.lemmas.List.{length_push}
 use Rattle.odb_base.specs.Path.{Path}
-use Rattle.odb_tree.specs.Tree.{Tree}
-use Rattle.odb_tree.specs.declared.change.Change.{Change}
-use Rattle.odb_tree.specs.declared.entry.Entry.{Entry}
+use Rattle.odb_nodes.specs.Tree.{Tree}
+use Rattle.odb_nodes.specs.declared.change.Change.{Change}
+use Rattle.odb_nodes.specs.declared.entry.Entry.{Entry}
 use Rattle.odb_disk.specs.MemDisk.{Volume}
 use Rattle.gix_odb_calls.specs.declared.call.Call.{Call}
 use Rattle.gix_odb_calls.specs.declared.call.Reply.{Reply}

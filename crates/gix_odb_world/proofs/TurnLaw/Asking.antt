@@ -1,7 +1,7 @@
 -- What a turn does that asks so: what its record says, what it changes, and what the code of it does.
 use Rattle.std.proofs.Common.{◌≡◌, ℕ, List, Option, Some, None, Ok, Err, Result, refl, ap, subst, sym}
 use Rattle.odb_base.specs.Path.{Path}
-use Rattle.odb_tree.specs.Tree.{IsTree, tree_of}
+use Rattle.odb_nodes.specs.Tree.{IsTree, tree_of}
 use Rattle.odb_disk.specs.MemDisk.{Volume}
 use Rattle.odb_disk.specs.Ask.{op_of}
 use Rattle.gix_odb_calls.specs.declared.call.Reply.{Reply}

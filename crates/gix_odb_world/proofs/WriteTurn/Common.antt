@@ -5,19 +5,19 @@ use Rattle.std.proofs.Math.Seq.{take-length}
 use Rattle.odb_base.specs.Path.{Path}
 use Rattle.odb_disk.specs.Ask.{answer_now}
 use Rattle.odb_disk.specs.MemDisk.{Volume}
-use Rattle.odb_tree.specs.Tree.{IsTree, Tree, tree_of}
-use Rattle.odb_tree.specs.Tree.Change.{changed}
-use Rattle.odb_tree.specs.Tree.Write.{change_of_append, change_of_make_dir, change_of_new_file, written}
+use Rattle.odb_nodes.specs.Tree.{IsTree, Tree, tree_of}
+use Rattle.odb_nodes.specs.Tree.Change.{changed}
+use Rattle.odb_nodes.specs.Tree.Write.{change_of_append, change_of_make_dir, change_of_new_file, written}
 use Rattle.odb_disk.specs.declared.ask.DiskAnswer.{DiskAnswer}
 use Rattle.odb_disk.specs.declared.ask.DiskAnswer.TheVariants as answers
 use Rattle.odb_disk.specs.declared.ask.DiskAsk.{DiskAsk}
 use Rattle.odb_disk.specs.declared.ask.DiskAsk.TheVariants as asks
-use Rattle.odb_tree.specs.declared.change.Change.{Change}
-use Rattle.odb_tree.specs.declared.change.Change.TheVariants.{MakeDir}
-use Rattle.odb_tree.specs.OwnFile.{HasFile}
-use Rattle.odb_tree.proofs.OwnFileLaws.{has_file_kept, has_more, has_new_file, kept_by_make_dir}
-use Rattle.odb_tree.proofs.WayWriteLaws.{make_dir_change}
-use Rattle.odb_tree.proofs.WriteLaws.{tree_of-written}
+use Rattle.odb_nodes.specs.declared.change.Change.{Change}
+use Rattle.odb_nodes.specs.declared.change.Change.TheVariants.{MakeDir}
+use Rattle.odb_nodes.specs.OwnFile.{HasFile}
+use Rattle.odb_nodes.proofs.OwnFileLaws.{has_file_kept, has_more, has_new_file, kept_by_make_dir}
+use Rattle.odb_nodes.proofs.WayWriteLaws.{make_dir_change}
+use Rattle.odb_nodes.proofs.WriteLaws.{tree_of-written}
 use Rattle.gix_hash.specs.declared.object_id.ObjectId.{ObjectId}
 use Rattle.gix_odb_loose.specs.Exchanges.{Exchange}
 use Rattle.gix_odb_loose.specs.WriteHistory.{IsStopped}

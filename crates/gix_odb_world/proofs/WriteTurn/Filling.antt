@@ -4,13 +4,13 @@ use Rattle.std.specs.Prelude.{if◌then◌else◌}
 use Rattle.odb_base.specs.Path.{Path}
 use Rattle.odb_disk.specs.Ask.{answer_now}
 use Rattle.odb_disk.specs.MemDisk.{Volume}
-use Rattle.odb_tree.specs.Tree.{tree_of}
-use Rattle.odb_tree.specs.Tree.Write.{change_of_append}
+use Rattle.odb_nodes.specs.Tree.{tree_of}
+use Rattle.odb_nodes.specs.Tree.Write.{change_of_append}
 use Rattle.odb_disk.specs.declared.ask.DiskAnswer.{DiskAnswer}
 use Rattle.odb_disk.specs.declared.ask.DiskAnswer.TheVariants as answers
 use Rattle.odb_disk.specs.declared.ask.DiskAsk.TheVariants as asks
-use Rattle.odb_tree.specs.declared.change.Change.TheVariants.{Append}
-use Rattle.odb_tree.proofs.WayWriteLaws.{append_change}
+use Rattle.odb_nodes.specs.declared.change.Change.TheVariants.{Append}
+use Rattle.odb_nodes.proofs.WayWriteLaws.{append_change}
 use Rattle.gix_object.specs.Loose.{header_of}
 use Rattle.gix_odb_loose.specs.WriteDone.{HasNext}
 use Rattle.gix_odb_loose.specs.WriteJobs.{piece_at}

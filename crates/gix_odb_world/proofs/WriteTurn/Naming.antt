@@ -4,20 +4,20 @@ use Rattle.std.proofs.lemmas.List.{length_push}
 use Rattle.odb_base.specs.Path.{Path}
 use Rattle.odb_disk.specs.Ask.{answer_now}
 use Rattle.odb_disk.specs.MemDisk.{Volume}
-use Rattle.odb_tree.specs.Tree.{Tree, tree_of}
-use Rattle.odb_tree.specs.Tree.Change.{changed}
-use Rattle.odb_tree.specs.Tree.Follow.{read_of}
-use Rattle.odb_tree.specs.Tree.Way.{crosses}
-use Rattle.odb_tree.specs.Tree.Write.{change_of_make_dir, change_of_remove, change_of_rename}
+use Rattle.odb_nodes.specs.Tree.{Tree, tree_of}
+use Rattle.odb_nodes.specs.Tree.Change.{changed}
+use Rattle.odb_nodes.specs.Tree.Follow.{read_of}
+use Rattle.odb_nodes.specs.Tree.Way.{crosses}
+use Rattle.odb_nodes.specs.Tree.Write.{change_of_make_dir, change_of_remove, change_of_rename}
 use Rattle.odb_disk.specs.declared.ask.DiskAnswer.{DiskAnswer}
 use Rattle.odb_disk.specs.declared.ask.DiskAnswer.TheVariants as answers
 use Rattle.odb_disk.specs.declared.ask.DiskAsk.{DiskAsk}
 use Rattle.odb_disk.specs.declared.ask.DiskAsk.TheVariants as asks
-use Rattle.odb_tree.specs.declared.change.Change.{Change}
-use Rattle.odb_tree.specs.declared.change.Change.TheVariants.{MakeDir, Rename, Remove}
-use Rattle.odb_tree.specs.declared.disk_error.DiskError.TheVariants as disk_errors
-use Rattle.odb_tree.proofs.OwnFileLaws.{moved_reads, moves_file}
-use Rattle.odb_tree.proofs.WayWriteLaws.{make_dir_change, remove_change, rename_change}
+use Rattle.odb_nodes.specs.declared.change.Change.{Change}
+use Rattle.odb_nodes.specs.declared.change.Change.TheVariants.{MakeDir, Rename, Remove}
+use Rattle.odb_nodes.specs.declared.disk_error.DiskError.TheVariants as disk_errors
+use Rattle.odb_nodes.proofs.OwnFileLaws.{moved_reads, moves_file}
+use Rattle.odb_nodes.proofs.WayWriteLaws.{make_dir_change, remove_change, rename_change}
 use Rattle.gix_hash.specs.declared.object_id.ObjectId.{ObjectId}
 use Rattle.gix_object.specs.Loose.{header_of}
 use Rattle.gix_odb_loose.proofs.WriteDoneLaws.{IsAlong-done}

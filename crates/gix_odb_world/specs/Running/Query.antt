@@ -5,7 +5,7 @@ use Rattle.odb_disk.specs.Ask.{answer_now, fails_now}
 use Rattle.odb_disk.specs.MemDisk.{Volume}
 use Rattle.odb_disk.specs.declared.ask.DiskAnswer.{DiskAnswer}
 use Rattle.odb_disk.specs.declared.ask.DiskAsk.{DiskAsk}
-use Rattle.odb_tree.specs.Tree.{tree_of}
+use Rattle.odb_nodes.specs.Tree.{tree_of}
 use Rattle.gix_hash.specs.ObjectId.{kind_of}
 use Rattle.gix_hash.specs.declared.object_id.ObjectId.{ObjectId}
 use Rattle.gix_odb_calls.specs.declared.query.Query.{Query}

@@ -1,7 +1,7 @@
 //! The first reason why a step isn't valid.
 ghost use Rattle.std.specs.Prelude.{◌≡◌, IfOk};
 ghost use Rattle.std.specs.Result.{result_err};
-ghost use Rattle.odb_tree.specs.Tree.{tree_of};
+ghost use Rattle.odb_nodes.specs.Tree.{tree_of};
 ghost use Rattle.gix_odb_shown.specs.Kept.{Fits};
 ghost use Rattle.gix_odb_world.specs.Table.{IsReasonNow, phase_of_handle, would_change_now};
 ghost use Rattle.gix_odb_world.specs.Valid as valid;

@@ -2,20 +2,20 @@
 use Rattle.std.specs.Prelude.{if◌then◌else◌}
 use Rattle.std.specs.Result.{result_ok}
 use Rattle.std.proofs.Common.{◌≡◌, ◌≢◌, ◌↔◌, true, false, Bool, List, [], ◌∷◌, Option, Some, None, Result, Ok, Err, refl, sym, ap, ◌∙◌, cond}
-use Rattle.odb_tree.specs.Tree.{Tree, State, tree_of}
-use Rattle.odb_tree.specs.Tree.Follow.{Refusal}
-use Rattle.odb_tree.specs.Tree.Write as writing
-use Rattle.odb_tree.specs.Tree.Write.{change_of_make_dir, change_of_new_file, change_of_append, change_of_rename, change_of_remove, done, written}
+use Rattle.odb_nodes.specs.Tree.{Tree, State, tree_of}
+use Rattle.odb_nodes.specs.Tree.Follow.{Refusal}
+use Rattle.odb_nodes.specs.Tree.Write as writing
+use Rattle.odb_nodes.specs.Tree.Write.{change_of_make_dir, change_of_new_file, change_of_append, change_of_rename, change_of_remove, done, written}
 use Rattle.odb_disk.specs.MemDisk.{Volume, after_call}
 use Rattle.odb_disk.specs.Streams.{Streams, still_gives}
-use Rattle.odb_tree.specs.Entries.{opened}
+use Rattle.odb_nodes.specs.Entries.{opened}
 use Rattle.odb_disk.specs.StreamAsks.{streams_after, after_opening, after_taking, least_closed}
 use Rattle.odb_disk.specs.Ask.{dir_answer, entry_answer, write_answer, answer_of, answer_in, change_of_ask, state_after, streams_left}
 use Rattle.odb_disk.specs.Ask.{is_counted, fails_now, after_count, after_ask, AnswersAsk, IsCounted, ran_out}
-use Rattle.odb_tree.specs.declared.change.Change.{Change}
-use Rattle.odb_tree.specs.declared.entry.Entry.{Entry}
-use Rattle.odb_tree.specs.declared.disk_error.DiskError.{DiskError}
-use Rattle.odb_tree.specs.declared.disk_error.DiskError.TheVariants as errors
+use Rattle.odb_nodes.specs.declared.change.Change.{Change}
+use Rattle.odb_nodes.specs.declared.entry.Entry.{Entry}
+use Rattle.odb_nodes.specs.declared.disk_error.DiskError.{DiskError}
+use Rattle.odb_nodes.specs.declared.disk_error.DiskError.TheVariants as errors
 use Rattle.odb_disk.specs.declared.ask.DiskAsk.{DiskAsk}
 use Rattle.odb_disk.specs.declared.ask.DiskAsk.TheVariants as asks
 use Rattle.odb_disk.specs.declared.ask.DiskAnswer.{DiskAnswer}

@@ -3,14 +3,14 @@ use Rattle.std.proofs.Common.{◌≡◌, ◌≢◌, false, Option, Some, None, R
 use Rattle.std.specs.Result.{result_ok}
 use Rattle.std.proofs.lemmas.Bool.{false≢true}
 use Rattle.std.proofs.lemmas.Result.{on_ok_weaker, on_err_weaker}
-use Rattle.odb_tree.specs.Tree.{Tree, IsTree, tree_of, state_of}
-use Rattle.odb_tree.specs.Tree.Change.{changed}
-use Rattle.odb_tree.specs.Tree.Write.{Refusal, done, written, after_write, changed_by}
-use Rattle.odb_tree.specs.Answers.{AnswersWrite, Tells}
-use Rattle.odb_tree.specs.declared.change.Change.{Change}
-use Rattle.odb_tree.specs.declared.disk_error.DiskError.{DiskError}
-use Rattle.odb_tree.specs.declared.disk_error.DiskError.TheVariants as errors
-use Rattle.odb_tree.proofs.TreeLemmas.{tree_of-state_of}
+use Rattle.odb_nodes.specs.Tree.{Tree, IsTree, tree_of, state_of}
+use Rattle.odb_nodes.specs.Tree.Change.{changed}
+use Rattle.odb_nodes.specs.Tree.Write.{Refusal, done, written, after_write, changed_by}
+use Rattle.odb_nodes.specs.Answers.{AnswersWrite, Tells}
+use Rattle.odb_nodes.specs.declared.change.Change.{Change}
+use Rattle.odb_nodes.specs.declared.disk_error.DiskError.{DiskError}
+use Rattle.odb_nodes.specs.declared.disk_error.DiskError.TheVariants as errors
+use Rattle.odb_nodes.proofs.TreeLemmas.{tree_of-state_of}
 use Rattle.odb_disk.specs.Ask.{change_of_ask, fails_now, after_count, TakesLeast, IsCounted}
 use Rattle.odb_sources.specs.Calls.{Calls}
 use Rattle.odb_disk.specs.MemDisk.{Volume}

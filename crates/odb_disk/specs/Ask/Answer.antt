@@ -2,16 +2,16 @@
 use Rattle.std.specs.Prelude.{◌≡◌, ℕ, Bool, true, false, List, [], ◌∷◌, Option, Some, None, Result, Ok, Err}
 use Rattle.std.specs.Result.{result_ok}
 use Rattle.odb_base.specs.Path.{Path}
-use Rattle.odb_tree.specs.Tree.{Tree, State, tree_of}
-use Rattle.odb_tree.specs.Tree.Write as writing
-use Rattle.odb_tree.specs.Tree.Write.{change_of_make_dir, change_of_new_file, change_of_append, change_of_rename, change_of_remove, written}
-use Rattle.odb_tree.specs.Tree.Follow.{Refusal, Absent, WrongKind, LinkLoop, looked, read_of}
-use Rattle.odb_tree.specs.Entries.{opened}
-use Rattle.odb_tree.specs.declared.change.Change.{Change}
-use Rattle.odb_tree.specs.declared.meta.Meta.{Meta}
-use Rattle.odb_tree.specs.declared.entry.Entry.{Entry}
-use Rattle.odb_tree.specs.declared.disk_error.DiskError.{DiskError}
-use Rattle.odb_tree.specs.declared.disk_error.DiskError.TheVariants as errors
+use Rattle.odb_nodes.specs.Tree.{Tree, State, tree_of}
+use Rattle.odb_nodes.specs.Tree.Write as writing
+use Rattle.odb_nodes.specs.Tree.Write.{change_of_make_dir, change_of_new_file, change_of_append, change_of_rename, change_of_remove, written}
+use Rattle.odb_nodes.specs.Tree.Follow.{Refusal, Absent, WrongKind, LinkLoop, looked, read_of}
+use Rattle.odb_nodes.specs.Entries.{opened}
+use Rattle.odb_nodes.specs.declared.change.Change.{Change}
+use Rattle.odb_nodes.specs.declared.meta.Meta.{Meta}
+use Rattle.odb_nodes.specs.declared.entry.Entry.{Entry}
+use Rattle.odb_nodes.specs.declared.disk_error.DiskError.{DiskError}
+use Rattle.odb_nodes.specs.declared.disk_error.DiskError.TheVariants as errors
 use Rattle.odb_disk.specs.declared.ask.DiskAsk.{DiskAsk}
 use Rattle.odb_disk.specs.declared.ask.DiskAsk.TheVariants as asks
 use Rattle.odb_disk.specs.declared.ask.DiskAnswer.{DiskAnswer}

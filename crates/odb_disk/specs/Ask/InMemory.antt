@@ -1,12 +1,12 @@
 -- What a disk in memory answers to a call that is given as a value, and what it is afterwards.
 use Rattle.std.specs.Prelude.{◌≡◌, ◌↔◌, Bool, true, false, ◌&&◌, if◌then◌else◌}
-use Rattle.odb_tree.specs.Tree.{Tree, tree_of}
-use Rattle.odb_tree.specs.Tree.Write.{written}
+use Rattle.odb_nodes.specs.Tree.{Tree, tree_of}
+use Rattle.odb_nodes.specs.Tree.Write.{written}
 use Rattle.odb_disk.specs.MemDisk.{Volume, next_fails, after_call}
 use Rattle.odb_disk.specs.Streams.{Streams, IsLeastClosed, still_gives}
-use Rattle.odb_tree.specs.Entries.{opened}
+use Rattle.odb_nodes.specs.Entries.{opened}
 use Rattle.odb_disk.specs.StreamAsks.{least_closed, streams_after}
-use Rattle.odb_tree.specs.declared.disk_error.DiskError.TheVariants as errors
+use Rattle.odb_nodes.specs.declared.disk_error.DiskError.TheVariants as errors
 use Rattle.odb_disk.specs.declared.ask.DiskAsk.{DiskAsk}
 use Rattle.odb_disk.specs.declared.ask.DiskAsk.TheVariants as asks
 use Rattle.odb_disk.specs.declared.ask.DiskAnswer.{DiskAnswer}

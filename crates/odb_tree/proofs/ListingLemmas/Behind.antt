@@ -12,12 +12,12 @@ use Rattle.std.specs.List.Sorted.{IsStrictlySortedBy}
 use Rattle.std.proofs.lemmas.Bool.{false≢true, false_from_ne_true}
 use Rattle.odb_base.specs.Path.{Path, path_cmp, same_name}
 use Rattle.odb_base.specs.PathLaws.{path_order, one_place, goes_beyond}
-use Rattle.odb_tree.specs.Tree.{tree_of_entries}
-use Rattle.odb_tree.specs.Tree.Nodes.{entries_of, entries_of-sorted, node_at-entries_of, node_at-tree_of_entries}
-use Rattle.odb_tree.specs.Entries.{entry_in}
-use Rattle.odb_tree.specs.declared.node.Node.{Node}
-use Rattle.odb_tree.proofs.TreeLemmas.{own_path}
-use Rattle.odb_tree.proofs.TreeLemmas.MovedTree.{goes_on}
+use Rattle.odb_nodes.specs.Tree.{tree_of_entries}
+use Rattle.odb_nodes.specs.Tree.Nodes.{entries_of, entries_of-sorted, node_at-entries_of, node_at-tree_of_entries}
+use Rattle.odb_nodes.specs.Entries.{entry_in}
+use Rattle.odb_nodes.specs.declared.node.Node.{Node}
+use Rattle.odb_nodes.proofs.TreeLemmas.{own_path}
+use Rattle.odb_nodes.proofs.TreeLemmas.MovedTree.{goes_on}
 use Rattle.odb_tree.proofs.NamesLemmas.{begins_between}
 use Rattle.odb_tree.proofs.TreeMovesLemmas.{before_rest}
 use Rattle.odb_tree.proofs.EntriesLemmas.{Nodes, behind, entries_among, no_entry}

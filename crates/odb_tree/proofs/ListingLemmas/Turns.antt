@@ -11,13 +11,13 @@ use Rattle.std.specs.List.Sorted.{IsStrictlySortedBy}
 use Rattle.std.proofs.lemmas.Option.{same_Some}
 use Rattle.odb_base.specs.Path.{Name, Path, name_cmp, path_cmp, same_name, parent_of, last_name}
 use Rattle.odb_base.specs.PathLaws.{path_order, goes_beyond, parent_of-some}
-use Rattle.odb_tree.specs.Tree.{Tree, tree_of_entries, name_in}
-use Rattle.odb_tree.specs.Tree.Nodes.{entries_of, entries_of-sorted, node_at-entries_of}
-use Rattle.odb_tree.specs.Entries.{entry_of, entry_in, entries_in}
+use Rattle.odb_nodes.specs.Tree.{Tree, tree_of_entries, name_in}
+use Rattle.odb_nodes.specs.Tree.Nodes.{entries_of, entries_of-sorted, node_at-entries_of}
+use Rattle.odb_nodes.specs.Entries.{entry_of, entry_in, entries_in}
 use Rattle.odb_tree.specs.Listing.{GoesTo, entries_after}
-use Rattle.odb_tree.specs.declared.entry.Entry.{Entry}
-use Rattle.odb_tree.specs.declared.node.Node.{Node}
-use Rattle.odb_tree.proofs.TreeLemmas.Moved.{begins-own, begins-append, begins-more}
+use Rattle.odb_nodes.specs.declared.entry.Entry.{Entry}
+use Rattle.odb_nodes.specs.declared.node.Node.{Node}
+use Rattle.odb_nodes.proofs.TreeLemmas.Moved.{begins-own, begins-append, begins-more}
 use Rattle.odb_tree.proofs.TreeMovesLemmas.{under_before}
 use Rattle.odb_tree.proofs.EntriesLemmas.{Nodes, behind, entries_among, entries_behind, name_in-below}
 use Rattle.odb_tree.proofs.ListingLemmas.Behind.{first, is_sorted-from, entries_of-tree, below_all-behind, first_later, first_found, behind_first, skipped, no_entry_after, none_after}

@@ -11,12 +11,12 @@ use Rattle.std.specs.BTreeMap.{is_at}
 use Rattle.std.proofs.lemmas.Bool.{false≢true, or_cases, or_left, or_right, or_parts}
 use Rattle.odb_base.specs.Path.{Name, Path, path_cmp, name_cmp}
 use Rattle.odb_base.specs.PathLaws.{path_order, one_place, goes_beyond}
-use Rattle.odb_tree.specs.Tree.{Tree, node_at}
+use Rattle.odb_nodes.specs.Tree.{Tree, node_at}
 use Rattle.odb_tree.specs.TreeMoves.{IsNextBelow, NoneBehind, is_among}
-use Rattle.odb_tree.specs.declared.node.Node.{Node}
-use Rattle.odb_tree.proofs.TreeLemmas.{same_path, own_path, cases_path}
-use Rattle.odb_tree.proofs.TreeLemmas.Moved.{begins, begins-own}
-use Rattle.odb_tree.proofs.TreeLemmas.MovedTree.{goes_on}
+use Rattle.odb_nodes.specs.declared.node.Node.{Node}
+use Rattle.odb_nodes.proofs.TreeLemmas.{same_path, own_path, cases_path}
+use Rattle.odb_nodes.proofs.TreeLemmas.Moved.{begins, begins-own}
+use Rattle.odb_nodes.proofs.TreeLemmas.MovedTree.{goes_on}
 use Rattle.odb_tree.proofs.NamesLemmas.{begins_between}
 
 -- ---- paths in order

@@ -5,14 +5,14 @@ use Rattle.std.specs.Ordering.{eq_by_cmp}
 use Rattle.std.proofs.lemmas.Bool.{false≢true, or_cases, or_left, or_right, false_from_ne_true}
 use Rattle.odb_base.specs.Path.{Path, path_cmp}
 use Rattle.odb_base.specs.PathLaws.{goes_beyond, lies_below}
-use Rattle.odb_tree.specs.Tree.{Tree, IsTree, node_at, with_node, without, is_directory}
-use Rattle.odb_tree.specs.Tree.Nodes.{same_tree}
-use Rattle.odb_tree.specs.Tree.Change.{with_moved}
+use Rattle.odb_nodes.specs.Tree.{Tree, IsTree, node_at, with_node, without, is_directory}
+use Rattle.odb_nodes.specs.Tree.Nodes.{same_tree}
+use Rattle.odb_nodes.specs.Tree.Change.{with_moved}
 use Rattle.odb_tree.specs.TreeMoves.{ArePathsBelow, is_among, moved_path, put_copied, with_copy, with_copies, without_all}
-use Rattle.odb_tree.specs.declared.node.Node.{Node}
-use Rattle.odb_tree.proofs.TreeLemmas.{same_path, own_path, cases_path, node_at-put, node_at-put_other, node_at-taken, node_at-taken_other}
-use Rattle.odb_tree.proofs.TreeLemmas.Moved.{begins, begins-append, behind-append, moved_below, moved_away, moved_other}
-use Rattle.odb_tree.proofs.TreeLemmas.MovedTree.{goes_on, none_below}
+use Rattle.odb_nodes.specs.declared.node.Node.{Node}
+use Rattle.odb_nodes.proofs.TreeLemmas.{same_path, own_path, cases_path, node_at-put, node_at-put_other, node_at-taken, node_at-taken_other}
+use Rattle.odb_nodes.proofs.TreeLemmas.Moved.{begins, begins-append, behind-append, moved_below, moved_away, moved_other}
+use Rattle.odb_nodes.proofs.TreeLemmas.MovedTree.{goes_on, none_below}
 use Rattle.odb_tree.proofs.TreeMovesLemmas.Below.{none_from, among_first, among_at}
 
 -- ---- copies

@@ -1,16 +1,15 @@
 //! Changes that are made in a tree: each is tested by `is_possible` first, and applied where it is possible.
 use super::Tree;
-use crate::change::{Change, Impossible};
-use crate::node::Content;
 use crate::node_map::{free_number, move_node, put_time, take};
 use crate::node_moves::move_below;
 use crate::{ByteList, NoMemory, PathText};
+use odb_nodes::{Change, Content, Impossible};
 use std::alloc::Global;
 
 impl Tree {
     ghost use Rattle.std.specs.Prelude.{◌≡◌, ◌≢◌, true, false, OnOk, OnErr, IsErrOf};
-    ghost use Rattle.odb_tree.specs.Tree.{node_at, with_node, is_directory};
-    ghost use Rattle.odb_tree.specs.Tree.Change.{changed, is_possible_in, lies_in_directory, new_node};
+    ghost use Rattle.odb_nodes.specs.Tree.{node_at, with_node, is_directory};
+    ghost use Rattle.odb_nodes.specs.Tree.Change.{changed, is_possible_in, lies_in_directory, new_node};
 
     /// Makes a change that another program makes. A refused one changes nothing.
     pub fn change(&mut self, alloc: Global, change: &Change) -> Result<(), Impossible>

@@ -1,10 +1,8 @@
 //! Where a path leads in a tree, links followed.
 use super::{MAX_LINKS, Tree};
-use crate::disk_error::DiskError;
-use crate::meta::Meta;
-use crate::node::{Content, Node};
 use crate::node_map::path_before;
 use crate::{ByteList, PathText};
+use odb_nodes::{Content, DiskError, Meta, Node};
 use std::alloc::Global;
 
 /// Where one pass along the names of a path comes.
@@ -18,10 +16,11 @@ impl Tree {
     ghost use Rattle.std.specs.Prelude.{◌≡◌, ◌≢◌, Bool, [], ◌++◌, true, Some, None, Err};
     ghost use Rattle.std.specs.List.{starts_with};
     ghost use Rattle.odb_base.specs.Path.{Path, same_name};
-    ghost use Rattle.odb_tree.specs.Tree.{IsTree, node_at};
-    ghost use Rattle.odb_tree.specs.Tree.Follow.{Missing, looked, read_of, pass, past, followed, followed_within};
-    ghost use Rattle.odb_tree.specs.Answers.{Answers};
-    ghost use Rattle.odb_tree.specs.TreeCalls.{Comes, ComesOnward, Leads};
+    ghost use Rattle.odb_nodes.specs.Tree.{IsTree, node_at};
+    ghost use Rattle.odb_nodes.specs.Tree.Follow.{Missing, looked, read_of, pass, past, followed, followed_within};
+    ghost use Rattle.odb_nodes.specs.Answers.{Answers};
+    ghost use Rattle.odb_nodes.specs.TreeCalls.{ComesOnward, Leads};
+    ghost use Rattle.odb_tree.specs.PassCalls.{Comes};
 
     /// What a look at a path gives. A link in the last place is followed where `follow` is set.
     pub fn look(&self, alloc: Global, path: &PathText, follow: bool) -> Result<Meta, DiskError>

@@ -1,23 +1,22 @@
 //! Which changes are possible in a tree.
 ghost use Rattle.std.specs.Prelude.{◌≡◌};
-ghost use Rattle.odb_tree.specs.TreeCalls.{impossible_by};
+ghost use Rattle.odb_nodes.specs.TreeCalls.{impossible_by};
 
 use super::Tree;
-use crate::change::{Change, Impossible};
-use crate::disk_error::DiskError;
 use crate::node_map::has_names;
 use crate::{NoMemory, PathText};
+use odb_nodes::{Change, DiskError, Impossible};
 use std::alloc::Global;
 
 impl Tree {
     ghost use Rattle.std.specs.Prelude.{◌≡◌, true, Ok, IfOk};
-    ghost use Rattle.odb_tree.specs.Tree.{node_at};
-    ghost use Rattle.odb_tree.specs.Tree.Follow.{followed};
-    ghost use Rattle.odb_tree.specs.Tree.Change.{is_possible_in, can_move, is_file_place};
-    ghost use Rattle.odb_tree.specs.Tree.Write.{file_spot};
+    ghost use Rattle.odb_nodes.specs.Tree.{node_at};
+    ghost use Rattle.odb_nodes.specs.Tree.Follow.{followed};
+    ghost use Rattle.odb_nodes.specs.Tree.Change.{is_possible_in, can_move, is_file_place};
+    ghost use Rattle.odb_nodes.specs.Tree.Write.{file_spot};
 
     /// Whether a change is possible now.
-    #[tactic(auto, unfolding(crate::specs::Tree::Change::is_possible_in))]
+    #[tactic(auto, unfolding(odb_nodes::specs::Tree::Change::is_possible_in))]
     pub fn is_possible(&self, alloc: Global, change: &Change) -> Result<bool, NoMemory>
         ensures possible { IfOk result (λ possible. possible ≡ is_possible_in self.now change.now) }
     {
@@ -39,7 +38,7 @@ impl Tree {
     }
 
     /// Whether what stands at a path can be moved to another one.
-    #[tactic(auto, unfolding(crate::specs::Tree::Change::is_possible_in))]
+    #[tactic(auto, unfolding(odb_nodes::specs::Tree::Change::is_possible_in))]
     fn can_rename(&self, alloc: Global, from: &PathText, to: &PathText) -> Result<bool, NoMemory>
         ensures can { IfOk result (λ can. can ≡ is_possible_in self.now (Change.Rename from.now to.now)) }
     {

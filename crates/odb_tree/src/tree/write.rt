@@ -2,24 +2,23 @@
 //! of its name with `change_of_` before it tells the change alone.
 ghost use Rattle.std.specs.Prelude.{◌≡◌, true, IfOk, OnOk, OnErr};
 ghost use Rattle.std.specs.Result.{result_ok};
-ghost use Rattle.odb_tree.specs.Answers.{Tells};
+ghost use Rattle.odb_nodes.specs.Answers.{Tells};
 
 use super::follow::Way;
 use super::{MAX_LINKS, Tree};
-use crate::change::Change;
-use crate::disk_error::DiskError;
 use crate::node_map::has_names;
 use crate::node_moves::moved_path;
 use crate::{ByteList, PathText};
+use odb_nodes::{Change, DiskError};
 use std::alloc::Global;
 
 impl Tree {
-    ghost use Rattle.odb_tree.specs.Tree.{IsTree};
-    ghost use Rattle.odb_tree.specs.Tree.Follow.{followed_within};
-    ghost use Rattle.odb_tree.specs.Tree.Change.{is_possible_in};
-    ghost use Rattle.odb_tree.specs.Tree.Write.{from_followed, spot, vacant, movable, replaceable, removable, file_spot};
-    ghost use Rattle.odb_tree.specs.Tree.Write.{change_of_make_dir, change_of_new_file, change_of_append, change_of_rename, change_of_remove, done, changed_by};
-    ghost use Rattle.odb_tree.specs.TreeCalls.{path_of_place};
+    ghost use Rattle.odb_nodes.specs.Tree.{IsTree};
+    ghost use Rattle.odb_nodes.specs.Tree.Follow.{followed_within};
+    ghost use Rattle.odb_nodes.specs.Tree.Change.{is_possible_in};
+    ghost use Rattle.odb_nodes.specs.Tree.Write.{from_followed, spot, vacant, movable, replaceable, removable, file_spot};
+    ghost use Rattle.odb_nodes.specs.Tree.Write.{change_of_make_dir, change_of_new_file, change_of_append, change_of_rename, change_of_remove, done, changed_by};
+    ghost use Rattle.odb_nodes.specs.TreeCalls.{path_of_place};
 
     /// Makes a directory where nothing stands. A refused call changes nothing.
     pub fn make_dir(&mut self, alloc: Global, path: &PathText) -> Result<(), DiskError>

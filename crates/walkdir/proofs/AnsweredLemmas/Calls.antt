@@ -8,9 +8,9 @@ use Rattle.odb_disk.specs.declared.ask.DiskAsk.{DiskAsk}
 use Rattle.odb_disk.specs.declared.ask.DiskAsk.TheVariants as asks
 use Rattle.odb_disk.specs.declared.ask.DiskAnswer.{DiskAnswer}
 use Rattle.odb_disk.specs.declared.ask.DiskAnswer.TheVariants as answers
-use Rattle.odb_tree.specs.declared.disk_error.DiskError.{DiskError}
-use Rattle.odb_tree.specs.declared.disk_error.DiskError.TheVariants as refusals
-use Rattle.odb_tree.specs.declared.meta.Meta.{Meta}
+use Rattle.odb_nodes.specs.declared.disk_error.DiskError.{DiskError}
+use Rattle.odb_nodes.specs.declared.disk_error.DiskError.TheVariants as refusals
+use Rattle.odb_nodes.specs.declared.meta.Meta.{Meta}
 use Rattle.odb_disk.proofs.CallsMadeLaws.{answered_here, leads_by_one, leads_nowhere}
 use Rattle.walkdir.specs.Answered.{AreHeld, IsHeld, IsHeldIn, IsLookRefused, IsPlaceTold, IsToldIn, LooksBy}
 use Rattle.walkdir.specs.AnsweredTurns.{IsSeenIn, TellsContents}

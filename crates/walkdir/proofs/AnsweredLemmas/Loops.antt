@@ -9,7 +9,7 @@ use Rattle.odb_disk.specs.declared.ask.DiskAsk.{DiskAsk}
 use Rattle.odb_disk.specs.declared.ask.DiskAsk.TheVariants as asks
 use Rattle.odb_disk.specs.declared.ask.DiskAnswer.{DiskAnswer}
 use Rattle.odb_disk.specs.declared.ask.DiskAnswer.TheVariants as answers
-use Rattle.odb_tree.specs.declared.meta.Meta.{Meta}
+use Rattle.odb_nodes.specs.declared.meta.Meta.{Meta}
 use Rattle.odb_disk.proofs.CallsMadeLaws.{answered_here, answered_wider, leads_nowhere}
 use Rattle.walkdir.specs.Answered.{AreListsTold, IsListTold, IsPlaceTold, IsStackTold, LooksBy}
 use Rattle.walkdir.specs.AnsweredTurns.{IsKnown, IsSeenIn}

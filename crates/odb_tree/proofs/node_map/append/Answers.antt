@@ -1,9 +1,9 @@
 use Rattle.std.proofs.Common.{◌≡◌, ◌∙◌, sym, ap, Some, None}
 use Rattle.std.proofs.lemmas.Result.{on_ok_weaker, on_err_weaker}
-use Rattle.odb_tree.specs.Tree.{tree_of_entries, with_node}
-use Rattle.odb_tree.specs.Tree.Change.{longer}
-use Rattle.odb_tree.specs.declared.node.Node.{Node}
-use Rattle.odb_tree.proofs.TreeLemmas.{tree_put, node_at-entries, IsSome-from}
+use Rattle.odb_nodes.specs.Tree.{tree_of_entries, with_node}
+use Rattle.odb_nodes.specs.Tree.Change.{longer}
+use Rattle.odb_nodes.specs.declared.node.Node.{Node}
+use Rattle.odb_nodes.proofs.TreeLemmas.{tree_put, node_at-entries, IsSome-from}
 use Rattle.odb_tree.proofs.NodeMapLemmas.{put_same}
 use Rattle.odb_tree.proofs.node_map.append.Goals as goal
 

@@ -1,9 +1,9 @@
 use Rattle.std.proofs.Common.{◌∙◌, ap}
 use Rattle.std.specs.Map.Iter.{deref_pair}
 use Rattle.std.proofs.lemmas.Map.Iter.{btree_map_turn}
-use Rattle.odb_tree.specs.Tree.{tree_of_entries, with_node}
+use Rattle.odb_nodes.specs.Tree.{tree_of_entries, with_node}
 use Rattle.odb_base.specs.PathLaws.{path_order}
-use Rattle.odb_tree.proofs.TreeLemmas.{node_at-entries}
+use Rattle.odb_nodes.proofs.TreeLemmas.{node_at-entries}
 use Rattle.odb_tree.proofs.NodeMapLemmas.{none_copied, one_copied, all_copied}
 use Rattle.odb_tree.proofs.node_map.copied.Goals as goal
 

@@ -3,7 +3,7 @@ use Rattle.std.specs.Option.{option_or}
 use Rattle.std.specs.Map.{lookup}
 use Rattle.std.specs.BTreeMap.{is_at}
 use Rattle.odb_base.specs.Path.{Path, path_cmp}
-use Rattle.odb_tree.specs.Tree.{node_at, tree_of_entries}
+use Rattle.odb_nodes.specs.Tree.{node_at, tree_of_entries}
 use Rattle.odb_tree.proofs.node_map.copied.Given as goal
 
 -- each node is copied already, or is still to come

@@ -1,7 +1,7 @@
 use Rattle.std.proofs.Common.{◌∙◌, sym, ap, ◌||◌}
-use Rattle.odb_tree.specs.TreeNumbers.{has_number, is_listed}
-use Rattle.odb_tree.proofs.TreeLemmas.{node_at-entries}
-use Rattle.odb_tree.proofs.TreeNumbersLemmas.{freed_number}
+use Rattle.odb_nodes.specs.TreeNumbers.{has_number, is_listed}
+use Rattle.odb_nodes.proofs.TreeLemmas.{node_at-entries}
+use Rattle.odb_nodes.proofs.TreeNumbersLemmas.Taken.{freed_number}
 use Rattle.odb_tree.proofs.node_map.free_number.Goals as goal
 
 pub returns-in_ok-insert-clause-freed : goal.returns-in_ok-insert-clause-freed

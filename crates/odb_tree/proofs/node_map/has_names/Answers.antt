@@ -1,6 +1,6 @@
 use Rattle.std.proofs.Common.{◌∙◌, sym, ap, not}
-use Rattle.odb_tree.specs.Tree.{tree_of_entries}
-use Rattle.odb_tree.proofs.TreeLemmas.{node_at-entries, IsSome-from}
+use Rattle.odb_nodes.specs.Tree.{tree_of_entries}
+use Rattle.odb_nodes.proofs.TreeLemmas.{node_at-entries, IsSome-from}
 use Rattle.odb_tree.proofs.NamesLemmas.{no_names_at_end, told_by_first}
 use Rattle.odb_tree.proofs.node_map.has_names.Goals as goal
 

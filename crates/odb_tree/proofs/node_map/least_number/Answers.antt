@@ -1,4 +1,4 @@
-use Rattle.odb_tree.proofs.TreeNumbersLemmas.{IsLeastFree-first}
+use Rattle.odb_nodes.proofs.TreeNumbersLemmas.Taken.{IsLeastFree-first}
 use Rattle.odb_tree.proofs.node_map.least_number.Goals as goal
 
 pub returns-in-Some : goal.returns-in-Some

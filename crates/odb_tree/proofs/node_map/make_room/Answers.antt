@@ -1,7 +1,7 @@
 use Rattle.std.proofs.Common.{◌∙◌, sym}
 use Rattle.std.proofs.lemmas.Result.{err_from_is_err_and, on_ok_weaker}
-use Rattle.odb_tree.specs.Tree.{tree_of_entries}
-use Rattle.odb_tree.proofs.TreeLemmas.{node_at-entries, IsSome-from}
+use Rattle.odb_nodes.specs.Tree.{tree_of_entries}
+use Rattle.odb_nodes.proofs.TreeLemmas.{node_at-entries, IsSome-from}
 use Rattle.odb_tree.proofs.NodeMapLemmas.{room_stands, room_others}
 use Rattle.odb_tree.proofs.node_map.make_room.Goals as goal
 

@@ -1,6 +1,6 @@
 use Rattle.std.proofs.Common.{◌∙◌, sym}
-use Rattle.odb_tree.specs.Tree.{tree_of_entries}
-use Rattle.odb_tree.proofs.TreeLemmas.{tree_take, node_at-entries}
+use Rattle.odb_nodes.specs.Tree.{tree_of_entries}
+use Rattle.odb_nodes.proofs.TreeLemmas.{tree_take, node_at-entries}
 use Rattle.odb_tree.proofs.NodeMapLemmas.{moved_node, nothing_moved}
 use Rattle.odb_tree.proofs.node_map.move_node.Goals as goal
 

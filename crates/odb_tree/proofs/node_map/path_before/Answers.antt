@@ -1,5 +1,5 @@
 use Rattle.std.proofs.Common.{IsSome, subst, ◌∙◌, sym}
-use Rattle.odb_tree.proofs.TreeLemmas.{node_at-entries, IsSome-from}
+use Rattle.odb_nodes.proofs.TreeLemmas.{node_at-entries, IsSome-from}
 use Rattle.odb_tree.proofs.node_map.path_before.Goals as goal
 
 pub returns-in-None : goal.returns-in-None

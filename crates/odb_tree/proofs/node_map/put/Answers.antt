@@ -1,6 +1,6 @@
 use Rattle.std.proofs.Common.{◌∙◌}
 use Rattle.std.proofs.lemmas.Result.{err_from_is_err_and}
-use Rattle.odb_tree.proofs.TreeLemmas.{tree_put, node_at-entries}
+use Rattle.odb_nodes.proofs.TreeLemmas.{tree_put, node_at-entries}
 use Rattle.odb_tree.proofs.node_map.put.Goals as goal
 
 pub returns-in_err-insert-clause-absent : goal.returns-in_err-insert-clause-absent

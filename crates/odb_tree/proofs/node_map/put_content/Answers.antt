@@ -1,6 +1,6 @@
 use Rattle.std.proofs.Common.{◌≡◌, ◌∙◌, sym, ap, Some, None}
-use Rattle.odb_tree.specs.Tree.{tree_of_entries, with_node}
-use Rattle.odb_tree.proofs.TreeLemmas.{tree_put, node_at-entries, IsSome-from}
+use Rattle.odb_nodes.specs.Tree.{tree_of_entries, with_node}
+use Rattle.odb_nodes.proofs.TreeLemmas.{tree_put, node_at-entries, IsSome-from}
 use Rattle.odb_tree.proofs.node_map.put_content.Goals as goal
 
 pub returns-in-Some : goal.returns-in-Some

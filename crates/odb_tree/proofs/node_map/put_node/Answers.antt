@@ -1,6 +1,6 @@
 use Rattle.std.proofs.Common.{◌∙◌, sym, ap, is_some}
 use Rattle.std.proofs.lemmas.Bool.{false≢true}
-use Rattle.odb_tree.proofs.TreeLemmas.{tree_put, node_at-entries, IsSome-from}
+use Rattle.odb_nodes.proofs.TreeLemmas.{tree_put, node_at-entries, IsSome-from}
 use Rattle.odb_tree.proofs.node_map.put_node.Goals as goal
 
 pub returns-in-Some : goal.returns-in-Some

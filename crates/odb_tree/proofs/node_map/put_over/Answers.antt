@@ -1,5 +1,5 @@
 use Rattle.std.proofs.Common.{◌∙◌}
-use Rattle.odb_tree.specs.Tree.{tree_of_entries}
+use Rattle.odb_nodes.specs.Tree.{tree_of_entries}
 use Rattle.odb_tree.proofs.NodeMapLemmas.{put_in_room}
 use Rattle.odb_tree.proofs.node_map.put_over.Goals as goal
 

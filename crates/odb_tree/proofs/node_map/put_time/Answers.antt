@@ -1,7 +1,7 @@
 use Rattle.std.proofs.Common.{◌∙◌, sym, ap}
-use Rattle.odb_tree.specs.Tree.{tree_of_entries, with_node}
-use Rattle.odb_tree.specs.Tree.Change.{with_time}
-use Rattle.odb_tree.proofs.TreeLemmas.{tree_put, node_at-entries, IsSome-from}
+use Rattle.odb_nodes.specs.Tree.{tree_of_entries, with_node}
+use Rattle.odb_nodes.specs.Tree.Change.{with_time}
+use Rattle.odb_nodes.proofs.TreeLemmas.{tree_put, node_at-entries, IsSome-from}
 use Rattle.odb_tree.proofs.node_map.put_time.Goals as goal
 
 pub returns-in-Some : goal.returns-in-Some

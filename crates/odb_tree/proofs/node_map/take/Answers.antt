@@ -1,4 +1,4 @@
-use Rattle.odb_tree.proofs.TreeLemmas.{tree_take}
+use Rattle.odb_nodes.proofs.TreeLemmas.{tree_take}
 use Rattle.odb_tree.proofs.node_map.take.Goals as goal
 
 pub returns : goal.returns

@@ -1,6 +1,6 @@
 use Rattle.std.proofs.Common.{◌≡◌, ◌∙◌, false, ap, subst}
 use Rattle.odb_base.specs.Path.{Path}
-use Rattle.odb_tree.specs.Tree.{node_at, tree_of_entries}
+use Rattle.odb_nodes.specs.Tree.{node_at, tree_of_entries}
 use Rattle.odb_tree.specs.TreeMoves.{is_among, with_copies, without_all}
 use Rattle.odb_tree.proofs.TreeMovesLemmas.{ends_apart, target_free, source_stands, whole_move, taken_back}
 use Rattle.odb_tree.proofs.node_moves.move_below.Goals as goal

@@ -1,6 +1,6 @@
 use Rattle.std.proofs.Common.{◌∙◌, sym, subst, IsSome}
-use Rattle.odb_tree.specs.Tree.{tree_of_entries}
-use Rattle.odb_tree.proofs.TreeLemmas.{node_at-entries, IsSome-from}
+use Rattle.odb_nodes.specs.Tree.{tree_of_entries}
+use Rattle.odb_nodes.proofs.TreeLemmas.{node_at-entries, IsSome-from}
 use Rattle.odb_tree.proofs.TreeMovesLemmas.{none_behind}
 use Rattle.odb_tree.proofs.node_moves.next_below.Goals as goal
 use Rattle.odb_tree.proofs.node_moves.next_below.Goals.{in_default-via-in-Some+else-starts_with, in_default-via-in_default}

@@ -1,8 +1,8 @@
 use Rattle.std.proofs.Common.{◌≡◌, ◌∙◌, [], ◌∷◌, ◌++◌, map, sym, ap, subst, IsSome}
-use Rattle.odb_tree.specs.Tree.{tree_of_entries}
+use Rattle.odb_nodes.specs.Tree.{tree_of_entries}
 use Rattle.odb_tree.specs.TreeMoves.{moved_path}
-use Rattle.odb_tree.proofs.TreeLemmas.{node_at-entries}
-use Rattle.odb_tree.proofs.TreeLemmas.Moved.{begins-own}
+use Rattle.odb_nodes.proofs.TreeLemmas.{node_at-entries}
+use Rattle.odb_nodes.proofs.TreeLemmas.Moved.{begins-own}
 use Rattle.odb_tree.proofs.TreeMovesLemmas.{AreSoFar, so_far_first, so_far_next, fewer_behind, map_push}
 use Rattle.odb_tree.proofs.node_moves.paths_below.Goals as goal
 

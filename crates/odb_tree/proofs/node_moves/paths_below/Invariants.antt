@@ -1,5 +1,5 @@
 use Rattle.std.proofs.Common.{◌≡◌, map}
-use Rattle.odb_tree.specs.Tree.{tree_of_entries}
+use Rattle.odb_nodes.specs.Tree.{tree_of_entries}
 use Rattle.odb_tree.specs.TreeMoves.{moved_path}
 use Rattle.odb_tree.proofs.TreeMovesLemmas.{AreSoFar, behind_count}
 use Rattle.odb_tree.proofs.node_moves.paths_below.Given as goal

@@ -1,5 +1,5 @@
 use Rattle.std.proofs.Common.{◌<◌, ◌+◌, ◌∙◌, length, drop, sym, ap, arith}
-use Rattle.odb_tree.specs.Tree.{tree_of_entries}
+use Rattle.odb_nodes.specs.Tree.{tree_of_entries}
 use Rattle.odb_tree.specs.TreeMoves.{with_copies}
 use Rattle.odb_tree.proofs.TreeMovesLemmas.{copies_more, copies_others}
 use Rattle.odb_tree.proofs.node_moves.put_copies.Goals as goal

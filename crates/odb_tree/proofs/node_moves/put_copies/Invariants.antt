@@ -1,6 +1,6 @@
 use Rattle.std.proofs.Common.{◌≡◌, false, drop}
 use Rattle.odb_base.specs.Path.{Path}
-use Rattle.odb_tree.specs.Tree.{node_at, tree_of_entries}
+use Rattle.odb_nodes.specs.Tree.{node_at, tree_of_entries}
 use Rattle.odb_tree.specs.TreeMoves.{is_among, with_copies}
 use Rattle.odb_tree.proofs.node_moves.put_copies.Given as goal
 

@@ -1,7 +1,7 @@
 use Rattle.std.proofs.Common.{◌∙◌, sym, ap}
 use Rattle.std.proofs.lemmas.Result.{on_ok_weaker}
-use Rattle.odb_tree.specs.Tree.{tree_of_entries, with_node}
-use Rattle.odb_tree.proofs.TreeLemmas.{node_at-entries}
+use Rattle.odb_nodes.specs.Tree.{tree_of_entries, with_node}
+use Rattle.odb_nodes.proofs.TreeLemmas.{node_at-entries}
 use Rattle.odb_tree.proofs.TreeMovesLemmas.{copy_none, copy_some}
 use Rattle.odb_tree.proofs.node_moves.put_copy.Goals as goal
 

@@ -1,6 +1,6 @@
 use Rattle.std.proofs.Common.{◌≡◌, true, None, sym, subst}
 use Rattle.std.proofs.lemmas.Result.{on_ok_weaker}
-use Rattle.odb_tree.specs.Tree.Change.{changed, is_possible_in}
+use Rattle.odb_nodes.specs.Tree.Change.{changed, is_possible_in}
 use Rattle.gix_odb_shown.specs.Kept.{Fits, IsSecond, Notes}
 use Rattle.gix_odb_calls.specs.declared.step.Step.TheVariants as steps
 use Rattle.gix_odb_world.specs.Table.{IsReasonNow}

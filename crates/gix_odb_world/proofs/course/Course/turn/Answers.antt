@@ -2,7 +2,7 @@ use Rattle.std.proofs.Common.{None, Option, Result, subst}
 use Rattle.std.specs.Prelude.{IfOk}
 use Rattle.std.specs.Result.{result_err}
 use Rattle.std.proofs.lemmas.Result.{on_ok_weaker}
-use Rattle.odb_tree.specs.Tree.{tree_of}
+use Rattle.odb_nodes.specs.Tree.{tree_of}
 use Rattle.gix_odb_calls.specs.declared.step.Step.TheVariants as steps
 use Rattle.gix_odb_calls.specs.declared.step.Why.{Why}
 use Rattle.gix_odb_shown.specs.declared.revealed.Revealed.{Revealed}

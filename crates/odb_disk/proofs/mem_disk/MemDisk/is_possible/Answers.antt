@@ -1,8 +1,8 @@
 -- The disk's state shows its tree.
 use Rattle.std.proofs.Common.{◌≡◌, Bool, sym, ap, ◌∙◌}
 use Rattle.std.proofs.lemmas.Result.{IfOk-weaker}
-use Rattle.odb_tree.specs.Tree.Change.{is_possible, is_possible_in}
-use Rattle.odb_tree.proofs.TreeLemmas.Changed.{is_possible-state_of}
+use Rattle.odb_nodes.specs.Tree.Change.{is_possible, is_possible_in}
+use Rattle.odb_nodes.proofs.TreeLemmas.Changed.{is_possible-state_of}
 use Rattle.odb_disk.proofs.mem_disk.MemDisk.is_possible.Goals as goal
 
 pub returns : goal.returns

@@ -1,6 +1,6 @@
 use Rattle.std.proofs.Common.{◌∙◌, sym, ap, subst}
-use Rattle.odb_tree.specs.Tree.{IsTree, tree_of}
-use Rattle.odb_tree.proofs.TreeLemmas.{tree_of-state_of}
+use Rattle.odb_nodes.specs.Tree.{IsTree, tree_of}
+use Rattle.odb_nodes.proofs.TreeLemmas.{tree_of-state_of}
 use Rattle.odb_disk.proofs.mem_disk.MemDisk.tree.Goals as goal
 
 pub returns-clause-shown : goal.returns-clause-shown

@@ -1,8 +1,8 @@
 use Rattle.std.proofs.Common.{◌∙◌, sym, ap, subst, Some}
-use Rattle.odb_tree.specs.Tree.{IsTree, tree_of}
-use Rattle.odb_tree.specs.Tree.Follow.{read_of}
-use Rattle.odb_tree.specs.Answers.{Answers}
-use Rattle.odb_tree.proofs.TreeLemmas.{tree_of-state_of}
+use Rattle.odb_nodes.specs.Tree.{IsTree, tree_of}
+use Rattle.odb_nodes.specs.Tree.Follow.{read_of}
+use Rattle.odb_nodes.specs.Answers.{Answers}
+use Rattle.odb_nodes.proofs.TreeLemmas.{tree_of-state_of}
 use Rattle.odb_disk.proofs.MemDiskLemmas.{after_call-state}
 use Rattle.odb_disk.proofs.mem_disk.MemDiskDisk.read.Goals as goal
 

@@ -1,8 +1,8 @@
 use Rattle.std.proofs.Common.{◌≡◌, ◌∙◌, suc, ◌-◌, ap, arith}
 use Rattle.std.proofs.lemmas.Result.{err_from_is_err_and}
-use Rattle.odb_tree.specs.Tree.Follow.{followed_within}
-use Rattle.odb_tree.specs.TreeCalls.{node_of_place}
-use Rattle.odb_tree.proofs.TreeLemmas.Follow.{followed_reached, followed_loop, followed_onward}
+use Rattle.odb_nodes.specs.Tree.Follow.{followed_within}
+use Rattle.odb_nodes.specs.TreeCalls.{node_of_place}
+use Rattle.odb_nodes.proofs.TreeLemmas.Follow.{followed_reached, followed_loop, followed_onward}
 use Rattle.odb_tree.proofs.TreeCallsLemmas.{Leads-from_end}
 use Rattle.odb_tree.proofs.tree.Tree.+follow.Goals as goal
 

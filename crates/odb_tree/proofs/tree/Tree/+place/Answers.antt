@@ -1,10 +1,10 @@
 use Rattle.std.proofs.Common.{◌≡◌, ◌∙◌, true, suc, ◌-◌, sym, ap, Ok, arith}
 use Rattle.std.proofs.lemmas.Result.{err_from_is_err_and}
-use Rattle.odb_tree.specs.Tree.Follow.{followed_within}
-use Rattle.odb_tree.specs.Tree.Write.{from_followed}
-use Rattle.odb_tree.specs.TreeCalls.{path_of_place}
-use Rattle.odb_tree.proofs.TreeLemmas.Follow.{followed_reached, followed_loop, followed_onward}
-use Rattle.odb_tree.proofs.WriteCallsLemmas.Spots.{Tells-from_end}
+use Rattle.odb_nodes.specs.Tree.Follow.{followed_within}
+use Rattle.odb_nodes.specs.Tree.Write.{from_followed}
+use Rattle.odb_nodes.specs.TreeCalls.{path_of_place}
+use Rattle.odb_nodes.proofs.TreeLemmas.Follow.{followed_reached, followed_loop, followed_onward}
+use Rattle.odb_nodes.proofs.WriteCallsLemmas.Spots.{Tells-from_end}
 use Rattle.odb_tree.proofs.tree.Tree.+place.Goals as goal
 
 pub returns-in_err-pass : goal.returns-in_err-pass

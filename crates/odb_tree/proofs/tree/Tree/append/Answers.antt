@@ -1,9 +1,9 @@
 use Rattle.std.proofs.Common.{ap}
 use Rattle.std.proofs.lemmas.Result.{err_from_is_err_and}
-use Rattle.odb_tree.specs.Tree.Write.{done}
-use Rattle.odb_tree.specs.declared.change.Change.TheVariants.{Append}
-use Rattle.odb_tree.proofs.TreeLemmas.Write.{append_possible}
-use Rattle.odb_tree.proofs.WriteCallsLemmas.Changes.{append_unmade, refused_as_told, change_of_append-is, made_as_told}
+use Rattle.odb_nodes.specs.Tree.Write.{done}
+use Rattle.odb_nodes.specs.declared.change.Change.TheVariants.{Append}
+use Rattle.odb_nodes.proofs.TreeLemmas.Write.{append_possible}
+use Rattle.odb_nodes.proofs.WriteCallsLemmas.Changes.{append_unmade, refused_as_told, change_of_append-is, made_as_told}
 use Rattle.odb_tree.proofs.tree.Tree.append.Goals as goal
 
 pub returns-in_err-place-clause-told : goal.returns-in_err-place-clause-told

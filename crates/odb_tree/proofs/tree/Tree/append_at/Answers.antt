@@ -1,5 +1,5 @@
-use Rattle.odb_tree.specs.Tree.{tree_of_entries}
-use Rattle.odb_tree.proofs.MovedNumbersLemmas.{file_there, IsTree-grown, AreNumbers-grown}
+use Rattle.odb_nodes.specs.Tree.{tree_of_entries}
+use Rattle.odb_nodes.proofs.MovedNumbersLemmas.{file_there, IsTree-grown, AreNumbers-grown}
 use Rattle.odb_tree.proofs.tree.Tree.append_at.Goals as goal
 
 pub invariant_of-self : goal.invariant_of-self

@@ -1,10 +1,10 @@
 use Rattle.std.proofs.Common.{◌≡◌, ◌∙◌, sym, ap, true, is_some, subst}
 use Rattle.std.proofs.lemmas.Result.{on_ok_weaker}
 use Rattle.std.specs.Option.{IfSome}
-use Rattle.odb_tree.specs.Tree.Change.{is_file_content}
-use Rattle.odb_tree.proofs.TreeLemmas.Possible.{possible-append}
-use Rattle.odb_tree.proofs.TreeLemmas.Write.{file_at}
-use Rattle.odb_tree.proofs.WriteCallsLemmas.Changes.{appended_at}
+use Rattle.odb_nodes.specs.Tree.Change.{is_file_content}
+use Rattle.odb_nodes.proofs.TreeLemmas.Possible.{possible-append}
+use Rattle.odb_nodes.proofs.TreeLemmas.Write.{file_at}
+use Rattle.odb_nodes.proofs.WriteCallsLemmas.Changes.{appended_at}
 use Rattle.odb_tree.proofs.tree.Tree.apply_append.Goals as goal
 
 pub file_led_to-requires : goal.file_led_to-requires

@@ -1,7 +1,7 @@
 use Rattle.std.proofs.Common.{◌∙◌, sym}
 use Rattle.std.proofs.lemmas.Result.{on_ok_weaker}
-use Rattle.odb_tree.proofs.TreeLemmas.Change.{made-make_dir}
-use Rattle.odb_tree.proofs.TreeLemmas.Possible.{can_make_dir}
+use Rattle.odb_nodes.proofs.TreeLemmas.Change.{made-make_dir}
+use Rattle.odb_nodes.proofs.TreeLemmas.Possible.{can_make_dir}
 use Rattle.odb_tree.proofs.tree.Tree.apply_make_dir.Goals as goal
 
 pub put_new-requires-clause-lies : goal.put_new-requires-clause-lies

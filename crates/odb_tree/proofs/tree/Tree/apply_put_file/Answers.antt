@@ -1,11 +1,11 @@
 use Rattle.std.proofs.Common.{◌∙◌, ap, sym, is_some}
 use Rattle.std.proofs.lemmas.Result.{on_ok_weaker}
-use Rattle.odb_tree.specs.Tree.{node_at, with_node}
-use Rattle.odb_tree.specs.Tree.Change.{new_node}
-use Rattle.odb_tree.specs.declared.node.Content.TheVariants.{File}
-use Rattle.odb_tree.proofs.TreeLemmas.Change.{made-put_file}
-use Rattle.odb_tree.proofs.TreeLemmas.Possible.{can_put_file}
-use Rattle.odb_tree.proofs.TreeLemmas.Put.{file_stands, put_node-file, put_node-other}
+use Rattle.odb_nodes.specs.Tree.{node_at, with_node}
+use Rattle.odb_nodes.specs.Tree.Change.{new_node}
+use Rattle.odb_nodes.specs.declared.node.Content.TheVariants.{File}
+use Rattle.odb_nodes.proofs.TreeLemmas.Change.{made-put_file}
+use Rattle.odb_nodes.proofs.TreeLemmas.Possible.{can_put_file}
+use Rattle.odb_nodes.proofs.TreeLemmas.Put.{file_stands, put_node-file, put_node-other}
 use Rattle.odb_tree.proofs.tree.Tree.apply_put_file.Goals as goal
 
 pub put_content-requires-clause-lies : goal.put_content-requires-clause-lies

@@ -1,8 +1,8 @@
 use Rattle.std.proofs.Common.{◌∙◌, sym, ap}
-use Rattle.odb_tree.specs.Tree.{tree_of_entries, without}
-use Rattle.odb_tree.proofs.TreeLemmas.Change.{made-remove}
-use Rattle.odb_tree.proofs.TreeLemmas.Possible.{below_root-remove, empty-remove}
-use Rattle.odb_tree.proofs.TreeNumbersLemmas.{IsTree-taken, AreNumbers-taken}
+use Rattle.odb_nodes.specs.Tree.{tree_of_entries, without}
+use Rattle.odb_nodes.proofs.TreeLemmas.Change.{made-remove}
+use Rattle.odb_nodes.proofs.TreeLemmas.Possible.{below_root-remove, empty-remove}
+use Rattle.odb_nodes.proofs.TreeNumbersLemmas.Kept.{IsTree-taken, AreNumbers-taken}
 use Rattle.odb_tree.proofs.tree.Tree.apply_remove.Goals as goal
 
 pub invariant_of-self-2 : goal.invariant_of-self-2

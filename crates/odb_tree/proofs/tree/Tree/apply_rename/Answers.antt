@@ -3,9 +3,9 @@ use Rattle.std.specs.Cmp.Lexicographic.{nat_list_eq_equiv, lists_equiv}
 use Rattle.std.proofs.lemmas.Bool.{false≢true}
 use lib.Pointwise.{pointwise}
 use Rattle.odb_base.specs.Path.{same_name}
-use Rattle.odb_tree.specs.Tree.Change.{with_moved}
-use Rattle.odb_tree.proofs.TreeLemmas.Moved.{moved_onto_itself}
-use Rattle.odb_tree.proofs.TreeLemmas.Changed.{made-rename}
+use Rattle.odb_nodes.specs.Tree.Change.{with_moved}
+use Rattle.odb_nodes.proofs.TreeLemmas.Moved.{moved_onto_itself}
+use Rattle.odb_nodes.proofs.TreeLemmas.Changed.{made-rename}
 use Rattle.odb_tree.proofs.NamesLemmas.{same_paths}
 use Rattle.odb_tree.proofs.tree.Tree.apply_rename.Goals as goal
 

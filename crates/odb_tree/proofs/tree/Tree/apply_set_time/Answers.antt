@@ -1,9 +1,9 @@
 use Rattle.std.proofs.Common.{◌∙◌, sym, ap}
-use Rattle.odb_tree.specs.Tree.{tree_of_entries, node_at}
-use Rattle.odb_tree.specs.Tree.Change.{with_time}
-use Rattle.odb_tree.proofs.TreeLemmas.Change.{made-set_time}
-use Rattle.odb_tree.proofs.TreeLemmas.Possible.{possible-set_time}
-use Rattle.odb_tree.proofs.TreeNumbersLemmas.{IsTree-set_time, AreNumbers-set_time}
+use Rattle.odb_nodes.specs.Tree.{tree_of_entries, node_at}
+use Rattle.odb_nodes.specs.Tree.Change.{with_time}
+use Rattle.odb_nodes.proofs.TreeLemmas.Change.{made-set_time}
+use Rattle.odb_nodes.proofs.TreeLemmas.Possible.{possible-set_time}
+use Rattle.odb_nodes.proofs.TreeNumbersLemmas.Kept.{IsTree-set_time, AreNumbers-set_time}
 use Rattle.odb_tree.proofs.tree.Tree.apply_set_time.Goals as goal
 
 pub invariant_of-self : goal.invariant_of-self

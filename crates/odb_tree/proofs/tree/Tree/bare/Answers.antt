@@ -1,6 +1,7 @@
 use Rattle.std.proofs.Common.{ap, refl}
-use Rattle.odb_tree.specs.Tree.{bare_tree, tree_of_entries}
-use Rattle.odb_tree.proofs.TreeNumbersLemmas.{IsWellKept-bare, root_alone}
+use Rattle.odb_nodes.specs.Tree.{bare_tree, tree_of_entries}
+use Rattle.odb_nodes.proofs.TreeNumbersLemmas.Taken.{root_alone}
+use Rattle.odb_tree.proofs.WellKeptLemmas.{IsWellKept-bare}
 use Rattle.odb_tree.proofs.tree.Tree.bare.Goals as goal
 
 pub invariant_of-result : goal.invariant_of-result

@@ -1,9 +1,9 @@
 use Rattle.std.proofs.Common.{◌∙◌, sym, ap, not}
 use Rattle.std.proofs.lemmas.Bool.{false≢true}
-use Rattle.odb_tree.specs.Tree.{names_in}
-use Rattle.odb_tree.specs.Tree.Change.{is_nil}
-use Rattle.odb_tree.proofs.TreeLemmas.Change.{lies_in-node}
-use Rattle.odb_tree.proofs.TreeLemmas.Possible.{root-remove, absent-remove, standing-remove}
+use Rattle.odb_nodes.specs.Tree.{names_in}
+use Rattle.odb_nodes.specs.Tree.Change.{is_nil}
+use Rattle.odb_nodes.proofs.TreeLemmas.Change.{lies_in-node}
+use Rattle.odb_nodes.proofs.TreeLemmas.Possible.{root-remove, absent-remove, standing-remove}
 use Rattle.odb_tree.proofs.NamesLemmas.{not_twice}
 use Rattle.odb_tree.proofs.tree.Tree.can_remove.Goals as goal
 

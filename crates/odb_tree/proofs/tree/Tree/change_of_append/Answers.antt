@@ -1,8 +1,8 @@
 use Rattle.std.proofs.Common.{Ok, ap, sym, ◌∙◌}
 use Rattle.std.proofs.lemmas.Result.{err_from_is_err_and}
-use Rattle.odb_tree.specs.declared.change.Change.TheVariants.{Append}
-use Rattle.odb_tree.proofs.TreeLemmas.Write.{append_possible}
-use Rattle.odb_tree.proofs.WriteCallsLemmas.Changes.{append_unmade, change_of_append-is}
+use Rattle.odb_nodes.specs.declared.change.Change.TheVariants.{Append}
+use Rattle.odb_nodes.proofs.TreeLemmas.Write.{append_possible}
+use Rattle.odb_nodes.proofs.WriteCallsLemmas.Changes.{append_unmade, change_of_append-is}
 use Rattle.odb_tree.proofs.tree.Tree.change_of_append.Goals as goal
 
 pub returns-in_err-path-clause-told : goal.returns-in_err-path-clause-told

@@ -1,6 +1,6 @@
 use Rattle.std.proofs.lemmas.Result.{err_from_is_err_and}
-use Rattle.odb_tree.proofs.TreeLemmas.Write.{make_dir_possible}
-use Rattle.odb_tree.proofs.WriteCallsLemmas.Changes.{make_dir_unmade, make_dir_told, vacant_lies}
+use Rattle.odb_nodes.proofs.TreeLemmas.Write.{make_dir_possible}
+use Rattle.odb_nodes.proofs.WriteCallsLemmas.Changes.{make_dir_unmade, make_dir_told, vacant_lies}
 use Rattle.odb_tree.proofs.tree.Tree.change_of_make_dir.Goals as goal
 
 pub returns-in_err-path-clause-told : goal.returns-in_err-path-clause-told

@@ -1,6 +1,6 @@
 use Rattle.std.proofs.lemmas.Result.{err_from_is_err_and}
-use Rattle.odb_tree.proofs.TreeLemmas.Write.{remove_possible}
-use Rattle.odb_tree.proofs.WriteCallsLemmas.Changes.{remove_unmade, change_of_remove-is}
+use Rattle.odb_nodes.proofs.TreeLemmas.Write.{remove_possible}
+use Rattle.odb_nodes.proofs.WriteCallsLemmas.Changes.{remove_unmade, change_of_remove-is}
 use Rattle.odb_tree.proofs.tree.Tree.change_of_remove.Goals as goal
 
 pub returns-in_err-path-clause-told : goal.returns-in_err-path-clause-told

@@ -1,6 +1,6 @@
 use Rattle.std.proofs.lemmas.Result.{err_from_is_err_and}
-use Rattle.odb_tree.proofs.TreeLemmas.Write.{rename_possible}
-use Rattle.odb_tree.proofs.WriteCallsLemmas.Changes.{rename_source_unmade, rename_target_unmade, change_of_rename-is}
+use Rattle.odb_nodes.proofs.TreeLemmas.Write.{rename_possible}
+use Rattle.odb_nodes.proofs.WriteCallsLemmas.Changes.{rename_source_unmade, rename_target_unmade, change_of_rename-is}
 use Rattle.odb_tree.proofs.tree.Tree.change_of_rename.Goals as goal
 
 pub returns-in_err-from-clause-told : goal.returns-in_err-from-clause-told

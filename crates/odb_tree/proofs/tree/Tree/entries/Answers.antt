@@ -1,6 +1,6 @@
 use Rattle.std.proofs.Common.{◌∙◌, sym, ap, Ok}
 use Rattle.std.proofs.lemmas.Result.{err_from_is_err_and}
-use Rattle.odb_tree.specs.Entries.{entries_in}
+use Rattle.odb_nodes.specs.Entries.{entries_in}
 use Rattle.odb_tree.proofs.EntriesLemmas.{opened_directory, opened_other, opened_refused}
 use Rattle.odb_tree.proofs.tree.Tree.entries.Goals as goal
 

@@ -1,6 +1,6 @@
 use Rattle.std.proofs.Common.{◌∙◌, sym}
 use Rattle.std.proofs.lemmas.Bool.{false≢true}
-use Rattle.odb_tree.proofs.WriteCallsLemmas.Changes.{no_file_there}
+use Rattle.odb_nodes.proofs.WriteCallsLemmas.Changes.{no_file_there}
 use Rattle.odb_tree.proofs.tree.Tree.file_led_to.Goals as goal
 
 pub unreachable-requires : goal.unreachable-requires

@@ -1,6 +1,6 @@
 use Rattle.std.proofs.Common.{◌∙◌, sym, true, false}
 use Rattle.std.proofs.lemmas.Result.{err_from_is_err_and}
-use Rattle.odb_tree.proofs.WriteCallsLemmas.Spots.{file_spot_refused, file_or_not, led_nowhere}
+use Rattle.odb_nodes.proofs.WriteCallsLemmas.Spots.{file_spot_refused, file_or_not, led_nowhere}
 use Rattle.odb_tree.proofs.tree.Tree.file_spot.Goals as goal
 use Rattle.odb_tree.proofs.tree.Tree.file_spot.Goals.{in_default-via-in-Some+else-is_file, in_default-via-in_default}
 

@@ -1,5 +1,5 @@
 use Rattle.std.proofs.Common.{◌∙◌, sym}
-use Rattle.odb_tree.proofs.WriteCallsLemmas.Changes.{leads_to_file, no_file_there}
+use Rattle.odb_nodes.proofs.WriteCallsLemmas.Changes.{leads_to_file, no_file_there}
 use Rattle.odb_tree.proofs.tree.Tree.leads_to_file.Goals as goal
 use Rattle.odb_tree.proofs.tree.Tree.leads_to_file.Goals.{in-Ok, in-Err+in-Impossible, in-Err+in-NoMemory}
 

@@ -1,9 +1,9 @@
 use Rattle.std.proofs.Common.{ap}
 use Rattle.std.proofs.lemmas.Result.{err_from_is_err_and}
-use Rattle.odb_tree.specs.Tree.Write.{done}
-use Rattle.odb_tree.specs.declared.change.Change.TheVariants.{MakeDir}
-use Rattle.odb_tree.proofs.TreeLemmas.Write.{make_dir_possible}
-use Rattle.odb_tree.proofs.WriteCallsLemmas.Changes.{make_dir_unmade, make_dir_told, made_as_told, refused_as_told, vacant_lies}
+use Rattle.odb_nodes.specs.Tree.Write.{done}
+use Rattle.odb_nodes.specs.declared.change.Change.TheVariants.{MakeDir}
+use Rattle.odb_nodes.proofs.TreeLemmas.Write.{make_dir_possible}
+use Rattle.odb_nodes.proofs.WriteCallsLemmas.Changes.{make_dir_unmade, make_dir_told, made_as_told, refused_as_told, vacant_lies}
 use Rattle.odb_tree.proofs.tree.Tree.make_dir.Goals as goal
 
 pub returns-in_err-place-clause-told : goal.returns-in_err-place-clause-told

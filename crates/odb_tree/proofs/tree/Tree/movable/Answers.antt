@@ -1,6 +1,6 @@
 use Rattle.std.proofs.Common.{◌∙◌, sym, true, false}
 use Rattle.std.proofs.lemmas.Result.{err_from_is_err_and}
-use Rattle.odb_tree.proofs.WriteCallsLemmas.Spots.{movable_refused, nothing_to_move, moves_or_not}
+use Rattle.odb_nodes.proofs.WriteCallsLemmas.Spots.{movable_refused, nothing_to_move, moves_or_not}
 use Rattle.odb_tree.proofs.tree.Tree.movable.Goals as goal
 
 pub returns-in_err-place : goal.returns-in_err-place

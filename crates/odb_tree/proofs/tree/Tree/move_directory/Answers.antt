@@ -1,9 +1,9 @@
 use Rattle.std.proofs.Common.{◌∙◌, sym, ap}
 use Rattle.std.proofs.lemmas.Result.{on_ok_weaker}
-use Rattle.odb_tree.specs.Tree.{tree_of_entries}
-use Rattle.odb_tree.specs.Tree.Change.{with_moved}
-use Rattle.odb_tree.proofs.TreeLemmas.Changed.{made-rename}
-use Rattle.odb_tree.proofs.MovedNumbersLemmas.{rename_absent, rename_outside, IsTree-directory, AreNumbers-directory}
+use Rattle.odb_nodes.specs.Tree.{tree_of_entries}
+use Rattle.odb_nodes.specs.Tree.Change.{with_moved}
+use Rattle.odb_nodes.proofs.TreeLemmas.Changed.{made-rename}
+use Rattle.odb_nodes.proofs.MovedNumbersLemmas.{rename_absent, rename_outside, IsTree-directory, AreNumbers-directory}
 use Rattle.odb_tree.proofs.tree.Tree.move_directory.Goals as goal
 
 pub move_below-requires-clause-absent : goal.move_below-requires-clause-absent

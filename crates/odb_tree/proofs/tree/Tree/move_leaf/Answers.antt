@@ -1,8 +1,8 @@
 use Rattle.std.proofs.Common.{◌∙◌, sym, ap}
-use Rattle.odb_tree.specs.Tree.{tree_of_entries}
-use Rattle.odb_tree.specs.Tree.Change.{with_moved}
-use Rattle.odb_tree.proofs.TreeLemmas.Changed.{made-rename}
-use Rattle.odb_tree.proofs.MovedNumbersLemmas.{apart_outside, leaf_made, IsTree-renamed, AreNumbers-renamed}
+use Rattle.odb_nodes.specs.Tree.{tree_of_entries}
+use Rattle.odb_nodes.specs.Tree.Change.{with_moved}
+use Rattle.odb_nodes.proofs.TreeLemmas.Changed.{made-rename}
+use Rattle.odb_nodes.proofs.MovedNumbersLemmas.{apart_outside, leaf_made, IsTree-renamed, AreNumbers-renamed}
 use Rattle.odb_tree.proofs.tree.Tree.move_leaf.Goals as goal
 
 pub invariant_of-self-2 : goal.invariant_of-self-2

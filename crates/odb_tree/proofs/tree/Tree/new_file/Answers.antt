@@ -1,8 +1,8 @@
 use Rattle.std.proofs.Common.{ap}
 use Rattle.std.proofs.lemmas.Result.{err_from_is_err_and}
-use Rattle.odb_tree.specs.Tree.Write.{done}
-use Rattle.odb_tree.proofs.TreeLemmas.Write.{new_file_possible}
-use Rattle.odb_tree.proofs.WriteCallsLemmas.Changes.{new_file_unmade, new_file_told, made_as_told, refused_as_told}
+use Rattle.odb_nodes.specs.Tree.Write.{done}
+use Rattle.odb_nodes.proofs.TreeLemmas.Write.{new_file_possible}
+use Rattle.odb_nodes.proofs.WriteCallsLemmas.Changes.{new_file_unmade, new_file_told, made_as_told, refused_as_told}
 use Rattle.odb_tree.proofs.tree.Tree.new_file.Goals as goal
 
 pub returns-in_err-place-clause-told : goal.returns-in_err-place-clause-told

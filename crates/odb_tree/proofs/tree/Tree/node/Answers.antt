@@ -1,6 +1,6 @@
 use Rattle.std.proofs.Common.{◌∙◌, sym, ap}
-use Rattle.odb_tree.specs.Tree.{node_at}
-use Rattle.odb_tree.proofs.TreeLemmas.{node_at-entries}
+use Rattle.odb_nodes.specs.Tree.{node_at}
+use Rattle.odb_nodes.proofs.TreeLemmas.{node_at-entries}
 use Rattle.odb_tree.proofs.tree.Tree.node.Goals as goal
 
 pub returns-clause-value : goal.returns-clause-value

@@ -1,8 +1,8 @@
 use Rattle.std.proofs.Common.{◌∷◌, None, Some, sym, subst}
 use Rattle.odb_base.specs.PathLaws.{lies_below}
-use Rattle.odb_tree.specs.TreeCalls.{IsLastBefore}
+use Rattle.odb_nodes.specs.TreeCalls.{IsLastBefore}
 use Rattle.odb_tree.proofs.LastNodeLemmas.{some_before, way_stands, short_of_common, some_not_none}
-use Rattle.odb_tree.proofs.TreeLemmas.Follow.{pass_past}
+use Rattle.odb_nodes.proofs.TreeLemmas.Follow.{pass_past}
 use Rattle.odb_tree.proofs.tree.Tree.onward_by_link.Goals as goal
 
 pub returns-in_default : goal.returns-in_default

@@ -1,6 +1,6 @@
 use Rattle.std.proofs.Common.{◌≡◌, ◌++◌, ◌∙◌, sym, ap}
 use Rattle.std.proofs.lemmas.List.{append_cancel_left}
-use Rattle.odb_tree.specs.Tree.Follow.{Missing, Onward, past}
+use Rattle.odb_nodes.specs.Tree.Follow.{Missing, Onward, past}
 use Rattle.odb_tree.proofs.tree.Tree.onward_past.Goals as goal
 
 pub returns-in_ok-followed_by-in-Some : goal.returns-in_ok-followed_by-in-Some

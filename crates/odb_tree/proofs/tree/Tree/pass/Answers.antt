@@ -1,6 +1,6 @@
 use Rattle.std.proofs.Common.{◌∙◌, sym, ap}
-use Rattle.odb_tree.specs.Tree.Follow.{Onward}
-use Rattle.odb_tree.proofs.TreeLemmas.Follow.{pass_to_link, pass_to_other, pass_to_unfollowed}
+use Rattle.odb_nodes.specs.Tree.Follow.{Onward}
+use Rattle.odb_nodes.proofs.TreeLemmas.Follow.{pass_to_link, pass_to_other, pass_to_unfollowed}
 use Rattle.odb_tree.proofs.tree.Tree.pass.Goals as goal
 use Rattle.odb_tree.proofs.tree.Tree.pass.Goals.{in_default-content-via-in-Link+else-follow, in_default-content-via-in_default-content}
 

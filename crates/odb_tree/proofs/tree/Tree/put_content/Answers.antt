@@ -1,5 +1,5 @@
-use Rattle.odb_tree.specs.Tree.{tree_of_entries}
-use Rattle.odb_tree.proofs.TreeNumbersLemmas.{IsTree-over, AreNumbers-changed}
+use Rattle.odb_nodes.specs.Tree.{tree_of_entries}
+use Rattle.odb_nodes.proofs.TreeNumbersLemmas.Kept.{IsTree-over, AreNumbers-changed}
 use Rattle.odb_tree.proofs.tree.Tree.put_content.Goals as goal
 
 pub invariant_of-self : goal.invariant_of-self

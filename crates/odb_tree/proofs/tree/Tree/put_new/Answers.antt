@@ -1,7 +1,7 @@
 use Rattle.std.proofs.Common.{◌∙◌, ap, sym}
-use Rattle.odb_tree.specs.Tree.{tree_of_entries, with_node}
-use Rattle.odb_tree.specs.Tree.Change.{least_free}
-use Rattle.odb_tree.proofs.TreeNumbersLemmas.{IsTree-new, AreNumbers-new, least_free-least}
+use Rattle.odb_nodes.specs.Tree.{tree_of_entries, with_node}
+use Rattle.odb_nodes.specs.Tree.Change.{least_free}
+use Rattle.odb_nodes.proofs.TreeNumbersLemmas.Kept.{IsTree-new, AreNumbers-new, least_free-least}
 use Rattle.odb_tree.proofs.tree.Tree.put_new.Goals as goal
 
 pub invariant_of-self-2 : goal.invariant_of-self-2

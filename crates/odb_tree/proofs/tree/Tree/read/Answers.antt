@@ -1,6 +1,6 @@
 use Rattle.std.proofs.Common.{◌∙◌, sym, ap, Ok, inl, inr}
 use Rattle.std.proofs.lemmas.Result.{err_from_is_err_and}
-use Rattle.odb_tree.specs.Tree.Follow.{file_of}
+use Rattle.odb_nodes.specs.Tree.Follow.{file_of}
 use Rattle.odb_tree.proofs.TreeCallsLemmas.{read_node, read_refused}
 use Rattle.odb_tree.proofs.tree.Tree.read.Goals as goal
 

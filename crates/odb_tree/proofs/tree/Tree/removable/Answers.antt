@@ -1,10 +1,10 @@
 use Rattle.std.proofs.Common.{◌∙◌, sym, ap, true, false, not, refl}
 use Rattle.std.proofs.lemmas.Result.{err_from_is_err_and}
 use Rattle.std.proofs.lemmas.Bool.{false≢true}
-use Rattle.odb_tree.specs.Tree.{names_in}
-use Rattle.odb_tree.specs.Tree.Change.{is_nil}
+use Rattle.odb_nodes.specs.Tree.{names_in}
+use Rattle.odb_nodes.specs.Tree.Change.{is_nil}
 use Rattle.odb_tree.proofs.NamesLemmas.{not_twice}
-use Rattle.odb_tree.proofs.WriteCallsLemmas.Spots.{removable_refused, nothing_to_remove, removed_or_not, root_nil, other_nil}
+use Rattle.odb_nodes.proofs.WriteCallsLemmas.Spots.{removable_refused, nothing_to_remove, removed_or_not, root_nil, other_nil}
 use Rattle.odb_tree.proofs.tree.Tree.removable.Goals as goal
 
 pub returns-in_err-place-clause-told : goal.returns-in_err-place-clause-told

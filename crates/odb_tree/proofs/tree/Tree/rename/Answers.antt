@@ -1,9 +1,9 @@
 use Rattle.std.proofs.Common.{ap}
 use Rattle.std.proofs.lemmas.Result.{err_from_is_err_and}
-use Rattle.odb_tree.specs.Tree.Write.{done}
-use Rattle.odb_tree.specs.declared.change.Change.TheVariants.{Rename}
-use Rattle.odb_tree.proofs.TreeLemmas.Write.{rename_possible}
-use Rattle.odb_tree.proofs.WriteCallsLemmas.Changes.{rename_source_unmade, rename_target_unmade, change_of_rename-is, made_as_told, refused_as_told}
+use Rattle.odb_nodes.specs.Tree.Write.{done}
+use Rattle.odb_nodes.specs.declared.change.Change.TheVariants.{Rename}
+use Rattle.odb_nodes.proofs.TreeLemmas.Write.{rename_possible}
+use Rattle.odb_nodes.proofs.WriteCallsLemmas.Changes.{rename_source_unmade, rename_target_unmade, change_of_rename-is, made_as_told, refused_as_told}
 use Rattle.odb_tree.proofs.tree.Tree.rename.Goals as goal
 
 pub returns-in_err-source-clause-told : goal.returns-in_err-source-clause-told

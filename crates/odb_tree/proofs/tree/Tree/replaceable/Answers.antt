@@ -1,7 +1,7 @@
 use Rattle.std.proofs.Common.{◌∙◌, sym, ap, true, false}
 use Rattle.std.proofs.lemmas.Result.{err_from_is_err_and}
-use Rattle.odb_tree.specs.Tree.{is_directory}
-use Rattle.odb_tree.proofs.WriteCallsLemmas.Spots.{replaceable_refused, replaced_or_not}
+use Rattle.odb_nodes.specs.Tree.{is_directory}
+use Rattle.odb_nodes.proofs.WriteCallsLemmas.Spots.{replaceable_refused, replaced_or_not}
 use Rattle.odb_tree.proofs.tree.Tree.replaceable.Goals as goal
 use Rattle.odb_tree.proofs.tree.Tree.replaceable.Goals.{in_default-via-in-Some+else-is_dir, in_default-via-in_default}
 

@@ -1,8 +1,8 @@
 use Rattle.std.proofs.Common.{◌≡◌, ◌∙◌, true, false, sym, ap, Ok, drop, length}
 use Rattle.std.proofs.lemmas.Result.{err_from_is_err_and}
 use Rattle.odb_base.specs.PathLaws.{parent_of-some, lies_below, goes_beyond}
-use Rattle.odb_tree.specs.Tree.{node_at, is_directory}
-use Rattle.odb_tree.proofs.WriteCallsLemmas.Spots.{spot_root, spot_refused, spot_nowhere, spot_there}
+use Rattle.odb_nodes.specs.Tree.{node_at, is_directory}
+use Rattle.odb_nodes.proofs.WriteCallsLemmas.Spots.{spot_root, spot_refused, spot_nowhere, spot_there}
 use Rattle.odb_tree.proofs.tree.Tree.spot.Goals as goal
 
 pub returns-in_default : goal.returns-in_default

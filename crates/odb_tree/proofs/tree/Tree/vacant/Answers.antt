@@ -1,6 +1,6 @@
 use Rattle.std.proofs.Common.{sym}
 use Rattle.std.proofs.lemmas.Result.{err_from_is_err_and}
-use Rattle.odb_tree.proofs.WriteCallsLemmas.Spots.{vacant_refused, vacant_here, taken_here}
+use Rattle.odb_nodes.proofs.WriteCallsLemmas.Spots.{vacant_refused, vacant_here, taken_here}
 use Rattle.odb_tree.proofs.tree.Tree.vacant.Goals as goal
 
 pub returns-in_err-place-clause-told : goal.returns-in_err-place-clause-told

@@ -1,6 +1,6 @@
 use Rattle.std.proofs.Common.{◌≡◌, ◌++◌, ◌∙◌}
 use Rattle.std.specs.Option.{option_copied}
-use Rattle.odb_tree.specs.Tree.{tree_of_entries}
+use Rattle.odb_nodes.specs.Tree.{tree_of_entries}
 use Rattle.odb_tree.proofs.ListingLemmas.{begun, one_more, ended_before}
 use Rattle.odb_tree.proofs.tree.list.add_entries.Goals as goal
 

@@ -1,5 +1,5 @@
 use Rattle.std.specs.Option.{option_copied}
-use Rattle.odb_tree.specs.Tree.{tree_of_entries}
+use Rattle.odb_nodes.specs.Tree.{tree_of_entries}
 use Rattle.odb_tree.proofs.ListingLemmas.{IsUnderWay}
 use Rattle.odb_tree.proofs.tree.list.add_entries.Given as goal
 

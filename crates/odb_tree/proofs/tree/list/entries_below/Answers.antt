@@ -1,6 +1,6 @@
 use Rattle.std.proofs.Common.{subst, IsSome}
-use Rattle.odb_tree.specs.Tree.{tree_of_entries}
-use Rattle.odb_tree.proofs.TreeLemmas.{node_at-entries}
+use Rattle.odb_nodes.specs.Tree.{tree_of_entries}
+use Rattle.odb_nodes.proofs.TreeLemmas.{node_at-entries}
 use Rattle.odb_tree.proofs.TreeMovesLemmas.{fewer_behind}
 use Rattle.odb_tree.proofs.ListingLemmas.{none_listed, passed_on, later_still}
 use Rattle.odb_tree.proofs.tree.list.entries_below.Goals as goal

@@ -1,4 +1,4 @@
-use Rattle.odb_tree.specs.Tree.{tree_of_entries}
+use Rattle.odb_nodes.specs.Tree.{tree_of_entries}
 use Rattle.odb_tree.proofs.ListingLemmas.{IsListedTo}
 use Rattle.odb_tree.proofs.TreeMovesLemmas.{behind_count}
 use Rattle.odb_tree.proofs.tree.list.entries_below.Given as goal

@@ -1,4 +1,4 @@
-use Rattle.odb_tree.proofs.TreeLemmas.Moved.{begins-own}
+use Rattle.odb_nodes.proofs.TreeLemmas.Moved.{begins-own}
 use Rattle.odb_tree.proofs.tree.list.last_below.Goals as goal
 
 pub returns-in_default-clause-below : goal.returns-in_default-clause-below

@@ -1,0 +1,14 @@
+-- What a pass along a path comes to in a tree in memory. No public clause cites this.
+use Rattle.std.specs.Prelude.{◌≡◌, Result, Ok, Err}
+use Rattle.odb_base.specs.Path.{Path}
+use Rattle.odb_nodes.specs.Tree.Follow.{Pass, Reached, Onward}
+use Rattle.odb_nodes.specs.declared.disk_error.DiskError.{DiskError}
+use Rattle.odb_tree.specs.declared.tree.follow.Way.{Way}
+use Rattle.odb_tree.specs.declared.tree.follow.Way.TheVariants as ways
+use Rattle.odb_nodes.specs.TreeCalls.{Ends}
+
+-- a pass along a path comes to the node there, or to a link that leads on
+abbrev pub Comes : Path → Result Way DiskError → Pass → Type 0
+Comes path (Ok (ways.Reached node)) told = told ≡ Reached path node.now
+Comes path (Ok (ways.Onward onward)) told = told ≡ Onward onward
+Comes path (Err error) told = Ends error told
