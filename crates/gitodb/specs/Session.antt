@@ -2,7 +2,7 @@
 use Rattle.std.specs.Prelude.{◌≡◌, ℕ, List, [], ◌∷◌, ◌++◌, codes, Option, IfSome, if◌then◌else◌}
 use Rattle.std.specs.Fmt.{decimal}
 use Rattle.odb_base.specs.Path.{same_name}
-use Rattle.odb_disk.specs.MemDisk.{Volume}
+use Rattle.odb_asks.specs.MemDisk.{Volume}
 use Rattle.odb_program.specs.Session.{FailedRead, FailedWrite, Finished, Input, Output, ReadToEnd, Wrote}
 use Rattle.gix_odb_world.specs.Headline.{Headline}
 use Rattle.gix_odb_world.specs.Play.{Plays, made_of}

@@ -17,8 +17,7 @@ use gix_odb_events::{Answer, PartAsk, View};
 use gix_odb_looks::{LookUp, Setting};
 use gix_odb_loose::{LooseCall, LooseJob, LooseReply};
 use gix_odb_refresh::Refresh;
-use odb_base::{NoMemory, PathText};
-use odb_disk::ByteList;
+use odb_base::{ByteList, NoMemory, PathText};
 use std::alloc::Global;
 
 /// A call on a handle on its way.

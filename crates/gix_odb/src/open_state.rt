@@ -8,8 +8,9 @@ ghost use Rattle.gix_odb.specs.OpenOrder as order;
 use crate::handle_state::HandleState;
 use gix_odb_calls::{CallError, Reply, Slots, StoreParts, init, load_index};
 use gix_odb_packs::{ListStep, Lister};
+use odb_asks::{DiskAnswer, DiskAsk};
 use odb_base::{NoMemory, PathText};
-use odb_disk::{DiskAnswer, DiskAsk, DiskError, Kind};
+use odb_nodes::{DiskError, Kind};
 use std::alloc::Global;
 
 /// The most slots that a store may have: 2^15 - 1. A pack's number has 32 bits, and the lowest 15 of them are the slot

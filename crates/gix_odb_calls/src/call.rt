@@ -6,8 +6,7 @@ use crate::hashes::is_id_of;
 use crate::{find, init, write};
 use gix_hash::ObjectId;
 use gix_object::Kind;
-use odb_base::NoMemory;
-use odb_disk::ByteList;
+use odb_base::{ByteList, NoMemory};
 use std::alloc::Global;
 use thiserror::Error;
 

@@ -3,8 +3,8 @@ ghost use Rattle.std.specs.Prelude.{◌≡◌, IfOk};
 
 use crate::call::{Call, Reply};
 use crate::init::{IdPairs, Options, PathList, copy_of_pairs, copy_of_paths};
-use odb_base::NoMemory;
-use odb_disk::{Change, PathText};
+use odb_base::{NoMemory, PathText};
+use odb_nodes::Change;
 use std::alloc::Global;
 
 /// A step of a world.

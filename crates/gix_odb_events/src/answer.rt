@@ -1,6 +1,6 @@
 //! What a machine asks for, and what it is answered.
 use crate::event::{Effect, Event, Refusal};
-use odb_disk::{DiskAnswer, DiskAsk};
+use odb_asks::{DiskAnswer, DiskAsk};
 
 /// What a machine asks for.
 #[derive(Drop)]

@@ -6,8 +6,8 @@ use Rattle.std.proofs.Common.{◌≡◌, List, [], ◌∷◌, Contains, Some, sy
 use Rattle.std.specs.List.{All, IsDistinct}
 use Rattle.std.proofs.lemmas.Option.{same_Some}
 use Rattle.odb_base.specs.Path.{Path}
-use Rattle.odb_disk.specs.declared.ask.DiskAnswer.{DiskAnswer}
-use Rattle.odb_disk.specs.declared.ask.DiskAsk.{DiskAsk}
+use Rattle.odb_asks.specs.declared.ask.DiskAnswer.{DiskAnswer}
+use Rattle.odb_asks.specs.declared.ask.DiskAsk.{DiskAsk}
 use Rattle.odb_nodes.specs.Tree.{Tree}
 use Rattle.odb_nodes.specs.declared.entry.Entry.{Entry}
 use Rattle.gix_hash.specs.declared.object_id.ObjectId.{ObjectId}

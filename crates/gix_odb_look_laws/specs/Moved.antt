@@ -1,7 +1,7 @@
 -- An object that is loose up to an exchange of a look-up, and lies in a pack from then on.
 use Rattle.std.specs.Prelude.{◌≡◌, true, List, Contains, Some}
 use Rattle.odb_base.specs.Path.{Path}
-use Rattle.odb_disk.specs.declared.ask.DiskAnswer.{DiskAnswer}
+use Rattle.odb_asks.specs.declared.ask.DiskAnswer.{DiskAnswer}
 use Rattle.gix_hash.specs.declared.object_id.ObjectId.{ObjectId}
 use Rattle.gix_odb_loose.specs.LooseOrder.{disk_ask_of, reply_of}
 use Rattle.gix_odb_loose.specs.declared.call.LooseReply.{LooseReply}

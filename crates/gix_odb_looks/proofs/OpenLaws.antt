@@ -1,9 +1,9 @@
 -- A law of look-ups: the directories that they open are the folders of packs of the folders.
 use Rattle.std.proofs.Common.{◌≡◌, ℕ, false, List, Contains, Option, Some, None, refl, sym, ap, ◌∙◌}
 use Rattle.odb_base.specs.Path.{Path}
-use Rattle.odb_disk.specs.StreamAsks.{is_of_streams}
-use Rattle.odb_disk.specs.declared.ask.DiskAsk.{DiskAsk}
-use Rattle.odb_disk.specs.declared.ask.DiskAsk.TheVariants as disk_asks
+use Rattle.odb_asks.specs.StreamAsks.{is_of_streams}
+use Rattle.odb_asks.specs.declared.ask.DiskAsk.{DiskAsk}
+use Rattle.odb_asks.specs.declared.ask.DiskAsk.TheVariants as disk_asks
 use Rattle.gix_hash.specs.ObjectId.{kind_of}
 use Rattle.gix_hash.specs.declared.kind.Kind.{Kind}
 use Rattle.gix_hash.specs.declared.object_id.ObjectId.{ObjectId}

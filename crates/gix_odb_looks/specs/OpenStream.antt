@@ -7,13 +7,13 @@ use Rattle.odb_nodes.specs.declared.disk_error.DiskError.TheVariants as errors
 use Rattle.odb_nodes.specs.declared.entry.Entry.{Entry}
 use Rattle.odb_nodes.specs.declared.meta.Kind.TheVariants as kinds
 use Rattle.odb_nodes.specs.declared.meta.Meta.{Meta}
-use Rattle.odb_disk.specs.Ask.{after_ask, answer_now}
-use Rattle.odb_disk.specs.MemDisk.{Volume}
-use Rattle.odb_disk.specs.Streams.{still_gives}
-use Rattle.odb_disk.specs.declared.ask.DiskAnswer.{DiskAnswer}
-use Rattle.odb_disk.specs.declared.ask.DiskAnswer.TheVariants as answers
-use Rattle.odb_disk.specs.declared.ask.DiskAsk.{DiskAsk}
-use Rattle.odb_disk.specs.declared.ask.DiskAsk.TheVariants as asks
+use Rattle.odb_asks.specs.Ask.{after_ask, answer_now}
+use Rattle.odb_asks.specs.MemDisk.{Volume}
+use Rattle.odb_asks.specs.Streams.{still_gives}
+use Rattle.odb_asks.specs.declared.ask.DiskAnswer.{DiskAnswer}
+use Rattle.odb_asks.specs.declared.ask.DiskAnswer.TheVariants as answers
+use Rattle.odb_asks.specs.declared.ask.DiskAsk.{DiskAsk}
+use Rattle.odb_asks.specs.declared.ask.DiskAsk.TheVariants as asks
 
 -- ---- a stream by its number
 

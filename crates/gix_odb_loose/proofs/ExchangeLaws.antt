@@ -1,6 +1,6 @@
 -- One exchange more.
 use Rattle.std.specs.Prelude.{◌≡◌, List, [], ◌∷◌, ◌++◌, Option, refl}
-use Rattle.odb_disk.specs.Ask.{state_told_after}
+use Rattle.odb_asks.specs.Ask.{state_told_after}
 use Rattle.odb_nodes.specs.Tree.{State}
 use Rattle.gix_odb_loose.specs.Exchanges.{Exchange, left_by, IsGiven, AreGiven}
 

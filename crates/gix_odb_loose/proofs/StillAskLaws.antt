@@ -1,9 +1,9 @@
 -- No call of a store opens a stream of the disk, takes from one or closes one. For callers.
 use Rattle.std.specs.Prelude.{◌≡◌, true, false, List, Some, is_some, refl}
 use Rattle.std.proofs.Common.{◌∙◌, ℕ, sym, ap}
-use Rattle.odb_disk.specs.StreamAsks.{is_of_streams}
-use Rattle.odb_disk.specs.declared.ask.DiskAsk.{DiskAsk}
-use Rattle.odb_disk.specs.declared.ask.DiskAsk.TheVariants as asks
+use Rattle.odb_asks.specs.StreamAsks.{is_of_streams}
+use Rattle.odb_asks.specs.declared.ask.DiskAsk.{DiskAsk}
+use Rattle.odb_asks.specs.declared.ask.DiskAsk.TheVariants as asks
 use Rattle.gix_odb_loose.specs.LooseOrder.{disk_ask_of, stage_ask}
 use Rattle.gix_odb_loose.specs.StreamJobs.Progress.{Begun}
 use Rattle.gix_odb_loose.specs.StreamJobs.AtStage.{IsReady}

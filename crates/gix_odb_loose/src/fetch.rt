@@ -3,7 +3,7 @@ ghost use Rattle.std.specs.Prelude.{IfOk, OnErr};
 ghost use Rattle.gix_odb_loose.specs.StreamJobs.Reads.{Fetches, Loses};
 
 use odb_base::{ByteList, NoMemory};
-use odb_disk::Source;
+use odb_sources::Source;
 use std::alloc::Global;
 
 /// How many bytes one read asks for, at most: they pass through an array of this length, which lies on the stack.

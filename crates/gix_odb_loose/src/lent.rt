@@ -1,7 +1,7 @@
 //! Bytes at hand as a source.
 ghost use Rattle.std.specs.Prelude.{◌≡◌, Some};
 
-use odb_disk::{Failed, Source};
+use odb_sources::{Failed, Source};
 
 /// Bytes of a caller's. No read of them fails.
 #[derive(Drop)]

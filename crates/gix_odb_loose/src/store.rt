@@ -3,7 +3,7 @@ ghost use Rattle.std.specs.Prelude.{◌≡◌, ◌≤◌, ◌↔◌, true, [], N
 ghost use Rattle.odb_base.specs.Faults.{Rose};
 ghost use Rattle.odb_nodes.specs.Tree.{tree_of};
 ghost use Rattle.odb_nodes.specs.Tree.Follow.{looked, read_of};
-ghost use Rattle.odb_disk.specs.Ask.{AnswersAsk, meta_answer, file_answer};
+ghost use Rattle.odb_asks.specs.Ask.{AnswersAsk, meta_answer, file_answer};
 ghost use Rattle.gix_hash.specs.ObjectId.{kind_of};
 ghost use Rattle.gix_object.specs.Data.{found_of};
 ghost use Rattle.gix_odb_loose.specs.Store.{store_path, store_hash, store_limit};
@@ -13,8 +13,9 @@ ghost use Rattle.gix_odb_loose.specs.Answers.{path_in, put_in, Finds, TellsHeade
 use crate::{call, find, paths, reply};
 use gix_hash::ObjectId;
 use gix_object::{Data, Kind};
+use odb_asks::{Disk, DiskAnswer};
 use odb_base::{NoMemory, PathText};
-use odb_disk::{Disk, DiskAnswer, DiskError};
+use odb_nodes::DiskError;
 use std::alloc::Global;
 
 /// The options of a store. The default has no limit.

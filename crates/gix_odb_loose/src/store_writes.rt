@@ -16,8 +16,9 @@ use crate::write_streamed::StreamJob;
 use crate::{Store, write};
 use gix_hash::ObjectId;
 use gix_object::{Kind, WriteTo};
+use odb_asks::Disk;
 use odb_base::NoMemory;
-use odb_disk::{Disk, MemSink, Source};
+use odb_sources::{MemSink, Source};
 use std::alloc::Global;
 
 impl Store {

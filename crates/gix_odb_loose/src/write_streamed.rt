@@ -1,7 +1,7 @@
 //! A write whose data come from a source, a piece at a time: the source is read where the machine asks for data, so that
 //! between two turns a write stands at a stage that asks the disk.
 ghost use Rattle.std.specs.Prelude.{◌≡◌, ◌<◌, ◌≤◌, ◌++◌, ℕ, List, [], length, nat_lt, false, Option, IfOk, OnOk, Some, None};
-ghost use Rattle.odb_disk.specs.StreamAsks.{is_of_streams};
+ghost use Rattle.odb_asks.specs.StreamAsks.{is_of_streams};
 ghost use Rattle.odb_nodes.specs.Tree.{State};
 ghost use Rattle.gix_odb_loose.specs.WriteOrder.{write_ask};
 ghost use Rattle.gix_odb_loose.specs.WriteOrder.{temp_path as temp_path_of};
@@ -19,8 +19,9 @@ use crate::naming::Naming;
 use crate::paths;
 use crate::write_order::{Refusal, WriteAsk, WriteHead, WriteStage, ended, failed};
 use gix_hash::ObjectId;
+use odb_asks::{Disk, DiskAsk};
 use odb_base::{ByteList, NoMemory, PathText};
-use odb_disk::{Disk, DiskAsk, Source};
+use odb_sources::Source;
 use std::alloc::Global;
 use std::mem;
 

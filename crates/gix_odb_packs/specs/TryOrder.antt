@@ -4,7 +4,7 @@ pub mod Seek
 pub mod Index
 pub mod Pack
 use Rattle.std.specs.Prelude.{Ok, Err}
-use Rattle.odb_disk.specs.declared.ask.DiskAnswer.{DiskAnswer}
+use Rattle.odb_asks.specs.declared.ask.DiskAnswer.{DiskAnswer}
 use Rattle.gix_odb_events.specs.declared.event.Effect.{Effect}
 use Rattle.gix_odb_events.specs.declared.event.Refusal.{Refusal}
 use Rattle.gix_odb_events.specs.declared.answer.Answer.{Answer}

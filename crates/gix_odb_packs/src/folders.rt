@@ -3,7 +3,7 @@ ghost use Rattle.std.specs.Prelude.{◌≡◌, ◌++◌, ◌∷◌, [], IfOk, On
 ghost use Rattle.gix_odb_packs.specs.PackFolder.{firsts, index_paths, is_index_entry, is_index_name, pack_folder};
 
 use odb_base::{BadPath, NoMemory, PathName, PathText, Sequence};
-use odb_disk::{Entry, Kind};
+use odb_nodes::{Entry, Kind};
 use std::alloc::Global;
 use std::collections::BTreeSet;
 

@@ -6,8 +6,9 @@ ghost use Rattle.gix_odb_packs.specs.ListOrder as order;
 use crate::folders::{PathList, index_paths, pack_folder};
 use crate::rest::Rest;
 use gix_odb_slots::{ListingRow, ListingRowList, Shared, pack_path};
+use odb_asks::{DirId, DiskAnswer, DiskAsk};
 use odb_base::{NoMemory, PathText, Sequence};
-use odb_disk::{DirId, DiskAnswer, DiskAsk, DiskError, Entry, Kind};
+use odb_nodes::{DiskError, Entry, Kind};
 use std::alloc::Global;
 
 /// A listing of the folders of packs on its way.

@@ -1,7 +1,7 @@
 -- What a machine asked and was answered, one after another, for any machine that asks one thing at a time.
 use Rattle.std.specs.Prelude.{◌≡◌, ℕ, ◌+◌, List, [], ◌∷◌, Contains, Option, Some, None}
-use Rattle.odb_disk.specs.declared.ask.DiskAnswer.{DiskAnswer}
-use Rattle.odb_disk.specs.declared.ask.DiskAsk.{DiskAsk}
+use Rattle.odb_asks.specs.declared.ask.DiskAnswer.{DiskAnswer}
+use Rattle.odb_asks.specs.declared.ask.DiskAsk.{DiskAsk}
 use Rattle.gix_odb_events.specs.declared.answer.Answer.{Answer}
 use Rattle.gix_odb_events.specs.declared.answer.Answer.TheVariants as told
 use Rattle.gix_odb_events.specs.declared.answer.PartAsk.{PartAsk}

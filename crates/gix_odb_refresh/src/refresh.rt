@@ -13,8 +13,8 @@ use gix_odb_looks::of_refusal;
 use gix_odb_packs::longest_first::longest_first;
 use gix_odb_packs::{ListStep, Lister};
 use gix_odb_slots::Listing;
+use odb_asks::DiskAnswer;
 use odb_base::{NoMemory, PathText};
-use odb_disk::DiskAnswer;
 use std::alloc::Global;
 
 /// A refresh on its way.

@@ -1,8 +1,8 @@
 -- A turn calls the disk, or leaves it as it was.
 use Rattle.std.proofs.Common.{◌≡◌, ◌⊎◌, inl, inr, ℕ, List, Option, Some, None, refl, sym, ap, ◌∙◌, subst}
-use Rattle.odb_disk.specs.MemDisk.{Volume}
-use Rattle.odb_disk.specs.Ask.{answer_now, fails_now, op_of}
-use Rattle.odb_disk.specs.declared.ask.DiskAsk.{DiskAsk}
+use Rattle.odb_asks.specs.MemDisk.{Volume}
+use Rattle.odb_asks.specs.Ask.{answer_now, fails_now, op_of}
+use Rattle.odb_asks.specs.declared.ask.DiskAsk.{DiskAsk}
 use Rattle.gix_odb_world.specs.declared.record.Did.TheVariants.{Disk}
 use Rattle.gix_odb_world.specs.Event.{Ask, FromDisk, OfDisk, ToCore, ToDisk, ToNewCore, Event, answered}
 use Rattle.gix_odb_world.specs.Headline.{LeavesDisk, Works, outcome_of, stand_of}

@@ -3,7 +3,7 @@ use Rattle.std.proofs.Common.{◌≡◌, ℕ, ◌+◌, ◌≤◌, Bool, true, fa
 use Rattle.std.specs.Prelude.{◌&&◌, nat_le}
 use Rattle.std.proofs.lemmas.Grind.{not_there}
 use Rattle.odb_base.specs.Path.{Path}
-use Rattle.odb_disk.specs.MemDisk.{Volume}
+use Rattle.odb_asks.specs.MemDisk.{Volume}
 use Rattle.gix_hash.specs.declared.kind.Kind.{Kind as HashKind}
 use Rattle.gix_hash.specs.declared.object_id.ObjectId.{ObjectId}
 use Rattle.gix_odb.specs.Contents.{StoreData}

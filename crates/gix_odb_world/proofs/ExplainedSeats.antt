@@ -20,7 +20,7 @@ use Rattle.gix_odb_world.specs.declared.handle.Handle.{Handle}
 use Rattle.gix_odb_calls.specs.declared.step.Step.TheVariants as steps
 use Rattle.gix_odb.specs.CallOrder.{disk_part}
 use Rattle.gix_odb.specs.OpenOrder as openings
-use Rattle.odb_disk.specs.declared.ask.DiskAsk.{DiskAsk}
+use Rattle.odb_asks.specs.declared.ask.DiskAsk.{DiskAsk}
 use Rattle.gix_odb_world.specs.declared.work.Work.{Work}
 use Rattle.gix_odb_world.specs.declared.work.Work.TheVariants.{Opening, Calling}
 use Rattle.gix_odb_world.specs.Cores.{cores_after, history_at, registered_at}

@@ -5,20 +5,20 @@ use Rattle.odb_nodes.specs.Tree.{Tree, tree_of}
 use Rattle.odb_nodes.specs.Tree.Follow.{Refusal, Absent, WrongKind, LinkLoop, looked, read_of}
 use Rattle.odb_nodes.specs.Tree.Write as writing
 use Rattle.odb_nodes.specs.Tree.Write.{change_of_make_dir, change_of_new_file, change_of_append, change_of_rename, change_of_remove}
-use Rattle.odb_disk.specs.MemDisk.{Volume, next_fails, after_call}
-use Rattle.odb_disk.specs.StreamAsks.{is_of_streams, least_closed}
-use Rattle.odb_disk.specs.Streams.{Streams, still_gives}
+use Rattle.odb_asks.specs.MemDisk.{Volume, next_fails, after_call}
+use Rattle.odb_asks.specs.StreamAsks.{is_of_streams, least_closed}
+use Rattle.odb_asks.specs.Streams.{Streams, still_gives}
 use Rattle.odb_nodes.specs.Entries.{opened}
-use Rattle.odb_disk.proofs.StillAskLaws.{answer_now-still, counted-still}
-use Rattle.odb_disk.specs.Ask.{answer_in, answer_of, answer_now, dir_answer, entry_answer, fails_now, meta_answer, file_answer, write_answer, error_of, error_of_write}
+use Rattle.odb_asks.proofs.StillAskLaws.{answer_now-still, counted-still}
+use Rattle.odb_asks.specs.Ask.{answer_in, answer_of, answer_now, dir_answer, entry_answer, fails_now, meta_answer, file_answer, write_answer, error_of, error_of_write}
 use Rattle.odb_nodes.specs.declared.change.Change.{Change}
 use Rattle.odb_nodes.specs.declared.entry.Entry.{Entry}
 use Rattle.odb_nodes.specs.declared.meta.Meta.{Meta}
 use Rattle.odb_nodes.specs.declared.disk_error.DiskError.TheVariants as disk_errors
-use Rattle.odb_disk.specs.declared.ask.DiskAsk.{DiskAsk}
-use Rattle.odb_disk.specs.declared.ask.DiskAsk.TheVariants.{Look, Read, OpenDir, NextEntry, CloseDir, MakeDir, NewFile, Append, Rename, Remove}
-use Rattle.odb_disk.specs.declared.ask.DiskAnswer.{DiskAnswer}
-use Rattle.odb_disk.specs.declared.ask.DiskAnswer.TheVariants as answers
+use Rattle.odb_asks.specs.declared.ask.DiskAsk.{DiskAsk}
+use Rattle.odb_asks.specs.declared.ask.DiskAsk.TheVariants.{Look, Read, OpenDir, NextEntry, CloseDir, MakeDir, NewFile, Append, Rename, Remove}
+use Rattle.odb_asks.specs.declared.ask.DiskAnswer.{DiskAnswer}
+use Rattle.odb_asks.specs.declared.ask.DiskAnswer.TheVariants as answers
 use Rattle.gix_odb_world.specs.Run.{has_failed}
 
 has_failed-error : (refusal : Refusal) → has_failed (answers.Refused (error_of refusal)) ≡ false

@@ -3,16 +3,16 @@ pub mod AtWrite
 use Rattle.std.proofs.Common.{◌≡◌, ℕ, ◌+◌, List, [], take, Option, Some, None, Result, Ok, Err, sym, ap, ◌∙◌, subst}
 use Rattle.std.specs.Result.{result_ok}
 use Rattle.odb_base.specs.Path.{Path}
-use Rattle.odb_disk.specs.Ask.{change_of_ask, fails_now, op_of}
-use Rattle.odb_disk.specs.MemDisk.{Volume, next_fails}
+use Rattle.odb_asks.specs.Ask.{change_of_ask, fails_now, op_of}
+use Rattle.odb_asks.specs.MemDisk.{Volume, next_fails}
 use Rattle.odb_nodes.specs.Tree.{IsTree, Tree, tree_of}
 use Rattle.odb_nodes.specs.Tree.Change.{changed}
 use Rattle.odb_nodes.specs.Tree.Write as writing
 use Rattle.odb_nodes.specs.Tree.Write.{change_of_append, change_of_make_dir, change_of_new_file, change_of_remove, change_of_rename, vacant}
-use Rattle.odb_disk.specs.declared.ask.DiskAnswer.TheVariants as answers
-use Rattle.odb_disk.specs.declared.ask.DiskAsk.{DiskAsk}
-use Rattle.odb_disk.specs.declared.ask.DiskAsk.TheVariants as asks
-use Rattle.odb_disk.specs.declared.ask.Op.TheVariants as ops
+use Rattle.odb_asks.specs.declared.ask.DiskAnswer.TheVariants as answers
+use Rattle.odb_asks.specs.declared.ask.DiskAsk.{DiskAsk}
+use Rattle.odb_asks.specs.declared.ask.DiskAsk.TheVariants as asks
+use Rattle.odb_asks.specs.declared.ask.Op.TheVariants as ops
 use Rattle.odb_nodes.specs.declared.change.Change.{Change}
 use Rattle.odb_nodes.specs.declared.change.Change.TheVariants.{PutFile, MakeDir, Rename, Append, Remove}
 use Rattle.odb_nodes.proofs.OwnWayLaws.{Cut, IsOwnChange, OwnSpot, cut_no_append, cut_no_dir, cut_no_remove, cut_no_rename, own_append, own_dir_change, own_new, own_new_change, own_remove, own_rename}

@@ -5,7 +5,7 @@ use Rattle.std.proofs.lemmas.List.{take-append-le, length_push}
 use Rattle.std.proofs.lemmas.List.Sums.{fold_push}
 use Rattle.std.proofs.Math.Seq.{take-append_seam, take-length}
 use Rattle.odb_nodes.specs.Tree.{tree_of}
-use Rattle.odb_disk.specs.MemDisk.{Volume}
+use Rattle.odb_asks.specs.MemDisk.{Volume}
 use Rattle.std.proofs.lemmas.Option.{slice_get_within}
 use Rattle.gix_odb_world.specs.Cores.{cores_after, cores_after_asked, cores_after_event}
 use Rattle.gix_odb_world.specs.Event.{Event}

@@ -1,9 +1,9 @@
 -- What is judged of a turn that may change what watched paths show, and what is kept after it.
 use Rattle.std.proofs.Common.{◌≡◌, true, Option, Some, None, Result, Ok, Err, OnOk, sym, subst}
-use Rattle.odb_disk.specs.Ask.{change_of_ask}
-use Rattle.odb_disk.specs.MemDisk.{Volume}
-use Rattle.odb_disk.specs.declared.ask.DiskAsk.{DiskAsk}
-use Rattle.odb_disk.proofs.AskedLaws.{asked_possible}
+use Rattle.odb_asks.specs.Ask.{change_of_ask}
+use Rattle.odb_asks.specs.MemDisk.{Volume}
+use Rattle.odb_asks.specs.declared.ask.DiskAsk.{DiskAsk}
+use Rattle.odb_asks.proofs.AskedLaws.{asked_possible}
 use Rattle.odb_nodes.specs.Tree.{IsTree, Tree, tree_of}
 use Rattle.odb_nodes.specs.Tree.Change.{changed, is_possible_in}
 use Rattle.odb_nodes.specs.declared.change.Change.{Change}

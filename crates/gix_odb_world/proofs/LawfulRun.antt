@@ -1,6 +1,6 @@
 -- A lawful run that begins with a tree, and in which each handle had seen after each event what its status says.
 use Rattle.std.specs.Prelude.{List}
-use Rattle.odb_disk.specs.MemDisk.{Volume}
+use Rattle.odb_asks.specs.MemDisk.{Volume}
 use Rattle.odb_nodes.specs.Tree.{IsTree, tree_of}
 use Rattle.gix_odb_world.specs.Event.{Event}
 use Rattle.gix_odb_world.specs.Headline.{IsLawful}

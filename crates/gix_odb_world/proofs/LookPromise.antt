@@ -2,8 +2,8 @@
 use Rattle.std.proofs.Common.{◌≡◌, ℕ, ◌≤◌, true, false, List, length, Contains, Some, Ok, inl, inr, refl, sym, ◌∙◌, ap, subst, arith}
 use Rattle.odb_base.specs.Path.{Name, Path}
 use Rattle.odb_nodes.specs.Tree.{Tree}
-use Rattle.odb_disk.specs.Ask.{answer_now}
-use Rattle.odb_disk.specs.MemDisk.{Volume, next_fails}
+use Rattle.odb_asks.specs.Ask.{answer_now}
+use Rattle.odb_asks.specs.MemDisk.{Volume, next_fails}
 use Rattle.gix_hash.specs.ObjectId.{kind_of}
 use Rattle.gix_hash.specs.declared.object_id.ObjectId.{ObjectId}
 use Rattle.gix_odb_events.specs.declared.view.View.{View}

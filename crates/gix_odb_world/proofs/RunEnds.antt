@@ -5,7 +5,7 @@ use Rattle.gix_odb_core.specs.History.{History}
 use Rattle.gix_odb_core.specs.Journal.{entries_of}
 use Rattle.gix_odb_events.specs.View.{last_state}
 use Rattle.gix_odb_core.specs.declared.journal.Journal.{Journal}
-use Rattle.odb_disk.specs.MemDisk.{Volume}
+use Rattle.odb_asks.specs.MemDisk.{Volume}
 use Rattle.gix_odb_world.specs.declared.course.Course.{Course}
 use Rattle.gix_odb_world.specs.Cores.{cores_after}
 use Rattle.gix_odb_world.specs.Event.{Event}

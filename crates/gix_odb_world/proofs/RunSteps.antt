@@ -3,16 +3,16 @@ pub mod Fronts
 use Rattle.std.proofs.Common.{◌≡◌, inl, inr, ℕ, zero, suc, ◌+◌, Bool, true, false, List, take, Option, Some, None, refl, sym, ap, ◌∙◌, subst, arith}
 use Rattle.std.specs.Prelude.{slice_get, if◌then◌else◌}
 use Rattle.odb_base.specs.Path.{Path}
-use Rattle.odb_disk.specs.Ask.{change_of_ask, fails_now}
-use Rattle.odb_disk.specs.MemDisk.{Volume, after_outside_change}
+use Rattle.odb_asks.specs.Ask.{change_of_ask, fails_now}
+use Rattle.odb_asks.specs.MemDisk.{Volume, after_outside_change}
 use Rattle.odb_nodes.specs.Tree.{IsTree, Tree, tree_of}
 use Rattle.odb_nodes.specs.Tree.Change.{changed, is_possible}
 use Rattle.odb_nodes.specs.Tree.Write.{written}
-use Rattle.odb_disk.specs.declared.ask.DiskAsk.{DiskAsk}
+use Rattle.odb_asks.specs.declared.ask.DiskAsk.{DiskAsk}
 use Rattle.odb_nodes.specs.declared.change.Change.{Change}
 use Rattle.odb_nodes.proofs.TreeLemmas.Changed.{IsTree-changed, after_change-tree, is_possible-tree_of}
 use Rattle.odb_nodes.proofs.WriteLaws.{tree_of-written}
-use Rattle.odb_disk.proofs.AskedLaws.{IsTree-asked}
+use Rattle.odb_asks.proofs.AskedLaws.{IsTree-asked}
 use Rattle.gix_odb_core.specs.History.{History}
 use Rattle.gix_odb_world.specs.Cores.{cores_after}
 use Rattle.gix_odb_calls.specs.declared.step.Outcome.{Outcome}

@@ -4,7 +4,7 @@ use Rattle.std.proofs.Common.{◌≡◌, ◌≢◌, ℕ, ◌+◌, ◌<◌, Bool,
 use Rattle.std.specs.Prelude.{if◌then◌else◌, ◌==◌}
 use Rattle.std.proofs.lemmas.Bool.{false≢true}
 use Rattle.std.proofs.lemmas.List.{map-append, take_more}
-use Rattle.odb_disk.specs.MemDisk.{Volume, after_outside_change}
+use Rattle.odb_asks.specs.MemDisk.{Volume, after_outside_change}
 use Rattle.odb_nodes.specs.Tree.{Tree, tree_of}
 use Rattle.odb_nodes.specs.Tree.Change.{changed, is_possible, is_possible_in}
 use Rattle.odb_nodes.proofs.TreeLemmas.Changed.{after_change-tree, is_possible-tree_of}

@@ -10,12 +10,12 @@ use Rattle.odb_nodes.specs.Tree.{Tree}
 use Rattle.odb_nodes.specs.Tree.Follow.{listed}
 use Rattle.odb_nodes.specs.declared.disk_error.DiskError.TheVariants as errors
 use Rattle.odb_nodes.specs.declared.entry.Entry.{Entry}
-use Rattle.odb_disk.specs.Ask.{answer_now}
-use Rattle.odb_disk.specs.MemDisk.{Volume}
-use Rattle.odb_disk.specs.declared.ask.DiskAnswer.{DiskAnswer}
-use Rattle.odb_disk.specs.declared.ask.DiskAnswer.TheVariants as answers
-use Rattle.odb_disk.specs.declared.ask.DiskAsk.{DiskAsk}
-use Rattle.odb_disk.specs.declared.ask.DiskAsk.TheVariants as asks
+use Rattle.odb_asks.specs.Ask.{answer_now}
+use Rattle.odb_asks.specs.MemDisk.{Volume}
+use Rattle.odb_asks.specs.declared.ask.DiskAnswer.{DiskAnswer}
+use Rattle.odb_asks.specs.declared.ask.DiskAnswer.TheVariants as answers
+use Rattle.odb_asks.specs.declared.ask.DiskAsk.{DiskAsk}
+use Rattle.odb_asks.specs.declared.ask.DiskAsk.TheVariants as asks
 use Rattle.gix_odb_packs.specs.PackFolder.{pack_folder}
 use Rattle.gix_odb_events.specs.declared.answer.Answer.TheVariants as told
 use Rattle.gix_odb_events.specs.declared.answer.PartAsk.TheVariants as parts

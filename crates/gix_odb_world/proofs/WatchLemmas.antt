@@ -7,7 +7,7 @@ use Rattle.std.specs.Ordering.{eq_by_cmp}
 use Rattle.std.proofs.lemmas.List.{length_push, take_more}
 use Rattle.std.proofs.lemmas.List.Sums.{fold_push}
 use Rattle.odb_base.specs.Path.{Path, path_cmp}
-use Rattle.odb_disk.specs.MemDisk.{Volume}
+use Rattle.odb_asks.specs.MemDisk.{Volume}
 use Rattle.odb_nodes.specs.Tree.{Tree, tree_of}
 use Rattle.odb_nodes.specs.Tree.Change.{changed}
 use Rattle.odb_nodes.specs.Tree.Write.{written}

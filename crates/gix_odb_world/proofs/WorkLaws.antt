@@ -1,8 +1,8 @@
 -- What holds of any work, since the machine that it is of keeps its laws.
 use Rattle.std.proofs.Common.{◌≡◌, ◌⊎◌, ℕ, List, Option, Some, None, Ok, Err, Result, refl, sym, ◌∙◌, ap}
-use Rattle.odb_disk.specs.MemDisk.{Volume}
-use Rattle.odb_disk.specs.declared.ask.DiskAsk.{DiskAsk}
-use Rattle.odb_disk.specs.declared.ask.DiskAnswer.{DiskAnswer}
+use Rattle.odb_asks.specs.MemDisk.{Volume}
+use Rattle.odb_asks.specs.declared.ask.DiskAsk.{DiskAsk}
+use Rattle.odb_asks.specs.declared.ask.DiskAnswer.{DiskAnswer}
 use Rattle.gix_odb.specs.CallOrder.{result_of_write}
 use Rattle.gix_odb_calls.specs.declared.call.Reply.{Reply}
 use Rattle.gix_odb.specs.declared.handle_state.HandleState.{HandleState}

@@ -3,7 +3,7 @@ use Rattle.std.proofs.Common.{◌≡◌, ℕ, zero, suc, ◌+◌, Bool, true, fa
 use Rattle.std.specs.Prelude.{if◌then◌else◌, ◌==◌}
 use Rattle.std.proofs.lemmas.Bool.{cases_lt}
 use Rattle.std.proofs.lemmas.List.{take-append-le, length_push}
-use Rattle.odb_disk.specs.MemDisk.{Volume}
+use Rattle.odb_asks.specs.MemDisk.{Volume}
 use Rattle.odb_nodes.specs.Tree.{IsTree, tree_of}
 use Rattle.gix_odb_shown.specs.HasShown.{Keeps}
 use Rattle.gix_odb_shown.specs.Kept.{nothing_kept}

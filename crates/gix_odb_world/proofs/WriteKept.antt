@@ -5,13 +5,13 @@ use Rattle.std.proofs.lemmas.List.{take-append-le, length_push}
 use Rattle.std.proofs.lemmas.Option.{slice_get_within}
 use Rattle.std.proofs.Math.Seq.{take-append_seam}
 use Rattle.odb_base.specs.Path.{Path}
-use Rattle.odb_disk.specs.Ask.{answer_now}
-use Rattle.odb_disk.specs.MemDisk.{Volume}
+use Rattle.odb_asks.specs.Ask.{answer_now}
+use Rattle.odb_asks.specs.MemDisk.{Volume}
 use Rattle.odb_nodes.specs.Tree.{Tree}
 use Rattle.odb_nodes.specs.Tree.Way.{SameOnWay}
 use Rattle.odb_nodes.specs.declared.change.Change.{Change}
-use Rattle.odb_disk.specs.declared.ask.DiskAnswer.{DiskAnswer}
-use Rattle.odb_disk.specs.declared.ask.DiskAsk.{DiskAsk}
+use Rattle.odb_asks.specs.declared.ask.DiskAnswer.{DiskAnswer}
+use Rattle.odb_asks.specs.declared.ask.DiskAsk.{DiskAsk}
 use Rattle.odb_nodes.specs.OwnFile.{HasFile}
 use Rattle.odb_nodes.proofs.OwnFileLaws.{has_file_kept}
 use Rattle.gix_odb_loose.specs.Exchanges.{Exchange}

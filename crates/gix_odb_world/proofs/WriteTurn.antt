@@ -5,10 +5,10 @@ pub mod Making
 pub mod Filling
 pub mod Naming
 use Rattle.std.proofs.Common.{◌≡◌, ℕ, List, length}
-use Rattle.odb_disk.specs.Ask.{answer_now}
-use Rattle.odb_disk.specs.MemDisk.{Volume}
-use Rattle.odb_disk.specs.declared.ask.DiskAnswer.{DiskAnswer}
-use Rattle.odb_disk.specs.declared.ask.DiskAsk.{DiskAsk}
+use Rattle.odb_asks.specs.Ask.{answer_now}
+use Rattle.odb_asks.specs.MemDisk.{Volume}
+use Rattle.odb_asks.specs.declared.ask.DiskAnswer.{DiskAnswer}
+use Rattle.odb_asks.specs.declared.ask.DiskAsk.{DiskAsk}
 use Rattle.gix_odb_loose.proofs.AskLaws.{IsAlong-next}
 use Rattle.gix_odb_loose.proofs.WriteDoneLaws.{IsAlong-done}
 use Rattle.gix_odb_loose.specs.WriteDone.{HasDone}

@@ -1,8 +1,8 @@
 -- Which call of the disk or event of a core a turn makes, by the task of its handle and the turns that its work has had before.
 use Rattle.std.specs.Prelude.{◌≡◌, ◌⊎◌, ℕ, ◌+◌, ◌*◌, ◌<◌, ◌≤◌, List, length, Option, Some, None}
-use Rattle.odb_disk.specs.MemDisk.{Volume}
-use Rattle.odb_disk.specs.declared.ask.DiskAsk.{DiskAsk}
-use Rattle.odb_disk.specs.declared.ask.DiskAsk.TheVariants as asks
+use Rattle.odb_asks.specs.MemDisk.{Volume}
+use Rattle.odb_asks.specs.declared.ask.DiskAsk.{DiskAsk}
+use Rattle.odb_asks.specs.declared.ask.DiskAsk.TheVariants as asks
 use Rattle.gix_object.specs.Loose.{header_of}
 use Rattle.gix_odb_loose.specs.LooseFile.{loose_path}
 use Rattle.gix_odb_loose.specs.WriteJobs.{piece_at, pieces_of}

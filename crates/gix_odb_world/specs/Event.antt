@@ -1,7 +1,7 @@
 -- A run as a list of events.
 use Rattle.std.specs.Prelude.{ℕ, Option, Some, None}
-use Rattle.odb_disk.specs.declared.ask.DiskAnswer.{DiskAnswer}
-use Rattle.odb_disk.specs.declared.ask.DiskAsk.{DiskAsk}
+use Rattle.odb_asks.specs.declared.ask.DiskAnswer.{DiskAnswer}
+use Rattle.odb_asks.specs.declared.ask.DiskAsk.{DiskAsk}
 use Rattle.gix_odb_events.specs.Answers as replays
 use Rattle.gix_odb_events.specs.declared.answer.PartAsk.{PartAsk}
 use Rattle.gix_odb_events.specs.declared.answer.PartAsk.TheVariants as parts

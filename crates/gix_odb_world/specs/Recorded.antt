@@ -1,8 +1,8 @@
 -- The path that the record of a call of the disk has.
 use Rattle.std.specs.Prelude.{[], Option, unwrap_or}
 use Rattle.odb_base.specs.Path.{Path}
-use Rattle.odb_disk.specs.Ask.{path_asked}
-use Rattle.odb_disk.specs.declared.ask.DiskAsk.{DiskAsk}
+use Rattle.odb_asks.specs.Ask.{path_asked}
+use Rattle.odb_asks.specs.declared.ask.DiskAsk.{DiskAsk}
 use Rattle.gix_odb.specs.CallOrder as calls
 use Rattle.gix_odb.specs.OpenOrder as openings
 use Rattle.gix_odb_world.specs.declared.work.Work.{Work}

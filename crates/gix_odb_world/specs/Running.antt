@@ -5,7 +5,7 @@ pub mod PackedStill
 pub mod Query
 pub mod Write
 use Rattle.std.specs.Prelude.{ℕ, ◌≤◌, List, take, length}
-use Rattle.odb_disk.specs.MemDisk.{Volume}
+use Rattle.odb_asks.specs.MemDisk.{Volume}
 use Rattle.gix_odb_world.specs.declared.work.Work.{Work}
 use Rattle.gix_odb_world.specs.Event.{Event}
 use Rattle.gix_odb_world.specs.Machines.{at}

@@ -2,7 +2,7 @@
 -- two contents, and its multi-pack index shows no two at one time. Links are followed.
 use Rattle.std.specs.Prelude.{◌≡◌, ℕ, ◌+◌, List, [], ◌∷◌, fold, length, Option, Some, None}
 use Rattle.odb_base.specs.Path.{Path}
-use Rattle.odb_disk.specs.MemDisk.{Volume}
+use Rattle.odb_asks.specs.MemDisk.{Volume}
 use Rattle.odb_nodes.specs.Tree.{tree_of}
 use Rattle.odb_nodes.specs.Tree.Change.{changed}
 use Rattle.odb_nodes.specs.declared.change.Change.{Change}

@@ -9,7 +9,7 @@ use Rattle.odb_base.specs.Path.{Path, path_cmp}
 use Rattle.gix_hash.specs.declared.kind.Kind.{Kind as HashKind}
 use Rattle.gix_hash.specs.declared.object_id.ObjectId.{ObjectId}
 use Rattle.gix_hash.specs.ObjectId.{id_cmp}
-use Rattle.odb_disk.specs.MemDisk.{Volume}
+use Rattle.odb_asks.specs.MemDisk.{Volume}
 use Rattle.odb_nodes.specs.Tree.Change.{is_possible}
 use Rattle.odb_nodes.specs.declared.change.Change.{Change}
 use Rattle.gix_odb_calls.specs.Hashes.{is_of_hash, is_pair_of}

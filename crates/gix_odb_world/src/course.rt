@@ -1,6 +1,6 @@
 //! How far a world has come: its disk, its handles and cores, and what its steps came to; and what each step makes of it.
 ghost use Rattle.std.specs.Prelude.{◌≡◌, ◌≢◌, ◌<◌, ◌^◌, ◌↔◌, ℕ, IsTrue, ◌++◌, ◌∷◌, [], List, IfOk, OnOk, length, None, Some};
-ghost use Rattle.odb_disk.specs.MemDisk.{Volume};
+ghost use Rattle.odb_asks.specs.MemDisk.{Volume};
 ghost use Rattle.odb_nodes.specs.Tree.{tree_of};
 ghost use Rattle.gix_odb_world.specs.Event.{Event};
 ghost use Rattle.gix_odb_world.specs.Valid.{IsReason};

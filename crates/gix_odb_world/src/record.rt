@@ -6,8 +6,9 @@ ghost use Rattle.gix_odb_world.specs.Run.{did_of};
 
 use crate::cores::JournalList;
 use gix_odb_calls::Outcome;
+use odb_asks::{DiskAnswer, DiskAsk, Op};
 use odb_base::{NoMemory, Sequence};
-use odb_disk::{Change, DiskAnswer, DiskAsk, DiskError, MemDisk, Op, PathText};
+use odb_disk::{Change, DiskError, MemDisk, PathText};
 use std::alloc::Global;
 
 /// What a step did beside its outcome.

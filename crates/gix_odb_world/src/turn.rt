@@ -1,8 +1,8 @@
 //! A turn of a handle: the one call of the disk or event of a core that its work names, and what the turn comes to.
 ghost use Rattle.std.specs.Prelude.{if◌then◌else◌, ◌≡◌, ◌<◌, ℕ, length, IfOk, OnOk, None, Some};
 ghost use Rattle.std.specs.Option.{option_map};
-ghost use Rattle.odb_disk.specs.Ask.{after_ask, answer_now};
-ghost use Rattle.odb_disk.specs.MemDisk.{Volume};
+ghost use Rattle.odb_asks.specs.Ask.{after_ask, answer_now};
+ghost use Rattle.odb_asks.specs.MemDisk.{Volume};
 ghost use Rattle.gix_odb_core.specs.History.{present};
 ghost use Rattle.gix_odb_core.specs.Replay.{CanHappen};
 ghost use Rattle.gix_odb_events.specs.Answers.{view_in};
@@ -25,8 +25,9 @@ use gix_odb::HandleState;
 use gix_odb_calls::{CallError, Outcome, Reply};
 use gix_odb_core::Core;
 use gix_odb_events::{Answer, Effect, Event, PartAsk, Refusal, View};
+use odb_asks::{DiskAnswer, DiskAsk};
 use odb_base::NoMemory;
-use odb_disk::{Change, DiskAnswer, DiskAsk, DiskError, MemDisk, PathText};
+use odb_disk::{Change, DiskError, MemDisk, PathText};
 use std::alloc::Global;
 
 /// What a turn came to: what it did, the change that it made, and its handle and the work after it.

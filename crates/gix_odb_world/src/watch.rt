@@ -2,7 +2,7 @@
 ghost use Rattle.std.specs.Prelude.{◌≡◌, ◌∷◌, IfOk, None, OnOk, Some};
 ghost use Rattle.std.specs.Option.{option_map};
 ghost use Rattle.std.specs.Result.{result_err};
-ghost use Rattle.odb_disk.specs.Ask.{change_of_ask};
+ghost use Rattle.odb_asks.specs.Ask.{change_of_ask};
 ghost use Rattle.odb_nodes.specs.Tree.{Tree as TreeValue, tree_of};
 ghost use Rattle.gix_odb_shown.specs.Kept.{Fits};
 ghost use Rattle.gix_odb_world.specs.Run.{change_asked, change_by};
@@ -15,8 +15,9 @@ use gix_odb::HandleState;
 use gix_odb_calls::{PathList, Why};
 use gix_odb_events::PartAsk;
 use gix_odb_shown::{Revealed, Shown};
+use odb_asks::DiskAsk;
 use odb_base::NoMemory;
-use odb_disk::{Change, DiskAsk, MemDisk, PathText, Tree};
+use odb_disk::{Change, MemDisk, PathText, Tree};
 use std::alloc::Global;
 
 /// Watches the folders of a store from now on.

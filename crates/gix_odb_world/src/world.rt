@@ -1,6 +1,6 @@
 //! A world: its steps, one after another, and the run that they come to.
 ghost use Rattle.std.specs.Prelude.{◌↔◌, ◌∷◌, ◌++◌, ◌<◌, ◌^◌, ◌≡◌, [], IfOk, IsTrue, List, OnErr, OnOk, length};
-ghost use Rattle.odb_disk.specs.MemDisk.{Volume};
+ghost use Rattle.odb_asks.specs.MemDisk.{Volume};
 ghost use Rattle.gix_odb_world.specs.Event.{Event};
 ghost use Rattle.gix_odb_world.specs.Headline.{Headline, IsRun};
 ghost use Rattle.gix_odb_world.specs.Table.{HasOneMore};

@@ -4,7 +4,7 @@ use Rattle.std.specs.Iterator.{Yields}
 use Rattle.std.specs.List.{flat_map, list_any}
 use Rattle.odb_base.specs.Path.{text_of}
 use Rattle.odb_disk.specs.Source.{Adds}
-use Rattle.odb_disk.specs.Streams.{Streams}
+use Rattle.odb_asks.specs.Streams.{Streams}
 use Rattle.odb_nodes.specs.Tree.{State}
 use Rattle.odb_nodes.specs.declared.disk_error.DiskError.{DiskError}
 use Rattle.odb_nodes.specs.declared.disk_error.DiskError.TheVariants as refusals

@@ -1,11 +1,11 @@
 //! The open streams of a disk, by their numbers.
 ghost use Rattle.std.specs.Prelude.{◌≡◌, ◌+◌, ◌<◌, ◌^◌, ◌∷◌, ◌++◌, [], true, length, IfOk, OnOk, OnErr, IfSome, IfNone};
 ghost use Rattle.std.specs.FinMap as maps;
-ghost use Rattle.odb_disk.specs.StreamNumbers.{AreOpenBelow};
-ghost use Rattle.odb_disk.specs.Streams.{IsLeastClosed, TakesNext, lists_only, no_streams, with_opened, with_closed};
+ghost use Rattle.odb_asks.specs.StreamNumbers.{AreOpenBelow};
+ghost use Rattle.odb_asks.specs.Streams.{IsLeastClosed, TakesNext, lists_only, no_streams, with_opened, with_closed};
 
-use crate::disk::DirId;
 use crate::{Entry, EntryQueue, NoMemory};
+use odb_asks::DirId;
 use std::alloc::Global;
 use std::collections::BTreeMap;
 use std::marker::Model;
@@ -20,7 +20,7 @@ pub struct DirStreams {
 }
 
 impl Model for DirStreams {
-    ghost use Rattle.odb_disk.specs.Streams.{Streams, coded_streams};
+    ghost use Rattle.odb_asks.specs.Streams.{Streams, coded_streams};
     ghost use Rattle.std.specs.FinMap as finite;
 
     ghost Value = { Streams };
@@ -29,7 +29,7 @@ impl Model for DirStreams {
 
     ghost view = { λ s. record { open_dirs = finite.from_entries s.lists.entries; peak = s.peak } };
 
-    ghost use Rattle.odb_disk.specs.StreamNumbers.{AreOpenBelow};
+    ghost use Rattle.odb_asks.specs.StreamNumbers.{AreOpenBelow};
 
     ghost invariant = { λ s. AreOpenBelow (finite.from_entries s.lists.entries) s.open_below };
 }

@@ -1,8 +1,8 @@
-//! The trait of a disk, and a disk in memory.
+//! A disk in memory.
 //!
-//! Each call of a disk answers by its tree, where the disk tells it, and fails only where the disk's count
-//! of faults rose. Read `disk` first, then `mem_disk`. What a tree is stands in `odb_tree`, sources and
-//! sinks in `odb_sources`; this crate hands on the names of both.
+//! It answers by its tree, and fails exactly at the listed calls. Read `mem_disk` first. The trait of disks and calls as
+//! values stand in `odb_asks`, what a tree is in `odb_nodes`, a tree in memory in `odb_tree`, sources and sinks in
+//! `odb_sources`; this crate hands on the names of all.
 //! ```rust
 //! let mut disk = MemDisk::new(alloc)?;
 //! let path = PathText::parse(alloc, "/o")?;
@@ -10,18 +10,16 @@
 //! ```
 #![tactic(auto)]
 
-mod ask;
 mod dir_streams;
-mod disk;
+mod mem_ask;
 mod mem_disk;
 
-pub use ask::{DiskAnswer, DiskAsk, Op};
 pub use dir_streams::DirStreams;
-pub use disk::{DirId, Disk};
 pub use mem_disk::MemDisk;
+pub use odb_asks::{DirId, Disk, DiskAnswer, DiskAsk, Op};
 pub use odb_base::{BadPath, ByteList, NoMemory, PathName, PathText};
+pub use odb_nodes::{Change, DiskError, Entry, EntryQueue, Impossible, Kind, Meta};
 pub use odb_sources::{
     Failed, MemSink, MemSource, ReadError, Sink, Source, StdSink, StdSource, read_file, write_all,
 };
-pub use odb_nodes::{Change, DiskError, Entry, EntryQueue, Impossible, Kind, Meta};
 pub use odb_tree::Tree;

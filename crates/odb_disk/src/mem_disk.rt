@@ -1,9 +1,10 @@
 //! A disk in memory.
-use crate::ask::{DiskAsk, change_of};
+use crate::mem_ask::change_of;
 use crate::{
     ByteList, Change, DirId, DirStreams, Disk, DiskError, Entry, Impossible, Meta, NoMemory,
     PathText, Tree,
 };
+use odb_asks::DiskAsk;
 use odb_sources::Calls;
 use std::alloc::Global;
 use std::marker::Model;
@@ -19,7 +20,7 @@ pub struct MemDisk {
 }
 
 impl Model for MemDisk {
-    ghost use Rattle.odb_disk.specs.MemDisk.{Volume, coded_volume};
+    ghost use Rattle.odb_asks.specs.MemDisk.{Volume, coded_volume};
 
     ghost Value = { Volume };
 
@@ -38,8 +39,8 @@ impl MemDisk {
     ghost use Rattle.std.specs.FinSet as set;
     ghost use Rattle.odb_nodes.specs.Tree.{IsTree, tree_of};
     ghost use Rattle.odb_nodes.specs.Tree.Change.{is_possible};
-    ghost use Rattle.odb_disk.specs.Ask.{change_of_ask, fails_now};
-    ghost use Rattle.odb_disk.specs.MemDisk.{new_volume, after_outside_change, after_call, next_fails};
+    ghost use Rattle.odb_asks.specs.Ask.{change_of_ask, fails_now};
+    ghost use Rattle.odb_asks.specs.MemDisk.{new_volume, after_outside_change, after_call, next_fails};
 
     /// The root alone, device 0, inode number 1, and no call that is to fail.
     pub fn new(alloc: Global) -> Result<MemDisk, NoMemory>
@@ -144,7 +145,7 @@ impl MemDisk {
 
 impl Disk for MemDisk {
     ghost use Rattle.std.specs.Prelude.{Some};
-    ghost use Rattle.odb_disk.specs.Ask.{IsCounted};
+    ghost use Rattle.odb_asks.specs.Ask.{IsCounted};
 
     ghost state = { λ disk. Some disk.state };
 

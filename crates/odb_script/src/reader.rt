@@ -1,7 +1,7 @@
 //! Scripts, read line by line.
 ghost use Rattle.std.specs.Prelude.{◌≡◌, ◌+◌, ◌≤◌, ◌<◌, ◌∷◌, [], length, IfOk, IfSome, IsNone, if◌then◌else◌};
 ghost use Rattle.odb_nodes.specs.Tree.Change.{is_possible};
-ghost use Rattle.odb_disk.specs.MemDisk.{after_outside_change};
+ghost use Rattle.odb_asks.specs.MemDisk.{after_outside_change};
 ghost use Rattle.odb_script.specs.Line.{item_of};
 ghost use Rattle.odb_script.specs.Script.{taken, disk_of, lines_of, items_in, last_item, reading_at, reading_from, reading_of};
 ghost use Rattle.odb_script.specs.Split.{lines_in};

@@ -5,7 +5,7 @@ use Rattle.std.specs.FinMap as finite
 use Rattle.std.proofs.lemmas.Bool.Decides.{nat_tests}
 use Rattle.odb_base.specs.Path.{Path}
 use Rattle.odb_nodes.specs.Answers.{Answers}
-use Rattle.odb_disk.specs.Streams.{Streams, AnswersOpen, Opens, still_gives}
+use Rattle.odb_asks.specs.Streams.{Streams, AnswersOpen, Opens, still_gives}
 use Rattle.odb_nodes.specs.Entries.{opened}
 use Rattle.odb_nodes.specs.Tree.{State, tree_of}
 use Rattle.odb_nodes.specs.Tree.Follow.{Refusal}

@@ -7,7 +7,7 @@ use Rattle.std.specs.Result.{IsErrAnd}
 use Rattle.std.proofs.lemmas.Result.{err_from_is_err_and}
 use denote.Enum.Bare.{sameb}
 use Rattle.odb_base.specs.Path.{Path}
-use Rattle.odb_disk.specs.Streams.{Streams}
+use Rattle.odb_asks.specs.Streams.{Streams}
 use Rattle.odb_nodes.specs.Tree.Follow.{Refusal}
 use Rattle.odb_nodes.specs.declared.meta.Meta.{Meta}
 use Rattle.odb_nodes.specs.contracts.meta.Kind.{the_type}

@@ -4,7 +4,7 @@ use Rattle.std.specs.List.{cons_option}
 use Rattle.std.specs.Prelude.{IfSome, is_some}
 use Rattle.std.specs.FinMap as finite
 use Rattle.odb_base.specs.Path.{Path}
-use Rattle.odb_disk.specs.Streams.{Streams, still_gives}
+use Rattle.odb_asks.specs.Streams.{Streams, still_gives}
 use Rattle.odb_nodes.specs.declared.disk_error.DiskError.TheVariants as refusals
 use Rattle.walkdir.specs.Error.{io_error, stream_error}
 use Rattle.walkdir.specs.OwnStreams.{OpenDirs}

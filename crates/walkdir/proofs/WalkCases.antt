@@ -1,7 +1,7 @@
 -- What a walk without failures gives, by what its entry is taken for, and by what the tree tells.
 use Rattle.std.proofs.Common.{◌≡◌, ℕ, ◌+◌, true, false, List, [], ◌∷◌, ◌++◌, Option, None, Result, Ok, Err, refl, sym, ap, subst, ◌∙◌, arith}
 use Rattle.odb_base.specs.Path.{Path}
-use Rattle.odb_disk.specs.Ask.{error_of}
+use Rattle.odb_asks.specs.Ask.{error_of}
 use Rattle.odb_nodes.specs.Entries.{opened}
 use Rattle.odb_nodes.specs.Tree.Follow.{Refusal, looked}
 use Rattle.odb_nodes.specs.declared.disk_error.DiskError.{DiskError}

@@ -3,7 +3,8 @@ ghost use Rattle.std.specs.Prelude.{◌≡◌, ℕ};
 
 use crate::Result;
 use crate::read::look;
-use odb_disk::{Disk, Kind, Meta, NoMemory, PathText};
+use odb_asks::Disk;
+use odb_disk::{Kind, Meta, NoMemory, PathText};
 use std::alloc::Global;
 
 /// What stands at one place of a walk.

@@ -8,7 +8,7 @@ ghost use Rattle.odb_nodes.specs.declared.disk_error.DiskError.TheVariants.{NoMe
 ghost use Rattle.odb_nodes.specs.Tree.{tree_of};
 ghost use Rattle.odb_nodes.specs.Tree.Follow.{looked};
 ghost use Rattle.odb_base.specs.Path.{is_name};
-ghost use Rattle.odb_disk.specs.CallsMade.{Leads};
+ghost use Rattle.odb_asks.specs.CallsMade.{Leads};
 ghost use Rattle.walkdir.specs.Answered.{AreHeld, LooksBy};
 ghost use Rattle.walkdir.specs.AnsweredTurns.{TellsContents, TellsItem};
 ghost use Rattle.walkdir.specs.Error.{no_memory, is_no_memory, IsOnPath};
@@ -23,7 +23,8 @@ ghost use Rattle.walkdir.specs.Walk.Entries.{entry_by, place_of};
 use crate::directory::{Items, Place};
 use crate::sort::Sorter;
 use crate::{DirEntry, Error, Result};
-use odb_disk::{BadPath, DirId, Disk, DiskError, Entry, Meta, PathText};
+use odb_asks::{DirId, Disk};
+use odb_disk::{BadPath, DiskError, Entry, Meta, PathText};
 use std::alloc::Global;
 use std::collections::VecDeque;
 

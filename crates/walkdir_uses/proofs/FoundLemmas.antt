@@ -22,7 +22,7 @@ use Rattle.walkdir.specs.FilteredWalk.{BeginsFiltered, HasNotBegun, NoneLost}
 use Rattle.walkdir.specs.Progress.{Progress, begun}
 use Rattle.walkdir.specs.Walk.{Item, Order, Walking, told_at}
 use Rattle.walkdir.specs.declared.error.Error.{Error}
-use Rattle.odb_disk.specs.Streams.{Streams}
+use Rattle.odb_asks.specs.Streams.{Streams}
 use Rattle.walkdir.specs.declared.builder.Options.{Options}
 use Rattle.walkdir.specs.declared.dent.DirEntry.{DirEntry}
 use Rattle.walkdir_uses.specs.Found.{ComesFirst, EndsWith, IsStoppedIn, below, inside, is_file, is_hidden, length_of, size_at, total_size, visible_names}

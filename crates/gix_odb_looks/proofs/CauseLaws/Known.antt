@@ -1,8 +1,8 @@
 -- What is known of a look-up behind exchanges: what its notes, its counts and its reply tell of them.
 use Rattle.std.proofs.Common.{◌≡◌, ℕ, true, false, List, Contains, Some, None, Ok, Err, ◌⊎◌, refl, inl, inr}
 use Rattle.odb_base.specs.Path.{Path}
-use Rattle.odb_disk.specs.declared.ask.DiskAnswer.{DiskAnswer}
-use Rattle.odb_disk.specs.declared.ask.DiskAnswer.TheVariants as answers
+use Rattle.odb_asks.specs.declared.ask.DiskAnswer.{DiskAnswer}
+use Rattle.odb_asks.specs.declared.ask.DiskAnswer.TheVariants as answers
 use Rattle.odb_nodes.specs.declared.disk_error.DiskError.TheVariants as disk_errors
 use Rattle.gix_hash.specs.declared.kind.Kind.{Kind}
 use Rattle.gix_hash.specs.declared.object_id.ObjectId.{ObjectId}

@@ -2,7 +2,7 @@
 use Rattle.std.proofs.Common.{ap, ◌≡◌, ℕ, Bool, true, false, ◌==◌, List, [], slice_get, Option, Some, None, Ok, Err, refl, sym, ◌∙◌, subst}
 use Rattle.std.specs.Prelude.{if◌then◌else◌, unwrap_or, Contains}
 use Rattle.odb_base.specs.Path.{Path}
-use Rattle.odb_disk.specs.declared.ask.DiskAnswer.{DiskAnswer}
+use Rattle.odb_asks.specs.declared.ask.DiskAnswer.{DiskAnswer}
 use Rattle.gix_hash.specs.declared.object_id.ObjectId.{ObjectId}
 use Rattle.gix_odb_loose.specs.declared.call.LooseCall.{LooseCall}
 use Rattle.gix_odb_events.specs.declared.event.Effect.{Effect}

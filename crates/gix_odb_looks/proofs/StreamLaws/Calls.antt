@@ -8,14 +8,14 @@ use Rattle.odb_nodes.specs.Tree.Follow.{Refusal}
 use Rattle.odb_nodes.specs.declared.change.Change.{Change}
 use Rattle.odb_nodes.specs.declared.disk_error.DiskError.TheVariants as errors
 use Rattle.odb_nodes.specs.declared.entry.Entry.{Entry}
-use Rattle.odb_disk.specs.Ask.{after_ask, answer_now, answer_of, dir_answer, entry_answer, fails_now}
-use Rattle.odb_disk.specs.MemDisk.{Volume, after_outside_change}
-use Rattle.odb_disk.specs.StreamAsks.{after_opening, after_taking, least_closed, streams_after}
-use Rattle.odb_disk.specs.Streams.{Streams, still_gives, with_opened}
-use Rattle.odb_disk.specs.declared.ask.DiskAnswer.{DiskAnswer}
-use Rattle.odb_disk.specs.declared.ask.DiskAnswer.TheVariants as answers
-use Rattle.odb_disk.specs.declared.ask.DiskAsk.{DiskAsk}
-use Rattle.odb_disk.specs.declared.ask.DiskAsk.TheVariants as asks
+use Rattle.odb_asks.specs.Ask.{after_ask, answer_now, answer_of, dir_answer, entry_answer, fails_now}
+use Rattle.odb_asks.specs.MemDisk.{Volume, after_outside_change}
+use Rattle.odb_asks.specs.StreamAsks.{after_opening, after_taking, least_closed, streams_after}
+use Rattle.odb_asks.specs.Streams.{Streams, still_gives, with_opened}
+use Rattle.odb_asks.specs.declared.ask.DiskAnswer.{DiskAnswer}
+use Rattle.odb_asks.specs.declared.ask.DiskAnswer.TheVariants as answers
+use Rattle.odb_asks.specs.declared.ask.DiskAsk.{DiskAsk}
+use Rattle.odb_asks.specs.declared.ask.DiskAsk.TheVariants as asks
 use Rattle.gix_odb_looks.proofs.StreamLaws.Numbers.{get-insert_other, get-insert_same, get-remove_other, get-remove_same, least_closed_is_free}
 use Rattle.gix_odb_looks.specs.OpenStream.{GivesNext, IsOnStream, IsOpenStream, IsOpened, IsRead}
 

@@ -13,12 +13,12 @@ use Rattle.odb_nodes.specs.declared.disk_error.DiskError.TheVariants as errors
 use Rattle.odb_nodes.specs.declared.entry.Entry.{Entry}
 use Rattle.odb_nodes.specs.declared.meta.Kind.TheVariants as kinds
 use Rattle.odb_nodes.specs.declared.meta.Meta.{Meta}
-use Rattle.odb_disk.specs.Ask.{after_ask, answer_now}
-use Rattle.odb_disk.specs.MemDisk.{Volume, after_outside_change}
-use Rattle.odb_disk.specs.declared.ask.DiskAnswer.{DiskAnswer}
-use Rattle.odb_disk.specs.declared.ask.DiskAnswer.TheVariants as answers
-use Rattle.odb_disk.specs.declared.ask.DiskAsk.{DiskAsk}
-use Rattle.odb_disk.specs.declared.ask.DiskAsk.TheVariants as asks
+use Rattle.odb_asks.specs.Ask.{after_ask, answer_now}
+use Rattle.odb_asks.specs.MemDisk.{Volume, after_outside_change}
+use Rattle.odb_asks.specs.declared.ask.DiskAnswer.{DiskAnswer}
+use Rattle.odb_asks.specs.declared.ask.DiskAnswer.TheVariants as answers
+use Rattle.odb_asks.specs.declared.ask.DiskAsk.{DiskAsk}
+use Rattle.odb_asks.specs.declared.ask.DiskAsk.TheVariants as asks
 use Rattle.gix_odb_looks.proofs.StreamLaws.Calls.{stream_gives_what_is_coming, stream_is_opened}
 use Rattle.gix_odb_looks.proofs.StreamLaws.Calls.{stream_is_kept_by_another_state, stream_is_kept_by_other_calls, stream_is_kept_by_outside_changes}
 use Rattle.gix_odb_looks.proofs.StreamLaws.Entries.{node_is_opened, opened_entry_is_of_a_node, opened_names_are_listed, opens_at}

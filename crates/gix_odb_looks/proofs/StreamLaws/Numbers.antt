@@ -10,8 +10,8 @@ use Rattle.std.specs.List.{list_any, range_with_len}
 use Rattle.std.specs.Ordering.{eq_by_cmp, nat_cmp}
 use Rattle.odb_nodes.proofs.TreeLemmas.Numbers.{fold_max-le}
 use Rattle.odb_nodes.specs.declared.entry.Entry.{Entry}
-use Rattle.odb_disk.specs.StreamAsks.{greatest_open, least_closed}
-use Rattle.odb_disk.specs.Streams.{Streams, is_open, still_gives}
+use Rattle.odb_asks.specs.StreamAsks.{greatest_open, least_closed}
+use Rattle.odb_asks.specs.Streams.{Streams, is_open, still_gives}
 
 -- ---- the least number that no open stream has
 

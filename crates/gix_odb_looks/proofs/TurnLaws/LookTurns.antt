@@ -1,6 +1,6 @@
 -- A turn of a look-up takes one of the turns that are left.
 use Rattle.std.proofs.Common.{ℕ, suc, ◌+◌, ◌-◌, Option, Some, None, Ok, Err, refl, arith}
-use Rattle.odb_disk.specs.declared.ask.DiskAsk.{DiskAsk}
+use Rattle.odb_asks.specs.declared.ask.DiskAsk.{DiskAsk}
 use Rattle.gix_odb_loose.specs.LooseOrder.{disk_ask_of}
 use Rattle.gix_odb_events.specs.Answers as core
 use Rattle.gix_odb_events.specs.declared.event.Effect.TheVariants as effects

@@ -17,8 +17,8 @@ use gix_odb_loose::LooseCall;
 use gix_odb_packs::longest_first::longest_first;
 use gix_odb_packs::{ListStep, Lister, Notes, Trier};
 use gix_odb_slots::Listing;
+use odb_asks::DiskAnswer;
 use odb_base::NoMemory;
-use odb_disk::DiskAnswer;
 use std::alloc::Global;
 
 fn at(head: LookHead, stage: LookStage) -> LookUp

@@ -8,8 +8,9 @@ use crate::search::{Notes, WantedPack};
 use gix_odb_events::PassWhy;
 use gix_odb_slots::Shared;
 use gix_pack_files::{data, index};
+use odb_asks::DiskAnswer;
 use odb_base::{ByteList, NoMemory};
-use odb_disk::{DiskAnswer, DiskError};
+use odb_nodes::DiskError;
 use std::alloc::Global;
 
 /// Why a file is passed over, by the answer to its read.

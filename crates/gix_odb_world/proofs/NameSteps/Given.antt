@@ -10,8 +10,8 @@ use Rattle.odb_nodes.specs.Tree.Change.{changed}
 use Rattle.odb_nodes.specs.Tree.Follow.{read_of}
 use Rattle.odb_nodes.specs.Tree.Way.{SameOnWay, crosses}
 use Rattle.odb_nodes.specs.Tree.Write.{change_of_rename, file_spot, spot}
-use Rattle.odb_disk.specs.declared.ask.DiskAnswer.TheVariants as answers
-use Rattle.odb_disk.specs.declared.ask.DiskAsk.TheVariants as asks
+use Rattle.odb_asks.specs.declared.ask.DiskAnswer.TheVariants as answers
+use Rattle.odb_asks.specs.declared.ask.DiskAsk.TheVariants as asks
 use Rattle.odb_nodes.specs.declared.change.Change.TheVariants.{PutFile, Rename}
 use Rattle.odb_nodes.proofs.OwnWayLaws.{OwnSpot, moved_onto, moved_onto_crosses, moved_onto_reads, own_rename}
 use Rattle.odb_nodes.proofs.TreeLemmas.Write.{replaceable_at}

@@ -3,7 +3,7 @@ use Rattle.std.proofs.Common.{◌≡◌, ℕ, ◌+◌, List, [], ◌∷◌, ◌+
 use Rattle.std.specs.Prelude.{slice_get}
 use Rattle.std.proofs.lemmas.List.{length_push}
 use Rattle.odb_base.specs.Path.{Path}
-use Rattle.odb_disk.specs.MemDisk.{Volume}
+use Rattle.odb_asks.specs.MemDisk.{Volume}
 use Rattle.odb_nodes.specs.Tree.Follow.{read_of}
 use Rattle.gix_odb_core.specs.History.{History, opened, present}
 use Rattle.gix_odb_core.specs.Possible.{IsPossible}

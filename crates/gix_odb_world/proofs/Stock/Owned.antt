@@ -1,6 +1,6 @@
 -- Which store a handle's core is of, after each event.
 use Rattle.std.proofs.Common.{◌≡◌, ℕ, List, length, Some}
-use Rattle.odb_disk.specs.MemDisk.{Volume}
+use Rattle.odb_asks.specs.MemDisk.{Volume}
 use Rattle.std.specs.Prelude.{slice_get}
 use Rattle.gix_odb_world.specs.AtWork.{Modes, Store, Task, OpenStore, MakeCall}
 use Rattle.gix_odb_world.specs.Cores.{cores_after}

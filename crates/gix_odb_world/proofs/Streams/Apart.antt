@@ -1,10 +1,10 @@
 -- Along a run the streams of handles at work stand open, and no two handles read one.
 use Rattle.std.proofs.Common.{◌≡◌, ◌≢◌, ◌⊎◌, ℕ, true, false, List, Contains, Option, Some, None, inl, inr, sym, ◌∙◌, ap}
 use Rattle.odb_base.specs.Path.{Path}
-use Rattle.odb_disk.specs.MemDisk.{Volume}
-use Rattle.odb_disk.specs.StreamAsks.{is_of_streams}
-use Rattle.odb_disk.specs.declared.ask.DiskAsk.{DiskAsk}
-use Rattle.odb_disk.specs.declared.ask.DiskAsk.TheVariants as asks
+use Rattle.odb_asks.specs.MemDisk.{Volume}
+use Rattle.odb_asks.specs.StreamAsks.{is_of_streams}
+use Rattle.odb_asks.specs.declared.ask.DiskAsk.{DiskAsk}
+use Rattle.odb_asks.specs.declared.ask.DiskAsk.TheVariants as asks
 use Rattle.gix_odb_loose.specs.LooseOrder.{disk_ask_of}
 use Rattle.gix_odb_loose.proofs.StillAskLaws.{call_asks_still}
 use Rattle.gix_odb_packs.specs.ListOrder as lists

@@ -2,19 +2,19 @@
 use Rattle.std.proofs.Common.{◌≡◌, ◌≢◌, ℕ, Bool, true, false, List, [], ◌∷◌, Option, Some, None, Result, Ok, Err, refl, sym, ap}
 use Rattle.std.specs.Prelude.{if◌then◌else◌}
 use Rattle.odb_base.specs.Path.{Path}
-use Rattle.odb_disk.specs.Ask.{answer_in, answer_now, answer_of, change_of_ask, after_ask, dir_answer, entry_answer, error_of, fails_now, file_answer, meta_answer, ran_out, write_answer}
-use Rattle.odb_disk.specs.StreamAsks.{least_closed}
-use Rattle.odb_disk.specs.Streams.{Streams, still_gives}
+use Rattle.odb_asks.specs.Ask.{answer_in, answer_now, answer_of, change_of_ask, after_ask, dir_answer, entry_answer, error_of, fails_now, file_answer, meta_answer, ran_out, write_answer}
+use Rattle.odb_asks.specs.StreamAsks.{least_closed}
+use Rattle.odb_asks.specs.Streams.{Streams, still_gives}
 use Rattle.odb_nodes.specs.Entries.{opened}
-use Rattle.odb_disk.specs.MemDisk.{Volume}
+use Rattle.odb_asks.specs.MemDisk.{Volume}
 use Rattle.odb_nodes.specs.Tree.{Tree, State, tree_of}
 use Rattle.odb_nodes.specs.Tree.Follow.{Refusal, Absent, WrongKind, LinkLoop, looked, read_of}
 use Rattle.odb_nodes.specs.Tree.Write as writing
 use Rattle.odb_nodes.specs.Tree.Write.{change_of_append, change_of_make_dir, change_of_new_file, change_of_remove, change_of_rename, written}
-use Rattle.odb_disk.specs.declared.ask.DiskAnswer.{DiskAnswer}
-use Rattle.odb_disk.specs.declared.ask.DiskAnswer.TheVariants as answers
-use Rattle.odb_disk.specs.declared.ask.DiskAsk.{DiskAsk}
-use Rattle.odb_disk.specs.declared.ask.DiskAsk.TheVariants as asks
+use Rattle.odb_asks.specs.declared.ask.DiskAnswer.{DiskAnswer}
+use Rattle.odb_asks.specs.declared.ask.DiskAnswer.TheVariants as answers
+use Rattle.odb_asks.specs.declared.ask.DiskAsk.{DiskAsk}
+use Rattle.odb_asks.specs.declared.ask.DiskAsk.TheVariants as asks
 use Rattle.odb_nodes.specs.declared.change.Change.{Change}
 use Rattle.odb_nodes.specs.declared.disk_error.DiskError.TheVariants as disk_errors
 use Rattle.odb_nodes.specs.declared.entry.Entry.{Entry}

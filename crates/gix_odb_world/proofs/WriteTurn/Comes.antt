@@ -6,9 +6,9 @@ use Rattle.std.proofs.lemmas.List.{take_all, length_push}
 use Rattle.std.proofs.lemmas.List.Elements.{Contains-append_cases}
 use Rattle.odb_base.specs.Path.{Path}
 use Rattle.odb_nodes.specs.Tree.Write.{written}
-use Rattle.odb_disk.specs.declared.ask.DiskAnswer.{DiskAnswer}
-use Rattle.odb_disk.specs.declared.ask.DiskAnswer.TheVariants as answers
-use Rattle.odb_disk.specs.declared.ask.DiskAsk.TheVariants as asks
+use Rattle.odb_asks.specs.declared.ask.DiskAnswer.{DiskAnswer}
+use Rattle.odb_asks.specs.declared.ask.DiskAnswer.TheVariants as answers
+use Rattle.odb_asks.specs.declared.ask.DiskAsk.TheVariants as asks
 use Rattle.odb_nodes.specs.declared.disk_error.DiskError.TheVariants as disk_errors
 use Rattle.gix_object.specs.Loose.{header_of}
 use Rattle.gix_odb_loose.proofs.CauseLaws.Write.{WriteCause-wider}

@@ -1,6 +1,6 @@
 -- What is true of all that a handle was told since it began to list folders of packs. No public clause needs more of it than its name.
 use Rattle.std.specs.Prelude.{ℕ, List, length, None}
-use Rattle.odb_disk.specs.MemDisk.{Volume}
+use Rattle.odb_asks.specs.MemDisk.{Volume}
 use Rattle.gix_odb_looks.specs.Exchange.{AreAnswered}
 use Rattle.gix_odb_looks.specs.Laps.{AreWithin}
 use Rattle.gix_odb_refresh.specs.Asked.{AreSuited}

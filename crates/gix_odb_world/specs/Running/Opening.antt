@@ -1,6 +1,6 @@
 -- What an opening knows since it began, and its machine, of which a public clause needs what it asks and where an answer leads it.
 use Rattle.std.specs.Prelude.{◌≡◌, ℕ, ◌≤◌, List, length, Option, Some, None}
-use Rattle.odb_disk.specs.MemDisk.{Volume}
+use Rattle.odb_asks.specs.MemDisk.{Volume}
 use Rattle.gix_odb.specs.Contents.{folder_list}
 use Rattle.gix_odb.specs.OpenExchanges.{AreAsked}
 use Rattle.gix_odb.specs.OpenOrder as openings

@@ -1,7 +1,7 @@
 -- Whether an entry is entered, and where it stands.
 use Rattle.std.proofs.Common.{◌≡◌, ℕ, true, false, ◌&&◌, ◌||◌, cond, Option, Some, None, Result, Ok, Err, IfSome, sym, ap, subst, ◌∙◌}
 use Rattle.odb_base.specs.Path.{Path}
-use Rattle.odb_disk.specs.Ask.{error_of}
+use Rattle.odb_asks.specs.Ask.{error_of}
 use Rattle.odb_nodes.specs.Tree.{State, tree_of}
 use Rattle.odb_nodes.specs.Tree.Follow.{Refusal, looked}
 use Rattle.odb_nodes.specs.declared.meta.Meta.{Meta}

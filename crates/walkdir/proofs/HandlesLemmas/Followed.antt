@@ -3,7 +3,7 @@ use Rattle.std.proofs.Common.{◌≡◌, ℕ, ◌⊎◌, inl, inr, Bool, true, f
 use Rattle.std.specs.Prelude.{find}
 use Rattle.std.specs.Option.{option_map}
 use Rattle.odb_base.specs.Path.{Path}
-use Rattle.odb_disk.specs.Ask.{error_of}
+use Rattle.odb_asks.specs.Ask.{error_of}
 use Rattle.odb_nodes.specs.Tree.{State, tree_of}
 use Rattle.odb_nodes.specs.Tree.Follow.{Refusal, looked}
 use Rattle.odb_nodes.specs.declared.meta.Meta.{Meta}

@@ -3,7 +3,7 @@ use Rattle.std.specs.Prelude.{◌≡◌, ℕ, ◌==◌, ◌&&◌, ◌||◌, Bool
 use Rattle.odb_base.specs.Path.{Path}
 use Rattle.odb_nodes.specs.Tree.{State, tree_of}
 use Rattle.odb_nodes.specs.Tree.Follow.{Refusal, looked}
-use Rattle.odb_disk.specs.Ask.{error_of}
+use Rattle.odb_asks.specs.Ask.{error_of}
 use Rattle.odb_nodes.specs.declared.meta.Meta.{Meta}
 use Rattle.walkdir.specs.Entry.{is_dir}
 use Rattle.walkdir.specs.Error.{io_error, IsFromLoop}

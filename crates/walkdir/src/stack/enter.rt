@@ -4,7 +4,8 @@ use crate::directory::{DirList, Items, Place};
 use crate::read::{open, rest_of};
 use crate::sort::Sorter;
 use crate::{DirEntry, Result};
-use odb_disk::{Disk, PathText};
+use odb_asks::Disk;
+use odb_disk::PathText;
 use std::collections::VecDeque;
 
 impl<S: Sorter + Drop> Stack<S> {

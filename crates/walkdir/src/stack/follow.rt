@@ -4,7 +4,8 @@ use crate::directory::{Entering, Place};
 use crate::read::{entry_by, look, place_in};
 use crate::sort::Sorter;
 use crate::{DirEntry, Error, Result};
-use odb_disk::{Disk, Kind, PathText};
+use odb_asks::Disk;
+use odb_disk::{Kind, PathText};
 
 /// An entry, and where it stands if that is known.
 #[derive(Drop)]

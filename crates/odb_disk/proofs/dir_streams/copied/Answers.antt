@@ -4,7 +4,7 @@ use Rattle.std.specs.Ordering.{nat_cmp}
 use Rattle.std.specs.Cmp.{nat_cmp_total}
 use Rattle.std.specs.Map.Iter.{deref_pair}
 use Rattle.std.proofs.lemmas.Map.Iter.{btree_map_turn}
-use Rattle.odb_disk.proofs.StreamsLemmas.{get-lists, lists_put, none_copied, one_copied, all_copied}
+use Rattle.odb_asks.proofs.StreamsLemmas.{get-lists, lists_put, none_copied, one_copied, all_copied}
 use Rattle.odb_disk.proofs.dir_streams.copied.Goals as goal
 
 pub loop-number-init : goal.loop-number-init

@@ -2,7 +2,7 @@ use Rattle.std.proofs.Common.{◌≡◌, ◌∙◌, ap, sym, true, is_some}
 use Rattle.std.specs.FinMap as finite
 use Rattle.std.specs.Ordering.{nat_cmp}
 use borrow.Author.Count.{below_more}
-use Rattle.odb_disk.proofs.StreamsLemmas.{get-lists}
+use Rattle.odb_asks.proofs.StreamsLemmas.{get-lists}
 use Rattle.odb_disk.proofs.dir_streams.least_closed.Goals as goal
 
 pub returns-then-not-contains_key-clause-least : goal.returns-then-not-contains_key-clause-least

@@ -1,5 +1,5 @@
 use Rattle.std.specs.FinMap as finite
-use Rattle.odb_disk.specs.StreamNumbers.{AreOpenBelow}
+use Rattle.odb_asks.specs.StreamNumbers.{AreOpenBelow}
 use Rattle.odb_disk.proofs.dir_streams.least_closed.Given as goal
 
 -- each number before this one has a stream

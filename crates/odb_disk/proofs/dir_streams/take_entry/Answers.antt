@@ -1,7 +1,7 @@
 use Rattle.std.proofs.Common.{ap, sym, ◌∙◌}
 use Rattle.odb_nodes.proofs.TreeLemmas.{IsSome-from}
-use Rattle.odb_disk.specs.Streams.{lists_only}
-use Rattle.odb_disk.proofs.StreamsLemmas.{get-lists, taken}
+use Rattle.odb_asks.specs.Streams.{lists_only}
+use Rattle.odb_asks.proofs.StreamsLemmas.{get-lists, taken}
 use Rattle.odb_disk.proofs.dir_streams.take_entry.Goals as goal
 
 pub returns-in-Some : goal.returns-in-Some

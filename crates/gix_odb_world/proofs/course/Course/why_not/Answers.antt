@@ -1,6 +1,6 @@
 use Rattle.std.proofs.Common.{List, Option, Result, Ok, Err}
 use Rattle.std.specs.Result.{IfOk}
-use Rattle.odb_disk.specs.MemDisk.{Volume}
+use Rattle.odb_asks.specs.MemDisk.{Volume}
 use Rattle.gix_odb_calls.specs.declared.step.Step.{Step}
 use Rattle.gix_odb_calls.specs.declared.step.Why.{Why}
 use Rattle.gix_odb_world.specs.declared.course.Course.{Course}

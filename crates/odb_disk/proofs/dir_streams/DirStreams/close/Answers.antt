@@ -1,8 +1,8 @@
 use Rattle.std.proofs.Common.{ap, sym, subst, ◌∙◌, arith}
 use Rattle.std.specs.FinMap as finite
-use Rattle.odb_disk.specs.Streams.{Streams, with_closed}
-use Rattle.odb_disk.specs.StreamNumbers.{AreOpenBelow}
-use Rattle.odb_disk.proofs.StreamsLemmas.{lists_take, open_less}
+use Rattle.odb_asks.specs.Streams.{Streams, with_closed}
+use Rattle.odb_asks.specs.StreamNumbers.{AreOpenBelow}
+use Rattle.odb_asks.proofs.StreamsLemmas.{lists_take, open_less}
 use Rattle.odb_disk.proofs.dir_streams.DirStreams.close.Goals as goal
 
 pub returns : goal.returns

@@ -1,4 +1,4 @@
-use Rattle.odb_disk.proofs.StreamsLemmas.{TakesNext-peak, open_taken}
+use Rattle.odb_asks.proofs.StreamsLemmas.{TakesNext-peak, open_taken}
 use Rattle.odb_disk.proofs.dir_streams.DirStreams.next.Goals as goal
 
 pub returns : goal.returns

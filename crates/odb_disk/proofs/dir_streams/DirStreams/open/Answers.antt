@@ -1,9 +1,9 @@
 use Rattle.std.proofs.Common.{◌+◌, max, ap, sym, subst, ◌∙◌}
 use Rattle.std.specs.FinMap as finite
 use Rattle.std.specs.Ordering.{nat_cmp}
-use Rattle.odb_disk.specs.StreamNumbers.{AreOpenBelow}
-use Rattle.odb_disk.specs.Streams.{Streams, with_opened}
-use Rattle.odb_disk.proofs.StreamsLemmas.{len-lists, lists_put, open_more}
+use Rattle.odb_asks.specs.StreamNumbers.{AreOpenBelow}
+use Rattle.odb_asks.specs.Streams.{Streams, with_opened}
+use Rattle.odb_asks.proofs.StreamsLemmas.{len-lists, lists_put, open_more}
 use Rattle.odb_disk.proofs.dir_streams.DirStreams.open.Goals as goal
 
 pub returns-clause-opened : goal.returns-clause-opened

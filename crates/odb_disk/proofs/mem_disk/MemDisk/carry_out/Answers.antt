@@ -1,8 +1,8 @@
 use Rattle.std.proofs.Common.{◌≡◌, ◌∙◌, sym}
 use Rattle.odb_nodes.specs.Tree.{tree_of}
-use Rattle.odb_disk.specs.Ask.{answer_in, fails_now, state_after}
-use Rattle.odb_disk.proofs.StreamAsksLemmas.{told_in, left_in}
-use Rattle.odb_disk.proofs.AskLemmas.InMemory.{answered_by, volume_after_ask, volume_kept, has_memory, no_memory}
+use Rattle.odb_asks.specs.Ask.{answer_in, fails_now, state_after}
+use Rattle.odb_asks.proofs.StreamAsksLemmas.{told_in, left_in}
+use Rattle.odb_asks.proofs.AskLemmas.InMemory.{answered_by, volume_after_ask, volume_kept, has_memory, no_memory}
 use Rattle.odb_disk.proofs.mem_disk.MemDisk.carry_out.Goals as goal
 
 pub returns-then-ran_out-clause-kept : goal.returns-then-ran_out-clause-kept

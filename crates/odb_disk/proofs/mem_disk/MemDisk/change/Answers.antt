@@ -2,10 +2,10 @@ use Rattle.std.proofs.Common.{◌∙◌, sym, ap, refl}
 use Rattle.std.proofs.lemmas.Result.{on_ok_weaker}
 use Rattle.odb_nodes.specs.Tree.{state_of}
 use Rattle.odb_nodes.specs.Tree.Change.{is_possible}
-use Rattle.odb_disk.specs.MemDisk.{Volume, after_outside_change}
+use Rattle.odb_asks.specs.MemDisk.{Volume, after_outside_change}
 use Rattle.odb_disk.specs.declared.mem_disk.MemDisk.TheInside.{Inside}
 use Rattle.odb_nodes.proofs.TreeLemmas.Changed.{is_possible-state_of}
-use Rattle.odb_disk.proofs.MemDiskLemmas.{IsTree-after, outside_change}
+use Rattle.odb_asks.proofs.MemDiskLemmas.{IsTree-after, outside_change}
 use Rattle.odb_disk.proofs.mem_disk.MemDisk.change.Goals as goal
 
 abbrev seen : Inside → Volume

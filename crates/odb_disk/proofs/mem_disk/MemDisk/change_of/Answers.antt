@@ -1,6 +1,6 @@
 use Rattle.std.proofs.Common.{◌≡◌, IfOk, ◌∙◌, sym, ap, subst}
 use Rattle.odb_nodes.specs.Tree.{tree_of}
-use Rattle.odb_disk.specs.Ask.{change_of_ask}
+use Rattle.odb_asks.specs.Ask.{change_of_ask}
 use Rattle.odb_nodes.proofs.TreeLemmas.{tree_of-state_of}
 use Rattle.odb_disk.proofs.mem_disk.MemDisk.change_of.Goals as goal
 

@@ -1,10 +1,10 @@
 use Rattle.std.proofs.Common.{◌∙◌, sym, ap, subst}
 use Rattle.odb_sources.specs.Calls as calls
 use Rattle.odb_nodes.specs.Tree.{IsTree, tree_of, state_of}
-use Rattle.odb_disk.specs.MemDisk.{Volume, after_call}
+use Rattle.odb_asks.specs.MemDisk.{Volume, after_call}
 use Rattle.odb_disk.specs.declared.mem_disk.MemDisk.TheInside.{Inside}
 use Rattle.odb_nodes.proofs.TreeLemmas.{tree_of-state_of}
-use Rattle.odb_disk.proofs.MemDiskLemmas.{counted_call}
+use Rattle.odb_asks.proofs.MemDiskLemmas.{counted_call}
 use Rattle.odb_disk.proofs.mem_disk.MemDisk.count.Goals as goal
 
 abbrev seen : Inside → Volume

@@ -1,4 +1,4 @@
-use Rattle.odb_disk.proofs.MemDiskLemmas.{new_disk}
+use Rattle.odb_asks.proofs.MemDiskLemmas.{new_disk}
 use Rattle.odb_disk.proofs.mem_disk.MemDisk.with_faults.Goals as goal
 
 pub returns : goal.returns

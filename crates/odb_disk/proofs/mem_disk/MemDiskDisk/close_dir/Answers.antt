@@ -1,6 +1,6 @@
 use Rattle.std.proofs.Common.{◌∙◌, sym, ap, subst}
 use Rattle.odb_nodes.specs.Tree.{IsTree, tree_of}
-use Rattle.odb_disk.specs.Streams.{with_closed}
+use Rattle.odb_asks.specs.Streams.{with_closed}
 use Rattle.odb_nodes.proofs.TreeLemmas.{tree_of-state_of}
 use Rattle.odb_disk.proofs.mem_disk.MemDiskDisk.close_dir.Goals as goal
 

@@ -1,8 +1,8 @@
 use Rattle.std.proofs.Common.{◌∙◌, sym, rules}
-use Rattle.odb_disk.specs.declared.ask.DiskAsk.TheVariants as asks
-use Rattle.odb_disk.proofs.AskLemmas.Carried.{asks_make_dir}
-use Rattle.odb_disk.proofs.AskLemmas.InMemory.{counted_failed}
-use Rattle.odb_disk.proofs.AskLemmas.Writes.{written_tree, writes}
+use Rattle.odb_asks.specs.declared.ask.DiskAsk.TheVariants as asks
+use Rattle.odb_asks.proofs.AskLemmas.Carried.{asks_make_dir}
+use Rattle.odb_asks.proofs.AskLemmas.InMemory.{counted_failed}
+use Rattle.odb_asks.proofs.AskLemmas.Writes.{written_tree, writes}
 use Rattle.odb_disk.proofs.mem_disk.MemDiskDisk.make_dir.Goals as goal
 
 pub invariant_of-self : goal.invariant_of-self

@@ -1,5 +1,5 @@
 use Rattle.std.proofs.Common.{◌∙◌, ap}
-use Rattle.odb_disk.proofs.StreamsLemmas.{gives, gives_absent}
+use Rattle.odb_asks.proofs.StreamsLemmas.{gives, gives_absent}
 use Rattle.odb_disk.proofs.mem_disk.MemDiskDisk.next_entry.Goals as goal
 
 pub returns-in_default-clause-gives : goal.returns-in_default-clause-gives

@@ -1,6 +1,6 @@
 use Rattle.std.proofs.Common.{◌∙◌, ap}
 use Rattle.std.proofs.lemmas.Result.{err_from_is_err_and}
-use Rattle.odb_disk.proofs.MemDiskLemmas.{open_refused, open_answers, Opens-from}
+use Rattle.odb_asks.proofs.MemDiskLemmas.{open_refused, open_answers, Opens-from}
 use Rattle.odb_disk.proofs.mem_disk.MemDiskDisk.open_dir.Goals as goal
 
 pub returns-in_err-entries-clause-answer : goal.returns-in_err-entries-clause-answer

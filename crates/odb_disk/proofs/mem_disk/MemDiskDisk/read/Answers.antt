@@ -3,7 +3,7 @@ use Rattle.odb_nodes.specs.Tree.{IsTree, tree_of}
 use Rattle.odb_nodes.specs.Tree.Follow.{read_of}
 use Rattle.odb_nodes.specs.Answers.{Answers}
 use Rattle.odb_nodes.proofs.TreeLemmas.{tree_of-state_of}
-use Rattle.odb_disk.proofs.MemDiskLemmas.{after_call-state}
+use Rattle.odb_asks.proofs.MemDiskLemmas.{after_call-state}
 use Rattle.odb_disk.proofs.mem_disk.MemDiskDisk.read.Goals as goal
 
 pub returns-then-failed-clause-kept : goal.returns-then-failed-clause-kept

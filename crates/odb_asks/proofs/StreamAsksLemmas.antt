@@ -9,18 +9,18 @@ use Rattle.std.specs.List.{list_any}
 use Rattle.std.specs.Ordering.{eq_by_cmp, nat_cmp}
 use Rattle.odb_base.specs.Path.{Path}
 use Rattle.odb_nodes.specs.Tree.{Tree, State, tree_of}
-use Rattle.odb_disk.specs.Streams.{Streams, IsLeastClosed, AnswersOpen, Opens, Gives, still_gives, is_open, with_opened, with_closed}
+use Rattle.odb_asks.specs.Streams.{Streams, IsLeastClosed, AnswersOpen, Opens, Gives, still_gives, is_open, with_opened, with_closed}
 use Rattle.odb_nodes.specs.Entries.{opened}
-use Rattle.odb_disk.specs.Told.{told_open, told_next}
-use Rattle.odb_disk.specs.Ask.{TakesLeast, AnswersAsk, answer_of, answer_in, dir_answer, entry_answer, streams_left, state_told_after, change_of_ask}
-use Rattle.odb_disk.specs.StreamAsks.{is_of_streams, AnswersStreams, ClosesAs, OpensAs, GivesAs, greatest_open, least_closed, after_opening, after_taking, streams_after}
+use Rattle.odb_asks.specs.Told.{told_open, told_next}
+use Rattle.odb_asks.specs.Ask.{TakesLeast, AnswersAsk, answer_of, answer_in, dir_answer, entry_answer, streams_left, state_told_after, change_of_ask}
+use Rattle.odb_asks.specs.StreamAsks.{is_of_streams, AnswersStreams, ClosesAs, OpensAs, GivesAs, greatest_open, least_closed, after_opening, after_taking, streams_after}
 use Rattle.odb_nodes.specs.declared.entry.Entry.{Entry}
 use Rattle.odb_nodes.specs.declared.disk_error.DiskError.{DiskError}
 use Rattle.odb_nodes.specs.declared.disk_error.DiskError.TheVariants as errors
-use Rattle.odb_disk.specs.declared.ask.DiskAsk.{DiskAsk}
-use Rattle.odb_disk.specs.declared.ask.DiskAsk.TheVariants as asks
-use Rattle.odb_disk.specs.declared.ask.DiskAnswer.{DiskAnswer}
-use Rattle.odb_disk.specs.declared.ask.DiskAnswer.TheVariants as answers
+use Rattle.odb_asks.specs.declared.ask.DiskAsk.{DiskAsk}
+use Rattle.odb_asks.specs.declared.ask.DiskAsk.TheVariants as asks
+use Rattle.odb_asks.specs.declared.ask.DiskAnswer.{DiskAnswer}
+use Rattle.odb_asks.specs.declared.ask.DiskAnswer.TheVariants as answers
 use Rattle.odb_nodes.proofs.TreeLemmas.Numbers.{find_in_range, none_in_range, fold_max-le}
 
 -- ---- the least number that no open stream has

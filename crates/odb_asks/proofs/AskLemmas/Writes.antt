@@ -11,16 +11,16 @@ use Rattle.odb_nodes.specs.declared.change.Change.{Change}
 use Rattle.odb_nodes.specs.declared.disk_error.DiskError.{DiskError}
 use Rattle.odb_nodes.specs.declared.disk_error.DiskError.TheVariants as errors
 use Rattle.odb_nodes.proofs.TreeLemmas.{tree_of-state_of}
-use Rattle.odb_disk.specs.Ask.{change_of_ask, fails_now, after_count, TakesLeast, IsCounted}
+use Rattle.odb_asks.specs.Ask.{change_of_ask, fails_now, after_count, TakesLeast, IsCounted}
 use Rattle.odb_sources.specs.Calls.{Calls}
-use Rattle.odb_disk.specs.MemDisk.{Volume}
-use Rattle.odb_disk.specs.Streams.{Streams}
-use Rattle.odb_disk.specs.Told.{told_write}
-use Rattle.odb_disk.specs.declared.ask.DiskAsk.{DiskAsk}
-use Rattle.odb_disk.specs.declared.ask.DiskAnswer.TheVariants as answers
-use Rattle.odb_disk.proofs.AskedLaws.{IsTree-asked}
-use Rattle.odb_disk.proofs.AskLemmas.Carried.{AsksFor}
-use Rattle.odb_disk.proofs.AskLemmas.InMemory.{after_count-state}
+use Rattle.odb_asks.specs.MemDisk.{Volume}
+use Rattle.odb_asks.specs.Streams.{Streams}
+use Rattle.odb_asks.specs.Told.{told_write}
+use Rattle.odb_asks.specs.declared.ask.DiskAsk.{DiskAsk}
+use Rattle.odb_asks.specs.declared.ask.DiskAnswer.TheVariants as answers
+use Rattle.odb_asks.proofs.AskedLaws.{IsTree-asked}
+use Rattle.odb_asks.proofs.AskLemmas.Carried.{AsksFor}
+use Rattle.odb_asks.proofs.AskLemmas.InMemory.{after_count-state}
 
 -- what a tree tells is an answer of a disk, and no failure
 Tells-answers : {A : Type 0} (r : Result A DiskError) (told : Result A Refusal) → Tells r told → AnswersWrite r told

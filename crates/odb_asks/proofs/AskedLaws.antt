@@ -7,9 +7,9 @@ use Rattle.odb_nodes.specs.Tree.Write.{change_of_append, change_of_make_dir, cha
 use Rattle.odb_nodes.specs.declared.change.Change.{Change}
 use Rattle.odb_nodes.proofs.TreeLemmas.Changed.{IsTree-changed}
 use Rattle.odb_nodes.proofs.TreeLemmas.Write.{make_dir_possible, new_file_possible, append_possible, rename_possible, remove_possible}
-use Rattle.odb_disk.specs.Ask.{change_of_ask}
-use Rattle.odb_disk.specs.declared.ask.DiskAsk.{DiskAsk}
-use Rattle.odb_disk.specs.declared.ask.DiskAsk.TheVariants as asks
+use Rattle.odb_asks.specs.Ask.{change_of_ask}
+use Rattle.odb_asks.specs.declared.ask.DiskAsk.{DiskAsk}
+use Rattle.odb_asks.specs.declared.ask.DiskAsk.TheVariants as asks
 
 from_ok : {A B : Type 0} (told : Result A B) (x : A) → result_ok told ≡ Some x → told ≡ Ok x
 from_ok (Ok y) x is = cc

@@ -4,16 +4,16 @@ use Rattle.std.specs.Prelude.{if◌then◌else◌, ◌&&◌}
 use Rattle.std.proofs.Common.{◌≡◌, Bool, true, false, cond, refl, sym, ap, ◌∙◌}
 use Rattle.odb_nodes.specs.Tree.{tree_of}
 use Rattle.odb_nodes.specs.Tree.Write.{written}
-use Rattle.odb_disk.specs.MemDisk.{Volume, after_call, next_fails}
-use Rattle.odb_disk.specs.StreamAsks.{is_of_streams}
-use Rattle.odb_disk.specs.Ask.{answer_in, answer_now, answer_of, change_of_ask, is_counted, fails_now, after_ask}
-use Rattle.odb_disk.specs.declared.ask.DiskAsk.{DiskAsk}
-use Rattle.odb_disk.specs.declared.ask.DiskAsk.TheVariants as asks
-use Rattle.odb_disk.specs.declared.ask.DiskAnswer.{DiskAnswer}
-use Rattle.odb_disk.specs.declared.ask.DiskAnswer.TheVariants as answers
+use Rattle.odb_asks.specs.MemDisk.{Volume, after_call, next_fails}
+use Rattle.odb_asks.specs.StreamAsks.{is_of_streams}
+use Rattle.odb_asks.specs.Ask.{answer_in, answer_now, answer_of, change_of_ask, is_counted, fails_now, after_ask}
+use Rattle.odb_asks.specs.declared.ask.DiskAsk.{DiskAsk}
+use Rattle.odb_asks.specs.declared.ask.DiskAsk.TheVariants as asks
+use Rattle.odb_asks.specs.declared.ask.DiskAnswer.{DiskAnswer}
+use Rattle.odb_asks.specs.declared.ask.DiskAnswer.TheVariants as answers
 use Rattle.odb_nodes.specs.declared.disk_error.DiskError.TheVariants as errors
-use Rattle.odb_disk.proofs.MemDiskLemmas.{after_call-streams}
-use Rattle.odb_disk.proofs.StreamAsksLemmas.{answer_in-still, streams_after-still}
+use Rattle.odb_asks.proofs.MemDiskLemmas.{after_call-streams}
+use Rattle.odb_asks.proofs.StreamAsksLemmas.{answer_in-still, streams_after-still}
 
 pub counted-still : (ask : DiskAsk) → is_of_streams ask ≡ false → is_counted ask ≡ true
 counted-still (asks.Look path follow) still = refl

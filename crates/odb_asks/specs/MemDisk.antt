@@ -7,7 +7,7 @@ use Rattle.odb_sources.specs.Calls as calls
 use Rattle.odb_sources.specs.Calls.{Calls, coded_calls, no_calls}
 use Rattle.odb_nodes.specs.Tree.{State, coded_state, state_of, bare_tree}
 use Rattle.odb_nodes.specs.Tree.Change.{after_change}
-use Rattle.odb_disk.specs.Streams.{Streams, coded_streams, no_streams}
+use Rattle.odb_asks.specs.Streams.{Streams, coded_streams, no_streams}
 use Rattle.odb_nodes.specs.declared.change.Change.{Change}
 
 -- a disk in memory at one moment

@@ -5,13 +5,13 @@ use Rattle.std.specs.FinMap as finite
 use Rattle.odb_base.specs.Path.{Path}
 use Rattle.odb_nodes.specs.Tree.{Tree, State, tree_of}
 use Rattle.odb_nodes.specs.Tree.Follow.{Refusal}
-use Rattle.odb_disk.specs.Streams.{Streams, AnswersOpen, Opens, GivesFirst, IsAtEnd, Gives, still_gives, is_open, with_stream, with_opened, with_closed}
+use Rattle.odb_asks.specs.Streams.{Streams, AnswersOpen, Opens, GivesFirst, IsAtEnd, Gives, still_gives, is_open, with_stream, with_opened, with_closed}
 use Rattle.odb_nodes.specs.Entries.{opened}
 use Rattle.odb_nodes.specs.declared.entry.Entry.{Entry}
-use Rattle.odb_disk.specs.declared.ask.DiskAsk.{DiskAsk}
-use Rattle.odb_disk.specs.declared.ask.DiskAsk.TheVariants as asks
-use Rattle.odb_disk.specs.declared.ask.DiskAnswer.{DiskAnswer}
-use Rattle.odb_disk.specs.declared.ask.DiskAnswer.TheVariants as answers
+use Rattle.odb_asks.specs.declared.ask.DiskAsk.{DiskAsk}
+use Rattle.odb_asks.specs.declared.ask.DiskAsk.TheVariants as asks
+use Rattle.odb_asks.specs.declared.ask.DiskAnswer.{DiskAnswer}
+use Rattle.odb_asks.specs.declared.ask.DiskAnswer.TheVariants as answers
 
 -- whether a call opens a stream, takes from one or closes one
 abbrev pub is_of_streams : DiskAsk → Bool

@@ -1,8 +1,8 @@
 use Rattle.std.proofs.Common.{◌∙◌, ap, sym}
-use Rattle.odb_disk.specs.declared.ask.DiskAsk.TheVariants as asks
-use Rattle.odb_disk.proofs.AskLemmas.Carried.{carried_look, carried_read, looked_state, read_state, carried_write, carried_state, asks_make_dir, asks_new_file, asks_append, asks_rename, asks_remove}
-use Rattle.odb_disk.proofs.StreamAsksLemmas.{carried_open, carried_next, opened_state, taken_state, closed_state}
-use Rattle.odb_disk.proofs.ask.DiskAsk.carry_out.Goals as goal
+use Rattle.odb_asks.specs.declared.ask.DiskAsk.TheVariants as asks
+use Rattle.odb_asks.proofs.AskLemmas.Carried.{carried_look, carried_read, looked_state, read_state, carried_write, carried_state, asks_make_dir, asks_new_file, asks_append, asks_rename, asks_remove}
+use Rattle.odb_asks.proofs.StreamAsksLemmas.{carried_open, carried_next, opened_state, taken_state, closed_state}
+use Rattle.odb_asks.proofs.ask.DiskAsk.carry_out.Goals as goal
 
 pub returns-in-Look-clause-answer : goal.returns-in-Look-clause-answer
 returns-in-Look-clause-answer g c = λ _. carried_look c.in-Look.is c.look.result c.look_answer.ensures.told (g.D.Disk.state c.args.disk.now) c.look.ensures.answer

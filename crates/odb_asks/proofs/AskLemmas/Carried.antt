@@ -7,16 +7,16 @@ use Rattle.odb_nodes.specs.Tree.Follow.{Refusal, looked, read_of}
 use Rattle.odb_nodes.specs.Tree.Write as writing
 use Rattle.odb_nodes.specs.Tree.Write.{change_of_make_dir, change_of_new_file, change_of_append, change_of_rename, change_of_remove, done, written, written_as}
 use Rattle.odb_nodes.specs.Answers.{Answers, AnswersWrite}
-use Rattle.odb_disk.specs.Told.{told_look, told_read, told_write}
-use Rattle.odb_disk.specs.Ask.{meta_answer, file_answer, write_answer, answer_of, change_of_ask, state_told_after, AnswersAsk}
+use Rattle.odb_asks.specs.Told.{told_look, told_read, told_write}
+use Rattle.odb_asks.specs.Ask.{meta_answer, file_answer, write_answer, answer_of, change_of_ask, state_told_after, AnswersAsk}
 use Rattle.odb_nodes.specs.declared.change.Change.{Change}
 use Rattle.odb_nodes.specs.declared.meta.Meta.{Meta}
 use Rattle.odb_nodes.specs.declared.disk_error.DiskError.{DiskError}
 use Rattle.odb_nodes.specs.declared.disk_error.DiskError.TheVariants as errors
-use Rattle.odb_disk.specs.declared.ask.DiskAsk.{DiskAsk}
-use Rattle.odb_disk.specs.declared.ask.DiskAsk.TheVariants as asks
-use Rattle.odb_disk.specs.declared.ask.DiskAnswer.{DiskAnswer}
-use Rattle.odb_disk.specs.declared.ask.DiskAnswer.TheVariants as answers
+use Rattle.odb_asks.specs.declared.ask.DiskAsk.{DiskAsk}
+use Rattle.odb_asks.specs.declared.ask.DiskAsk.TheVariants as asks
+use Rattle.odb_asks.specs.declared.ask.DiskAnswer.{DiskAnswer}
+use Rattle.odb_asks.specs.declared.ask.DiskAnswer.TheVariants as answers
 
 look_told : (r : Result Meta DiskError) (told : Result Meta Refusal) → Answers r told → AnswersAsk (told_look r) (meta_answer told)
 look_told (Ok found) told is = ap meta_answer (sym is)

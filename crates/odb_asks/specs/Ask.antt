@@ -1,7 +1,7 @@
 -- The calls of a disk as values: what a tree answers to them, and what a disk in memory does.
 pub mod Answer
 pub mod InMemory
-unfoldable pub use Rattle.odb_disk.specs.Ask.Answer.{
+unfoldable pub use Rattle.odb_asks.specs.Ask.Answer.{
   error_of,
   error_of_write,
   meta_answer,
@@ -18,5 +18,5 @@ unfoldable pub use Rattle.odb_disk.specs.Ask.Answer.{
   state_after,
   state_told_after,
 }
-unfoldable pub use Rattle.odb_disk.specs.Ask.InMemory.{answer_in, is_counted, fails_now, answer_now, after_count, streams_left, after_ask, TakesLeast}
-pub use Rattle.odb_disk.specs.Ask.InMemory.{IsCounted}
+unfoldable pub use Rattle.odb_asks.specs.Ask.InMemory.{answer_in, is_counted, fails_now, answer_now, after_count, streams_left, after_ask, TakesLeast}
+pub use Rattle.odb_asks.specs.Ask.InMemory.{IsCounted}

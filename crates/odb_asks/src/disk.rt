@@ -3,17 +3,18 @@ ghost use Rattle.std.specs.Prelude.{◌≡◌, ℕ, Option, IfOk, IfSome, OnOk, 
 ghost use Rattle.odb_nodes.specs.Tree.{IsTree, State, tree_of};
 ghost use Rattle.odb_nodes.specs.Tree.Follow.{looked, read_of};
 ghost use Rattle.odb_nodes.specs.Tree.Write.{change_of_make_dir, change_of_new_file, change_of_append, change_of_rename, change_of_remove, done, written_as};
-ghost use Rattle.odb_disk.specs.Disk.{FailsOnlyByFault};
+ghost use Rattle.odb_asks.specs.Disk.{FailsOnlyByFault};
 ghost use Rattle.odb_nodes.specs.Answers.{Answers, AnswersWrite};
-ghost use Rattle.odb_disk.specs.Streams.{Streams, AnswersOpen, Opens, Gives, with_closed};
+ghost use Rattle.odb_asks.specs.Streams.{Streams, AnswersOpen, Opens, Gives, with_closed};
 ghost use Rattle.odb_nodes.specs.Entries.{opened};
-ghost use Rattle.odb_disk.specs.Told.{told_look, told_read, told_open, told_next, told_write};
-ghost use Rattle.odb_disk.specs.declared.ask.DiskAsk.{DiskAsk as ask_value};
-ghost use Rattle.odb_disk.specs.declared.ask.DiskAsk.TheVariants as asks;
-ghost use Rattle.odb_disk.specs.declared.ask.DiskAnswer.{DiskAnswer as answer_value};
-ghost use Rattle.odb_disk.specs.declared.ask.DiskAnswer.TheVariants as answers;
+ghost use Rattle.odb_asks.specs.Told.{told_look, told_read, told_open, told_next, told_write};
+ghost use Rattle.odb_asks.specs.declared.ask.DiskAsk.{DiskAsk as ask_value};
+ghost use Rattle.odb_asks.specs.declared.ask.DiskAsk.TheVariants as asks;
+ghost use Rattle.odb_asks.specs.declared.ask.DiskAnswer.{DiskAnswer as answer_value};
+ghost use Rattle.odb_asks.specs.declared.ask.DiskAnswer.TheVariants as answers;
 
-use crate::{ByteList, DiskError, Entry, Meta, PathText};
+use odb_base::{ByteList, PathText};
+use odb_nodes::{DiskError, Entry, Meta};
 use std::alloc::Global;
 use std::marker::Model;
 
@@ -35,7 +36,7 @@ impl Model for DirId {
 
 impl DirId {
     /// The stream with this number.
-    pub(crate) fn new(number: u64) -> DirId
+    pub fn new(number: u64) -> DirId
         ensures number { result ≡ number }
     {
         DirId { number }

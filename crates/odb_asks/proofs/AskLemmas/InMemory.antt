@@ -6,21 +6,21 @@ use Rattle.odb_nodes.specs.Tree.{Tree, State, tree_of}
 use Rattle.odb_nodes.specs.Tree.Follow.{Refusal}
 use Rattle.odb_nodes.specs.Tree.Write as writing
 use Rattle.odb_nodes.specs.Tree.Write.{change_of_make_dir, change_of_new_file, change_of_append, change_of_rename, change_of_remove, done, written}
-use Rattle.odb_disk.specs.MemDisk.{Volume, after_call}
-use Rattle.odb_disk.specs.Streams.{Streams, still_gives}
+use Rattle.odb_asks.specs.MemDisk.{Volume, after_call}
+use Rattle.odb_asks.specs.Streams.{Streams, still_gives}
 use Rattle.odb_nodes.specs.Entries.{opened}
-use Rattle.odb_disk.specs.StreamAsks.{streams_after, after_opening, after_taking, least_closed}
-use Rattle.odb_disk.specs.Ask.{dir_answer, entry_answer, write_answer, answer_of, answer_in, change_of_ask, state_after, streams_left}
-use Rattle.odb_disk.specs.Ask.{is_counted, fails_now, after_count, after_ask, AnswersAsk, IsCounted, ran_out}
+use Rattle.odb_asks.specs.StreamAsks.{streams_after, after_opening, after_taking, least_closed}
+use Rattle.odb_asks.specs.Ask.{dir_answer, entry_answer, write_answer, answer_of, answer_in, change_of_ask, state_after, streams_left}
+use Rattle.odb_asks.specs.Ask.{is_counted, fails_now, after_count, after_ask, AnswersAsk, IsCounted, ran_out}
 use Rattle.odb_nodes.specs.declared.change.Change.{Change}
 use Rattle.odb_nodes.specs.declared.entry.Entry.{Entry}
 use Rattle.odb_nodes.specs.declared.disk_error.DiskError.{DiskError}
 use Rattle.odb_nodes.specs.declared.disk_error.DiskError.TheVariants as errors
-use Rattle.odb_disk.specs.declared.ask.DiskAsk.{DiskAsk}
-use Rattle.odb_disk.specs.declared.ask.DiskAsk.TheVariants as asks
-use Rattle.odb_disk.specs.declared.ask.DiskAnswer.{DiskAnswer}
-use Rattle.odb_disk.specs.declared.ask.DiskAnswer.TheVariants as answers
-use Rattle.odb_disk.proofs.MemDiskLemmas.{after_call-state, after_call-streams}
+use Rattle.odb_asks.specs.declared.ask.DiskAsk.{DiskAsk}
+use Rattle.odb_asks.specs.declared.ask.DiskAsk.TheVariants as asks
+use Rattle.odb_asks.specs.declared.ask.DiskAnswer.{DiskAnswer}
+use Rattle.odb_asks.specs.declared.ask.DiskAnswer.TheVariants as answers
+use Rattle.odb_asks.proofs.MemDiskLemmas.{after_call-state, after_call-streams}
 
 -- ---- what it answers
 

@@ -2,16 +2,16 @@
 use Rattle.std.specs.Prelude.{◌≡◌, ◌↔◌, Bool, true, false, ◌&&◌, if◌then◌else◌}
 use Rattle.odb_nodes.specs.Tree.{Tree, tree_of}
 use Rattle.odb_nodes.specs.Tree.Write.{written}
-use Rattle.odb_disk.specs.MemDisk.{Volume, next_fails, after_call}
-use Rattle.odb_disk.specs.Streams.{Streams, IsLeastClosed, still_gives}
+use Rattle.odb_asks.specs.MemDisk.{Volume, next_fails, after_call}
+use Rattle.odb_asks.specs.Streams.{Streams, IsLeastClosed, still_gives}
 use Rattle.odb_nodes.specs.Entries.{opened}
-use Rattle.odb_disk.specs.StreamAsks.{least_closed, streams_after}
+use Rattle.odb_asks.specs.StreamAsks.{least_closed, streams_after}
 use Rattle.odb_nodes.specs.declared.disk_error.DiskError.TheVariants as errors
-use Rattle.odb_disk.specs.declared.ask.DiskAsk.{DiskAsk}
-use Rattle.odb_disk.specs.declared.ask.DiskAsk.TheVariants as asks
-use Rattle.odb_disk.specs.declared.ask.DiskAnswer.{DiskAnswer}
-use Rattle.odb_disk.specs.declared.ask.DiskAnswer.TheVariants as answers
-use Rattle.odb_disk.specs.Ask.Answer.{answer_of, dir_answer, entry_answer, change_of_ask}
+use Rattle.odb_asks.specs.declared.ask.DiskAsk.{DiskAsk}
+use Rattle.odb_asks.specs.declared.ask.DiskAsk.TheVariants as asks
+use Rattle.odb_asks.specs.declared.ask.DiskAnswer.{DiskAnswer}
+use Rattle.odb_asks.specs.declared.ask.DiskAnswer.TheVariants as answers
+use Rattle.odb_asks.specs.Ask.Answer.{answer_of, dir_answer, entry_answer, change_of_ask}
 
 -- ---- what it answers
 

@@ -1,6 +1,6 @@
 -- Laws of calls that were made one after another: none, one, and two runs joined.
 use Rattle.std.proofs.Common.{List, [], ◌∷◌, ◌++◌, refl, sym, subst}
-use Rattle.odb_disk.specs.CallsMade.{Makes, Leads, IsAnsweredBetween}
+use Rattle.odb_asks.specs.CallsMade.{Makes, Leads, IsAnsweredBetween}
 
 module _ {State Ask Answer : Type 0} (Answered : State → Ask → Answer → State → Type 0) where
   pub makes_none : (state : State) → Makes Answered [] state state

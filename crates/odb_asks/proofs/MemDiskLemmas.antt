@@ -8,14 +8,14 @@ use Rattle.odb_nodes.specs.Tree.Change.{changed, is_possible_in, after_change}
 use Rattle.odb_nodes.specs.Answers.{Answers}
 use Rattle.odb_sources.specs.Calls as calls
 use Rattle.odb_sources.specs.Calls.{Calls, no_calls}
-use Rattle.odb_disk.specs.Streams.{Streams, IsLeastClosed, Opens, no_streams, with_opened}
+use Rattle.odb_asks.specs.Streams.{Streams, IsLeastClosed, Opens, no_streams, with_opened}
 use Rattle.odb_nodes.specs.Entries.{opened}
-use Rattle.odb_disk.specs.MemDisk.{Volume, after_call, after_outside_change, next_fails, new_volume}
+use Rattle.odb_asks.specs.MemDisk.{Volume, after_call, after_outside_change, next_fails, new_volume}
 use Rattle.odb_nodes.specs.declared.change.Change.{Change}
 use Rattle.odb_nodes.specs.declared.change.Impossible.{Impossible}
 use Rattle.odb_nodes.specs.declared.entry.Entry.{Entry}
 use Rattle.odb_nodes.specs.declared.disk_error.DiskError.{DiskError}
-use Rattle.odb_disk.proofs.StreamsLemmas.{free_number}
+use Rattle.odb_asks.proofs.StreamsLemmas.{free_number}
 use Rattle.odb_nodes.proofs.TreeLemmas.{tree_of-state_of}
 use Rattle.odb_nodes.proofs.TreeLemmas.Changed.{IsTree-changed}
 

@@ -13,8 +13,8 @@ use Rattle.std.specs.Cmp.{eq_by_cmp_equiv, nat_cmp_total}
 use Rattle.std.specs.Map.{lookup}
 use Rattle.std.specs.BTreeMap.{is_at}
 use Rattle.odb_base.specs.Path.{is_name}
-use Rattle.odb_disk.specs.StreamNumbers.{AreOpenBelow}
-use Rattle.odb_disk.specs.Streams.{Gives, IsAtEnd, IsClosed, IsLeastClosed, GivesFirst, TakesNext, lists_only, still_gives, with_opened, Streams}
+use Rattle.odb_asks.specs.StreamNumbers.{AreOpenBelow}
+use Rattle.odb_asks.specs.Streams.{Gives, IsAtEnd, IsClosed, IsLeastClosed, GivesFirst, TakesNext, lists_only, still_gives, with_opened, Streams}
 use Rattle.odb_nodes.specs.declared.entry.Entry.{Entry}
 use Rattle.odb_nodes.specs.declared.disk_error.DiskError.TheVariants as errors
 

@@ -1,5 +1,5 @@
-use Rattle.odb_disk.specs.Ask.{change_of_ask}
-use Rattle.odb_disk.proofs.ask.change_of.Goals as goal
+use Rattle.odb_asks.specs.Ask.{change_of_ask}
+use Rattle.odb_disk.proofs.mem_ask.change_of.Goals as goal
 
 pub returns-in-MakeDir : goal.returns-in-MakeDir
 unfolding change_of_ask
