@@ -3,8 +3,8 @@ use Rattle.std.proofs.Common.{◌≡◌, Bool, true, false, not, ◌&&◌, List,
 use Rattle.std.specs.List.{AllByRecursion, IsDistinct, list_any}
 use Rattle.core_tests.specs.Apart.{are_apart}
 use Rattle.odb_base.specs.Path.{Path}
-use Rattle.gix_odb_slots.specs.Slots.{HasDifferentPaths, same_path}
-use Rattle.gix_odb_slots.specs.declared.listing.ListingRow.{ListingRow}
+use Rattle.gix_odb_events.specs.PackFiles.{same_path, HasDifferentPaths}
+use Rattle.gix_odb_events.specs.declared.listing.ListingRow.{ListingRow}
 
 -- whether a row has a path
 abbrev has : Path → List ListingRow → Bool

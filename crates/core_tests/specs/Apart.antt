@@ -1,8 +1,8 @@
 -- Rows of a listing, row by row.
 use Rattle.std.specs.Prelude.{Bool, true, not, ◌&&◌, List, [], ◌∷◌}
 use Rattle.std.specs.List.{list_any}
-use Rattle.gix_odb_slots.specs.Slots.{same_path}
-use Rattle.gix_odb_slots.specs.declared.listing.ListingRow.{ListingRow}
+use Rattle.gix_odb_events.specs.PackFiles.{same_path}
+use Rattle.gix_odb_events.specs.declared.listing.ListingRow.{ListingRow}
 
 -- whether no two rows have one path
 unfoldable pub are_apart : List ListingRow → Bool

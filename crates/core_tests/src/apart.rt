@@ -2,7 +2,7 @@
 ghost use Rattle.std.specs.Prelude.{◌≡◌, true};
 ghost use Rattle.std.specs.List.{list_any};
 ghost use Rattle.core_tests.specs.Apart.{are_apart};
-ghost use Rattle.gix_odb_slots.specs.Slots.{HasDifferentPaths, same_path};
+ghost use Rattle.gix_odb_events.specs.PackFiles.{same_path, HasDifferentPaths};
 
 use gix_odb_core::ListingRow;
 use odb_base::PathText;

@@ -9,7 +9,7 @@ use Rattle.odb_asks.specs.Ask.{change_of_ask}
 use Rattle.odb_asks.specs.declared.ask.DiskAsk.{DiskAsk}
 use Rattle.odb_asks.specs.declared.ask.DiskAsk.TheVariants as disk_asks
 use Rattle.odb_nodes.specs.Tree.{Tree}
-use Rattle.gix_odb_slots.specs.PackId.{most_slots}
+use Rattle.gix_odb_events.specs.PackId.{most_slots}
 use Rattle.gix_odb_packs.specs.ListOrder as lists
 use Rattle.gix_odb_events.specs.declared.answer.Answer.{Answer}
 use Rattle.gix_odb_events.specs.declared.answer.Answer.TheVariants as told

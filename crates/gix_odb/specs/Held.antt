@@ -9,7 +9,7 @@ use Rattle.odb_nodes.specs.declared.meta.Meta.{Meta}
 use Rattle.gix_hash.specs.declared.object_id.ObjectId.{ObjectId}
 use Rattle.gix_odb_loose.specs.LooseFile.{loose_path}
 use Rattle.gix_odb_packs.specs.PackFolder.{is_index_name, pack_folder}
-use Rattle.gix_odb_slots.specs.PackPath.{pack_path}
+use Rattle.gix_odb_events.specs.PackPath.{pack_path}
 use Rattle.gix_odb_calls.specs.declared.query.Query.{Query}
 use Rattle.gix_odb_calls.specs.declared.query.Query.TheVariants.{Find, Header, Test}
 use Rattle.gix_odb.specs.Contents.{StoreData, folder_list, Contents, LooseFile, InIndex, InPack, Answer, Holds, IsSound, ShowsFile}

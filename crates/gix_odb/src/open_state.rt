@@ -14,7 +14,7 @@ use odb_nodes::{DiskError, Kind};
 use std::alloc::Global;
 
 /// The most slots that a store may have: 2^15 - 1. A pack's number has 32 bits, and the lowest 15 of them are the slot
-/// that its index stands in (`PackId::to_intrinsic_pack_id` of `gix_odb_slots`).
+/// that its index stands in (`PackId::to_intrinsic_pack_id` of `gix_odb_events`).
 const MAX_SLOTS: u64 = 32767;
 
 /// Where an opening stands.

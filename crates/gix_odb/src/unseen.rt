@@ -2,8 +2,7 @@
 ghost use Rattle.std.specs.Prelude.{◌≡◌, IfOk};
 ghost use Rattle.gix_odb.specs.HandleState as handles;
 
-use gix_odb_events::{SlotIndexMarker, Snapshot, View};
-use gix_odb_slots::{LoadedList, Shared, TodoList};
+use gix_odb_events::{LoadedList, Shared, SlotIndexMarker, Snapshot, TodoList, View};
 use odb_base::NoMemory;
 use std::alloc::Global;
 

@@ -7,13 +7,14 @@ use Rattle.gix_odb_core.specs.Misses.{IsIndexMissing, IsMissedSince, IsMissingAt
 use Rattle.gix_odb_core.specs.Origins.{PassesOver, PutsPack}
 use Rattle.gix_odb_core.specs.Possible.{IsOpened}
 use Rattle.gix_odb_core.specs.Replay.{after_entry, replay}
-use Rattle.gix_odb_slots.specs.Slots.{PackFile, Slot, new_filled, new_index, new_pack, new_packs}
+use Rattle.gix_odb_slots.specs.Slots.{Slot, new_filled, new_index}
+use Rattle.gix_odb_events.specs.PackFiles.{PackFile, new_pack, new_packs}
 use Rattle.gix_odb_events.specs.declared.event.Event.{Event}
 use Rattle.gix_odb_events.specs.declared.event.Refusal.TheVariants as refusals
 use Rattle.gix_odb_core.specs.declared.journal.Entry.{Entry}
-use Rattle.gix_odb_slots.specs.declared.listing.ListingRow.{ListingRow}
-use Rattle.gix_odb_slots.specs.declared.on_disk_file.FileState.TheVariants.{Missing}
-use Rattle.gix_odb_slots.specs.declared.on_disk_file.OnDiskFile.{OnDiskFile}
+use Rattle.gix_odb_events.specs.declared.listing.ListingRow.{ListingRow}
+use Rattle.gix_odb_events.specs.declared.on_disk_file.FileState.TheVariants.{Missing}
+use Rattle.gix_odb_events.specs.declared.on_disk_file.OnDiskFile.{OnDiskFile}
 use Rattle.gix_odb_core.specs.declared.shape.Shape.{Shape}
 use Rattle.gix_odb_slots.specs.declared.slot.Filled.{Filled}
 use Rattle.gix_odb_slots.specs.declared.slot.IndexFile.{IndexFile}

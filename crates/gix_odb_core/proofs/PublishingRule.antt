@@ -4,8 +4,8 @@ use Rattle.gix_odb_core.specs.Handles.{is_any_stable}
 use Rattle.gix_odb_slots.specs.Publish.{free_places, list_after, new_rows, slots_after, taken}
 use Rattle.gix_odb_slots.specs.Slots.{Slot}
 use Rattle.gix_odb_core.specs.Steps.{Publishing, Outdated, TooFew, Overflows, Unchanged, Published, is_confirmed, publishing, takes_over, with_list, with_room, would_overflow}
-use Rattle.gix_odb_slots.specs.declared.listing.Listing.{Listing}
-use Rattle.gix_odb_slots.specs.declared.listing.ListingRow.{ListingRow}
+use Rattle.gix_odb_events.specs.declared.listing.Listing.{Listing}
+use Rattle.gix_odb_events.specs.declared.listing.ListingRow.{ListingRow}
 use Rattle.gix_odb_core.specs.declared.shape.Shape.{Shape}
 
 -- the slots that a listing leaves, and the list

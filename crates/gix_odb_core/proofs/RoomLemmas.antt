@@ -12,8 +12,8 @@ use Rattle.gix_odb_core.specs.Shelf.{shelf_of}
 use Rattle.gix_odb_core.specs.Steps.{Outdated, Overflows, Published, TooFew, Unchanged, is_confirmed}
 use Rattle.gix_odb_core.specs.Steps.{publishing, settled_as, takes_over, with_list, with_room, would_overflow}
 use Rattle.gix_odb_events.specs.View.{last_generation, last_state}
-use Rattle.gix_odb_slots.specs.declared.listing.Listing.{Listing}
-use Rattle.gix_odb_slots.specs.declared.listing.ListingRow.{ListingRow}
+use Rattle.gix_odb_events.specs.declared.listing.Listing.{Listing}
+use Rattle.gix_odb_events.specs.declared.listing.ListingRow.{ListingRow}
 use Rattle.gix_odb_core.specs.Turn.{changes_to, publish_turn, quiet, stands}
 use Rattle.gix_odb_core.specs.declared.shape.Shape.{Shape}
 use Rattle.gix_odb_core.specs.declared.turn.Told.TheVariants as told

@@ -4,20 +4,21 @@ use Rattle.std.proofs.Common.{get_or, replicate, set, Option, Some, None, is_som
 use Rattle.std.specs.List.{AllPass, IsDistinct, filter_map}
 use Rattle.std.proofs.lemmas.List.Elements.{All-from_recursion, All-nil, recursion_from_All}
 use Rattle.gix_odb_core.specs.Handles.{is_any_stable}
-use Rattle.gix_odb_slots.specs.OnDiskFile.{is_loaded, loaded}
+use Rattle.gix_odb_events.specs.OnDiskFile.{is_loaded, loaded}
 use Rattle.gix_odb_core.specs.Possible.{IsOpened, IsPossible}
 use Rattle.gix_odb_slots.specs.Publish.{slot_at}
 use Rattle.gix_odb_core.specs.Replay.{CanHappen, after_entry, replay}
-use Rattle.gix_odb_slots.specs.Slots.{HasDifferentPaths, IsApart, Slot, new_filled, new_index, same_index, same_path}
+use Rattle.gix_odb_slots.specs.Slots.{IsApart, Slot, new_filled, new_index, same_index}
+use Rattle.gix_odb_events.specs.PackFiles.{same_path, HasDifferentPaths}
 use Rattle.gix_odb_core.specs.Steps.{IsShape, after, is_read, opening_shape, shape_published}
 use Rattle.gix_odb_slots.specs.Files.{slot_passed, slot_with_index, slot_with_pack}
 use Rattle.gix_odb_events.specs.declared.event.Event.{Event}
 use Rattle.gix_odb_events.specs.declared.event.Event.TheVariants as event
 use Rattle.gix_odb_core.specs.declared.journal.Entry.{Entry}
-use Rattle.gix_odb_slots.specs.declared.listing.Listing.{Listing}
-use Rattle.gix_odb_slots.specs.declared.listing.ListingRow.{ListingRow}
-use Rattle.gix_odb_slots.specs.declared.on_disk_file.FileState.{FileState}
-use Rattle.gix_odb_slots.specs.declared.on_disk_file.FileState.TheVariants.{Unloaded, Loaded, Garbage, Missing}
+use Rattle.gix_odb_events.specs.declared.listing.Listing.{Listing}
+use Rattle.gix_odb_events.specs.declared.listing.ListingRow.{ListingRow}
+use Rattle.gix_odb_events.specs.declared.on_disk_file.FileState.{FileState}
+use Rattle.gix_odb_events.specs.declared.on_disk_file.FileState.TheVariants.{Unloaded, Loaded, Garbage, Missing}
 use Rattle.gix_odb_core.specs.declared.shape.Shape.{Shape}
 use Rattle.gix_odb_slots.specs.declared.slot.Filled.{Filled}
 use Rattle.gix_odb_slots.specs.declared.slot.IndexFile.{IndexFile}

@@ -3,7 +3,7 @@ use Rattle.std.proofs.Common.{◌≡◌, ℕ, ◌<◌, true, List, length, Optio
 use Rattle.gix_pack_files.specs.FileBytes.{FileBytes}
 use Rattle.gix_odb_core.specs.Views.{view_of}
 use Rattle.gix_odb_events.specs.View.{IsShown}
-use Rattle.gix_odb_slots.specs.OnDiskFile.{loaded}
+use Rattle.gix_odb_events.specs.OnDiskFile.{loaded}
 use Rattle.gix_odb_core.specs.Origins.{IsIndexTold, IsLoadedTold, IsMultiOf, IsShownTold, IsTold}
 use Rattle.gix_odb_core.specs.Possible.{IsOpened}
 use Rattle.gix_odb_slots.specs.Publish.{slot_at}
@@ -11,14 +11,14 @@ use Rattle.gix_odb_core.specs.Replay.{IsLegal, replay}
 use Rattle.gix_odb_slots.specs.Slots.{index_path, is_index_of}
 use Rattle.gix_odb_slots.specs.Shown.{loaded_index, shown_slot}
 use Rattle.gix_odb_core.specs.declared.journal.Entry.{Entry}
-use Rattle.gix_odb_slots.specs.declared.listing.ListingRow.{ListingRow}
+use Rattle.gix_odb_events.specs.declared.listing.ListingRow.{ListingRow}
 use Rattle.gix_odb_core.specs.declared.shape.Shape.{Shape}
 use Rattle.gix_odb_slots.specs.declared.slot.Filled.{Filled}
 use Rattle.gix_odb_slots.specs.declared.slot.IndexFile.{IndexFile}
 use Rattle.gix_odb_slots.specs.declared.slot.IndexFile.TheVariants.{Single, Multi}
-use Rattle.gix_odb_slots.specs.declared.loaded.LoadedIndex.{LoadedIndex}
-use Rattle.gix_odb_slots.specs.declared.loaded.LoadedIndex.TheVariants as shown
-use Rattle.gix_odb_slots.specs.declared.loaded.SnapshotIndex.{SnapshotIndex}
+use Rattle.gix_odb_events.specs.declared.loaded.LoadedIndex.{LoadedIndex}
+use Rattle.gix_odb_events.specs.declared.loaded.LoadedIndex.TheVariants as shown
+use Rattle.gix_odb_events.specs.declared.loaded.SnapshotIndex.{SnapshotIndex}
 use Rattle.gix_odb_core.proofs.NumberLaws.{entries_lower_no_number}
 use Rattle.gix_odb_core.proofs.OriginLaws.{journal_tells_each_slot}
 use Rattle.gix_odb_core.proofs.ShownLemmas.{shown_from, shown_of_slot}

@@ -1,6 +1,6 @@
-pub use Rattle.gix_odb_slots.specs.PackId
-pub use Rattle.gix_odb_slots.specs.OnDiskFile
-pub use Rattle.gix_odb_slots.specs.PackPath
+pub use Rattle.gix_odb_events.specs.PackId
+pub use Rattle.gix_odb_events.specs.OnDiskFile
+pub use Rattle.gix_odb_events.specs.PackPath
 pub use Rattle.gix_odb_slots.specs.Slots
 pub use Rattle.gix_odb_slots.specs.Publish
 pub use Rattle.gix_odb_slots.specs.Files

@@ -5,11 +5,11 @@ use Rattle.odb_base.specs.Path.{Path}
 use Rattle.gix_odb_core.specs.Origins.{PassesOver}
 use Rattle.gix_odb_slots.specs.Publish.{slot_at}
 use Rattle.gix_odb_core.specs.Replay.{after_entry, replay}
-use Rattle.gix_odb_slots.specs.Slots.{PackFile}
+use Rattle.gix_odb_events.specs.PackFiles.{PackFile}
 use Rattle.gix_odb_events.specs.declared.event.Refusal.TheVariants as refusals
 use Rattle.gix_odb_core.specs.declared.journal.Entry.{Entry}
-use Rattle.gix_odb_slots.specs.declared.on_disk_file.FileState.{FileState}
-use Rattle.gix_odb_slots.specs.declared.on_disk_file.FileState.TheVariants.{Unloaded, Loaded, Garbage, Missing}
+use Rattle.gix_odb_events.specs.declared.on_disk_file.FileState.{FileState}
+use Rattle.gix_odb_events.specs.declared.on_disk_file.FileState.TheVariants.{Unloaded, Loaded, Garbage, Missing}
 use Rattle.gix_odb_core.specs.declared.shape.Shape.{Shape}
 use Rattle.gix_odb_slots.specs.declared.slot.Filled.{Filled}
 use Rattle.gix_odb_slots.specs.declared.slot.IndexFile.{IndexFile}

@@ -6,7 +6,7 @@ use Rattle.gix_odb_core.specs.Handles.{IsRegistered, registered}
 use Rattle.gix_odb_slots.specs.Counts.{listed_in, listed_of}
 use Rattle.gix_odb_core.specs.Metrics.{metrics_of}
 use Rattle.gix_odb_slots.specs.Publish.{slot_at}
-use Rattle.gix_odb_slots.specs.Slots.{HasDifferentPaths}
+use Rattle.gix_odb_events.specs.PackFiles.{HasDifferentPaths}
 use Rattle.gix_odb_core.specs.Steps.{Publishing, Outdated, TooFew, Overflows, Unchanged, Published, after, publishing}
 use Rattle.gix_odb_events.specs.View.{last_state}
 use Rattle.gix_odb_slots.specs.Files.{slot_with_index, slot_with_pack}

@@ -15,7 +15,7 @@ use Rattle.gix_odb_events.specs.declared.event.Event.{Event}
 use Rattle.gix_odb_events.specs.declared.event.Event.TheVariants as event
 use Rattle.gix_odb_events.specs.declared.event.Refusal.TheVariants as refusals
 use Rattle.gix_odb_core.specs.declared.journal.Entry.{Entry}
-use Rattle.gix_odb_slots.specs.declared.listing.ListingRow.{ListingRow}
+use Rattle.gix_odb_events.specs.declared.listing.ListingRow.{ListingRow}
 use Rattle.gix_odb_core.specs.declared.shape.Shape.{Shape}
 use Rattle.gix_odb_core.specs.declared.shape.Shelf.{Shelf}
 use Rattle.gix_odb_slots.specs.declared.slot.Filled.{Filled}

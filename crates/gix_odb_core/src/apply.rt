@@ -48,7 +48,7 @@ impl Core {
     ghost use Rattle.gix_odb_core.specs.State.{newest};
     ghost use Rattle.gix_odb_core.specs.Steps.{IsShape, after};
     ghost use Rattle.gix_odb_core.specs.Views.{view_of};
-    ghost use Rattle.gix_odb_slots.specs.PackId.{most_slots};
+    ghost use Rattle.gix_odb_events.specs.PackId.{most_slots};
 
     /// A core with so many empty slots, of a store with so many folders.
     pub fn new(alloc: Global, slots: u16, folders: usize) -> Result<Core, NoMemory>

@@ -25,13 +25,10 @@ mod turn;
 
 pub use apply::Core;
 pub use gix_odb_events::{
-    Effect, Event, Metrics, PassWhy, Passed, PassedList, Refusal, Report, SlotIndexMarker,
-    Snapshot, View,
-};
-pub use gix_odb_slots::{
-    FileState, IndexId, Listed, ListedList, Listing, ListingRow, ListingRowList, LoadedIndex,
-    LoadedList, OnDiskFile, PackFile, PackFileList, PackId, Shared, SnapshotIndex, Todo, TodoList,
-    pack_path, packs_beside,
+    Effect, Event, FileState, IndexId, Listed, ListedList, Listing, ListingRow, ListingRowList,
+    LoadedIndex, LoadedList, Metrics, OnDiskFile, PackFile, PackFileList, PackId, PassWhy, Passed,
+    PassedList, Refusal, Report, Shared, SlotIndexMarker, Snapshot, SnapshotIndex, Todo, TodoList,
+    View, pack_path, packs_beside,
 };
 pub use journal::{Entry, Journal};
 pub use shape::Shape;

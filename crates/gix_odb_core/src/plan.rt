@@ -2,7 +2,7 @@
 ghost use Rattle.std.specs.Prelude.{◌≡◌, ◌≤◌, IfOk, IfSome, length};
 ghost use Rattle.gix_odb_core.specs.State.{IsPlan, view_behind};
 ghost use Rattle.gix_odb_core.specs.Turn.{answer_with};
-ghost use Rattle.gix_odb_slots.specs.PackId.{most_slots};
+ghost use Rattle.gix_odb_events.specs.PackId.{most_slots};
 
 use crate::shape::Shelf;
 use crate::turn::{Told, Turn, answer};

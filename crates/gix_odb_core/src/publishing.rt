@@ -7,15 +7,15 @@ ghost use Rattle.gix_odb_core.specs.Handles.{is_any_stable as any_stable};
 ghost use Rattle.gix_odb_core.specs.Shelf.{shelf_of};
 ghost use Rattle.gix_odb_core.specs.Steps.{publishing, settled_as, with_list, with_room, would_overflow};
 ghost use Rattle.gix_odb_core.specs.Turn.{publish_turn, stands};
-ghost use Rattle.gix_odb_slots.specs.PackId.{most_slots};
+ghost use Rattle.gix_odb_events.specs.PackId.{most_slots};
 
 use crate::shape::{Shape, Shelf};
 use crate::turn::{Told, Turn};
-use gix_odb_events::Refusal;
+use gix_odb_events::{Listing, ListingRow, Refusal};
 use gix_odb_slots::publish::{
     count_new, free_places, is_any_unsettled, list_after, list_as_is, slots_after, takes_over,
 };
-use gix_odb_slots::{Listing, ListingRow, Matched, SlotList};
+use gix_odb_slots::{Matched, SlotList};
 use odb_base::{NoMemory, Sequence};
 use std::alloc::Global;
 

@@ -2,14 +2,14 @@
 ghost use Rattle.std.specs.Prelude.{◌≡◌, ◌≤◌, [], false, IfOk, length, replicate};
 ghost use Rattle.gix_odb_core.specs.Shelf.{settled_by, shelf_of, shown_of, with_shelf, without_handles};
 ghost use Rattle.gix_odb_slots.specs.Shown.{shown_indices, shown_kept, shown_todo};
-ghost use Rattle.gix_odb_slots.specs.PackId.{most_slots};
+ghost use Rattle.gix_odb_events.specs.PackId.{most_slots};
 
 use crate::Shared;
 use crate::handles::HandleTable;
-use gix_odb_events::{SlotIndexMarker, Snapshot, View};
+use gix_odb_events::{SlotIndexMarker, Snapshot, TodoList, View};
 use gix_odb_slots::shown::{shown_indices, shown_kept, shown_todo};
 use gix_odb_slots::slots::empty_slots;
-use gix_odb_slots::{Slot, SlotList, TodoList};
+use gix_odb_slots::{Slot, SlotList};
 use odb_base::{NoMemory, Sequence};
 use std::alloc::Global;
 

@@ -6,7 +6,7 @@ ghost use Rattle.gix_odb_core.specs.Replay.{CanHappen, IsNeverRefused, is_refres
 ghost use Rattle.gix_odb_core.specs.Steps.{opening_shape};
 ghost use Rattle.gix_odb_core.specs.State.{IsKept, IsNextState, IsPlan, IsRoomFor, IsSameState, entered, entries_for, entries_in, entry_of, noted, removed, settled_with};
 ghost use Rattle.gix_odb_core.specs.Turn.{turn_of};
-ghost use Rattle.gix_odb_slots.specs.PackId.{most_slots};
+ghost use Rattle.gix_odb_events.specs.PackId.{most_slots};
 
 use crate::Shared;
 use crate::journal::{Entry, Journal};

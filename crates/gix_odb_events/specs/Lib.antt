@@ -1,2 +1,6 @@
 pub mod View
 pub mod Answers
+pub mod PackId
+pub mod OnDiskFile
+pub mod PackPath
+pub mod PackFiles

@@ -6,7 +6,7 @@ ghost use Rattle.gix_odb_events.specs.declared.event.Refusal.TheVariants.{NoMemo
 
 use crate::metrics::Report;
 use crate::view::View;
-use gix_odb_slots::{Listing, PackId, Shared};
+use crate::{Listing, PackId, Shared};
 use gix_pack_files::{data, index};
 use odb_base::{NoMemory, PathText};
 use thiserror::Error;

@@ -2,7 +2,8 @@
 //!
 //! A handle brings events to a core, and each is answered by an effect or a refusal. Most effects hand over a view: the
 //! loaded files at that moment, and what is still to be loaded. A machine asks for one call of the disk or one such event
-//! at a time. Read `event` first, then `view` and `answer`; what a core makes of events stands in `gix_odb_core`.
+//! at a time. Read `event` first, then `view` and `answer`, and `listing`, `loaded` and `on_disk_file` for what they name;
+//! what a core makes of events stands in `gix_odb_core`.
 //! ```rust
 //! let ask = PartAsk::Core(Event::PassOver { slot, path, why: PassWhy::Absent });
 //! let answer = Answer::Core(core.apply(alloc, seat, event));
@@ -11,10 +12,26 @@
 
 mod answer;
 mod event;
+mod listed;
+mod listing;
+mod loaded;
 mod metrics;
+mod on_disk_file;
+mod pack_file;
+mod pack_id;
+mod pack_place;
+mod shared;
 mod view;
 
 pub use answer::{Answer, PartAsk};
 pub use event::{Effect, Event, PassWhy, Refusal};
+pub use listed::{Listed, ListedList};
+pub use listing::{Listing, ListingRow, ListingRowList};
+pub use loaded::{LoadedIndex, LoadedList, SnapshotIndex, Todo, TodoList};
 pub use metrics::{Metrics, Passed, PassedList, Report};
+pub use on_disk_file::{FileState, OnDiskFile};
+pub use pack_file::{PackFile, PackFileList, new_packs, packs_beside};
+pub use pack_id::{IndexId, PackId};
+pub use pack_place::pack_path;
+pub use shared::Shared;
 pub use view::{SlotIndexMarker, Snapshot, View};

@@ -1,7 +1,7 @@
 //! What is counted of a core, and what it reports.
 
 use crate::event::PassWhy;
-use gix_odb_slots::{ListedList, Shared};
+use crate::{ListedList, Shared};
 use odb_base::{PathText, Sequence};
 
 /// Counts over a core.

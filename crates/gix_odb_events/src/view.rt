@@ -2,7 +2,7 @@
 ghost use Rattle.std.specs.Prelude.{◌≡◌, IfOk};
 ghost use Rattle.gix_odb_events.specs.View.{view_at};
 
-use gix_odb_slots::{LoadedList, Shared, TodoList};
+use crate::{LoadedList, Shared, TodoList};
 use odb_base::NoMemory;
 
 /// Which state of a core a snapshot shows.

@@ -11,9 +11,9 @@ use Rattle.odb_asks.specs.declared.ask.DiskAsk.{DiskAsk}
 use Rattle.odb_nodes.specs.Tree.{Tree}
 use Rattle.odb_nodes.specs.declared.entry.Entry.{Entry}
 use Rattle.gix_hash.specs.declared.object_id.ObjectId.{ObjectId}
-use Rattle.gix_odb_slots.specs.Slots.{HasDifferentPaths, same_path}
-use Rattle.gix_odb_slots.specs.declared.listing.Listing.{Listing}
-use Rattle.gix_odb_slots.specs.declared.listing.ListingRow.{ListingRow}
+use Rattle.gix_odb_events.specs.PackFiles.{same_path, HasDifferentPaths}
+use Rattle.gix_odb_events.specs.declared.listing.Listing.{Listing}
+use Rattle.gix_odb_events.specs.declared.listing.ListingRow.{ListingRow}
 use Rattle.gix_odb_loose.specs.declared.call.LooseCall.{LooseCall}
 use Rattle.gix_odb_events.specs.declared.event.Event.TheVariants as events
 use Rattle.gix_odb_events.specs.declared.view.View.{View}

@@ -11,7 +11,7 @@ use Rattle.odb_base.specs.PathLaws.{parent_of-push}
 use Rattle.gix_hash.specs.ObjectId.{hex_of}
 use Rattle.gix_hash.specs.declared.object_id.ObjectId.{ObjectId}
 use Rattle.gix_odb_loose.specs.LooseFile.{loose_path}
-use Rattle.gix_odb_slots.specs.PackPath.{folder_of, name_of, pack_in, pack_name, pack_path, stem_of}
+use Rattle.gix_odb_events.specs.PackPath.{folder_of, name_of, pack_in, pack_name, pack_path, stem_of}
 use Rattle.gix_odb_packs.specs.PackFolder.{is_index_name, pack_folder}
 use Rattle.gix_odb_looks.proofs.HandedLaws.Differ.{push_same}
 use Rattle.gix_odb_looks.specs.LookUpOrder.{Setting}

@@ -9,8 +9,8 @@ use Rattle.gix_odb_loose.specs.declared.call.LooseReply.{LooseReply}
 use Rattle.gix_odb_events.specs.declared.event.Effect.{Effect}
 use Rattle.gix_odb_events.specs.declared.event.Effect.TheVariants as effects
 use Rattle.gix_odb_events.specs.declared.view.View.{View}
-use Rattle.gix_odb_slots.specs.declared.listing.Listing.{Listing}
-use Rattle.gix_odb_slots.specs.declared.loaded.Todo.{Todo}
+use Rattle.gix_odb_events.specs.declared.listing.Listing.{Listing}
+use Rattle.gix_odb_events.specs.declared.loaded.Todo.{Todo}
 use Rattle.gix_odb_packs.specs.TryOrder.{seek}
 use Rattle.gix_odb_events.specs.declared.answer.Answer.{Answer}
 use Rattle.gix_odb_events.specs.declared.answer.Answer.TheVariants as told

@@ -10,7 +10,7 @@ use Rattle.gix_object.specs.declared.kind.Kind as object
 use Rattle.gix_pack_files.specs.Pack.{Entry, entry_at}
 use Rattle.gix_odb_loose.specs.LooseFile.{loose_path}
 use Rattle.gix_odb_loose.specs.LooseOrder.Answered.{found_by}
-use Rattle.gix_odb_slots.specs.PackPath.{pack_path}
+use Rattle.gix_odb_events.specs.PackPath.{pack_path}
 use Rattle.gix_odb_events.specs.declared.answer.Answer.TheVariants as told
 use Rattle.gix_odb_events.specs.declared.answer.PartAsk.TheVariants as asks
 use Rattle.gix_odb_looks.specs.Exchange.{Exchange, WasTold}

@@ -20,9 +20,9 @@ use Rattle.gix_odb_loose.specs.LooseOrder.{disk_ask_of, stage_ask}
 use Rattle.gix_odb_loose.specs.declared.call.LooseCall.{LooseCall}
 use Rattle.gix_odb_loose.specs.declared.call.Stage as loose
 use Rattle.gix_odb_loose.specs.declared.call.Stage.TheVariants as loose_stages
-use Rattle.gix_odb_slots.specs.Slots.{HasDifferentPaths, same_path}
-use Rattle.gix_odb_slots.specs.declared.listing.Listing.{Listing as Handed}
-use Rattle.gix_odb_slots.specs.declared.listing.ListingRow.{ListingRow}
+use Rattle.gix_odb_events.specs.PackFiles.{same_path, HasDifferentPaths}
+use Rattle.gix_odb_events.specs.declared.listing.Listing.{Listing as Handed}
+use Rattle.gix_odb_events.specs.declared.listing.ListingRow.{ListingRow}
 use Rattle.gix_odb_core.specs.Replay.{CanHappen}
 use Rattle.gix_odb_events.specs.declared.event.Event.{Event}
 use Rattle.gix_odb_events.specs.declared.event.Event.TheVariants as events

@@ -11,7 +11,7 @@ use Rattle.gix_hash.specs.declared.object_id.ObjectId.{ObjectId}
 use Rattle.gix_pack_files.specs.Pack.{entry_at, header_at, is_pack}
 use Rattle.gix_pack_files.specs.declared.data.Error as pack
 use Rattle.gix_pack_files.specs.declared.data.Error.TheVariants as pack_errors
-use Rattle.gix_odb_slots.specs.PackPath.{pack_path}
+use Rattle.gix_odb_events.specs.PackPath.{pack_path}
 use Rattle.gix_odb_events.specs.declared.event.Effect.TheVariants as effects
 use Rattle.gix_odb_events.specs.declared.event.Event.{Event}
 use Rattle.gix_odb_events.specs.declared.event.Refusal.{Refusal}

@@ -10,11 +10,11 @@ use Rattle.odb_nodes.specs.declared.meta.Kind.TheVariants as kinds
 use Rattle.gix_hash.specs.declared.kind.Kind.{Kind}
 use Rattle.gix_hash.specs.declared.object_id.ObjectId.{ObjectId}
 use Rattle.gix_pack_files.specs.FileBytes.{FileBytes}
-use Rattle.gix_odb_slots.specs.PackPath.{pack_path}
-use Rattle.gix_odb_slots.specs.Slots.{PackFile}
-use Rattle.gix_odb_slots.specs.declared.listing.ListingRow.{ListingRow}
-use Rattle.gix_odb_slots.specs.declared.loaded.LoadedIndex.TheVariants.{Single}
-use Rattle.gix_odb_slots.specs.declared.loaded.SnapshotIndex.{SnapshotIndex}
+use Rattle.gix_odb_events.specs.PackPath.{pack_path}
+use Rattle.gix_odb_events.specs.PackFiles.{PackFile}
+use Rattle.gix_odb_events.specs.declared.listing.ListingRow.{ListingRow}
+use Rattle.gix_odb_events.specs.declared.loaded.LoadedIndex.TheVariants.{Single}
+use Rattle.gix_odb_events.specs.declared.loaded.SnapshotIndex.{SnapshotIndex}
 use Rattle.gix_odb_events.specs.Answers.{Refreshes}
 use Rattle.gix_odb_events.specs.View.{HasRow}
 use Rattle.gix_odb_events.specs.Answers as core

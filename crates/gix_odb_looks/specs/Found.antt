@@ -7,7 +7,7 @@ use Rattle.gix_pack_files.specs.Index.{index_rows, is_index}
 use Rattle.gix_pack_files.specs.Pack.{Entry, entry_at, header_at, is_pack}
 use Rattle.gix_pack_files.specs.declared.data.entry.Header as pack_header
 use Rattle.gix_pack_tables.specs.Rows.{Row}
-use Rattle.gix_odb_slots.specs.PackPath.{pack_path}
+use Rattle.gix_odb_events.specs.PackPath.{pack_path}
 use Rattle.gix_odb_calls.specs.declared.call.Reply.{Reply}
 use Rattle.gix_odb_calls.specs.declared.call.Reply.TheVariants as replies
 use Rattle.gix_odb_calls.specs.declared.find.Header.TheVariants as headers

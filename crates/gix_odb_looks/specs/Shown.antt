@@ -5,13 +5,13 @@ use Rattle.gix_hash.specs.declared.kind.Kind.{Kind}
 use Rattle.gix_pack_files.specs.FileBytes.{FileBytes}
 use Rattle.gix_pack_files.specs.Index.{is_index}
 use Rattle.gix_pack_files.specs.Pack.{is_pack}
-use Rattle.gix_odb_slots.specs.OnDiskFile.{loaded}
-use Rattle.gix_odb_slots.specs.PackPath.{pack_path}
-use Rattle.gix_odb_slots.specs.Slots.{PackFile}
-use Rattle.gix_odb_slots.specs.declared.listing.ListingRow.{ListingRow}
-use Rattle.gix_odb_slots.specs.declared.loaded.LoadedIndex.TheVariants.{Single}
-use Rattle.gix_odb_slots.specs.declared.loaded.SnapshotIndex.{SnapshotIndex}
-use Rattle.gix_odb_slots.specs.declared.loaded.Todo.{Todo}
+use Rattle.gix_odb_events.specs.OnDiskFile.{loaded}
+use Rattle.gix_odb_events.specs.PackPath.{pack_path}
+use Rattle.gix_odb_events.specs.PackFiles.{PackFile}
+use Rattle.gix_odb_events.specs.declared.listing.ListingRow.{ListingRow}
+use Rattle.gix_odb_events.specs.declared.loaded.LoadedIndex.TheVariants.{Single}
+use Rattle.gix_odb_events.specs.declared.loaded.SnapshotIndex.{SnapshotIndex}
+use Rattle.gix_odb_events.specs.declared.loaded.Todo.{Todo}
 use Rattle.gix_odb_events.specs.declared.event.Event.{Event}
 use Rattle.gix_odb_events.specs.declared.event.Event.TheVariants as events
 use Rattle.gix_odb_events.specs.declared.view.View.{View}

@@ -11,10 +11,9 @@ mod parts;
 
 use gix_hash::ObjectId;
 use gix_odb_calls::{Query, Reply, StoreParts};
-use gix_odb_events::{Answer, Event, PartAsk, Refusal, View};
+use gix_odb_events::{Answer, Event, Listing, PartAsk, Refusal, View};
 use gix_odb_loose::LooseCall;
 use gix_odb_packs::{Lister, Notes, Trier};
-use gix_odb_slots::Listing;
 use odb_base::{NoMemory, PathText};
 use std::alloc::Global;
 

@@ -6,7 +6,7 @@ use Rattle.odb_asks.specs.declared.ask.DiskAnswer.TheVariants as disk_answers
 use Rattle.odb_nodes.specs.declared.disk_error.DiskError.TheVariants as disk_errors
 use Rattle.gix_hash.specs.ObjectId.{kind_of}
 use Rattle.gix_pack_files.specs.Pack.{is_pack}
-use Rattle.gix_odb_slots.specs.declared.loaded.Todo.{Todo}
+use Rattle.gix_odb_events.specs.declared.loaded.Todo.{Todo}
 use Rattle.gix_odb_events.specs.declared.event.Effect.{Effect}
 use Rattle.gix_odb_packs.specs.Goal.{given_by}
 use Rattle.gix_odb_packs.specs.Search.{rest_behind, search, with_absent}

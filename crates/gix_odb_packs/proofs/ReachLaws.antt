@@ -7,11 +7,11 @@ use Rattle.odb_base.specs.Path.{Path}
 use Rattle.gix_hash.specs.declared.kind.Kind.{Kind}
 use Rattle.gix_hash.specs.declared.object_id.ObjectId.{ObjectId}
 use Rattle.gix_pack_files.specs.FileBytes.{FileBytes}
-use Rattle.gix_odb_slots.specs.PackPath.{pack_path}
-use Rattle.gix_odb_slots.specs.Slots.{same_path}
-use Rattle.gix_odb_slots.proofs.SlotLemmas.{same_path-true}
-use Rattle.gix_odb_slots.specs.declared.loaded.SnapshotIndex.{SnapshotIndex}
-use Rattle.gix_odb_slots.specs.declared.loaded.Todo.{Todo}
+use Rattle.gix_odb_events.specs.PackPath.{pack_path}
+use Rattle.gix_odb_events.specs.PackFiles.{same_path}
+use Rattle.gix_odb_events.proofs.SamePathLaws.{same_path-true}
+use Rattle.gix_odb_events.specs.declared.loaded.SnapshotIndex.{SnapshotIndex}
+use Rattle.gix_odb_events.specs.declared.loaded.Todo.{Todo}
 use Rattle.gix_odb_events.specs.Answers.{view_in}
 use Rattle.gix_odb_events.specs.declared.event.Effect.{Effect}
 use Rattle.gix_odb_events.specs.declared.view.View.{View}

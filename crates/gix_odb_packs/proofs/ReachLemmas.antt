@@ -16,11 +16,11 @@ use Rattle.gix_hash.specs.declared.object_id.ObjectId.{ObjectId}
 use Rattle.gix_pack_files.specs.FileBytes.{FileBytes}
 use Rattle.gix_pack_files.specs.Index.{index_rows}
 use Rattle.gix_pack_tables.specs.Rows.{Row}
-use Rattle.gix_odb_slots.specs.OnDiskFile.{loaded}
-use Rattle.gix_odb_slots.specs.Slots.{PackFile, same_path}
-use Rattle.gix_odb_slots.proofs.SlotLemmas.{same_path-true}
-use Rattle.gix_odb_slots.specs.declared.loaded.LoadedIndex.TheVariants.{Single}
-use Rattle.gix_odb_slots.specs.declared.loaded.SnapshotIndex.{SnapshotIndex}
+use Rattle.gix_odb_events.specs.OnDiskFile.{loaded}
+use Rattle.gix_odb_events.specs.PackFiles.{PackFile, same_path}
+use Rattle.gix_odb_events.proofs.SamePathLaws.{same_path-true}
+use Rattle.gix_odb_events.specs.declared.loaded.LoadedIndex.TheVariants.{Single}
+use Rattle.gix_odb_events.specs.declared.loaded.SnapshotIndex.{SnapshotIndex}
 use Rattle.gix_odb_packs.specs.Goal.{given_by}
 use Rattle.gix_odb_packs.specs.Search.{at_spot, given_or_not, in_file, in_packs, place_in, tried, was_absent, with_absent}
 use Rattle.gix_odb_packs.specs.Spot.{in_single, spot_in}

@@ -2,7 +2,7 @@
 use Rattle.std.proofs.Common.{Bool, true, false, cond, List, [], ◌∷◌, All, None}
 use Rattle.std.proofs.lemmas.List.Elements.{All-head, All-tail}
 use Rattle.odb_base.specs.Path.{Path}
-use Rattle.gix_odb_slots.specs.declared.loaded.SnapshotIndex.{SnapshotIndex}
+use Rattle.gix_odb_events.specs.declared.loaded.SnapshotIndex.{SnapshotIndex}
 use Rattle.gix_odb_packs.specs.Search.{first_of, in_file, left_by, place_in, rest_behind, search, tried, was_absent}
 use Rattle.gix_odb_packs.specs.TryOrder.{at, at_search, at_todo}
 use Rattle.gix_odb_packs.specs.declared.goal.Error.{Error}

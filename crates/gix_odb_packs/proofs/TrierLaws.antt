@@ -14,10 +14,10 @@ use Rattle.gix_pack_files.specs.declared.data.Error as pack
 use Rattle.gix_pack_files.specs.declared.data.entry.Header as pack_header
 use Rattle.gix_odb_events.specs.declared.event.Effect.{Effect}
 use Rattle.gix_odb_events.specs.declared.event.Refusal.{Refusal}
-use Rattle.gix_odb_slots.specs.OnDiskFile.{loaded}
-use Rattle.gix_odb_slots.specs.Slots.{PackFile}
-use Rattle.gix_odb_slots.specs.declared.loaded.SnapshotIndex.{SnapshotIndex}
-use Rattle.gix_odb_slots.specs.declared.loaded.Todo.{Todo}
+use Rattle.gix_odb_events.specs.OnDiskFile.{loaded}
+use Rattle.gix_odb_events.specs.PackFiles.{PackFile}
+use Rattle.gix_odb_events.specs.declared.loaded.SnapshotIndex.{SnapshotIndex}
+use Rattle.gix_odb_events.specs.declared.loaded.Todo.{Todo}
 use Rattle.gix_odb_packs.specs.Goal.{given_by, header_in, object_in}
 use Rattle.gix_odb_packs.specs.Search.{at_spot, first_of, given_or_not, in_file, in_packs, place_in, rest_behind, search, tried, was_absent, with_absent}
 use Rattle.gix_odb_packs.specs.Spot.{spot_in}

@@ -1,6 +1,6 @@
 -- The order in which the rows of a listing are tried: the longest file first, and files of one length in the order in which they were found.
 use Rattle.std.specs.Prelude.{List, [], ◌∷◌, nat_lt, if◌then◌else◌}
-use Rattle.gix_odb_slots.specs.declared.listing.ListingRow.{ListingRow}
+use Rattle.gix_odb_events.specs.declared.listing.ListingRow.{ListingRow}
 
 -- a row stands before the first one that is shorter
 abbrev pub put_row : ListingRow → List ListingRow → List ListingRow

@@ -3,11 +3,11 @@ use Rattle.std.specs.Prelude.{ℕ, ◌++◌, ◌==◌, ◌&&◌, Bool, List, [],
 use Rattle.std.specs.List.{list_any}
 use Rattle.odb_base.specs.Path.{Path}
 use Rattle.gix_pack_files.specs.FileBytes.{FileBytes}
-use Rattle.gix_odb_slots.specs.OnDiskFile.{loaded}
-use Rattle.gix_odb_slots.specs.Slots.{PackFile, same_path}
-use Rattle.gix_odb_slots.specs.declared.loaded.LoadedIndex.{LoadedIndex}
-use Rattle.gix_odb_slots.specs.declared.loaded.LoadedIndex.TheVariants.{Single, Multi}
-use Rattle.gix_odb_slots.specs.declared.loaded.SnapshotIndex.{SnapshotIndex}
+use Rattle.gix_odb_events.specs.OnDiskFile.{loaded}
+use Rattle.gix_odb_events.specs.PackFiles.{PackFile, same_path}
+use Rattle.gix_odb_events.specs.declared.loaded.LoadedIndex.{LoadedIndex}
+use Rattle.gix_odb_events.specs.declared.loaded.LoadedIndex.TheVariants.{Single, Multi}
+use Rattle.gix_odb_events.specs.declared.loaded.SnapshotIndex.{SnapshotIndex}
 use Rattle.gix_odb_packs.specs.Goal.{given_by}
 use Rattle.gix_odb_packs.specs.Spot.{spot_in}
 use Rattle.gix_odb_packs.specs.declared.goal.Error.{Error}

@@ -8,8 +8,8 @@ use Rattle.gix_multi_index.specs.MultiIndex.{told}
 use Rattle.gix_pack_files.specs.FileBytes.{FileBytes}
 use Rattle.gix_pack_files.specs.Index.{index_rows}
 use Rattle.gix_pack_tables.specs.Rows.{PackRow, Row}
-use Rattle.gix_odb_slots.specs.declared.loaded.LoadedIndex.{LoadedIndex}
-use Rattle.gix_odb_slots.specs.declared.loaded.LoadedIndex.TheVariants.{Single, Multi}
+use Rattle.gix_odb_events.specs.declared.loaded.LoadedIndex.{LoadedIndex}
+use Rattle.gix_odb_events.specs.declared.loaded.LoadedIndex.TheVariants.{Single, Multi}
 use Rattle.gix_odb_packs.specs.declared.spot.Spot.{Spot}
 
 -- an index has one pack

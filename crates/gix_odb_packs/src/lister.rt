@@ -5,7 +5,7 @@ ghost use Rattle.gix_odb_packs.specs.ListOrder as order;
 
 use crate::folders::{PathList, index_paths, pack_folder};
 use crate::rest::Rest;
-use gix_odb_slots::{ListingRow, ListingRowList, Shared, pack_path};
+use gix_odb_events::{ListingRow, ListingRowList, Shared, pack_path};
 use odb_asks::{DirId, DiskAnswer, DiskAsk};
 use odb_base::{NoMemory, PathText, Sequence};
 use odb_nodes::{DiskError, Entry, Kind};

@@ -2,7 +2,7 @@
 ghost use Rattle.std.specs.Prelude.{◌≡◌, IfOk};
 ghost use Rattle.gix_odb_packs.specs.LongestFirst.{longest_first};
 
-use gix_odb_slots::ListingRowList;
+use gix_odb_events::ListingRowList;
 use odb_base::{NoMemory, Sequence};
 
 /// The rows of a listing, the longest files first; those of one length stay in their order.

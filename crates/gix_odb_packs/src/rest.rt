@@ -3,7 +3,7 @@ ghost use Rattle.std.specs.Prelude.{◌≡◌, drop};
 ghost use Rattle.std.specs.Option.{option_copied};
 ghost use Rattle.gix_odb_packs.specs.Rest.{first_of};
 
-use gix_odb_slots::Shared;
+use gix_odb_events::Shared;
 use odb_base::Sequence;
 use std::marker::Model;
 

@@ -5,7 +5,7 @@ ghost use Rattle.gix_odb_packs.specs.Search.{given_or_not, in_pack, place_in, re
 use crate::goal::{Error, Found, Goal, Wanted};
 use crate::rest::Rest;
 use crate::spot::{Spot, spot_in};
-use gix_odb_slots::{LoadedIndex, PackFile, SnapshotIndex};
+use gix_odb_events::{LoadedIndex, PackFile, SnapshotIndex};
 use odb_base::{NoMemory, PathText, Sequence};
 use std::alloc::Global;
 

@@ -4,7 +4,7 @@ ghost use Rattle.gix_odb_packs.specs.Spot.{in_multi, in_single, spot_in};
 
 use gix_hash::ObjectId;
 use gix_multi_index as multi_index;
-use gix_odb_slots::LoadedIndex;
+use gix_odb_events::LoadedIndex;
 use gix_pack_files::index;
 
 /// Where an index says that an object stands: the place of its pack among the packs of the index, and the offset there.

@@ -9,8 +9,9 @@ mod stored;
 use crate::goal::{Error, Found, Goal};
 use crate::rest::Rest;
 use crate::search::{Notes, Sought, WantedPack};
-use gix_odb_events::{Answer, Effect, Event, PartAsk, PassWhy, Refusal};
-use gix_odb_slots::{PackId, Shared, SnapshotIndex, Todo};
+use gix_odb_events::{
+    Answer, Effect, Event, PackId, PartAsk, PassWhy, Refusal, Shared, SnapshotIndex, Todo,
+};
 use gix_pack_files::{data, index};
 use odb_asks::{DiskAnswer, DiskAsk};
 use odb_base::{NoMemory, PathText};

@@ -13,8 +13,8 @@ use Rattle.odb_asks.specs.declared.ask.DiskAsk.{DiskAsk}
 use Rattle.odb_asks.specs.declared.ask.DiskAsk.TheVariants as disk_asks
 use Rattle.odb_nodes.specs.Tree.{Tree}
 use Rattle.gix_hash.specs.declared.kind.Kind.{Kind as HashKind}
-use Rattle.gix_odb_slots.specs.Slots.{same_path}
-use Rattle.gix_odb_slots.specs.declared.listing.Listing.{Listing}
+use Rattle.gix_odb_events.specs.PackFiles.{same_path}
+use Rattle.gix_odb_events.specs.declared.listing.Listing.{Listing}
 use Rattle.gix_odb_core.specs.Replay.{CanHappen}
 use Rattle.gix_odb_events.specs.declared.event.Event.{Event}
 use Rattle.gix_odb_events.specs.declared.event.Event.TheVariants as events

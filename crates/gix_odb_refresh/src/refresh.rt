@@ -8,11 +8,10 @@ ghost use Rattle.gix_odb_refresh.specs.RefreshOrder.{ask_of, opened_in, started}
 ghost use Rattle.gix_odb_refresh.specs.RefreshOrder as order;
 
 use gix_odb_calls::{StoreParts, load_index};
-use gix_odb_events::{Answer, Effect, Event, PartAsk, Refusal, View};
+use gix_odb_events::{Answer, Effect, Event, Listing, PartAsk, Refusal, View};
 use gix_odb_looks::of_refusal;
 use gix_odb_packs::longest_first::longest_first;
 use gix_odb_packs::{ListStep, Lister};
-use gix_odb_slots::Listing;
 use odb_asks::DiskAnswer;
 use odb_base::{NoMemory, PathText};
 use std::alloc::Global;

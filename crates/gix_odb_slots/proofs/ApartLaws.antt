@@ -3,14 +3,15 @@ use Rattle.std.proofs.Common.{◌≡◌, ℕ, ◌<◌, Bool, true, false, List, 
 use Rattle.std.specs.List.{list_any}
 use Rattle.std.proofs.lemmas.Bool.{not-true}
 use Rattle.gix_odb_slots.specs.Publish.{free_places, is_new, new_rows, settled, slot_at, slots_after, taken}
-use Rattle.gix_odb_slots.specs.Slots.{HasDifferentPaths, IsApart, Slot, holds, new_filled, same_path}
-use Rattle.gix_odb_slots.specs.declared.listing.ListingRow.{ListingRow}
+use Rattle.gix_odb_slots.specs.Slots.{IsApart, Slot, holds, new_filled}
+use Rattle.gix_odb_events.specs.PackFiles.{same_path, HasDifferentPaths}
+use Rattle.gix_odb_events.specs.declared.listing.ListingRow.{ListingRow}
 use Rattle.gix_odb_slots.specs.declared.slot.Filled.{Filled}
 use Rattle.gix_odb_slots.proofs.ApartLemmas.{apart_at, apart_from}
 use Rattle.gix_odb_slots.proofs.DistinctLemmas.{IsDistinct-filter, IsDistinct-map, IsDistinct-seconds}
 use Rattle.gix_odb_slots.proofs.PublishLaws.{any_from_place}
 use Rattle.gix_odb_slots.proofs.SameIndexLemmas.{same_filled, same_filled-settled, same_filled_flip, same_index-new, same_index-rows}
-use Rattle.gix_odb_slots.proofs.SlotLemmas.{same_path_flip}
+use Rattle.gix_odb_events.proofs.SamePathLaws.{same_path_flip}
 use Rattle.gix_odb_slots.proofs.SlotsAfterLemmas.{after_cases, taken_new}
 use Rattle.gix_odb_slots.proofs.TakenLemmas.{taker, taker_apart}
 

@@ -21,7 +21,5 @@ mod PositionLemmas
 pub mod FilterMapLemmas
 mod LoopLemmas
 mod MarkLemmas
-mod PackIdLemmas
-mod PackPathLemmas
 mod CountsLemmas
 mod SmallLemmas

@@ -10,7 +10,7 @@ use Rattle.std.proofs.lemmas.List.Folds.{list_any_at, list_any_more}
 use Rattle.std.proofs.lemmas.List.Quantifiers.{position-Some}
 use Rattle.gix_odb_slots.specs.Publish.{is_new, new_rows, slot_at}
 use Rattle.gix_odb_slots.specs.Slots.{Slot, holds}
-use Rattle.gix_odb_slots.specs.declared.listing.ListingRow.{ListingRow}
+use Rattle.gix_odb_events.specs.declared.listing.ListingRow.{ListingRow}
 use Rattle.gix_odb_slots.proofs.SlotsAfterLemmas.{slot_at-get_or}
 
 -- ---- a slot by its place

@@ -5,12 +5,13 @@ use Rattle.std.proofs.lemmas.List.{set-get_or}
 use Rattle.odb_base.specs.Path.{Path}
 use Rattle.gix_odb_slots.proofs.SlotsAfterLemmas.{slot_at-get_or}
 use Rattle.gix_odb_slots.specs.Files.{index_passed, index_turns_missing, passed_at, slot_passed, slot_turns_missing, turns_missing}
-use Rattle.gix_odb_slots.specs.OnDiskFile.{is_unloaded, passed, with_state}
+use Rattle.gix_odb_events.specs.OnDiskFile.{is_unloaded, passed, with_state}
 use Rattle.gix_odb_slots.specs.Publish.{slot_at}
-use Rattle.gix_odb_slots.specs.Slots.{PackFile, Slot, same_path}
-use Rattle.gix_odb_slots.specs.declared.on_disk_file.FileState.{FileState}
-use Rattle.gix_odb_slots.specs.declared.on_disk_file.FileState.TheVariants.{Unloaded, Loaded, Garbage, Missing}
-use Rattle.gix_odb_slots.specs.declared.on_disk_file.OnDiskFile.{OnDiskFile}
+use Rattle.gix_odb_slots.specs.Slots.{Slot}
+use Rattle.gix_odb_events.specs.PackFiles.{PackFile, same_path}
+use Rattle.gix_odb_events.specs.declared.on_disk_file.FileState.{FileState}
+use Rattle.gix_odb_events.specs.declared.on_disk_file.FileState.TheVariants.{Unloaded, Loaded, Garbage, Missing}
+use Rattle.gix_odb_events.specs.declared.on_disk_file.OnDiskFile.{OnDiskFile}
 use Rattle.gix_odb_slots.specs.declared.slot.IndexFile.{IndexFile}
 use Rattle.gix_odb_slots.specs.declared.slot.IndexFile.TheVariants.{Single, Multi}
 

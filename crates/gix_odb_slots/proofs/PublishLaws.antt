@@ -8,13 +8,15 @@ use Rattle.std.proofs.lemmas.List.Folds.{Any-from_list_any, list_any_at}
 use Rattle.std.proofs.lemmas.List.Quantifiers.{position-Some}
 use Rattle.odb_base.specs.Path.{Path}
 use Rattle.gix_odb_slots.specs.Publish.{free_places, is_kept, is_new, list_after, new_rows, settled, slot_at, slots_after, taken}
-use Rattle.gix_odb_slots.specs.Slots.{HasDifferentPaths, Slot, filled_put_back, holds, index_path, new_filled, same_path}
-use Rattle.gix_odb_slots.specs.declared.listing.ListingRow.{ListingRow}
+use Rattle.gix_odb_slots.specs.Slots.{Slot, filled_put_back, holds, index_path, new_filled}
+use Rattle.gix_odb_events.specs.PackFiles.{same_path, HasDifferentPaths}
+use Rattle.gix_odb_events.specs.declared.listing.ListingRow.{ListingRow}
 use Rattle.gix_odb_slots.specs.declared.slot.Filled.{Filled}
 use Rattle.gix_odb_slots.proofs.DistinctLemmas.{IsDistinct-map, each_that_passes}
 use Rattle.gix_odb_slots.proofs.FilterMapLemmas.{any-filter_map, IsDistinct-filter_map, get_or-filter_map, length-filter_map}
 use Rattle.gix_odb_slots.proofs.PositionLemmas.{position-from_any}
-use Rattle.gix_odb_slots.proofs.SlotLemmas.{holds-new, holds-put_back, holds_path, same_path-self}
+use Rattle.gix_odb_slots.proofs.SlotLemmas.{holds-new, holds-put_back, holds_path}
+use Rattle.gix_odb_events.proofs.SamePathLaws.{same_path-self}
 use Rattle.gix_odb_slots.proofs.SlotsAfterLemmas.{IsDistinct-free, filled_within, kept_after, seated, slot_at-get_or, slots_after-at, taken_within}
 use Rattle.gix_odb_slots.proofs.TakenLemmas.{each_taken, taker}
 

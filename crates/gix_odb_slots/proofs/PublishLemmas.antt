@@ -7,7 +7,7 @@ use Rattle.std.proofs.lemmas.List.{drop_all, drop_more, take_more}
 use Rattle.std.proofs.lemmas.List.Elements.{All-append, All-cons, All-drop, All-nil, filter-append, filter_map-append}
 use Rattle.gix_odb_slots.specs.Publish.{is_free, is_new, new_rows, slot_at, with_taken}
 use Rattle.gix_odb_slots.specs.Slots.{Slot, new_filled}
-use Rattle.gix_odb_slots.specs.declared.listing.ListingRow.{ListingRow}
+use Rattle.gix_odb_events.specs.declared.listing.ListingRow.{ListingRow}
 use Rattle.gix_odb_slots.specs.declared.slot.Filled.{Filled}
 
 -- one number more

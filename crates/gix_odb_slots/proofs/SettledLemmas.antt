@@ -2,7 +2,7 @@
 use Rattle.std.proofs.Common.{◌≡◌, Bool, true, false, List, cond, Some, None, ◌⊎◌, inl, inr, refl, sym, ap, ◌∙◌}
 use Rattle.gix_odb_slots.specs.Publish.{is_kept, settled}
 use Rattle.gix_odb_slots.specs.Slots.{filled_put_back, filled_trashed, holds}
-use Rattle.gix_odb_slots.specs.declared.listing.ListingRow.{ListingRow}
+use Rattle.gix_odb_events.specs.declared.listing.ListingRow.{ListingRow}
 use Rattle.gix_odb_slots.specs.declared.slot.Filled.{Filled}
 use Rattle.gix_odb_slots.proofs.SlotLemmas.{holds-put_back, holds-trashed}
 

@@ -1,29 +1,13 @@
 -- What settling leaves of a slot, and of which row a slot is.
-use Rattle.std.proofs.Common.{◌≡◌, ℕ, Bool, true, false, List, Option, Some, None, refl, sym, ◌∙◌, eq-eqb}
-use Rattle.std.specs.Cmp.Lexicographic.{bytes_decides}
+use Rattle.std.proofs.Common.{◌≡◌, ℕ, true, List, Option, Some, None, refl, eq-eqb}
 use Rattle.std.proofs.lemmas.Bool.{and_parts, and_from}
 use lib.Pointwise.{pointwise_decides}
-use Rattle.odb_base.specs.Path.{Path}
-use Rattle.gix_odb_slots.specs.Slots.{filled_put_back, filled_trashed, holds, index_path, index_put_back, index_trashed, is_index_of, new_filled, new_index, same_path}
-use Rattle.gix_odb_slots.specs.declared.listing.ListingRow.{ListingRow}
+use Rattle.gix_odb_events.proofs.SamePathLaws.{same_path-true, same_path-self}
+use Rattle.gix_odb_slots.specs.Slots.{filled_put_back, filled_trashed, holds, index_path, index_put_back, index_trashed, is_index_of, new_filled, new_index}
+use Rattle.gix_odb_events.specs.declared.listing.ListingRow.{ListingRow}
 use Rattle.gix_odb_slots.specs.declared.slot.Filled.{Filled}
 use Rattle.gix_odb_slots.specs.declared.slot.IndexFile.{IndexFile}
 use Rattle.gix_odb_slots.specs.declared.slot.IndexFile.TheVariants.{Single, Multi}
-
--- ---- paths
-
-pub same_path-true : (one other : Path) → same_path one other ≡ true → one ≡ other
-same_path-true one other is = (pointwise_decides bytes_decides one other).0 is
-
-pub same_path-self : (path : Path) → same_path path path ≡ true
-same_path-self path = (pointwise_decides bytes_decides path path).1 refl
-
-pub same_path_flip : (one other : Path) → same_path one other ≡ false → same_path other one ≡ false
-same_path_flip one other is = by (same_path other one) refl
-  where
-    by : (b : Bool) → same_path other one ≡ b → b ≡ false
-    by true found = let here : one ≡ other = sym (same_path-true other one found) in let no : true ≡ false = sym ((pointwise_decides bytes_decides one other).1 here) ∙ is in absurd cc
-    by false differ = refl
 
 -- ---- which row a slot holds
 

@@ -1,13 +1,14 @@
 -- A listing that finds no work at a slot and has no new row leaves the slots.
 use Rattle.std.proofs.Common.{◌≡◌, ℕ, Bool, true, false, cond, ◌||◌, not, List, [], ◌∷◌, length, map, Some, None, refl, ap, ◌∙◌}
 use Rattle.std.specs.List.{list_any, zip}
-use Rattle.gix_odb_slots.specs.OnDiskFile.{is_disposable, put_back, with_state}
+use Rattle.gix_odb_events.specs.OnDiskFile.{is_disposable, put_back, with_state}
 use Rattle.gix_odb_slots.specs.Publish.{free_places, is_kept, is_unsettled, new_rows, settled, slots_after, taken, with_taken}
-use Rattle.gix_odb_slots.specs.Slots.{PackFile, Slot, filled_put_back, has_disposable, index_put_back, is_index_disposable}
-use Rattle.gix_odb_slots.specs.declared.listing.ListingRow.{ListingRow}
-use Rattle.gix_odb_slots.specs.declared.on_disk_file.FileState.{FileState}
-use Rattle.gix_odb_slots.specs.declared.on_disk_file.FileState.TheVariants.{Unloaded, Loaded, Garbage, Missing}
-use Rattle.gix_odb_slots.specs.declared.on_disk_file.OnDiskFile.{OnDiskFile}
+use Rattle.gix_odb_slots.specs.Slots.{Slot, filled_put_back, has_disposable, index_put_back, is_index_disposable}
+use Rattle.gix_odb_events.specs.PackFiles.{PackFile}
+use Rattle.gix_odb_events.specs.declared.listing.ListingRow.{ListingRow}
+use Rattle.gix_odb_events.specs.declared.on_disk_file.FileState.{FileState}
+use Rattle.gix_odb_events.specs.declared.on_disk_file.FileState.TheVariants.{Unloaded, Loaded, Garbage, Missing}
+use Rattle.gix_odb_events.specs.declared.on_disk_file.OnDiskFile.{OnDiskFile}
 use Rattle.gix_odb_slots.specs.declared.slot.Filled.{Filled}
 use Rattle.gix_odb_slots.specs.declared.slot.IndexFile.{IndexFile}
 use Rattle.gix_odb_slots.specs.declared.slot.IndexFile.TheVariants.{Single, Multi}

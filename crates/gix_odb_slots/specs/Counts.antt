@@ -1,10 +1,11 @@
 -- What is counted of slots, and what is reported of those that are listed.
 use Rattle.std.specs.Prelude.{Bool, ℕ, true, false, List, count_by, Option, Some, None, if◌then◌else◌}
 use Rattle.std.specs.List.{filter_map}
-use Rattle.gix_odb_slots.specs.OnDiskFile.{is_loaded}
+use Rattle.gix_odb_events.specs.OnDiskFile.{is_loaded}
 use Rattle.gix_odb_slots.specs.Publish.{slot_at}
-use Rattle.gix_odb_slots.specs.Slots.{PackFile, Slot, has_disposable, index_path}
-use Rattle.gix_odb_slots.specs.declared.report.Listed.{Listed}
+use Rattle.gix_odb_slots.specs.Slots.{Slot, has_disposable, index_path}
+use Rattle.gix_odb_events.specs.PackFiles.{PackFile}
+use Rattle.gix_odb_events.specs.declared.listed.Listed.{Listed}
 use Rattle.gix_odb_slots.specs.declared.slot.Filled.{Filled}
 use Rattle.gix_odb_slots.specs.declared.slot.IndexFile.{IndexFile}
 use Rattle.gix_odb_slots.specs.declared.slot.IndexFile.TheVariants.{Single, Multi}

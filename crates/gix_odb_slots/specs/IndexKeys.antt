@@ -6,7 +6,7 @@ use Rattle.std.specs.declared.cmp.Ordering.{Ordering}
 use Rattle.odb_base.specs.Path.{Path, path_cmp}
 use Rattle.gix_odb_slots.specs.Slots.{Slot, index_path}
 use Rattle.gix_odb_slots.specs.declared.index_key.IndexKey.{IndexKey}
-use Rattle.gix_odb_slots.specs.declared.listing.ListingRow.{ListingRow}
+use Rattle.gix_odb_events.specs.declared.listing.ListingRow.{ListingRow}
 use Rattle.gix_odb_slots.specs.declared.slot.IndexFile.{IndexFile}
 use Rattle.gix_odb_slots.specs.declared.slot.IndexFile.TheVariants.{Single, Multi}
 

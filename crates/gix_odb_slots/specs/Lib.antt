@@ -1,6 +1,7 @@
-pub mod PackId
-pub mod OnDiskFile
-pub mod PackPath
+pub use Rattle.gix_odb_events.specs.PackId
+pub use Rattle.gix_odb_events.specs.OnDiskFile
+pub use Rattle.gix_odb_events.specs.PackPath
+pub use Rattle.gix_odb_events.specs.PackFiles
 pub mod Slots
 pub mod Publish
 pub mod IndexKeys

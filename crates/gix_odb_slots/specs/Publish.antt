@@ -3,7 +3,7 @@ use Rattle.std.specs.Prelude.{ℕ, ◌+◌, ◌-◌, Bool, true, false, ◌&&◌
 use Rattle.std.specs.List.{list_any, filter_map, position, range_with_len, zip}
 use lib.Pointwise.{pointwise}
 use Rattle.gix_odb_slots.specs.Slots.{Slot, has_disposable, holds, new_filled, filled_put_back, filled_trashed}
-use Rattle.gix_odb_slots.specs.declared.listing.ListingRow.{ListingRow}
+use Rattle.gix_odb_events.specs.declared.listing.ListingRow.{ListingRow}
 
 -- ---- rows and slots
 

@@ -1,13 +1,13 @@
 -- What is shown of slots: the loaded files of the listed ones, those of the others, and what is still to be loaded.
 use Rattle.std.specs.Prelude.{ℕ, Bool, false, List, get_or, Option, Some, None, option_map, if◌then◌else◌, nat_eq}
 use Rattle.std.specs.List.{filter_map, list_any, enumerate_from}
-use Rattle.gix_odb_slots.specs.OnDiskFile.{loaded}
+use Rattle.gix_odb_events.specs.OnDiskFile.{loaded}
 use Rattle.gix_odb_slots.specs.Publish.{slot_at}
 use Rattle.gix_odb_slots.specs.Slots.{Slot, index_path}
-use Rattle.gix_odb_slots.specs.declared.loaded.LoadedIndex.{LoadedIndex}
-use Rattle.gix_odb_slots.specs.declared.loaded.LoadedIndex.TheVariants as shown
-use Rattle.gix_odb_slots.specs.declared.loaded.SnapshotIndex.{SnapshotIndex}
-use Rattle.gix_odb_slots.specs.declared.loaded.Todo.{Todo}
+use Rattle.gix_odb_events.specs.declared.loaded.LoadedIndex.{LoadedIndex}
+use Rattle.gix_odb_events.specs.declared.loaded.LoadedIndex.TheVariants as shown
+use Rattle.gix_odb_events.specs.declared.loaded.SnapshotIndex.{SnapshotIndex}
+use Rattle.gix_odb_events.specs.declared.loaded.Todo.{Todo}
 use Rattle.gix_odb_slots.specs.declared.slot.Filled.{Filled}
 use Rattle.gix_odb_slots.specs.declared.slot.IndexFile.{IndexFile}
 use Rattle.gix_odb_slots.specs.declared.slot.IndexFile.TheVariants as index

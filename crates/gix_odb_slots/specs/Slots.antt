@@ -1,15 +1,13 @@
 -- Slots: what each holds, and of which row of a listing it is.
-use Rattle.std.specs.Prelude.{◌≡◌, ℕ, Bool, false, ◌&&◌, ◌||◌, ◌==◌, List, [], ◌∷◌, map, Option, Some, None}
+use Rattle.std.specs.Prelude.{◌≡◌, ℕ, Bool, false, ◌&&◌, ◌||◌, ◌==◌, List, map, Option, Some, None}
 use Rattle.std.specs.List.{AllZip, IsDistinct, filter_map, list_any}
 use lib.Pointwise.{pointwise}
-use Rattle.odb_base.specs.Path.{Path, same_name}
-use Rattle.gix_multi_index.specs.MultiIndex.{told}
-use Rattle.gix_pack_files.specs.FileBytes.{FileBytes}
-use Rattle.gix_odb_slots.specs.OnDiskFile.{file_at, is_disposable, loaded, put_back, trashed, with_state}
-use Rattle.gix_odb_slots.specs.PackPath.{folder_of, name_of, pack_in}
-use Rattle.gix_odb_slots.specs.declared.listing.ListingRow.{ListingRow}
-use Rattle.gix_odb_slots.specs.declared.on_disk_file.FileState.TheVariants.{Unloaded, Loaded}
-use Rattle.gix_odb_slots.specs.declared.on_disk_file.OnDiskFile.{OnDiskFile}
+use Rattle.odb_base.specs.Path.{Path}
+use Rattle.gix_odb_events.specs.PackFiles.{same_path, new_packs}
+use Rattle.gix_odb_events.specs.OnDiskFile.{file_at, is_disposable, loaded, put_back, trashed, with_state}
+use Rattle.gix_odb_events.specs.declared.listing.ListingRow.{ListingRow}
+use Rattle.gix_odb_events.specs.declared.on_disk_file.FileState.TheVariants.{Unloaded, Loaded}
+use Rattle.gix_odb_events.specs.declared.on_disk_file.OnDiskFile.{OnDiskFile}
 use Rattle.gix_odb_slots.specs.declared.slot.Filled.{Filled}
 use Rattle.gix_odb_slots.specs.declared.slot.IndexFile.{IndexFile}
 use Rattle.gix_odb_slots.specs.declared.slot.IndexFile.TheVariants.{Single, Multi}
@@ -18,22 +16,11 @@ use Rattle.gix_odb_slots.specs.declared.slot.IndexFile.TheVariants.{Single, Mult
 abbrev pub Slot : Type 0
 Slot = Option Filled
 
--- a pack of a slot; contracts see a pack as its bytes and hash
-abbrev pub PackFile : Type 0
-PackFile = OnDiskFile FileBytes
-
 -- ---- of which row a slot is
 
 abbrev pub index_path : IndexFile → Path
 index_path (Single file) = file.path
 index_path (Multi file) = file.path
-
-abbrev pub same_path : Path → Path → Bool
-same_path = pointwise same_name
-
--- no two rows have one path
-abbrev pub HasDifferentPaths : List ListingRow → Type 0
-HasDifferentPaths rows = IsDistinct same_path (map (λ row. row.path) rows)
 
 -- whether an index is a row's: it has its path and is of its kind, single or multi, and a multi-index has its time
 abbrev pub is_index_of : ListingRow → Option (List ℕ) → IndexFile → ℕ → Bool
@@ -52,14 +39,6 @@ holds row (Some filled) = is_index_of row row.multi filled.index filled.time
 abbrev pub new_index : Path → Option (List ℕ) → IndexFile
 new_index path None = Single (file_at path Unloaded)
 new_index path (Some multi) = Multi (file_at path (Loaded multi))
-
-abbrev pub new_pack : Path → List ℕ → PackFile
-new_pack folder name = file_at (pack_in folder name) Unloaded
-
--- one pack beside a single index, and one for each name of a multi-index
-abbrev pub new_packs : Path → Option (List ℕ) → List PackFile
-new_packs path None = new_pack (folder_of path) (name_of path) ∷ []
-new_packs path (Some multi) = map (new_pack (folder_of path)) (told multi).names
 
 abbrev pub new_filled : ListingRow → Filled
 new_filled row = record { index = new_index row.path row.multi; time = row.time; packs = new_packs row.path row.multi }

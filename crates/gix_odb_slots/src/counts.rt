@@ -2,13 +2,14 @@
 ghost use Rattle.std.specs.Prelude.{◌≡◌, ◌≤◌, All, is_none, length, count_by};
 ghost use Rattle.std.specs.List.{list_any};
 ghost use Rattle.gix_odb_slots.specs.Counts.{disposable_in, disposable_slot, is_index_loaded, is_multi, listed_in, loaded_packs};
-ghost use Rattle.gix_odb_slots.specs.OnDiskFile.{is_disposable};
+ghost use Rattle.gix_odb_events.specs.OnDiskFile.{is_disposable};
 ghost use Rattle.gix_odb_slots.specs.Publish.{slot_at};
 ghost use Rattle.gix_odb_slots.specs.Slots.{has_disposable, is_index_disposable};
 ghost use Rattle.gix_odb_slots.specs.Tally.{HasFewPacks, IsSmall, tally_of, with_filled, with_slot};
-ghost use Rattle.gix_odb_slots.specs.PackId.{most_slots};
+ghost use Rattle.gix_odb_events.specs.PackId.{most_slots};
 
-use crate::slot::{Filled, IndexFile, PackFile, Slot};
+use crate::slot::{Filled, IndexFile, Slot};
+use gix_odb_events::PackFile;
 
 /// Counts over filled slots.
 #[derive(Clone, Copy)]

@@ -7,8 +7,8 @@ ghost use Rattle.gix_odb_slots.specs.IndexKeys.{index_time, key_cmp, row_has, ro
 ghost use Rattle.gix_odb_slots.specs.Publish.{is_kept};
 ghost use Rattle.gix_odb_slots.specs.Slots.{holds, index_path};
 
-use crate::listing::ListingRow;
 use crate::slot::{Filled, IndexFile, Slot};
+use gix_odb_events::ListingRow;
 use odb_base::{NoMemory, PathText};
 use std::alloc::Global;
 use std::collections::{BTreeMap, BTreeSet};

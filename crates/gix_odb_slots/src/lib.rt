@@ -12,27 +12,19 @@
 
 pub mod counts;
 mod index_key;
-mod listing;
-mod loaded;
 mod matched;
-mod on_disk_file;
-mod pack_id;
-mod pack_place;
 pub mod pass;
 pub mod publish;
 pub mod put;
 pub mod report;
-mod shared;
 pub mod shown;
 mod slot;
 pub mod slots;
 
-pub use listing::{Listing, ListingRow, ListingRowList};
-pub use loaded::{LoadedIndex, LoadedList, SnapshotIndex, Todo, TodoList};
+pub use gix_odb_events::{
+    FileState, IndexId, Listed, ListedList, Listing, ListingRow, ListingRowList, LoadedIndex,
+    LoadedList, OnDiskFile, PackFile, PackFileList, PackId, Shared, SnapshotIndex, Todo, TodoList,
+    new_packs, pack_path, packs_beside,
+};
 pub use matched::Matched;
-pub use on_disk_file::{FileState, OnDiskFile};
-pub use pack_id::{IndexId, PackId};
-pub use pack_place::pack_path;
-pub use report::{Listed, ListedList};
-pub use shared::Shared;
-pub use slot::{Filled, IndexFile, PackFile, PackFileList, Slot, SlotList, packs_beside};
+pub use slot::{Filled, IndexFile, Slot, SlotList};

@@ -5,8 +5,8 @@ ghost use Rattle.gix_odb_slots.specs.Publish.{is_kept, is_new, slot_at};
 ghost use Rattle.gix_odb_slots.specs.Slots.{holds};
 
 use crate::index_key::{kept_slots, places_of_rows};
-use crate::listing::ListingRow;
 use crate::slot::Slot;
+use gix_odb_events::ListingRow;
 use odb_base::NoMemory;
 use std::alloc::Global;
 

@@ -1,13 +1,13 @@
 //! Files that were passed over: they are missing where none was loaded.
 ghost use Rattle.std.specs.Prelude.{◌≡◌, IfOk, map};
 ghost use Rattle.std.specs.List.{list_any};
-ghost use Rattle.gix_odb_slots.specs.OnDiskFile.{file_path, file_state, file_at, passed};
+ghost use Rattle.gix_odb_events.specs.OnDiskFile.{file_path, file_state, file_at, passed};
 ghost use Rattle.gix_odb_slots.specs.Publish.{slot_at};
 ghost use Rattle.gix_odb_slots.specs.Files.{index_passed, index_turns_missing, passed_at, slot_passed, slot_turns_missing, turns_missing};
 
-use crate::on_disk_file::FileState;
-use crate::slot::{Filled, IndexFile, PackFile, PackFileList, Slot};
+use crate::slot::{Filled, IndexFile, Slot};
 use crate::{OnDiskFile, Shared};
+use gix_odb_events::{FileState, PackFile, PackFileList};
 use odb_base::{NoMemory, PathText};
 use std::alloc::Global;
 

@@ -7,12 +7,12 @@ ghost use Rattle.std.specs.Option.{ForSome, option_to_list};
 ghost use Rattle.std.specs.List.{filter_map, list_any, range_with_len, zip};
 ghost use Rattle.gix_odb_slots.specs.Tally.{HasFewPacks};
 ghost use Rattle.gix_odb_slots.specs.Publish.{free_places, is_free, is_unsettled, list_after, new_rows, place_after, settled, slot_at, slots_after, taken, with_taken};
-ghost use Rattle.gix_odb_slots.specs.PackId.{most_slots};
+ghost use Rattle.gix_odb_events.specs.PackId.{most_slots};
 
 use crate::index_key::places_of_rows;
-use crate::listing::ListingRow;
 use crate::slot::{Filled, Slot, SlotList};
 use crate::{Matched, Shared};
+use gix_odb_events::ListingRow;
 use odb_base::{NoMemory, Sequence};
 use std::alloc::Global;
 

@@ -4,9 +4,9 @@ ghost use Rattle.std.specs.List.{list_any};
 ghost use Rattle.gix_odb_slots.specs.Publish.{slot_at};
 ghost use Rattle.gix_odb_slots.specs.Files.{index_with, slot_with_index, slot_with_pack, stored_at, takes};
 
-use crate::on_disk_file::FileState;
-use crate::slot::{Filled, IndexFile, PackFile, PackFileList, Slot};
+use crate::slot::{Filled, IndexFile, Slot};
 use crate::{OnDiskFile, Shared};
+use gix_odb_events::{FileState, PackFile, PackFileList};
 use gix_pack_files::{data, index};
 use odb_base::{NoMemory, PathText};
 use std::alloc::Global;

@@ -7,23 +7,9 @@ ghost use Rattle.gix_odb_slots.specs.Publish.{slot_at};
 use crate::Shared;
 use crate::shown::put;
 use crate::slot::{Filled, Slot};
-use odb_base::{NoMemory, PathText, Sequence};
+use gix_odb_events::{Listed, ListedList};
+use odb_base::{NoMemory, Sequence};
 use std::alloc::Global;
-
-/// A listed slot.
-#[derive(Drop)]
-pub struct Listed {
-    pub path: Shared<PathText>,
-    /// Whether it is a multi-pack index.
-    pub multi: bool,
-    /// Whether the index is loaded.
-    pub loaded: bool,
-    /// Whether one of its files is garbage or missing.
-    pub disposable: bool,
-}
-
-/// Listed slots, in the order of the list. A report that is handed over and its entry in the journal share them.
-pub type ListedList = Shared<Sequence<Listed>>;
 
 impl Filled {
     /// What a report says of it as a listed slot.

@@ -3,10 +3,10 @@ ghost use Rattle.std.specs.Prelude.{◌≡◌, ◌≤◌, ◌<◌, ◌++◌, ◌
 ghost use Rattle.std.specs.Option.{option_to_list};
 ghost use Rattle.gix_odb_slots.specs.Publish.{slot_at};
 ghost use Rattle.gix_odb_slots.specs.Shown.{is_listed, kept_unmarked, loaded_index, shown_indices, shown_kept, shown_slot, shown_todo, unloaded_slot};
-ghost use Rattle.gix_odb_slots.specs.PackId.{most_slots};
+ghost use Rattle.gix_odb_events.specs.PackId.{most_slots};
 
-use crate::loaded::{LoadedIndex, LoadedList, SnapshotIndex, Todo, TodoList};
 use crate::slot::{Filled, IndexFile, Slot};
+use gix_odb_events::{LoadedIndex, LoadedList, SnapshotIndex, Todo, TodoList};
 use odb_base::{NoMemory, Sequence};
 use std::alloc::Global;
 

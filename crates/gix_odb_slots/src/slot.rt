@@ -1,24 +1,16 @@
 //! Slots: the index that each holds, with its packs.
-ghost use Rattle.std.specs.Prelude.{◌≡◌, ◌≤◌, IfOk, length, map, [], ◌∷◌};
-ghost use Rattle.gix_multi_index.specs.MultiIndex.{told};
-ghost use Rattle.gix_odb_slots.specs.OnDiskFile.{put_back, trashed, with_state};
-ghost use Rattle.gix_odb_slots.specs.Slots.{filled_put_back, filled_trashed, index_path, index_put_back, index_trashed, new_filled, new_index, new_pack, new_packs};
+ghost use Rattle.std.specs.Prelude.{◌≡◌, IfOk, map};
+ghost use Rattle.gix_odb_events.specs.OnDiskFile.{put_back, trashed, with_state};
+ghost use Rattle.gix_odb_slots.specs.Slots.{filled_put_back, filled_trashed, index_path, index_put_back, index_trashed, new_filled, new_index};
+ghost use Rattle.gix_odb_events.specs.PackFiles.{new_packs};
 ghost use Rattle.gix_odb_slots.specs.Tally.{IsFewPacks};
 
-use crate::listing::ListingRow;
-use crate::on_disk_file::FileState;
-use crate::pack_place::{folder_of, name_of, pack_in};
 use crate::{OnDiskFile, Shared};
 use gix_multi_index as multi_index;
-use gix_pack_files::{data, index};
+use gix_odb_events::{FileState, ListingRow, PackFileList, new_packs};
+use gix_pack_files::index;
 use odb_base::{NoMemory, PathText, Sequence};
 use std::alloc::Global;
-
-/// A pack of a slot.
-pub type PackFile = OnDiskFile<Shared<data::File>>;
-
-/// The packs of an index: those that a multi-pack index names, in the order of the names. Another index has one.
-pub type PackFileList = Sequence<PackFile>;
 
 /// The index of a slot.
 #[derive(Drop)]
@@ -150,61 +142,6 @@ fn new_index(
             FileState::Loaded(file.try_clone()?),
         ))),
     }
-}
-
-/// A pack that is still to be read.
-fn new_pack(alloc: Global, folder: &PathText, name: &str) -> Result<PackFile, NoMemory>
-    ensures pack { IfOk result (λ pack. pack ≡ new_pack folder.now name.now) }
-{
-    let path = Shared::new(alloc, pack_in(alloc, folder, name)?)?;
-    Ok(OnDiskFile::new(path, FileState::Unloaded))
-}
-
-/// The packs of a new row.
-fn new_packs(
-    alloc: Global,
-    path: &PathText,
-    multi: &Option<Shared<multi_index::File>>,
-) -> Result<PackFileList, NoMemory>
-    ensures packs { IfOk result (λ packs. packs ≡ new_packs path.now multi.now) }
-    ensures few { IfOk result (λ packs. length packs ≤ 4294967296) }
-{
-    let folder = folder_of(alloc, path)?;
-    match multi {
-        None => only_pack(alloc, &folder, name_of(path)),
-        Some(file) => named_packs(alloc, &folder, file.value()),
-    }
-}
-
-/// The packs of an index that was not listed: the one beside it, which is still to be read.
-pub fn packs_beside(alloc: Global, path: &PathText) -> Result<Shared<PackFileList>, NoMemory>
-    ensures packs { IfOk result (λ packs. packs ≡ new_packs path.now None) }
-{
-    Ok(Shared::new(alloc, new_packs(alloc, path, &None)?)?)
-}
-
-fn only_pack(alloc: Global, folder: &PathText, name: &str) -> Result<PackFileList, NoMemory>
-    ensures pack { IfOk result (λ packs. packs ≡ new_pack folder.now name.now ∷ []) }
-{
-    let mut packs = PackFileList::new(alloc);
-    packs.push(new_pack(alloc, folder, name)?)?;
-    Ok(packs)
-}
-
-fn named_packs(
-    alloc: Global,
-    folder: &PathText,
-    file: &multi_index::File,
-) -> Result<PackFileList, NoMemory>
-    ensures packs { IfOk result (λ packs. packs ≡ map (new_pack folder.now) (told file.now).names) }
-    ensures few { IfOk result (λ packs. length packs ≤ 4294967296) }
-{
-    // The header tells the number of packs by 32 bits: so there are no more.
-    let mut packs = Vec::with_capacity(alloc, file.num_indices() as usize)?;
-    for name in file.index_names() {
-        packs.push(new_pack(alloc, folder, name.as_str())?)?;
-    }
-    Ok(Sequence::from_vec(packs))
 }
 
 fn packs_put_back(alloc: Global, packs: &PackFileList) -> Result<PackFileList, NoMemory>

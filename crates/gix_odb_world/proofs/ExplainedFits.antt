@@ -11,7 +11,7 @@ use Rattle.gix_odb.specs.declared.handle_state.HandleState.{HandleState}
 use Rattle.gix_odb.specs.declared.open_state.OpenState.TheVariants as opens
 use Rattle.gix_odb.proofs.OpenLaws.{openings_register_few_slots}
 use Rattle.gix_odb_calls.specs.declared.step.Step.TheVariants as steps
-use Rattle.gix_odb_slots.specs.PackId.{most_slots}
+use Rattle.gix_odb_events.specs.PackId.{most_slots}
 use Rattle.gix_odb_world.specs.declared.course.Course.{Course}
 use Rattle.gix_odb_world.specs.declared.work.Work.{Work}
 use Rattle.gix_odb_world.specs.declared.work.Work.TheVariants.{Opening, Calling}

@@ -13,7 +13,7 @@ use Rattle.gix_odb_events.specs.declared.event.Event.TheVariants as core_events
 use Rattle.gix_odb_core.specs.declared.shape.Shape.{Shape}
 use Rattle.gix_odb_events.specs.declared.answer.PartAsk.{PartAsk}
 use Rattle.gix_odb_events.specs.declared.answer.PartAsk.TheVariants as asks
-use Rattle.gix_odb_slots.specs.Slots.{same_path}
+use Rattle.gix_odb_events.specs.PackFiles.{same_path}
 use Rattle.gix_odb.specs.declared.handle_state.HandleState.{HandleState}
 use Rattle.gix_odb_world.specs.declared.course.Course.{Course}
 use Rattle.gix_odb_world.specs.declared.handle.Handle.{Handle}

@@ -23,7 +23,7 @@ use Rattle.gix_odb_calls.specs.declared.query.Query.{Query}
 use Rattle.gix_odb_calls.specs.declared.query.Query.TheVariants.{Find, Header, Test}
 use Rattle.gix_odb_calls.specs.declared.verdict.Verdict.{Verdict}
 use Rattle.gix_odb_calls.specs.declared.verdict.Verdict.TheVariants as verdicts
-use Rattle.gix_odb_slots.specs.PackPath.{pack_path}
+use Rattle.gix_odb_events.specs.PackPath.{pack_path}
 use Rattle.gix_pack_files.specs.Pack.{entry_at, header_at, is_pack}
 use Rattle.gix_odb_looks.specs.Caused.{IsCaused}
 use Rattle.gix_odb_looks.specs.Exchange.{AreAsked, Exchange, HasVerdict}

@@ -8,7 +8,7 @@ use Rattle.odb_asks.specs.declared.ask.DiskAnswer.{DiskAnswer}
 use Rattle.gix_odb.specs.CallOrder.{HasSize, IsOfHash, result_of_write}
 use Rattle.gix_odb.specs.Contents.{folder_list, replacement_in}
 use Rattle.gix_odb_calls.specs.declared.call.Call.{Call}
-use Rattle.gix_odb_slots.specs.Slots.{same_path}
+use Rattle.gix_odb_events.specs.PackFiles.{same_path}
 use Rattle.gix_hash.specs.ObjectId.{kind_of}
 use Rattle.gix_hash.specs.declared.object_id.ObjectId.{ObjectId}
 use Rattle.std.specs.List.{IsDistinct}

@@ -15,8 +15,8 @@ use Rattle.gix_hash.specs.ObjectId.{id_cmp, kind_of}
 use Rattle.gix_hash.specs.declared.kind.Kind.{Kind as HashKind}
 use Rattle.gix_hash.specs.declared.kind.Kind.TheVariants.{Sha1, Sha256}
 use Rattle.gix_hash.specs.declared.object_id.ObjectId.{ObjectId}
-use Rattle.gix_odb_slots.specs.Slots.{same_path}
-use Rattle.gix_odb_slots.proofs.SlotLemmas.{same_path-true}
+use Rattle.gix_odb_events.specs.PackFiles.{same_path}
+use Rattle.gix_odb_events.proofs.SamePathLaws.{same_path-true}
 use Rattle.gix_odb_calls.specs.Hashes.{is_id_of, is_pair_of, is_same_hash}
 use Rattle.gix_odb.specs.Contents.{StoreData, folder_list, replacement_in}
 use Rattle.gix_odb_world.specs.AtWork.{Modes, Store}

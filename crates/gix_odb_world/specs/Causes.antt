@@ -23,7 +23,7 @@ use Rattle.gix_odb.specs.OpenExchanges.{IsNumber}
 use Rattle.gix_odb_looks.specs.Exchange.{Exchange}
 use Rattle.gix_odb_calls.specs.Verdict.{job_of}
 use Rattle.gix_odb_world.specs.AtWork.{Store, setting_in}
-use Rattle.gix_odb_slots.specs.PackId.{most_slots}
+use Rattle.gix_odb_events.specs.PackId.{most_slots}
 
 abbrev pub IsDirectoryMeta : Result Meta Refusal → Type 0
 IsDirectoryMeta (Ok meta) = meta.kind ≡ kinds.Dir

@@ -29,7 +29,7 @@ use Rattle.gix_odb_shown.specs.Kept.{Fits, Kept}
 use Rattle.gix_odb_shown.specs.declared.revealed.Revealed.{Revealed}
 use Rattle.gix_odb_world.specs.Cores.{answer_behind, cores_after_asked, history_at, or_before}
 use Rattle.gix_odb_world.specs.Event.{Asked, CoreAnswer, CoreEvent, OfCore, OfDisk, OfNewCore, OfNothing, answered}
-use Rattle.gix_odb_slots.specs.PackId.{most_slots}
+use Rattle.gix_odb_events.specs.PackId.{most_slots}
 use Rattle.gix_odb_events.specs.declared.view.View.{View}
 use Rattle.gix_odb_world.specs.Made.{MakesCore}
 use Rattle.gix_odb_world.specs.Recorded.{opened_in}

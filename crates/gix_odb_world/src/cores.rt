@@ -5,7 +5,7 @@ ghost use Rattle.gix_odb_core.specs.History.{History, present};
 ghost use Rattle.gix_odb_core.specs.Journal.{entries_of};
 ghost use Rattle.gix_odb_core.specs.Replay.{CanHappen, number_behind};
 ghost use Rattle.gix_odb_events.specs.Answers.{view_in};
-ghost use Rattle.gix_odb_slots.specs.PackId.{most_slots};
+ghost use Rattle.gix_odb_events.specs.PackId.{most_slots};
 ghost use Rattle.gix_odb_world.specs.Cores.{answer_behind, cores_after_asked, entered, history_at, registered_at};
 ghost use Rattle.gix_odb_world.specs.Event.{OfCore};
 ghost use Rattle.gix_odb_world.specs.Headline.{IsJournal};

@@ -1,8 +1,8 @@
 -- Two rows at most that have different paths.
 use Rattle.std.proofs.Common.{◌≡◌, ◌<◌, ◌≤◌, Bool, true, false, not, List, [], ◌∷◌, length, slice_index_or, refl, arith}
 use Rattle.std.specs.List.{IsDistinct}
-use Rattle.gix_odb_slots.specs.Slots.{HasDifferentPaths, same_path}
-use Rattle.gix_odb_slots.specs.declared.listing.ListingRow.{ListingRow}
+use Rattle.gix_odb_events.specs.PackFiles.{same_path, HasDifferentPaths}
+use Rattle.gix_odb_events.specs.declared.listing.ListingRow.{ListingRow}
 
 -- no row, or one
 pub HasDifferentPaths-few : (rows : List ListingRow) → length rows < 2 → HasDifferentPaths rows

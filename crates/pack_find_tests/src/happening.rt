@@ -2,7 +2,7 @@
 ghost use Rattle.std.specs.Prelude.{◌≡◌, true};
 ghost use Rattle.gix_odb_core.specs.History.{present};
 ghost use Rattle.gix_odb_core.specs.Replay.{CanHappen};
-ghost use Rattle.gix_odb_slots.specs.Slots.{HasDifferentPaths};
+ghost use Rattle.gix_odb_events.specs.PackFiles.{HasDifferentPaths};
 
 use gix_odb_core::{Core, Effect, Event, ListingRow, Refusal};
 use std::alloc::Global;

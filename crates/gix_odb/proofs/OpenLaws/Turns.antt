@@ -8,7 +8,7 @@ use Rattle.odb_asks.specs.declared.ask.DiskAsk.TheVariants as disk_asks
 use Rattle.odb_nodes.specs.declared.disk_error.DiskError.TheVariants as disk_errors
 use Rattle.odb_nodes.specs.declared.meta.Kind.{Kind}
 use Rattle.odb_nodes.specs.declared.meta.Kind.TheVariants as kinds
-use Rattle.gix_odb_slots.specs.PackId.{most_slots}
+use Rattle.gix_odb_events.specs.PackId.{most_slots}
 use Rattle.gix_odb_packs.specs.ListOrder as lists
 use Rattle.gix_odb_events.specs.declared.answer.Answer.{Answer}
 use Rattle.gix_odb_events.specs.declared.answer.Answer.TheVariants as told

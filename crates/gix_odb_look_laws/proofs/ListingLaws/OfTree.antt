@@ -14,8 +14,8 @@ use Rattle.odb_nodes.specs.declared.entry.Entry.{Entry}
 use Rattle.odb_nodes.specs.declared.meta.Kind.{Kind}
 use Rattle.odb_nodes.specs.declared.meta.Kind.TheVariants as kinds
 use Rattle.odb_nodes.specs.declared.meta.Meta.{Meta}
-use Rattle.gix_odb_slots.specs.PackPath.{pack_path}
-use Rattle.gix_odb_slots.specs.declared.listing.ListingRow.{ListingRow}
+use Rattle.gix_odb_events.specs.PackPath.{pack_path}
+use Rattle.gix_odb_events.specs.declared.listing.ListingRow.{ListingRow}
 use Rattle.gix_odb_packs.specs.ListOrder.{ask_at, at_paths, behind_folder, by_index, by_kind, by_pack, by_pack_kind, fed_at, opened, read, row_of, started}
 use Rattle.gix_odb_packs.specs.ListOrder.{with_row}
 use Rattle.gix_odb_packs.specs.PackFolder.{index_paths, is_file, is_index_entry, is_index_name, pack_folder}

@@ -12,7 +12,7 @@ use Rattle.odb_nodes.specs.declared.meta.Kind.{Kind}
 use Rattle.odb_nodes.specs.declared.meta.Kind.TheVariants as kinds
 use Rattle.odb_nodes.specs.declared.meta.Meta.{Meta}
 use Rattle.gix_hash.specs.declared.object_id.ObjectId.{ObjectId}
-use Rattle.gix_odb_slots.specs.declared.listing.ListingRow.{ListingRow}
+use Rattle.gix_odb_events.specs.declared.listing.ListingRow.{ListingRow}
 use Rattle.gix_odb_loose.specs.LooseOrder.{disk_ask_of, reply_of}
 use Rattle.gix_odb_loose.specs.declared.call.LooseReply.{LooseReply}
 use Rattle.gix_odb_packs.specs.ListOrder.{at_paths, behind_folder, by_index, by_kind, by_pack, by_pack_kind, fed, fed_at, opened, read, with_row}

@@ -10,7 +10,7 @@ use Rattle.odb_nodes.specs.declared.entry.Entry.{Entry}
 use Rattle.odb_nodes.specs.declared.meta.Kind.{Kind as NodeKind}
 use Rattle.odb_nodes.specs.declared.meta.Kind.TheVariants as kinds
 use Rattle.odb_nodes.specs.declared.meta.Meta.{Meta}
-use Rattle.gix_odb_slots.specs.declared.listing.ListingRow.{ListingRow}
+use Rattle.gix_odb_events.specs.declared.listing.ListingRow.{ListingRow}
 use Rattle.gix_odb_packs.specs.ListOrder.{ask_at, ask_of, at_paths, behind_folder, by_index, by_kind, by_pack}
 use Rattle.gix_odb_packs.specs.ListOrder.{by_pack_kind, fed, fed_at, opened, read, with_row}
 use Rattle.gix_odb_packs.specs.PackFolder.{index_paths}

@@ -15,11 +15,11 @@ use Rattle.gix_pack_files.specs.declared.data.Error as pack_data
 use Rattle.gix_pack_files.specs.declared.data.Error.TheVariants as data_errors
 use Rattle.gix_pack_files.specs.declared.data.entry.Header as pack_header
 use Rattle.gix_pack_tables.specs.Rows.{Row}
-use Rattle.gix_odb_slots.specs.OnDiskFile.{loaded}
-use Rattle.gix_odb_slots.specs.PackPath.{pack_path}
-use Rattle.gix_odb_slots.specs.Slots.{PackFile}
-use Rattle.gix_odb_slots.specs.declared.loaded.LoadedIndex.{LoadedIndex}
-use Rattle.gix_odb_slots.specs.declared.loaded.SnapshotIndex.{SnapshotIndex}
+use Rattle.gix_odb_events.specs.OnDiskFile.{loaded}
+use Rattle.gix_odb_events.specs.PackPath.{pack_path}
+use Rattle.gix_odb_events.specs.PackFiles.{PackFile}
+use Rattle.gix_odb_events.specs.declared.loaded.LoadedIndex.{LoadedIndex}
+use Rattle.gix_odb_events.specs.declared.loaded.SnapshotIndex.{SnapshotIndex}
 use Rattle.gix_odb_packs.specs.Goal.{error_of, given_by, header_in, object_in}
 use Rattle.gix_odb_packs.specs.Search.{at_spot, given_or_not, in_file, in_packs, tried}
 use Rattle.gix_odb_packs.specs.Spot.{spot_in}

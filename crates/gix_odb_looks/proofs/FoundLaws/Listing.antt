@@ -10,7 +10,7 @@ use Rattle.odb_nodes.specs.declared.meta.Kind.TheVariants as kinds
 use Rattle.odb_nodes.specs.declared.meta.Meta.{Meta}
 use Rattle.odb_asks.specs.declared.ask.DiskAnswer.{DiskAnswer}
 use Rattle.odb_asks.specs.declared.ask.DiskAnswer.TheVariants as answers
-use Rattle.gix_odb_slots.specs.declared.listing.ListingRow.{ListingRow}
+use Rattle.gix_odb_events.specs.declared.listing.ListingRow.{ListingRow}
 use Rattle.gix_odb_packs.specs.ListOrder.{at_paths, behind_folder, by_index, by_kind, by_pack, by_pack_kind, fed, fed_at, more, opened, read, row_of}
 use Rattle.gix_odb_packs.specs.ListOrder.{started, with_row}
 use Rattle.gix_odb_packs.specs.PackFolder.{firsts, index_paths, is_file, is_index_entry, is_index_name}

@@ -12,7 +12,7 @@ use Rattle.gix_odb_loose.specs.LooseOrder.{disk_ask_of, next_stage, stage_ask}
 use Rattle.gix_odb_loose.specs.declared.call.LooseCall.{LooseCall}
 use Rattle.gix_odb_loose.specs.declared.call.Stage as loose
 use Rattle.gix_odb_loose.specs.declared.call.Stage.TheVariants as loose_stages
-use Rattle.gix_odb_slots.specs.declared.listing.ListingRow.{ListingRow}
+use Rattle.gix_odb_events.specs.declared.listing.ListingRow.{ListingRow}
 use Rattle.gix_odb_events.specs.declared.event.Event.TheVariants as events
 use Rattle.gix_odb_events.specs.declared.view.View.{View}
 use Rattle.gix_odb_packs.specs.ListOrder as lists

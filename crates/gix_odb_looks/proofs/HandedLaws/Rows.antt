@@ -9,8 +9,8 @@ use Rattle.std.proofs.lemmas.List.Sorted.{IsPermutation-sym, IsPermutation-trans
 use Rattle.std.proofs.lemmas.Map.Keys.{IsDistinct-IsPermutation}
 use Rattle.odb_base.specs.Path.{Name, Path, same_name}
 use Rattle.odb_nodes.specs.declared.entry.Entry.{Entry}
-use Rattle.gix_odb_slots.specs.Slots.{HasDifferentPaths, same_path}
-use Rattle.gix_odb_slots.specs.declared.listing.ListingRow.{ListingRow}
+use Rattle.gix_odb_events.specs.PackFiles.{same_path, HasDifferentPaths}
+use Rattle.gix_odb_events.specs.declared.listing.ListingRow.{ListingRow}
 use Rattle.gix_odb_packs.specs.LongestFirst.{longest_first, put_row, put_rows}
 use Rattle.gix_odb_packs.specs.PackFolder.{firsts, firsts_without, index_paths, is_index_entry}
 use Rattle.gix_odb_packs.proofs.ReachLemmas.{first_or_later, none_in}

@@ -8,7 +8,7 @@ use Rattle.odb_nodes.specs.declared.disk_error.DiskError.TheVariants as disk_err
 use Rattle.odb_nodes.specs.declared.entry.Entry.{Entry}
 use Rattle.odb_nodes.specs.declared.meta.Kind.{Kind}
 use Rattle.odb_nodes.specs.declared.meta.Kind.TheVariants as kinds
-use Rattle.gix_odb_slots.specs.declared.listing.ListingRow.{ListingRow}
+use Rattle.gix_odb_events.specs.declared.listing.ListingRow.{ListingRow}
 use Rattle.gix_odb_events.specs.Answers as core
 use Rattle.gix_odb_packs.specs.ListOrder.{ask_at, at_paths, behind_folder, by_index, by_kind, by_pack, by_pack_kind, fed_at, opened, read, with_row}
 use Rattle.gix_odb_packs.specs.PackFolder.{index_paths}

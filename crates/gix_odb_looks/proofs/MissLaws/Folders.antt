@@ -12,7 +12,7 @@ use Rattle.gix_odb_loose.specs.LooseOrder.Answered.{found_by, header_by, tested_
 use Rattle.gix_odb_loose.specs.declared.call.LooseCall.{LooseCall}
 use Rattle.gix_odb_loose.specs.declared.call.LooseReply.{LooseReply}
 use Rattle.gix_odb_loose.specs.declared.call.LooseReply.TheVariants as loose_replies
-use Rattle.gix_odb_slots.specs.declared.listing.Listing.{Listing}
+use Rattle.gix_odb_events.specs.declared.listing.Listing.{Listing}
 use Rattle.gix_odb_events.specs.declared.event.Effect.{Effect}
 use Rattle.gix_odb_events.specs.declared.event.Effect.TheVariants as effects
 use Rattle.gix_odb_events.specs.declared.view.View.{View}

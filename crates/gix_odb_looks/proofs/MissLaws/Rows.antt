@@ -9,7 +9,7 @@ use Rattle.odb_base.specs.Path.{Name, Path, same_name}
 use Rattle.odb_nodes.specs.declared.entry.Entry.{Entry}
 use Rattle.odb_nodes.specs.declared.meta.Kind.{Kind}
 use Rattle.odb_nodes.specs.declared.meta.Kind.TheVariants as kinds
-use Rattle.gix_odb_slots.specs.declared.listing.ListingRow.{ListingRow}
+use Rattle.gix_odb_events.specs.declared.listing.ListingRow.{ListingRow}
 use Rattle.gix_odb_packs.specs.LongestFirst.{longest_first, put_row, put_rows}
 use Rattle.gix_odb_packs.specs.PackFolder.{firsts, firsts_without, index_paths, is_file, is_index_entry, is_index_name}
 use Rattle.gix_odb_packs.proofs.ReachLemmas.{first_or_later, none_in}

@@ -5,7 +5,7 @@ use Rattle.odb_base.specs.Path.{Path}
 use Rattle.gix_odb_loose.specs.LooseOrder.{reply_of}
 use Rattle.gix_odb_loose.specs.declared.call.LooseCall.{LooseCall}
 use Rattle.gix_odb_loose.specs.declared.call.LooseReply.{LooseReply}
-use Rattle.gix_odb_slots.specs.declared.loaded.Todo.{Todo}
+use Rattle.gix_odb_events.specs.declared.loaded.Todo.{Todo}
 use Rattle.gix_odb_events.specs.declared.view.View.{View}
 use Rattle.gix_odb_packs.proofs.TryTurnLaws.{TriesFor, seek_tries, trier_turns}
 use Rattle.gix_odb_packs.specs.TryOrder.{seek}

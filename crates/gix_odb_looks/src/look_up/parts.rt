@@ -8,9 +8,8 @@ use super::{LookHead, LookStage, LooseRound, Part, Purpose, Setting};
 use crate::load_index::of_refusal;
 use gix_odb_calls::verdict::{Verdict, folder_call};
 use gix_odb_calls::{CallError, Query, Reply, find, load_index};
-use gix_odb_events::View;
+use gix_odb_events::{Shared, Todo, TodoList, View};
 use gix_odb_packs::{self as packs, Found, Goal, Lister, Notes, Rest, Tried, Trier, Wanted};
-use gix_odb_slots::{Shared, Todo, TodoList};
 use odb_base::{NoMemory, PathText};
 use std::alloc::Global;
 

@@ -8,12 +8,12 @@ use Rattle.gix_hash.specs.ObjectId.{kind_of}
 use Rattle.gix_pack_files.specs.FileBytes.{FileBytes}
 use Rattle.gix_pack_files.specs.Index.{is_index}
 use Rattle.gix_odb_events.specs.Answers.{view_in}
-use Rattle.gix_odb_slots.specs.Slots.{new_packs, same_path}
+use Rattle.gix_odb_events.specs.PackFiles.{same_path, new_packs}
 use Rattle.gix_odb_events.specs.declared.event.Effect.{Effect}
 use Rattle.gix_odb_events.specs.declared.event.PassWhy.{PassWhy}
 use Rattle.gix_odb_events.specs.declared.event.PassWhy.TheVariants as whys
-use Rattle.gix_odb_slots.specs.declared.loaded.LoadedIndex.TheVariants.{Single}
-use Rattle.gix_odb_slots.specs.declared.loaded.SnapshotIndex.{SnapshotIndex}
+use Rattle.gix_odb_events.specs.declared.loaded.LoadedIndex.TheVariants.{Single}
+use Rattle.gix_odb_events.specs.declared.loaded.SnapshotIndex.{SnapshotIndex}
 use Rattle.gix_odb_events.specs.declared.view.View.{View}
 use Rattle.gix_odb_packs.specs.Search.{tried}
 use Rattle.gix_odb_packs.specs.declared.goal.Goal.{Goal}

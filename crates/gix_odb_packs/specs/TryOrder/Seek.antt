@@ -1,6 +1,6 @@
 -- How the search for an object goes on among the indices of a list.
 use Rattle.std.specs.Prelude.{List, [], ◌∷◌}
-use Rattle.gix_odb_slots.specs.declared.loaded.Todo.{Todo}
+use Rattle.gix_odb_events.specs.declared.loaded.Todo.{Todo}
 use Rattle.gix_odb_packs.specs.Search.{rest_behind, search}
 use Rattle.gix_odb_packs.specs.declared.goal.Goal.{Goal}
 use Rattle.gix_odb_packs.specs.declared.search.Sought.{Sought}

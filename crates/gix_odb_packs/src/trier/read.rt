@@ -5,8 +5,7 @@ ghost use Rattle.gix_odb_packs.specs.TryOrder.{index_or_bad, index_missed, index
 use super::{Ahead, IndexPlace, Stage, Tried, at};
 use crate::goal::{Error, Goal};
 use crate::search::{Notes, WantedPack};
-use gix_odb_events::PassWhy;
-use gix_odb_slots::Shared;
+use gix_odb_events::{PassWhy, Shared};
 use gix_pack_files::{data, index};
 use odb_asks::DiskAnswer;
 use odb_base::{ByteList, NoMemory};

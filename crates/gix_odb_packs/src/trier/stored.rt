@@ -7,8 +7,7 @@ ghost use Rattle.gix_odb_packs.specs.TryOrder.{by_given, index_stored, is_at, ow
 use super::{Ahead, IndexPlace, Tried, at_search, seek};
 use crate::goal::{Error, Found, Goal};
 use crate::search::{Notes, Sought, WantedPack};
-use gix_odb_events::Effect;
-use gix_odb_slots::{LoadedIndex, PackFile, Shared, SnapshotIndex, packs_beside};
+use gix_odb_events::{Effect, LoadedIndex, PackFile, Shared, SnapshotIndex, packs_beside};
 use gix_pack_files::{data, index};
 use odb_base::NoMemory;
 use std::alloc::Global;

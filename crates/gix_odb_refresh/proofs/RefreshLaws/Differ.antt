@@ -2,8 +2,8 @@
 use Rattle.std.proofs.Common.{◌≡◌, ℕ, Bool, true, false, List, [], ◌∷◌, ◌++◌, Option, Some, None, Ok, Err, subst}
 use Rattle.std.specs.List.{IsDistinct}
 use Rattle.std.specs.Prelude.{if◌then◌else◌}
-use Rattle.gix_odb_slots.specs.Slots.{HasDifferentPaths, same_path}
-use Rattle.gix_odb_slots.specs.declared.listing.Listing.{Listing}
+use Rattle.gix_odb_events.specs.PackFiles.{same_path, HasDifferentPaths}
+use Rattle.gix_odb_events.specs.declared.listing.Listing.{Listing}
 use Rattle.gix_odb_events.specs.declared.event.Effect.{Effect}
 use Rattle.gix_odb_events.specs.declared.event.Effect.TheVariants as effects
 use Rattle.gix_odb_events.specs.declared.view.View.{View}

@@ -11,7 +11,7 @@ use Rattle.odb_nodes.specs.declared.meta.Meta.{Meta}
 use Rattle.odb_asks.specs.Ask.{answer_of, meta_answer}
 use Rattle.odb_asks.specs.declared.ask.DiskAnswer.TheVariants as answers
 use Rattle.odb_asks.specs.declared.ask.DiskAsk.TheVariants as asks
-use Rattle.gix_odb_slots.specs.PackId.{most_slots}
+use Rattle.gix_odb_events.specs.PackId.{most_slots}
 use Rattle.gix_odb_packs.specs.declared.lister.ListStep.{ListStep}
 use Rattle.gix_odb_packs.specs.declared.lister.ListStep.TheVariants as listed
 use Rattle.gix_odb.specs.OpenOrder.{begun as with_slots, listed_on, looked as after_look, numbered, refused, shown as after_kind, slots_for}

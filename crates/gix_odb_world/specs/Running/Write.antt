@@ -21,7 +21,7 @@ use Rattle.gix_odb_loose.specs.declared.write_order.WriteStage.TheVariants as wr
 use Rattle.gix_odb_calls.specs.declared.call.Reply.{Reply}
 use Rattle.gix_odb_calls.specs.declared.load_index.Error as load
 use Rattle.gix_odb_events.specs.declared.answer.PartAsk.{PartAsk}
-use Rattle.gix_odb_slots.specs.Slots.{same_path}
+use Rattle.gix_odb_events.specs.PackFiles.{same_path}
 use Rattle.gix_odb_refresh.specs.RefreshOrder as refreshes
 use Rattle.gix_odb_refresh.specs.Refreshed.{AreAsked}
 use Rattle.gix_odb_refresh.specs.declared.refresh.Refresh.{Refresh}

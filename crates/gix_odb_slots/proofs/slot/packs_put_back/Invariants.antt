@@ -1,5 +1,5 @@
 use Rattle.std.proofs.Common.{◌≡◌, map, take}
-use Rattle.gix_odb_slots.specs.OnDiskFile.{put_back, with_state}
+use Rattle.gix_odb_events.specs.OnDiskFile.{put_back, with_state}
 use Rattle.gix_odb_slots.proofs.slot.packs_put_back.Given as goal
 
 abbrev pub invariant-loop-pack : goal.invariant-loop-pack

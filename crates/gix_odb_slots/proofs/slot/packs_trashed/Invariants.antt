@@ -1,5 +1,5 @@
 use Rattle.std.proofs.Common.{◌≡◌, map, take}
-use Rattle.gix_odb_slots.specs.OnDiskFile.{trashed, with_state}
+use Rattle.gix_odb_events.specs.OnDiskFile.{trashed, with_state}
 use Rattle.gix_odb_slots.proofs.slot.packs_trashed.Given as goal
 
 abbrev pub invariant-loop-pack : goal.invariant-loop-pack

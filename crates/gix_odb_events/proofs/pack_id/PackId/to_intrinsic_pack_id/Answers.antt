@@ -1,6 +1,6 @@
 use Rattle.std.proofs.Common.{None, Some, arith}
-use Rattle.gix_odb_slots.proofs.PackIdLemmas.{pack_id_of-intrinsic}
-use Rattle.gix_odb_slots.proofs.pack_id.PackId.to_intrinsic_pack_id.Goals as goal
+use Rattle.gix_odb_events.proofs.PackIdLemmas.{pack_id_of-intrinsic}
+use Rattle.gix_odb_events.proofs.pack_id.PackId.to_intrinsic_pack_id.Goals as goal
 
 pub returns-in-None-clause-kept : goal.returns-in-None-clause-kept
 returns-in-None-clause-kept c = pack_id_of-intrinsic c.args.self None c.in-None.is (omega arith)

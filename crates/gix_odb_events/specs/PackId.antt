@@ -1,6 +1,6 @@
 -- Numbers of packs, both ways.
 use Rattle.std.specs.Prelude.{ℕ, ◌+◌, ◌*◌, ◌/◌, ◌%◌, ◌==◌, Option, Some, None, if◌then◌else◌}
-use Rattle.gix_odb_slots.specs.declared.pack_id.PackId.{PackId}
+use Rattle.gix_odb_events.specs.declared.pack_id.PackId.{PackId}
 
 -- the most slots that a core may have: 2^15 - 1. A pack's number has 32 bits, and the lowest 15 of them are the slot that its index stands in.
 abbrev pub most_slots : ℕ

@@ -4,7 +4,7 @@ use Rattle.std.specs.List.{ends_with}
 use Rattle.std.specs.Str.{IsCharBoundary}
 use Rattle.std.specs.Str.Pattern.{FindsTextSuffix, StripsSuffix}
 use Rattle.std.proofs.lemmas.Str.Pattern.{ends_text}
-use Rattle.gix_odb_slots.specs.PackPath.{stem_of}
+use Rattle.gix_odb_events.specs.PackPath.{stem_of}
 
 pub stem_of-stripped : (name stem : List ℕ) → StripsSuffix (FindsTextSuffix (codes ".idx")) name stem → stem ≡ stem_of name
 stem_of-stripped name stem h =

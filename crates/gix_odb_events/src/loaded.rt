@@ -1,6 +1,6 @@
 //! Indices that are loaded, and those that are still to be.
 use crate::Shared;
-use crate::slot::PackFileList;
+use crate::pack_file::PackFileList;
 use gix_multi_index as multi_index;
 use gix_pack_files::index;
 use odb_base::{PathText, Sequence};

@@ -1,9 +1,9 @@
 -- The states of a slot's files.
 use Rattle.std.specs.Prelude.{Bool, true, false, Option, Some, None}
 use Rattle.odb_base.specs.Path.{Path}
-use Rattle.gix_odb_slots.specs.declared.on_disk_file.FileState.{FileState}
-use Rattle.gix_odb_slots.specs.declared.on_disk_file.FileState.TheVariants.{Unloaded, Loaded, Garbage, Missing}
-use Rattle.gix_odb_slots.specs.declared.on_disk_file.OnDiskFile.{OnDiskFile}
+use Rattle.gix_odb_events.specs.declared.on_disk_file.FileState.{FileState}
+use Rattle.gix_odb_events.specs.declared.on_disk_file.FileState.TheVariants.{Unloaded, Loaded, Garbage, Missing}
+use Rattle.gix_odb_events.specs.declared.on_disk_file.OnDiskFile.{OnDiskFile}
 
 module _ {A : Type 0} where
   -- the file of a path, in a state

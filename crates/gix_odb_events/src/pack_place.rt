@@ -1,12 +1,12 @@
 //! Where the pack of an index stands: beside it, by the name of the index with another ending.
 ghost use Rattle.std.specs.Prelude.{◌≡◌, IfOk};
-ghost use Rattle.gix_odb_slots.specs.PackPath.{folder_of, name_of, pack_in, pack_name, pack_path, stem_of};
+ghost use Rattle.gix_odb_events.specs.PackPath.{folder_of, name_of, pack_in, pack_name, pack_path, stem_of};
 
 use odb_base::{BadPath, NoMemory, PathText};
 use std::alloc::Global;
 
 /// The folder that an index stands in.
-pub(crate) fn folder_of(alloc: Global, path: &PathText) -> Result<PathText, NoMemory>
+pub fn folder_of(alloc: Global, path: &PathText) -> Result<PathText, NoMemory>
     ensures folder { IfOk result (λ folder. folder ≡ folder_of path.now) }
 {
     match path.parent(alloc)? {
@@ -16,7 +16,7 @@ pub(crate) fn folder_of(alloc: Global, path: &PathText) -> Result<PathText, NoMe
 }
 
 /// The name of an index.
-pub(crate) fn name_of(path: &PathText) -> &str
+pub fn name_of(path: &PathText) -> &str
     ensures name { result.now ≡ name_of path.now }
 {
     path.file_name().unwrap_or("")
@@ -33,7 +33,7 @@ fn stem_of(name: &str) -> &str
 }
 
 /// The pack of a folder by the name of its index.
-pub(crate) fn pack_in(alloc: Global, folder: &PathText, name: &str) -> Result<PathText, NoMemory>
+pub fn pack_in(alloc: Global, folder: &PathText, name: &str) -> Result<PathText, NoMemory>
     ensures path { IfOk result (λ path. path ≡ pack_in folder.now name.now) }
 {
     let stem = stem_of(name);

@@ -1,7 +1,7 @@
 //! A file of a slot: its path, and whether it is loaded.
 ghost use Rattle.std.specs.Prelude.{◌≡◌, IfOk};
 ghost use Rattle.std.specs.Option.{option_copied};
-ghost use Rattle.gix_odb_slots.specs.OnDiskFile.{file_at, file_path, file_state, is_disposable, is_loaded, is_unloaded, loaded, put_back, trashed, with_state};
+ghost use Rattle.gix_odb_events.specs.OnDiskFile.{file_at, file_path, file_state, is_disposable, is_loaded, is_unloaded, loaded, put_back, trashed, with_state};
 
 use crate::Shared;
 use odb_base::{NoMemory, PathText};
@@ -42,7 +42,7 @@ impl<T> OnDiskFile<T> {
     }
 
     /// Its path, which has one owner more.
-    pub(crate) fn shared_path(&self) -> Result<Shared<PathText>, NoMemory>
+    pub fn shared_path(&self) -> Result<Shared<PathText>, NoMemory>
         ensures path { IfOk result (λ path. path ≡ file_path self.now) }
     {
         self.path.try_clone()
@@ -121,7 +121,7 @@ impl<F: Drop> FileState<Shared<F>> {
 
 impl<F: Drop> OnDiskFile<Shared<F>> {
     /// A copy of the file of a slot, which shares its path and what was read.
-    pub(crate) fn try_clone(&self) -> Result<OnDiskFile<Shared<F>>, NoMemory>
+    pub fn try_clone(&self) -> Result<OnDiskFile<Shared<F>>, NoMemory>
         ensures copy { IfOk result (λ copy. copy ≡ self.now) }
     {
         let path = self.path.try_clone()?;
@@ -129,7 +129,7 @@ impl<F: Drop> OnDiskFile<Shared<F>> {
     }
 
     /// A copy that is put back.
-    pub(crate) fn copy_put_back(&self) -> Result<OnDiskFile<Shared<F>>, NoMemory>
+    pub fn copy_put_back(&self) -> Result<OnDiskFile<Shared<F>>, NoMemory>
         ensures put_back { IfOk result (λ copy. copy ≡ with_state put_back self.now) }
     {
         let mut copy = self.try_clone()?;
@@ -138,7 +138,7 @@ impl<F: Drop> OnDiskFile<Shared<F>> {
     }
 
     /// A copy that is trashed.
-    pub(crate) fn copy_trashed(&self) -> Result<OnDiskFile<Shared<F>>, NoMemory>
+    pub fn copy_trashed(&self) -> Result<OnDiskFile<Shared<F>>, NoMemory>
         ensures trashed { IfOk result (λ copy. copy ≡ with_state trashed self.now) }
     {
         let mut copy = self.try_clone()?;

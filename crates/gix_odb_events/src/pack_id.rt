@@ -1,7 +1,7 @@
 //! Numbers of packs.
 ghost use Rattle.std.specs.Prelude.{◌≡◌, ◌≤◌, ◌<◌, ◌^◌};
 ghost use Rattle.std.specs.Option.{ForSome};
-ghost use Rattle.gix_odb_slots.specs.PackId.{intrinsic_id_of, pack_id_of};
+ghost use Rattle.gix_odb_events.specs.PackId.{intrinsic_id_of, pack_id_of};
 
 /// The number of a slot.
 pub type IndexId = usize;

@@ -1,8 +1,8 @@
 -- The number of a pack gives the pack back.
 use Rattle.std.proofs.Common.{◌≡◌, ℕ, ◌+◌, ◌*◌, ◌/◌, ◌%◌, ◌<◌, eqb, true, false, Option, Some, None, refl, sym, ap, ◌∙◌, arith, eq-eqb}
 use Rattle.std.proofs.lemmas.Bool.Decides.{nat_tests}
-use Rattle.gix_odb_slots.specs.PackId.{id_with, pack_id_of}
-use Rattle.gix_odb_slots.specs.declared.pack_id.PackId.{PackId}
+use Rattle.gix_odb_events.specs.PackId.{id_with, pack_id_of}
+use Rattle.gix_odb_events.specs.declared.pack_id.PackId.{PackId}
 
 bit_off : (slot : ℕ) → slot < 32768 → eqb (slot / 32768 % 2) 1 ≡ false
 bit_off slot small = grind (arith, nat_tests)

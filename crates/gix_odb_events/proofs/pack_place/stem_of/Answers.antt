@@ -1,5 +1,5 @@
-use Rattle.gix_odb_slots.proofs.PackPathLemmas.{stem_of-stripped, stem_of-whole}
-use Rattle.gix_odb_slots.proofs.pack_place.stem_of.Goals as goal
+use Rattle.gix_odb_events.proofs.PackPathLemmas.{stem_of-stripped, stem_of-whole}
+use Rattle.gix_odb_events.proofs.pack_place.stem_of.Goals as goal
 
 pub returns-in-Some : goal.returns-in-Some
 returns-in-Some c = record { stem = stem_of-stripped _ _ c.in-Some.ensures.cases }
