@@ -9,3 +9,7 @@ pub mod OnceLaws
 pub mod HashLaws
 pub mod ListingLaws
 pub mod MovedLaws
+pub mod ViewLaws
+pub mod CoreLaws
+pub mod HappenLaws
+pub mod RefreshHappenLaws

@@ -1,32 +1,26 @@
--- Laws of what a look-up hands to the disk and the core: its events can happen there, its calls of the disk change nothing, and the streams
--- that it reads are its own.
+-- Laws of what a look-up hands to the disk and the core: its events are few, its calls of the disk change nothing, and the streams that it
+-- reads are its own.
 pub mod Differ
 pub mod Rows
 pub mod Stages
 pub mod Listing
 pub mod Streams
 pub mod Reading
-use Rattle.std.proofs.Common.{◌≡◌, ◌⊎◌, inl, inr, ℕ, List, [], ◌∷◌, Option, Some, None, Ok, refl, sym, ap, ◌∙◌, subst}
+use Rattle.std.proofs.Common.{◌≡◌, ◌⊎◌, inl, inr, ℕ, List, [], ◌∷◌, Some, None, Ok}
 use Rattle.std.specs.List.{IsDistinct}
-use Rattle.std.proofs.lemmas.Option.{same_Some}
 use Rattle.odb_base.specs.Path.{Path}
 use Rattle.odb_asks.specs.Ask.{change_of_ask}
-use Rattle.odb_asks.specs.declared.ask.DiskAnswer.{DiskAnswer}
 use Rattle.odb_asks.specs.declared.ask.DiskAsk.{DiskAsk}
 use Rattle.odb_asks.specs.declared.ask.DiskAsk.TheVariants as disk_asks
 use Rattle.odb_nodes.specs.Tree.{Tree}
 use Rattle.gix_hash.specs.declared.object_id.ObjectId.{ObjectId}
-use Rattle.gix_odb_loose.specs.LooseOrder.{disk_ask_of, stage_ask}
+use Rattle.gix_odb_loose.specs.LooseOrder.{disk_ask_of}
 use Rattle.gix_odb_loose.specs.declared.call.LooseCall.{LooseCall}
-use Rattle.gix_odb_loose.specs.declared.call.Stage as loose
-use Rattle.gix_odb_loose.specs.declared.call.Stage.TheVariants as loose_stages
 use Rattle.gix_odb_events.specs.PackFiles.{same_path, HasDifferentPaths}
 use Rattle.gix_odb_events.specs.declared.listing.Listing.{Listing as Handed}
 use Rattle.gix_odb_events.specs.declared.listing.ListingRow.{ListingRow}
-use Rattle.gix_odb_core.specs.Replay.{CanHappen}
 use Rattle.gix_odb_events.specs.declared.event.Event.{Event}
 use Rattle.gix_odb_events.specs.declared.event.Event.TheVariants as events
-use Rattle.gix_odb_core.specs.declared.shape.Shape.{Shape}
 use Rattle.gix_odb_events.specs.declared.view.View.{View}
 use Rattle.gix_odb_packs.specs.ListOrder as lists
 use Rattle.gix_odb_packs.specs.TryOrder as tries
@@ -34,22 +28,16 @@ use Rattle.gix_odb_events.specs.declared.answer.Answer.{Answer}
 use Rattle.gix_odb_events.specs.declared.answer.Answer.TheVariants as told
 use Rattle.gix_odb_events.specs.declared.answer.PartAsk.{PartAsk}
 use Rattle.gix_odb_events.specs.declared.answer.PartAsk.TheVariants as asks
-use Rattle.gix_odb_packs.specs.declared.lister.ListStage.{ListStage}
-use Rattle.gix_odb_packs.specs.declared.lister.ListStage.TheVariants as list_stages
 use Rattle.gix_odb_packs.specs.declared.lister.ListStep.{ListStep}
 use Rattle.gix_odb_packs.specs.declared.lister.ListStep.TheVariants as listed
-use Rattle.gix_odb_packs.specs.declared.lister.Lister.{Lister}
 use Rattle.gix_odb_packs.specs.declared.trier.Stage.TheVariants as tries_stages
 use Rattle.gix_odb_packs.specs.declared.trier.Stage.{Stage}
-use Rattle.gix_odb_calls.specs.Verdict.{asking}
 use Rattle.gix_odb_calls.specs.declared.call.Reply.{Reply}
 use Rattle.gix_odb_calls.specs.declared.query.Query.{Query}
-use Rattle.gix_odb_calls.specs.declared.query.Query.TheVariants.{Find, Header, Test}
 use Rattle.gix_odb_looks.specs.Exchange.{AreAsked, Exchange, behind}
 use Rattle.gix_odb_looks.specs.Stream.{Stream, stream_in}
-use Rattle.gix_odb_looks.specs.LookUpOrder.{Setting, ask_at, ask_of, fed, lister_fed, loose_ask, loose_fed, result_at, result_of, seen, started}
+use Rattle.gix_odb_looks.specs.LookUpOrder.{Setting, ask_at, ask_of, fed, lister_fed, result_of, seen, started}
 use Rattle.gix_odb_looks.specs.Shown.{folders_of}
-use Rattle.gix_odb_looks.specs.declared.look_up.LookHead.{LookHead}
 use Rattle.gix_odb_looks.specs.declared.look_up.LookStage.TheVariants as stages
 use Rattle.gix_odb_looks.specs.declared.look_up.LookStage.{LookStage}
 use Rattle.gix_odb_looks.specs.declared.look_up.LookUp.{LookUp}
@@ -95,7 +83,7 @@ stage_asks (stages.Done reply) ask is = absurd (cc is)
 pub look_ups_ask_these_events_alone : (look : LookUp) (event : Event) → ask_of look ≡ Some (asks.Core event) → IsOfLooks event
 look_ups_ask_these_events_alone look event is = stage_asks look.stage (asks.Core event) is
 
--- ---- they can happen
+-- ---- the rows of a listing have different paths
 
 module _ (setting : Setting) (distinct : IsDistinct same_path (folders_of setting)) where
   abbrev AnyCall : LooseCall → Type 0
@@ -136,27 +124,6 @@ module _ (setting : Setting) (distinct : IsDistinct same_path (folders_of settin
       (seen look.head exchange.answer) look.stage exchange.answer (goes_differing look.stage exchange.answer here))
       exchanges
 
-  abbrev Happens : Shape → (seat : ℕ) → PartAsk → Type 0
-  Happens shape seat (asks.Disk ask) = Unit {0}
-  Happens shape seat (asks.Core event) = CanHappen shape seat event
-
-  module _ (shape : Shape) (seat : ℕ) where
-    trier_happens : (stage : Stage) → Happens shape seat (tries.ask_at stage)
-    trier_happens (tries_stages.ReadingIndex place) = tt
-    trier_happens (tries_stages.StoringIndex place file) = tt
-    trier_happens (tries_stages.PassingIndex place why) = tt
-    trier_happens (tries_stages.ReadingPack pack) = tt
-    trier_happens (tries_stages.StoringPack pack file) = tt
-    trier_happens (tries_stages.PassingPack pack) = tt
-
-    stage_happens : (stage : LookStage) → StageDiffers stage → (ask : PartAsk) → ask_at stage ≡ Some ask → Happens shape seat ask
-    stage_happens (stages.Trying trier part) here ask is = same_ask (Happens shape seat) ask (tries.ask_of trier) (trier_happens trier.stage) is
-    stage_happens (stages.Loose round call) here ask is = loose_ask_is (Happens shape seat) ask (disk_ask_of call) (λ own same. tt) is
-    stage_happens (stages.Looking purpose notes) here ask is = same_ask (Happens shape seat) ask (asks.Core events.Look) tt is
-    stage_happens (stages.Listing lister base notes) here ask is = same_ask (Happens shape seat) ask (asks.Disk (lists.ask_of lister)) tt is
-    stage_happens (stages.Publishing listing notes) here ask is = same_ask (Happens shape seat) ask (asks.Core (events.Publish listing)) here.1 is
-    stage_happens (stages.Done reply) here ask is = absurd (cc is)
-
   module _ (view : View) (query : Query) (id : ObjectId) (exchanges : List Exchange) (asked : AreAsked setting (started setting view query id) exchanges) where
     abbrev listing_look : LookUp
     listing_look = behind setting (started setting view query id) exchanges
@@ -166,10 +133,6 @@ module _ (setting : Setting) (distinct : IsDistinct same_path (folders_of settin
         differs_behind (started setting view query id)
         (start_stands setting AnyCall (ListerDiffers setting.folders) RowsDiffer (Unit {0}) (λ query id folder. tt) starts_listing view query id tt)
         exchanges
-
-    -- what a look-up hands to the core of its store can happen there: the rows of a listing have different paths
-    pub what_is_handed_can_happen : (event : Event) → ask_of listing_look ≡ Some (asks.Core event) → (shape : Shape) (seat : ℕ) → CanHappen shape seat event
-    what_is_handed_can_happen event is shape seat = stage_happens shape seat listing_look.stage differs (asks.Core event) is
 
     pub rows_of_a_listing_have_different_paths : (listing : Handed) → ask_of listing_look ≡ Some (asks.Core (events.Publish listing))
         → HasDifferentPaths listing.rows

@@ -1,10 +1,8 @@
 -- Laws of look-ups, and of what they are shown, that other crates may cite; and the lemmas of this crate.
-pub mod ViewLaws
 pub mod CauseLaws
 pub mod FoundLaws
 pub mod MissLaws
 pub mod TurnLaws
-pub mod CoreLaws
 pub mod StreamLaws
 pub mod HandedLaws
 pub mod OpenLaws

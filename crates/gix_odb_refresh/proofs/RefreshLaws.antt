@@ -1,10 +1,9 @@
 -- Laws of refreshes: what one hands to the core, which streams it reads, why it is refused, and how many turns it takes.
 pub mod Known
 pub mod Causes
-mod Differ
+pub mod Differ
 pub mod Turns
-use Rattle.std.proofs.Common.{◌≡◌, ◌⊎◌, inl, inr, ℕ, ◌≤◌, Bool, true, false, List, [], ◌∷◌, length, All, Contains, Option, Some, None, refl, sym, ap, ◌∙◌, subst}
-use Rattle.std.specs.List.{IsDistinct}
+use Rattle.std.proofs.Common.{◌≡◌, ◌⊎◌, inl, inr, ℕ, ◌≤◌, Bool, true, false, List, [], ◌∷◌, length, All, Some, None, refl, sym, ap, ◌∙◌, subst}
 use Rattle.std.specs.Prelude.{if◌then◌else◌}
 use Rattle.std.proofs.lemmas.Option.{same_Some}
 use Rattle.odb_base.specs.Path.{Path}
@@ -13,16 +12,11 @@ use Rattle.odb_asks.specs.declared.ask.DiskAsk.{DiskAsk}
 use Rattle.odb_asks.specs.declared.ask.DiskAsk.TheVariants as disk_asks
 use Rattle.odb_nodes.specs.Tree.{Tree}
 use Rattle.gix_hash.specs.declared.kind.Kind.{Kind as HashKind}
-use Rattle.gix_odb_events.specs.PackFiles.{same_path}
 use Rattle.gix_odb_events.specs.declared.listing.Listing.{Listing}
-use Rattle.gix_odb_core.specs.Replay.{CanHappen}
 use Rattle.gix_odb_events.specs.declared.event.Event.{Event}
 use Rattle.gix_odb_events.specs.declared.event.Event.TheVariants as events
-use Rattle.gix_odb_core.specs.declared.shape.Shape.{Shape}
 use Rattle.gix_odb_events.specs.declared.view.View.{View}
 use Rattle.gix_odb_packs.specs.ListOrder as lists
-use Rattle.gix_odb_packs.specs.PackFolder.{pack_folder}
-use Rattle.gix_odb_events.specs.declared.answer.PartAsk.{PartAsk}
 use Rattle.gix_odb_events.specs.declared.answer.PartAsk.TheVariants as asks
 use Rattle.gix_odb_calls.specs.declared.load_index.Error.{Error}
 use Rattle.gix_odb_looks.specs.Exchange.{AreAnswered, Exchange}
@@ -34,13 +28,12 @@ use Rattle.gix_odb_looks.proofs.OpenLaws.{IsFolderOfPacks, lister_opens_there}
 use Rattle.gix_odb_looks.proofs.HandedLaws.Reading.{AsksOwn, ChangesNothing, lister_own, lister_reads}
 use Rattle.gix_odb_looks.proofs.HandedLaws.Streams.{IsOpen}
 use Rattle.gix_odb_refresh.specs.Asked.{AreSuited}
-use Rattle.gix_odb_refresh.specs.RefreshOrder.{ask_of, fed, started}
+use Rattle.gix_odb_refresh.specs.RefreshOrder.{ask_of, started}
 use Rattle.gix_odb_refresh.specs.Refreshed.{AreAsked, IsCaused, WasUnread, behind}
 use Rattle.gix_odb_refresh.specs.declared.refresh.Refresh.{Refresh}
 use Rattle.gix_odb_refresh.specs.declared.refresh.Refresh.TheVariants as stages
 use Rattle.gix_odb_refresh.proofs.RefreshLaws.Causes.{CausedAt, refresh_caused}
-use Rattle.gix_odb_refresh.proofs.RefreshLaws.Differ.{Differs, refresh_differs}
-use Rattle.gix_odb_refresh.proofs.RefreshLaws.Known.{Knows, KnowsAt, refresh_knows, told_of}
+use Rattle.gix_odb_refresh.proofs.RefreshLaws.Known.{Knows, refresh_knows, told_of}
 use Rattle.gix_odb_refresh.proofs.RefreshLaws.Turns.{HasTurns, lap_is_wide, turns_taken}
 
 -- ---- where nothing is asked
@@ -74,12 +67,12 @@ refreshes_ask_events_of_looks_alone stages.Ready event is = absurd (cc is)
 refreshes_ask_events_of_looks_alone (stages.Refused error) event is = absurd (cc is)
 
 -- an ask of the core is of one of these
-abbrev HandsOn : (Event → Type 0) → Refresh → Type 0
+abbrev pub HandsOn : (Event → Type 0) → Refresh → Type 0
 HandsOn P stages.Looking = P events.Look
 HandsOn P (stages.Publishing listing) = P (events.Publish listing)
 HandsOn P refresh = Unit {0}
 
-handed_on : (P : Event → Type 0) (refresh : Refresh) (event : Event) → HandsOn P refresh → ask_of refresh ≡ Some (asks.Core event) → P event
+pub handed_on : (P : Event → Type 0) (refresh : Refresh) (event : Event) → HandsOn P refresh → ask_of refresh ≡ Some (asks.Core event) → P event
 handed_on P stages.Looking event here is = let same : events.Look ≡ event = cc is in subst P same here
 handed_on P (stages.Listing lister base) event here is = absurd (cc is)
 handed_on P (stages.Publishing listing) event here is = let same : events.Publish listing ≡ event = cc is in subst P same here
@@ -115,19 +108,6 @@ module _ (setting : Setting) (snapshot : View) (exchanges : List Exchange) (aske
       by (stages.Publishing listing) known = known.1
       by stages.Ready known = tt
       by (stages.Refused error) known = tt
-
-  -- what is handed to the core can happen there: the rows of a listing have different paths
-  pub what_a_refresh_hands_on_can_happen : IsDistinct same_path (folders_of setting) → (event : Event) → ask_of refresh ≡ Some (asks.Core event)
-      → (shape : Shape) (seat : ℕ) → CanHappen shape seat event
-  what_a_refresh_hands_on_can_happen distinct event is shape seat =
-      handed_on (CanHappen shape seat) refresh event (by refresh (refresh_differs setting distinct snapshot exchanges asked)) is
-    where
-      by : (now : Refresh) → Differs setting distinct now → HandsOn (CanHappen shape seat) now
-      by stages.Looking here = tt
-      by (stages.Listing lister base) here = tt
-      by (stages.Publishing listing) here = here
-      by stages.Ready here = tt
-      by (stages.Refused error) here = tt
 
   -- ---- what is asked of the disk
 

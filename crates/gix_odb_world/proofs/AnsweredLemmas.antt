@@ -13,7 +13,7 @@ use Rattle.gix_odb_looks.specs.Exchange.{AreAnswered, Exchange, IsAnswerTo}
 use Rattle.gix_odb_looks.specs.Laps as laps
 use Rattle.gix_odb_looks.specs.Laps.{AreWithin}
 use Rattle.gix_odb_looks.specs.Stream.{stream_by, stream_in}
-use Rattle.gix_odb_looks.proofs.CoreLaws.{core_answers_suit_their_events}
+use Rattle.gix_odb_look_laws.proofs.CoreLaws.{core_answers_suit_their_events}
 use Rattle.gix_odb_looks.proofs.HandedLaws.{IsOwnStream}
 use Rattle.gix_odb_refresh.specs.Asked.{AreSuited, IsSuited}
 use Rattle.gix_odb_world.specs.AtWork.{Running, Store}

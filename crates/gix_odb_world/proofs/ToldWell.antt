@@ -33,10 +33,11 @@ use Rattle.gix_odb_looks.specs.Shown.{IsHanded, IsShownView}
 use Rattle.gix_odb_looks.specs.Stream.{stream_by, stream_in}
 use Rattle.gix_odb_looks.specs.True.{AreTrue, IsTrue}
 use Rattle.gix_odb_looks.specs.declared.look_up.LookUp.{LookUp}
-use Rattle.gix_odb_looks.proofs.CoreLaws.{core_answers_are_fair, core_answers_are_numbered, core_answers_are_true, core_answers_suit_their_events, core_answers_tell_no_later_number}
-use Rattle.gix_odb_looks.proofs.CoreLaws.Wider.{AreTrue-wider, IsHanded-wider, IsShownView-wider}
+use Rattle.gix_odb_look_laws.proofs.CoreLaws.{core_answers_are_fair, core_answers_are_numbered, core_answers_are_true, core_answers_suit_their_events, core_answers_tell_no_later_number}
+use Rattle.gix_odb_look_laws.proofs.CoreLaws.Wider.{AreTrue-wider, IsHanded-wider, IsShownView-wider}
 use Rattle.gix_odb_looks.proofs.FoundLaws.{what_is_handed_was_shown}
-use Rattle.gix_odb_looks.proofs.HandedLaws.{IsOwnStream, streams_of_look_ups_are_their_own, what_is_handed_can_happen}
+use Rattle.gix_odb_looks.proofs.HandedLaws.{IsOwnStream, streams_of_look_ups_are_their_own}
+use Rattle.gix_odb_look_laws.proofs.HappenLaws.{what_is_handed_can_happen}
 use Rattle.gix_odb.specs.Contents.{sought}
 use Rattle.gix_odb.specs.HandleState.{unseen}
 use Rattle.gix_odb_world.specs.declared.record.Did.{Did}

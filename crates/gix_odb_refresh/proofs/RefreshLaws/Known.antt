@@ -3,9 +3,7 @@ use Rattle.std.proofs.Common.{◌≡◌, ◌⊎◌, inl, inr, ℕ, Bool, true, f
 use Rattle.std.specs.Prelude.{if◌then◌else◌}
 use Rattle.std.proofs.lemmas.List.Elements.{Contains-append_left, Contains-push}
 use Rattle.std.proofs.lemmas.Option.{same_Some}
-use Rattle.odb_asks.specs.declared.ask.DiskAnswer.{DiskAnswer}
 use Rattle.gix_odb_events.specs.declared.listing.Listing.{Listing}
-use Rattle.gix_odb_core.specs.Replay as core
 use Rattle.gix_odb_events.specs.Answers.{view_in}
 use Rattle.gix_odb_events.specs.declared.event.Effect.{Effect}
 use Rattle.gix_odb_events.specs.declared.event.Effect.TheVariants as effects
@@ -30,7 +28,7 @@ use Rattle.gix_odb_looks.proofs.HandedLaws.Reading.{none_told, told_from}
 use Rattle.gix_odb_looks.proofs.HandedLaws.Streams.{HasNone, Opened, StreamBehind, StreamOf, Told, core_leaves_streams, left_open, left_open-push, open_by, opened_by}
 use Rattle.gix_odb_looks.proofs.HandedLaws.Streams.{listing_streams, opened_last, opened_last-push, told_by}
 use Rattle.gix_odb_looks.proofs.StreamLaws.Exchanges.{stream_in-push}
-use Rattle.gix_odb_refresh.specs.RefreshOrder.{ask_of, by_listed, by_look, by_published, fed, started, view_shown}
+use Rattle.gix_odb_refresh.specs.RefreshOrder.{ask_of, by_listed, by_look, fed, started, view_shown}
 use Rattle.gix_odb_refresh.specs.Refreshed.{AreAsked, LookRefused, ShowedUnread, behind}
 use Rattle.gix_odb_refresh.specs.declared.refresh.Refresh.{Refresh}
 use Rattle.gix_odb_refresh.specs.declared.refresh.Refresh.TheVariants as stages

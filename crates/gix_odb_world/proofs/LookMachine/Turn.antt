@@ -25,7 +25,8 @@ use Rattle.gix_odb_looks.specs.declared.look_up.LookStage.{LookStage}
 use Rattle.gix_odb_looks.specs.declared.look_up.LookStage.TheVariants as stages
 use Rattle.gix_odb_looks.specs.declared.look_up.LookUp.{LookUp}
 use Rattle.gix_odb_looks.proofs.CauseLaws.{a_done_look_up_asks_nothing}
-use Rattle.gix_odb_looks.proofs.HandedLaws.{look_ups_change_no_file, what_is_handed_can_happen}
+use Rattle.gix_odb_looks.proofs.HandedLaws.{look_ups_change_no_file}
+use Rattle.gix_odb_look_laws.proofs.HappenLaws.{what_is_handed_can_happen}
 use Rattle.gix_odb_looks.proofs.TurnLaws.{a_look_up_ends_in_time}
 use Rattle.gix_odb.specs.Contents.{sought}
 use Rattle.gix_odb.specs.declared.call_state.CallState.TheVariants.{Looking}

@@ -11,8 +11,8 @@ use Rattle.gix_odb_core.specs.Replay.{CanHappen, IsLegal}
 use Rattle.gix_odb_core.specs.declared.journal.Entry.{Entry}
 use Rattle.gix_odb_core.proofs.ShapeLaws.{possible_journal_grows}
 use Rattle.gix_odb_looks.specs.Shown.{IsHanded}
-use Rattle.gix_odb_looks.proofs.CoreLaws.Journals.{each_of_grown, legal_journal_grows}
-use Rattle.gix_odb_looks.proofs.CoreLaws.Wider.{IsHanded-wider}
+use Rattle.gix_odb_look_laws.proofs.CoreLaws.Journals.{each_of_grown, legal_journal_grows}
+use Rattle.gix_odb_look_laws.proofs.CoreLaws.Wider.{IsHanded-wider}
 use Rattle.gix_odb.specs.Contents.{folder_list}
 use Rattle.gix_odb.specs.Held.{WasShownAt}
 use Rattle.gix_odb_world.specs.AtWork.{Store, setting_in}

@@ -19,8 +19,8 @@ use Rattle.gix_odb_core.proofs.NumberLaws.{entries_lower_no_number}
 use Rattle.gix_odb_core.proofs.ShapeLaws.{journal_comes_to_a_shape, possible_journal_splits}
 use Rattle.gix_odb_core.proofs.SnapshotLaws.{entry_hands_the_view_behind_it, snapshot_is_the_last_view_handed}
 use Rattle.gix_odb_looks.specs.Shown.{IsShownView}
-use Rattle.gix_odb_looks.proofs.CoreLaws.Shapes.{shape_shows_few}
-use Rattle.gix_odb_looks.proofs.ViewLaws.{what_a_core_shows_was_shown}
+use Rattle.gix_odb_look_laws.proofs.CoreLaws.Shapes.{shape_shows_few}
+use Rattle.gix_odb_look_laws.proofs.ViewLaws.{what_a_core_shows_was_shown}
 use Rattle.gix_odb.specs.Contents.{folder_list}
 use Rattle.gix_odb.specs.HandleState.{unseen}
 use Rattle.gix_odb_world.specs.AtWork.{Modes, Store, setting_in}

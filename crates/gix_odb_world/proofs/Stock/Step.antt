@@ -20,9 +20,10 @@ use Rattle.gix_odb_calls.specs.declared.step.Outcome.TheVariants as outcomes
 use Rattle.gix_odb_looks.specs.LookUpOrder as looks
 use Rattle.gix_odb_looks.specs.Shown.{IsHanded}
 use Rattle.gix_odb_looks.proofs.FoundLaws.{what_is_handed_was_shown}
-use Rattle.gix_odb_looks.proofs.HandedLaws.{what_is_handed_can_happen}
+use Rattle.gix_odb_look_laws.proofs.HappenLaws.{what_is_handed_can_happen}
 use Rattle.gix_odb_refresh.specs.RefreshOrder as refreshes
-use Rattle.gix_odb_refresh.proofs.RefreshLaws.{what_a_refresh_hands_on_can_happen, what_a_refresh_hands_on_is_of_the_folders}
+use Rattle.gix_odb_refresh.proofs.RefreshLaws.{what_a_refresh_hands_on_is_of_the_folders}
+use Rattle.gix_odb_look_laws.proofs.RefreshHappenLaws.{what_a_refresh_hands_on_can_happen}
 use Rattle.gix_odb.specs.Contents.{sought}
 use Rattle.gix_odb.specs.declared.call_state.CallState.TheVariants.{Looking, Refreshing, Refused, Writing}
 use Rattle.gix_odb.specs.declared.open_state.OpenState.TheVariants as opens

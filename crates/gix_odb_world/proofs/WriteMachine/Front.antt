@@ -24,7 +24,8 @@ use Rattle.gix_odb_refresh.specs.declared.refresh.Refresh.{Refresh}
 use Rattle.gix_odb_refresh.specs.declared.refresh.Refresh.TheVariants as fronts
 use Rattle.gix_odb_refresh.proofs.AskedLemmas.{asked-push}
 use Rattle.gix_odb_refresh.proofs.RefreshLaws.{a_refresh_takes_at_most_a_lap, only_unread_stores_are_refused, refreshes_change_no_file, refused_refreshes_have_causes}
-use Rattle.gix_odb_refresh.proofs.RefreshLaws.{streams_of_refreshes_are_their_own, what_a_refresh_hands_on_can_happen}
+use Rattle.gix_odb_refresh.proofs.RefreshLaws.{streams_of_refreshes_are_their_own}
+use Rattle.gix_odb_look_laws.proofs.RefreshHappenLaws.{what_a_refresh_hands_on_can_happen}
 use Rattle.gix_odb.specs.CallOrder.{result_of_write, unlisted}
 use Rattle.gix_odb.specs.Contents.{folder_list}
 use Rattle.gix_odb_world.specs.AtWork.{MakeCall, Running, Store, setting_in}

@@ -34,11 +34,11 @@ use Rattle.gix_odb_looks.specs.Laps.{Follows, HasFew, IsNumbered, number_by}
 use Rattle.gix_odb_looks.specs.LookUpOrder.{Setting}
 use Rattle.gix_odb_looks.specs.Shown.{IsHanded, IsShownView}
 use Rattle.gix_odb_looks.specs.True.{IsTrue}
-use Rattle.gix_odb_looks.proofs.ViewLaws.{what_a_core_shows_was_shown}
-use Rattle.gix_odb_looks.proofs.CoreLaws.Answers.{answer_follows_its_base, answer_suits_its_event, number_behind_gives, outdated_tells_the_number}
-use Rattle.gix_odb_looks.proofs.CoreLaws.Fairness.{published_views_have_their_rows, shown_views_are_fair}
-use Rattle.gix_odb_looks.proofs.CoreLaws.Journals.{each_of_grown, legal_journal_grows, next_entry_lowers_no_number}
-use Rattle.gix_odb_looks.proofs.CoreLaws.Shapes.{entries_stay_below, shape_shows_few}
+use Rattle.gix_odb_look_laws.proofs.ViewLaws.{what_a_core_shows_was_shown}
+use Rattle.gix_odb_look_laws.proofs.CoreLaws.Answers.{answer_follows_its_base, answer_suits_its_event, number_behind_gives, outdated_tells_the_number}
+use Rattle.gix_odb_look_laws.proofs.CoreLaws.Fairness.{published_views_have_their_rows, shown_views_are_fair}
+use Rattle.gix_odb_look_laws.proofs.CoreLaws.Journals.{each_of_grown, legal_journal_grows, next_entry_lowers_no_number}
+use Rattle.gix_odb_look_laws.proofs.CoreLaws.Shapes.{entries_stay_below, shape_shows_few}
 
 -- an event of the handle of a seat is answered behind a journal, which has one entry more then
 module _ (opening : Shape) (entries : List Entry) (seat : ℕ) (event : Event) (answer : core.Answer)

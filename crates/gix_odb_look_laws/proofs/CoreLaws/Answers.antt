@@ -19,7 +19,7 @@ use Rattle.gix_odb_events.specs.declared.answer.Answer.TheVariants as told
 use Rattle.gix_odb_events.specs.declared.answer.PartAsk.TheVariants as asks
 use Rattle.gix_odb_looks.specs.Exchange.{IsAnswerTo}
 use Rattle.gix_odb_looks.specs.Laps.{Follows, number_by}
-use Rattle.gix_odb_looks.proofs.CoreLaws.Shapes.{publishing_comes_to}
+use Rattle.gix_odb_look_laws.proofs.CoreLaws.Shapes.{publishing_comes_to}
 
 module _ (entries : List Entry) (shape : Shape) (number seat : ℕ) where
   -- ---- of which kind it is
