@@ -7,7 +7,8 @@ ghost use Rattle.odb_print.specs.Print.{printed_at, line_of};
 ghost use Rattle.gitodb.specs.Session.{Answers, AnswersWith, Says, ending_text, status_by};
 
 use crate::status::Status;
-use gix_odb_world::{Line, Outcome, OutcomeList, Play, World};
+use gix_odb_runs::OutcomeList;
+use gix_odb_world::{Line, Outcome, Play, World};
 use odb_base::{ByteList, NoMemory, Sequence};
 use odb_disk::MemDisk;
 use odb_print::print_outcome;

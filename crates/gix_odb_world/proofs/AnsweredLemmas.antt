@@ -18,9 +18,9 @@ use Rattle.gix_odb_looks.proofs.HandedLaws.{IsOwnStream}
 use Rattle.gix_odb_refresh.specs.Asked.{AreSuited, IsSuited}
 use Rattle.gix_odb_world.specs.AtWork.{Running, Store}
 use Rattle.gix_odb_world.specs.Bound.{HasAtMost}
-use Rattle.gix_odb_world.specs.Cores.{answer_behind, cores_after, history_at}
-use Rattle.gix_odb_world.specs.Event.{CoreAnswer, CoreEvent, Event, OfCore, OfDisk, ToCore, ToDisk}
-use Rattle.gix_odb_world.specs.Run.{disk_after, tree_at}
+use Rattle.gix_odb_runs.specs.Cores.{answer_behind, cores_after, history_at}
+use Rattle.gix_odb_runs.specs.Event.{CoreAnswer, CoreEvent, Event, OfCore, OfDisk, ToCore, ToDisk}
+use Rattle.gix_odb_runs.specs.Run.{disk_after, tree_at}
 use Rattle.gix_odb_world.specs.Running.Answered.{IsAnsweredWell}
 use Rattle.gix_odb_world.specs.Told.{told_since}
 use Rattle.gix_odb_world.proofs.DiskTold.{suits}

@@ -14,7 +14,7 @@ use Rattle.gix_odb_calls.specs.declared.step.Step.{Step}
 use Rattle.gix_odb_calls.specs.declared.step.Step.TheVariants as steps
 use Rattle.gix_odb_calls.specs.declared.step.Outcome.{Outcome}
 use Rattle.gix_odb_calls.specs.declared.step.Outcome.TheVariants as outcomes
-use Rattle.gix_odb_world.specs.Event.{Event}
+use Rattle.gix_odb_runs.specs.Event.{Event}
 use Rattle.gix_odb_world.specs.Status.{Status, Store, Free, after_turn_of, cloned, ignoring_from, replied, started, status_after, status_of, store_at, turned, with_status}
 use Rattle.gix_odb_world.specs.Begun.{IsIgnoreOf, IsTaskOf, OpenedBy}
 use Rattle.gix_odb_world.specs.Valid.{misuse_of, why_not_after}

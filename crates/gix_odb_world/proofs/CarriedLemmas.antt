@@ -13,18 +13,18 @@ use Rattle.gix_odb_events.specs.declared.answer.Answer as parts
 use Rattle.gix_odb_events.specs.declared.answer.Answer.TheVariants as told
 use Rattle.gix_odb_events.specs.declared.answer.PartAsk.{PartAsk}
 use Rattle.gix_odb_events.specs.declared.answer.PartAsk.TheVariants as asks
-use Rattle.gix_odb_world.specs.declared.record.Did.TheVariants as done
+use Rattle.gix_odb_runs.specs.declared.record.Did.TheVariants as done
 use Rattle.gix_odb_world.specs.declared.turn.Carried.{Carried}
 use Rattle.gix_odb_world.specs.declared.work.Work.{Work}
 use Rattle.gix_odb_world.specs.declared.work.Work.TheVariants.{Opening, Calling}
-use Rattle.gix_odb_world.specs.Cores.{cores_after_asked, or_before}
-use Rattle.gix_odb_world.specs.Event.{Ask, CoreAnswer, CoreEvent, OfCore, ToCore, ToDisk, answered, part_asked}
+use Rattle.gix_odb_runs.specs.Cores.{cores_after_asked, or_before}
+use Rattle.gix_odb_runs.specs.Event.{Ask, CoreAnswer, CoreEvent, OfCore, ToCore, ToDisk, answered, part_asked}
 use Rattle.gix_odb_world.specs.Recorded.{opened_in}
-use Rattle.gix_odb_world.specs.Run.{Stand, change_asked, did_of_asked, disk_after_asked, stand, told_now}
+use Rattle.gix_odb_runs.specs.Run.{Stand, change_asked, did_of_asked, disk_after_asked, stand, told_now}
 use Rattle.gix_odb_world.specs.Table.{AddsCore, Carries, CarriesEvent, carried_at, carried_unasked, change_now, did_now, own_answer, seeing, state_after, told_in}
 use Rattle.gix_odb_world.specs.WorkOrder.{ask_on, asks_on, asks_or, core_for, fed_after, fed_on, registered_on, registers_in}
-use Rattle.gix_odb_world.proofs.FailedLemmas.{has_failed-now}
-use Rattle.gix_odb_world.proofs.WriteAsk.Quiet.{after_ask-change}
+use Rattle.gix_odb_runs.proofs.FailedLemmas.{has_failed-now}
+use Rattle.gix_odb_runs.proofs.WriteAsk.Quiet.{after_ask-change}
 
 -- work that has a core made asks for that
 asks_core : (state : HandleState) (work : Work) (slots : ℕ) → registers_in work ≡ Some slots → asks_on state work ≡ Some (core_for state slots)

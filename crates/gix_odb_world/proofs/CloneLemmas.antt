@@ -13,18 +13,18 @@ use Rattle.gix_odb_events.specs.declared.view.View.{View}
 use Rattle.gix_odb_calls.specs.declared.step.Step.TheVariants as steps
 use Rattle.gix_odb_calls.specs.declared.step.Outcome.TheVariants as outcomes
 use Rattle.gix_odb_calls.specs.declared.step.Why.{Why}
-use Rattle.gix_odb_world.specs.declared.record.Did.{Did}
-use Rattle.gix_odb_world.specs.declared.record.Did.TheVariants.{Core}
+use Rattle.gix_odb_runs.specs.declared.record.Did.{Did}
+use Rattle.gix_odb_runs.specs.declared.record.Did.TheVariants.{Core}
 use Rattle.gix_odb_world.specs.declared.handle.Handle.{Handle}
 use Rattle.gix_odb_world.specs.declared.work.Work.{Work}
 use Rattle.gix_odb_world.specs.declared.course.Course.{Course}
-use Rattle.gix_odb_world.specs.Cores.{cores_after, cores_after_asked, history_at, or_before}
-use Rattle.gix_odb_world.specs.Event.{Asked, Event, OfCore}
+use Rattle.gix_odb_runs.specs.Cores.{cores_after, cores_after_asked, history_at, or_before}
+use Rattle.gix_odb_runs.specs.Event.{Asked, Event, OfCore}
 use Rattle.gix_odb_world.specs.Headline.{LeavesDisk, asked_applied, asked_by_clone}
-use Rattle.gix_odb_world.specs.Run.{did_of_asked}
+use Rattle.gix_odb_runs.specs.Run.{did_of_asked}
 use Rattle.gix_odb_world.specs.Running.{Runs}
 use Rattle.gix_odb_world.specs.Status.{Free, Resting, Status, Working, cloned, status_of}
-use Rattle.gix_odb_world.specs.Made.{joined_answer}
+use Rattle.gix_odb_runs.specs.Made.{joined_answer}
 use Rattle.gix_odb_world.specs.Valid.{Phase, NoneThere, Idle, Running, why_not_clone, why_not_idle, why_not_open}
 use Rattle.gix_odb_world.specs.World.{Continues, Explains, Matches, handle_at}
 use Rattle.gix_odb_world.specs.Table.{SetsHandle, Notes, phase_now, phase_of_handle, phase_of_work, why_not_now}

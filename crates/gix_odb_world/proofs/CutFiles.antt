@@ -12,8 +12,8 @@ use Rattle.odb_nodes.specs.Tree.Write.{spot}
 use Rattle.odb_nodes.proofs.OwnWayLaws.{Stops, stop_below_root, stops_kept}
 use Rattle.gix_odb_loose.specs.WriteOrder.{temp_name}
 use Rattle.gix_odb_loose.proofs.NameLaws.{IsTemporary}
-use Rattle.gix_odb_world.specs.Event.{Event}
-use Rattle.gix_odb_world.specs.Run.{IsTurnOf, tree_at}
+use Rattle.gix_odb_runs.specs.Event.{Event}
+use Rattle.gix_odb_runs.specs.Run.{IsTurnOf, tree_at}
 use Rattle.gix_odb_world.specs.Undisturbed.{HasMade, IsUndisturbed, OthersLeave}
 use Rattle.gix_odb_world.proofs.LawfulRun.{LawfulRun}
 use Rattle.gix_odb_world.proofs.OwnFiles as along

@@ -20,10 +20,10 @@ use Rattle.gix_odb_events.specs.declared.answer.Answer.TheVariants as told
 use Rattle.gix_odb_events.specs.declared.answer.PartAsk.TheVariants as parts
 use Rattle.gix_odb_looks.specs.LookUpOrder.{Setting}
 use Rattle.gix_odb_looks.specs.True.{IsTrue, Suits}
-use Rattle.gix_odb_world.specs.Event.{Event}
-use Rattle.gix_odb_world.specs.Run.{FailedSince, disk_after, has_failed}
+use Rattle.gix_odb_runs.specs.Event.{Event}
+use Rattle.gix_odb_runs.specs.Run.{FailedSince, disk_after, has_failed}
 use Rattle.gix_odb_world.specs.Status.{Running}
-use Rattle.gix_odb_world.proofs.FailedLemmas.{has_failed-now}
+use Rattle.gix_odb_runs.proofs.FailedLemmas.{has_failed-now}
 use Rattle.gix_odb_world.proofs.QuietTurn.{failed_earlier}
 use Rattle.gix_odb_world.proofs.WriteTurn.Common.{IsTurnWith}
 

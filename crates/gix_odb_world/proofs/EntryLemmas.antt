@@ -13,18 +13,18 @@ use Rattle.gix_odb_core.specs.History.{History, opened}
 use Rattle.gix_odb_core.specs.Replay.{number_behind}
 use Rattle.gix_odb_events.specs.View.{last_state}
 use Rattle.gix_odb_events.specs.declared.event.Event.TheVariants as core_events
-use Rattle.gix_odb_world.specs.declared.record.Did.{Did}
-use Rattle.gix_odb_world.specs.declared.record.Record.{Record}
+use Rattle.gix_odb_runs.specs.declared.record.Did.{Did}
+use Rattle.gix_odb_runs.specs.declared.record.Record.{Record}
 use Rattle.gix_odb_calls.specs.declared.step.Outcome.{Outcome}
 use Rattle.gix_odb_calls.specs.declared.step.Outcome.TheVariants as outcomes
 use Rattle.gix_odb_calls.specs.declared.step.Step.{Step}
 use Rattle.gix_odb_calls.specs.declared.step.Step.TheVariants as steps
 use Rattle.gix_odb_world.specs.Asks.{AsksAsTask, MayAskCore}
-use Rattle.gix_odb_world.specs.Cores.{cores_after, cores_after_asked, entered, history_at}
-use Rattle.gix_odb_world.specs.Entries.{TellsEachEntry, entries_told, entry_told}
-use Rattle.gix_odb_world.specs.Event.{Ask, Asked, CoreAnswer, CoreEvent, Event, OfCore, OfDisk, OfNewCore, OfNothing, ToCore, ToDisk, ToNewCore}
+use Rattle.gix_odb_runs.specs.Cores.{cores_after, cores_after_asked, entered, history_at}
+use Rattle.gix_odb_runs.specs.Entries.{TellsEachEntry, entries_told, entry_told}
+use Rattle.gix_odb_runs.specs.Event.{Ask, Asked, CoreAnswer, CoreEvent, Event, OfCore, OfDisk, OfNewCore, OfNothing, ToCore, ToDisk, ToNewCore}
 use Rattle.gix_odb_world.specs.Headline.{IsLawful, IsTurn, Law, Suits, asked_applied, asked_by_clone, asked_by_close, stand_of}
-use Rattle.gix_odb_world.specs.Run.{did_of_asked, disk_after, told_now}
+use Rattle.gix_odb_runs.specs.Run.{did_of_asked, disk_after, told_now}
 use Rattle.gix_odb_world.specs.Status.{Free, MakeCall, OpenStore, Resting, Running, Status, Task, Working, status_after, status_of}
 use Rattle.gix_odb_world.specs.Valid.{misuse_of}
 use Rattle.gix_odb_world.proofs.AlongRun.{along_run}

@@ -23,8 +23,8 @@ use Rattle.gix_odb.specs.OpenOrder as openings
 use Rattle.odb_asks.specs.declared.ask.DiskAsk.{DiskAsk}
 use Rattle.gix_odb_world.specs.declared.work.Work.{Work}
 use Rattle.gix_odb_world.specs.declared.work.Work.TheVariants.{Opening, Calling}
-use Rattle.gix_odb_world.specs.Cores.{cores_after, history_at, registered_at}
-use Rattle.gix_odb_world.specs.Event.{CoreEvent, Event, ToCore}
+use Rattle.gix_odb_runs.specs.Cores.{cores_after, history_at, registered_at}
+use Rattle.gix_odb_runs.specs.Event.{CoreEvent, Event, ToCore}
 use Rattle.gix_odb_world.specs.Handle.{IsHandleOf}
 use Rattle.gix_odb_world.specs.Machines.{ask_in}
 use Rattle.gix_odb_world.specs.Running.{Runs}

@@ -24,14 +24,15 @@ use Rattle.gix_odb_loose.specs.WriteOrder.{number_made, prefix_path, temp_path}
 use Rattle.gix_odb_loose.specs.declared.write_order.WriteStage.{WriteStage}
 use Rattle.gix_odb_loose.specs.declared.write_order.WriteStage.TheVariants as stages
 use Rattle.gix_odb_loose.proofs.NameLaws.{IsTemporary, object_spot, prefix_path-is, temp_path-is}
-use Rattle.gix_odb_world.specs.Recorded.{opened_in, path_recorded}
-use Rattle.gix_odb_world.specs.declared.record.Did.TheVariants.{Disk}
-use Rattle.gix_odb_world.specs.Event.{Event}
-use Rattle.gix_odb_world.specs.Run.{change_by, disk_after, tree_at, NoCall}
-use Rattle.gix_odb_world.specs.Writing.{AskedAt, ToWrite}
+use Rattle.gix_odb_world.specs.Recorded.{opened_in}
+use Rattle.gix_odb_runs.specs.PathRecorded.{path_recorded}
+use Rattle.gix_odb_runs.specs.declared.record.Did.TheVariants.{Disk}
+use Rattle.gix_odb_runs.specs.Event.{Event}
+use Rattle.gix_odb_runs.specs.Run.{change_by, disk_after, tree_at, NoCall}
+use Rattle.gix_odb_runs.specs.Writing.{AskedAt, ToWrite}
 use Rattle.gix_odb_world.proofs.LawfulRun.{LawfulRun}
 use Rattle.gix_odb_world.proofs.RunSteps.{IsLeft, Made, Quiet, Turned, change_by_some, is_tree_at, kind_at, left_at}
-use Rattle.gix_odb_world.proofs.WriteAsk.{Told, done_made, told_append, told_make_dir, told_new_file, told_remove, told_rename}
+use Rattle.gix_odb_runs.proofs.WriteAsk.{Told, done_made, told_append, told_make_dir, told_new_file, told_remove, told_rename}
 use Rattle.gix_odb_world.proofs.WriteTurn.{ask_at_stage}
 
 abbrev pub NotTemporary : Path → Type 0

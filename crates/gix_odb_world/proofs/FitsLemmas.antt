@@ -11,7 +11,7 @@ use Rattle.odb_nodes.specs.Tree.{Tree, tree_of}
 use Rattle.gix_odb_shown.specs.Kept.{Fits, Folders, LiesInOne}
 use Rattle.gix_odb_shown.specs.Watched.{pack_directory}
 use Rattle.gix_odb_world.specs.declared.course.Course.{Course}
-use Rattle.gix_odb_world.specs.Run.{disk_after, tree_at}
+use Rattle.gix_odb_runs.specs.Run.{disk_after, tree_at}
 use Rattle.gix_odb_world.specs.World.{HasHistory, IsExplained}
 use Rattle.gix_odb_world.proofs.HistoryLemmas.{tree_at-all}
 

@@ -37,7 +37,7 @@ use Rattle.gix_odb_world.specs.Status.{Store}
 use Rattle.gix_odb_looks.specs.Exchange.{Exchange}
 use Rattle.gix_odb.specs.Held.{Held}
 use Rattle.gix_odb_world.specs.Promise.{Keeps, claim_of}
-use Rattle.gix_odb_world.proofs.WriteAsk.Quiet.{look_quiet, read_quiet}
+use Rattle.gix_odb_runs.proofs.WriteAsk.Quiet.{look_quiet, read_quiet}
 
 -- each query asks a folder with a look or a read
 pub ask_found : (limit : Option ℕ) (call : Query) (id : ObjectId) (folder : Path)

@@ -6,7 +6,7 @@ use Rattle.gix_odb_refresh.specs.RefreshOrder.{ask_of, fed, started}
 use Rattle.gix_odb_refresh.specs.Refreshed.{AreAsked, behind, turns_of}
 use Rattle.gix_odb_refresh.proofs.AskedLemmas.{behind-push, turns_of-asked, turns_of-ended}
 use Rattle.gix_odb_world.specs.AtWork.{Modes, Store, setting_in}
-use Rattle.gix_odb_world.specs.Event.{Event}
+use Rattle.gix_odb_runs.specs.Event.{Event}
 use Rattle.gix_odb_world.specs.Told.{refresh_begun, refresh_now, told_since, turns_in_front}
 use Rattle.gix_odb_world.proofs.ToldLemmas.{view_kept}
 

@@ -19,8 +19,8 @@ use Rattle.gix_odb_calls.specs.declared.step.Why.{Why}
 use Rattle.gix_odb_calls.specs.declared.step.Why.TheVariants.{BadOpen}
 use Rattle.gix_odb_calls.specs.declared.init.Options.{Options}
 use Rattle.gix_odb.specs.declared.open_state.OpenState.TheVariants.{Looking}
-use Rattle.gix_odb_world.specs.declared.record.Did.{Did}
-use Rattle.gix_odb_world.specs.declared.record.Did.TheVariants.{Core, Nothing}
+use Rattle.gix_odb_runs.specs.declared.record.Did.{Did}
+use Rattle.gix_odb_runs.specs.declared.record.Did.TheVariants.{Core, Nothing}
 use Rattle.gix_odb_world.specs.declared.handle.Handle.{Handle}
 use Rattle.gix_odb.specs.declared.handle_state.HandleState.{HandleState}
 use Rattle.gix_odb_world.specs.declared.work.Work.{Work}
@@ -31,12 +31,12 @@ use Rattle.gix_odb_core.specs.History.{History}
 use Rattle.gix_odb_core.specs.Replay.{number_behind}
 use Rattle.gix_odb_events.specs.declared.event.Event.TheVariants as core_events
 use Rattle.gix_odb_world.specs.Bound.{most_changes}
-use Rattle.gix_odb_world.specs.Cores.{answer_behind, cores_after, cores_after_asked, history_at}
-use Rattle.gix_odb_world.specs.Event.{Asked, Event, OfCore}
+use Rattle.gix_odb_runs.specs.Cores.{answer_behind, cores_after, cores_after_asked, history_at}
+use Rattle.gix_odb_runs.specs.Event.{Asked, Event, OfCore}
 use Rattle.gix_odb_world.specs.Headline.{LeavesDisk, asked_applied, asked_by_close}
 use Rattle.gix_odb_world.specs.Status.{OpenStore, Store, Status, Free, Resting, Working, store_at, opening_at, ignoring_from, modes_at_opening, status_of}
 use Rattle.gix_odb_world.specs.Handle.{IsHandleOf, IsOpened}
-use Rattle.gix_odb_world.specs.Run.{IsTurnOf, did_of_asked}
+use Rattle.gix_odb_runs.specs.Run.{IsTurnOf, did_of_asked}
 use Rattle.gix_odb_world.specs.Running.{Runs}
 use Rattle.gix_odb_world.specs.Valid.{Phase, NoneThere, Idle, Running, why_not_open, why_not_idle, are_distinct, are_good_folders, are_good_replacements, is_openable}
 use Rattle.gix_odb_world.specs.World.{Continues, Explains, Matches, handle_at}

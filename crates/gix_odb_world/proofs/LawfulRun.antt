@@ -2,7 +2,7 @@
 use Rattle.std.specs.Prelude.{List}
 use Rattle.odb_asks.specs.MemDisk.{Volume}
 use Rattle.odb_nodes.specs.Tree.{IsTree, tree_of}
-use Rattle.gix_odb_world.specs.Event.{Event}
+use Rattle.gix_odb_runs.specs.Event.{Event}
 use Rattle.gix_odb_world.specs.Headline.{IsLawful}
 use Rattle.gix_odb_world.specs.Running.{RunsThroughout}
 

@@ -3,7 +3,6 @@ mod BegunLemmas
 mod BoundLemmas
 mod CarriedLemmas
 mod CloneLemmas
-mod FailedLemmas
 mod FolderLemmas
 mod HandleLemmas
 mod DistinctLemmas
@@ -47,8 +46,6 @@ mod WriteKept
 mod WriteTurn
 mod WriteGoes
 mod WriteFive
-mod WriteAsk
-mod RefusedLemmas
 mod OpenFacts
 mod SettingLemmas
 mod ToldLemmas

@@ -19,10 +19,10 @@ use Rattle.gix_odb.specs.declared.handle_state.HandleState.{HandleState}
 use Rattle.gix_odb_world.specs.declared.work.Work.TheVariants.{Calling}
 use Rattle.gix_odb_world.specs.AtWork.{Modes, setting_in}
 use Rattle.gix_odb_world.specs.Bound.{bound_of_call, bound_of_task, bytes_to_write}
-use Rattle.gix_odb_world.specs.Event.{Answer, Event, FromCore, FromDisk}
+use Rattle.gix_odb_runs.specs.Event.{Answer, Event, FromCore, FromDisk}
 use Rattle.gix_odb_world.specs.Handle.{IsHandleOf}
 use Rattle.gix_odb_world.specs.Machine.{placed}
-use Rattle.gix_odb_world.specs.Run.{IsTurnOf}
+use Rattle.gix_odb_runs.specs.Run.{IsTurnOf}
 use Rattle.gix_odb_world.specs.Running.Query.{IsLooking, call_of, looking}
 use Rattle.gix_odb_world.specs.Status.{MakeCall, Running, Store, Task}
 use Rattle.gix_odb_world.specs.Told.{look_begun, told_since}

@@ -40,13 +40,13 @@ use Rattle.gix_odb.specs.Held.{Held, InLooseFile, InPackFile, LiesAt, Place, Sti
 use Rattle.gix_odb.specs.Moments.{Throughout}
 use Rattle.gix_odb_world.specs.AtWork.{Modes, Store, setting_in}
 use Rattle.gix_odb_world.specs.Causes.{FindCause, GaveSometime, LooseCause, Sometime}
-use Rattle.gix_odb_world.specs.Event.{Event}
+use Rattle.gix_odb_runs.specs.Event.{Event}
 use Rattle.gix_odb_world.specs.Promise.{Claim, Keeps, QueryPromise, claim_of}
-use Rattle.gix_odb_world.specs.Run.{FailedSince, tree_at}
+use Rattle.gix_odb_runs.specs.Run.{FailedSince, tree_at}
 use Rattle.gix_odb_world.specs.Running.PackedStill.{IndicesShowOne, IsPackedStill}
 use Rattle.gix_odb_world.specs.Running.Query.{IsFit, IsGiven, IsToldWell}
 use Rattle.gix_odb_world.specs.Told.{look_begun, look_now, told_since, view_then}
-use Rattle.gix_odb_world.proofs.FailedLemmas.{fails_now-still}
+use Rattle.gix_odb_runs.proofs.FailedLemmas.{fails_now-still}
 use Rattle.gix_odb_world.proofs.FolderLemmas.{VerdictSays, ask_found, folder_says}
 use Rattle.gix_odb_world.proofs.PackedStill.Contents.{lies_indexed}
 

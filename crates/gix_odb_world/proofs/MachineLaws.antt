@@ -24,19 +24,19 @@ use Rattle.gix_odb_loose.specs.declared.write_order.WriteStage.TheVariants.{Maki
 use Rattle.gix_odb_world.specs.declared.work.Work.{Work}
 use Rattle.gix_odb_world.specs.Asks.{AsksInOrder, MayAskCore, MayAskNewCore, MayEndUnasked}
 use Rattle.gix_odb_world.specs.Bound.{HasAtMost, bound_of_task}
-use Rattle.gix_odb_world.specs.Cores.{cores_after}
+use Rattle.gix_odb_runs.specs.Cores.{cores_after}
 use Rattle.gix_odb_world.specs.Seats.{IsSeated}
 use Rattle.gix_odb_world.specs.Changes.{ChangesInTask}
-use Rattle.gix_odb_world.specs.Event.{Answer, Ask, Asked, CoreEvent, Event, FromDisk, ToCore, ToDisk, ToNewCore, answered, part_asked, to_disk}
+use Rattle.gix_odb_runs.specs.Event.{Answer, Ask, Asked, CoreEvent, Event, FromDisk, ToCore, ToDisk, ToNewCore, answered, part_asked, to_disk}
 use Rattle.gix_odb_world.specs.Handle.{IsHandleOf}
 use Rattle.gix_odb_world.specs.Headline.{IsLawful, stand_of}
 use Rattle.gix_odb_world.specs.Machine.{At, Machine, placed}
 use Rattle.gix_odb_world.specs.Machines.{at}
 use Rattle.gix_odb_world.specs.Promise.{Promise}
-use Rattle.gix_odb_world.specs.Run.{IsTurnOf, NoCall, change_by, disk_after, told_now, tree_at}
+use Rattle.gix_odb_runs.specs.Run.{IsTurnOf, NoCall, change_by, disk_after, told_now, tree_at}
 use Rattle.gix_odb_world.specs.Running.{Knows, RunsThroughout}
 use Rattle.gix_odb_world.specs.Running.Write.{IsWriting, write_at}
-use Rattle.gix_odb_world.specs.Writing.{ToWrite}
+use Rattle.gix_odb_runs.specs.Writing.{ToWrite}
 use Rattle.gix_odb_world.specs.Status.{MakeCall, OpenStore, Running, Store, Task, Working, begun_with, gone_on, running_from, status_of, Modes}
 use Rattle.gix_odb_world.specs.WorkOrder.{asks_on, fed_after, result_in}
 use Rattle.gix_odb_world.proofs.Stock.OneCore.{IsStocked}

@@ -9,10 +9,10 @@ use Rattle.odb_nodes.specs.Tree.Way.{crosses}
 use Rattle.odb_nodes.specs.Tree.Write.{spot}
 use Rattle.odb_nodes.proofs.OwnWayLaws.{OwnSpot, own_kept}
 use Rattle.odb_nodes.proofs.WayLaws.{read_kept}
-use Rattle.gix_odb_world.specs.Run.{tree_at}
+use Rattle.gix_odb_runs.specs.Run.{tree_at}
 use Rattle.gix_odb_world.specs.Undisturbed.{IsUndisturbed}
 use Rattle.gix_odb_world.specs.WholeNames.{GivesAgain, GivesName, HoldsWhole, LeavesAlone, NamesStayWhole, name_path}
-use Rattle.gix_odb_world.specs.Writing.{ToWrite}
+use Rattle.gix_odb_runs.specs.Writing.{ToWrite}
 use Rattle.gix_odb_world.proofs.LawfulRun.{LawfulRun}
 use Rattle.gix_odb_world.proofs.NameSteps.Given.{target_is, whole_after, full, spot_after, whole_again, spot_again}
 

@@ -22,9 +22,9 @@ use Rattle.gix_odb_calls.specs.declared.step.Outcome.TheVariants as outcomes
 use Rattle.gix_odb_calls.specs.declared.step.Step.{Step}
 use Rattle.gix_odb_calls.specs.declared.step.Step.TheVariants as steps
 use Rattle.gix_odb_world.specs.Changes.{ChangesAs, change_applied}
-use Rattle.gix_odb_world.specs.Event.{Event}
+use Rattle.gix_odb_runs.specs.Event.{Event}
 use Rattle.gix_odb_world.specs.Headline.{Law}
-use Rattle.gix_odb_world.specs.Run.{change_asked, disk_after, disk_after_event, tree_at}
+use Rattle.gix_odb_runs.specs.Run.{change_asked, disk_after, disk_after_event, tree_at}
 use Rattle.gix_odb_world.specs.Status.{status_of}
 use Rattle.gix_odb_world.specs.TwoContents.{BreaksRule, ShowOneContent, watched_after, watched_by, watched_from, watched_too, would_change, would_change_in}
 use Rattle.gix_odb_world.specs.Valid.{misuse_of}

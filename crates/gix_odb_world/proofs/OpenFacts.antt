@@ -22,7 +22,7 @@ use Rattle.gix_odb.specs.Contents.{StoreData, folder_list, replacement_in}
 use Rattle.gix_odb_world.specs.AtWork.{Modes, Store}
 use Rattle.gix_odb_world.specs.Begun.{FromClone, FromOpen, Holds, OpenedBy}
 use Rattle.gix_odb_world.specs.Bound.{most_changes}
-use Rattle.gix_odb_world.specs.Event.{Event}
+use Rattle.gix_odb_runs.specs.Event.{Event}
 use Rattle.gix_odb_world.specs.Headline.{IsLawful, Law}
 use Rattle.gix_odb_world.specs.Valid.{Phase, NoneThere, Idle, Running, are_distinct, are_good_folders, are_good_replacements, is_openable, misuse_of, most_folders, phase_after}
 use Rattle.gix_odb_world.specs.Valid.{why_not_after, why_not_open}

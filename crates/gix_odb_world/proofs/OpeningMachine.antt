@@ -17,10 +17,10 @@ use Rattle.gix_odb.specs.declared.open_state.OpenState.{OpenState}
 use Rattle.gix_odb.specs.declared.open_state.OpenState.TheVariants as opens
 use Rattle.gix_odb_world.specs.declared.work.Work.TheVariants.{Opening}
 use Rattle.gix_odb_world.specs.Bound.{bound_of_task, turn_bound}
-use Rattle.gix_odb_world.specs.Event.{Answer, CoreEvent, Event, FromCore, FromDisk, ToCore, ToDisk, ToNewCore, answered}
+use Rattle.gix_odb_runs.specs.Event.{Answer, CoreEvent, Event, FromCore, FromDisk, ToCore, ToDisk, ToNewCore, answered}
 use Rattle.gix_odb_world.specs.Handle.{IsHandleOf}
 use Rattle.gix_odb_world.specs.Machine.{placed}
-use Rattle.gix_odb_world.specs.Run.{IsTurnOf, change_by, disk_after}
+use Rattle.gix_odb_runs.specs.Run.{IsTurnOf, change_by, disk_after}
 use Rattle.gix_odb_world.specs.Running.Opening.{HasSeen, IsOpening, opening, opening_ask}
 use Rattle.gix_odb_world.specs.Status.{MakeCall, Modes, OpenStore, Running, Store, Task, begun_with, running_from, setting_in}
 use Rattle.gix_odb_world.specs.Told.{told_since}

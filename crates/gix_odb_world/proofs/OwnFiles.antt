@@ -14,8 +14,8 @@ use Rattle.odb_nodes.specs.Tree.Write.{spot, vacant}
 use Rattle.odb_nodes.specs.declared.change.Change.TheVariants.{PutFile}
 use Rattle.odb_nodes.proofs.OwnWayLaws.{OwnSpot, own_not_vacant}
 use Rattle.gix_odb_calls.specs.declared.step.Step.TheVariants as steps
-use Rattle.gix_odb_world.specs.Event.{Event}
-use Rattle.gix_odb_world.specs.Run.{IsTurnOf, tree_at}
+use Rattle.gix_odb_runs.specs.Event.{Event}
+use Rattle.gix_odb_runs.specs.Run.{IsTurnOf, tree_at}
 use Rattle.gix_odb_world.specs.Undisturbed.{HasMade, IsUndisturbed}
 use Rattle.gix_odb_world.proofs.LawfulRun.{LawfulRun}
 use Rattle.gix_odb_world.proofs.FileSteps.{new_at}

@@ -27,8 +27,8 @@ use Rattle.gix_odb_looks.proofs.HandedLaws.{IsOwnStream}
 use Rattle.gix_odb_looks.proofs.StreamLaws.Directories.{looked_file_is_listed}
 use Rattle.gix_odb_looks.proofs.StreamLaws.Exchanges.{next_answer_is_fair}
 use Rattle.gix_odb_world.specs.AtWork.{Running}
-use Rattle.gix_odb_world.specs.Event.{Event}
-use Rattle.gix_odb_world.specs.Run.{FailedSince, disk_after, tree_at}
+use Rattle.gix_odb_runs.specs.Event.{Event}
+use Rattle.gix_odb_runs.specs.Run.{FailedSince, disk_after, tree_at}
 use Rattle.gix_odb_world.specs.Running.PackedStill.{IsPackedStill, LiesIndexed}
 use Rattle.gix_odb_world.specs.Told.{told_since}
 use Rattle.gix_odb_world.proofs.MachineLaws.{IsRunning}

@@ -10,7 +10,7 @@ use Rattle.gix_odb_calls.specs.declared.step.Outcome.TheVariants.{Pending}
 use Rattle.gix_odb_calls.specs.declared.line.Line.{Line}
 use Rattle.gix_odb_calls.specs.declared.line.Line.TheVariants.{One, Finish}
 use Rattle.gix_odb_world.specs.declared.course.Course.{Course}
-use Rattle.gix_odb_world.specs.Event.{Event}
+use Rattle.gix_odb_runs.specs.Event.{Event}
 use Rattle.gix_odb_world.specs.Play.{Made, StandsFor, Plays, made_of}
 use Rattle.gix_odb_world.specs.Played.{Makes, MakesOne, PlaysTurns, PlaysLine, HasPlayed}
 use Rattle.gix_odb_world.specs.Table.{HasOneMore}

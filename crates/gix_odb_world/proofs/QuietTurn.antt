@@ -5,9 +5,9 @@ use Rattle.odb_nodes.specs.Tree.Write.{written}
 use Rattle.odb_asks.specs.Ask.{fails_now}
 use Rattle.odb_asks.specs.MemDisk.{Volume}
 use Rattle.odb_asks.specs.declared.ask.DiskAsk.{DiskAsk}
-use Rattle.gix_odb_world.specs.Event.{Event}
+use Rattle.gix_odb_runs.specs.Event.{Event}
 use Rattle.gix_odb_world.specs.Status.{Running}
-use Rattle.gix_odb_world.specs.Run.{Fails, FailedSince, change_by, disk_after, disk_after_asked, tree_at}
+use Rattle.gix_odb_runs.specs.Run.{Fails, FailedSince, change_by, disk_after, disk_after_asked, tree_at}
 use Rattle.gix_odb_world.proofs.HistoryLemmas.{failed_before, failed_last, tree_at-now}
 use Rattle.gix_odb_world.proofs.WriteTurn.Common.{IsTurnWith}
 

@@ -39,11 +39,11 @@ use Rattle.gix_odb_calls.specs.declared.step.Outcome.TheVariants as outcomes
 use Rattle.gix_odb_world.specs.declared.work.Work.{Work}
 use Rattle.gix_odb_world.specs.declared.work.Work.TheVariants.{Opening}
 use Rattle.gix_odb_world.specs.Asks.{AsksAsTask}
-use Rattle.gix_odb_world.specs.Cores.{answer_behind, cores_after, history_at, registered_at}
-use Rattle.gix_odb_world.specs.Event.{Ask, Asked, Event, ToCore, ToDisk, ToNewCore, answered}
+use Rattle.gix_odb_runs.specs.Cores.{answer_behind, cores_after, history_at, registered_at}
+use Rattle.gix_odb_runs.specs.Event.{Ask, Asked, Event, ToCore, ToDisk, ToNewCore, answered}
 use Rattle.gix_odb_world.specs.Headline.{IsLawful, IsTurn, Law, Suits, Turns, Works, stand_of}
 use Rattle.gix_odb_world.specs.Machines.{ask_in, fed_in}
-use Rattle.gix_odb_world.specs.Run.{disk_after, told_now}
+use Rattle.gix_odb_runs.specs.Run.{disk_after, told_now}
 use Rattle.gix_odb_world.specs.Promise.{Promise}
 use Rattle.gix_odb_world.specs.Seats.{HasSeat, HasSeatAt, HasSeatThroughout, IsNowhere, IsOpenAt, IsOpenAtTask, IsSeated, RegistersOwn, RegistersOwnThroughout}
 use Rattle.gix_odb_world.specs.Status.{Free, MakeCall, Modes, OpenStore, Resting, Running, Status, Store, Task, Working, come_to, modes_after, refuses_opening}

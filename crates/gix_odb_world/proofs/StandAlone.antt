@@ -6,10 +6,10 @@ use Rattle.odb_nodes.specs.Tree.{Tree}
 use Rattle.odb_nodes.specs.Tree.Way.{SameOnWay}
 use Rattle.odb_nodes.specs.Tree.Write.{file_spot}
 use Rattle.gix_odb_calls.specs.declared.step.Step.TheVariants as steps
-use Rattle.gix_odb_world.specs.Event.{Event}
-use Rattle.gix_odb_world.specs.Run.{IsTurnOf, tree_at}
+use Rattle.gix_odb_runs.specs.Event.{Event}
+use Rattle.gix_odb_runs.specs.Run.{IsTurnOf, tree_at}
 use Rattle.gix_odb_world.specs.Undisturbed.{AreApart, CutsOff, HasMade, IsAloneAtRename, IsCutOff, IsKept, IsSpared, IsUndisturbed, StandsAlone, WritesStandAlone}
-use Rattle.gix_odb_world.specs.Writing.{IsRename}
+use Rattle.gix_odb_runs.specs.Writing.{IsRename}
 use Rattle.gix_odb_world.proofs.LawfulRun.{LawfulRun}
 use Rattle.gix_odb_world.proofs.CutFiles as cuts
 use Rattle.gix_odb_world.proofs.CutFiles.WasCut as records

@@ -6,7 +6,7 @@ use Rattle.odb_asks.specs.MemDisk.{Volume}
 use Rattle.gix_odb_calls.specs.declared.step.Step.TheVariants as steps
 use Rattle.gix_odb_calls.specs.declared.step.Outcome.TheVariants as outcomes
 use Rattle.gix_odb_calls.specs.declared.call.Call.{Call}
-use Rattle.gix_odb_world.specs.declared.record.Did.TheVariants.{Nothing}
+use Rattle.gix_odb_runs.specs.declared.record.Did.TheVariants.{Nothing}
 use Rattle.gix_odb_world.specs.declared.handle.Handle.{Handle}
 use Rattle.gix_odb.specs.declared.handle_state.HandleState.{HandleState}
 use Rattle.gix_odb_world.specs.declared.work.Work.{Work}
@@ -15,11 +15,11 @@ use Rattle.gix_odb_world.specs.declared.course.Course.{Course}
 use Rattle.gix_odb.specs.CallOrder as calls
 use Rattle.gix_odb.specs.CallOrder.{HasSize}
 use Rattle.gix_odb.specs.Contents.{sought, sought_with}
-use Rattle.gix_odb_world.specs.Event.{Event, OfNothing}
+use Rattle.gix_odb_runs.specs.Event.{Event, OfNothing}
 use Rattle.gix_odb_world.specs.Status.{MakeCall, Store, Status, Free, Resting, Working, begun_with, setting_in, started, status_of, view_in_modes, Modes}
 use Rattle.gix_odb_world.specs.Handle.{IsHandleOf}
 use Rattle.gix_odb.specs.HandleState.{replacement_of, setting_at, sought_by, unseen, view_at}
-use Rattle.gix_odb_world.specs.Run.{IsTurnOf}
+use Rattle.gix_odb_runs.specs.Run.{IsTurnOf}
 use Rattle.gix_odb_world.specs.Running.{Runs, RunsThroughout}
 use Rattle.gix_odb_world.specs.Valid.{phase_of, why_not_of_hash, why_not_start}
 use Rattle.gix_odb_world.specs.World.{Continues, Explains, Matches, handle_at}
@@ -28,7 +28,7 @@ use Rattle.std.specs.Prelude.{slice_get, unwrap_or}
 use Rattle.odb_nodes.specs.Tree.{IsTree, tree_of}
 use Rattle.gix_odb_calls.specs.Hashes.{is_of_hash}
 use Rattle.gix_odb_world.specs.Begun.{HoldsStore}
-use Rattle.gix_odb_world.specs.Cores.{cores_after, cores_after_asked}
+use Rattle.gix_odb_runs.specs.Cores.{cores_after, cores_after_asked}
 use Rattle.gix_odb_world.specs.Headline.{IsLawful}
 use Rattle.gix_odb_world.specs.Seats.{HasSeat, IsSeated}
 use Rattle.gix_odb_world.proofs.BegunLemmas.{stems_now}

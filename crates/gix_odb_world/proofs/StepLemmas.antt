@@ -17,15 +17,15 @@ use Rattle.gix_odb_calls.specs.declared.step.Step.TheVariants as steps
 use Rattle.gix_odb_calls.specs.declared.step.Outcome.{Outcome}
 use Rattle.gix_odb_calls.specs.declared.step.Outcome.TheVariants as outcomes
 use Rattle.gix_odb_calls.specs.declared.step.Why.{Why}
-use Rattle.gix_odb_world.specs.declared.record.Did.{Did}
-use Rattle.gix_odb_world.specs.declared.record.Did.TheVariants.{Nothing}
+use Rattle.gix_odb_runs.specs.declared.record.Did.{Did}
+use Rattle.gix_odb_runs.specs.declared.record.Did.TheVariants.{Nothing}
 use Rattle.gix_odb_world.specs.declared.handle.Handle.{Handle}
 use Rattle.gix_odb_world.specs.declared.course.Course.{Course}
 use Rattle.gix_odb_core.specs.History.{History}
-use Rattle.gix_odb_world.specs.Cores.{cores_after, cores_after_asked}
-use Rattle.gix_odb_world.specs.Event.{Asked, OfNothing, Event}
+use Rattle.gix_odb_runs.specs.Cores.{cores_after, cores_after_asked}
+use Rattle.gix_odb_runs.specs.Event.{Asked, OfNothing, Event}
 use Rattle.gix_odb_world.specs.Status.{Status, Free, Resting, Working, status_of, status_after, with_status}
-use Rattle.gix_odb_world.specs.Run.{change_asked, did_of_asked, disk_after, disk_after_event, IsTurnOf, tree_at}
+use Rattle.gix_odb_runs.specs.Run.{change_asked, did_of_asked, disk_after, disk_after_event, IsTurnOf, tree_at}
 use Rattle.gix_odb_world.specs.TwoContents.{BreaksRule, watched_after, watched_by, would_change, would_change_in}
 use Rattle.gix_odb_world.specs.Running.{Runs}
 use Rattle.gix_odb_world.specs.Valid.{Idle, IsReason, is_openable, phase_after, phase_of, why_not_after, why_not_change, why_not_idle, why_not_open, why_not_running, why_not_clone, why_not_start}

@@ -7,8 +7,8 @@ use Rattle.std.proofs.Common.{◌≡◌, ℕ, zero, suc, ◌+◌, ◌≤◌, Lis
 use Rattle.std.proofs.Math.Seq.{take-length}
 use Rattle.odb_asks.specs.MemDisk.{Volume}
 use Rattle.gix_odb_world.specs.AtWork.{Modes, Store}
-use Rattle.gix_odb_world.specs.Cores.{cores_after}
-use Rattle.gix_odb_world.specs.Event.{Event}
+use Rattle.gix_odb_runs.specs.Cores.{cores_after}
+use Rattle.gix_odb_runs.specs.Event.{Event}
 use Rattle.gix_odb_world.specs.Headline.{IsLawful}
 use Rattle.gix_odb_world.specs.Running.{RunsThroughout}
 use Rattle.gix_odb_world.specs.Status.{Free, MakeCall, OpenStore, Resting, Status, Task, Working, status_of, statuses_from}

@@ -18,8 +18,8 @@ use Rattle.gix_odb_calls.specs.declared.step.Outcome.TheVariants as outcomes
 use Rattle.gix_odb_calls.specs.declared.step.Step.TheVariants as steps
 use Rattle.gix_odb.specs.Contents.{StoreData, folder_list}
 use Rattle.gix_odb_world.specs.Begun.{IsOpenStore}
-use Rattle.gix_odb_world.specs.Event.{Event}
-use Rattle.gix_odb_world.specs.Run.{tree_at}
+use Rattle.gix_odb_runs.specs.Event.{Event}
+use Rattle.gix_odb_runs.specs.Run.{tree_at}
 use Rattle.gix_odb_world.specs.Status.{Store}
 use Rattle.gix_odb_world.specs.TwoContents.{watched_after, watched_by, watched_too}
 use Rattle.gix_odb_world.proofs.LawfulRun.{LawfulRun}

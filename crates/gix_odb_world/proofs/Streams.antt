@@ -28,9 +28,9 @@ use Rattle.gix_odb_looks.proofs.StreamLaws.Calls.{stream_gives_what_is_coming}
 use Rattle.gix_odb_looks.proofs.StreamLaws.Directories.{entries_are_of_the_names}
 use Rattle.gix_odb_world.specs.AtWork.{Running}
 use Rattle.gix_odb_world.specs.Bound.{HasAtMost, Pack}
-use Rattle.gix_odb_world.specs.Event.{Event}
+use Rattle.gix_odb_runs.specs.Event.{Event}
 use Rattle.gix_odb_world.specs.Headline.{IsLawful}
-use Rattle.gix_odb_world.specs.Run.{disk_after, tree_at}
+use Rattle.gix_odb_runs.specs.Run.{disk_after, tree_at}
 use Rattle.gix_odb_world.specs.Running.{RunsThroughout}
 use Rattle.gix_odb_world.specs.Status.{Free, Working, status_of, statuses_from}
 use Rattle.gix_odb_world.specs.Told.{told_since}

@@ -15,12 +15,12 @@ use Rattle.gix_odb_looks.specs.LookUpOrder.{Setting, ask_of, fed}
 use Rattle.gix_odb_looks.specs.declared.look_up.LookUp.{LookUp}
 use Rattle.gix_odb.specs.HandleState.{unseen}
 use Rattle.gix_odb_world.specs.AtWork.{Modes, view_in_modes}
-use Rattle.gix_odb_world.specs.Cores.{cores_after, history_at}
-use Rattle.gix_odb_world.specs.Event.{Asked, Event}
-use Rattle.gix_odb_world.specs.Run.{IsTurnOf}
+use Rattle.gix_odb_runs.specs.Cores.{cores_after, history_at}
+use Rattle.gix_odb_runs.specs.Event.{Asked, Event}
+use Rattle.gix_odb_runs.specs.Run.{IsTurnOf}
 use Rattle.gix_odb_world.specs.Seats.{IsSeated}
 use Rattle.gix_odb_world.specs.Told.{exchange_in, exchange_of, told_since, view_then}
-use Rattle.gix_odb_world.specs.Turned.{is_done, is_turn_of, turns_handle}
+use Rattle.gix_odb_runs.specs.Turned.{is_done, is_turn_of, turns_handle}
 
 -- ---- a look-up behind one exchange more
 

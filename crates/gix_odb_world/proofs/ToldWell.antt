@@ -40,13 +40,13 @@ use Rattle.gix_odb_looks.proofs.HandedLaws.{IsOwnStream, streams_of_look_ups_are
 use Rattle.gix_odb_look_laws.proofs.HappenLaws.{what_is_handed_can_happen}
 use Rattle.gix_odb.specs.Contents.{sought}
 use Rattle.gix_odb.specs.HandleState.{unseen}
-use Rattle.gix_odb_world.specs.declared.record.Did.{Did}
-use Rattle.gix_odb_world.specs.declared.record.Did.TheVariants.{Nothing, Disk, Core}
+use Rattle.gix_odb_runs.specs.declared.record.Did.{Did}
+use Rattle.gix_odb_runs.specs.declared.record.Did.TheVariants.{Nothing, Disk, Core}
 use Rattle.gix_odb_world.specs.AtWork.{Modes, Running, Store, setting_in}
 use Rattle.gix_odb_world.specs.Bound.{HasAtMost}
-use Rattle.gix_odb_world.specs.Cores.{answer_behind, cores_after, cores_after_asked, entered, entry_of, history_at}
-use Rattle.gix_odb_world.specs.Event.{Asked, CoreAnswer, CoreEvent, Event, OfCore, OfDisk, ToCore, ToDisk}
-use Rattle.gix_odb_world.specs.Run.{Fails, FailedSince, NoCall, disk_after, tree_at}
+use Rattle.gix_odb_runs.specs.Cores.{answer_behind, cores_after, cores_after_asked, entered, entry_of, history_at}
+use Rattle.gix_odb_runs.specs.Event.{Asked, CoreAnswer, CoreEvent, Event, OfCore, OfDisk, ToCore, ToDisk}
+use Rattle.gix_odb_runs.specs.Run.{Fails, FailedSince, NoCall, disk_after, tree_at}
 use Rattle.gix_odb_world.specs.Seats.{HasSeat, HasSeatAt, IsSeated}
 use Rattle.gix_odb_world.specs.Running.PackedStill.{IsPackedStill}
 use Rattle.gix_odb_world.specs.Running.Query.{IsGiven, IsLooking, IsToldWell, number_after}

@@ -18,8 +18,8 @@ use Rattle.gix_odb_world.specs.declared.course.Course.{Course}
 use Rattle.gix_odb_core.specs.History.{History}
 use Rattle.gix_odb_events.specs.Answers.{view_in}
 use Rattle.gix_odb_world.specs.declared.turn.Carried.{Carried}
-use Rattle.gix_odb_world.specs.Cores.{cores_after, cores_after_asked, or_before}
-use Rattle.gix_odb_world.specs.Event.{Ask, Asked, OfCore, OfDisk, OfNewCore, OfNothing, Event, answered}
+use Rattle.gix_odb_runs.specs.Cores.{cores_after, cores_after_asked, or_before}
+use Rattle.gix_odb_runs.specs.Event.{Ask, Asked, OfCore, OfDisk, OfNewCore, OfNothing, Event, answered}
 use Rattle.gix_odb_world.specs.Machines.{ask_in, fed_in}
 use Rattle.gix_odb_world.specs.Status.{Modes, Running, Store, Status, Free, Resting, Working, modes_after, replied, status_of, turned}
 use Rattle.gix_odb_world.specs.Status as statuses
@@ -35,7 +35,7 @@ use Rattle.gix_odb_world.specs.Watch.{NotesMade, ShowsSecondBy, TellsChange}
 use Rattle.gix_odb_world.proofs.RunSteps.{IsLeft}
 use Rattle.gix_odb_world.proofs.StepLemmas.{goes_on, reason_of_history, table_noted}
 use Rattle.gix_odb_world.specs.Recorded.{opened_in}
-use Rattle.gix_odb_world.specs.Run.{Stand, change_asked, did_of_asked, disk_after_asked, stand, told_now, tree_at}
+use Rattle.gix_odb_runs.specs.Run.{Stand, change_asked, did_of_asked, disk_after_asked, stand, told_now, tree_at}
 use Rattle.gix_odb_world.proofs.WorkLaws.{code_asks, code_feeds}
 use Rattle.gix_odb_world.proofs.ValidLaws.{breaks_not}
 use Rattle.gix_odb_world.proofs.WatchLemmas.{keeps_made, turn_left}

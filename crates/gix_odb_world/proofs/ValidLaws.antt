@@ -5,9 +5,9 @@ use Rattle.odb_asks.specs.MemDisk.{Volume}
 use Rattle.gix_odb_calls.specs.declared.step.Outcome.{Outcome}
 use Rattle.gix_odb_calls.specs.declared.step.Outcome.TheVariants as outcomes
 use Rattle.gix_odb_calls.specs.declared.step.Why.{Why}
-use Rattle.gix_odb_world.specs.Event.{Event}
+use Rattle.gix_odb_runs.specs.Event.{Event}
 use Rattle.gix_odb_world.specs.Headline.{Law}
-use Rattle.gix_odb_world.specs.Turned.{is_done}
+use Rattle.gix_odb_runs.specs.Turned.{is_done}
 use Rattle.gix_odb_world.specs.TwoContents.{BreaksRule, would_change}
 use Rattle.gix_odb_world.specs.Valid.{IsFirstReason, IsReason, misuse_of, why_not_after}
 

@@ -22,8 +22,8 @@ use Rattle.gix_odb_calls.specs.declared.step.Outcome.TheVariants as outcomes
 use Rattle.gix_odb_calls.specs.declared.step.Step.{Step}
 use Rattle.gix_odb_calls.specs.declared.step.Step.TheVariants as steps
 use Rattle.gix_odb_calls.specs.declared.step.Why.{Why}
-use Rattle.gix_odb_world.specs.Event.{Ask, Event, ToCore, ToDisk, ToNewCore}
-use Rattle.gix_odb_world.specs.Run.{Stand, change_asked, change_by, disk_after, disk_after_asked, disk_after_event, told_now, tree_at}
+use Rattle.gix_odb_runs.specs.Event.{Ask, Event, ToCore, ToDisk, ToNewCore}
+use Rattle.gix_odb_runs.specs.Run.{Stand, change_asked, change_by, disk_after, disk_after_asked, disk_after_event, told_now, tree_at}
 use Rattle.gix_odb_world.specs.TwoContents.{watched_after, watched_by, watched_from, watched_too}
 use Rattle.gix_odb_world.specs.Watch.{NotesChange, NotesMade, Watches}
 use Rattle.gix_odb_world.proofs.HistoryLemmas.{tree_at-all, tree_at-before, tree_at-now}

@@ -9,10 +9,10 @@ use Rattle.gix_odb_shown.specs.HasShown.{Keeps}
 use Rattle.gix_odb_shown.specs.Kept.{nothing_kept}
 use Rattle.gix_odb_world.specs.declared.handle.Handle.{Handle}
 use Rattle.gix_odb_world.specs.declared.course.Course.{Course}
-use Rattle.gix_odb_world.specs.Cores.{cores_after}
-use Rattle.gix_odb_world.specs.Event.{Event}
+use Rattle.gix_odb_runs.specs.Cores.{cores_after}
+use Rattle.gix_odb_runs.specs.Event.{Event}
 use Rattle.gix_odb_world.specs.Status.{Status, status_of, statuses_from, with_status}
-use Rattle.gix_odb_world.specs.Run.{disk_after, tree_at}
+use Rattle.gix_odb_runs.specs.Run.{disk_after, tree_at}
 use Rattle.gix_odb_world.specs.TwoContents.{watched_after}
 use Rattle.gix_odb_world.specs.Running.{Runs, RunsThroughout}
 use Rattle.gix_odb_world.specs.World.{Explains, Matches, handle_at}

@@ -3,7 +3,7 @@ use Rattle.std.proofs.Common.{◌≡◌, ℕ, List, Some, sym, ap, ◌∙◌}
 use Rattle.odb_asks.specs.MemDisk.{Volume}
 use Rattle.gix_odb_loose.specs.LooseOrder.{disk_ask_of}
 use Rattle.gix_odb_loose.specs.declared.call.LooseCall.{LooseCall}
-use Rattle.gix_odb_world.specs.Event.{Event, to_disk}
+use Rattle.gix_odb_runs.specs.Event.{Event, to_disk}
 use Rattle.gix_odb_world.specs.Headline.{Works}
 use Rattle.gix_odb_world.specs.Machines.{write_in}
 use Rattle.gix_odb_world.specs.Running.Write.{IsWriting}

@@ -24,13 +24,13 @@ use Rattle.gix_odb_loose.specs.declared.write_order.WriteStage.{WriteStage}
 use Rattle.gix_odb_loose.specs.declared.write_order.WriteStage.TheVariants as stages
 use Rattle.gix_odb_loose.proofs.RoomLemmas.{room_few}
 use Rattle.gix_odb_loose.proofs.WriteMadeLaws.{history_below, history_makes}
-use Rattle.gix_odb_world.specs.Event.{Event}
+use Rattle.gix_odb_runs.specs.Event.{Event}
 use Rattle.gix_odb_world.specs.Status.{MakeCall, Running}
 use Rattle.gix_odb_world.specs.Changes.{ChangesInTask, ChangesInWrite, IsOneOfFive}
-use Rattle.gix_odb_world.specs.Run.{change_by, disk_after}
+use Rattle.gix_odb_runs.specs.Run.{change_by, disk_after}
 use Rattle.gix_odb_world.specs.Running.Write.{IsWriting, StandsAt, job_to_write}
-use Rattle.gix_odb_world.specs.Writing.{DoneSince, ToWrite, call_to_write, head_to_write, name_to_write, to_write}
-use Rattle.gix_odb_world.proofs.WriteAsk.{change_by-all, told_append, told_make_dir, told_new_file, told_remove, told_rename}
+use Rattle.gix_odb_runs.specs.Writing.{DoneSince, ToWrite, call_to_write, head_to_write, name_to_write, to_write}
+use Rattle.gix_odb_runs.proofs.WriteAsk.{change_by-all, told_append, told_make_dir, told_new_file, told_remove, told_rename}
 use Rattle.gix_odb_world.proofs.WriteTurn.{ask_at_stage, done_at}
 
 -- ---- its change

@@ -28,13 +28,13 @@ use Rattle.gix_odb_world.specs.declared.work.Work.TheVariants.{Calling}
 use Rattle.gix_odb_world.specs.Bound.{HasAtMost, bound_of_task, laps_without_change, turns_beside_pieces, turns_of_lap}
 use Rattle.gix_odb.specs.CallOrder.{result_of_write}
 use Rattle.gix_odb.specs.Contents.{folder_list}
-use Rattle.gix_odb_world.specs.Event.{Event, OfDisk}
+use Rattle.gix_odb_runs.specs.Event.{Event, OfDisk}
 use Rattle.gix_odb_world.specs.Status.{MakeCall, Running, gone_on}
 use Rattle.gix_odb_world.specs.Promise.{Promise}
-use Rattle.gix_odb_world.specs.Run.{disk_after, tree_at}
+use Rattle.gix_odb_runs.specs.Run.{disk_after, tree_at}
 use Rattle.gix_odb_world.specs.Running.Write.{IsAtOwnWrite, IsWriting, own_result, writing}
 use Rattle.gix_odb_world.specs.Told.{refresh_now, told_since, turns_in_front}
-use Rattle.gix_odb_world.specs.Writing.{ToWrite, call_to_write, head_to_write, to_write}
+use Rattle.gix_odb_runs.specs.Writing.{ToWrite, call_to_write, head_to_write, to_write}
 use Rattle.gix_odb_world.specs.Written.{PromiseOfWrite}
 use Rattle.gix_odb_world.proofs.FrontLemmas.{front_ended, now_more}
 use Rattle.gix_odb_world.proofs.MachineLaws as laws

@@ -20,10 +20,10 @@ use Rattle.gix_odb_loose.specs.WriteOrder.{temp_path, number_made}
 use Rattle.gix_odb_loose.proofs.AskLaws.{IsAlong-start}
 use Rattle.gix_odb_loose.specs.declared.write_order.WriteStage.{WriteStage}
 use Rattle.gix_odb_loose.specs.declared.write_order.WriteStage.TheVariants as write_stages
-use Rattle.gix_odb_world.specs.Event.{OfDisk, Event}
-use Rattle.gix_odb_world.specs.Run.{IsTurnOf, TellsCall, disk_after, tree_at}
+use Rattle.gix_odb_runs.specs.Event.{OfDisk, Event}
+use Rattle.gix_odb_runs.specs.Run.{IsTurnOf, TellsCall, disk_after, tree_at}
 use Rattle.gix_odb_world.specs.Running.Write.{HoldsFile, Holds, IsUntouched, StandsAt, content_at}
-use Rattle.gix_odb_world.specs.Writing.{AskedAt, AskedSince, ChangedNothing, EachTurn, IsNewFile, IsRename, LeftAlone, ToWrite, head_to_write}
+use Rattle.gix_odb_runs.specs.Writing.{AskedAt, AskedSince, ChangedNothing, EachTurn, IsNewFile, IsRename, LeftAlone, ToWrite, head_to_write}
 use Rattle.gix_odb_world.proofs.HistoryLemmas.{slice_get-push, slice_get-last, slice_get-kept, tree_at-before}
 
 -- ---- one event more

@@ -29,16 +29,16 @@ use Rattle.gix_odb.specs.declared.call_state.CallState.TheVariants.{Refused}
 use Rattle.gix_odb.specs.declared.handle_state.HandleState.{HandleState}
 use Rattle.gix_odb_world.specs.AtWork.{Modes, setting_in}
 use Rattle.gix_odb_world.specs.Bound.{turns_of_lap}
-use Rattle.gix_odb_world.specs.Event.{Answer, CoreEvent, Event, FromCore, FromDisk, ToCore, ToDisk, answered, part_asked, to_disk}
+use Rattle.gix_odb_runs.specs.Event.{Answer, CoreEvent, Event, FromCore, FromDisk, ToCore, ToDisk, answered, part_asked, to_disk}
 use Rattle.gix_odb_world.specs.Handle.{IsHandleOf}
 use Rattle.gix_odb_world.specs.Machine.{placed}
 use Rattle.gix_odb_world.specs.Machines.{at}
-use Rattle.gix_odb_world.specs.Run.{IsTurnOf, change_by, disk_after}
+use Rattle.gix_odb_runs.specs.Run.{IsTurnOf, change_by, disk_after}
 use Rattle.gix_odb_world.specs.Running.Write.{InFront, IsAtOwnWrite, IsInFront, IsWriting, KnowsOfWrite, Own, Unlisted, WriteState, front_result, own_result, work_of}
 use Rattle.gix_odb_world.specs.Running.Write.{write_asks, write_at, write_fed, writes_by, writing}
 use Rattle.gix_odb_world.specs.Status.{MakeCall, Running, Store}
 use Rattle.gix_odb_world.specs.Told.{refresh_begun, told_since}
-use Rattle.gix_odb_world.specs.Writing.{ToWrite, call_to_write}
+use Rattle.gix_odb_runs.specs.Writing.{ToWrite, call_to_write}
 use Rattle.gix_odb_world.specs.WorkOrder.{asks_on, calling_result, fed_after, result_in}
 use Rattle.gix_odb_world.proofs.AnsweredLemmas.{answered_later}
 use Rattle.gix_odb_world.proofs.FrontLemmas.{begun_same, front_same, now_same}

@@ -20,10 +20,10 @@ use Rattle.gix_odb_refresh.specs.RefreshOrder as refreshes
 use Rattle.gix_odb_refresh.specs.declared.refresh.Refresh.TheVariants.{Ready}
 use Rattle.gix_odb_events.specs.PackId.{most_slots}
 use Rattle.gix_odb_world.specs.AtWork.{Modes}
-use Rattle.gix_odb_world.specs.Event.{Ask, CoreEvent, Event, ToCore, ToDisk, ToNewCore}
+use Rattle.gix_odb_runs.specs.Event.{Ask, CoreEvent, Event, ToCore, ToDisk, ToNewCore}
 use Rattle.gix_odb_world.specs.Status.{Store, MakeCall, OpenStore, Task}
 use Rattle.gix_odb_world.specs.Told.{look_now, opening_now, refresh_now, turns_in_front}
-use Rattle.gix_odb_world.specs.Writing.{DoneSince, ToWrite, name_to_write, to_write}
+use Rattle.gix_odb_runs.specs.Writing.{DoneSince, ToWrite, name_to_write, to_write}
 
 -- Work behind so many turns of its task asks so in its own turns, which are counted from 0.
 pub record AsksBehind (front turns : ℕ) (Asks : (own : ℕ) → Type 0) : Type 0 where

@@ -17,10 +17,10 @@ use Rattle.gix_odb_calls.specs.declared.step.Step.{Step}
 use Rattle.gix_odb_calls.specs.declared.step.Step.TheVariants as steps
 use Rattle.gix_odb_calls.specs.declared.step.Outcome.{Outcome}
 use Rattle.gix_odb_calls.specs.declared.step.Outcome.TheVariants as outcomes
-use Rattle.gix_odb_world.specs.Event.{Ask, Event, ToCore, ToDisk, ToNewCore}
+use Rattle.gix_odb_runs.specs.Event.{Ask, Event, ToCore, ToDisk, ToNewCore}
 use Rattle.gix_odb_world.specs.Status.{Store, MakeCall, Task}
-use Rattle.gix_odb_world.specs.Run.{disk_after}
-use Rattle.gix_odb_world.specs.Writing.{DoneSince, ToWrite, name_to_write, to_write}
+use Rattle.gix_odb_runs.specs.Run.{disk_after}
+use Rattle.gix_odb_runs.specs.Writing.{DoneSince, ToWrite, name_to_write, to_write}
 
 -- the change that an applied step makes, if it makes one
 abbrev pub change_applied : Step → Option Change

@@ -6,26 +6,25 @@ use Rattle.std.specs.Prelude.{◌≡◌, false, ℕ, All, ◌+◌, ◌<◌, List
 use Rattle.odb_base.specs.Path.{Path}
 use Rattle.odb_asks.specs.Ask.{fails_now}
 use Rattle.odb_asks.specs.MemDisk.{Volume}
+use Rattle.gix_odb_runs.specs.JournalKept.{IsJournal}
 use Rattle.gix_odb_core.specs.History.{History}
 use Rattle.gix_odb_core.specs.Journal.{entries_of}
-use Rattle.gix_odb_core.specs.Possible.{IsComplete, IsOpened, IsPossible}
-use Rattle.gix_odb_core.specs.Replay.{IsLegal}
 use Rattle.gix_odb_events.specs.declared.event.Event.TheVariants as core_events
 use Rattle.gix_odb_calls.specs.declared.call.Reply.{Reply}
 use Rattle.gix_odb_calls.specs.declared.step.Step.{Step}
 use Rattle.gix_odb_calls.specs.declared.step.Step.TheVariants as steps
 use Rattle.gix_odb_calls.specs.declared.step.Outcome.{Outcome}
 use Rattle.gix_odb_calls.specs.declared.step.Outcome.TheVariants as outcomes
-use Rattle.gix_odb_world.specs.declared.record.Did.{Did}
-use Rattle.gix_odb_world.specs.declared.record.Run.{Run}
+use Rattle.gix_odb_runs.specs.declared.record.Did.{Did}
+use Rattle.gix_odb_runs.specs.declared.record.Run.{Run}
 use Rattle.gix_odb_world.specs.declared.work.Work.{Work}
-use Rattle.gix_odb_world.specs.Event.{Ask, Asked, OfNothing, OfDisk, OfCore, OfNewCore, Event, answered}
-use Rattle.gix_odb_world.specs.Cores.{answer_behind, cores_after, history_at}
-use Rattle.gix_odb_world.specs.Entries.{TellsEachEntry}
+use Rattle.gix_odb_runs.specs.Event.{Ask, Asked, OfNothing, OfDisk, OfCore, OfNewCore, Event, answered}
+use Rattle.gix_odb_runs.specs.Cores.{answer_behind, cores_after, history_at}
+use Rattle.gix_odb_runs.specs.Entries.{TellsEachEntry}
 use Rattle.gix_odb_world.specs.Recorded.{opened_in}
 use Rattle.gix_odb_world.specs.Seats.{HasSeatThroughout, RegistersOwnThroughout, SnapshotsNeverFall}
 use Rattle.gix_odb_world.specs.Status.{Resting, Running, Status, Task, Working, status_of}
-use Rattle.gix_odb_world.specs.Run.{IsTurnOf, Stand, change_asked, did_asked, did_of_asked, disk_after, has_failed, stand, told_now, tree_at}
+use Rattle.gix_odb_runs.specs.Run.{IsTurnOf, Stand, change_asked, did_asked, did_of_asked, disk_after, has_failed, stand, told_now, tree_at}
 use Rattle.gix_odb_world.specs.Begun.{BegunAs, HoldsStore, IsTaskOf, NoneSince, turns_since}
 use Rattle.gix_odb_world.specs.Changes.{ChangesAs, ChangesAsAsked}
 use Rattle.gix_odb_world.specs.Undisturbed.{WritesStandAlone}
@@ -158,14 +157,6 @@ pub record Law (first : Volume) (past : List Event) (e : Event) : Type 0 where
 -- each event is lawful after those before it
 abbrev pub IsLawful : Volume → List Event → Type 0
 IsLawful first events = (place : ℕ) (e : Event) → slice_get events place ≡ Some e → Law first (take place events) e
-
--- The journal of a core that was made as its history says: each entry has its number and the answer that its event gives behind those
--- before it, each event could happen when it came, and none was refused for want of memory.
-pub record IsJournal (history : History) : Type 0 where
-  pub opened : IsOpened history.opening
-  pub legal : IsLegal history.opening history.entries
-  pub possible : IsPossible history.opening history.entries
-  pub complete : IsComplete history.entries
 
 -- A run is what these events come to.
 pub record IsRun (first : Volume) (events : List Event) (run : Run) : Type 0 where

@@ -8,7 +8,7 @@ use Rattle.gix_odb_calls.specs.declared.call.Reply.{Reply}
 use Rattle.gix_odb_loose.specs.declared.call.LooseCall.{LooseCall}
 use Rattle.gix_odb_world.specs.declared.work.Work.{Work}
 use Rattle.gix_odb_world.specs.AtWork.{Modes, Running, Store, Task}
-use Rattle.gix_odb_world.specs.Event.{Answer, Ask, Event, FromCore, FromDisk}
+use Rattle.gix_odb_runs.specs.Event.{Answer, Ask, Event, FromCore, FromDisk}
 
 -- A machine has states of its own, each with a place among all work.
 pub record Machine : Type 1 where

@@ -14,11 +14,11 @@ use Rattle.gix_odb.specs.Contents.{Answer, Object, HeaderOf, Presence, folder_li
 use Rattle.gix_odb.specs.Held.{Held, Still}
 use Rattle.gix_odb.specs.OpenExchanges.{IsNumber}
 use Rattle.gix_odb_looks.specs.Exchange.{Exchange}
-use Rattle.gix_odb_world.specs.Event.{CoreAnswer, Event, OfNewCore}
+use Rattle.gix_odb_runs.specs.Event.{CoreAnswer, Event, OfNewCore}
 use Rattle.gix_odb_world.specs.Told.{told_since}
 use Rattle.gix_odb_world.specs.Status.{Store, Task, OpenStore, MakeCall, Modes, setting_in}
-use Rattle.gix_odb_world.specs.Run.{tree_at, FailedSince}
-use Rattle.gix_odb_world.specs.Writing.{to_write}
+use Rattle.gix_odb_runs.specs.Run.{tree_at, FailedSince}
+use Rattle.gix_odb_runs.specs.Writing.{to_write}
 use Rattle.gix_odb_world.specs.Written.{PromiseOfWrite}
 use Rattle.gix_odb_world.specs.Causes.{Sometime, ShowsDirectory, OpeningCause, FindCause}
 use Rattle.gix_odb_events.specs.PackId.{most_slots}

@@ -1,8 +1,6 @@
--- The path that the record of a call of the disk has.
-use Rattle.std.specs.Prelude.{[], Option, unwrap_or}
+-- The path with which the stream was opened that work is on.
+use Rattle.std.specs.Prelude.{Option}
 use Rattle.odb_base.specs.Path.{Path}
-use Rattle.odb_asks.specs.Ask.{path_asked}
-use Rattle.odb_asks.specs.declared.ask.DiskAsk.{DiskAsk}
 use Rattle.gix_odb.specs.CallOrder as calls
 use Rattle.gix_odb.specs.OpenOrder as openings
 use Rattle.gix_odb_world.specs.declared.work.Work.{Work}
@@ -12,8 +10,3 @@ use Rattle.gix_odb_world.specs.declared.work.Work.TheVariants.{Opening, Calling}
 abbrev pub opened_in : Work → Option Path
 opened_in (Opening state) = openings.opened_in state
 opened_in (Calling state) = calls.opened_in state
-
--- The path that the call names, of a rename its source; or that with which its stream was opened, since a call on an open stream
--- names none.
-abbrev pub path_recorded : (opened : Option Path) → DiskAsk → Path
-path_recorded opened ask = unwrap_or (path_asked ask) (unwrap_or opened [])

@@ -20,7 +20,7 @@ use Rattle.gix_odb_calls.specs.declared.step.Outcome.{Outcome}
 use Rattle.gix_odb_calls.specs.declared.step.Outcome.TheVariants as outcomes
 use Rattle.gix_odb_world.specs.declared.work.Work.{Work}
 use Rattle.gix_odb_world.specs.declared.work.Work.TheVariants.{Opening, Calling}
-use Rattle.gix_odb_world.specs.Event.{Asked, Event, answered}
+use Rattle.gix_odb_runs.specs.Event.{Asked, Event, answered}
 
 -- what a handle does: nothing, since no handle has the number; rest; or work
 pub data Status : Type 0 where

@@ -13,8 +13,8 @@ use Rattle.gix_odb_calls.specs.declared.step.Step.{Step}
 use Rattle.gix_odb_calls.specs.declared.step.Step.TheVariants as steps
 use Rattle.gix_odb_calls.specs.declared.step.Outcome.{Outcome}
 use Rattle.gix_odb_calls.specs.declared.step.Why.{Why}
-use Rattle.gix_odb_world.specs.declared.record.Did.{Did}
-use Rattle.gix_odb_world.specs.declared.record.Did.TheVariants as done
+use Rattle.gix_odb_runs.specs.declared.record.Did.{Did}
+use Rattle.gix_odb_runs.specs.declared.record.Did.TheVariants as done
 use Rattle.gix_odb_world.specs.declared.handle.Handle.{Handle}
 use Rattle.gix_odb.specs.declared.handle_state.HandleState.{HandleState}
 use Rattle.gix_odb_world.specs.declared.work.Work.{Work}
@@ -27,13 +27,13 @@ use Rattle.gix_odb_events.specs.declared.answer.PartAsk.TheVariants as asks
 use Rattle.gix_odb_world.specs.declared.turn.Carried.{Carried}
 use Rattle.gix_odb_shown.specs.Kept.{Fits, Kept}
 use Rattle.gix_odb_shown.specs.declared.revealed.Revealed.{Revealed}
-use Rattle.gix_odb_world.specs.Cores.{answer_behind, cores_after_asked, history_at, or_before}
-use Rattle.gix_odb_world.specs.Event.{Asked, CoreAnswer, CoreEvent, OfCore, OfDisk, OfNewCore, OfNothing, answered}
+use Rattle.gix_odb_runs.specs.Cores.{answer_behind, cores_after_asked, history_at, or_before}
+use Rattle.gix_odb_runs.specs.Event.{Asked, CoreAnswer, CoreEvent, OfCore, OfDisk, OfNewCore, OfNothing, answered}
 use Rattle.gix_odb_events.specs.PackId.{most_slots}
 use Rattle.gix_odb_events.specs.declared.view.View.{View}
-use Rattle.gix_odb_world.specs.Made.{MakesCore}
+use Rattle.gix_odb_runs.specs.Made.{MakesCore}
 use Rattle.gix_odb_world.specs.Recorded.{opened_in}
-use Rattle.gix_odb_world.specs.Run.{change_asked, did_of, did_of_asked, disk_after_asked, has_failed, stand, told_now}
+use Rattle.gix_odb_runs.specs.Run.{change_asked, did_of, did_of_asked, disk_after_asked, has_failed, stand, told_now}
 use Rattle.gix_odb_world.specs.Status.{after_reply}
 use Rattle.gix_odb_world.specs.WorkOrder.{asks_on, fed_after, fed_on, registered_on, result_in}
 use Rattle.gix_odb_world.specs.declared.course.Course.{Course}

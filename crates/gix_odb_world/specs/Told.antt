@@ -22,9 +22,9 @@ use Rattle.gix_odb.specs.OpenExchanges as openings
 use Rattle.gix_odb.specs.declared.open_state.OpenState.{OpenState}
 use Rattle.gix_odb.specs.declared.open_state.OpenState.TheVariants as opens
 use Rattle.gix_odb_world.specs.AtWork.{Modes, Store, setting_in}
-use Rattle.gix_odb_world.specs.Cores.{cores_after, history_at}
-use Rattle.gix_odb_world.specs.Event.{Asked, Event, OfCore, OfDisk, OfNewCore, OfNothing}
-use Rattle.gix_odb_world.specs.Turned.{is_turn_of}
+use Rattle.gix_odb_runs.specs.Cores.{cores_after, history_at}
+use Rattle.gix_odb_runs.specs.Event.{Asked, Event, OfCore, OfDisk, OfNewCore, OfNothing}
+use Rattle.gix_odb_runs.specs.Turned.{is_turn_of}
 
 -- the call that makes a query
 abbrev pub call_of : Query → Call

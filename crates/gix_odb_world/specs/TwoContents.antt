@@ -11,9 +11,9 @@ use Rattle.gix_odb_calls.specs.declared.step.Step.{Step}
 use Rattle.gix_odb_calls.specs.declared.step.Step.TheVariants as steps
 use Rattle.gix_odb_calls.specs.declared.step.Outcome.{Outcome}
 use Rattle.gix_odb_calls.specs.declared.step.Outcome.TheVariants as outcomes
-use Rattle.gix_odb_world.specs.Event.{Event}
+use Rattle.gix_odb_runs.specs.Event.{Event}
 use Rattle.gix_odb_world.specs.Machines.{ask_in}
-use Rattle.gix_odb_world.specs.Run.{change_asked, disk_after, tree_at}
+use Rattle.gix_odb_runs.specs.Run.{change_asked, disk_after, tree_at}
 use Rattle.gix_odb_world.specs.Status.{Status, Working, status_of}
 
 -- ---- since when folders are watched

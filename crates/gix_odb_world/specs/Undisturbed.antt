@@ -13,10 +13,10 @@ use Rattle.gix_odb_loose.specs.WriteOrder.{temp_path}
 use Rattle.gix_odb_loose.specs.declared.call.LooseCall.{LooseCall}
 use Rattle.gix_odb_calls.specs.declared.step.Step.TheVariants as steps
 use Rattle.gix_odb_calls.specs.declared.step.Outcome.TheVariants as outcomes
-use Rattle.gix_odb_world.specs.Event.{Event}
+use Rattle.gix_odb_runs.specs.Event.{Event}
 use Rattle.gix_odb_world.specs.Status.{IsAtWrite, Running, status_of}
-use Rattle.gix_odb_world.specs.Run.{IsTurnOf, tree_at}
-use Rattle.gix_odb_world.specs.Writing.{AskedAt, IsRename, LeavesAlone, LeftAlone}
+use Rattle.gix_odb_runs.specs.Run.{IsTurnOf, tree_at}
+use Rattle.gix_odb_runs.specs.Writing.{AskedAt, IsRename, LeavesAlone, LeftAlone}
 
 -- ---- undisturbed runs
 

@@ -21,9 +21,9 @@ use Rattle.gix_odb_calls.specs.declared.step.Outcome.TheVariants as outcomes
 use Rattle.gix_odb_calls.specs.declared.step.Why.{Why}
 use Rattle.gix_odb_calls.specs.declared.step.Why.TheVariants.{HandleTaken, BadOpen, NoHandle, NotRunning, Busy, WrongHash, ImpossibleChange, TwoContents}
 use Rattle.gix_odb_world.specs.Bound.{most_changes}
-use Rattle.gix_odb_world.specs.Event.{Event}
+use Rattle.gix_odb_runs.specs.Event.{Event}
 use Rattle.gix_odb_world.specs.Status.{Status, Free, Resting, Working, status_of}
-use Rattle.gix_odb_world.specs.Run.{disk_after}
+use Rattle.gix_odb_runs.specs.Run.{disk_after}
 use Rattle.gix_odb_world.specs.TwoContents.{BreaksRule, would_change}
 
 -- what counts of a handle for validity; of an idle one the hash of its store does too

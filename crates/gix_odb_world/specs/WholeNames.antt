@@ -9,13 +9,13 @@ use Rattle.odb_nodes.specs.declared.change.Change.TheVariants.{Rename}
 use Rattle.gix_object.specs.Loose.{header_of}
 use Rattle.gix_odb_loose.specs.LooseFile.{loose_path}
 use Rattle.gix_odb_loose.specs.declared.call.LooseCall.{LooseCall}
-use Rattle.gix_odb_world.specs.Event.{Event}
+use Rattle.gix_odb_runs.specs.Event.{Event}
 use Rattle.gix_odb_world.specs.Status.{IsAtWrite, Running, status_of}
-use Rattle.gix_odb_world.specs.Run.{IsTurnOf, tree_at}
+use Rattle.gix_odb_runs.specs.Run.{IsTurnOf, tree_at}
 use Rattle.gix_odb_world.specs.Begun.{BegunBy}
 use Rattle.gix_odb_world.specs.Undisturbed.{IsUndisturbed}
-use Rattle.gix_odb_world.specs.Writing.{ToWrite, call_to_write, name_to_write}
-pub use Rattle.gix_odb_world.specs.Writing.{LeavesAlone}
+use Rattle.gix_odb_runs.specs.Writing.{ToWrite, call_to_write, name_to_write}
+pub use Rattle.gix_odb_runs.specs.Writing.{LeavesAlone}
 
 -- the path of the object of a write
 abbrev pub name_path : ToWrite → Path

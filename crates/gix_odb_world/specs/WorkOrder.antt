@@ -11,7 +11,7 @@ use Rattle.gix_odb_calls.specs.declared.call.Reply.{Reply}
 use Rattle.gix_odb.specs.declared.call_state.CallState.{CallState}
 use Rattle.gix_odb.specs.declared.handle_state.HandleState.{HandleState}
 use Rattle.gix_odb.specs.declared.open_state.OpenState.{OpenState}
-use Rattle.gix_odb_world.specs.Event.{Answer, Ask, FromCore, FromDisk, ToNewCore, part_asked}
+use Rattle.gix_odb_runs.specs.Event.{Answer, Ask, FromCore, FromDisk, ToNewCore, part_asked}
 use Rattle.gix_odb_world.specs.declared.work.Work.{Work}
 use Rattle.gix_odb_world.specs.declared.work.Work.TheVariants.{Opening, Calling}
 

@@ -9,11 +9,11 @@ use Rattle.gix_odb_calls.specs.declared.step.Step.{Step}
 use Rattle.gix_odb_calls.specs.declared.step.Outcome.{Outcome}
 use Rattle.gix_odb_world.specs.declared.handle.Handle.{Handle}
 use Rattle.gix_odb_world.specs.declared.course.Course.{Course}
-use Rattle.gix_odb_world.specs.Event.{Event}
+use Rattle.gix_odb_runs.specs.Event.{Event}
 use Rattle.gix_odb_world.specs.Status.{Status, Free, Resting, Working, status_of}
 use Rattle.gix_odb_world.specs.Handle.{IsHandleOf}
-use Rattle.gix_odb_world.specs.Cores.{cores_after}
-use Rattle.gix_odb_world.specs.Run.{disk_after, tree_at}
+use Rattle.gix_odb_runs.specs.Cores.{cores_after}
+use Rattle.gix_odb_runs.specs.Run.{disk_after, tree_at}
 use Rattle.gix_odb_world.specs.TwoContents.{watched_after}
 use Rattle.gix_odb_world.specs.Running.{Runs, RunsThroughout}
 use Rattle.gix_odb_world.specs.Headline.{Law, IsLawful}

@@ -2,7 +2,7 @@
 ghost use Rattle.std.specs.Prelude.{◌≡◌, ◌≢◌, ◌<◌, ◌^◌, ◌↔◌, ℕ, IsTrue, ◌++◌, ◌∷◌, [], List, IfOk, OnOk, length, None, Some};
 ghost use Rattle.odb_asks.specs.MemDisk.{Volume};
 ghost use Rattle.odb_nodes.specs.Tree.{tree_of};
-ghost use Rattle.gix_odb_world.specs.Event.{Event};
+ghost use Rattle.gix_odb_runs.specs.Event.{Event};
 ghost use Rattle.gix_odb_world.specs.Valid.{IsReason};
 ghost use Rattle.gix_odb_world.specs.Headline.{IsRun, outcome_of};
 ghost use Rattle.gix_odb_world.specs.Watch.{TellsChange};
@@ -10,16 +10,16 @@ ghost use Rattle.gix_odb_world.specs.WorkOrder.{ask_on, registers_in, result_in}
 ghost use Rattle.gix_odb_world.specs.World.{Continues, Explains, IsExplained, handle_at};
 ghost use Rattle.gix_odb_world.specs.Table.{CanHappenAt, FitsCore, HasOneMore, IsReasonNow, KeepsTurn, Notes, SetsHandle, Settles, TakesTurn, after_turn, would_change_now};
 
-use crate::cores::{joined, journals_of, removed};
 use crate::handle::Handle;
 use crate::opening;
-use crate::record::{Did, OutcomeList, Record, RecordList, Run};
 use crate::turn::{Carried, carried_out, settled};
 use crate::watch::{keep, watch_store};
 use crate::work::Work;
 use gix_odb::{CallState, HandleState, OpenState};
 use gix_odb_calls::{Call, IdPairs, Options, Outcome, PathList, Step, Why};
 use gix_odb_core::Core;
+use gix_odb_runs::cores::{joined, journals_of, removed};
+use gix_odb_runs::{Did, OutcomeList, Record, RecordList, Run};
 use gix_odb_shown::{Revealed, Shown};
 use odb_base::NoMemory;
 use odb_disk::{Change, Impossible, MemDisk, PathText};

@@ -13,23 +13,20 @@
 #![tactic(auto)]
 
 mod bound;
-mod cores;
 mod course;
 mod handle;
 mod opening;
 mod play;
-mod record;
 mod turn;
 mod watch;
 mod work;
 mod world;
 
 pub use bound::bound_of;
-pub use cores::JournalList;
 pub use gix_odb_calls::{
     Call, CallError, IdPairs, Line, Options, Outcome, PathList, Reply, Slots, Step, Why, find,
     init, write,
 };
+pub use gix_odb_runs::{Did, JournalList, OutcomeList, Record, RecordList, Run};
 pub use play::Play;
-pub use record::{Did, OutcomeList, Record, RecordList, Run};
 pub use world::{World, is_valid};

@@ -4,9 +4,9 @@ ghost use Rattle.gix_odb_world.specs.Headline.{Headline};
 ghost use Rattle.gix_odb_world.specs.Play.{Plays, StandsFor, made_of};
 ghost use Rattle.gix_odb_world.specs.Played.{MakesOne, PlaysLine, PlaysTurns};
 
-use crate::record::Run;
 use crate::world::World;
 use gix_odb_calls::{Line, Step};
+use gix_odb_runs::Run;
 use odb_base::{NoMemory, Sequence};
 use odb_disk::MemDisk;
 use std::alloc::Global;

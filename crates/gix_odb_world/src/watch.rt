@@ -5,7 +5,7 @@ ghost use Rattle.std.specs.Result.{result_err};
 ghost use Rattle.odb_asks.specs.Ask.{change_of_ask};
 ghost use Rattle.odb_nodes.specs.Tree.{Tree as TreeValue, tree_of};
 ghost use Rattle.gix_odb_shown.specs.Kept.{Fits};
-ghost use Rattle.gix_odb_world.specs.Run.{change_asked, change_by};
+ghost use Rattle.gix_odb_runs.specs.Run.{change_asked, change_by};
 ghost use Rattle.gix_odb_world.specs.Valid.{IsFirstReason};
 ghost use Rattle.gix_odb_world.specs.Watch.{NotesMade, ShowsSecondBy, TellsChange, Watches};
 ghost use Rattle.gix_odb_world.specs.WorkOrder.{asks_on};

@@ -1,15 +1,15 @@
 //! A world: its steps, one after another, and the run that they come to.
 ghost use Rattle.std.specs.Prelude.{◌↔◌, ◌∷◌, ◌++◌, ◌<◌, ◌^◌, ◌≡◌, [], IfOk, IsTrue, List, OnErr, OnOk, length};
 ghost use Rattle.odb_asks.specs.MemDisk.{Volume};
-ghost use Rattle.gix_odb_world.specs.Event.{Event};
+ghost use Rattle.gix_odb_runs.specs.Event.{Event};
 ghost use Rattle.gix_odb_world.specs.Headline.{Headline, IsRun};
 ghost use Rattle.gix_odb_world.specs.Table.{HasOneMore};
 ghost use Rattle.gix_odb_world.specs.Valid.{IsReason};
 ghost use Rattle.gix_odb_world.specs.World.{Continues, Explains, GoesOn};
 
 use crate::course::Course;
-use crate::record::Run;
 use gix_odb_calls::{Outcome, Step, Why};
+use gix_odb_runs::Run;
 use odb_base::NoMemory;
 use odb_disk::MemDisk;
 use std::alloc::Global;

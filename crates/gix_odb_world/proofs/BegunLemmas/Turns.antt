@@ -16,13 +16,13 @@ use Rattle.gix_odb_calls.specs.declared.step.Step.TheVariants as steps
 use Rattle.gix_odb_calls.specs.declared.step.Outcome.{Outcome}
 use Rattle.gix_odb_calls.specs.declared.step.Outcome.TheVariants as outcomes
 use Rattle.gix_odb_world.specs.declared.work.Work.{Work}
-use Rattle.gix_odb_world.specs.Event.{Asked, Event, answered}
+use Rattle.gix_odb_runs.specs.Event.{Asked, Event, answered}
 use Rattle.gix_odb_world.specs.Status.{MakeCall, OpenStore, Running, Status, Store, Task, Free, Resting, Working, Modes, modes_at_opening}
 use Rattle.gix_odb_world.specs.Status.{cloned, come_to, gone_on, ignoring_from, modes_after}
 use Rattle.gix_odb_world.specs.Status.{opening_at, refuses_opening, replied, running_from, started, status_after, status_of, store_at, turned, with_status}
 use Rattle.gix_odb_world.specs.Begun.{is_turn_of, turns_since}
 use Rattle.gix_odb_world.specs.Machines.{fed_in}
-use Rattle.gix_odb_world.specs.Turned.{is_done, turns_handle}
+use Rattle.gix_odb_runs.specs.Turned.{is_done, turns_handle}
 use Rattle.gix_odb_world.specs.Headline.{IsLawful, IsTurn, Law, Suits}
 use Rattle.gix_odb_world.proofs.AlongRun.{along_run}
 use Rattle.gix_odb_world.proofs.ToldLemmas.{turned_by}

@@ -19,7 +19,7 @@ use Rattle.gix_odb.specs.CallOrder.{fronted, writing}
 use Rattle.gix_odb.specs.declared.call_state.CallState.TheVariants.{Looking}
 use Rattle.gix_odb_world.specs.declared.work.Work.TheVariants.{Calling}
 use Rattle.gix_odb_world.specs.AtWork.{Modes, setting_in, view_in_modes}
-use Rattle.gix_odb_world.specs.Event.{Event}
+use Rattle.gix_odb_runs.specs.Event.{Event}
 use Rattle.gix_odb_world.specs.Running.Query.{IsLooking, call_of}
 use Rattle.gix_odb_world.specs.Status.{MakeCall, OpenStore, Store, Task, begun_with, running_from}
 use Rattle.gix_odb_world.specs.Told.{look_begun, told_since, view_then}

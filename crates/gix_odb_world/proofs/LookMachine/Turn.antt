@@ -34,11 +34,11 @@ use Rattle.gix_odb_world.specs.declared.work.Work.TheVariants.{Calling}
 use Rattle.gix_odb_world.specs.Asks.{AsksInOrder}
 use Rattle.gix_odb_world.specs.AtWork.{setting_in}
 use Rattle.gix_odb_world.specs.Bound.{HasAtMost, bound_of_call}
-use Rattle.gix_odb_world.specs.Cores.{answer_behind, history_at, or_before}
-use Rattle.gix_odb_world.specs.Event.{CoreEvent, Event, OfCore, OfDisk, OfNothing, ToCore, ToDisk, answered, part_asked}
+use Rattle.gix_odb_runs.specs.Cores.{answer_behind, history_at, or_before}
+use Rattle.gix_odb_runs.specs.Event.{CoreEvent, Event, OfCore, OfDisk, OfNothing, ToCore, ToDisk, answered, part_asked}
 use Rattle.gix_odb_world.specs.Headline.{LeavesDisk, stand_of}
 use Rattle.gix_odb_world.specs.Promise.{Promise, QueryPromise}
-use Rattle.gix_odb_world.specs.Run.{FailedSince, change_by, disk_after, tree_at}
+use Rattle.gix_odb_runs.specs.Run.{FailedSince, change_by, disk_after, tree_at}
 use Rattle.gix_odb_world.specs.Running.PackedStill.{IndicesShowOne}
 use Rattle.gix_odb_world.specs.Running.Query.{IsLooking, IsToldWell, call_of, looking}
 use Rattle.gix_odb_world.specs.Status.{MakeCall, Running, Store}
@@ -51,7 +51,7 @@ use Rattle.gix_odb_world.proofs.PackedStill.Rule.{indices_show_one}
 use Rattle.gix_odb_world.proofs.QuietTurn.{shown_now}
 use Rattle.gix_odb_world.proofs.ToldLemmas.{asked-push, behind-push, told_none, told_turn, view_kept}
 use Rattle.gix_odb_world.proofs.ToldWell.{no_failure, told_well_later, told_well_on_core, told_well_on_disk}
-use Rattle.gix_odb_world.proofs.WriteAsk.Quiet.{change_by-quiet}
+use Rattle.gix_odb_runs.proofs.WriteAsk.Quiet.{change_by-quiet}
 
 nothing_asked : (asked : Option PartAsk) → part_asked asked ≡ None → asked ≡ None
 nothing_asked None is = refl

@@ -37,10 +37,10 @@ use Rattle.gix_odb.proofs.OpenLaws.{refused_openings_have_causes, streams_of_ope
 use Rattle.gix_odb_world.specs.AtWork.{OpenStore, Running, Store, setting_in}
 use Rattle.gix_odb_world.specs.Bound.{HasAtMost, laps_without_change, turns_of_lap}
 use Rattle.gix_odb_world.specs.Causes.{Sometime, ShowsDirectory}
-use Rattle.gix_odb_world.specs.Cores.{answer_behind, cores_after}
-use Rattle.gix_odb_world.specs.Event.{Event, OfDisk, ToDisk, ToNewCore}
+use Rattle.gix_odb_runs.specs.Cores.{answer_behind, cores_after}
+use Rattle.gix_odb_runs.specs.Event.{Event, OfDisk, ToDisk, ToNewCore}
 use Rattle.gix_odb_world.specs.Promise.{MadeCore, OpeningPromise, Promise}
-use Rattle.gix_odb_world.specs.Run.{FailedSince, change_by, disk_after, tree_at}
+use Rattle.gix_odb_runs.specs.Run.{FailedSince, change_by, disk_after, tree_at}
 use Rattle.gix_odb_world.specs.Running.Answered.{IsAnsweredWell}
 use Rattle.gix_odb_world.specs.Running.Opening.{IsOpening, opening}
 use Rattle.gix_odb_world.specs.Told.{opening_now, told_since}
@@ -50,7 +50,7 @@ use Rattle.gix_odb_world.proofs.MachineLaws.{HasTurn, IsRunning, IsTurnAsking, M
 use Rattle.gix_odb_world.proofs.OpeningMachine.Look.{Looks, listing_keeps, look_keeps}
 use Rattle.gix_odb_world.proofs.QuietTurn.{failed_now, shown_now}
 use Rattle.gix_odb_world.proofs.ToldLemmas.{told_none}
-use Rattle.gix_odb_world.proofs.WriteAsk.Quiet.{change_by-quiet}
+use Rattle.gix_odb_runs.proofs.WriteAsk.Quiet.{change_by-quiet}
 
 -- what was so at some moment before an event was so before and with it
 pub shown_before : (first : Volume) (events : List Event) (e : Event) (begun : ℕ) (objects : Path)

@@ -14,10 +14,10 @@ use Rattle.gix_odb_calls.specs.declared.step.Outcome.{Outcome}
 use Rattle.gix_odb_calls.specs.declared.step.Outcome.TheVariants as outcomes
 use Rattle.gix_odb_calls.specs.declared.step.Step.{Step}
 use Rattle.gix_odb_calls.specs.declared.step.Step.TheVariants as steps
-use Rattle.gix_odb_world.specs.Event.{Asked}
+use Rattle.gix_odb_runs.specs.Event.{Asked}
 use Rattle.gix_odb_world.specs.Status.{Store, Status, replied, status_after}
 use Rattle.gix_odb_world.specs.Running.Write.{write_at}
-use Rattle.gix_odb_world.specs.Writing.{ToWrite}
+use Rattle.gix_odb_runs.specs.Writing.{ToWrite}
 use Rattle.gix_odb_world.proofs.FileSteps.AtWrite.{AtWrite, ended}
 
 -- a write that removes its file ends with the turn

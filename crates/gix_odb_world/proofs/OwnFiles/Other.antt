@@ -10,8 +10,8 @@ use Rattle.odb_nodes.proofs.OwnWayLaws as ways
 use Rattle.odb_nodes.proofs.OwnWayLaws.{Cut, OwnSpot, cut_after, cut_no_file, own_after, own_stops, stop_below_root}
 use Rattle.gix_odb_loose.specs.WriteOrder.{temp_name}
 use Rattle.gix_odb_loose.proofs.NameLaws.{IsTemporary, temp_path-is}
-use Rattle.gix_odb_world.specs.Event.{Event}
-use Rattle.gix_odb_world.specs.Run.{tree_at}
+use Rattle.gix_odb_runs.specs.Event.{Event}
+use Rattle.gix_odb_runs.specs.Run.{tree_at}
 use Rattle.gix_odb_world.specs.Undisturbed.{HasMade}
 use Rattle.gix_odb_world.proofs.LawfulRun.{LawfulRun}
 use Rattle.gix_odb_world.proofs.FileSteps.{NotTemporary}

@@ -6,7 +6,7 @@ use Rattle.odb_base.specs.Path.{Path}
 use Rattle.odb_nodes.specs.Tree.{Tree, tree_of}
 use Rattle.odb_nodes.proofs.OwnWayLaws.{Cut, OwnSpot}
 use Rattle.gix_odb_world.specs.Status.{status_of}
-use Rattle.gix_odb_world.specs.Run.{disk_after, tree_at}
+use Rattle.gix_odb_runs.specs.Run.{disk_after, tree_at}
 use Rattle.gix_odb_world.specs.Undisturbed.{HasMade}
 use Rattle.gix_odb_world.proofs.LawfulRun.{LawfulRun}
 use Rattle.gix_odb_world.proofs.FileSteps.{NotTemporary}

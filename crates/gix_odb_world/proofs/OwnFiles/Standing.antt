@@ -19,12 +19,12 @@ use Rattle.gix_odb_loose.specs.declared.write_at_hand.WriteJob.{WriteJob}
 use Rattle.gix_odb_loose.specs.declared.write_order.WriteStage.{WriteStage}
 use Rattle.gix_odb_loose.specs.declared.write_order.WriteStage.TheVariants.{Making}
 use Rattle.gix_odb_loose.proofs.NameLaws.{IsTemporary, temp_path-is, temporary_spot}
-use Rattle.gix_odb_world.specs.Event.{Event}
+use Rattle.gix_odb_runs.specs.Event.{Event}
 use Rattle.gix_odb_world.specs.Status.{IsAtWrite, Running, Store, Status, status_after, status_of}
-use Rattle.gix_odb_world.specs.Run.{IsTurnOf, tree_at}
+use Rattle.gix_odb_runs.specs.Run.{IsTurnOf, tree_at}
 use Rattle.gix_odb_world.specs.Running.Write.{IsWriting, write_at}
 use Rattle.gix_odb_world.specs.Undisturbed.{CutsOff, HasMade}
-use Rattle.gix_odb_world.specs.Writing.{LeftAlone, ToWrite, head_to_write}
+use Rattle.gix_odb_runs.specs.Writing.{LeftAlone, ToWrite, head_to_write}
 use Rattle.gix_odb_world.proofs.LawfulRun.{LawfulRun}
 use Rattle.gix_odb_world.proofs.FileSteps.{Does, NotTemporary, does, does_first, does_nothing}
 use Rattle.gix_odb_world.proofs.FileSteps.AtWrite.{AtWrite, write_before}

@@ -24,24 +24,24 @@ use Rattle.gix_odb_loose.specs.declared.write_order.WriteStage.TheVariants as st
 use Rattle.gix_odb_loose.proofs.WriteMadeLaws.{history_makes}
 use Rattle.gix_odb.specs.CallOrder.{result_of_write}
 use Rattle.gix_odb_calls.specs.declared.call.Reply.TheVariants as replies
-use Rattle.gix_odb_world.specs.declared.record.Did.TheVariants.{Disk}
+use Rattle.gix_odb_runs.specs.declared.record.Did.TheVariants.{Disk}
 use Rattle.gix_odb_calls.specs.declared.step.Outcome.TheVariants as outcomes
-use Rattle.gix_odb_world.specs.Event.{Event, ToDisk, to_disk}
+use Rattle.gix_odb_runs.specs.Event.{Event, ToDisk, to_disk}
 use Rattle.gix_odb_world.specs.Machines.{write_in}
 use Rattle.gix_odb_world.specs.Status.{IsAtWrite, Running, Working, status_of}
 use Rattle.gix_odb_world.specs.Headline.{outcome_of}
-use Rattle.gix_odb_world.specs.Run.{IsTurnOf, TellsCall, change_by, disk_after, tree_at}
+use Rattle.gix_odb_runs.specs.Run.{IsTurnOf, TellsCall, change_by, disk_after, tree_at}
 use Rattle.gix_odb_world.specs.Running.{Knows, Runs}
 use Rattle.gix_odb_world.specs.Running.Write.{IsWriting, write_at, job_to_write}
 use Rattle.gix_odb_world.specs.Undisturbed.{HasMade}
-use Rattle.gix_odb_world.specs.Writing.{AskedAt, IsMaking, IsNewFile, head_to_write}
+use Rattle.gix_odb_runs.specs.Writing.{AskedAt, IsMaking, IsNewFile, head_to_write}
 use Rattle.gix_odb_world.proofs.LawfulRun.{LawfulRun}
 use Rattle.gix_odb_world.proofs.DiskTurns.{CallsDisk}
 use Rattle.gix_odb_world.proofs.WriteCalls.{write_calls}
 use Rattle.gix_odb_world.proofs.FileSteps.{IsNewAt, WriterMoves, new_at, writer_moves}
 use Rattle.gix_odb_world.proofs.OwnFiles.Ends.{moving_ends}
 use Rattle.gix_odb_world.proofs.RunSteps.{IsTurned, front_of_front, is_tree_at, there_in_front, there_in_whole}
-use Rattle.gix_odb_world.proofs.WriteAsk.{made_done}
+use Rattle.gix_odb_runs.proofs.WriteAsk.{made_done}
 use Rattle.gix_odb_world.proofs.WriteTurn.{ask_at_stage, done_at}
 use Rattle.gix_odb_world.proofs.WorkLaws.{asks_as_write, ends_as_write, knows_write, quiet_unless_writing}
 

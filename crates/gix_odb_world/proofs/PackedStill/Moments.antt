@@ -12,9 +12,9 @@ use Rattle.gix_odb_looks.specs.Fair.{IsIndexSound, PackedPlace, index_at}
 use Rattle.gix_odb_looks.specs.Found.{Gives}
 use Rattle.gix_odb.specs.Held.{ShowsOne, WasShownAt, index_path}
 use Rattle.gix_odb_world.specs.AtWork.{Store}
-use Rattle.gix_odb_world.specs.Event.{Asked, Event, OfCore, OfDisk, OfNewCore, OfNothing}
+use Rattle.gix_odb_runs.specs.Event.{Asked, Event, OfCore, OfDisk, OfNewCore, OfNothing}
 use Rattle.gix_odb_world.specs.Headline.{LeavesDisk}
-use Rattle.gix_odb_world.specs.Run.{disk_after, disk_after_asked, disk_after_change, tree_at}
+use Rattle.gix_odb_runs.specs.Run.{disk_after, disk_after_asked, disk_after_change, tree_at}
 use Rattle.gix_odb_world.specs.Running.PackedStill.{IndicesShowOne, IsPackedStill, LiesIndexed}
 use Rattle.gix_odb_world.proofs.HistoryLemmas.{tree_at-before, tree_at-now}
 use Rattle.gix_odb_world.proofs.Stock.OneCore.{shown_later}

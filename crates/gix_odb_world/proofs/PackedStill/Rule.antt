@@ -8,8 +8,8 @@ use Rattle.odb_asks.specs.MemDisk.{Volume}
 use Rattle.gix_odb_packs.specs.PackFolder.{is_index_name}
 use Rattle.gix_odb_world.specs.AtWork.{Modes, Running, Store}
 use Rattle.gix_odb_world.specs.Begun.{FromClone, FromOpen, Holds, IsOpenStore, OpenedBy}
-use Rattle.gix_odb_world.specs.Event.{Event}
-use Rattle.gix_odb_world.specs.Run.{tree_at}
+use Rattle.gix_odb_runs.specs.Event.{Event}
+use Rattle.gix_odb_runs.specs.Run.{tree_at}
 use Rattle.gix_odb_world.specs.Running.PackedStill.{IndicesShowOne}
 use Rattle.gix_odb_world.proofs.BegunLemmas.{stems_now}
 use Rattle.gix_odb_world.proofs.BegunLemmas.OneEvent.{Stems}

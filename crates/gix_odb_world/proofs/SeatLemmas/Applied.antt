@@ -25,8 +25,8 @@ use Rattle.gix_odb_calls.specs.declared.step.Outcome.TheVariants as outcomes
 use Rattle.gix_odb_world.specs.declared.work.Work.{Work}
 use Rattle.gix_odb_world.specs.declared.work.Work.TheVariants.{Opening}
 use Rattle.gix_odb_world.specs.Asks.{MayAskCore}
-use Rattle.gix_odb_world.specs.Cores.{cores_after, cores_after_asked, history_at}
-use Rattle.gix_odb_world.specs.Event.{Asked, CoreEvent, Event, OfCore, OfNothing}
+use Rattle.gix_odb_runs.specs.Cores.{cores_after, cores_after_asked, history_at}
+use Rattle.gix_odb_runs.specs.Event.{Asked, CoreEvent, Event, OfCore, OfNothing}
 use Rattle.gix_odb_world.specs.Headline.{IsTurn, asked_applied, asked_by_clone, asked_by_close}
 use Rattle.gix_odb_world.specs.Seats.{IsNowhere, IsSeated}
 use Rattle.gix_odb_world.specs.Status.{Free, MakeCall, Modes, OpenStore, Resting, Status, Store, Task, Working, cloned, ignoring_from, modes_after}

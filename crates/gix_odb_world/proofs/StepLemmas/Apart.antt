@@ -8,12 +8,12 @@ use Rattle.gix_odb_calls.specs.declared.step.Step.TheVariants as steps
 use Rattle.gix_odb_calls.specs.declared.step.Outcome.{Outcome}
 use Rattle.gix_odb_calls.specs.declared.step.Outcome.TheVariants as outcomes
 use Rattle.gix_odb_calls.specs.declared.call.Reply.{Reply}
-use Rattle.gix_odb_world.specs.declared.record.Did.{Did}
-use Rattle.gix_odb_world.specs.declared.record.Did.TheVariants.{Nothing}
-use Rattle.gix_odb_world.specs.Cores.{cores_after}
-use Rattle.gix_odb_world.specs.Event.{Asked, OfCore, OfDisk, OfNewCore, OfNothing, Event}
-use Rattle.gix_odb_world.specs.Run.{did_of_asked, disk_after, disk_after_asked, disk_after_change}
-use Rattle.gix_odb_world.specs.Turned.{is_done}
+use Rattle.gix_odb_runs.specs.declared.record.Did.{Did}
+use Rattle.gix_odb_runs.specs.declared.record.Did.TheVariants.{Nothing}
+use Rattle.gix_odb_runs.specs.Cores.{cores_after}
+use Rattle.gix_odb_runs.specs.Event.{Asked, OfCore, OfDisk, OfNewCore, OfNothing, Event}
+use Rattle.gix_odb_runs.specs.Run.{did_of_asked, disk_after, disk_after_asked, disk_after_change}
+use Rattle.gix_odb_runs.specs.Turned.{is_done}
 use Rattle.gix_odb_world.specs.Valid.{IsReason, misuse_of}
 use Rattle.gix_odb_world.specs.Headline.{FailsAsListed, Law, LeavesDisk, Suits, asked_applied}
 use Rattle.gix_odb_world.specs.Changes.{ChangesAs}

@@ -16,9 +16,9 @@ use Rattle.gix_odb_look_laws.proofs.CoreLaws.Wider.{IsHanded-wider}
 use Rattle.gix_odb.specs.Contents.{folder_list}
 use Rattle.gix_odb.specs.Held.{WasShownAt}
 use Rattle.gix_odb_world.specs.AtWork.{Store, setting_in}
-use Rattle.gix_odb_world.specs.Cores.{answer_behind, cores_after, entered, entry_of}
-use Rattle.gix_odb_world.specs.Event.{CoreAnswer, CoreEvent, Event}
-use Rattle.gix_odb_world.specs.Run.{tree_at}
+use Rattle.gix_odb_runs.specs.Cores.{answer_behind, cores_after, entered, entry_of}
+use Rattle.gix_odb_runs.specs.Event.{CoreAnswer, CoreEvent, Event}
+use Rattle.gix_odb_runs.specs.Run.{tree_at}
 use Rattle.gix_odb_world.proofs.HistoryLemmas.{tree_at-before}
 
 -- a file with these bytes was shown at a path since a store was opened

@@ -32,17 +32,17 @@ use Rattle.gix_odb_world.specs.declared.work.Work.{Work}
 use Rattle.gix_odb_world.specs.declared.work.Work.TheVariants.{Opening, Calling}
 use Rattle.gix_odb_world.specs.Asks.{AsksAsTask, MayAskCore, MayAskNewCore}
 use Rattle.gix_odb_world.specs.AtWork.{MakeCall, OpenStore, Running, Store, Task, modes_after, setting_in}
-use Rattle.gix_odb_world.specs.Cores.{cores_after, history_at}
-use Rattle.gix_odb_world.specs.Event.{Ask, Asked, CoreAnswer, CoreEvent, Event, OfNewCore, OfNothing, ToCore, ToDisk, ToNewCore, answered, part_asked, to_disk}
+use Rattle.gix_odb_runs.specs.Cores.{cores_after, history_at}
+use Rattle.gix_odb_runs.specs.Event.{Ask, Asked, CoreAnswer, CoreEvent, Event, OfNewCore, OfNothing, ToCore, ToDisk, ToNewCore, answered, part_asked, to_disk}
 use Rattle.gix_odb_world.specs.Headline.{IsLawful, IsTurn, Law, Suits, Works, asked_applied, asked_by_clone, asked_by_close, stand_of}
 use Rattle.gix_odb_world.specs.Machines.{ask_in, fed_in}
 use Rattle.gix_odb_world.specs.Promise.{Promise}
-use Rattle.gix_odb_world.specs.Run.{disk_after, told_now}
+use Rattle.gix_odb_runs.specs.Run.{disk_after, told_now}
 use Rattle.gix_odb_world.specs.Running.{Knows, Runs}
 use Rattle.gix_odb_world.specs.Seats.{HasSeat, IsNowhere}
 use Rattle.gix_odb_world.specs.Status.{Free, Resting, Status, Working, cloned, come_to, ignoring_from, refuses_opening, replied, started, status_after, status_of, turned, with_status}
 use Rattle.gix_odb_world.specs.Told.{told_since, view_then}
-use Rattle.gix_odb_world.specs.Turned.{is_done}
+use Rattle.gix_odb_runs.specs.Turned.{is_done}
 use Rattle.gix_odb_world.specs.Valid.{misuse_of, why_not_after}
 use Rattle.gix_odb_world.proofs.HistoryLemmas.{slice_get-last, status_of-push}
 use Rattle.gix_odb_world.proofs.SeatLemmas.{seats_now}

@@ -26,7 +26,7 @@ use Rattle.gix_odb.specs.declared.open_state.OpenState.TheVariants as opens
 use Rattle.gix_odb_world.specs.declared.work.Work.{Work}
 use Rattle.gix_odb_world.specs.declared.work.Work.TheVariants.{Opening, Calling}
 use Rattle.gix_odb_world.specs.AtWork.{Running, setting_in}
-use Rattle.gix_odb_world.specs.Event.{Event, ToDisk, part_asked, to_disk}
+use Rattle.gix_odb_runs.specs.Event.{Event, ToDisk, part_asked, to_disk}
 use Rattle.gix_odb_world.specs.Machines.{ask_in}
 use Rattle.gix_odb_world.specs.Running.{Knows}
 use Rattle.gix_odb_world.specs.Status.{Working, status_of}

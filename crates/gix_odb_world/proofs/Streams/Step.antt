@@ -26,13 +26,13 @@ use Rattle.gix_odb_looks.proofs.StreamLaws.Exchanges.{reads-given, stream_in-pus
 use Rattle.gix_odb_looks.proofs.StreamLaws.Directories.{stream_of_a_directory_begins, stream_of_a_directory_goes_on, stream_of_a_directory_is_kept_by_another_state}
 use Rattle.gix_odb.specs.Contents.{folder_list}
 use Rattle.gix_odb_world.specs.AtWork.{Running, Store}
-use Rattle.gix_odb_world.specs.Event.{Asked, Event, OfCore, OfDisk, OfNewCore, OfNothing}
+use Rattle.gix_odb_runs.specs.Event.{Asked, Event, OfCore, OfDisk, OfNewCore, OfNothing}
 use Rattle.gix_odb_world.specs.Headline.{Law, LeavesDisk}
-use Rattle.gix_odb_world.specs.Run.{IsTurnOf, disk_after, disk_after_asked, tree_at}
+use Rattle.gix_odb_runs.specs.Run.{IsTurnOf, disk_after, disk_after_asked, tree_at}
 use Rattle.gix_odb_world.specs.Running.{Runs}
 use Rattle.gix_odb_world.specs.Status.{Working, status_of}
 use Rattle.gix_odb_world.specs.Told.{exchange_in, exchange_of, told_since}
-use Rattle.gix_odb_world.specs.Turned.{is_turn_of}
+use Rattle.gix_odb_runs.specs.Turned.{is_turn_of}
 use Rattle.gix_odb_world.proofs.DiskTurns.{CallsDisk, called_or_quiet}
 use Rattle.gix_odb_world.proofs.HistoryLemmas.{disk_after-push, tree_at-before}
 use Rattle.gix_odb_world.proofs.RunSteps.{IsTurned, Kind, Made, Quiet, Turned, kind_of}

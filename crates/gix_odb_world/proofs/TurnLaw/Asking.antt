@@ -5,18 +5,18 @@ use Rattle.odb_nodes.specs.Tree.{IsTree, tree_of}
 use Rattle.odb_asks.specs.MemDisk.{Volume}
 use Rattle.odb_asks.specs.Ask.{op_of}
 use Rattle.gix_odb_calls.specs.declared.call.Reply.{Reply}
-use Rattle.gix_odb_world.specs.declared.record.Did.{Did}
-use Rattle.gix_odb_world.specs.declared.record.Did.TheVariants.{Disk}
+use Rattle.gix_odb_runs.specs.declared.record.Did.{Did}
+use Rattle.gix_odb_runs.specs.declared.record.Did.TheVariants.{Disk}
 use Rattle.gix_odb_calls.specs.declared.step.Step.TheVariants as steps
 use Rattle.gix_odb_world.specs.declared.work.Work.{Work}
 use Rattle.gix_odb_world.specs.Asks.{AsksAsTask}
 use Rattle.gix_odb_world.specs.Changes.{ChangesAsAsked}
-use Rattle.gix_odb_world.specs.Event.{Ask, Asked, OfCore, OfDisk, OfNewCore, OfNothing, ToCore, ToDisk, ToNewCore, Event}
+use Rattle.gix_odb_runs.specs.Event.{Ask, Asked, OfCore, OfDisk, OfNewCore, OfNothing, ToCore, ToDisk, ToNewCore, Event}
 use Rattle.gix_odb_world.specs.Headline.{FailsAsListed, Suits, outcome_of, stand_of}
-use Rattle.gix_odb_world.specs.Recorded.{path_recorded}
-use Rattle.gix_odb_world.specs.Run.{IsTurnOf, NoCall, Stand, change_asked, did_asked, did_of_asked, disk_after, told_now}
+use Rattle.gix_odb_runs.specs.PathRecorded.{path_recorded}
+use Rattle.gix_odb_runs.specs.Run.{IsTurnOf, NoCall, Stand, change_asked, did_asked, did_of_asked, disk_after, told_now}
 use Rattle.gix_odb_world.specs.Status.{Running, Task}
-use Rattle.gix_odb_world.proofs.FailedLemmas.{has_failed-now}
+use Rattle.gix_odb_runs.proofs.FailedLemmas.{has_failed-now}
 use Rattle.gix_odb_world.proofs.MachineLaws.{IsTurnAsking, TakesTurn}
 
 -- a turn whose work goes on asked for something

@@ -6,7 +6,7 @@ use Rattle.gix_odb_calls.specs.declared.call.Reply.{Reply}
 use Rattle.gix_odb_core.specs.Replay.{CanHappen}
 use Rattle.gix_odb_core.specs.declared.shape.Shape.{Shape}
 use Rattle.gix_odb_world.specs.declared.work.Work.{Work}
-use Rattle.gix_odb_world.specs.Event.{Asked, CoreEvent, Event, ToCore, answered}
+use Rattle.gix_odb_runs.specs.Event.{Asked, CoreEvent, Event, ToCore, answered}
 use Rattle.gix_odb_world.specs.Machine.{At, Machine, placed}
 use Rattle.gix_odb_world.specs.Machines.{at, ask_in, fed_in}
 use Rattle.gix_odb_world.specs.Status.{Running, gone_on}

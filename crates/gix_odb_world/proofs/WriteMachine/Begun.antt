@@ -20,11 +20,11 @@ use Rattle.gix_odb.specs.Contents.{folder_list}
 use Rattle.gix_odb_world.specs.declared.work.Work.TheVariants.{Calling}
 use Rattle.gix_odb_world.specs.AtWork.{Modes, setting_in, view_in_modes}
 use Rattle.gix_odb_world.specs.Bound.{turns_of_lap}
-use Rattle.gix_odb_world.specs.Event.{Event}
+use Rattle.gix_odb_runs.specs.Event.{Event}
 use Rattle.gix_odb_world.specs.Running.Write.{InFront, IsAtOwnWrite, IsInFront, KnowsOfWrite, Own, Unlisted, WriteState, work_of}
 use Rattle.gix_odb_world.specs.Status.{MakeCall, OpenStore, Running, Store, Task, begun_with, running_from}
 use Rattle.gix_odb_world.specs.Told.{refresh_begun, refresh_now, told_since, turns_in_front}
-use Rattle.gix_odb_world.specs.Writing.{ChangedNothing, ToWrite, to_write}
+use Rattle.gix_odb_runs.specs.Writing.{ChangedNothing, ToWrite, to_write}
 use Rattle.gix_odb_world.proofs.AnsweredLemmas.{answered_at_first, none_told}
 use Rattle.gix_odb_world.proofs.MachineLaws.{BeginsAs, IsStarted}
 use Rattle.gix_odb_world.proofs.ToldLemmas.{snapshot_seen}

@@ -30,20 +30,20 @@ use Rattle.gix_odb.specs.CallOrder.{result_of_write, unlisted}
 use Rattle.gix_odb.specs.Contents.{folder_list}
 use Rattle.gix_odb_world.specs.AtWork.{MakeCall, Running, Store, setting_in}
 use Rattle.gix_odb_world.specs.Bound.{HasAtMost, bound_of_task, laps_without_change, turns_beside_pieces, turns_of_lap}
-use Rattle.gix_odb_world.specs.Cores.{answer_behind, cores_after, history_at}
-use Rattle.gix_odb_world.specs.Event.{Asked, CoreAnswer, CoreEvent, Event, OfCore, OfDisk, ToCore, ToDisk}
+use Rattle.gix_odb_runs.specs.Cores.{answer_behind, cores_after, history_at}
+use Rattle.gix_odb_runs.specs.Event.{Asked, CoreAnswer, CoreEvent, Event, OfCore, OfDisk, ToCore, ToDisk}
 use Rattle.gix_odb_world.specs.Promise.{Promise}
-use Rattle.gix_odb_world.specs.Run.{IsTurnOf, change_by, disk_after, tree_at}
+use Rattle.gix_odb_runs.specs.Run.{IsTurnOf, change_by, disk_after, tree_at}
 use Rattle.gix_odb_world.specs.Running.Answered.{IsAnsweredWell}
 use Rattle.gix_odb_world.specs.Running.Write.{InFront, IsInFront, Own, front_result, own_result, write_at, writing}
 use Rattle.gix_odb_world.specs.Status.{modes_after}
 use Rattle.gix_odb_world.specs.Told.{refresh_begun, refresh_now, told_since, turns_in_front, view_then}
-use Rattle.gix_odb_world.specs.Writing.{ChangedNothing, call_to_write}
+use Rattle.gix_odb_runs.specs.Writing.{ChangedNothing, call_to_write}
 use Rattle.gix_odb_loose.specs.WriteJobs.{pieces_of}
 use Rattle.gix_odb_world.proofs.AnsweredLemmas.{answered_on_core, answered_on_disk, told_call, told_event}
 use Rattle.gix_odb_world.proofs.FrontLemmas.{begun_same, front_asked, now_more}
 use Rattle.gix_odb_world.proofs.MachineLaws.{HasTurn, IsRunning, IsTurnAsking, MachineComes, quiet_turn}
-use Rattle.gix_odb_world.proofs.WriteAsk.Quiet.{change_by-quiet}
+use Rattle.gix_odb_runs.proofs.WriteAsk.Quiet.{change_by-quiet}
 use Rattle.gix_odb_world.proofs.WriteGoes.{more_laps}
 use Rattle.gix_odb_world.proofs.WriteKept.{stands_at_first, unchanged_push}
 

@@ -29,14 +29,14 @@ use Rattle.gix_odb_loose.specs.declared.write_order.Refusal.TheVariants as refus
 use Rattle.gix_odb_loose.specs.declared.write_order.WriteAsk.{WriteAsk}
 use Rattle.gix_odb_loose.specs.declared.write_order.WriteAsk.TheVariants as wants
 use Rattle.gix_odb_loose.specs.declared.write_order.WriteStage.TheVariants as stages
-use Rattle.gix_odb_world.specs.Event.{Event}
-use Rattle.gix_odb_world.specs.Run.{disk_after}
+use Rattle.gix_odb_runs.specs.Event.{Event}
+use Rattle.gix_odb_runs.specs.Run.{disk_after}
 use Rattle.gix_odb_world.specs.Running.Write.{Holds, HoldsFile, IsUntouched, StandsAt, content_at, job_to_write}
-use Rattle.gix_odb_world.specs.Writing.{AskedAt, AskedSince, CauseOfWrite, ChangedNothing, DoneSince, IsNewFile, IsRename, TurnsMadeOnly}
-use Rattle.gix_odb_world.specs.Writing.{RefusedSince, NoTurnRenamed, TakenSince, head_to_write, name_to_write}
+use Rattle.gix_odb_runs.specs.Writing.{AskedAt, AskedSince, CauseOfWrite, ChangedNothing, DoneSince, IsNewFile, IsRename, TurnsMadeOnly}
+use Rattle.gix_odb_runs.specs.Writing.{RefusedSince, NoTurnRenamed, TakenSince, head_to_write, name_to_write}
 use Rattle.gix_odb_world.specs.Written.{HasWritten, WasRefused}
-use Rattle.gix_odb_world.proofs.RefusedLemmas.{refused_on_way}
-use Rattle.gix_odb_world.proofs.WriteAsk.Quiet.{never_wants}
+use Rattle.gix_odb_runs.proofs.RefusedLemmas.{refused_on_way}
+use Rattle.gix_odb_runs.proofs.WriteAsk.Quiet.{never_wants}
 use Rattle.gix_odb_world.proofs.WriteKept.{asked_kept, each_turn_push}
 use Rattle.gix_odb_world.proofs.WriteTurn.Common.{CallOfTurn, TurnOfWrite, made_same, own}
 

@@ -28,12 +28,12 @@ use Rattle.gix_odb_loose.specs.declared.write_order.Refusal.{Refusal}
 use Rattle.gix_odb_loose.specs.declared.write_order.Refusal.TheVariants as refusals
 use Rattle.gix_odb_loose.specs.declared.write_order.WriteHead.{WriteHead}
 use Rattle.gix_odb_loose.specs.declared.write_order.WriteStage.{WriteStage}
-use Rattle.gix_odb_world.specs.Event.{OfDisk, Event}
-use Rattle.gix_odb_world.specs.Run.{IsTurnOf, TellsCall, change_by, disk_after, disk_after_asked, tree_at}
+use Rattle.gix_odb_runs.specs.Event.{OfDisk, Event}
+use Rattle.gix_odb_runs.specs.Run.{IsTurnOf, TellsCall, change_by, disk_after, disk_after_asked, tree_at}
 use Rattle.gix_odb_world.specs.Running.Write.{HoldsFile, StandsAt}
-use Rattle.gix_odb_world.specs.Writing.{AskedAt, AskedSince, IsNewFile, IsRename, TurnsMadeOnly, ToWrite}
+use Rattle.gix_odb_runs.specs.Writing.{AskedAt, AskedSince, IsNewFile, IsRename, TurnsMadeOnly, ToWrite}
 use Rattle.gix_odb_world.proofs.HistoryLemmas.{tree_at-now}
-use Rattle.gix_odb_world.proofs.WriteAsk.{Made}
+use Rattle.gix_odb_runs.proofs.WriteAsk.{Made}
 use Rattle.gix_odb_world.proofs.WriteKept.{alone_before, asked_at_kept, asked_now, each_turn_push}
 
 -- a write that is to remove its file was not refused the making of it

@@ -25,11 +25,11 @@ use Rattle.gix_odb_loose.specs.declared.write_order.WriteAsk.TheVariants as want
 use Rattle.gix_odb_loose.specs.declared.write_order.WriteStage.{WriteStage}
 use Rattle.gix_odb_loose.specs.declared.write_order.WriteStage.TheVariants as stages
 use Rattle.gix_odb_loose.proofs.WriteDoneLaws.Data.{data_grown}
-use Rattle.gix_odb_world.specs.Event.{Event}
-use Rattle.gix_odb_world.specs.Run.{disk_after}
+use Rattle.gix_odb_runs.specs.Event.{Event}
+use Rattle.gix_odb_runs.specs.Run.{disk_after}
 use Rattle.gix_odb_world.specs.Running.Write.{HoldsFile}
-use Rattle.gix_odb_world.specs.Writing.{IsNewFile, IsRename, TurnsMadeOnly}
-use Rattle.gix_odb_world.proofs.WriteAsk.{Made, done_made, told_append, undone_made}
+use Rattle.gix_odb_runs.specs.Writing.{IsNewFile, IsRename, TurnsMadeOnly}
+use Rattle.gix_odb_runs.proofs.WriteAsk.{Made, done_made, told_append, undone_made}
 use Rattle.gix_odb_world.proofs.WriteTurn.Common.{CallOfTurn, Makes, Stands, TurnOfWrite, appended_holds, call_at, made_same, no_file, no_rename}
 use Rattle.gix_odb_world.proofs.WriteTurn.Comes.{Parts, PartsTo, cleared}
 

@@ -19,9 +19,9 @@ use Rattle.gix_odb_loose.specs.declared.write_order.Refusal.TheVariants as refus
 use Rattle.gix_odb_loose.specs.declared.write_order.WriteAsk.{WriteAsk}
 use Rattle.gix_odb_loose.specs.declared.write_order.WriteAsk.TheVariants as wants
 use Rattle.gix_odb_loose.specs.declared.write_order.WriteStage.TheVariants as stages
-use Rattle.gix_odb_world.specs.Run.{change_by, disk_after}
-use Rattle.gix_odb_world.specs.Writing.{IsRename}
-use Rattle.gix_odb_world.proofs.WriteAsk.{done_made, told_new_file, undone_made}
+use Rattle.gix_odb_runs.specs.Run.{change_by, disk_after}
+use Rattle.gix_odb_runs.specs.Writing.{IsRename}
+use Rattle.gix_odb_runs.proofs.WriteAsk.{done_made, told_new_file, undone_made}
 use Rattle.gix_odb_world.proofs.WriteKept.{each_turn_push}
 use Rattle.gix_odb_world.proofs.WriteTurn.Common.{CallOfTurn, Makes, Stands, TurnOfWrite, call_at, made_same, new_holds, no_file, no_rename}
 use Rattle.gix_odb_world.proofs.WriteTurn.Comes.{PartsTo}

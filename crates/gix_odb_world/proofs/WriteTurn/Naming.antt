@@ -30,13 +30,13 @@ use Rattle.gix_odb_loose.specs.declared.write_order.Refusal.TheVariants as refus
 use Rattle.gix_odb_loose.specs.declared.write_order.WriteAsk.{WriteAsk}
 use Rattle.gix_odb_loose.specs.declared.write_order.WriteAsk.TheVariants as wants
 use Rattle.gix_odb_loose.specs.declared.write_order.WriteStage.TheVariants as stages
-use Rattle.gix_odb_world.specs.Event.{Event}
-use Rattle.gix_odb_world.specs.Run.{change_by, disk_after, tree_at}
+use Rattle.gix_odb_runs.specs.Event.{Event}
+use Rattle.gix_odb_runs.specs.Run.{change_by, disk_after, tree_at}
 use Rattle.gix_odb_world.specs.Running.Write.{job_to_write}
-use Rattle.gix_odb_world.specs.Writing.{ChangedNothing, IsNewFile, IsRename, head_to_write}
+use Rattle.gix_odb_runs.specs.Writing.{ChangedNothing, IsNewFile, IsRename, head_to_write}
 use Rattle.gix_odb_world.specs.Written.{HasWritten}
 use Rattle.gix_odb_world.proofs.HistoryLemmas.{tree_at-before}
-use Rattle.gix_odb_world.proofs.WriteAsk.{change_by-all, done_made, told_make_dir, told_remove, told_rename, undone_made}
+use Rattle.gix_odb_runs.proofs.WriteAsk.{change_by-all, done_made, told_make_dir, told_remove, told_rename, undone_made}
 use Rattle.gix_odb_world.proofs.WriteKept.{alone_before, asked_at_kept}
 use Rattle.gix_odb_world.proofs.WriteTurn.Common.{CallOfTurn, Makes, Stands, TurnOfWrite, before_is, call_at, foldered_holds, is_tree}
 use Rattle.gix_odb_world.proofs.WriteTurn.Common.{made_before_removal, made_same, no_file, no_rename, now_changed, own, same_holds}

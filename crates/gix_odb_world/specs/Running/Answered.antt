@@ -6,8 +6,8 @@ use Rattle.gix_odb_looks.specs.Laps.{AreWithin}
 use Rattle.gix_odb_refresh.specs.Asked.{AreSuited}
 use Rattle.gix_odb_world.specs.AtWork.{Store}
 use Rattle.gix_odb_world.specs.Bound.{HasAtMost}
-use Rattle.gix_odb_world.specs.Event.{Event}
-use Rattle.gix_odb_world.specs.Run.{tree_at}
+use Rattle.gix_odb_runs.specs.Event.{Event}
+use Rattle.gix_odb_runs.specs.Run.{tree_at}
 use Rattle.gix_odb_world.specs.Told.{told_since}
 
 -- Each answer is one that its ask has, and no stream gave more entries than the folders of the store had.

@@ -10,9 +10,9 @@ use Rattle.gix_odb_world.specs.declared.work.Work.TheVariants.{Opening}
 use Rattle.gix_odb_world.specs.AtWork.{OpenStore, Running, Store, setting_in}
 use Rattle.gix_odb_world.specs.Bound.{turn_bound}
 use Rattle.gix_odb_world.specs.Causes.{Sometime, ShowsDirectory}
-use Rattle.gix_odb_world.specs.Event.{Answer, Ask, Event, FromCore, FromDisk, ToNewCore, to_disk}
+use Rattle.gix_odb_runs.specs.Event.{Answer, Ask, Event, FromCore, FromDisk, ToNewCore, to_disk}
 use Rattle.gix_odb_world.specs.Machine.{Machine}
-use Rattle.gix_odb_world.specs.Run.{tree_at}
+use Rattle.gix_odb_runs.specs.Run.{tree_at}
 use Rattle.gix_odb_world.specs.Running.Answered.{IsAnsweredWell}
 use Rattle.gix_odb_world.specs.Told.{opening_now, told_since}
 

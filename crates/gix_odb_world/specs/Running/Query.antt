@@ -26,10 +26,10 @@ use Rattle.gix_odb.specs.declared.call_state.CallState.TheVariants.{Looking}
 use Rattle.gix_odb_world.specs.declared.work.Work.TheVariants.{Calling}
 use Rattle.gix_odb_world.specs.AtWork.{MakeCall, Modes, Running, Store, setting_in}
 use Rattle.gix_odb_world.specs.Bound.{HasAtMost, bound_of_call}
-use Rattle.gix_odb_world.specs.Cores.{cores_after, history_at}
-use Rattle.gix_odb_world.specs.Event.{Event, part_asked}
+use Rattle.gix_odb_runs.specs.Cores.{cores_after, history_at}
+use Rattle.gix_odb_runs.specs.Event.{Event, part_asked}
 use Rattle.gix_odb_world.specs.Machine.{Machine, by_part}
-use Rattle.gix_odb_world.specs.Run.{FailedSince, tree_at}
+use Rattle.gix_odb_runs.specs.Run.{FailedSince, tree_at}
 use Rattle.gix_odb_world.specs.Running.PackedStill.{IsPackedStill}
 pub use Rattle.gix_odb_world.specs.Told.{call_of}
 use Rattle.gix_odb_world.specs.Told.{look_begun, look_now, told_since, view_then}

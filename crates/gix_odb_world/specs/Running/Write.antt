@@ -31,15 +31,15 @@ use Rattle.gix_odb.specs.Contents.{folder_list}
 use Rattle.gix_odb.specs.declared.call_state.CallState.TheVariants.{Refreshing, Refused, Writing}
 use Rattle.gix_odb_world.specs.declared.work.Work.{Work}
 use Rattle.gix_odb_world.specs.declared.work.Work.TheVariants.{Calling}
-use Rattle.gix_odb_world.specs.Event.{Answer, Ask, Event, part_asked, to_disk}
+use Rattle.gix_odb_runs.specs.Event.{Answer, Ask, Event, part_asked, to_disk}
 use Rattle.gix_odb_world.specs.Machine.{Machine, by_answer, by_part}
 use Rattle.gix_odb_world.specs.AtWork.{MakeCall, Running, Store, setting_in}
 use Rattle.gix_odb_world.specs.Bound.{HasAtMost, bound_of_task, turns_of_lap}
-use Rattle.gix_odb_world.specs.Run.{tree_at}
+use Rattle.gix_odb_runs.specs.Run.{tree_at}
 use Rattle.gix_odb_world.specs.Running.Answered.{IsAnsweredWell}
 use Rattle.gix_odb_world.specs.Told.{refresh_begun, refresh_now, told_since, turns_in_front}
 use Rattle.gix_odb.specs.CallOrder.{result_of_write, unlisted}
-use Rattle.gix_odb_world.specs.Writing.{AskedAt, AskedSince, ChangedNothing, LeftAlone, TurnsMadeOnly, NoTurnRenamed, ToWrite, call_to_write, head_to_write}
+use Rattle.gix_odb_runs.specs.Writing.{AskedAt, AskedSince, ChangedNothing, LeftAlone, TurnsMadeOnly, NoTurnRenamed, ToWrite, call_to_write, head_to_write}
 
 -- a write that has asked nothing
 abbrev pub job_to_write : ToWrite → WriteJob

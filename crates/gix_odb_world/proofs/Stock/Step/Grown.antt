@@ -10,8 +10,8 @@ use Rattle.gix_odb_events.specs.declared.event.Event.TheVariants as core_events
 use Rattle.gix_odb_looks.specs.Shown.{IsHanded}
 use Rattle.gix_odb.specs.Contents.{folder_list}
 use Rattle.gix_odb_world.specs.AtWork.{Store, setting_in}
-use Rattle.gix_odb_world.specs.Cores.{answer_behind, cores_after, cores_after_asked, entered, history_at}
-use Rattle.gix_odb_world.specs.Event.{Asked, CoreEvent, Event, OfCore, OfNewCore}
+use Rattle.gix_odb_runs.specs.Cores.{answer_behind, cores_after, cores_after_asked, entered, history_at}
+use Rattle.gix_odb_runs.specs.Event.{Asked, CoreEvent, Event, OfCore, OfNewCore}
 use Rattle.gix_odb_world.proofs.HistoryLemmas.{cores_after-push, slice_get-kept, slice_get-last, slice_get-push}
 use Rattle.gix_odb_world.proofs.SeatLemmas.Elsewhere.{slice_get-set_other, slice_get-set_same}
 use Rattle.gix_odb_world.proofs.Stock.OneCore.{IsOfStore, IsStocked, ShownSince, of_store_grown, of_store_later}

@@ -4,7 +4,7 @@ use Rattle.gix_odb_core.specs.History.{History}
 use Rattle.gix_odb_calls.specs.declared.step.Outcome.TheVariants.{Misuse}
 use Rattle.gix_odb_calls.specs.declared.step.Step.TheVariants as steps
 use Rattle.gix_odb_world.specs.declared.course.Course.{Course}
-use Rattle.gix_odb_world.specs.declared.record.Did.TheVariants.{Nothing}
+use Rattle.gix_odb_runs.specs.declared.record.Did.TheVariants.{Nothing}
 use Rattle.gix_odb_world.specs.Headline.{outcome_of}
 use Rattle.gix_odb_world.specs.Table.{CanHappenAt, Notes}
 use Rattle.gix_odb_world.specs.WorkOrder.{ask_on, result_in}

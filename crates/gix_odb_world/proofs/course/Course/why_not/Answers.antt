@@ -4,7 +4,7 @@ use Rattle.odb_asks.specs.MemDisk.{Volume}
 use Rattle.gix_odb_calls.specs.declared.step.Step.{Step}
 use Rattle.gix_odb_calls.specs.declared.step.Why.{Why}
 use Rattle.gix_odb_world.specs.declared.course.Course.{Course}
-use Rattle.gix_odb_world.specs.Event.{Event}
+use Rattle.gix_odb_runs.specs.Event.{Event}
 use Rattle.gix_odb_world.specs.Table.{IsReasonNow}
 use Rattle.gix_odb_world.specs.Valid.{IsReason}
 use Rattle.gix_odb_world.specs.World.{Explains}

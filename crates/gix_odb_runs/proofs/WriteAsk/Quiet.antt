@@ -19,7 +19,7 @@ use Rattle.odb_nodes.specs.declared.change.Change.{Change}
 use Rattle.odb_nodes.specs.declared.disk_error.DiskError.TheVariants as disk_errors
 use Rattle.odb_nodes.specs.declared.entry.Entry.{Entry}
 use Rattle.odb_nodes.specs.declared.meta.Meta.{Meta}
-use Rattle.gix_odb_world.specs.Run.{change_by}
+use Rattle.gix_odb_runs.specs.Run.{change_by}
 
 -- ---- no answer is for want of memory
 

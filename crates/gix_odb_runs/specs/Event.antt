@@ -8,7 +8,7 @@ use Rattle.gix_odb_events.specs.declared.answer.PartAsk.TheVariants as parts
 use Rattle.gix_odb_events.specs.declared.event.Event as core
 use Rattle.gix_odb_calls.specs.declared.step.Step.{Step}
 use Rattle.gix_odb_calls.specs.declared.step.Outcome.{Outcome}
-use Rattle.gix_odb_world.specs.declared.record.Record.{Record}
+use Rattle.gix_odb_runs.specs.declared.record.Record.{Record}
 
 -- an event of a store's core, and what a core answers to one
 abbrev pub CoreEvent : Type 0

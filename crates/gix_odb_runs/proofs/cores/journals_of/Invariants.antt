@@ -2,8 +2,8 @@ use Rattle.std.proofs.Common.{◌≡◌, map}
 use Rattle.std.specs.List.{All}
 use Rattle.gix_odb_core.specs.History.{History}
 use Rattle.gix_odb_core.specs.Journal.{entries_of}
-use Rattle.gix_odb_world.specs.Headline.{IsJournal}
-use Rattle.gix_odb_world.proofs.cores.journals_of.Given as goal
+use Rattle.gix_odb_runs.specs.JournalKept.{IsJournal}
+use Rattle.gix_odb_runs.proofs.cores.journals_of.Given as goal
 
 -- the journals so far are those of the cores so far
 abbrev pub invariant-loop-core : goal.invariant-loop-core

@@ -4,8 +4,8 @@ use Rattle.gix_odb_core.specs.History.{History, opened}
 use Rattle.gix_odb_events.specs.Answers.{view_in}
 use Rattle.gix_odb_events.specs.declared.event.Event.TheVariants as events
 use Rattle.gix_odb_events.specs.declared.view.View.{View}
-use Rattle.gix_odb_world.specs.Cores.{answer_behind, entered, history_at}
-use Rattle.gix_odb_world.specs.Event.{CoreAnswer}
+use Rattle.gix_odb_runs.specs.Cores.{answer_behind, entered, history_at}
+use Rattle.gix_odb_runs.specs.Event.{CoreAnswer}
 
 -- what the registration of a seat answers at a core that was just made
 abbrev pub first_answer : (slots folders seat : ℕ) → CoreAnswer

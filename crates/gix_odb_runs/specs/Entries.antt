@@ -2,10 +2,10 @@
 use Rattle.std.specs.Prelude.{◌≡◌, ℕ, ◌==◌, List, length, Option, Some, None, if◌then◌else◌}
 use Rattle.std.specs.List.{filter_map, range_with_len}
 use Rattle.gix_odb_core.specs.History.{History}
-use Rattle.gix_odb_world.specs.Cores.{history_at}
-use Rattle.gix_odb_world.specs.declared.record.Did.{Did}
-use Rattle.gix_odb_world.specs.declared.record.Did.TheVariants.{Nothing, Disk, Core}
-use Rattle.gix_odb_world.specs.declared.record.Record.{Record}
+use Rattle.gix_odb_runs.specs.Cores.{history_at}
+use Rattle.gix_odb_runs.specs.declared.record.Did.{Did}
+use Rattle.gix_odb_runs.specs.declared.record.Did.TheVariants.{Nothing, Disk, Core}
+use Rattle.gix_odb_runs.specs.declared.record.Record.{Record}
 
 -- the entry of the journal of a store that is told, if one is
 abbrev pub entry_told : (store : ℕ) → Did → Option ℕ

@@ -3,8 +3,8 @@ use Rattle.std.proofs.lemmas.List.{map-append}
 use Rattle.std.proofs.lemmas.List.Elements.{All-push}
 use Rattle.gix_odb_core.specs.History.{History}
 use Rattle.gix_odb_core.specs.Journal.{entries_of}
-use Rattle.gix_odb_world.specs.Headline.{IsJournal}
-use Rattle.gix_odb_world.proofs.cores.journals_of.Goals as goal
+use Rattle.gix_odb_runs.specs.JournalKept.{IsJournal}
+use Rattle.gix_odb_runs.proofs.cores.journals_of.Goals as goal
 
 -- one journal more is that of one core more
 pub loop-core-preserved : goal.loop-core-preserved

@@ -1,14 +1,15 @@
 //! The record of a step, and a whole run.
 ghost use Rattle.std.specs.Prelude.{◌≡◌, IfOk, [], unwrap_or};
 ghost use Rattle.std.specs.Option.{option_map};
-ghost use Rattle.gix_odb_world.specs.Recorded.{path_recorded};
-ghost use Rattle.gix_odb_world.specs.Run.{did_of};
+ghost use Rattle.gix_odb_runs.specs.PathRecorded.{path_recorded};
+ghost use Rattle.gix_odb_runs.specs.Run.{did_of};
 
 use crate::cores::JournalList;
 use gix_odb_calls::Outcome;
 use odb_asks::{DiskAnswer, DiskAsk, Op};
-use odb_base::{NoMemory, Sequence};
-use odb_disk::{Change, DiskError, MemDisk, PathText};
+use odb_base::{NoMemory, PathText, Sequence};
+use odb_disk::MemDisk;
+use odb_nodes::{Change, DiskError};
 use std::alloc::Global;
 
 /// What a step did beside its outcome.
@@ -31,7 +32,7 @@ pub enum Did {
 
 impl Did {
     /// What a turn did that made a call of the disk, of a stream that was opened with a path if it is on one.
-    pub(crate) fn of(
+    pub fn of(
         alloc: Global,
         opened: Option<&PathText>,
         ask: &DiskAsk,

@@ -22,12 +22,12 @@ use Rattle.gix_odb_loose.specs.WriteRuns.RefusedAsks.{IsOnWay}
 use Rattle.gix_odb_loose.specs.WriteStreams.{OtherLength}
 use Rattle.gix_odb_loose.specs.declared.write.Error as loose_write
 use Rattle.gix_odb_loose.specs.declared.write_order.WriteHead.{WriteHead}
-use Rattle.gix_odb_world.specs.Event.{OfDisk, Event}
-use Rattle.gix_odb_world.specs.Run.{Fails, IsTurnOf, TellsCall, disk_after, tree_at}
+use Rattle.gix_odb_runs.specs.Event.{OfDisk, Event}
+use Rattle.gix_odb_runs.specs.Run.{Fails, IsTurnOf, TellsCall, disk_after, tree_at}
 use Rattle.gix_odb_calls.specs.declared.call.Call.{Call}
 use Rattle.gix_odb_calls.specs.declared.call.Call.TheVariants.{Write}
-use Rattle.gix_odb_world.specs.declared.record.Did.{Did}
-use Rattle.gix_odb_world.specs.declared.record.Did.TheVariants.{Disk}
+use Rattle.gix_odb_runs.specs.declared.record.Did.{Did}
+use Rattle.gix_odb_runs.specs.declared.record.Did.TheVariants.{Disk}
 
 -- ---- what is written
 

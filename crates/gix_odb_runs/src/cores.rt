@@ -6,10 +6,10 @@ ghost use Rattle.gix_odb_core.specs.Journal.{entries_of};
 ghost use Rattle.gix_odb_core.specs.Replay.{CanHappen, number_behind};
 ghost use Rattle.gix_odb_events.specs.Answers.{view_in};
 ghost use Rattle.gix_odb_events.specs.PackId.{most_slots};
-ghost use Rattle.gix_odb_world.specs.Cores.{answer_behind, cores_after_asked, entered, history_at, registered_at};
-ghost use Rattle.gix_odb_world.specs.Event.{OfCore};
-ghost use Rattle.gix_odb_world.specs.Headline.{IsJournal};
-ghost use Rattle.gix_odb_world.specs.Made.{MakesCore, joined_answer};
+ghost use Rattle.gix_odb_runs.specs.Cores.{answer_behind, cores_after_asked, entered, history_at, registered_at};
+ghost use Rattle.gix_odb_runs.specs.Event.{OfCore};
+ghost use Rattle.gix_odb_runs.specs.JournalKept.{IsJournal};
+ghost use Rattle.gix_odb_runs.specs.Made.{MakesCore, joined_answer};
 
 use crate::record::Did;
 use gix_odb_core::{Core, Journal};

@@ -7,7 +7,7 @@ use Rattle.gix_odb_core.specs.Replay.{answer_of, number_behind}
 use Rattle.gix_odb_events.specs.declared.event.Event.TheVariants as events
 use Rattle.gix_odb_core.specs.declared.journal.Entry.{Entry}
 use Rattle.gix_odb_events.specs.declared.view.View.{View}
-use Rattle.gix_odb_world.specs.Event.{Asked, CoreAnswer, CoreEvent, Event, OfCore, OfDisk, OfNewCore, OfNothing}
+use Rattle.gix_odb_runs.specs.Event.{Asked, CoreAnswer, CoreEvent, Event, OfCore, OfDisk, OfNewCore, OfNothing}
 
 -- the entry that an event makes behind a history, with an answer
 abbrev pub entry_of : History → (seat : ℕ) → CoreEvent → CoreAnswer → Entry

@@ -19,7 +19,7 @@ use Rattle.odb_asks.specs.declared.ask.DiskAsk.{DiskAsk}
 use Rattle.odb_asks.specs.declared.ask.DiskAsk.TheVariants.{Look, Read, OpenDir, NextEntry, CloseDir, MakeDir, NewFile, Append, Rename, Remove}
 use Rattle.odb_asks.specs.declared.ask.DiskAnswer.{DiskAnswer}
 use Rattle.odb_asks.specs.declared.ask.DiskAnswer.TheVariants as answers
-use Rattle.gix_odb_world.specs.Run.{has_failed}
+use Rattle.gix_odb_runs.specs.Run.{has_failed}
 
 has_failed-error : (refusal : Refusal) → has_failed (answers.Refused (error_of refusal)) ≡ false
 has_failed-error Absent = refl

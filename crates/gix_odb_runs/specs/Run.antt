@@ -10,16 +10,16 @@ use Rattle.odb_asks.specs.declared.ask.DiskAnswer.TheVariants as answers
 use Rattle.odb_asks.specs.declared.ask.DiskAsk.{DiskAsk}
 use Rattle.odb_nodes.specs.declared.change.Change.{Change}
 use Rattle.odb_nodes.specs.declared.disk_error.DiskError.TheVariants as disk_errors
-use Rattle.gix_odb_world.specs.Recorded.{path_recorded}
-use Rattle.gix_odb_world.specs.declared.record.Did.{Did}
-use Rattle.gix_odb_world.specs.declared.record.Did.TheVariants.{Nothing, Disk, Core}
+use Rattle.gix_odb_runs.specs.PathRecorded.{path_recorded}
+use Rattle.gix_odb_runs.specs.declared.record.Did.{Did}
+use Rattle.gix_odb_runs.specs.declared.record.Did.TheVariants.{Nothing, Disk, Core}
 use Rattle.gix_odb_calls.specs.declared.step.Step.TheVariants as steps
 use Rattle.gix_odb_core.specs.History.{History, opened}
 use Rattle.gix_odb_core.specs.Replay.{number_behind}
 use Rattle.gix_odb_events.specs.declared.event.Event.TheVariants as core_events
-use Rattle.gix_odb_world.specs.Cores.{answer_behind, history_at}
-use Rattle.gix_odb_world.specs.Event.{Ask, Asked, OfNothing, OfDisk, OfCore, OfNewCore, ToCore, ToDisk, ToNewCore, Event}
-use Rattle.gix_odb_world.specs.Turned.{is_done}
+use Rattle.gix_odb_runs.specs.Cores.{answer_behind, history_at}
+use Rattle.gix_odb_runs.specs.Event.{Ask, Asked, OfNothing, OfDisk, OfCore, OfNewCore, ToCore, ToDisk, ToNewCore, Event}
+use Rattle.gix_odb_runs.specs.Turned.{is_done}
 
 abbrev pub disk_after_change : Volume → Option Change → Volume
 disk_after_change disk None = disk

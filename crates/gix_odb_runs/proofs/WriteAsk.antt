@@ -16,8 +16,8 @@ use Rattle.odb_asks.specs.declared.ask.DiskAsk.{DiskAsk}
 use Rattle.odb_asks.specs.declared.ask.DiskAsk.TheVariants as asks
 use Rattle.odb_nodes.specs.declared.change.Change.{Change}
 use Rattle.odb_nodes.specs.declared.disk_error.DiskError.TheVariants as disk_errors
-use Rattle.gix_odb_world.specs.Run.{change_by}
-use Rattle.gix_odb_world.proofs.FailedLemmas.{answer_by_tree}
+use Rattle.gix_odb_runs.specs.Run.{change_by}
+use Rattle.gix_odb_runs.proofs.FailedLemmas.{answer_by_tree}
 
 -- ---- a call that writes
 

@@ -17,11 +17,11 @@ use Rattle.odb_nodes.proofs.RefusalLaws.{append-never, full, make_dir-never, new
 use Rattle.gix_odb_loose.proofs.CauseLaws.Write.{IsMaking}
 use Rattle.gix_odb_loose.specs.WriteHistory.Refused.{IsRefused}
 use Rattle.gix_odb_loose.specs.WriteRuns.RefusedAsks.{IsOnWay}
-use Rattle.gix_odb_world.specs.Event.{OfDisk, Event}
-use Rattle.gix_odb_world.specs.Run.{Fails, disk_after}
-use Rattle.gix_odb_world.specs.Writing.{AskedSince, RefusedSince}
-use Rattle.gix_odb_world.proofs.FailedLemmas.{answer_by_tree}
-use Rattle.gix_odb_world.proofs.WriteAsk.{Told, told_append, told_make_dir, told_new_file, told_rename}
+use Rattle.gix_odb_runs.specs.Event.{OfDisk, Event}
+use Rattle.gix_odb_runs.specs.Run.{Fails, disk_after}
+use Rattle.gix_odb_runs.specs.Writing.{AskedSince, RefusedSince}
+use Rattle.gix_odb_runs.proofs.FailedLemmas.{answer_by_tree}
+use Rattle.gix_odb_runs.proofs.WriteAsk.{Told, told_append, told_make_dir, told_new_file, told_rename}
 
 module _ (first : Volume) (events : List Event) (handle begun : ℕ) (ask : DiskAsk) (answer : DiskAnswer) (asked : AskedSince first events handle begun ask answer)
     (refused : IsRefused ask answer) where

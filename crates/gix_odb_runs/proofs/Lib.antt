@@ -1,0 +1,4 @@
+-- Lemmas on runs, which those on worlds cite.
+pub mod FailedLemmas
+pub mod WriteAsk
+pub mod RefusedLemmas
