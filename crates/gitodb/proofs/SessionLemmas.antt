@@ -3,8 +3,7 @@ use Rattle.std.proofs.Common.{◌≡◌, inl, inr, ℕ, ◌≤◌, List, [], ◌
 use Rattle.std.specs.Prelude.{IfSome}
 use Rattle.std.proofs.lemmas.Bool.{cases_lt}
 use Rattle.odb_disk.specs.Source.{ReadsFile}
-use Rattle.gix_odb_world.specs.Headline.{Headline}
-use Rattle.gix_odb_world.specs.Play.{Plays, made_of}
+use Rattle.gix_odb_world.specs.Play.{IsPlayed}
 use Rattle.gitodb.specs.declared.command.Command.TheVariants.{World}
 use Rattle.gitodb.specs.declared.status.Status.{Status}
 use Rattle.gitodb.specs.declared.status.Status.TheVariants.{WriteFault}
@@ -30,8 +29,8 @@ Answers-front text rest written ending whole a =
     record {
       ends = subst P (sym same) a.ends;
       play = a.play;
-      headline = let Q : List Item → Type 0 = λ i. Headline (disk_of (reading_from i 1 (Faults [])).script) a.play.steps a.play.run in subst Q (sym same) a.headline;
-      plays = let Q : List Item → Type 0 = λ i. Plays 0 (lines_of (reading_from i 1 (Faults [])).script) (made_of a.play.steps a.play.run.outcomes) a.play.last in subst Q (sym same) a.plays;
+      played = let Q : List Item → Type 0 = λ i.
+          IsPlayed (disk_of (reading_from i 1 (Faults [])).script) (lines_of (reading_from i 1 (Faults [])).script) a.play.run a.play.last in subst Q (sym same) a.played;
       written_is = a.written_is;
     }
 

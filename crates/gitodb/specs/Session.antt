@@ -4,8 +4,7 @@ use Rattle.std.specs.Fmt.{decimal}
 use Rattle.odb_base.specs.Path.{same_name}
 use Rattle.odb_asks.specs.MemDisk.{Volume}
 use Rattle.odb_program.specs.Session.{FailedRead, FailedWrite, Finished, Input, Output, ReadToEnd, Wrote}
-use Rattle.gix_odb_world.specs.Headline.{Headline}
-use Rattle.gix_odb_world.specs.Play.{Plays, made_of}
+use Rattle.gix_odb_world.specs.Play.{IsPlayed}
 use Rattle.gix_odb_calls.specs.declared.line.Line.{Line}
 use Rattle.gix_odb_world.specs.declared.play.Play.{Play}
 use Rattle.gitodb.specs.declared.command.Command.{Command}
@@ -45,8 +44,7 @@ pub record Says (script : List ℕ) (disk : Volume) (lines : List Line) (ending 
 pub record Answers (script written : List ℕ) (ending : Ending) : Type 0 where
   pub ends : (reading_of script).ending ≡ ending
   pub play : Play
-  pub headline : Headline (disk_of (reading_of script).script) play.steps play.run
-  pub plays : Plays 0 (lines_of (reading_of script).script) (made_of play.steps play.run.outcomes) play.last
+  pub played : IsPlayed (disk_of (reading_of script).script) (lines_of (reading_of script).script) play.run play.last
   pub written_is : written ≡ printed_at play.run.outcomes play.last ++ ending_text ending
 
 -- the status of a script that ends so, of which this is told

@@ -1,8 +1,7 @@
 //! `world`: a script in, a line for each of its step lines out.
 ghost use Rattle.std.specs.Prelude.{◌≡◌, ◌++◌, ℕ, List, IfOk, OnOk};
 ghost use Rattle.std.specs.Option.{option_copied};
-ghost use Rattle.gix_odb_world.specs.Headline.{Headline};
-ghost use Rattle.gix_odb_world.specs.Play.{Plays, made_of};
+ghost use Rattle.gix_odb_world.specs.Play.{IsPlayed};
 ghost use Rattle.odb_print.specs.Print.{printed_at, line_of};
 ghost use Rattle.gitodb.specs.Session.{Answers, AnswersWith, Says, ending_text, status_by};
 
@@ -43,8 +42,7 @@ fn answer_lines(
 
 /// The play of lines on a disk.
 fn played(alloc: Global, disk: MemDisk, lines: Sequence<Line>) -> Result<Play, NoMemory>
-    ensures headline { IfOk result (λ play. Headline disk play.steps play.run) }
-    ensures plays { IfOk result (λ play. Plays 0 lines (made_of play.steps play.run.outcomes) play.last) }
+    ensures played { IfOk result (λ play. IsPlayed disk lines play.run play.last) }
 {
     World::play(alloc, disk, lines.as_slice())
 }

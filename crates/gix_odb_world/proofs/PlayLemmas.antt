@@ -1,7 +1,7 @@
 -- Plays: lines stand for the steps that were made, one line after another.
 use Rattle.std.proofs.Common.{◌≡◌, ◌≢◌, ℕ, ◌+◌, ◌-◌, ◌<◌, List, [], ◌∷◌, ◌++◌, length, map, take, get_or, refl, sym, ◌∙◌, ap, subst, arith}
 use Rattle.std.specs.List.{AllByRecursion}
-use Rattle.std.proofs.lemmas.List.{append-nil, append_assoc, get_or_push, length-append, length-map, map-append, take_more, length_push}
+use Rattle.std.proofs.lemmas.List.{append-nil, append_assoc, length-append, length-map, map-append, take_more}
 use Rattle.odb_asks.specs.MemDisk.{Volume}
 use Rattle.gix_odb_calls.specs.declared.step.Step.{Step}
 use Rattle.gix_odb_calls.specs.declared.step.Step.TheVariants.{Turn}
@@ -11,7 +11,9 @@ use Rattle.gix_odb_calls.specs.declared.line.Line.{Line}
 use Rattle.gix_odb_calls.specs.declared.line.Line.TheVariants.{One, Finish}
 use Rattle.gix_odb_world.specs.declared.course.Course.{Course}
 use Rattle.gix_odb_runs.specs.Event.{Event}
-use Rattle.gix_odb_world.specs.Play.{Made, StandsFor, Plays, made_of}
+use Rattle.gix_odb_runs.specs.declared.record.Run.{Run}
+use Rattle.gix_odb_world.specs.Headline.{IsRun}
+use Rattle.gix_odb_world.specs.Play.{IsPlayed, Made, StandsFor, Plays, made_of}
 use Rattle.gix_odb_world.specs.Played.{Makes, MakesOne, PlaysTurns, PlaysLine, HasPlayed}
 use Rattle.gix_odb_world.specs.Table.{HasOneMore}
 use Rattle.gix_odb_world.specs.World.{Continues, Explains, IsRunOf}
@@ -19,76 +21,70 @@ use Rattle.gix_odb_world.proofs.StepLemmas.{IsRunOf-push}
 
 -- ---- steps made one after another
 
-makes_none : (world : Course) (steps : List Step) → Makes world world steps steps []
-makes_none world steps = record { steps = sym (append-nil steps); outcomes = sym (append-nil world.outcomes); runs = λ first run. run }
-
-makes_more : (old mid new : Course) (before between after : List Step) (own other : List Made) → Makes old mid before between own
-    → Makes mid new between after other → Makes old new before after (own ++ other)
-makes_more old mid new before between after own other one two =
+makes_none : (world : Course) → Makes world world []
+makes_none world =
     record {
-      steps = two.steps ∙ (ap (λ s. s ++ map (λ (m : Made). m.step) other) one.steps
-          ∙ (append_assoc before (map (λ (m : Made). m.step) own) (map (λ (m : Made). m.step) other) ∙ ap (λ s. before ++ s) (sym (map-append (λ (m : Made). m.step) own other))));
+      outcomes = sym (append-nil world.outcomes);
+      runs = λ first before run. subst (λ steps. IsRunOf first steps world) (sym (append-nil before)) run;
+    }
+
+makes_more : (old mid new : Course) (own other : List Made) → Makes old mid own → Makes mid new other → Makes old new (own ++ other)
+makes_more old mid new own other one two =
+    record {
       outcomes = two.outcomes ∙ (ap (λ s. s ++ map (λ (m : Made). m.outcome) other) one.outcomes
           ∙ (append_assoc old.outcomes (map (λ (m : Made). m.outcome) own) (map (λ (m : Made). m.outcome) other)
           ∙ ap (λ s. old.outcomes ++ s) (sym (map-append (λ (m : Made). m.outcome) own other))));
-      runs = λ first run. two.runs first (one.runs first run);
+      runs = λ first before run. subst (λ steps. IsRunOf first steps new)
+          (append_assoc before (map (λ (m : Made). m.step) own) (map (λ (m : Made). m.step) other) ∙ ap (λ s. before ++ s) (sym (map-append (λ (m : Made). m.step) own other)))
+          (two.runs first (before ++ map (λ (m : Made). m.step) own) (one.runs first before run));
     }
 
 all_push : {A : Type 0} (P : A → Type 0) (xs : List A) (x : A) → AllByRecursion P xs → P x → AllByRecursion P (xs ++ x ∷ [])
 all_push P [] x all here = (here, tt)
 all_push P (y ∷ xs) x all here = (all.0, all_push P xs x all.1 here)
 
-pub turns_none : (world : Course) (steps : List Step) (handle : ℕ) → PlaysTurns world world steps steps handle
-turns_none world steps handle = record { own = []; pending = tt; makes = makes_none world steps }
+pub turns_none : (world : Course) (handle : ℕ) → PlaysTurns world world handle
+turns_none world handle = record { own = []; pending = tt; makes = makes_none world }
 
 -- a pending turn more
-pub turns_more : (old mid new : Course) (before between after : List Step) (handle : ℕ) → PlaysTurns old mid before between handle
-    → (one : MakesOne mid new between after (Turn handle)) → one.outcome ≡ Pending → PlaysTurns old new before after handle
-turns_more old mid new before between after handle turns one pending =
+pub turns_more : (old mid new : Course) (handle : ℕ) → PlaysTurns old mid handle → (one : MakesOne mid new (Turn handle)) → one.outcome ≡ Pending
+    → PlaysTurns old new handle
+turns_more old mid new handle turns one pending =
     record {
       own = turns.own ++ record { step = Turn handle; outcome = one.outcome } ∷ [];
       pending = all_push (λ (m : Made). (m.step ≡ Turn handle) × (m.outcome ≡ Pending)) turns.own (record { step = Turn handle; outcome = one.outcome }) turns.pending (refl, pending);
-      makes = makes_more old mid new before between after turns.own (record { step = Turn handle; outcome = one.outcome } ∷ []) turns.makes one.makes;
+      makes = makes_more old mid new turns.own (record { step = Turn handle; outcome = one.outcome } ∷ []) turns.makes one.makes;
     }
 
 -- the last turn
-pub turns_end : (old mid new : Course) (before between after : List Step) (handle : ℕ) → PlaysTurns old mid before between handle
-    → (one : MakesOne mid new between after (Turn handle)) → one.outcome ≢ Pending → PlaysLine old new before after (Finish handle)
-turns_end old mid new before between after handle turns one ended =
+pub turns_end : (old mid new : Course) (handle : ℕ) → PlaysTurns old mid handle → (one : MakesOne mid new (Turn handle)) → one.outcome ≢ Pending
+    → PlaysLine old new (Finish handle)
+turns_end old mid new handle turns one ended =
     record {
       own = turns.own ++ record { step = Turn handle; outcome = one.outcome } ∷ [];
       stands = (turns.own, one.outcome, refl, turns.pending, ended);
-      makes = makes_more old mid new before between after turns.own (record { step = Turn handle; outcome = one.outcome } ∷ []) turns.makes one.makes;
+      makes = makes_more old mid new turns.own (record { step = Turn handle; outcome = one.outcome } ∷ []) turns.makes one.makes;
     }
 
-pub plays_one : (old new : Course) (before after : List Step) (step : Step) → MakesOne old new before after step
-    → PlaysLine old new before after (One step)
-plays_one old new before after step one =
+pub plays_one : (old new : Course) (step : Step) → MakesOne old new step → PlaysLine old new (One step)
+plays_one old new step one =
     record { own = record { step = step; outcome = one.outcome } ∷ []; stands = (one.outcome, refl); makes = one.makes }
 
--- the last of the steps is the one that was added
-pub last_is : (steps more : List Step) (step last : Step) → more ≡ steps ++ step ∷ [] → last ≡ get_or more (length more - 1) last → last ≡ step
-last_is steps more step last added is =
-    let place : length steps ≡ length (steps ++ step ∷ []) - 1 = omega (arith, length_push steps step) in
-    is ∙ (ap (λ (all : List Step). get_or all (length all - 1) last) added ∙ get_or_push steps step last (length (steps ++ step ∷ []) - 1) place)
-
--- a step that was made and added to the steps
-pub makes_one : (old new : Course) (before after : List Step) (step : Step) → after ≡ before ++ step ∷ [] → HasOneMore old new → Continues old step new
-    → MakesOne old new before after step
-makes_one old new before after step added more continues =
+-- a step that was made
+pub makes_one : (old new : Course) (step : Step) → HasOneMore old new → Continues old step new → MakesOne old new step
+makes_one old new step more continues =
     record {
       outcome = more.0;
       makes = record {
-        steps = added;
         outcomes = more.1;
-        runs = λ first run. subst (λ steps. IsRunOf first steps new) (sym added) (IsRunOf-push first old new before step continues run);
+        runs = λ first before run. IsRunOf-push first old new before step continues run;
       };
     }
 
 -- ---- lines one after another
 
 -- a line stands for one step at least
-some_made : (line : Line) (own : List Made) → StandsFor line own → 0 < length own
+pub some_made : (line : Line) (own : List Made) → StandsFor line own → 0 < length own
 some_made (One step) own stands = omega (arith, ap length stands.1)
 some_made (Finish handle) own stands = omega (arith, ap length stands.2, length-append stands.0 (record { step = Turn handle; outcome = stands.1 } ∷ []))
 
@@ -136,33 +132,55 @@ run_even : (first : Volume) (steps : List Step) (world : Course) → IsRunOf fir
 run_even first steps world run =
     ap length (sym run.steps_are) ∙ (length-map run.events (λ (e : Event). e.step) ∙ (sym (length-map run.events (λ (e : Event). e.outcome)) ∙ ap length run.explains.outcomes))
 
-pub has_played_none : (first : Volume) (world : Course) (steps : List Step) (last : List ℕ) → steps ≡ [] → last ≡ [] → Explains first [] world
-    → HasPlayed first [] steps last world
+pub has_played_none : (first : Volume) (world : Course) (last : List ℕ) → last ≡ [] → Explains first [] world → HasPlayed first [] last world
 unfolding made_of
-has_played_none first world steps last no_steps no_last explains =
+has_played_none first world last no_last explains =
     record {
-      run = record { events = []; steps_are = sym no_steps; explains = explains };
-      plays = rw no_steps (refl, no_last);
+      steps = [];
+      run = record { events = []; steps_are = refl; explains = explains };
+      plays = (refl, no_last);
     }
 
-pub more_steps : (old new : Course) (before after : List Step) (line : Line) → PlaysLine old new before after line → length before < length after
-more_steps old new before after line own =
-    omega (arith, ap length own.makes.steps, length-append before (map (λ (m : Made). m.step) own.own), length-map own.own (λ (m : Made). m.step), some_made line own.own own.stands)
+-- a line has one outcome at least
+pub some_outcome : (old new : Course) (line : Line) → PlaysLine old new line → 0 < length new.outcomes
+some_outcome old new line own =
+    omega (
+      arith,
+      ap length own.makes.outcomes,
+      length-append old.outcomes (map (λ (m : Made). m.outcome) own.own),
+      length-map own.own (λ (m : Made). m.outcome),
+      some_made line own.own own.stands,
+    )
 
-pub has_played_more : (first : Volume) (old new : Course) (before after : List Step) (line : Line) (lines : List Line) (index : ℕ) (last : List ℕ) (at : ℕ)
-    → index < length lines → line ≡ get_or lines index line → at ≡ length after - 1 → PlaysLine old new before after line
-    → HasPlayed first (take index lines) before last old → HasPlayed first (take (index + 1) lines) after (last ++ at ∷ []) new
-has_played_more first old new before after line lines index last at within is at_is own played =
+pub has_played_more : (first : Volume) (old new : Course) (line : Line) (lines : List Line) (index : ℕ) (last : List ℕ) (at : ℕ)
+    → index < length lines → line ≡ get_or lines index line → at ≡ length new.outcomes - 1 → PlaysLine old new line
+    → HasPlayed first (take index lines) last old → HasPlayed first (take (index + 1) lines) (last ++ at ∷ []) new
+has_played_more first old new line lines index last at within is at_is own played =
+    let before : List Step = played.steps in
+    let after : List Step = before ++ map (λ (m : Made). m.step) own.own in
     let even : length before ≡ length old.outcomes = run_even first before old played.run in
-    let longer : length after ≡ length before + length own.own = ap length own.makes.steps
-    ∙ (length-append before (map (λ (m : Made). m.step) own.own) ∙ ap (λ n. length before + n) (length-map own.own (λ (m : Made). m.step))) in
+    let longer : length new.outcomes ≡ length old.outcomes + length own.own = ap length own.makes.outcomes
+    ∙ (length-append old.outcomes (map (λ (m : Made). m.outcome) own.own) ∙ ap (λ n. length old.outcomes + n) (length-map own.own (λ (m : Made). m.outcome))) in
     let place : at ≡ 0 + length (made_of before old.outcomes) + length own.own - 1 = omega (arith, length-made_of before old.outcomes even) in
     let made : made_of after new.outcomes ≡ made_of before old.outcomes ++ own.own =
-    ap (λ s. made_of s new.outcomes) own.makes.steps ∙ (ap (λ o. made_of (before ++ map (λ (m : Made). m.step) own.own) o) own.makes.outcomes ∙ made_of-append before old.outcomes own.own even) in
+    ap (λ o. made_of after o) own.makes.outcomes ∙ made_of-append before old.outcomes own.own even in
     let seen : take (index + 1) lines ≡ take index lines ++ line ∷ [] = take_more lines index line within ∙ ap (λ l. take index lines ++ l ∷ []) (sym is) in
     record {
-      run = own.makes.runs first played.run;
+      steps = after;
+      run = own.makes.runs first before played.run;
       plays = subst (λ ls. Plays 0 ls (made_of after new.outcomes) (last ++ at ∷ [])) (sym seen)
           (subst (λ ms. Plays 0 (take index lines ++ line ∷ []) ms (last ++ at ∷ [])) (sym made)
           (plays_more 0 (take index lines) line (made_of before old.outcomes) own.own last at place played.plays own.stands));
+    }
+
+-- the lines so far are played by the run that the world comes to
+pub is_played : (first : Volume) (lines : List Line) (last : List ℕ) (world : Course) (run : Run) → HasPlayed first lines last world
+    → ((events : List Event) → Explains first events world → IsRun first events run) → IsPlayed first lines run last
+is_played first lines last world run played ends =
+    let is_run : IsRun first played.run.events run = ends played.run.events played.run.explains in
+    let same : world.outcomes ≡ run.outcomes = sym played.run.explains.outcomes ∙ is_run.outcomes_are in
+    record {
+      steps = played.steps;
+      headline = record { events = played.run.events; steps_are = played.run.steps_are; is_run = is_run };
+      plays = subst (λ o. Plays 0 lines (made_of played.steps o) last) same played.plays;
     }

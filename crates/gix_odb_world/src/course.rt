@@ -134,6 +134,13 @@ impl Course {
         }
     }
 
+    /// How many steps were made.
+    pub fn count(&self) -> usize
+        ensures count { result ≡ length self.now.outcomes }
+    {
+        self.outcomes.len()
+    }
+
     /// Whether the last step was a turn after which its call goes on.
     pub fn is_pending(&self) -> bool
         ensures pending { (before : List Outcome) (outcome : Outcome) → self.now.outcomes ≡ before ++ outcome ∷ [] → IsTrue result ↔ (outcome ≡ Outcome.Pending) }

@@ -1,7 +1,6 @@
 //! Runs of a world by lines, of which one may take several steps.
 ghost use Rattle.std.specs.Prelude.{◌≡◌, ◌-◌, [], ◌∷◌, ◌++◌, length, IfOk, OnOk};
-ghost use Rattle.gix_odb_world.specs.Headline.{Headline};
-ghost use Rattle.gix_odb_world.specs.Play.{Plays, StandsFor, made_of};
+ghost use Rattle.gix_odb_world.specs.Play.{IsPlayed};
 ghost use Rattle.gix_odb_world.specs.Played.{MakesOne, PlaysLine, PlaysTurns};
 
 use crate::world::World;
@@ -11,11 +10,10 @@ use odb_base::{NoMemory, Sequence};
 use odb_disk::MemDisk;
 use std::alloc::Global;
 
-/// What lines came to: the run, the steps that were made, and for each line the place of its last step.
+/// What lines came to: the run of the steps that they stand for, and for each line the place of its last step.
 #[derive(Drop)]
 pub struct Play {
     pub run: Run,
-    pub steps: Sequence<Step>,
     /// From 0, in the run's outcomes.
     pub last: Sequence<usize>,
 }
@@ -23,17 +21,15 @@ pub struct Play {
 impl World {
     /// Makes the steps that lines stand for, line after line.
     pub fn play(alloc: Global, disk: MemDisk, lines: &[Line]) -> Result<Play, NoMemory>
-        ensures headline { IfOk result (λ play. Headline disk play.steps play.run) }
-        ensures plays { IfOk result (λ play. Plays 0 lines.now (made_of play.steps play.run.outcomes) play.last) }
+        ensures played { IfOk result (λ play. IsPlayed disk lines.now play.run play.last) }
     {
         let mut world = World::new(alloc, disk);
-        let mut steps = Sequence::new(alloc);
         let mut last = Sequence::new(alloc);
         for line in lines {
-            play_next(alloc, &mut world, &mut steps, &mut last, line)?;
+            play_next(alloc, &mut world, &mut last, line)?;
         }
         let run = world.finish(alloc)?;
-        Ok(Play { run, steps, last })
+        Ok(Play { run, last })
     }
 }
 
@@ -41,63 +37,43 @@ impl World {
 fn play_next(
     alloc: Global,
     world: &mut World,
-    steps: &mut Sequence<Step>,
     last: &mut Sequence<usize>,
     line: &Line,
 ) -> Result<(), NoMemory>
-    ensures plays { OnOk result (PlaysLine world.old world.new steps.old steps.new line.now) }
-    ensures placed { OnOk result (last.new ≡ last.old ++ (length steps.new - 1) ∷ []) }
+    ensures plays { OnOk result (PlaysLine world.old world.new line.now) }
+    ensures placed { OnOk result (last.new ≡ last.old ++ (length world.new.outcomes - 1) ∷ []) }
 {
-    play_line(alloc, world, steps, line)?;
-    last.push(steps.len() - 1)?;
+    play_line(alloc, world, line)?;
+    last.push(world.count() - 1)?;
     Ok(())
 }
 
 /// Makes the steps that a line stands for.
-fn play_line(
-    alloc: Global,
-    world: &mut World,
-    steps: &mut Sequence<Step>,
-    line: &Line,
-) -> Result<(), NoMemory>
-    ensures plays { OnOk result (PlaysLine world.old world.new steps.old steps.new line.now) }
+fn play_line(alloc: Global, world: &mut World, line: &Line) -> Result<(), NoMemory>
+    ensures plays { OnOk result (PlaysLine world.old world.new line.now) }
 {
     match line {
-        Line::One(step) => {
-            let step = step.try_clone(alloc)?;
-            make(alloc, world, steps, step)
-        }
-        Line::Finish { handle } => play_turns(alloc, world, steps, *handle),
+        Line::One(step) => make(alloc, world, step),
+        Line::Finish { handle } => play_turns(alloc, world, *handle),
     }
 }
 
 /// Turns a handle until its outcome isn't pending.
-fn play_turns(
-    alloc: Global,
-    world: &mut World,
-    steps: &mut Sequence<Step>,
-    handle: u32,
-) -> Result<(), NoMemory>
-    ensures plays { OnOk result (PlaysLine world.old world.new steps.old steps.new (Line.Finish handle)) }
+fn play_turns(alloc: Global, world: &mut World, handle: u32) -> Result<(), NoMemory>
+    ensures plays { OnOk result (PlaysLine world.old world.new (Line.Finish handle)) }
 {
     'turning: loop {
-        make(alloc, world, steps, Step::Turn { handle })?;
+        let turn = Step::Turn { handle };
+        make(alloc, world, &turn)?;
         if !world.is_pending() {
             return Ok(());
         }
     }
 }
 
-/// Makes one step, and adds it to the steps.
-fn make(
-    alloc: Global,
-    world: &mut World,
-    steps: &mut Sequence<Step>,
-    step: Step,
-) -> Result<(), NoMemory>
-    ensures makes { OnOk result (MakesOne world.old world.new steps.old steps.new step) }
+/// Makes one step.
+fn make(alloc: Global, world: &mut World, step: &Step) -> Result<(), NoMemory>
+    ensures makes { OnOk result (MakesOne world.old world.new step.now) }
 {
-    steps.push(step)?;
-    let made = steps.as_slice();
-    world.advance(alloc, &made[made.len() - 1])
+    world.advance(alloc, step)
 }

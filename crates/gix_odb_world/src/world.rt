@@ -104,6 +104,13 @@ impl World {
         }
     }
 
+    /// How many steps were made.
+    pub(crate) fn count(&self) -> usize
+        ensures count { result ≡ length self.now.outcomes }
+    {
+        self.course.count()
+    }
+
     /// Whether the last step was a turn after which its call goes on.
     pub(crate) fn is_pending(&self) -> bool
         ensures pending { (before : List Outcome) (outcome : Outcome) → self.now.outcomes ≡ before ++ outcome ∷ [] → IsTrue result ↔ (outcome ≡ Outcome.Pending) }

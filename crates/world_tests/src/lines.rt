@@ -45,7 +45,7 @@ fn played(alloc: Global, rows: &str) -> Result<Play, Fail> {
 
 /// How many steps were made, and each line's last.
 fn places_shown(alloc: Global, play: &Play) -> Result<String, Fail> {
-    let count = play.steps.len();
+    let count = play.run.outcomes.len();
     let last = play.last.as_slice();
     Ok(format!(in alloc; "{count} {last:?}")?)
 }

@@ -8,8 +8,7 @@ returns c = record {
   answered = λ script says. IfOk-weaker c.printed.result _ _ (λ out written. record {
     ends = sym says.ends;
     play = c.in_ok-play.play;
-    headline = rw says.disk_is at c.in_ok-play.ensures.headline;
-    plays = rw says.lines_are at c.in_ok-play.ensures.plays;
+    played = rw says.disk_is at (rw says.lines_are at c.in_ok-play.ensures.played);
     written_is = written;
   }) c.printed.ensures.written;
 }
