@@ -3,20 +3,28 @@
 use Rattle.std.proofs.Common.{◌≡◌, ◌⊎◌, inl, inr, ◌+◌, Bool, true, false, cond, List, [], ◌∷◌, ◌++◌, slice_get, drop, Contains, Option, Some, None, Ok, Err}
 use Rattle.std.proofs.Common.{refl, sym, ap, ◌∙◌, subst, append_assoc, append-nil}
 use Rattle.odb_base.specs.Path.{Path}
+use Rattle.odb_asks.specs.StreamAsks.{is_of_streams}
 use Rattle.odb_asks.specs.declared.ask.DiskAnswer.{DiskAnswer}
+use Rattle.odb_asks.specs.declared.ask.DiskAsk.{DiskAsk}
+use Rattle.odb_asks.specs.declared.ask.DiskAsk.TheVariants as disk_asks
 use Rattle.gix_hash.specs.ObjectId.{kind_of}
 use Rattle.gix_hash.specs.declared.kind.Kind.{Kind}
 use Rattle.gix_hash.specs.declared.object_id.ObjectId.{ObjectId}
 use Rattle.gix_odb_loose.specs.LooseOrder.{disk_ask_of, reply_of}
 use Rattle.gix_odb_loose.specs.declared.call.LooseCall.{LooseCall}
 use Rattle.gix_odb_loose.specs.declared.call.LooseReply.{LooseReply}
+use Rattle.gix_odb_loose.proofs.StillAskLaws.{call_asks_still}
 use Rattle.gix_odb_events.specs.declared.view.View.{View}
 use Rattle.gix_odb_events.specs.declared.loaded.Todo.{Todo}
 use Rattle.gix_odb_packs.specs.TryOrder.{seek}
+use Rattle.gix_odb_packs.specs.TryOrder as tries
 use Rattle.gix_odb_events.specs.declared.answer.Answer.{Answer}
 use Rattle.gix_odb_events.specs.declared.answer.Answer.TheVariants as told
 use Rattle.gix_odb_events.specs.declared.answer.PartAsk.{PartAsk}
+use Rattle.gix_odb_events.specs.declared.answer.PartAsk.TheVariants as asks
 use Rattle.gix_odb_packs.specs.declared.search.Notes.{Notes}
+use Rattle.gix_odb_packs.specs.declared.trier.Stage.{Stage}
+use Rattle.gix_odb_packs.specs.declared.trier.Stage.TheVariants as tries_stages
 use Rattle.gix_odb_packs.specs.declared.trier.Tried.{Tried}
 use Rattle.gix_odb_packs.specs.declared.trier.Tried.TheVariants as tried
 use Rattle.gix_odb_packs.proofs.ReachLemmas.{first_or_later}
@@ -36,7 +44,7 @@ use Rattle.gix_odb_looks.specs.LookUpOrder.{listing_from, loose_ask, loose_fed, 
 use Rattle.gix_odb_looks.specs.LookUpOrder.{view_of, view_shown, without_notes}
 use Rattle.gix_odb_looks.specs.Reply.{IsAnswer}
 use Rattle.gix_odb_looks.specs.Shown.{folders_of}
-use Rattle.gix_odb_looks.specs.Stream.{Stream, stream_in}
+use Rattle.gix_odb_looks.specs.Stream.{Stream, stream_by, stream_from, stream_in}
 use Rattle.gix_odb_looks.specs.declared.look_up.LookHead.{LookHead}
 use Rattle.gix_odb_looks.specs.declared.look_up.LookStage.{LookStage}
 use Rattle.gix_odb_looks.specs.declared.look_up.LookStage.TheVariants as stages
@@ -76,6 +84,35 @@ IsBeforeLoose (purposes.First true) = Unit {0}
 IsBeforeLoose (purposes.First false) = ⊥
 IsBeforeLoose (purposes.Check list_no) = ⊥
 IsBeforeLoose purposes.Again = ⊥
+
+-- ---- what opens no folder
+
+trier_opens_none : (stage : Stage) (path : Path) → ¬ (Some (tries.ask_at stage) ≡ Some (asks.Disk (disk_asks.OpenDir path)))
+trier_opens_none (tries_stages.ReadingIndex place) path is = cc is
+trier_opens_none (tries_stages.StoringIndex place own) path is = cc is
+trier_opens_none (tries_stages.PassingIndex place why) path is = cc is
+trier_opens_none (tries_stages.ReadingPack pack) path is = cc is
+trier_opens_none (tries_stages.StoringPack pack own) path is = cc is
+trier_opens_none (tries_stages.PassingPack pack) path is = cc is
+
+loose_opens_none : (asked : Option DiskAsk) → ((ask : DiskAsk) → asked ≡ Some ask → is_of_streams ask ≡ false) → (path : Path)
+    → ¬ (loose_ask asked ≡ Some (asks.Disk (disk_asks.OpenDir path)))
+loose_opens_none None still path is = cc is
+loose_opens_none (Some own) still path is =
+    let same : own ≡ disk_asks.OpenDir path = cc is in
+    let none : is_of_streams (disk_asks.OpenDir path) ≡ false = ap is_of_streams (sym same) ∙ still own refl in
+    cc none
+
+-- no stream is open behind an exchange that opens none
+stays_closed : (ask : PartAsk) (answer : Answer) → ((path : Path) → ¬ (ask ≡ asks.Disk (disk_asks.OpenDir path))) → stream_by None ask answer ≡ None
+stays_closed (asks.Disk (disk_asks.OpenDir path)) (told.Disk answer) none = absurd (none path refl)
+stays_closed (asks.Disk (disk_asks.OpenDir path)) (told.Core answer) none = refl
+stays_closed (asks.Disk (disk_asks.NextEntry dir)) (told.Disk answer) none = refl
+stays_closed (asks.Disk (disk_asks.NextEntry dir)) (told.Core answer) none = refl
+stays_closed (asks.Disk (disk_asks.CloseDir dir)) (told.Disk answer) none = refl
+stays_closed (asks.Disk (disk_asks.CloseDir dir)) (told.Core answer) none = refl
+stays_closed (asks.Disk ask) answer none = refl
+stays_closed (asks.Core event) answer none = refl
 
 module _ (setting : Setting) (query : Query) (id : ObjectId) (folder : Path) (among : Contains (folders_of setting) folder) where
   -- the folder is asked now, or is ahead
@@ -254,6 +291,33 @@ module _ (setting : Setting) (query : Query) (id : ObjectId) (folder : Path) (am
           → IsWaiting (cond b (try_view setting (new_head query id) parts.Snapshot view [] without_notes) (stages.Looking (purposes.First true) without_notes))
       by true = view_waits (new_head query id) own parts.Snapshot tt view [] without_notes
       by false = tt
+
+  -- ---- no folder of packs is opened while it waits
+
+  opens_none : (stage : LookStage) → IsWaiting stage → (path : Path) → ¬ (ask_at stage ≡ Some (asks.Disk (disk_asks.OpenDir path)))
+  opens_none (stages.Trying trier part) waits path is = trier_opens_none trier.stage path is
+  opens_none (stages.Loose round call) waits path is = loose_opens_none (disk_ask_of call) (call_asks_still call) path is
+  opens_none (stages.Looking purpose notes) waits path is = cc is
+  opens_none (stages.Listing lister base notes) waits path is = waits
+  opens_none (stages.Publishing listing notes) waits path is = waits
+  opens_none (stages.Done reply) waits path is = cc is
+
+  none_open : (look : LookUp) → IsLookWaiting look → (before : List Exchange) → AreAsked setting look before → ArePublished before
+      → AreLooseFair setting query id folder before → stream_from None before ≡ None
+  none_open look waiting [] asked published loose = refl
+  none_open look waiting (exchange ∷ before) asked published loose =
+      let here = has_first exchange before in
+      ap (λ (s : Option Stream). stream_from s before)
+      (stays_closed exchange.ask exchange.answer (λ path is. opens_none look.stage waiting.stage path (asked.0 ∙ ap (λ (a : PartAsk). Some a) is)))
+      ∙ none_open (fed setting look exchange.answer)
+      (look_waits_on look waiting exchange asked.0 (published exchange here) (loose exchange here)) before asked.1
+      (λ other is. published other (has_later exchange before other is)) (λ other is. loose other (has_later exchange before other is))
+
+  -- As long as the loose objects of a folder are fair to the object, a look-up of a core that had published a list has no stream open.
+  pub no_stream_is_open_before_the_loose_folder_is_asked : (view : View) (before : List Exchange) → AreAsked setting (started setting view query id) before
+      → ArePublished before → AreLooseFair setting query id folder before → stream_in before ≡ None
+  no_stream_is_open_before_the_loose_folder_is_asked view before asked published loose =
+      none_open (started setting view query id) (starts_waiting view) before asked published loose
 
 -- ---- the object moves
 

@@ -107,7 +107,7 @@ read_so : (b : Bool) (o : Result (List ℕ × ℕ) Refusal) (bytes : List ℕ) (
 read_so true o bytes time is = absurd (cc is)
 read_so false o bytes time is = file_read o bytes time is
 
-read_is : (disk : Volume) (path : Path) (bytes : List ℕ) (time : ℕ) → answer_now disk (asks.Read path) ≡ answers.File bytes time
+pub read_is : (disk : Volume) (path : Path) (bytes : List ℕ) (time : ℕ) → answer_now disk (asks.Read path) ≡ answers.File bytes time
     → read_of (tree_of disk.state) path ≡ Ok (bytes, time)
 unfolding answer_of
 read_is disk path bytes time is = read_so (fails_now disk (asks.Read path)) (read_of (tree_of disk.state) path) bytes time is

@@ -6,15 +6,15 @@ mod CloneLemmas
 mod FolderLemmas
 mod HandleLemmas
 mod DistinctLemmas
-mod PlayLemmas
-mod HistoryLemmas
-mod RunSteps
+pub mod PlayLemmas
+pub mod HistoryLemmas
+pub mod RunSteps
 mod LawfulRun
 mod FileSteps
 mod OwnFiles
 mod CutFiles
 mod StandAlone
-mod SeatLemmas
+pub mod SeatLemmas
 mod ExplainedLemmas
 mod ExplainedSeats
 mod ExplainedFits
@@ -22,8 +22,9 @@ mod EntryLemmas
 mod NameSteps
 mod RunEnds
 mod KnowsLemmas
-mod MachineLaws
+pub mod MachineLaws
 mod QuietTurn
+mod CountedFiles
 mod OpeningMachine
 mod LookMachine
 mod WriteMachine
@@ -36,7 +37,7 @@ mod DiskTurns
 mod WriteCalls
 mod TurnLemmas
 mod WorldLemmas
-mod ValidLaws
+pub mod ValidLaws
 mod WatchLemmas
 mod FitsLemmas
 mod JudgedLemmas
@@ -48,13 +49,13 @@ mod WriteGoes
 mod WriteFive
 mod OpenFacts
 mod SettingLemmas
-mod ToldLemmas
+pub mod ToldLemmas
 mod ToldWell
 mod AnsweredLemmas
 mod FrontLemmas
 mod LookPromise
-mod Stock
+pub mod Stock
 mod ToldLists
-mod DiskTold
-mod Streams
-mod PackedStill
+pub mod DiskTold
+pub mod Streams
+pub mod PackedStill

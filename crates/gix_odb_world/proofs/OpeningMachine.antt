@@ -26,6 +26,7 @@ use Rattle.gix_odb_world.specs.Status.{MakeCall, Modes, OpenStore, Running, Stor
 use Rattle.gix_odb_world.specs.Told.{told_since}
 use Rattle.gix_odb_world.specs.WorkOrder.{asks_on, fed_after, opening_result, result_in}
 use Rattle.gix_odb_world.proofs.AnsweredLemmas.{answered_at_first, answered_later, none_told}
+use Rattle.gix_odb_world.proofs.CountedFiles.OneTurn.{given_as_before, given_at_first}
 use Rattle.gix_odb_world.proofs.MachineLaws.{BeginsAs, IsRunning, IsTurnAsking, KeepsLaws, KeepsTurnLaws, MachineComes, TakesTurn, same_ask, told_after, writes_nothing}
 use Rattle.gix_odb_world.proofs.OpeningMachine.Turn.{listing_comes, look_comes, quiet, registered, shown_before, takes_call}
 use Rattle.gix_odb_world.proofs.ToldLemmas.{told_kept}
@@ -72,6 +73,7 @@ module _ (first : Volume) (events : List Event) (e : Event) (handle : ℕ) (stor
         asked = subst (AreAsked (setting_in store) store.slots opens.Looking) (sym none) tt;
         turns = ap length (sym none);
         well = answered_at_first first events e handle store;
+        given = given_at_first first events e handle (length events + 1) none;
         seen = tt;
       }
 
@@ -105,6 +107,7 @@ opening_kept first events e handle running state other knows =
       asked = subst (AreAsked setting running.store.slots opens.Looking) (sym same) knows.asked;
       turns = knows.turns ∙ ap length (sym same);
       well = answered_later first events e handle running.store running.begun same knows.well;
+      given = given_as_before first events e handle running.begun same knows.given;
       seen = seen_kept first events e running state knows.seen;
     }
 

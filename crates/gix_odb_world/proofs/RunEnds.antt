@@ -45,6 +45,8 @@ is_run world journals entries each few first events explains =
       registers_own = registers_own_throughout first events explains.lawful;
       snapshots = snapshots_never_fall events each_here seats;
       contents = one_content_shown lawful_run;
+      start = explains.start;
+      throughout = explains.throughout;
       alone = writes_stand_alone lawful_run;
       names = names_stay_whole lawful_run;
     }

@@ -63,7 +63,7 @@ module _ (first : Volume) (events : List Event) (lawful : IsLawful first events)
     | inr none ↦ let beyond = none_beyond events place none in absurd (omega (arith, within, beyond))
   ]
 
-  are_open : AreOpen first events
+  pub are_open : AreOpen first events
   are_open = subst (AreOpen first) (take-length events) (at_place (length events) (omega arith))
 
 -- The stream that a handle at work reads stands open: no other handle reads or closes it, since each reads and closes its own, and a new stream has

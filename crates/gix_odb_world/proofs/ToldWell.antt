@@ -104,7 +104,8 @@ module _ (first : Volume) (events : List Event) (e : Event) where
       most moment from (omega (arith, to, longer)) folder names listed_so
       (subst (λ tree. listed tree folder ≡ Ok names) (sym (tree_at-before first events e moment to)) is)
 
-  given_later : (handle begun : ℕ) (ask : DiskAsk) (answer : DiskAnswer) → IsGiven first events handle begun ask answer → IsGiven first whole handle begun ask answer
+  -- what the disk gave before it gave still
+  pub given_later : (handle begun : ℕ) (ask : DiskAsk) (answer : DiskAnswer) → IsGiven first events handle begun ask answer → IsGiven first whole handle begun ask answer
   given_later handle begun ask answer given =
       let longer = count in
       let to = given.to in

@@ -6,6 +6,7 @@ use Rattle.std.specs.Prelude.{◌≡◌, false, ℕ, All, ◌+◌, ◌<◌, List
 use Rattle.odb_base.specs.Path.{Path}
 use Rattle.odb_asks.specs.Ask.{fails_now}
 use Rattle.odb_asks.specs.MemDisk.{Volume}
+use Rattle.odb_nodes.specs.Tree.{IsTree, tree_of}
 use Rattle.gix_odb_runs.specs.JournalKept.{IsJournal}
 use Rattle.gix_odb_core.specs.History.{History}
 use Rattle.gix_odb_core.specs.Journal.{entries_of}
@@ -22,6 +23,7 @@ use Rattle.gix_odb_runs.specs.Event.{Ask, Asked, OfNothing, OfDisk, OfCore, OfNe
 use Rattle.gix_odb_runs.specs.Cores.{answer_behind, cores_after, history_at}
 use Rattle.gix_odb_runs.specs.Entries.{TellsEachEntry}
 use Rattle.gix_odb_world.specs.Recorded.{opened_in}
+use Rattle.gix_odb_world.specs.Running.{RunsThroughout}
 use Rattle.gix_odb_world.specs.Seats.{HasSeatThroughout, RegistersOwnThroughout, SnapshotsNeverFall}
 use Rattle.gix_odb_world.specs.Status.{Resting, Running, Status, Task, Working, status_of}
 use Rattle.gix_odb_runs.specs.Run.{IsTurnOf, Stand, change_asked, did_asked, did_of_asked, disk_after, has_failed, stand, told_now, tree_at}
@@ -180,6 +182,10 @@ pub record IsRun (first : Volume) (events : List Event) (run : Run) : Type 0 whe
   pub snapshots : SnapshotsNeverFall events
   -- from the first open step on that names a folder, no path of an index or of a pack there shows two contents
   pub contents : ShowOneContent first events
+  -- it began with a tree, and after each of the events each handle at work stood behind all that it was told since its task was set, which was
+  -- true of the run. Further laws of look-ups rest on that
+  pub start : IsTree (tree_of first.state)
+  pub throughout : RunsThroughout first events
   -- where the run is undisturbed, no write touches the temporary file of another, and a name that a write made stays whole
   pub alone : WritesStandAlone first events
   pub names : NamesStayWhole first events

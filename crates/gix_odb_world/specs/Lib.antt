@@ -18,6 +18,7 @@ pub mod Written
 pub mod Undisturbed
 pub mod WholeNames
 pub mod Bound
+pub mod Counted
 pub mod Promise
 pub mod Changes
 pub mod Seats

@@ -12,7 +12,6 @@ use Rattle.gix_odb_calls.specs.declared.find.Error as finding
 use Rattle.gix_odb_calls.specs.declared.call.Call.TheVariants as calls
 use Rattle.gix_odb.specs.Contents.{Answer, Object, HeaderOf, Presence, folder_list, sought}
 use Rattle.gix_odb.specs.Held.{Held, Still}
-use Rattle.gix_odb.specs.OpenExchanges.{IsNumber}
 use Rattle.gix_odb_looks.specs.Exchange.{Exchange}
 use Rattle.gix_odb_runs.specs.Event.{CoreAnswer, Event, OfNewCore}
 use Rattle.gix_odb_world.specs.Told.{told_since}
@@ -20,6 +19,7 @@ use Rattle.gix_odb_world.specs.Status.{Store, Task, OpenStore, MakeCall, Modes, 
 use Rattle.gix_odb_runs.specs.Run.{tree_at, FailedSince}
 use Rattle.gix_odb_runs.specs.Writing.{to_write}
 use Rattle.gix_odb_world.specs.Written.{PromiseOfWrite}
+use Rattle.gix_odb_world.specs.Counted.{IsCountedNumber}
 use Rattle.gix_odb_world.specs.Causes.{Sometime, ShowsDirectory, OpeningCause, FindCause}
 use Rattle.gix_odb_events.specs.PackId.{most_slots}
 
@@ -33,10 +33,10 @@ pub record MadeCore (events : List Event) (slots folders : ℕ) : Type 0 where
   pub answer : CoreAnswer
   pub asked : event.asked ≡ OfNewCore slots folders core seat answer
 
--- An open store has the slots that were given, or as many as the indices of the listing ask for that its handle made; they are those of the core
--- that was made for it, and its objects directory was shown in the opening.
+-- An open store has the slots that were given, or as many as the files ask for that its opening counted, each of which was shown meanwhile; they
+-- are those of the core that was made for it, and its objects directory was shown in the opening.
 pub record Opens (events : List Event) (trees : ℕ → Tree) (told : List Exchange) (store : Store) (begun now slots : ℕ) : Type 0 where
-  pub number : IsNumber (setting_in store) store.slots told slots
+  pub number : IsCountedNumber trees (setting_in store) told begun now store.slots slots
   pub core : MadeCore events slots (length (folder_list store.parts))
   pub not_too_many : slots ≤ most_slots
   pub directory : Sometime begun now (λ moment. ShowsDirectory (trees moment) store.parts.objects)

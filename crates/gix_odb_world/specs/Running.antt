@@ -1,5 +1,6 @@
--- What a handle at work knows since its task was set. No public clause needs more of it than its name.
+-- What a handle at work knows since its task was set. Of the public clauses `IsRun` names it, for the laws that rest on runs.
 pub mod Answered
+pub mod Listed
 pub mod Opening
 pub mod PackedStill
 pub mod Query

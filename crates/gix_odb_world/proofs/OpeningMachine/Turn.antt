@@ -1,5 +1,6 @@
 -- A turn of an opening: what it asks for, and what it comes to.
 use Rattle.std.proofs.Common.{◌≡◌, inl, ℕ, ◌+◌, ◌*◌, ◌<◌, ◌≤◌, Bool, true, false, cond, List, [], ◌∷◌, ◌++◌, length, Some, None, refl, sym, ◌∙◌, ap, subst, arith}
+use Rattle.std.specs.List.{IsDistinct}
 use Rattle.std.proofs.lemmas.List.{length_push}
 use Rattle.odb_base.specs.Path.{Path}
 use Rattle.odb_nodes.specs.Tree.{tree_of}
@@ -12,6 +13,7 @@ use Rattle.odb_asks.specs.declared.ask.DiskAsk.{DiskAsk}
 use Rattle.odb_asks.specs.declared.ask.DiskAsk.TheVariants as asks
 use Rattle.gix_odb_core.specs.History.{opened}
 use Rattle.gix_odb_events.specs.declared.event.Event.TheVariants as core_events
+use Rattle.gix_odb_events.specs.PackFiles.{same_path}
 use Rattle.gix_odb_packs.specs.ListOrder as lists
 use Rattle.gix_odb_events.specs.declared.answer.Answer.TheVariants as told
 use Rattle.gix_odb_events.specs.declared.answer.PartAsk.TheVariants as parts
@@ -25,6 +27,7 @@ use Rattle.gix_odb_calls.specs.declared.init.Slots.{Slots}
 use Rattle.gix_odb_looks.specs.Exchange.{Exchange}
 use Rattle.gix_odb_looks.specs.LookUpOrder.{Setting}
 use Rattle.gix_odb_looks.proofs.HandedLaws.{IsOwnStream}
+use Rattle.gix_odb_refresh.specs.Asked.{AreSuited}
 use Rattle.gix_odb_refresh.proofs.AskedLemmas.{asked-push, behind-push}
 use Rattle.gix_odb.specs.CallOrder.{disk_part}
 use Rattle.gix_odb.specs.Contents.{folder_list}
@@ -42,11 +45,17 @@ use Rattle.gix_odb_runs.specs.Event.{Event, OfDisk, ToDisk, ToNewCore}
 use Rattle.gix_odb_world.specs.Promise.{MadeCore, OpeningPromise, Promise}
 use Rattle.gix_odb_runs.specs.Run.{FailedSince, change_by, disk_after, tree_at}
 use Rattle.gix_odb_world.specs.Running.Answered.{IsAnsweredWell}
+use Rattle.gix_odb_world.specs.Running.Listed.{AreGiven}
 use Rattle.gix_odb_world.specs.Running.Opening.{IsOpening, opening}
 use Rattle.gix_odb_world.specs.Told.{opening_now, told_since}
 use Rattle.gix_odb_world.proofs.AnsweredLemmas.{answered_on_disk, told_call}
+use Rattle.gix_odb_world.proofs.BegunLemmas.{stems_now}
+use Rattle.gix_odb_world.proofs.BegunLemmas.OneEvent.{Stems}
+use Rattle.gix_odb_world.proofs.CountedFiles.{number_is_counted}
+use Rattle.gix_odb_world.proofs.CountedFiles.OneTurn.{given_as_before, given_on_disk}
 use Rattle.gix_odb_world.proofs.HistoryLemmas.{tree_at-before}
 use Rattle.gix_odb_world.proofs.MachineLaws.{HasTurn, IsRunning, IsTurnAsking, MachineComes, quiet_turn}
+use Rattle.gix_odb_world.proofs.OpenFacts.{openable}
 use Rattle.gix_odb_world.proofs.OpeningMachine.Look.{Looks, listing_keeps, look_keeps}
 use Rattle.gix_odb_world.proofs.QuietTurn.{failed_now, shown_now}
 use Rattle.gix_odb_world.proofs.ToldLemmas.{told_none}
@@ -151,6 +160,9 @@ module _ (first : Volume) (events : List Event) (handle : ℕ) (running : Runnin
       well : IsAnsweredWell first whole handle store running.begun
       well = answered_on_disk first events e handle running knows.since knows.well ran ask (own_stream ask is) turn
 
+      gives : AreGiven first whole handle running.begun
+      gives = given_on_disk first events e handle running ran knows.since knows.given ask (own_stream ask is) turn told_is
+
       -- it stands behind what its handle was told by then
       stands : next ≡ opening_now whole handle store running.begun
       stands =
@@ -192,11 +204,11 @@ module _ (first : Volume) (events : List Event) (handle : ℕ) (running : Runnin
       goes : (own : OpenState) → next ≡ own → LooksNow own → MachineComes first events e handle running opening (OfDisk ask answer) (openings.result_of own)
       goes opens.Looking same looks = absurd looks
       goes (opens.Listing lister percent minimum) same looks = (
-        record { task = knows.task; since = now_is; is = sym same ∙ stands; asked = all_asked; turns = sym longer; well = record { suited = well.suited; answered = well.answered; within = well.within }; seen = looks },
+        record { task = knows.task; since = now_is; is = sym same ∙ stands; asked = all_asked; turns = sym longer; well = record { suited = well.suited; answered = well.answered; within = well.within }; given = record { given = gives.given; of_tree = gives.of_tree }; seen = looks },
         in_time,
       )
       goes (opens.Registering number) same looks = (
-        record { task = knows.task; since = now_is; is = sym same ∙ stands; asked = all_asked; turns = sym longer; well = record { suited = well.suited; answered = well.answered; within = well.within }; seen = looks },
+        record { task = knows.task; since = now_is; is = sym same ∙ stands; asked = all_asked; turns = sym longer; well = record { suited = well.suited; answered = well.answered; within = well.within }; given = record { given = gives.given; of_tree = gives.of_tree }; seen = looks },
         in_time,
       )
       goes (opens.Done (replies.Refused (call_errors.Open error))) same looks = keeps (replies.Refused (call_errors.Open error)) (refused error same looks)
@@ -265,6 +277,12 @@ module _ (first : Volume) (events : List Event) (e : Event) (handle : ℕ) (runn
       asked = turn.asked;
     }
 
+    -- no folder of its store comes twice
+    distinct : IsDistinct same_path (folder_list running.store.parts)
+    distinct =
+        let stems = subst (Stems events handle) ran.status (stems_now first events ran.lawful handle) in
+        (openable first running.store events handle running.modes ran.lawful stems.0).distinct
+
     pub registered : Promise first (events ++ e ∷ []) handle running.store running.modes running.begun running.task (replies.Opened slots)
     registered =
         let setting = setting_in running.store in
@@ -272,8 +290,12 @@ module _ (first : Volume) (events : List Event) (e : Event) (handle : ℕ) (runn
         keeps first events handle running (opens.Registering slots) knows e ran (replies.Opened slots)
         (record {
           number =
-              subst (λ xs. IsNumber setting running.store.slots xs slots) (sym told_same)
-              (openings_register_their_number setting running.store.slots asked knows.asked knows.well.suited slots (sym knows.is));
+              number_is_counted first (events ++ e ∷ []) handle running.store running.begun distinct
+              (given_as_before first events e handle running.begun told_same knows.given)
+              (subst (AreAsked setting running.store.slots opens.Looking) (sym told_same) knows.asked) (subst AreSuited (sym told_same) knows.well.suited)
+              running.store.slots slots
+              (subst (λ xs. IsNumber setting running.store.slots xs slots) (sym told_same)
+              (openings_register_their_number setting running.store.slots asked knows.asked knows.well.suited slots (sym knows.is)));
           core = made;
           not_too_many = openings_register_few_slots setting running.store.slots asked knows.asked knows.well.suited slots (sym knows.is);
           directory = shown_before first events e running.begun running.store.parts.objects knows.seen;

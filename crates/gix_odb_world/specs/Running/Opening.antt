@@ -14,6 +14,7 @@ use Rattle.gix_odb_runs.specs.Event.{Answer, Ask, Event, FromCore, FromDisk, ToN
 use Rattle.gix_odb_world.specs.Machine.{Machine}
 use Rattle.gix_odb_runs.specs.Run.{tree_at}
 use Rattle.gix_odb_world.specs.Running.Answered.{IsAnsweredWell}
+use Rattle.gix_odb_world.specs.Running.Listed.{AreGiven}
 use Rattle.gix_odb_world.specs.Told.{opening_now, told_since}
 
 -- behind its look an opening has seen the directory
@@ -30,6 +31,7 @@ pub record IsOpening (first : Volume) (events : List Event) (handle : ℕ) (runn
   pub asked : AreAsked (setting_in running.store) running.store.slots opens.Looking (told_since events handle running.begun)
   pub turns : running.turns ≡ length (told_since events handle running.begun)
   pub well : IsAnsweredWell first events handle running.store running.begun
+  pub given : AreGiven first events handle running.begun
   pub seen : HasSeen first events running state
 
 -- ---- its machine

@@ -1,0 +1,225 @@
+-- The files that an opening counts have different paths, each was shown in the opening, and where one tree stood, they are its listed files.
+pub mod OfTree
+pub mod OneTurn
+pub mod Calls
+use Rattle.std.proofs.Common.{◌≡◌, ℕ, Bool, true, false, List, [], ◌∷◌, length, All, Contains, slice_index_or, Result, Ok, Err, refl, sym, ap, ◌∙◌, subst}
+use Rattle.std.specs.Prelude.{if◌then◌else◌}
+use Rattle.std.specs.List.{IsDistinct}
+use Rattle.std.proofs.lemmas.Option.{same_Some}
+use Rattle.odb_base.specs.Path.{Path}
+use Rattle.odb_asks.specs.Ask.{answer_now, answer_of, fails_now, meta_answer}
+use Rattle.odb_asks.specs.MemDisk.{Volume}
+use Rattle.odb_asks.specs.declared.ask.DiskAnswer.TheVariants as answers
+use Rattle.odb_asks.specs.declared.ask.DiskAsk.TheVariants as disk_asks
+use Rattle.odb_nodes.specs.Tree.{Tree, tree_of}
+use Rattle.odb_nodes.specs.Tree.Follow.{Place, Refusal, file_of, file_of_place, followed, looked, meta_of, meta_of_place, meta_with, read_of}
+use Rattle.odb_nodes.specs.declared.disk_error.DiskError.TheVariants as errors
+use Rattle.odb_nodes.specs.declared.entry.Entry.{Entry}
+use Rattle.odb_nodes.specs.declared.meta.Kind.TheVariants as kinds
+use Rattle.odb_nodes.specs.declared.meta.Meta.{Meta}
+use Rattle.odb_nodes.specs.declared.node.Content.{Content}
+use Rattle.odb_nodes.specs.declared.node.Content.TheVariants.{File, Dir, Link}
+use Rattle.gix_odb_events.specs.PackPath.{pack_path}
+use Rattle.gix_odb_events.specs.PackFiles.{same_path}
+use Rattle.gix_odb_events.specs.declared.listing.ListingRow.{ListingRow}
+use Rattle.gix_odb_packs.specs.ListOrder as lists
+use Rattle.gix_odb_events.specs.declared.answer.Answer.{Answer}
+use Rattle.gix_odb_events.specs.declared.answer.Answer.TheVariants as told
+use Rattle.gix_odb_events.specs.declared.answer.PartAsk.{PartAsk}
+use Rattle.gix_odb_events.specs.declared.answer.PartAsk.TheVariants as asks
+use Rattle.gix_odb_packs.specs.declared.lister.ListStep.{ListStep}
+use Rattle.gix_odb_packs.specs.declared.lister.ListStep.TheVariants as listed
+use Rattle.gix_odb_calls.specs.declared.init.Slots.{Slots}
+use Rattle.gix_odb_calls.specs.declared.init.Slots.TheVariants.{AsNeededByDiskState, Given}
+use Rattle.gix_odb_looks.specs.Exchange.{Exchange, WasTold}
+use Rattle.gix_odb_looks.specs.LookUpOrder.{Setting}
+use Rattle.gix_odb_looks.specs.Shown.{IsIndexRow}
+use Rattle.gix_odb_looks.proofs.FoundLaws.Known.{KnowsListStep}
+use Rattle.gix_odb_looks.proofs.FoundLaws.Lists.{has_first, has_later}
+use Rattle.gix_odb_looks.proofs.FoundLaws.Listing.{fed_known, started_known}
+use Rattle.gix_odb_refresh.specs.Asked.{AreSuited, IsSuited}
+use Rattle.gix_odb_look_laws.specs.ListedFiles.{AreOfTree}
+use Rattle.gix_odb_look_laws.specs.ListerCalls.{Call, IsRowSeen, WasCalled, behind_calls}
+use Rattle.gix_odb_look_laws.proofs.ListingLaws.{listed_rows_are_those_of_the_tree, listed_rows_have_different_paths, listed_rows_were_seen}
+use Rattle.gix_odb.specs.Contents.{ShowsFile, folder_list}
+use Rattle.gix_odb.specs.Moments.{Sometime}
+use Rattle.gix_odb.specs.OpenExchanges.{AreAsked, HasListed, IsNumber, fed_by, list_behind, list_by}
+use Rattle.gix_odb.specs.declared.open_state.OpenState.TheVariants as opens
+use Rattle.gix_odb_world.specs.AtWork.{Store, setting_in}
+use Rattle.gix_odb_world.specs.Counted.{AreCounted, IsCountedNumber, WasShownRow}
+use Rattle.gix_odb_runs.specs.Event.{Event}
+use Rattle.gix_odb_runs.specs.Run.{tree_at}
+use Rattle.gix_odb_world.specs.Running.Listed.{AreGiven}
+use Rattle.gix_odb_world.specs.Running.Query.{IsGiven}
+use Rattle.gix_odb_world.specs.Told.{told_since}
+use Rattle.gix_odb_world.proofs.CountedFiles.Calls.{HasCalls, calls_behind_the_look}
+use Rattle.gix_odb_world.proofs.CountedFiles.OfTree.{of_tree_to}
+
+-- ---- what a look that was answered shows
+
+found_by : (b : Bool) (found : Result Meta Refusal) (meta : Meta) → answers.Meta meta ≡ (if b then answers.Refused errors.Failed else meta_answer found)
+    → found ≡ Ok meta
+found_by true found meta is = absurd (cc is)
+found_by false (Ok own) meta is = let same : own ≡ meta = cc is in ap Ok same
+found_by false (Err refusal) meta is = absurd (cc is)
+
+look_found : (disk : Volume) (path : Path) (follow : Bool) (meta : Meta) → answers.Meta meta ≡ answer_now disk (disk_asks.Look path follow)
+    → looked (tree_of disk.state) path follow ≡ Ok meta
+unfolding answer_of
+look_found disk path follow meta is = found_by (fails_now disk (disk_asks.Look path follow)) (looked (tree_of disk.state) path follow) meta is
+
+file_by_kind : (dev ino : ℕ) (content : Content) → (meta_with dev ino content).kind ≡ kinds.File
+    → (bytes : List ℕ) × (time : ℕ) × (file_of content ≡ Ok (bytes, time))
+file_by_kind dev ino (File bytes time) is = (bytes, time, refl)
+file_by_kind dev ino Dir is = absurd (cc is)
+file_by_kind dev ino (Link target) is = absurd (cc is)
+
+file_by_meta : (led : Result Place Refusal) (meta : Meta) → meta_of_place led ≡ Ok meta → meta.kind ≡ kinds.File
+    → (bytes : List ℕ) × (time : ℕ) × (file_of_place led ≡ Ok (bytes, time))
+file_by_meta (Ok place) meta is file =
+    let same : meta_of place.node ≡ meta = cc is in
+    file_by_kind place.node.dev place.node.ino place.node.content (ap (λ (m : Meta). m.kind) same ∙ file)
+file_by_meta (Err refusal) meta is file = absurd (cc is)
+
+-- a path at which a look finds a file shows one, a link in the last place followed
+looked_file_is_shown : (tree : Tree) (path : Path) (meta : Meta) → looked tree path true ≡ Ok meta → meta.kind ≡ kinds.File
+    → (bytes : List ℕ) × ShowsFile tree path bytes
+unfolding looked read_of
+looked_file_is_shown tree path meta is file = let found = file_by_meta (followed tree true path) meta is file in (found.0, (found.1, found.2))
+
+-- ---- the rows of a listing are of the store's folders
+
+module _ (setting : Setting) where
+  step_known : (step : ListStep) (answer : Answer) → KnowsListStep setting step → KnowsListStep setting (list_by setting.folders step answer)
+  step_known (listed.More lister) (told.Disk answer) known = fed_known setting lister answer known
+  step_known (listed.More lister) (told.Core answer) known = known
+  step_known (listed.Rows rows) answer known = known
+  step_known listed.Broken answer known = known
+
+  listing_known : (step : ListStep) (exchanges : List Exchange) → KnowsListStep setting step → KnowsListStep setting (list_behind setting.folders step exchanges)
+  listing_known step [] known = known
+  listing_known step (exchange ∷ exchanges) known =
+      listing_known (list_by setting.folders step exchange.answer) exchanges (step_known step exchange.answer known)
+
+-- ---- the calls of an opening that counted
+
+module _ (setting : Setting) (slots : Slots) where
+  abbrev start : ListStep
+  start = listed.More (lists.started setting.objects)
+
+  -- behind the look, and with what one tree answered from there on
+  pub record HasCounted (look : Exchange) (listing : List Exchange) : Type 0 where
+    pub has : HasCalls setting slots start listing
+    pub of_tree : (tree : Tree) → AreOfTree tree [] (look ∷ listing) → AreOfTree tree [] listing
+
+  counted_behind : (ask : PartAsk) (answer : Answer) (listing : List Exchange) → asks.Disk (disk_asks.Look setting.objects true) ≡ ask → IsSuited ask answer
+      → AreAsked setting slots (fed_by setting slots opens.Looking answer) listing → HasCounted (record { ask = ask; answer = answer }) listing
+  counted_behind ask answer listing is suits asked =
+      subst (λ (own : PartAsk). IsSuited own answer → HasCounted (record { ask = own; answer = answer }) listing) is (by answer asked) suits
+    where
+      by : (answer : Answer) → AreAsked setting slots (fed_by setting slots opens.Looking answer) listing
+          → IsSuited (asks.Disk (disk_asks.Look setting.objects true)) answer
+          → HasCounted (record { ask = asks.Disk (disk_asks.Look setting.objects true); answer = answer }) listing
+      by (told.Disk answer) asked suits = record {
+        has = calls_behind_the_look setting slots answer listing asked;
+        of_tree = λ tree of. subst (λ (coming : List Entry). AreOfTree tree coming listing) of.1.1 of.2;
+      }
+      by (told.Core answer) asked suits = absurd suits
+
+-- ---- what is promised of the files that were counted
+
+module _ (first : Volume) (events : List Event) (handle : ℕ) (store : Store) (begun : ℕ) (distinct : IsDistinct same_path (folder_list store.parts))
+    (given : AreGiven first events handle begun)
+    (asked : AreAsked (setting_in store) store.slots opens.Looking (told_since events handle begun)) (suited : AreSuited (told_since events handle begun)) where
+  abbrev setting : Setting
+  setting = setting_in store
+
+  abbrev exchanges : List Exchange
+  exchanges = told_since events handle begun
+
+  abbrev trees : ℕ → Tree
+  trees = tree_at first events
+
+  -- a look that was answered so was answered by the tree of some moment
+  looked_then : (path : Path) (follow : Bool) (meta : Meta) → WasTold exchanges (asks.Disk (disk_asks.Look path follow)) (told.Disk (answers.Meta meta))
+      → Sometime begun (length events) (λ moment. looked (trees moment) path follow ≡ Ok meta)
+  looked_then path follow meta was =
+      let at : IsGiven first events handle begun (disk_asks.Look path follow) (answers.Meta meta) = given.given (disk_asks.Look path follow) (answers.Meta meta) was in
+      record {
+        moment = at.moment;
+        from = at.from;
+        to = at.to;
+        was = ap (λ (t : Tree). looked t path follow) at.shown ∙ look_found at.disk path follow meta at.is;
+      }
+
+  module _ (rows : List ListingRow) (has : HasListed setting exchanges (listed.Rows rows)) where
+    all_asked : AreAsked setting store.slots opens.Looking (has.look ∷ has.listing)
+    all_asked = subst (λ (xs : List Exchange). AreAsked setting store.slots opens.Looking xs) has.are asked
+
+    looks : HasCounted setting store.slots has.look has.listing
+    looks =
+        counted_behind setting store.slots has.look.ask has.look.answer has.listing
+        (same_Some (asks.Disk (disk_asks.Look setting.objects true)) has.look.ask all_asked.0)
+        (suited has.look (subst (λ (xs : List Exchange). Contains xs has.look) (sym has.are) (has_first has.look has.listing)))
+        all_asked.1
+
+    abbrev calls : List Call
+    calls = looks.has.calls
+
+    ends : behind_calls setting.folders (start setting store.slots) calls ≡ listed.Rows rows
+    ends = looks.has.comes ∙ has.comes
+
+    -- the calls are among the exchanges
+    looked_in : (path : Path) (follow : Bool) (meta : Meta) → WasCalled calls (disk_asks.Look path follow) (answers.Meta meta)
+        → Sometime begun (length events) (λ moment. looked (trees moment) path follow ≡ Ok meta)
+    looked_in path follow meta was =
+        looked_then path follow meta
+        (subst (λ (xs : List Exchange). WasTold xs (asks.Disk (disk_asks.Look path follow)) (told.Disk (answers.Meta meta))) (sym has.are)
+        (has_later has.look has.listing (record { ask = asks.Disk (disk_asks.Look path follow); answer = told.Disk (answers.Meta meta) })
+        (looks.has.made (record { ask = disk_asks.Look path follow; answer = answers.Meta meta }) was)))
+
+    row_was_shown : (row : ListingRow) → IsRowSeen (WasCalled calls) row → IsIndexRow setting row → WasShownRow trees setting begun (length events) row
+    row_was_shown row seen known =
+        let index = looked_in row.path false seen.index.meta seen.index.told in
+        let pack = looked_in (pack_path row.path) true seen.meta seen.told in
+        record {
+          at = known.at;
+          index = record {
+            moment = index.moment;
+            from = index.from;
+            to = index.to;
+            was = record {
+              itself = record { meta = seen.index.meta; looks = index.was; is_file = seen.index.file };
+              time = seen.index.time;
+              len = seen.index.len;
+            };
+          };
+          pack = record {
+            moment = pack.moment;
+            from = pack.from;
+            to = pack.to;
+            was = looked_file_is_shown (trees pack.moment) (pack_path row.path) seen.meta pack.was seen.file;
+          };
+        }
+
+    are_counted : AreCounted trees setting begun (length events) rows
+    are_counted =
+        let seen : All (IsRowSeen (WasCalled calls)) rows = listed_rows_were_seen setting.folders setting.objects calls rows looks.has.are ends in
+        let known : All (IsIndexRow setting) rows =
+        subst (KnowsListStep setting) has.comes (listing_known setting (start setting store.slots) has.listing (started_known setting)) in
+        record {
+          different = listed_rows_have_different_paths setting.folders setting.objects calls rows looks.has.are ends distinct;
+          shown = λ k d within. row_was_shown (slice_index_or rows k d) (seen k d within) (known k d within);
+          of_tree = λ tree stood.
+              let all = given.of_tree tree stood in
+              listed_rows_are_those_of_the_tree setting.folders setting.objects calls rows looks.has.are ends tree
+              (looks.has.of_tree tree []
+              (looks.of_tree tree
+              (subst (λ (xs : List Exchange). AreOfTree tree [] xs) has.are (of_tree_to tree [] exchanges all.0 all.1))));
+        }
+
+  -- An opening that comes to a number of slots comes to the one that was given, or to the one for files that it counted so.
+  pub number_is_counted : (slots : Slots) (number : ℕ) → IsNumber setting slots exchanges number
+      → IsCountedNumber trees setting exchanges begun (length events) slots number
+  number_is_counted (Given own) number is = is
+  number_is_counted (AsNeededByDiskState percent minimum) number is = (is.0, is.1, are_counted is.0 is.1, is.2)

@@ -1,0 +1,154 @@
+-- The calls of a listing, among the exchanges of an opening that counts.
+use Rattle.std.proofs.Common.{◌≡◌, ◌⊎◌, inl, inr, ℕ, zero, suc, Bool, true, false, nat_le, List, [], ◌∷◌, Contains, Some, refl, sym, subst, arith}
+use Rattle.std.specs.Prelude.{if◌then◌else◌}
+use Rattle.std.proofs.lemmas.Option.{same_Some}
+use Rattle.odb_base.specs.Path.{Path}
+use Rattle.odb_asks.specs.declared.ask.DiskAnswer.{DiskAnswer}
+use Rattle.odb_asks.specs.declared.ask.DiskAnswer.TheVariants as answers
+use Rattle.odb_nodes.specs.Tree.{Tree}
+use Rattle.odb_nodes.specs.declared.disk_error.DiskError.TheVariants as disk_errors
+use Rattle.odb_nodes.specs.declared.entry.Entry.{Entry}
+use Rattle.odb_nodes.specs.declared.meta.Kind.{Kind}
+use Rattle.odb_nodes.specs.declared.meta.Kind.TheVariants as kinds
+use Rattle.gix_odb_events.specs.PackId.{most_slots}
+use Rattle.gix_odb_events.specs.declared.listing.ListingRow.{ListingRow}
+use Rattle.gix_odb_packs.specs.ListOrder as lists
+use Rattle.gix_odb_events.specs.declared.answer.Answer.{Answer}
+use Rattle.gix_odb_events.specs.declared.answer.Answer.TheVariants as told
+use Rattle.gix_odb_events.specs.declared.answer.PartAsk.{PartAsk}
+use Rattle.gix_odb_events.specs.declared.answer.PartAsk.TheVariants as asks
+use Rattle.gix_odb_packs.specs.declared.lister.ListStep.{ListStep}
+use Rattle.gix_odb_packs.specs.declared.lister.ListStep.TheVariants as listed
+use Rattle.gix_odb_packs.specs.declared.lister.Lister.{Lister}
+use Rattle.gix_odb_calls.specs.declared.init.Error.TheVariants as opening_errors
+use Rattle.gix_odb_calls.specs.declared.init.Slots.{Slots}
+use Rattle.gix_odb_calls.specs.declared.init.Slots.TheVariants.{AsNeededByDiskState, Given}
+use Rattle.gix_odb_looks.specs.Exchange.{Exchange, WasTold}
+use Rattle.gix_odb_looks.specs.LookUpOrder.{Setting}
+use Rattle.gix_odb_looks.proofs.FoundLaws.Lists.{has_first, has_later}
+use Rattle.gix_odb_look_laws.specs.ListedFiles.{AreOfTree}
+use Rattle.gix_odb_look_laws.specs.ListerCalls.{AreCalls, AreCallsOfTree, Call, behind_calls}
+use Rattle.gix_odb.specs.OpenExchanges.{AreAsked, asks_of, fed_by, list_behind}
+use Rattle.gix_odb.specs.OpenOrder.{begun, listed_on, looked, numbered, refused, shown}
+use Rattle.gix_odb.specs.declared.open_state.OpenState.{OpenState}
+use Rattle.gix_odb.specs.declared.open_state.OpenState.TheVariants as opens
+use Rattle.gix_odb_world.proofs.ToldLists.{nothing_among}
+
+-- what is among elements is the first or among those behind it
+one_of_first : {A : Type 0} (x : A) (xs : List A) (y : A) → Contains (x ∷ xs) y → (x ≡ y) ⊎ Contains xs y
+one_of_first x xs y (zero, within, is) = inl is
+one_of_first x xs y (suc k, within, is) = inr (k, omega (arith, within), is)
+
+module _ (setting : Setting) (slots : Slots) where
+  abbrev folders : List Path
+  folders = setting.folders
+
+  -- ---- the calls of a listing
+
+  -- exchanges are those of a listing that makes these calls, and comes to the same
+  pub record HasCalls (step : ListStep) (exchanges : List Exchange) : Type 0 where
+    pub calls : List Call
+    pub are : AreCalls folders step calls
+    pub comes : behind_calls folders step calls ≡ list_behind folders step exchanges
+    pub made : (call : Call) → Contains calls call → WasTold exchanges (asks.Disk call.ask) (told.Disk call.answer)
+    pub of_tree : (tree : Tree) (coming : List Entry) → AreOfTree tree coming exchanges → AreCallsOfTree tree coming calls
+
+  -- a listing that has ended stays so, and makes no call
+  rows_stay : (rows : List ListingRow) (exchanges : List Exchange) → list_behind folders (listed.Rows rows) exchanges ≡ listed.Rows rows
+  rows_stay rows [] = refl
+  rows_stay rows (exchange ∷ exchanges) = rows_stay rows exchanges
+
+  broken_stays : (exchanges : List Exchange) → list_behind folders listed.Broken exchanges ≡ listed.Broken
+  broken_stays [] = refl
+  broken_stays (exchange ∷ exchanges) = broken_stays exchanges
+
+  no_calls : (step : ListStep) (exchanges : List Exchange) → list_behind folders step exchanges ≡ step → HasCalls step exchanges
+  no_calls step exchanges stays = record {
+    calls = [];
+    are = tt;
+    comes = sym stays;
+    made = λ call among. absurd (nothing_among call among);
+    of_tree = λ tree coming of. tt;
+  }
+
+  module _ (percent minimum : ℕ) where
+    -- an opening that lists asks for what the listing asks for
+    abbrev AsksOn : ListStep → List Exchange → Type 0
+    AsksOn step exchanges = AreAsked setting slots (listed_on percent minimum step) exchanges
+
+    one_call : (lister : Lister) (answer : Answer) (exchanges : List Exchange)
+        → ((step : ListStep) → AsksOn step exchanges → HasCalls step exchanges)
+        → AreAsked setting slots (fed_by setting slots (opens.Listing lister percent minimum) answer) exchanges
+        → HasCalls (listed.More lister) (record { ask = asks.Disk (lists.ask_of lister); answer = answer } ∷ exchanges)
+    one_call lister (told.Disk answer) exchanges rest asked =
+        let later = rest (lists.fed folders lister answer) asked in
+        let exchange : Exchange = record { ask = asks.Disk (lists.ask_of lister); answer = told.Disk answer } in
+        let call : Call = record { ask = lists.ask_of lister; answer = answer } in
+        record {
+          calls = call ∷ later.calls;
+          are = (refl, later.are);
+          comes = later.comes;
+          made = λ other among.
+              elim (one_of_first call later.calls other among) [
+                | inl is ↦ subst (λ (c : Call). WasTold (exchange ∷ exchanges) (asks.Disk c.ask) (told.Disk c.answer)) is (has_first exchange exchanges)
+                | inr among_later ↦ has_later exchange exchanges (record { ask = asks.Disk other.ask; answer = told.Disk other.answer }) (later.made other among_later)
+              ];
+          of_tree = λ tree coming of. (of.0, of.1, later.of_tree tree of.0 of.2);
+        }
+    one_call lister (told.Core answer) exchanges rest asked =
+        let later = rest (listed.More lister) asked in
+        let exchange : Exchange = record { ask = asks.Disk (lists.ask_of lister); answer = told.Core answer } in
+        record {
+          calls = later.calls;
+          are = later.are;
+          comes = later.comes;
+          made = λ other among. has_later exchange exchanges (record { ask = asks.Disk other.ask; answer = told.Disk other.answer }) (later.made other among);
+          of_tree = λ tree coming of. absurd of.1;
+        }
+
+    pub calls_of_listing : (step : ListStep) (exchanges : List Exchange) → AsksOn step exchanges → HasCalls step exchanges
+    calls_of_listing step [] asked = no_calls step [] refl
+    calls_of_listing (listed.More lister) (exchange ∷ exchanges) asked =
+        subst (λ (ask : PartAsk). HasCalls (listed.More lister) (record { ask = ask; answer = exchange.answer } ∷ exchanges))
+        (same_Some (asks.Disk (lists.ask_of lister)) exchange.ask asked.0)
+        (one_call lister exchange.answer exchanges (λ step further. calls_of_listing step exchanges further) asked.1)
+    calls_of_listing (listed.Rows rows) (exchange ∷ exchanges) asked = no_calls (listed.Rows rows) (exchange ∷ exchanges) (rows_stay rows (exchange ∷ exchanges))
+    calls_of_listing listed.Broken (exchange ∷ exchanges) asked = no_calls listed.Broken (exchange ∷ exchanges) (broken_stays (exchange ∷ exchanges))
+
+  -- ---- where the listing begins
+
+  -- the listing of the folders begins
+  abbrev BeginsListing : OpenState → Type 0
+  BeginsListing state = (percent : ℕ) × (minimum : ℕ) × (state ≡ opens.Listing (lists.started setting.objects) percent minimum)
+
+  -- an opening that has its number asks the disk for nothing
+  numbered_asks_nothing : (number : ℕ) (ask : PartAsk) → ¬ (asks_of setting (numbered number) ≡ Some ask)
+  numbered_asks_nothing number ask = by (nat_le number most_slots)
+    where
+      by : (few : Bool) → ¬ (asks_of setting (if few then opens.Registering number else refused (opening_errors.TooManySlots number)) ≡ Some ask)
+      by true is = cc is
+      by false is = cc is
+
+  begun_lists : (own : Slots) (ask : PartAsk) → asks_of setting (begun setting.objects own) ≡ Some ask → BeginsListing (begun setting.objects own)
+  begun_lists (Given number) ask is = absurd (numbered_asks_nothing number ask is)
+  begun_lists (AsNeededByDiskState percent minimum) ask is = (percent, minimum, refl)
+
+  shown_lists : (kind : Kind) (ask : PartAsk) → asks_of setting (shown setting.objects slots kind) ≡ Some ask → BeginsListing (shown setting.objects slots kind)
+  shown_lists kinds.Dir ask is = begun_lists slots ask is
+  shown_lists kinds.File ask is = absurd (cc is)
+  shown_lists kinds.Link ask is = absurd (cc is)
+
+  looked_lists : (answer : DiskAnswer) (ask : PartAsk) → asks_of setting (looked setting.objects slots answer) ≡ Some ask
+      → BeginsListing (looked setting.objects slots answer)
+  looked_lists (answers.Meta meta) ask is = shown_lists meta.kind ask is
+  looked_lists (answers.Refused disk_errors.Failed) ask is = absurd (cc is)
+  looked_lists answer ask is = absurd (cc is)
+
+  -- behind its look an opening asks for nothing but what the listing of its folders asks for
+  pub calls_behind_the_look : (answer : DiskAnswer) (exchanges : List Exchange) → AreAsked setting slots (looked setting.objects slots answer) exchanges
+      → HasCalls (listed.More (lists.started setting.objects)) exchanges
+  calls_behind_the_look answer [] asked = no_calls (listed.More (lists.started setting.objects)) [] refl
+  calls_behind_the_look answer (exchange ∷ exchanges) asked =
+      let begins = looked_lists answer exchange.ask asked.0 in
+      calls_of_listing begins.0 begins.1 (listed.More (lists.started setting.objects)) (exchange ∷ exchanges)
+      (subst (λ (state : OpenState). AreAsked setting slots state (exchange ∷ exchanges)) begins.2 asked)

@@ -1,0 +1,45 @@
+-- How many slots an open store has: where none were given, what its opening promises of the files that it counted.
+use Rattle.std.specs.Prelude.{◌≡◌, ℕ, List, length, All}
+use Rattle.odb_nodes.specs.Tree.{Tree}
+use Rattle.gix_odb_events.specs.PackPath.{pack_path}
+use Rattle.gix_odb_events.specs.PackFiles.{HasDifferentPaths}
+use Rattle.gix_odb_events.specs.declared.listing.ListingRow.{ListingRow}
+use Rattle.gix_odb_packs.specs.declared.lister.ListStep.TheVariants as listed
+use Rattle.gix_odb_calls.specs.declared.init.Slots.{Slots}
+use Rattle.gix_odb_calls.specs.declared.init.Slots.TheVariants.{AsNeededByDiskState, Given}
+use Rattle.gix_odb_looks.specs.Exchange.{Exchange}
+use Rattle.gix_odb_looks.specs.LookUpOrder.{Setting}
+use Rattle.gix_odb_looks.specs.Shown.{IsIndexPath, folders_of}
+use Rattle.gix_odb_look_laws.specs.ListedFiles.{listed_in}
+use Rattle.gix_odb.specs.Contents.{ShowsFile}
+use Rattle.gix_odb.specs.Held.{IsItselfFile}
+use Rattle.gix_odb.specs.Moments.{Sometime, Throughout}
+use Rattle.gix_odb.specs.OpenExchanges.{HasListed}
+use Rattle.gix_odb.specs.OpenOrder.{slots_for}
+
+-- the index of a row is itself a file, of the time and the length that the row has
+pub record IsFileOf (tree : Tree) (row : ListingRow) : Type 0 where
+  pub itself : IsItselfFile tree row.path
+  pub time : row.time ≡ itself.meta.time
+  pub len : row.len ≡ itself.meta.len
+
+-- A row was shown from `begun` to `now`: an index in the folder of packs of one of the folders was itself a file at one moment, and its pack's
+-- path showed a file at one.
+pub record WasShownRow (trees : ℕ → Tree) (setting : Setting) (begun now : ℕ) (row : ListingRow) : Type 0 where
+  pub at : IsIndexPath setting row.path
+  pub index : Sometime begun now (λ moment. IsFileOf (trees moment) row)
+  pub pack : Sometime begun now (λ moment. (bytes : List ℕ) × ShowsFile (trees moment) (pack_path row.path) bytes)
+
+-- The files that were counted from `begun` to `now`: their paths are different, each was shown, and where one tree stood at every moment, they are
+-- all of its listed files, folder by folder.
+pub record AreCounted (trees : ℕ → Tree) (setting : Setting) (begun now : ℕ) (rows : List ListingRow) : Type 0 where
+  pub different : HasDifferentPaths rows
+  pub shown : All (WasShownRow trees setting begun now) rows
+  pub of_tree : (tree : Tree) → Throughout begun now (λ moment. trees moment ≡ tree) → rows ≡ listed_in tree (folders_of setting)
+
+-- the number of slots that was given, or the one for as many files as were counted by what the handle of the opening was told
+abbrev pub IsCountedNumber : (ℕ → Tree) → Setting → (told : List Exchange) → (begun now : ℕ) → Slots → ℕ → Type 0
+IsCountedNumber trees setting told begun now (Given slots) number = number ≡ slots
+IsCountedNumber trees setting told begun now (AsNeededByDiskState percent minimum) number =
+    (rows : List ListingRow) × HasListed setting told (listed.Rows rows) × AreCounted trees setting begun now rows
+    × (number ≡ slots_for percent minimum (length rows))
