@@ -1,0 +1,18 @@
+-- How a query ends whose object is at hand.
+use Rattle.std.specs.Prelude.{◌≡◌}
+use Rattle.gix_odb_calls.specs.declared.call.Reply.{Reply}
+use Rattle.gix_odb_calls.specs.declared.query.Query.{Query}
+use Rattle.gix_odb_calls.specs.declared.step.Outcome.TheVariants as outcomes
+use Rattle.gix_odb_looks.specs.LookUpOrder.{not_found}
+use Rattle.gix_odb_look_laws.specs.AtHand.{SaysYes}
+use Rattle.gix_odb_runs.specs.Event.{Event, OfNothing}
+use Rattle.gix_odb_runs.specs.declared.record.Did.TheVariants.{Nothing}
+
+-- In an event a query ended: it asked for nothing and did nothing, and its reply isn't that the object is missing. A test is answered by a yes.
+pub record EndsUnasked (query : Query) (e : Event) : Type 0 where
+  pub reply : Reply
+  pub ends : e.outcome ≡ outcomes.Reply reply
+  pub asked : e.asked ≡ OfNothing
+  pub did : e.entry.did ≡ Nothing
+  pub found : ¬ (reply ≡ not_found query)
+  pub says_yes : SaysYes query reply

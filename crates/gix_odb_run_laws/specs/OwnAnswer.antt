@@ -1,0 +1,66 @@
+-- The answers that are an opening's or a call's own, and that a run shows no cause for another one.
+use Rattle.std.specs.Prelude.{ℕ, List, length}
+use Rattle.odb_asks.specs.MemDisk.{Volume}
+use Rattle.gix_odb_calls.specs.declared.call.Call.{Call}
+use Rattle.gix_odb_calls.specs.declared.call.Call.TheVariants as calls
+use Rattle.gix_odb_calls.specs.declared.call.Reply.{Reply}
+use Rattle.gix_odb_calls.specs.declared.call.Reply.TheVariants as replies
+use Rattle.gix_odb_calls.specs.declared.find.Error as finding
+use Rattle.gix_odb_calls.specs.declared.init.Error as opening
+use Rattle.gix_odb_calls.specs.declared.load_index.Error as load
+use Rattle.gix_odb_calls.specs.declared.query.Query.{Query}
+use Rattle.gix_odb_calls.specs.declared.query.Query.TheVariants.{Find, Header, Test}
+use Rattle.gix_odb_loose.specs.declared.write.Error as loose_write
+use Rattle.gix_odb.specs.Contents.{sought}
+use Rattle.gix_odb_refresh.specs.Refreshed.{IsCaused}
+use Rattle.gix_odb_runs.specs.Event.{Event}
+use Rattle.gix_odb_runs.specs.Run.{FailedSince, tree_at}
+use Rattle.gix_odb_runs.specs.Writing.{CauseOfWrite, ToWrite, to_write}
+use Rattle.gix_odb_world.specs.AtWork.{MakeCall, Modes, OpenStore, Store, Task, setting_in}
+use Rattle.gix_odb_world.specs.Causes.{FindCause, OpeningCause}
+use Rattle.gix_odb_world.specs.Told.{told_since}
+
+-- ---- own answers
+
+-- a find finds an object or none, a look for a header a header or none, a test says yes or no, and a write names the object
+abbrev pub IsOwnOfCall : Call → Reply → Type 0
+IsOwnOfCall (calls.Find id) (replies.Found kind bytes) = Unit {0}
+IsOwnOfCall (calls.Find id) replies.NotFound = Unit {0}
+IsOwnOfCall (calls.Header id) (replies.Header header) = Unit {0}
+IsOwnOfCall (calls.Header id) replies.NotFound = Unit {0}
+IsOwnOfCall (calls.Test id) (replies.Tested there) = Unit {0}
+IsOwnOfCall (calls.Write kind size bytes known) (replies.Wrote id) = Unit {0}
+IsOwnOfCall call reply = ⊥
+
+-- an opening tells the slots of its store; none of these answers is a refusal
+abbrev pub IsOwnAnswer : Task → Reply → Type 0
+IsOwnAnswer OpenStore (replies.Opened slots) = Unit {0}
+IsOwnAnswer OpenStore reply = ⊥
+IsOwnAnswer (MakeCall call) reply = IsOwnOfCall call reply
+
+-- ---- no cause
+
+-- what the events of a run show of a handle's query since the event that has a number is the cause of no error
+abbrev pub NoQueryCause : Volume → List Event → (handle : ℕ) → Store → Modes → (begun : ℕ) → Query → Type 0
+NoQueryCause first events handle store modes begun query =
+    (error : finding.Error) → ¬ (FindCause (tree_at first events) (FailedSince events handle begun) (told_since events handle begun) store begun (length events)
+    query (sought store.parts modes.ignoring query) error)
+
+-- the same of a write: of no error of the loose objects, and of none of the listing in front of it
+pub record NoWriteCause (first : Volume) (events : List Event) (handle : ℕ) (store : Store) (begun : ℕ) (w : ToWrite) : Type 0 where
+  pub written : (error : loose_write.Error) → ¬ (CauseOfWrite first events handle begun w error)
+  pub listed : (error : load.Error) → ¬ (IsCaused (setting_in store) (told_since events handle begun) error)
+
+-- the same of an opening
+abbrev pub NoOpeningCause : Volume → List Event → (handle : ℕ) → Store → (begun : ℕ) → Type 0
+NoOpeningCause first events handle store begun =
+    (error : opening.Error) → ¬ (OpeningCause (tree_at first events) (FailedSince events handle begun) (told_since events handle begun) store begun (length events) error)
+
+-- the same of any task
+abbrev pub NoCause : Volume → List Event → (handle : ℕ) → Store → Modes → (begun : ℕ) → Task → Type 0
+NoCause first events handle store modes begun OpenStore = NoOpeningCause first events handle store begun
+NoCause first events handle store modes begun (MakeCall (calls.Find id)) = NoQueryCause first events handle store modes begun (Find id)
+NoCause first events handle store modes begun (MakeCall (calls.Header id)) = NoQueryCause first events handle store modes begun (Header id)
+NoCause first events handle store modes begun (MakeCall (calls.Test id)) = NoQueryCause first events handle store modes begun (Test id)
+NoCause first events handle store modes begun (MakeCall (calls.Write kind size bytes known)) =
+    NoWriteCause first events handle store begun (to_write store.parts.objects store.hash kind size bytes known)
