@@ -21,6 +21,7 @@ pub mod Turn
 pub mod State
 pub mod History
 pub mod Core
+pub mod Remains
 pub mod Causes
 pub mod Possible
 pub mod Origins

@@ -1,4 +1,5 @@
-//! The core of a store: its state, and the journal of what happened to it.
+//! The core of a store: its state, and the journal of what happened to it; and what is left of a core of which nothing more is
+//! asked.
 use crate::journal::Journal;
 use crate::state::State;
 use gix_odb_events::{Effect, Event, Metrics, Refusal, View};
@@ -133,6 +134,28 @@ impl Core {
         state.into_journal()
     }
 
+    /// What is left of it, when nothing more is asked of it. It takes no memory.
+    pub fn into_remains(self) -> Remains
+        ensures same { result ≡ self }
+    {
+        let Core { opening, state } = self;
+        let State {
+            shape: _,
+            view: _,
+            passed: _,
+            refreshes: _,
+            journal,
+        } = state;
+        Remains { opening, journal }
+    }
+
+    /// How many handles are registered.
+    pub fn handle_count(&self) -> usize
+        ensures count { result ≡ length (present self.now).handles }
+    {
+        self.state.shape.handles.len()
+    }
+
     /// Whether the handle of a seat is stable, where one is registered.
     pub fn handle(&self, seat: u32) -> Option<bool>
         ensures handle { result ≡ registered (present self.now).handles seat }
@@ -145,5 +168,74 @@ impl Core {
         ensures metrics { result ≡ metrics_of (present self.now) (refreshes_in self.now.entries) }
     {
         self.state.shape.metrics(self.state.refreshes)
+    }
+}
+
+/// What is left of a core of which nothing more is asked: what it was made with, and its journal. Contracts see it as the history
+/// that the core was seen as.
+///
+/// It takes a tenth of what a core takes beside its journal: no slots, no view and no handles.
+#[derive(Drop)]
+pub struct Remains {
+    opening: Opening,
+    journal: Journal,
+}
+
+impl Model for Remains {
+    ghost use Rattle.gix_odb_core.specs.History.{History};
+
+    ghost Value = { History };
+
+    ghost use Rattle.gix_odb_core.specs.Remains.{IsRemains, history_left};
+
+    ghost view = { history_left };
+
+    ghost invariant = { IsRemains };
+}
+
+impl Remains {
+    ghost use Rattle.std.specs.Prelude.{◌≡◌};
+    ghost use Rattle.gix_odb_core.specs.History.{opened};
+    ghost use Rattle.gix_odb_core.specs.Journal.{entries_of};
+    ghost use Rattle.gix_odb_core.specs.Possible.{IsComplete, IsOpened, IsPossible};
+    ghost use Rattle.gix_odb_core.specs.Replay.{IsLegal};
+
+    /// What is left of a core without slots and folders, to which nothing happened. It takes no memory.
+    pub fn empty(alloc: Global) -> Remains
+        ensures opened { result ≡ opened 0 0 0 0 }
+    {
+        Remains {
+            opening: Opening {
+                slots: 0,
+                folders: 0,
+                generation: 0,
+                state: 0,
+            },
+            journal: Journal {
+                entries: Vec::new(alloc),
+            },
+        }
+    }
+
+    /// What happened to the core.
+    pub fn journal(&self) -> &Journal
+        ensures entries { entries_of result.now ≡ self.now.entries }
+    {
+        &self.journal
+    }
+
+    /// The same by itself. It is legal, each event could happen when it came, and none was refused for want of memory.
+    pub fn into_journal(self) -> Journal
+        ensures entries { entries_of result ≡ self.entries }
+        ensures legal { IsLegal self.opening self.entries }
+        ensures opened { IsOpened self.opening }
+        ensures possible { IsPossible self.opening self.entries }
+        ensures complete { IsComplete self.entries }
+    {
+        let Remains {
+            opening: _,
+            journal,
+        } = self;
+        journal
     }
 }

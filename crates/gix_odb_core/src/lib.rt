@@ -23,7 +23,7 @@ mod shape;
 mod state;
 mod turn;
 
-pub use apply::Core;
+pub use apply::{Core, Remains};
 pub use gix_odb_events::{
     Effect, Event, FileState, IndexId, Listed, ListedList, Listing, ListingRow, ListingRowList,
     LoadedIndex, LoadedList, Metrics, OnDiskFile, PackFile, PackFileList, PackId, PassWhy, Passed,

@@ -2,3 +2,4 @@
 pub mod FailedLemmas
 pub mod WriteAsk
 pub mod RefusedLemmas
+pub mod KeptCoreLemmas

@@ -5,12 +5,15 @@
 //! step does what stands in `gix_odb_world`. Read `specs/Event.antt` and `specs/Run.antt` first, then `record` and `cores`.
 //! ```rust
 //! let (core, view) = cores::core_with(alloc, 32, 1, seat)?;
+//! cores.push(core)?;
 //! let journals = cores::journals_of(alloc, cores)?;
 //! ```
 #![tactic(auto)]
 
 pub mod cores;
+mod kept_core;
 mod record;
 
 pub use cores::JournalList;
+pub use kept_core::KeptCore;
 pub use record::{Did, OutcomeList, Record, RecordList, Run};

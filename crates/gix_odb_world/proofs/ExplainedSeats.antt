@@ -25,6 +25,8 @@ use Rattle.gix_odb_world.specs.declared.work.Work.{Work}
 use Rattle.gix_odb_world.specs.declared.work.Work.TheVariants.{Opening, Calling}
 use Rattle.gix_odb_runs.specs.Cores.{cores_after, history_at, registered_at}
 use Rattle.gix_odb_runs.specs.Event.{CoreEvent, Event, ToCore}
+use Rattle.gix_odb_runs.specs.Held.{IsHeld}
+use Rattle.gix_odb_runs.proofs.KeptCoreLemmas.{held_by}
 use Rattle.gix_odb_world.specs.Handle.{IsHandleOf}
 use Rattle.gix_odb_world.specs.Machines.{ask_in}
 use Rattle.gix_odb_world.specs.Running.{Runs}
@@ -95,12 +97,12 @@ module _ (world : Course) (h : HasHistory world) where
   -- a handle that may ask for an event of a core is seated at one
   module _ (number : ℕ) (state : HandleState) (work : Work) (event : CoreEvent) where
     may_sit : (running : Running) (task : Task) → HasSeatAt (cores_after events) number running.modes task
-        → MayAskCore events number running.store running.modes running.begun task event → running.modes.core < length (cores_after events)
+        → MayAskCore events number running.store running.modes running.begun task event → SitsAt (cores_after events) running.modes.core number
     may_sit running OpenStore has may = absurd may
-    may_sit running (MakeCall call) has may = (sits_at (cores_after events) number running.modes has).within
+    may_sit running (MakeCall call) has may = sits_at (cores_after events) number running.modes has
 
     happens_at : (running : Running) → status_of events number ≡ Working running → IsHandleOf running.store running.modes state → Some work ≡ Some running.work
-        → asks_on state work ≡ Some (ToCore event) → (state.core < length world.cores.items) × ((shape : Shape) (seat : ℕ) → CanHappen shape seat event)
+        → asks_on state work ≡ Some (ToCore event) → SitsAt world.cores.items state.core number × ((shape : Shape) (seat : ℕ) → CanHappen shape seat event)
     happens_at running status own same asked =
         let at : work ≡ running.work = cc same in
         let asks_it : ask_in running.store running.work ≡ Some (ToCore event) =
@@ -109,13 +111,13 @@ module _ (world : Course) (h : HasHistory world) where
         let has : HasSeat events number (Working running) = subst (HasSeat events number) status (seat number) in
         let may : MayAskCore events number running.store running.modes running.begun running.task event =
         subst (TakesTurn first events number running running.task) asks_it (turn_of first events number running running.work runs.1) in (
-          subst (λ cs. state.core < length cs) (sym explains.cores)
-              (subst (λ core. core < length (cores_after events)) (sym own.core) (may_sit running running.task has may)),
+          subst (λ cs. SitsAt cs state.core number) (sym explains.cores)
+              (subst (λ core. SitsAt (cores_after events) core number) (sym own.core) (may_sit running running.task has may)),
           event_of first events number running running.work runs.1 event asks_it,
         )
 
     happens : (status : Status) → status_of events number ≡ status → Matches status (Some (record { state = state; work = Some work }))
-        → asks_on state work ≡ Some (ToCore event) → (state.core < length world.cores.items) × ((shape : Shape) (seat : ℕ) → CanHappen shape seat event)
+        → asks_on state work ≡ Some (ToCore event) → SitsAt world.cores.items state.core number × ((shape : Shape) (seat : ℕ) → CanHappen shape seat event)
     happens Free is match asked = absurd match
     happens (Resting store modes) is match asked = absurd (cc match.1)
     happens (Working running) is match asked = happens_at running is match.0 match.1 asked
@@ -128,7 +130,7 @@ module _ (world : Course) (h : HasHistory world) where
       let can =
       happens number state work event (status_of events number) refl (subst (Matches (status_of events number)) there (explains.handles number))
       (sym (asks_part state work (Some (asks.Core event)) other is)) in
-      (can.0, can.1 (present (history_at world.cores.items state.core)) number)
+      (can.0.within, can.1 (present (history_at world.cores.items state.core)) number, can.0.there)
 
   -- an opening calls the disk, if it calls anything
   disk_happens : (number : ℕ) (state : HandleState) (ask : Option DiskAsk) → CanHappenAt world.cores.items number state (disk_part ask)
@@ -180,6 +182,7 @@ module _ (world : Course) (explained : IsExplained world) where
   can_known_at number state (Some (asks.Core event)) can = (
     below state.core (length world.cores.items) (known (λ h. (can h).0)),
     can_known (present (history_at world.cores.items state.core)) number event (λ h. (can h).1),
+    taken_seat (registered_at world.cores.items state.core number) (known (λ h. (can h).2)),
   )
 
   pub turn_can_happen : (number : ℕ) (state : HandleState) (work : Work) → handle_at world number ≡ Some (record { state = state; work = Some work })
@@ -197,6 +200,13 @@ module _ (world : Course) (explained : IsExplained world) where
     pub clone_within : (parent : Handle) → handle_at world from ≡ Some parent → parent.state.core < length world.cores.items
     clone_within parent there =
         below parent.state.core (length world.cores.items) (λ wrong. not_there explained (λ h. wrong (clones_at world h number from valid parent there).within))
+
+    -- the parent of a clone is registered at its core
+    pub clone_held : (parent : Handle) → handle_at world from ≡ Some parent → IsHeld (history_at world.cores.items parent.state.core)
+    clone_held parent there =
+        held_by (history_at world.cores.items parent.state.core) from
+        (taken_seat (registered_at world.cores.items parent.state.core from)
+        (λ wrong. not_there explained (λ h. wrong (clones_at world h number from valid parent there).there)))
 
     pub clone_free : IsNowhere world.cores.items number
     clone_free store = free_seat (registered_at world.cores.items store number) (λ wrong. not_there explained (λ h. wrong (clone_out world h number from valid store)))

@@ -1,5 +1,5 @@
 -- What the code of a world does with its table of handles and its lists. No public clause cites this.
-use Rattle.std.specs.Prelude.{◌≡◌, ℕ, ◌+◌, ◌<◌, ◌≤◌, ◌==◌, length, true, [], ◌∷◌, ◌++◌, List, Vec, Option, Some, None, Result, Ok, Err, if◌then◌else◌}
+use Rattle.std.specs.Prelude.{◌≡◌, ℕ, ◌+◌, ◌<◌, ◌≤◌, ◌==◌, length, true, [], ◌∷◌, ◌++◌, List, Vec, Option, Some, None, Result, Ok, Err, IsSome, if◌then◌else◌}
 use Rattle.std.specs.declared.alloc.Global.{Global}
 use Rattle.odb_base.specs.Path.{Path}
 use Rattle.odb_asks.specs.Ask.{answer_now, change_of_ask}
@@ -27,7 +27,7 @@ use Rattle.gix_odb_events.specs.declared.answer.PartAsk.TheVariants as asks
 use Rattle.gix_odb_world.specs.declared.turn.Carried.{Carried}
 use Rattle.gix_odb_shown.specs.Kept.{Fits, Kept}
 use Rattle.gix_odb_shown.specs.declared.revealed.Revealed.{Revealed}
-use Rattle.gix_odb_runs.specs.Cores.{answer_behind, cores_after_asked, history_at, or_before}
+use Rattle.gix_odb_runs.specs.Cores.{answer_behind, cores_after_asked, history_at, or_before, registered_at}
 use Rattle.gix_odb_runs.specs.Event.{Asked, CoreAnswer, CoreEvent, OfCore, OfDisk, OfNewCore, OfNothing, answered}
 use Rattle.gix_odb_events.specs.PackId.{most_slots}
 use Rattle.gix_odb_events.specs.declared.view.View.{View}
@@ -179,11 +179,12 @@ carried_at state work store view = record {
 abbrev pub carried_unasked : HandleState → Work → Carried
 carried_unasked state work = record { did = done.Nothing; change = None; state = state; work = work }
 
--- an event that work asks for can happen at the core of its handle's store, which is there
+-- an event that work asks for can happen at the core of its handle's store, which is there, and at which the handle is registered
 abbrev pub CanHappenAt : List History → (seat : ℕ) → HandleState → Option PartAsk → Type 0
 CanHappenAt cores seat state None = Unit {0}
 CanHappenAt cores seat state (Some (asks.Disk ask)) = Unit {0}
-CanHappenAt cores seat state (Some (asks.Core event)) = (state.core < length cores) × CanHappen (present (history_at cores state.core)) seat event
+CanHappenAt cores seat state (Some (asks.Core event)) =
+    (state.core < length cores) × CanHappen (present (history_at cores state.core)) seat event × IsSome (registered_at cores state.core seat)
 
 -- what the event of the core of a handle's store answers
 abbrev pub own_answer : List History → (seat : ℕ) → HandleState → CoreEvent → CoreAnswer

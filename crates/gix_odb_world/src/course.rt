@@ -17,9 +17,8 @@ use crate::watch::{keep, watch_store};
 use crate::work::Work;
 use gix_odb::{CallState, HandleState, OpenState};
 use gix_odb_calls::{Call, IdPairs, Options, Outcome, PathList, Step, Why};
-use gix_odb_core::Core;
 use gix_odb_runs::cores::{joined, journals_of, removed};
-use gix_odb_runs::{Did, OutcomeList, Record, RecordList, Run};
+use gix_odb_runs::{Did, KeptCore, OutcomeList, Record, RecordList, Run};
 use gix_odb_shown::{Revealed, Shown};
 use odb_base::NoMemory;
 use odb_disk::{Change, Impossible, MemDisk, PathText};
@@ -38,7 +37,7 @@ mod reason;
 pub struct Course {
     disk: MemDisk,
     handles: BTreeMap<u32, Handle>,
-    cores: Vec<Core>,
+    cores: Vec<KeptCore>,
     shown: Shown,
     outcomes: OutcomeList,
     records: RecordList,

@@ -1,5 +1,5 @@
 //! A turn of a handle: the one call of the disk or event of a core that its work names, and what the turn comes to.
-ghost use Rattle.std.specs.Prelude.{if◌then◌else◌, ◌≡◌, ◌<◌, ℕ, length, IfOk, OnOk, None, Some};
+ghost use Rattle.std.specs.Prelude.{if◌then◌else◌, ◌≡◌, ◌<◌, ℕ, length, IfOk, IsSome, OnOk, None, Some};
 ghost use Rattle.std.specs.Option.{option_map};
 ghost use Rattle.odb_asks.specs.Ask.{after_ask, answer_now};
 ghost use Rattle.odb_asks.specs.MemDisk.{Volume};
@@ -7,7 +7,7 @@ ghost use Rattle.gix_odb_core.specs.History.{present};
 ghost use Rattle.gix_odb_core.specs.Replay.{CanHappen};
 ghost use Rattle.gix_odb_events.specs.Answers.{view_in};
 ghost use Rattle.gix_odb_events.specs.declared.answer.Answer.TheVariants as told;
-ghost use Rattle.gix_odb_runs.specs.Cores.{answer_behind, cores_after_asked, history_at};
+ghost use Rattle.gix_odb_runs.specs.Cores.{answer_behind, cores_after_asked, history_at, registered_at};
 ghost use Rattle.gix_odb_runs.specs.Event.{OfCore};
 ghost use Rattle.gix_odb_world.specs.Recorded.{opened_in};
 ghost use Rattle.gix_odb_runs.specs.Run.{has_failed};
@@ -21,10 +21,9 @@ use crate::handle::Handle;
 use crate::work::Work;
 use gix_odb::HandleState;
 use gix_odb_calls::{CallError, Outcome, Reply};
-use gix_odb_core::Core;
 use gix_odb_events::{Answer, Effect, Event, PartAsk, Refusal, View};
-use gix_odb_runs::Did;
 use gix_odb_runs::cores::{EventDone, applied, core_with};
+use gix_odb_runs::{Did, KeptCore};
 use odb_asks::{DiskAnswer, DiskAsk};
 use odb_base::NoMemory;
 use odb_disk::{Change, DiskError, MemDisk, PathText};
@@ -43,7 +42,7 @@ pub struct Carried {
 pub fn carried_out(
     alloc: Global,
     disk: &mut MemDisk,
-    cores: &mut Vec<Core>,
+    cores: &mut Vec<KeptCore>,
     seat: u32,
     state: HandleState,
     work: Work,
@@ -61,7 +60,7 @@ pub fn carried_out(
 /// Makes a core with so many slots for the store of a handle, and registers the handle there.
 fn registered(
     alloc: Global,
-    cores: &mut Vec<Core>,
+    cores: &mut Vec<KeptCore>,
     slots: u16,
     seat: u32,
     state: HandleState,
@@ -84,7 +83,7 @@ fn registered(
 /// Adds a core with so many slots for the store of a handle, and registers the handle there: the view that this hands over.
 fn added(
     alloc: Global,
-    cores: &mut Vec<Core>,
+    cores: &mut Vec<KeptCore>,
     slots: u16,
     seat: u32,
     state: &HandleState,
@@ -121,7 +120,7 @@ fn at_core(mut state: HandleState, work: Work, store: usize, view: View) -> Carr
 fn turned(
     alloc: Global,
     disk: &mut MemDisk,
-    cores: &mut Vec<Core>,
+    cores: &mut Vec<KeptCore>,
     seat: u32,
     state: HandleState,
     work: Work,
@@ -143,7 +142,7 @@ fn turned(
 fn asked(
     alloc: Global,
     disk: &mut MemDisk,
-    cores: &mut Vec<Core>,
+    cores: &mut Vec<KeptCore>,
     seat: u32,
     state: HandleState,
     work: Work,
@@ -227,13 +226,14 @@ fn fed(
 /// Carries out the event of the core of its handle's store that a piece of work asks for.
 fn at_own_core(
     alloc: Global,
-    cores: &mut Vec<Core>,
+    cores: &mut Vec<KeptCore>,
     seat: u32,
     state: HandleState,
     work: Work,
     event: Event,
 ) -> Result<Carried, NoMemory>
     requires there { state.core < length cores.old.items }
+    requires registered { IsSome (registered_at cores.old.items state.core seat) }
     requires can_happen { CanHappen (present (history_at cores.old.items state.core)) seat event }
     ensures carried { IfOk result (CarriesEvent cores.old.items seat state work event) }
     ensures cores { OnOk result (cores.new.items ≡ cores_after_asked cores.old.items (OfCore state.core seat event (answer_behind (history_at cores.old.items state.core) seat event))) }

@@ -14,6 +14,5 @@ loop-core-preserved c = (
       ∙ (ap (λ es. es ++ entries_of c.into_journal.result ∷ []) c.loop-core.invariant.0
       ∙ (ap (λ e. map (λ (h : History). h.entries) c.loop-core.yielded ++ e ∷ []) c.into_journal.ensures.entries
       ∙ sym (map-append (λ (h : History). h.entries) c.loop-core.yielded (c.in-Some.core ∷ []))))),
-  All-push IsJournal c.loop-core.yielded c.in-Some.core c.loop-core.invariant.1
-      (record { opened = c.into_journal.ensures.opened; legal = c.into_journal.ensures.legal; possible = c.into_journal.ensures.possible; complete = c.into_journal.ensures.complete }),
+  All-push IsJournal c.loop-core.yielded c.in-Some.core c.loop-core.invariant.1 c.into_journal.ensures.journal,
 )

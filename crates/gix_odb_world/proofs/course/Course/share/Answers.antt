@@ -5,7 +5,9 @@ use Rattle.gix_odb_world.specs.Valid.{why_not_idle}
 use Rattle.gix_odb_world.specs.declared.handle.Handle.{Handle}
 use Rattle.gix_odb_calls.specs.declared.step.Step.TheVariants as steps
 use Rattle.gix_odb_world.proofs.CloneLemmas.{clone_if_free, clone_taken, shared}
-use Rattle.gix_odb_world.proofs.ExplainedSeats.{clone_free, clone_within}
+use Rattle.gix_odb_runs.specs.Cores.{history_at}
+use Rattle.gix_odb_runs.specs.Held.{IsHeld}
+use Rattle.gix_odb_world.proofs.ExplainedSeats.{clone_free, clone_held, clone_within}
 use Rattle.gix_odb_world.proofs.StepLemmas.{misused}
 use Rattle.gix_odb_world.proofs.course.Course.share.Goals as goal
 
@@ -31,11 +33,17 @@ returns-clause-continues c =
     (record { store = c.in_ok-state-in-Ok.ensures.store; ignoring = c.in_ok-state-in-Ok.ensures.mode; core = c.in_ok-state-in-Ok.ensures.core; view_is = refl })
     c.in_ok-did.ensures.did c.in_ok-did.ensures.view c.in_ok-did.ensures.cores c.in_ok-put.ensures.sets) c.note.ensures.notes
 
--- there is a core, at which the free number isn't registered
+-- there is a core, at which the other handle is registered, and the free number isn't
 pub joined-requires-clause-there : goal.joined-requires-clause-there
 joined-requires-clause-there c =
     subst (λ core. core < length c.args.self.now.cores.items) (sym c.in_ok-state-in-Ok.ensures.core)
     (clone_within c.args.self.now c.requires.explained c.args.number c.args.from
+    (clone_if_free c.args.self.now c.args.number c.args.from c.in_default.ensures.why ∙ sym c.in-Ok.ensures.why) c.in-Ok.parent.now c.in-Ok.ensures.handle)
+
+pub joined-requires-clause-held : goal.joined-requires-clause-held
+joined-requires-clause-held c =
+    subst (λ core. IsHeld (history_at c.args.self.now.cores.items core)) (sym c.in_ok-state-in-Ok.ensures.core)
+    (clone_held c.args.self.now c.requires.explained c.args.number c.args.from
     (clone_if_free c.args.self.now c.args.number c.args.from c.in_default.ensures.why ∙ sym c.in-Ok.ensures.why) c.in-Ok.parent.now c.in-Ok.ensures.handle)
 
 pub joined-requires-clause-free : goal.joined-requires-clause-free
