@@ -16,4 +16,6 @@ mod record;
 
 pub use cores::JournalList;
 pub use kept_core::KeptCore;
-pub use record::{Did, OutcomeList, Record, RecordList, Run};
+pub use record::{
+    ChangeMade, Did, OutcomeList, Record, RecordList, Run, boxed_change, copy_of_change,
+};

@@ -7,7 +7,7 @@ ghost use Rattle.gix_odb_runs.specs.Run.{did_of};
 use crate::cores::JournalList;
 use gix_odb_calls::Outcome;
 use odb_asks::{DiskAnswer, DiskAsk, Op};
-use odb_base::{NoMemory, PathText, Sequence};
+use odb_base::{Boxed, NoMemory, PathText, Sequence};
 use odb_disk::MemDisk;
 use odb_nodes::{Change, DiskError};
 use std::alloc::Global;
@@ -71,14 +71,38 @@ fn path_or_root(alloc: Global, path: Option<&PathText>) -> Result<PathText, NoMe
     }
 }
 
+/// The change of the tree that a step made, if it made one. It is boxed, since most steps make none.
+pub type ChangeMade = Option<Boxed<Change>>;
+
 /// The record of a step.
 #[derive(Drop)]
 pub struct Record {
     pub did: Did,
     /// The change of the tree, if the step made one: another program's, or that of a turn's call of the disk.
-    pub change: Option<Change>,
+    pub change: ChangeMade,
     /// The disk's count of faults after the step.
     pub faults: u64,
+}
+
+/// A change as a record has it, if there is one.
+pub fn boxed_change(alloc: Global, change: Option<Change>) -> Result<ChangeMade, NoMemory>
+    ensures same { IfOk result (λ boxed. boxed ≡ change) }
+{
+    match change {
+        None => Ok(None),
+        Some(change) => {
+            let boxed = Boxed::new(alloc, change)?;
+            Ok(Some(boxed))
+        }
+    }
+}
+
+/// A copy of a change, as a record has it.
+pub fn copy_of_change(alloc: Global, change: &Change) -> Result<Boxed<Change>, NoMemory>
+    ensures copy { IfOk result (λ copy. copy ≡ change.now) }
+{
+    let copy = change.try_clone(alloc)?;
+    Ok(Boxed::new(alloc, copy)?)
 }
 
 /// The outcomes of a run, one for each step.

@@ -18,7 +18,9 @@ use crate::work::Work;
 use gix_odb::{CallState, HandleState, OpenState};
 use gix_odb_calls::{Call, IdPairs, Options, Outcome, PathList, Step, Why};
 use gix_odb_runs::cores::{joined, journals_of, removed};
-use gix_odb_runs::{Did, KeptCore, OutcomeList, Record, RecordList, Run};
+use gix_odb_runs::{
+    ChangeMade, Did, KeptCore, OutcomeList, Record, RecordList, Run, copy_of_change,
+};
 use gix_odb_shown::{Revealed, Shown};
 use odb_base::NoMemory;
 use odb_disk::{Change, Impossible, MemDisk, PathText};
@@ -28,8 +30,7 @@ use std::collections::BTreeMap;
 mod handles;
 mod reason;
 
-/// A disk, the handles on it, the cores of their stores, what the watched paths have shown, and what has come of the steps so
-/// far.
+/// A disk, the handles on it, the cores of their stores, what watched paths have shown, and what has come of the steps so far.
 ///
 /// In mid-step no events need lead to it: a core has its entry before the record tells it, and a handle is taken out of the
 /// table for its turn. So what holds of a world between two steps is said of `World`, and not of this type.
@@ -339,7 +340,7 @@ impl Course {
         state: HandleState,
         work: Work,
         did: Did,
-        change: Option<Change>,
+        change: ChangeMade,
     ) -> Result<(), NoMemory>
         requires free { handle_at self.old number ≡ None }
         ensures settles { OnOk result (Settles self.old self.new number (after_turn state (result_in work)) (outcome_of (result_in work)) did change) }
@@ -366,7 +367,7 @@ impl Course {
         self.shown.note(alloc, self.disk.tree(), change)?;
         match self.disk.change(alloc, change) {
             Ok(()) => {
-                let made = change.try_clone(alloc)?;
+                let made = copy_of_change(alloc, change)?;
                 self.note(Outcome::Applied, Did::Nothing, Some(made))
             }
             Err(Impossible::Impossible) => unreachable!("the change is possible"),
@@ -381,7 +382,7 @@ impl Course {
     }
 
     /// Adds the outcome and the record of a step.
-    fn note(&mut self, outcome: Outcome, did: Did, change: Option<Change>) -> Result<(), NoMemory>
+    fn note(&mut self, outcome: Outcome, did: Did, change: ChangeMade) -> Result<(), NoMemory>
         ensures notes { OnOk result (Notes self.old self.new outcome did change) }
     {
         let faults = self.disk.faults();

@@ -23,17 +23,17 @@ use gix_odb::HandleState;
 use gix_odb_calls::{CallError, Outcome, Reply};
 use gix_odb_events::{Answer, Effect, Event, PartAsk, Refusal, View};
 use gix_odb_runs::cores::{EventDone, applied, core_with};
-use gix_odb_runs::{Did, KeptCore};
+use gix_odb_runs::{ChangeMade, Did, KeptCore, boxed_change};
 use odb_asks::{DiskAnswer, DiskAsk};
 use odb_base::NoMemory;
-use odb_disk::{Change, DiskError, MemDisk, PathText};
+use odb_disk::{DiskError, MemDisk, PathText};
 use std::alloc::Global;
 
 /// What a turn came to: what it did, the change that it made, and its handle and the work after it.
 #[derive(Drop)]
 pub struct Carried {
     pub did: Did,
-    pub change: Option<Change>,
+    pub change: ChangeMade,
     pub state: HandleState,
     pub work: Work,
 }
@@ -201,7 +201,7 @@ fn fed(
     state: HandleState,
     work: Work,
     did: Did,
-    change: Option<Change>,
+    change: ChangeMade,
     answer: Answer,
 ) -> Result<Carried, NoMemory>
     ensures did { IfOk result (λ done. done.did ≡ did) }
@@ -304,13 +304,13 @@ fn called(
     disk: &mut MemDisk,
     opened: Option<&PathText>,
     ask: &DiskAsk,
-) -> Result<(Did, Option<Change>, DiskAnswer), NoMemory>
+) -> Result<(Did, ChangeMade, DiskAnswer), NoMemory>
     ensures did { IfOk result (λ called. called.0 ≡ did_now (option_map (λ path. path.now) opened.entry) disk.old ask.now) }
     ensures change { IfOk result (λ called. called.1 ≡ change_now disk.old ask.now) }
     ensures answer { IfOk result (λ called. called.2 ≡ answer_now disk.old ask.now) }
     ensures left { OnOk result (disk.new ≡ after_ask disk.old ask.now) }
 {
-    let change = disk.change_of(alloc, ask)?;
+    let change = boxed_change(alloc, disk.change_of(alloc, ask)?)?;
     let (did, answer) = answered(alloc, disk, opened, ask)?;
     let change = change_unless_failed(change, &answer);
     Ok((did, change, answer))
@@ -333,7 +333,7 @@ fn answered(
 }
 
 /// The change that a call of the disk makes where it doesn't fail, or none where it failed.
-fn change_unless_failed(change: Option<Change>, answer: &DiskAnswer) -> Option<Change>
+fn change_unless_failed(change: ChangeMade, answer: &DiskAnswer) -> ChangeMade
     ensures change { result ≡ (if has_failed answer.now then None else change) }
 {
     match answer {

@@ -14,10 +14,11 @@ use crate::work::Work;
 use gix_odb::HandleState;
 use gix_odb_calls::{PathList, Why};
 use gix_odb_events::PartAsk;
+use gix_odb_runs::ChangeMade;
 use gix_odb_shown::{Revealed, Shown};
 use odb_asks::DiskAsk;
 use odb_base::NoMemory;
-use odb_disk::{Change, MemDisk, PathText, Tree};
+use odb_disk::{MemDisk, PathText, Tree};
 use std::alloc::Global;
 
 /// Watches the folders of a store from now on.
@@ -103,7 +104,7 @@ fn judged_call(
 pub fn keep(
     shown: &mut Shown,
     revealed: Option<Revealed>,
-    change: &Option<Change>,
+    change: &ChangeMade,
 ) -> Result<(), NoMemory>
     ensures noted { OnOk result ((tree : TreeValue) → Fits shown.old tree → TellsChange shown.old.folders tree change.now revealed → (ShowsSecondBy shown.old tree change.now → ⊥) → NotesMade shown.old tree change.now shown.new) }
 {

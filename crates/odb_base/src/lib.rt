@@ -1,5 +1,6 @@
 //! What every crate of the object database stands on: the error for want of memory, lists of bytes and of
-//! other items, paths, numbers as texts, limits of sizes, and the words that tie an answer to a count of faults.
+//! other items, values in boxes, paths, numbers as texts, limits of sizes, and the words that tie an answer to a count of
+//! faults.
 //!
 //! A call that takes memory is passed the allocator, and answers `NoMemory` where there is none left.
 //! A list of bytes is seen by a contract as that list, whatever room it has.
@@ -10,6 +11,7 @@
 #![tactic(auto)]
 
 mod bad_path;
+mod boxed;
 mod byte_list;
 mod decimal;
 mod limit;
@@ -19,6 +21,7 @@ mod path_name;
 mod sequence;
 
 pub use bad_path::BadPath;
+pub use boxed::Boxed;
 pub use byte_list::ByteList;
 pub use decimal::parse_decimal;
 pub use limit::is_within;
