@@ -5,9 +5,11 @@
 //! calls or tells replies, as a reader of scripts does, needs none of them.
 //! ```rust
 //! let step = Step::Start { handle, call: Call::Find(id) };
-//! match outcome {
-//!     Outcome::Reply(Reply::Found { kind, bytes }) => ..,
-//!     Outcome::Reply(Reply::NotFound) => ..,
+//! if let Outcome::Reply(reply) = outcome {
+//!     match reply.get() {
+//!         Reply::Found { kind, bytes } => ..,
+//!         Reply::NotFound => ..,
+//!     }
 //! }
 //! ```
 #![tactic(auto)]

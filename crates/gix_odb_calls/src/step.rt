@@ -3,7 +3,7 @@ ghost use Rattle.std.specs.Prelude.{◌≡◌, IfOk};
 
 use crate::call::{Call, Reply};
 use crate::init::{IdPairs, Options, PathList, copy_of_pairs, copy_of_paths};
-use odb_base::{NoMemory, PathText};
+use odb_base::{Boxed, NoMemory, PathText};
 use odb_nodes::Change;
 use std::alloc::Global;
 
@@ -106,7 +106,8 @@ pub enum Outcome {
     Applied,
     /// The call goes on.
     Pending,
-    Reply(Reply),
+    /// The call is over. Its reply is boxed, since most steps have none.
+    Reply(Boxed<Reply>),
     /// The step wasn't valid, and changed nothing.
     Misuse(Why),
 }
@@ -119,7 +120,10 @@ impl Outcome {
         match self {
             Outcome::Applied => Ok(Outcome::Applied),
             Outcome::Pending => Ok(Outcome::Pending),
-            Outcome::Reply(reply) => Ok(Outcome::Reply(reply.try_clone(alloc)?)),
+            Outcome::Reply(reply) => {
+                let copy = reply.get().try_clone(alloc)?;
+                Ok(Outcome::Reply(Boxed::new(alloc, copy)?))
+            }
             Outcome::Misuse(why) => Ok(Outcome::Misuse(*why)),
         }
     }

@@ -298,7 +298,7 @@ impl Course {
         // the disk changes and what it leaves alone is told of trees.
         let _ = self.disk.tree();
         match carried_out(alloc, &mut self.disk, &mut self.cores, number, state, work) {
-            Ok(carried) => self.keep_and_settle(number, carried, revealed),
+            Ok(carried) => self.keep_and_settle(alloc, number, carried, revealed),
             Err(error) => {
                 drop(revealed);
                 Err(error)
@@ -309,6 +309,7 @@ impl Course {
     /// Keeps what a turn made watched paths show, puts its handle back, and adds its outcome and its record.
     fn keep_and_settle(
         &mut self,
+        alloc: Global,
         number: u32,
         carried: Carried,
         revealed: Option<Revealed>,
@@ -324,7 +325,7 @@ impl Course {
                     state,
                     work,
                 } = carried;
-                self.settle(number, state, work, did, change)
+                self.settle(alloc, number, state, work, did, change)
             }
             Err(error) => {
                 drop(carried);
@@ -336,6 +337,7 @@ impl Course {
     /// Puts a handle back after its turn, and adds the outcome and the record of the turn.
     fn settle(
         &mut self,
+        alloc: Global,
         number: u32,
         state: HandleState,
         work: Work,
@@ -345,7 +347,7 @@ impl Course {
         requires free { handle_at self.old number ≡ None }
         ensures settles { OnOk result (Settles self.old self.new number (after_turn state (result_in work)) (outcome_of (result_in work)) did change) }
     {
-        let (outcome, handle) = settled(state, work);
+        let (outcome, handle) = settled(alloc, state, work)?;
         match self.set(number, handle) {
             Ok(()) => self.note(outcome, did, change),
             Err(error) => {

@@ -25,7 +25,7 @@ use gix_odb_events::{Answer, Effect, Event, PartAsk, Refusal, View};
 use gix_odb_runs::cores::{EventDone, applied, core_with};
 use gix_odb_runs::{ChangeMade, Did, KeptCore, boxed_change};
 use odb_asks::{DiskAnswer, DiskAsk};
-use odb_base::NoMemory;
+use odb_base::{Boxed, NoMemory};
 use odb_disk::{DiskError, MemDisk, PathText};
 use std::alloc::Global;
 
@@ -343,18 +343,23 @@ fn change_unless_failed(change: ChangeMade, answer: &DiskAnswer) -> ChangeMade
 }
 
 /// What a turn came to that left its work so, and the handle after it.
-pub fn settled(state: HandleState, work: Work) -> (Outcome, Option<Handle>)
-    ensures outcome { result.0 ≡ outcome_of (result_in work) }
-    ensures handle { result.1 ≡ after_turn state (result_in work) }
+pub fn settled(
+    alloc: Global,
+    state: HandleState,
+    work: Work,
+) -> Result<(Outcome, Option<Handle>), NoMemory>
+    ensures outcome { IfOk result (λ settled. settled.0 ≡ outcome_of (result_in work)) }
+    ensures handle { IfOk result (λ settled. settled.1 ≡ after_turn state (result_in work)) }
 {
     match work.into_reply() {
         Ok(reply) => {
             let handle = at_rest(state, &reply);
-            (Outcome::Reply(reply), handle)
+            let reply = Boxed::new(alloc, reply)?;
+            Ok((Outcome::Reply(reply), handle))
         }
         Err(work) => {
             let work = Some(work);
-            (Outcome::Pending, Some(Handle { state, work }))
+            Ok((Outcome::Pending, Some(Handle { state, work })))
         }
     }
 }

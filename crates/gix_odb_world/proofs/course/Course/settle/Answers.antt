@@ -16,7 +16,7 @@ settles_by old mid new number did change put handle told outcome put_is told_is 
 pub returns-in-Ok : goal.returns-in-Ok
 returns-in-Ok c = record {
   settles = on_ok_weaker c.note.result
-      (settles_by c.args.self.now c.set.new.self c.note.new.self c.args.number c.args.did c.args.change c.settled-outcome.result.1 _ c.settled-outcome.result.0 _
-      c.settled-outcome.ensures.handle c.settled-outcome.ensures.outcome c.in-Ok.ensures.sets)
+      (settles_by c.args.self.now c.set.new.self c.note.new.self c.args.number c.args.did c.args.change c.in_ok-outcome.handle _ c.in_ok-outcome.outcome _
+      c.in_ok-outcome.ensures.handle c.in_ok-outcome.ensures.outcome c.in-Ok.ensures.sets)
       c.note.ensures.notes;
 }
