@@ -86,6 +86,7 @@ impl Reader {
     /// Takes note that so many of the bytes at hand were used, or all where there are fewer.
     pub fn consume(&mut self, count: usize)
         ensures given { Reads self.old self.new (map Byte (take count (at_hand self.old))) }
+        ensures note { self.new.has_ended ≡ self.old.has_ended }
     {
         if let Piece::Written(bytes) = &mut self.next {
             let used = count.min(bytes.len());
