@@ -18,16 +18,15 @@ use crate::work::Work;
 use gix_odb::{CallState, HandleState, OpenState};
 use gix_odb_calls::{Call, IdPairs, Options, Outcome, PathList, Step, Why};
 use gix_odb_runs::cores::{joined, journals_of, removed};
-use gix_odb_runs::{
-    ChangeMade, Did, KeptCore, OutcomeList, Record, RecordList, Run, copy_of_change,
-};
+use gix_odb_runs::{ChangeMade, Did, KeptCore, OutcomeList, Record, RecordList, Run};
 use gix_odb_shown::{Revealed, Shown};
 use odb_base::NoMemory;
-use odb_disk::{Change, Impossible, MemDisk, PathText};
+use odb_disk::{MemDisk, PathText};
 use std::alloc::Global;
 use std::collections::BTreeMap;
 
 mod handles;
+mod outside;
 mod reason;
 
 /// A disk, the handles on it, the cores of their stores, what watched paths have shown, and what has come of the steps so far.
@@ -354,26 +353,6 @@ impl Course {
                 drop((outcome, did, change));
                 Err(error)
             }
-        }
-    }
-
-    /// Makes a change that another program makes.
-    fn change(&mut self, alloc: Global, change: &Change) -> Result<(), NoMemory>
-        requires explained { IsExplained self.old }
-        ensures continues { OnOk result (Continues self.old (Step.Disk change.now) self.new) }
-        ensures noted { OnOk result (HasOneMore self.old self.new) }
-    {
-        if let Some(why) = self.why_not_change(alloc, change)? {
-            return self.misuse(why);
-        }
-        self.shown.note(alloc, self.disk.tree(), change)?;
-        match self.disk.change(alloc, change) {
-            Ok(()) => {
-                let made = copy_of_change(alloc, change)?;
-                self.note(Outcome::Applied, Did::Nothing, Some(made))
-            }
-            Err(Impossible::Impossible) => unreachable!("the change is possible"),
-            Err(Impossible::NoMemory) => Err(NoMemory),
         }
     }
 

@@ -2,7 +2,9 @@
 ghost use Rattle.std.specs.Prelude.{◌≡◌, IfOk};
 ghost use Rattle.std.specs.Result.{result_err};
 ghost use Rattle.odb_nodes.specs.Tree.{tree_of};
+ghost use Rattle.odb_nodes.specs.Tree.Change.{changed};
 ghost use Rattle.gix_odb_shown.specs.Kept.{Fits};
+ghost use Rattle.gix_odb_shown.specs.Revealed.{IsRevealed};
 ghost use Rattle.gix_odb_world.specs.Table.{IsReasonNow, phase_of_handle, would_change_now};
 ghost use Rattle.gix_odb_world.specs.Valid as valid;
 ghost use Rattle.gix_odb_world.specs.Valid.{is_openable};
@@ -67,21 +69,37 @@ impl Course {
     }
 
     /// Why another program's change isn't valid.
-    pub(super) fn why_not_change(
-        &self,
-        alloc: Global,
-        change: &Change,
-    ) -> Result<Option<Why>, NoMemory>
+    fn why_not_change(&self, alloc: Global, change: &Change) -> Result<Option<Why>, NoMemory>
         requires fits { Fits self.now.shown (tree_of self.now.disk.state) }
         ensures why { IfOk result (IsReasonNow self.now (Step.Disk change.now)) }
     {
+        match self.judged_change(alloc, change)? {
+            Ok(revealed) => {
+                drop(revealed);
+                Ok(None)
+            }
+            Err(why) => Ok(Some(why)),
+        }
+    }
+
+    /// Why another program's change isn't valid; or what it would make watched paths show.
+    pub(super) fn judged_change(
+        &self,
+        alloc: Global,
+        change: &Change,
+    ) -> Result<Result<Revealed, Why>, NoMemory>
+        requires fits { Fits self.now.shown (tree_of self.now.disk.state) }
+        ensures why { IfOk result (λ judged. IsReasonNow self.now (Step.Disk change.now) (result_err judged)) }
+        ensures tells { IfOk result (λ judged. IfOk judged (IsRevealed self.now.shown.folders (tree_of self.now.disk.state) (changed (tree_of self.now.disk.state) change.now))) }
+    {
         if !self.disk.is_possible(alloc, change)? {
-            return Ok(Some(Why::ImpossibleChange));
+            return Ok(Err(Why::ImpossibleChange));
         }
-        if self.shown.is_second(alloc, self.disk.tree(), change)? {
-            return Ok(Some(Why::TwoContents));
+        let revealed = self.shown.revealed(alloc, self.disk.tree(), change)?;
+        if self.shown.has_second(&revealed) {
+            return Ok(Err(Why::TwoContents));
         }
-        Ok(None)
+        Ok(Ok(revealed))
     }
 
     /// Why a turn isn't valid; or what its change would make watched paths show, if it would make one.
