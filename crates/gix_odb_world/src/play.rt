@@ -63,12 +63,19 @@ fn play_turns(alloc: Global, world: &mut World, handle: u32) -> Result<(), NoMem
     ensures plays { OnOk result (PlaysLine world.old world.new (Line.Finish handle)) }
 {
     'turning: loop {
-        let turn = Step::Turn { handle };
-        make(alloc, world, &turn)?;
+        make_turn(alloc, world, handle)?;
         if !world.is_pending() {
             return Ok(());
         }
     }
+}
+
+/// Makes one turn of a handle.
+fn make_turn(alloc: Global, world: &mut World, handle: u32) -> Result<(), NoMemory>
+    ensures makes { OnOk result (MakesOne world.old world.new (Step.Turn handle)) }
+{
+    let turn = Step::Turn { handle };
+    make(alloc, world, &turn)
 }
 
 /// Makes one step.

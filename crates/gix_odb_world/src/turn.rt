@@ -352,14 +352,31 @@ pub fn settled(
     ensures handle { IfOk result (λ settled. settled.1 ≡ after_turn state (result_in work)) }
 {
     match work.into_reply() {
-        Ok(reply) => {
-            let handle = at_rest(state, &reply);
-            let reply = Boxed::new(alloc, reply)?;
-            Ok((Outcome::Reply(reply), handle))
-        }
+        Ok(reply) => replied(alloc, state, reply),
         Err(work) => {
             let work = Some(work);
             Ok((Outcome::Pending, Some(Handle { state, work })))
+        }
+    }
+}
+
+/// What a turn came to that left its work done, and the handle after it.
+fn replied(
+    alloc: Global,
+    state: HandleState,
+    reply: Reply,
+) -> Result<(Outcome, Option<Handle>), NoMemory>
+    ensures outcome { IfOk result (λ replied. replied.0 ≡ Outcome.Reply reply) }
+    ensures handle { IfOk result (λ replied. replied.1 ≡ after_reply None (tables.at_rest state) reply) }
+{
+    match Boxed::new(alloc, reply) {
+        Ok(reply) => {
+            let handle = at_rest(state, reply.get());
+            Ok((Outcome::Reply(reply), handle))
+        }
+        Err(error) => {
+            drop(state);
+            Err(error)
         }
     }
 }

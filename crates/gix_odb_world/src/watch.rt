@@ -1,9 +1,10 @@
 //! The rule of two contents: which folders are watched, and what a turn would make their paths show.
-ghost use Rattle.std.specs.Prelude.{◌≡◌, ◌∷◌, IfOk, None, OnOk, Some};
+ghost use Rattle.std.specs.Prelude.{◌≡◌, ◌∷◌, IfOk, None, OnOk, Some, true};
 ghost use Rattle.std.specs.Option.{option_map};
 ghost use Rattle.std.specs.Result.{result_err};
 ghost use Rattle.odb_asks.specs.Ask.{change_of_ask};
 ghost use Rattle.odb_nodes.specs.Tree.{Tree as TreeValue, tree_of};
+ghost use Rattle.odb_nodes.specs.Tree.Change.{is_possible_in};
 ghost use Rattle.gix_odb_shown.specs.Kept.{Fits};
 ghost use Rattle.gix_odb_runs.specs.Run.{change_asked, change_by};
 ghost use Rattle.gix_odb_world.specs.Valid.{IsFirstReason};
@@ -18,7 +19,7 @@ use gix_odb_runs::ChangeMade;
 use gix_odb_shown::{Revealed, Shown};
 use odb_asks::DiskAsk;
 use odb_base::NoMemory;
-use odb_disk::{MemDisk, PathText, Tree};
+use odb_disk::{Change, MemDisk, PathText, Tree};
 use std::alloc::Global;
 
 /// Watches the folders of a store from now on.
@@ -93,7 +94,22 @@ fn judged_call(
     let Some(change) = disk.change_of(alloc, ask)? else {
         return Ok(Ok(None));
     };
-    let revealed = shown.revealed(alloc, tree, &change)?;
+    judged_change(alloc, shown, tree, &change)
+}
+
+/// The same of a change that is possible.
+fn judged_change(
+    alloc: Global,
+    shown: &Shown,
+    tree: &Tree,
+    change: &Change,
+) -> Result<Result<Option<Revealed>, Why>, NoMemory>
+    requires fits { Fits shown.now tree.now }
+    requires possible { is_possible_in tree.now change.now ≡ true }
+    ensures why { IfOk result (λ judged. IsFirstReason None (ShowsSecondBy shown.now tree.now (Some change.now)) (result_err judged)) }
+    ensures tells { IfOk result (λ judged. IfOk judged (TellsChange shown.now.folders tree.now (Some change.now))) }
+{
+    let revealed = shown.revealed(alloc, tree, change)?;
     if shown.has_second(&revealed) {
         return Ok(Err(Why::TwoContents));
     }

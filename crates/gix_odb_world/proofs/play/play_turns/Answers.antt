@@ -6,12 +6,12 @@ turning-init c = turns_none c.args.world.now c.args.handle
 
 pub turning-preserved : goal.turning-preserved
 turning-preserved c =
-    turns_more c.args.world.now c.turning.world c.make.new.world c.args.handle c.turning.invariant c.in_ok-make.ensures.makes
-    ((c.is_pending.ensures.pending c.turning.world.outcomes c.in_ok-make.ensures.makes.outcome c.in_ok-make.ensures.makes.makes.outcomes).0 c.if-not-is_pending.false)
+    turns_more c.args.world.now c.turning.world c.make_turn.new.world c.args.handle c.turning.invariant c.in_ok-make_turn.ensures.makes
+    ((c.is_pending.ensures.pending c.turning.world.outcomes c.in_ok-make_turn.ensures.makes.outcome c.in_ok-make_turn.ensures.makes.makes.outcomes).0 c.if-not-is_pending.false)
 
 pub returns-then-not-is_pending : goal.returns-then-not-is_pending
 returns-then-not-is_pending c =
     record {
-      plays = turns_end c.args.world.now c.turning.world c.make.new.world c.args.handle c.turning.invariant c.in_ok-make.ensures.makes
-          (λ is. absurd (cc ((c.is_pending.ensures.pending c.turning.world.outcomes c.in_ok-make.ensures.makes.outcome c.in_ok-make.ensures.makes.makes.outcomes).1 is, c.if-not-is_pending.true)));
+      plays = turns_end c.args.world.now c.turning.world c.make_turn.new.world c.args.handle c.turning.invariant c.in_ok-make_turn.ensures.makes
+          (λ is. absurd (cc ((c.is_pending.ensures.pending c.turning.world.outcomes c.in_ok-make_turn.ensures.makes.outcome c.in_ok-make_turn.ensures.makes.makes.outcomes).1 is, c.if-not-is_pending.true)));
     }
