@@ -7,19 +7,19 @@ use Rattle.std.specs.Ordering.{eq_by_cmp}
 use Rattle.std.proofs.lemmas.Bool.{false≢true, cases_lt}
 use Rattle.odb_base.specs.Path.{Path, path_cmp}
 use Rattle.odb_base.specs.PathLaws.{path_order}
-use Rattle.odb_nodes.specs.Tree.{Tree}
+use Rattle.odb_nodes.specs.Tree.{IsTree, Tree}
 use Rattle.gix_odb_shown.specs.Watched.{Shows}
 use Rattle.gix_odb_shown.specs.Kept.{Kept, Folders, key_cmp, ShowsInOne, IsSecond, Notes, Fits, nothing_kept}
 use Rattle.gix_odb_shown.specs.HasShown.{Since, AreBegun, with_since, HasShown, ShowsSecond, Keeps}
 use Rattle.gix_odb_shown.proofs.KeptLemmas.{nothing_fits, one_more}
 
 -- nothing is watched, and nothing is kept
-pub keeps_nothing : (trees : ℕ → Tree) (now : ℕ) → Keeps trees (λ folder. None) now nothing_kept
-keeps_nothing trees now = record {
+pub keeps_nothing : (trees : ℕ → Tree) (now : ℕ) → IsTree (trees now) → Keeps trees (λ folder. None) now nothing_kept
+keeps_nothing trees now is_tree = record {
   folders = λ folder. set.contains-empty path_cmp folder;
   only = λ path time bytes known. let both : None ≡ Some bytes = sym (finite.get-empty key_cmp (path, time)) ∙ known in absurd (cc);
   whole = λ path time bytes h. absurd (let both : None ≡ Some h.begun = h.watched in cc);
-  fits = nothing_fits (trees now);
+  fits = nothing_fits (trees now) is_tree;
 }
 
 since_when : (o : Option ℕ) → is_some o ≡ true → (begun : ℕ) × (o ≡ Some begun)

@@ -12,7 +12,7 @@ use Rattle.std.proofs.lemmas.Bool.{false≢true, or_right, or_cases, cases_Bool}
 use Rattle.odb_base.specs.Path.{Name, Path, path_cmp, same_name}
 use Rattle.odb_base.specs.PathLaws.{one_place, path_order, parent_of-push}
 use Rattle.odb_base.specs.Path.{parent_of}
-use Rattle.odb_nodes.specs.Tree.{Tree}
+use Rattle.odb_nodes.specs.Tree.{IsTree, Tree}
 use Rattle.odb_nodes.specs.Tree.Follow.{Refusal}
 use Rattle.odb_nodes.proofs.TreeLemmas.{same_path, own_path}
 use Rattle.gix_odb_shown.specs.Watched.{Shows, pack_directory}
@@ -117,13 +117,14 @@ lies_by folders tree path time bytes s = record { folder = s.folder; among = s.a
 module _ (old : Kept) (folders : Folders) (tree : Tree) (new : Kept) (n : Notes old folders tree new)
     (agree : (path : Path) (time : ℕ) (first bytes : List ℕ) → finite.get old.contents (path, time) ≡ Some first → ShowsInOne folders tree path time bytes → first ≡ bytes)
     (lies : (path : Path) (time : ℕ) (bytes : List ℕ) → finite.get old.contents (path, time) ≡ Some bytes → LiesInOne folders path)
-    (plain : new.plain ≡ true → ArePlain tree folders) where
+    (plain : new.plain ≡ true → ArePlain tree folders) (is_tree : IsTree tree) where
   some_kept : (o : Option (List ℕ)) → IsSome o → (bytes : List ℕ) × (o ≡ Some bytes)
   some_kept None is = absurd (false≢true is)
   some_kept (Some bytes) is = (bytes, refl)
 
   pub fits_noted : Fits new tree
   fits_noted = record {
+    is_tree = is_tree;
     whole = λ path time bytes s.
         let there = subst (λ (f : Folders). ShowsInOne f tree path time bytes) n.folders_are s in
         let k = some_kept (finite.get new.contents (path, time)) (n.whole path time bytes there) in
@@ -159,8 +160,8 @@ first_agrees kept tree first_only path time first bytes known shows = elim (case
 ]
 
 pub fits_after : (old : Kept) (before after : Tree) (new : Kept) → Fits old before → (IsSecond old after → ⊥) → Notes old old.folders after new
-    → (new.plain ≡ true → ArePlain after old.folders) → Fits new after
-fits_after old before after new fits first_only n plain = fits_noted old old.folders after new n (first_agrees old after first_only) fits.only plain
+    → (new.plain ≡ true → ArePlain after old.folders) → IsTree after → Fits new after
+fits_after old before after new fits first_only n plain is_tree = fits_noted old old.folders after new n (first_agrees old after first_only) fits.only plain is_tree
 
 -- ---- a folder more
 
@@ -219,7 +220,7 @@ module _ (old : Kept) (folder : Path) (tree : Tree) (fits : Fits old tree) where
   ]
 
   pub fits_watched : (new : Kept) → Notes old more tree new → (new.plain ≡ true → ArePlain tree more) → Fits new tree
-  fits_watched new n plain = fits_noted old more tree new n own_agrees own_lies plain
+  fits_watched new n plain = fits_noted old more tree new n own_agrees own_lies plain fits.is_tree
 
   -- a folder that is watched already
   module _ (among : set.contains old.folders folder ≡ true) where
@@ -244,8 +245,9 @@ module _ (old : Kept) (folder : Path) (tree : Tree) (fits : Fits old tree) where
 
 -- ---- nothing kept
 
-pub nothing_fits : (tree : Tree) → Fits nothing_kept tree
-nothing_fits tree = record {
+pub nothing_fits : (tree : Tree) → IsTree tree → Fits nothing_kept tree
+nothing_fits tree is_tree = record {
+  is_tree = is_tree;
   whole = λ path time bytes s. absurd (false≢true (sym (set.contains-empty path_cmp s.folder) ∙ s.among));
   only = λ path time bytes known. let both : None ≡ Some bytes = sym (finite.get-empty key_cmp (path, time)) ∙ known in absurd (cc);
   plain = λ is folder among. absurd (false≢true (sym (set.contains-empty path_cmp folder) ∙ among));
@@ -288,8 +290,8 @@ module _ (kept : Kept) (before after : Tree) (fits : Fits kept before) (files : 
       (ap (λ (k : Kept). with_files k.contents files) (sym view) ∙ sym is))
       (notes_after kept before after files fits r plain)
 
-  pub keep_fits : (IsSecond kept after → ⊥) → (plain ≡ true → ArePlain after kept.folders) → contents ≡ with_files own files → Fits told after
-  keep_fits first_only are is = fits_after kept before after told fits first_only (keep_notes is) are
+  pub keep_fits : (IsSecond kept after → ⊥) → (plain ≡ true → ArePlain after kept.folders) → IsTree after → contents ≡ with_files own files → Fits told after
+  keep_fits first_only are is_tree is = fits_after kept before after told fits first_only (keep_notes is) are is_tree
 
 module _ (kept : Kept) (tree : Tree) (fits : Fits kept tree) (folder : Path) (old : BTreeSet Path) (own : Contents) (was : Bool)
     (view : ◌≡◌ {A = Kept} (record { folders = set.from_list old.keys; contents = own; plain = was }) kept) where

@@ -5,7 +5,10 @@ mod ListLemmas
 mod EntryLemmas
 mod FilesLemmas
 mod ContentsLemmas
+mod EndLemmas
+mod SpotLemmas
 mod PlainLemmas
-mod TouchLemmas
+mod RevealLemmas
 mod SeenLemmas
+mod LinkLemmas
 mod KeptLemmas

@@ -1,8 +1,8 @@
 -- Elements of lists, by cases.
-use Rattle.std.proofs.Common.{◌≡◌, ◌⊎◌, inl, inr, Bool, true, List, [], ◌∷◌, ◌++◌, Option, Some, None, refl, sym, ap, ◌∙◌, subst}
-use Rattle.std.specs.List.{list_any, flat_map, filter_map, cons_option}
+use Rattle.std.proofs.Common.{◌≡◌, ◌⊎◌, inl, inr, Bool, true, List, [], ◌∷◌, ◌++◌, map, Option, Some, None, refl, sym, ap, ◌∙◌, subst}
+use Rattle.std.specs.List.{list_all, list_any, flat_map, filter_map, cons_option}
 use Rattle.gix_odb_shown.specs.Files.{IsIn}
-use Rattle.std.proofs.lemmas.Bool.{false≢true, or_left, or_right, or_cases}
+use Rattle.std.proofs.lemmas.Bool.{and_parts, false≢true, or_left, or_right, or_cases}
 use Rattle.std.proofs.lemmas.List.Concat.{flat_map-cons}
 
 pub in_left : {X : Type 0} (xs ys : List X) (x : X) → IsIn xs x → IsIn (xs ++ ys) x
@@ -56,3 +56,20 @@ pub passes_one : {X : Type 0} (test : X → Bool) (xs : List X) (x : X) → IsIn
 passes_one test [] x one passes = absurd one
 passes_one test (y ∷ xs) x (inl same) passes = or_left (test y) (list_any test xs) (ap test same ∙ passes)
 passes_one test (y ∷ xs) x (inr more) passes = or_right (test y) (list_any test xs) (passes_one test xs x more passes)
+
+-- elements that are turned into others
+pub in_map : {X Y : Type 0} (f : X → Y) (xs : List X) (x : X) → IsIn xs x → IsIn (map f xs) (f x)
+in_map f [] x one = absurd one
+in_map f (y ∷ xs) x (inl same) = inl (ap f same)
+in_map f (y ∷ xs) x (inr more) = inr (in_map f xs x more)
+
+pub of_map : {X Y : Type 0} (f : X → Y) (xs : List X) (y : Y) → IsIn (map f xs) y → (x : X) × IsIn xs x × (f x ≡ y)
+of_map f [] y one = absurd one
+of_map f (x ∷ xs) y (inl same) = (x, inl refl, same)
+of_map f (x ∷ xs) y (inr more) = let o = of_map f xs y more in (o.0, inr o.1, o.2)
+
+-- a test that each passes, one passes
+pub all_in : {X : Type 0} (test : X → Bool) (xs : List X) (x : X) → IsIn xs x → list_all test xs ≡ true → test x ≡ true
+all_in test [] x one all = absurd one
+all_in test (y ∷ xs) x (inl same) all = ap test (sym same) ∙ (and_parts (test y) (list_all test xs) all).0
+all_in test (y ∷ xs) x (inr more) all = all_in test xs x more (and_parts (test y) (list_all test xs) all).1

@@ -1,38 +1,57 @@
 -- What is seen of a change is what it reveals, and plain folders stay plain.
-use Rattle.std.proofs.Common.{◌≡◌, ◌≢◌, ◌⊎◌, ◌&&◌, inl, inr, ℕ, Bool, false, List, [], ◌∷◌, ◌++◌, codes, Option, Some, None, Result, Ok, Err, IfOk, IfSome, refl, sym, ap, ◌∙◌, subst}
-use Rattle.std.specs.List.{starts_with}
-use Rattle.std.specs.Option.{option_map}
+use Rattle.std.proofs.Common.{◌≡◌, ◌≢◌, ◌⊎◌, inl, inr, ℕ, Bool, true, false, List, [], ◌∷◌, ◌++◌, Option, Some, None, Result, Ok, Err, IfOk, IfSome, if◌then◌else◌, append-nil, refl, sym, ap, ◌∙◌, subst}
 use Rattle.std.specs.FinSet as set
-use Rattle.std.proofs.lemmas.Bool.{false≢true, false_from_ne_true, or_from}
-use Rattle.odb_base.specs.Path.{Name, Path, last_name, same_name}
-use Rattle.odb_nodes.specs.Tree.{Tree, node_at}
-use Rattle.odb_nodes.specs.Tree.Follow.{Absent, Refusal, file_of, read_of}
-use Rattle.odb_nodes.specs.Tree.Change.{changed, put_node, put_over}
+use Rattle.std.proofs.lemmas.Bool.{false≢true}
+use Rattle.odb_base.specs.Path.{Name, Path}
+use Rattle.odb_nodes.specs.Tree.{IsTree, Tree, is_directory, is_directory_content, node_at}
+use Rattle.odb_nodes.specs.Tree.Follow as following
+use Rattle.odb_nodes.specs.Tree.Follow.{Place, file_of, file_of_place, followed, looked, meta_of_place, meta_with, most_links, read_of}
+use Rattle.odb_nodes.specs.Tree.Change.{changed, is_file, is_file_content, is_file_place, is_possible_in, longer, put_node, put_over, timed, with_longer, with_moved, with_time}
 use Rattle.odb_nodes.specs.Tree.Way.{is_link, is_link_content}
 use Rattle.odb_nodes.specs.Tree.Write as writing
-use Rattle.odb_nodes.specs.Tree.Write.{and_then, change_of_append, file_spot}
+use Rattle.odb_nodes.specs.Tree.Write.{and_then, file_path, file_spot, from_followed}
 use Rattle.odb_nodes.specs.declared.change.Change.{Change}
-use Rattle.odb_nodes.specs.declared.change.Change.TheVariants.{PutFile, MakeDir, PutLink, Rename, Append, Remove, SetTime}
+use Rattle.odb_nodes.specs.declared.change.Change.TheVariants.{PutFile, MakeDir, Rename, Append, Remove, SetTime}
+use Rattle.odb_nodes.specs.declared.meta.Kind.TheVariants as kinds
 use Rattle.odb_nodes.specs.declared.node.Content.{Content}
 use Rattle.odb_nodes.specs.declared.node.Content.TheVariants.{File, Dir, Link}
 use Rattle.odb_nodes.specs.declared.node.Node.{Node}
-use Rattle.odb_nodes.proofs.TreeLemmas.{node_at-put, node_at-taken, other_path}
-use Rattle.odb_nodes.proofs.TreeLemmas.Change.{made-put_file, made-remove}
+use Rattle.odb_nodes.proofs.TreeLemmas.{cases_path, node_at-put, node_at-taken, other_path}
+use Rattle.odb_nodes.proofs.TreeLemmas.Change.{made-make_dir, made-put_file, made-remove, made-set_time}
+use Rattle.odb_nodes.proofs.TreeLemmas.Changed.{made-append, made-rename}
+use Rattle.odb_nodes.proofs.TreeLemmas.Follow.{followed_reached, pass_to_unfollowed}
+use Rattle.odb_nodes.proofs.TreeLemmas.Moved.{begins, begins-own, moved_away, moved_below, moved_other, moved_target}
+use Rattle.odb_nodes.proofs.TreeLemmas.MovedTree.{CanMove, file_no_directory, goes_on, none_below, shorter_front}
+use Rattle.odb_nodes.proofs.TreeLemmas.Possible.{can_make_dir, can_put_file, possible-append, possible-set_time}
 use Rattle.odb_nodes.proofs.TreeLemmas.Write.{file_at}
-use Rattle.odb_nodes.proofs.WriteLaws.{at_place, touches}
-use Rattle.gix_odb_shown.specs.Watched.{counted, pack_directory, watched_kind}
+use Rattle.odb_nodes.proofs.MovedNumbersLemmas.{can_rename}
+use Rattle.odb_nodes.proofs.WriteLaws.{at_place, read_at, rename_source, untouched}
 use Rattle.gix_odb_shown.specs.Plain.{ArePlain}
-use Rattle.gix_odb_shown.specs.Kept.{Folders, ShowsInOne}
-use Rattle.gix_odb_shown.specs.Files.{IsIn, Reveals}
-use Rattle.gix_odb_shown.specs.Seen.{append_seen, both_seen, holds_packs, off_seen, put_seen, removed_seen, seen_in, stand_of}
-use Rattle.gix_odb_shown.specs.declared.seen.Stand.{Stand}
-use Rattle.gix_odb_shown.specs.declared.seen.Stand.TheVariants.{Off, Named, Above}
+use Rattle.gix_odb_shown.specs.Seen.{AreSeenOf, IsSeen, files_seen, kind_found}
 use Rattle.gix_odb_shown.specs.declared.shown_file.ShownFile.{ShownFile}
-use Rattle.gix_odb_shown.specs.declared.watched.WatchedKind.{WatchedKind}
-use Rattle.gix_odb_shown.proofs.PlainLemmas.{front_of_front, node_read, plain_read}
-use Rattle.gix_odb_shown.proofs.TouchLemmas.{IsClear, IsOff, IsWatched, Says, TouchesOff, last_name-push, off_plain, off_showed, one_off, one_plain, one_showed, reveals_nothing, stand_says}
+use Rattle.gix_odb_shown.proofs.EndLemmas.{IsEnd}
+use Rattle.gix_odb_shown.proofs.RevealLemmas.{IsGone, file_plain, file_reveals, plain_after, reveals_nothing}
 
--- ---- a file is put at a watched path, or what stands there is removed
+-- ---- files
+
+-- what a file has
+pub record HasFile (content : Content) : Type 0 where
+  pub bytes : List ℕ
+  pub time : ℕ
+  pub is : content ≡ File bytes time
+
+file_content : (content : Content) → is_file_content content ≡ true → HasFile content
+file_content (File bytes time) file = record { bytes = bytes; time = time; is = refl }
+file_content Dir file = absurd (false≢true file)
+file_content (Link target) file = absurd (false≢true file)
+
+looked_content : (dev ino : ℕ) (content : Content) → (meta_with dev ino content).kind ≡ kinds.File → HasFile content
+looked_content dev ino (File bytes time) kind = record { bytes = bytes; time = time; is = refl }
+looked_content dev ino Dir kind = absurd (cc)
+looked_content dev ino (Link target) kind = absurd (cc)
+
+no_link_at : (content : Content) (bytes : List ℕ) (time : ℕ) → content ≡ File bytes time → (target : Path) → content ≢ Link target
+no_link_at content bytes time is target link = false≢true (sym (ap is_link_content is) ∙ ap is_link_content link)
 
 put_content : (t : Tree) (p : Path) (time : ℕ) (bytes : List ℕ) (o : Option Node) → (put_node t p (File bytes time) o).content ≡ File bytes time
 put_content t p time bytes None = refl
@@ -43,239 +62,261 @@ put_content t p time bytes (Some node) = over node.content
     over Dir = refl
     over (Link target) = refl
 
--- what a read gave, or something else where it gave nothing
-abbrev given_or : List ℕ × ℕ → Result (List ℕ × ℕ) Refusal → List ℕ × ℕ
-given_or other (Ok given) = given
-given_or other (Err refusal) = other
+-- the file that an append is made to
+spot_by : (told : Result Place following.Refusal) → is_file_place told ≡ true → (place : Path) × (and_then file_path (from_followed told) ≡ Ok place)
+spot_by (Ok found) file = (found.path, ap (λ (b : Bool). path_if b found.path) file)
+  where
+    path_if : Bool → Path → Result Path writing.Refusal
+    path_if there path = if there then Ok path else Err writing.WrongKind
+spot_by (Err refusal) file = absurd (false≢true file)
 
-same_given : (one other : List ℕ × ℕ) → ◌≡◌ {A = Result (List ℕ × ℕ) Refusal} (Ok one) (Ok other) → one ≡ other
-same_given one other both = ap (given_or one) both
+spot_of : (t : Tree) (path : Path) → is_file_place (followed t true path) ≡ true → (place : Path) × (file_spot t path ≡ Ok place)
+unfolding file_spot
+spot_of t path file = spot_by (followed t true path) file
 
-module _ (keys : List Path) (t : Tree) (plain : ArePlain t (set.from_list keys)) (p : Path) where
-  abbrev these : Folders
-  these = set.from_list keys
-
-  -- the names of one path
-  one_kind : (folder other : Path) (name twin : Name) (kind its : WatchedKind) → pack_directory folder ++ name ∷ [] ≡ pack_directory other ++ twin ∷ []
-      → watched_kind name ≡ Some kind → watched_kind twin ≡ Some its → kind ≡ its
-  one_kind folder other name twin kind its same watched too =
-      let names : Some name ≡ Some twin = sym (last_name-push (pack_directory folder) name) ∙ ap last_name same ∙ last_name-push (pack_directory other) twin in
-      let alike : name ≡ twin = cc in
-      let kinds : Some kind ≡ Some its = sym watched ∙ ap watched_kind alike ∙ too in
-      cc
-
-  module _ (clear : IsClear keys p) (kind : WatchedKind) (own : IsWatched these p kind) where
-    module _ (time : ℕ) (bytes : List ℕ) where
-      abbrev put : Change
-      put = PutFile p time bytes
-
-      put_touch : (q : Path) → q ≢ p → touches t put q ≡ false
-      put_touch q apart = other_path q p apart
-
-      put_at : node_at (changed t put) p ≡ Some (put_node t p (File bytes time) (node_at t p))
-      put_at = ap (λ (u : Tree). node_at u p) (made-put_file t p time bytes) ∙ node_at-put t p (put_node t p (File bytes time) (node_at t p))
-
-      put_leaf : is_link (node_at (changed t put) p) ≡ false
-      put_leaf = ap is_link put_at ∙ ap is_link_content (put_content t p time bytes (node_at t p))
-
-      put_plain : ArePlain (changed t put) these
-      put_plain = one_plain keys t put plain p put_touch clear put_leaf
-
-      put_read : read_of (changed t put) p ≡ Ok (bytes, time)
-      put_read =
-          ap (read_of (changed t put)) own.path_is
-          ∙ plain_read (changed t put) own.folder (put_plain own.folder own.among) own.name kind own.watched
-          ∙ ap node_read (ap (node_at (changed t put)) (sym own.path_is) ∙ put_at)
-          ∙ ap file_of (put_content t p time bytes (node_at t p))
-
-      abbrev file : ShownFile
-      file = record { key = (p, counted kind time); bytes = bytes }
-
-      put_shown : (other : ShownFile) → IsIn (file ∷ []) other → ShowsInOne these (changed t put) other.key.0 other.key.1 other.bytes
-      put_shown other (inl same) =
-          subst (λ (f : ShownFile). ShowsInOne these (changed t put) f.key.0 f.key.1 f.bytes) same
-          (record {
-            folder = own.folder;
-            among = own.among;
-            shows = record { name = own.name; path_is = own.path_is; kind = kind; is_watched = own.watched; at = time; reads = put_read; counts = refl };
-          })
-      put_shown other (inr none) = absurd none
-
-      put_whole : (path : Path) (at : ℕ) (its : List ℕ) → (s : ShowsInOne these (changed t put) path at its)
-          → ShowsInOne these t path at its ⊎ IsIn (file ∷ []) (record { key = (path, at); bytes = its })
-      put_whole path at its s =
-          elim (one_showed keys t put plain p put_touch clear path at its s) [
-            | inl before ↦ inl before
-            | inr same ↦ inr (inl (by same))
-          ]
-        where
-          by : path ≡ p → file ≡ record { key = (path, at); bytes = its }
-          by same =
-              let both : ◌≡◌ {A = Result (List ℕ × ℕ) Refusal} (Ok (bytes, time)) (Ok (its, s.shows.at)) = sym put_read ∙ ap (read_of (changed t put)) (sym same) ∙ s.shows.reads in
-              let pair : ◌≡◌ {A = List ℕ × ℕ} (bytes, time) (its, s.shows.at) = same_given (bytes, time) (its, s.shows.at) both in
-              let alike : kind ≡ s.shows.kind =
-              one_kind own.folder s.folder own.name s.shows.name kind s.shows.kind (sym own.path_is ∙ sym same ∙ s.shows.path_is) own.watched s.shows.is_watched in
-              let counts : counted kind time ≡ at = ap (λ (k : WatchedKind). counted k time) alike ∙ ap (λ (b : List ℕ × ℕ). counted s.shows.kind b.1) pair ∙ s.shows.counts in
-              λ i. record { key = (sym same i, counts i); bytes = (pair i).0 }
-
-      put_reveals : Reveals these t (changed t put) (file ∷ [])
-      put_reveals = record { shown = put_shown; whole = put_whole }
-
-    abbrev gone : Change
-    gone = Remove p
-
-    gone_touch : (q : Path) → q ≢ p → touches t gone q ≡ false
-    gone_touch q apart = other_path q p apart
-
-    gone_at : node_at (changed t gone) p ≡ None
-    gone_at = ap (λ (u : Tree). node_at u p) (made-remove t p) ∙ node_at-taken t p
-
-    gone_plain : ArePlain (changed t gone) these
-    gone_plain = one_plain keys t gone plain p gone_touch clear (ap is_link gone_at)
-
-    gone_read : read_of (changed t gone) p ≡ Err Absent
-    gone_read =
-        ap (read_of (changed t gone)) own.path_is
-        ∙ plain_read (changed t gone) own.folder (gone_plain own.folder own.among) own.name kind own.watched
-        ∙ ap node_read (ap (node_at (changed t gone)) (sym own.path_is) ∙ gone_at)
-
-    gone_reveals : Reveals these t (changed t gone) []
-    gone_reveals =
-        reveals_nothing keys t gone plain
-        (λ path time bytes s.
-        elim (one_showed keys t gone plain p gone_touch clear path time bytes s) [
-          | inl before ↦ before
-          | inr same ↦
-              let both : ◌≡◌ {A = Result (List ℕ × ℕ) Refusal} (Err Absent) (Ok (bytes, s.shows.at)) = sym gone_read ∙ ap (read_of (changed t gone)) (sym same) ∙ s.shows.reads in
-              absurd (cc)
-        ])
-
--- ---- what is seen
-
--- The files are what a change makes watched paths show, and no link is on their way afterwards.
-pub record IsSeen (keys : List Path) (t : Tree) (change : Change) (files : List ShownFile) : Type 0 where
-  pub reveals : Reveals (set.from_list keys) t (changed t change) files
-  pub plain : ArePlain (changed t change) (set.from_list keys)
+node_of : (o : Option Node) → is_file o ≡ true → (node : Node) × (o ≡ Some node)
+node_of None file = absurd (false≢true file)
+node_of (Some node) file = (node, refl)
 
 module _ (keys : List Path) (t : Tree) (plain : ArePlain t (set.from_list keys)) where
-  nothing_seen : (change : Change) → TouchesOff keys t change plain → (files : List ShownFile) → [] ≡ files → IsSeen keys t change files
-  nothing_seen change off files is =
-      subst (IsSeen keys t change) is
-      (record { reveals = reveals_nothing keys t change plain (off_showed keys t change plain off); plain = off_plain keys t change plain off })
+  -- where one place alone is touched, the others are as they were
+  one_place : (u : Tree) (q : Path) → ((p : Path) → p ≢ q → node_at u p ≡ node_at t p) → (p : Path) → (node_at u p ≡ node_at t p) ⊎ ((p ≡ q) ⊎ IsGone t u p)
+  one_place u q others p = elim (cases_path p q) [
+    | inl same ↦ inr (inl same)
+    | inr apart ↦ inl (others p apart)
+  ]
 
-  off_is_seen : (change : Change) (p : Path) → ((q : Path) → q ≢ p → touches t change q ≡ false) → (stand : Stand) → Says keys p stand → (files : List ShownFile)
-      → off_seen stand ≡ Some files → IsSeen keys t change files
-  off_is_seen change p touch Off says files is =
-      let none : [] ≡ files = cc in nothing_seen change (one_off keys t change plain p touch says) files none
-  off_is_seen change p touch (Named kind) says files is = absurd (cc)
-  off_is_seen change p touch Above says files is = absurd (cc)
+  -- a file comes to stand at a place where no directory was
+  module _ (change : Change) (q : Path) (time : ℕ) (bytes : List ℕ) (node : Node) (at : node_at (changed t change) q ≡ Some node) (content : node.content ≡ File bytes time)
+      (no_directory : is_directory (node_at t q) ≡ false) (each : (p : Path) → (node_at (changed t change) p ≡ node_at t p) ⊎ ((p ≡ q) ⊎ IsGone t (changed t change) p)) where
+    file_is_seen : (files : List ShownFile) → files ≡ files_seen t keys q time bytes → IsSeen keys t change files
+    file_is_seen files is =
+        subst (IsSeen keys t change) (sym is)
+        (record {
+          reveals = file_reveals keys t (changed t change) plain q time bytes node at content no_directory each;
+          plain = file_plain keys t (changed t change) plain q time bytes node at content no_directory each;
+        })
 
-  put_is_seen : (p : Path) (time : ℕ) (bytes : List ℕ) (stand : Stand) → Says keys p stand → (files : List ShownFile) → put_seen p time bytes stand ≡ Some files
-      → IsSeen keys t (PutFile p time bytes) files
-  put_is_seen p time bytes Off says files is = off_is_seen (PutFile p time bytes) p (λ q apart. other_path q p apart) Off says files is
-  put_is_seen p time bytes (Named kind) says files is =
-      let one : record { key = (p, counted kind time); bytes = bytes } ∷ [] ≡ files = cc in
-      subst (IsSeen keys t (PutFile p time bytes)) one
+  pub put_is_seen : (q : Path) (time : ℕ) (bytes : List ℕ) → is_possible_in t (PutFile q time bytes) ≡ true → (files : List ShownFile) → files ≡ files_seen t keys q time bytes
+      → IsSeen keys t (PutFile q time bytes) files
+  put_is_seen q time bytes possible files is =
+      let change : Change = PutFile q time bytes in
+      let node : Node = put_node t q (File bytes time) (node_at t q) in
+      file_is_seen change q time bytes node (ap (λ (u : Tree). node_at u q) (made-put_file t q time bytes) ∙ node_at-put t q node) (put_content t q time bytes (node_at t q))
+      (can_put_file t q time bytes possible).no_directory
+      (one_place (changed t change) q (λ p apart. untouched t change p (other_path p q apart))) files is
+
+  pub appended_is_seen : (path : Path) (more : List ℕ) → is_possible_in t (Append path more) ≡ true → (files : List ShownFile)
+      → ((place : Path) → file_spot t path ≡ Ok place → AreSeenOf t keys path place more None files) → IsSeen keys t (Append path more) files
+  unfolding read_of
+  appended_is_seen path more possible files seen =
+      let change : Change = Append path more in
+      let s = spot_of t path (sym (possible-append t path more) ∙ possible) in
+      let q = s.0 in
+      let f = file_at t path q s.1 in
+      let had = file_content f.node.content f.file in
+      let node : Node = record f.node { content = longer f.node.content more } in
+      file_is_seen change q had.time (had.bytes ++ more) node
+      (ap (λ (u : Tree). node_at u q) (made-append t path more ∙ ap (with_longer t more) f.leads) ∙ node_at-put t q node)
+      (ap (λ (c : Content). longer c more) had.is)
+      (file_no_directory t q f.node f.at f.file)
+      (one_place (changed t change) q
+      (λ p apart. untouched t change p (ap (λ (told : Result Place following.Refusal). at_place told p) f.leads ∙ other_path p q apart))) files
+      (seen q s.1 (had.bytes, had.time) (ap file_of_place f.leads ∙ ap file_of had.is))
+
+  pub removed_is_seen : (q : Path) → (files : List ShownFile) → files ≡ [] → IsSeen keys t (Remove q) files
+  removed_is_seen q files is =
+      subst (IsSeen keys t (Remove q)) (sym is)
       (record {
-        reveals = put_reveals keys t plain p says.0 kind says.1 time bytes;
-        plain = put_plain keys t plain p says.0 kind says.1 time bytes;
+        reveals =
+            reveals_nothing keys t u plain Gone each ends (λ p gone node at. let both : None ≡ Some node = sym gone ∙ at in absurd (cc));
+        plain = plain_after keys t u plain Gone each ends;
       })
-  put_is_seen p time bytes Above says files is = absurd (cc)
-
-  removed_is_seen : (p : Path) (stand : Stand) → Says keys p stand → (files : List ShownFile) → removed_seen stand ≡ Some files → IsSeen keys t (Remove p) files
-  removed_is_seen p Off says files is = off_is_seen (Remove p) p (λ q apart. other_path q p apart) Off says files is
-  removed_is_seen p (Named kind) says files is =
-      let none : [] ≡ files = cc in
-      subst (IsSeen keys t (Remove p)) none
-      (record { reveals = gone_reveals keys t plain p says.0 kind says.1; plain = gone_plain keys t plain p says.0 kind says.1 })
-  removed_is_seen p Above says files is = absurd (cc)
-
-  renamed_off : (from to : Path) → IsOff keys from → IsOff keys to → TouchesOff keys t (Rename from to) plain
-  renamed_off from to from_off to_off folder among name kind watched q front =
-      or_from (starts_with same_name q from) (starts_with same_name q to)
-      (apart from (from_off folder among name kind watched)) (apart to (to_off folder among name kind watched))
     where
-      apart : (p : Path) → starts_with same_name (pack_directory folder ++ name ∷ []) p ≡ false → starts_with same_name q p ≡ false
-      apart p off = false_from_ne_true _ (λ goes. false≢true (sym off ∙ front_of_front (pack_directory folder ++ name ∷ []) q p front goes))
+      u : Tree
+      u = changed t (Remove q)
 
-  renamed_is_seen : (from to : Path) (one other : Stand) → Says keys from one → Says keys to other → (files : List ShownFile) → both_seen one other ≡ Some files
-      → IsSeen keys t (Rename from to) files
-  renamed_is_seen from to Off Off one other files is =
-      let none : [] ≡ files = cc in nothing_seen (Rename from to) (renamed_off from to one other) files none
-  renamed_is_seen from to Off (Named kind) one other files is = absurd (cc)
-  renamed_is_seen from to Off Above one other files is = absurd (cc)
-  renamed_is_seen from to (Named kind) stand one other files is = absurd (cc)
-  renamed_is_seen from to Above stand one other files is = absurd (cc)
+      Gone : Path → Type 0
+      Gone p = node_at u p ≡ None
 
-  appended_is_seen : (path : Path) (more : List ℕ) (told : Result Path writing.Refusal) → file_spot t path ≡ told → (files : List ShownFile)
-      → append_seen keys told ≡ Some files → IsSeen keys t (Append path more) files
-  appended_is_seen path more (Ok place) spot files is =
-      let f = file_at t path place spot in
-      off_is_seen (Append path more) place (λ q apart. ap (λ told. at_place told q) f.leads ∙ other_path q place apart)
-      (stand_of keys place) (stand_says keys place) files is
-  appended_is_seen path more (Err refusal) spot files is = absurd (cc)
+      each : (p : Path) → (node_at u p ≡ node_at t p) ⊎ Gone p
+      each p = elim (cases_path p q) [
+        | inl same ↦ inr (ap (node_at u) same ∙ ap (λ (v : Tree). node_at v q) (made-remove t q) ∙ node_at-taken t q)
+        | inr apart ↦ inl (untouched t (Remove q) p (other_path p q apart))
+      ]
 
-  -- what is seen of a change is what it reveals
-  pub what_is_seen : (change : Change) (files : List ShownFile) → seen_in t keys change ≡ Some files → IsSeen keys t change files
-  what_is_seen (PutFile p time bytes) files is = put_is_seen p time bytes (stand_of keys p) (stand_says keys p) files is
-  what_is_seen (MakeDir p dev) files is = off_is_seen (MakeDir p dev) p (λ q apart. other_path q p apart) (stand_of keys p) (stand_says keys p) files is
-  what_is_seen (PutLink p target) files is = off_is_seen (PutLink p target) p (λ q apart. other_path q p apart) (stand_of keys p) (stand_says keys p) files is
-  what_is_seen (Rename from to) files is = renamed_is_seen from to (stand_of keys from) (stand_of keys to) (stand_says keys from) (stand_says keys to) files is
-  what_is_seen (Append path more) files is = appended_is_seen path more (file_spot t path) refl files is
-  what_is_seen (Remove p) files is = removed_is_seen p (stand_of keys p) (stand_says keys p) files is
-  what_is_seen (SetTime p time) files is = off_is_seen (SetTime p time) p (λ q apart. other_path q p apart) (stand_of keys p) (stand_says keys p) files is
+      ends : (p : Path) → Gone p → IsEnd u p
+      ends p gone = record { no_link = ap is_link gone; empty = λ is. absurd (false≢true (sym (ap is_directory gone) ∙ is)) }
 
--- ---- what the code asks
+  -- ---- what is told of a tree of a disk
 
-module _ (keys : List Path) (t : Tree) (change : Change) (folders : Folders) (own : set.from_list keys ≡ folders) (plain : ArePlain t folders) where
-  own_is_seen : (files : List ShownFile) → Some files ≡ seen_in t keys change → IsSeen keys t change files
-  own_is_seen files is = what_is_seen keys t (subst (ArePlain t) (sym own) plain) change files (sym is)
+  module _ (is_tree : IsTree t) where
+    pub timed_is_seen : (q : Path) (time : ℕ) → is_possible_in t (SetTime q time) ≡ true → (files : List ShownFile) → AreSeenOf t keys q q [] (Some time) files
+        → IsSeen keys t (SetTime q time) files
+    timed_is_seen q time possible files seen =
+        let change : Change = SetTime q time in
+        let file = sym (possible-set_time t q time) ∙ possible in
+        let n = node_of (node_at t q) file in
+        let is_one : is_file_content n.0.content ≡ true = sym (ap is_file n.1) ∙ file in
+        let had = file_content n.0.content is_one in
+        let node : Node = record n.0 { content = timed time n.0.content } in
+        file_is_seen change q time had.bytes node
+        (ap (λ (u : Tree). node_at u q) (made-set_time t q time ∙ ap (with_time t q time) n.1) ∙ node_at-put t q node)
+        (ap (timed time) had.is)
+        (file_no_directory t q n.0 n.1 is_one)
+        (one_place (changed t change) q (λ p apart. untouched t change p (other_path p q apart))) files
+        (seen (had.bytes, had.time) (read_at t is_tree q n.0 n.1 (no_link_at n.0.content had.bytes had.time had.is) ∙ ap file_of had.is)
+        ∙ ap (files_seen t keys q time) (append-nil had.bytes))
 
-  pub answer_reveals : {V E : Type 0} (items : V → List ShownFile) (answer : Result (Option V) E) → IfOk answer (λ seen. option_map items seen ≡ seen_in t keys change)
-      → IfOk answer (λ seen. IfSome seen (λ files. Reveals folders t (changed t change) (items files)))
-  answer_reveals items (Ok (Some files)) is =
-      subst (λ (f : Folders). Reveals f t (changed t change) (items files)) own (own_is_seen (items files) is).reveals
-  answer_reveals items (Ok None) is = tt
-  answer_reveals items (Err error) is = tt
+    pub made_dir_is_seen : (q : Path) (dev : ℕ) → is_possible_in t (MakeDir q dev) ≡ true → (files : List ShownFile) → files ≡ [] → IsSeen keys t (MakeDir q dev) files
+    made_dir_is_seen q dev possible files is =
+        subst (IsSeen keys t (MakeDir q dev)) (sym is)
+        (record {
+          reveals = reveals_nothing keys t u plain IsIt each ends no_file;
+          plain = plain_after keys t u plain IsIt each ends;
+        })
+      where
+        u : Tree
+        u = changed t (MakeDir q dev)
 
-  pub answer_plain : {V E : Type 0} (items : V → List ShownFile) (answer : Result (Option V) E) → IfOk answer (λ seen. option_map items seen ≡ seen_in t keys change)
-      → IfOk answer (λ seen. IfSome seen (λ files. ArePlain (changed t change) folders))
-  answer_plain items (Ok (Some files)) is = subst (ArePlain (changed t change)) own (own_is_seen (items files) is).plain
-  answer_plain items (Ok None) is = tt
-  answer_plain items (Err error) is = tt
+        IsIt : Path → Type 0
+        IsIt p = p ≡ q
 
--- the change of an append is an append to the file that the path leads to
-abbrev place_or : Path → Result Change writing.Refusal → Path
-place_or other (Ok (Append place bytes)) = place
-place_or other (Ok change) = other
-place_or other (Err refusal) = other
+        made : (node : Node) → node_at u q ≡ Some node → node.content ≡ Dir
+        made node at =
+            let both = sym (ap (λ (v : Tree). node_at v q) (made-make_dir t q dev) ∙ node_at-put t q _) ∙ at in
+            ap (λ (o : Option Node). content_or Dir o) (sym both)
+          where
+            content_or : Content → Option Node → Content
+            content_or other None = other
+            content_or other (Some n) = n.content
 
-module _ (t : Tree) (path : Path) (bytes : List ℕ) where
-  abbrev append_of : Path → Result Change writing.Refusal
-  append_of place = Ok (Append place bytes)
+        each : (p : Path) → (node_at u p ≡ node_at t p) ⊎ IsIt p
+        each p = elim (cases_path p q) [
+          | inl same ↦ inr same
+          | inr apart ↦ inl (untouched t (MakeDir q dev) p (other_path p q apart))
+        ]
 
-  pub appended_spot : (place : Path) (its : List ℕ) → change_of_append t path bytes ≡ Ok (Append place its) → file_spot t path ≡ Ok place
-  unfolding change_of_append
-  appended_spot place its told = by (file_spot t path) told
+        link_by : (o : Option Node) → node_at u q ≡ o → is_link o ≡ false
+        link_by None at = refl
+        link_by (Some node) at = ap is_link_content (made node at)
+
+        below : (name : Name) → node_at u (q ++ name ∷ []) ≡ None
+        below name =
+            untouched t (MakeDir q dev) (q ++ name ∷ [])
+            (other_path (q ++ name ∷ []) q (λ same. false≢true (sym (shorter_front q name) ∙ ap (begins q) same ∙ begins-own q)))
+            ∙ none_below t is_tree q (can_make_dir t q dev possible).no_directory name []
+
+        ends : (p : Path) → IsIt p → IsEnd u p
+        ends p same = record {
+          no_link = ap (λ (r : Path). is_link (node_at u r)) same ∙ link_by (node_at u q) refl;
+          empty = λ _ name. ap (λ (r : Path). node_at u (r ++ name ∷ [])) same ∙ below name;
+        }
+
+        no_file : (p : Path) → IsIt p → (node : Node) → node_at u p ≡ Some node → is_file_content node.content ≡ false
+        no_file p same node at = ap is_file_content (made node (sym (ap (node_at u) same) ∙ at))
+
+    pub moved_is_seen : (from to : Path) → is_possible_in t (Rename from to) ≡ true → kind_found (looked t from false) ≡ Some kinds.File → (files : List ShownFile)
+        → AreSeenOf t keys from to [] None files → IsSeen keys t (Rename from to) files
+    unfolding looked
+    moved_is_seen from to possible look files seen =
+        file_is_seen (Rename from to) to had.time had.bytes node
+        (ap (λ (v : Tree). node_at v to) (made-rename t from to) ∙ moved_target t from to ∙ at) had.is m.free each files
+        (seen (had.bytes, had.time) (read_at t is_tree from node at (no_link_at node.content had.bytes had.time had.is) ∙ ap file_of had.is)
+        ∙ ap (files_seen t keys to had.time) (append-nil had.bytes))
+      where
+        m : CanMove t from to
+        m = can_rename t is_tree from to possible
+
+        node : Node
+        node = m.node
+
+        at : node_at t from ≡ Some node
+        at = m.at
+
+        found : followed t false from ≡ Ok (record { path = from; node = node })
+        found = followed_reached t false from most_links from node (pass_to_unfollowed t is_tree from node at false refl)
+
+        looked_file : kind_found (meta_of_place (followed t false from)) ≡ Some kinds.File → (meta_with node.dev node.ino node.content).kind ≡ kinds.File
+        looked_file told =
+            let both : Some (meta_with node.dev node.ino node.content).kind ≡ Some kinds.File =
+            sym (ap (λ (found : Result Place following.Refusal). kind_found (meta_of_place found)) found) ∙ told in
+            cc
+
+        had : HasFile node.content
+        had = looked_content node.dev node.ino node.content (looked_file look)
+
+        leaf : is_directory (node_at t from) ≡ false
+        leaf = ap is_directory at ∙ ap is_directory_content had.is
+
+        u : Tree
+        u = changed t (Rename from to)
+
+        u_is : (p : Path) → node_at u p ≡ node_at (with_moved t from to) p
+        u_is p = ap (λ (v : Tree). node_at v p) (made-rename t from to)
+
+        -- nothing stands below a file
+        under : (p base : Path) → begins p base ≡ true → p ≢ base → is_directory (node_at t base) ≡ false → node_at t p ≡ None
+        under p base goes apart other = let g = goes_on p base goes apart in ap (node_at t) g.2 ∙ none_below t is_tree base other g.0 g.1
+
+        under_to : (p : Path) → begins p to ≡ true → p ≢ to → node_at u p ≡ None
+        under_to p goes apart =
+            let g = goes_on p to goes apart in
+            u_is p ∙ ap (node_at (with_moved t from to)) g.2 ∙ moved_below t from to (g.0 ∷ g.1) ∙ none_below t is_tree from leaf g.0 g.1
+
+        other_by : (p : Path) → p ≢ to → p ≢ from → (b c : Bool) → begins p to ≡ b → begins p from ≡ c → node_at u p ≡ node_at t p
+        other_by p off_to off_from true c to_is from_is = under_to p to_is off_to ∙ sym (under p to to_is off_to m.free)
+        other_by p off_to off_from false true to_is from_is = u_is p ∙ moved_away t from to p to_is from_is ∙ sym (under p from from_is off_from leaf)
+        other_by p off_to off_from false false to_is from_is = u_is p ∙ moved_other t from to p to_is from_is
+
+        source : (p : Path) → p ≢ to → p ≡ from → IsGone t u p
+        source p off_to same = record {
+          gone = ap (node_at u) same ∙ rename_source t is_tree from to possible (λ both. off_to (same ∙ both));
+          no_link = ap (λ (r : Path). is_link (node_at t r)) same ∙ ap is_link at ∙ ap is_link_content had.is;
+          no_directory = ap (λ (r : Path). is_directory (node_at t r)) same ∙ leaf;
+        }
+
+        each : (p : Path) → (node_at u p ≡ node_at t p) ⊎ ((p ≡ to) ⊎ IsGone t u p)
+        each p = elim (cases_path p to) [
+          | inl same ↦ inr (inl same)
+          | inr off_to ↦
+              elim (cases_path p from) [
+                | inl same ↦ inr (inr (source p off_to same))
+                | inr off_from ↦ inl (other_by p off_to off_from (begins p to) (begins p from) refl refl)
+              ]
+        ]
+
+-- ---- what the code answers
+
+module _ (keys : List Path) (t : Tree) (is_tree : IsTree t) (plain : ArePlain t (set.from_list keys)) {V E : Type 0} (items : V → List ShownFile) (answer : Result (Option V) E) where
+  pub moved_answer : (from to : Path) → is_possible_in t (Rename from to) ≡ true → IfOk answer (λ seen. IfSome seen (λ files. kind_found (looked t from false) ≡ Some kinds.File))
+      → IfOk answer (λ seen. IfSome seen (λ files. AreSeenOf t keys from to [] None (items files))) → IfOk answer (λ seen. IfSome seen (λ files. IsSeen keys t (Rename from to) (items files)))
+  moved_answer from to possible look seen = by answer look seen
     where
-      by : (spot : Result Path writing.Refusal) → and_then append_of spot ≡ Ok (Append place its) → spot ≡ Ok place
-      by (Ok found) is = ap (λ (r : Result Change writing.Refusal). Ok (place_or found r)) is
-      by (Err refusal) is =
-          let both : ◌≡◌ {A = Result Change writing.Refusal} (Err refusal) (Ok (Append place its)) = is in absurd (cc)
+      by : (a : Result (Option V) E) → IfOk a (λ seen. IfSome seen (λ files. kind_found (looked t from false) ≡ Some kinds.File))
+          → IfOk a (λ seen. IfSome seen (λ files. AreSeenOf t keys from to [] None (items files))) → IfOk a (λ seen. IfSome seen (λ files. IsSeen keys t (Rename from to) (items files)))
+      by (Ok (Some files)) look seen = moved_is_seen keys t plain is_tree from to possible look (items files) seen
+      by (Ok None) look seen = tt
+      by (Err error) look seen = tt
 
-  pub refused_spot : (refusal : writing.Refusal) → change_of_append t path bytes ≡ Err refusal → file_spot t path ≡ Err refusal
-  unfolding change_of_append
-  refused_spot refusal told = by (file_spot t path) told
+  pub appended_answer : (path : Path) (more : List ℕ) → is_possible_in t (Append path more) ≡ true
+      → IfOk answer (λ seen. IfSome seen (λ files. (place : Path) → file_spot t path ≡ Ok place → AreSeenOf t keys path place more None (items files)))
+      → IfOk answer (λ seen. IfSome seen (λ files. IsSeen keys t (Append path more) (items files)))
+  appended_answer path more possible seen = by answer seen
     where
-      by : (spot : Result Path writing.Refusal) → and_then append_of spot ≡ Err refusal → spot ≡ Err refusal
-      by (Ok found) is = let both : ◌≡◌ {A = Result Change writing.Refusal} (append_of found) (Err refusal) = is in absurd (cc)
-      by (Err other) is =
-          let both : ◌≡◌ {A = Result Change writing.Refusal} (Err other) (Err refusal) = is in
-          let same : other ≡ refusal = cc in ap (λ (r : writing.Refusal). Err r) same
+      by : (a : Result (Option V) E) → IfOk a (λ seen. IfSome seen (λ files. (place : Path) → file_spot t path ≡ Ok place → AreSeenOf t keys path place more None (items files)))
+          → IfOk a (λ seen. IfSome seen (λ files. IsSeen keys t (Append path more) (items files)))
+      by (Ok (Some files)) seen = appended_is_seen keys t plain path more possible (items files) seen
+      by (Ok None) seen = tt
+      by (Err error) seen = tt
 
--- a directory of this name in this folder holds packs as the folder is one of these
-module _ (folders : Folders) (last : Option Name) (above : Option Path) (name : Name) (folder : Path) (named : Some name ≡ last) (lies : Some folder ≡ above) where
-  pub holds_as : (same : Bool) → same_name name (codes "pack") ≡ same → (same && set.contains folders folder) ≡ holds_packs folders last above
-  holds_as same is =
-      ap (λ (b : Bool). b && set.contains folders folder) (sym is) ∙ ap (λ (a : Option Path). holds_packs folders (Some name) a) lies
-      ∙ ap (λ (l : Option Name). holds_packs folders l above) named
+  pub timed_answer : (q : Path) (time : ℕ) (nothing : List ℕ) → nothing ≡ [] → is_possible_in t (SetTime q time) ≡ true
+      → IfOk answer (λ seen. IfSome seen (λ files. AreSeenOf t keys q q nothing (Some time) (items files))) → IfOk answer (λ seen. IfSome seen (λ files. IsSeen keys t (SetTime q time) (items files)))
+  timed_answer q time nothing none possible seen = by answer seen
+    where
+      by : (a : Result (Option V) E) → IfOk a (λ seen. IfSome seen (λ files. AreSeenOf t keys q q nothing (Some time) (items files)))
+          → IfOk a (λ seen. IfSome seen (λ files. IsSeen keys t (SetTime q time) (items files)))
+      by (Ok (Some files)) seen =
+          timed_is_seen keys t plain is_tree q time possible (items files) (subst (λ (more : List ℕ). AreSeenOf t keys q q more (Some time) (items files)) none seen)
+      by (Ok None) seen = tt
+      by (Err error) seen = tt

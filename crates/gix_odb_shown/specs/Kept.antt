@@ -1,4 +1,4 @@
--- What is kept: the watched folders, what their paths have shown, and whether no link is on their way.
+-- What is kept: the watched folders, what their paths have shown, and whether the folders are plain.
 use Rattle.std.specs.Prelude.{◌≡◌, ◌≢◌, ◌⊎◌, ◌++◌, ℕ, Bool, true, List, [], ◌∷◌, Some, IsSome, refl}
 use Rattle.std.specs.Coded.{Coded, code_by, coded×, coded_ℕ, coded_bool, coded_list}
 use Rattle.std.specs.FinMap as finite
@@ -6,7 +6,7 @@ use Rattle.std.specs.FinSet as set
 use Rattle.std.specs.Ordering.{nat_cmp, ordering_then}
 use Rattle.std.specs.declared.cmp.Ordering.{Ordering}
 use Rattle.odb_base.specs.Path.{Name, Path, path_cmp}
-use Rattle.odb_nodes.specs.Tree.{Tree}
+use Rattle.odb_nodes.specs.Tree.{IsTree, Tree}
 use Rattle.gix_odb_shown.specs.Watched.{Shows, pack_directory}
 use Rattle.gix_odb_shown.specs.Plain.{ArePlain}
 
@@ -73,8 +73,9 @@ pub record LiesInOne (folders : Folders) (path : Path) : Type 0 where
   pub path_is : path ≡ pack_directory folder ++ name ∷ []
 
 -- What is kept fits a tree: all that the tree shows in the watched folders is kept, nothing else than what such paths showed is, and
--- the folders are plain that are known to be.
+-- the folders are plain that are known to be. The tree is that of a disk, so that nothing stands where nothing stands above it.
 pub record Fits (kept : Kept) (tree : Tree) : Type 0 where
+  pub is_tree : IsTree tree
   pub whole : (path : Path) (time : ℕ) (bytes : List ℕ) → ShowsInOne kept.folders tree path time bytes → finite.get kept.contents (path, time) ≡ Some bytes
   pub only : (path : Path) (time : ℕ) (bytes : List ℕ) → finite.get kept.contents (path, time) ≡ Some bytes → LiesInOne kept.folders path
   pub plain : kept.plain ≡ true → ArePlain tree kept.folders

@@ -1,87 +1,108 @@
--- What a change makes the watched paths of plain folders show, by its own paths. No public clause cites this.
-use Rattle.std.specs.Prelude.{◌&&◌, ℕ, Bool, true, false, List, [], ◌∷◌, codes, Option, Some, None, Result, Ok, Err, if◌then◌else◌}
-use Rattle.std.specs.List.{list_any, starts_with}
+-- What a change makes the watched paths of plain folders show. No public clause cites this.
+use Rattle.std.specs.Prelude.{◌≡◌, ◌≢◌, ◌++◌, ◌&&◌, ℕ, Bool, true, false, List, [], ◌∷◌, map, Option, Some, None, Result, Ok, Err, unwrap_or, if◌then◌else◌}
+use lib.Pointwise.{pointwise}
+use Rattle.std.specs.Result.{result_ok}
+use Rattle.std.specs.Option.{option_or}
+use Rattle.std.specs.List.{flat_map, list_all}
 use Rattle.std.specs.FinSet as set
-use Rattle.odb_base.specs.Path.{Name, Path, last_name, parent_of, same_name}
+use Rattle.odb_base.specs.Path.{Name, Path, last_name, same_name}
 use Rattle.odb_nodes.specs.Tree.{Tree}
-use Rattle.odb_nodes.specs.Tree.Write as writing
-use Rattle.odb_nodes.specs.Tree.Write.{file_spot}
+use Rattle.odb_nodes.specs.Tree.Change.{changed}
+use Rattle.odb_nodes.specs.Tree.Follow.{Refusal, looked, read_of}
+use Rattle.odb_nodes.specs.Tree.Write.{file_spot, vacant}
 use Rattle.odb_nodes.specs.declared.change.Change.{Change}
-use Rattle.odb_nodes.specs.declared.change.Change.TheVariants.{PutFile, MakeDir, PutLink, Rename, Append, Remove, SetTime}
 use Rattle.odb_nodes.specs.declared.entry.Entry.{Entry}
+use Rattle.odb_nodes.specs.declared.meta.Meta.{Meta}
 use Rattle.odb_nodes.specs.declared.meta.Kind.{Kind}
 use Rattle.odb_nodes.specs.declared.meta.Kind.TheVariants as kinds
 use Rattle.gix_odb_shown.specs.Watched.{counted, pack_directory, watched_kind}
-use Rattle.gix_odb_shown.specs.Kept.{Folders}
-use Rattle.gix_odb_shown.specs.declared.seen.Stand.{Stand}
-use Rattle.gix_odb_shown.specs.declared.seen.Stand.TheVariants.{Off, Named, Above}
+use Rattle.gix_odb_shown.specs.Plain.{ArePlain}
+use Rattle.gix_odb_shown.specs.Files.{Reveals}
 use Rattle.gix_odb_shown.specs.declared.shown_file.ShownFile.{ShownFile}
 use Rattle.gix_odb_shown.specs.declared.watched.WatchedKind.{WatchedKind}
 
--- ---- where a path stands
+-- The files are what a change makes watched paths show, but for what they show already, and the folders are plain afterwards.
+pub record IsSeen (keys : List Path) (tree : Tree) (change : Change) (files : List ShownFile) : Type 0 where
+  pub reveals : Reveals (set.from_list keys) tree (changed tree change) files
+  pub plain : ArePlain (changed tree change) (set.from_list keys)
 
--- a path is a front of the pack directory of one of these folders
-abbrev pub is_above : List Path → Path → Bool
-is_above folders path = list_any (λ folder. starts_with same_name (pack_directory folder) path) folders
+-- ---- the watched paths that lead to a place
 
--- a directory of this name in this folder is the pack directory of one of these
-abbrev pub holds_packs : Folders → (last : Option Name) → (folder : Option Path) → Bool
-holds_packs folders (Some name) (Some folder) = same_name name (codes "pack") && set.contains folders folder
-holds_packs folders last folder = false
+-- where a path leads to nothing, the place that it leads to; where it leads to a file, the place of that
+abbrev pub place_of : Tree → Path → Option Path
+place_of tree path = option_or (result_ok (vacant tree path)) (result_ok (file_spot tree path))
 
-abbrev pub kind_of_name : Option Name → Option WatchedKind
-kind_of_name None = None
-kind_of_name (Some name) = watched_kind name
+abbrev pub is_place : Path → Option Path → Bool
+is_place place None = false
+is_place place (Some found) = pointwise same_name found place
 
-abbrev pub kind_in : Folders → (directory : Option Path) → Option WatchedKind → Option WatchedKind
-kind_in folders None kind = None
-kind_in folders (Some directory) kind = if holds_packs folders (last_name directory) (parent_of directory) then kind else None
+abbrev pub path_if : Bool → Path → List Path
+path_if leads path = if leads then path ∷ [] else []
 
--- the kind of a path that is watched in one of the folders
-abbrev pub watched_at : Folders → Path → Option WatchedKind
-watched_at folders path = kind_in folders (parent_of path) (kind_of_name (last_name path))
+-- the path behind the pack directory of a folder, if it leads to a place
+abbrev pub path_through : Tree → Path → (last : Path) → (folder : Path) → List Path
+path_through tree place last folder = path_if (is_place place (place_of tree (pack_directory folder ++ last))) (pack_directory folder ++ last)
 
-abbrev pub stand_by : (above : Bool) → Option WatchedKind → Stand
-stand_by true kind = Above
-stand_by false (Some kind) = Named kind
-stand_by false None = Off
+abbrev pub paths_to : Tree → List Path → Path → (last : Path) → List Path
+paths_to tree keys place last = flat_map (path_through tree place last) keys
 
-abbrev pub stand_of : List Path → Path → Stand
-stand_of folders path = stand_by (is_above folders path) (watched_at (set.from_list folders) path)
+-- what a path shows that leads to a file
+abbrev pub shown_at : WatchedKind → (time : ℕ) → List ℕ → Path → ShownFile
+shown_at kind time bytes path = record { key = (path, counted kind time); bytes = bytes }
 
--- ---- what is seen of a change
+abbrev pub files_of_kind : Tree → List Path → Path → Name → Option WatchedKind → (time : ℕ) → List ℕ → List ShownFile
+files_of_kind tree keys place name None time bytes = []
+files_of_kind tree keys place name (Some kind) time bytes = map (shown_at kind time bytes) (paths_to tree keys place (name ∷ []))
 
-abbrev pub put_seen : Path → (time : ℕ) → (bytes : List ℕ) → Stand → Option (List ShownFile)
-put_seen path time bytes Off = Some []
-put_seen path time bytes (Named kind) = Some (record { key = (path, counted kind time); bytes = bytes } ∷ [])
-put_seen path time bytes Above = None
+abbrev pub files_named : Tree → List Path → Path → Option Name → (time : ℕ) → List ℕ → List ShownFile
+files_named tree keys place None time bytes = []
+files_named tree keys place (Some name) time bytes = files_of_kind tree keys place name (watched_kind name) time bytes
 
-abbrev pub removed_seen : Stand → Option (List ShownFile)
-removed_seen Off = Some []
-removed_seen (Named kind) = Some []
-removed_seen Above = None
+-- what the watched paths of these folders show that lead to a place, where a file with these bytes and this time stands there
+abbrev pub files_seen : Tree → List Path → Path → (time : ℕ) → List ℕ → List ShownFile
+files_seen tree keys place time bytes = files_named tree keys place (last_name place) time bytes
 
-abbrev pub off_seen : Stand → Option (List ShownFile)
-off_seen Off = Some []
-off_seen stand = None
+abbrev pub is_some_kind : Option WatchedKind → Bool
+is_some_kind None = false
+is_some_kind (Some kind) = true
 
-abbrev pub both_seen : Stand → Stand → Option (List ShownFile)
-both_seen Off other = off_seen other
-both_seen stand other = None
+abbrev pub is_watched_name : Option Name → Bool
+is_watched_name None = false
+is_watched_name (Some name) = is_some_kind (watched_kind name)
 
-abbrev pub append_seen : List Path → Result Path writing.Refusal → Option (List ShownFile)
-append_seen folders (Ok place) = off_seen (stand_of folders place)
-append_seen folders (Err refusal) = None
+-- The files are those that are seen where a file like that which a path is read as comes to stand at a place, with more bytes behind
+-- its own, and another time if one is given.
+abbrev pub AreSeenOf : Tree → List Path → (source place : Path) → (more : List ℕ) → Option ℕ → List ShownFile → Type 0
+AreSeenOf tree keys source place more time files =
+    (file : List ℕ × ℕ) → read_of tree source ≡ Ok file → files ≡ files_seen tree keys place (unwrap_or time file.1) (file.0 ++ more)
 
--- the files that watched paths show after a change, but for those that they show already; none where the tree has to be looked at
-abbrev pub seen_in : Tree → List Path → Change → Option (List ShownFile)
-seen_in tree folders (PutFile path time bytes) = put_seen path time bytes (stand_of folders path)
-seen_in tree folders (MakeDir path dev) = off_seen (stand_of folders path)
-seen_in tree folders (PutLink path target) = off_seen (stand_of folders path)
-seen_in tree folders (Rename from to) = both_seen (stand_of folders from) (stand_of folders to)
-seen_in tree folders (Append path bytes) = append_seen folders (file_spot tree path)
-seen_in tree folders (Remove path) = removed_seen (stand_of folders path)
-seen_in tree folders (SetTime path time) = off_seen (stand_of folders path)
+-- ---- what is looked at
+
+-- the kind of what a look finds
+abbrev pub kind_found : Result Meta Refusal → Option Kind
+kind_found (Ok meta) = Some meta.kind
+kind_found (Err refusal) = None
+
+abbrev pub is_directory_found : Option Kind → Bool
+is_directory_found None = false
+is_directory_found (Some kinds.File) = false
+is_directory_found (Some kinds.Dir) = true
+is_directory_found (Some kinds.Link) = false
+
+-- whether the pack path of a folder leads to a directory
+abbrev pub has_packs : Tree → Path → Bool
+has_packs tree folder = is_directory_found (kind_found (looked tree (pack_directory folder) true))
+
+-- and that of each of these
+abbrev pub have_packs : Tree → List Path → Bool
+have_packs tree keys = list_all (has_packs tree) keys
+
+-- A link that is put at a path is followed by no watched one of these folders: it has no watched name, takes the place of no other
+-- link, and each folder has a pack directory.
+pub record IsLinkAside (tree : Tree) (keys : List Path) (path : Path) : Type 0 where
+  pub unwatched : is_watched_name (last_name path) ≡ false
+  pub packs : have_packs tree keys ≡ true
+  pub no_link : kind_found (looked tree path false) ≢ Some kinds.Link
 
 -- ---- whether a folder is plain
 
@@ -89,10 +110,6 @@ abbrev pub is_link_kind : Kind → Bool
 is_link_kind kinds.File = false
 is_link_kind kinds.Dir = false
 is_link_kind kinds.Link = true
-
-abbrev pub is_some_kind : Option WatchedKind → Bool
-is_some_kind None = false
-is_some_kind (Some kind) = true
 
 -- an entry is a link with a watched name
 abbrev pub is_watched_link : Entry → Bool

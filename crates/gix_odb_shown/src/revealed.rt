@@ -5,6 +5,6 @@ use crate::shown_file::ShownFile;
 #[derive(Drop)]
 pub struct Revealed {
     pub(crate) files: Vec<ShownFile>,
-    /// No link is on the way of a watched path after the change.
+    /// No watched name in the pack directories is a link after the change.
     pub(crate) plain: bool,
 }

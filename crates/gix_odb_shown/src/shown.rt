@@ -1,7 +1,7 @@
 //! What the watched paths of folders have shown.
 ghost use Rattle.std.specs.Prelude.{◌≡◌, ◌↔◌, IsTrue, true, false, IfOk, IfSome, OnOk};
 ghost use Rattle.std.specs.FinSet as set;
-ghost use Rattle.odb_nodes.specs.Tree.{Tree as TreeValue};
+ghost use Rattle.odb_nodes.specs.Tree.{IsTree, Tree as TreeValue};
 ghost use Rattle.odb_nodes.specs.Tree.Change.{changed, is_possible_in};
 ghost use Rattle.gix_odb_shown.specs.Files.{Reveals};
 ghost use Rattle.gix_odb_shown.specs.Kept.{Fits, IsSecond, Notes, nothing_kept};
@@ -25,7 +25,8 @@ use std::marker::Model;
 pub struct Shown {
     folders: BTreeSet<PathText>,
     contents: Contents,
-    /// No link is on the way of a watched path. Where this isn't known, it is false.
+    /// No watched name in the directories that the folders' pack paths lead to is a link. Where this isn't known, it is
+    /// false.
     plain: bool,
 }
 
@@ -123,7 +124,7 @@ impl Shown {
         self.contents.keep_all(files)
     }
 
-    /// What a change makes watched paths show, where no link is on their way and the change tells it.
+    /// What a change makes watched paths show, where the folders are plain and the change tells it.
     fn seen(
         &self,
         alloc: Global,
@@ -134,6 +135,7 @@ impl Shown {
         requires possible { is_possible_in tree.now change.now ≡ true }
         ensures reveals { IfOk result (λ seen. IfSome seen (λ files. Reveals self.now.folders tree.now (changed tree.now change.now) files.items)) }
         ensures plain { IfOk result (λ seen. IfSome seen (λ files. ArePlain (changed tree.now change.now) self.now.folders)) }
+        ensures is_tree { IsTree (changed tree.now change.now) }
     {
         if self.plain {
             seen_in(alloc, tree, &self.folders, change)

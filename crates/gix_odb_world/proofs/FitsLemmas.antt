@@ -68,10 +68,15 @@ module _ (world : Course) (explained : IsExplained world) where
 
   pub fits_now : Fits world.shown (tree_of world.disk.state)
   fits_now = record {
+    is_tree = record {
+      root = ∥∥₁_elim explained (Coded-set coded_bool _ _) (λ h. (fits_by h).is_tree.root);
+      ways = λ directory name node at. ∥∥₁_elim explained (Coded-set coded_bool _ _) (λ h. (fits_by h).is_tree.ways directory name node at);
+      apart = λ path other node twin at there same.
+          ∥∥₁_elim explained (Coded-set (coded_list (coded_list coded_ℕ)) _ _) (λ h. (fits_by h).is_tree.apart path other node twin at there same);
+    };
     whole = λ path time bytes shows. ∥∥₁_elim explained (Coded-set (coded_option (coded_list coded_ℕ)) _ _) (λ h. (fits_by h).whole path time bytes shows);
     only = λ path time bytes kept. lies world.shown.folders path (λ h. (fits_by h).only path time bytes kept);
     plain = λ yes folder among. record {
-      directories = λ front rest is. ∥∥₁_elim explained (Coded-set coded_bool _ _) (λ h. ((fits_by h).plain yes folder among).directories front rest is);
-      files = λ name kind is. ∥∥₁_elim explained (Coded-set coded_bool _ _) (λ h. ((fits_by h).plain yes folder among).files name kind is);
+      files = λ name kind is place at. ∥∥₁_elim explained (Coded-set coded_bool _ _) (λ h. ((fits_by h).plain yes folder among).files name kind is place at);
     };
   }

@@ -8,7 +8,7 @@ use Rattle.std.proofs.lemmas.List.{length_push, take_more}
 use Rattle.std.proofs.lemmas.List.Sums.{fold_push}
 use Rattle.odb_base.specs.Path.{Path, path_cmp}
 use Rattle.odb_asks.specs.MemDisk.{Volume}
-use Rattle.odb_nodes.specs.Tree.{Tree, tree_of}
+use Rattle.odb_nodes.specs.Tree.{IsTree, Tree, tree_of}
 use Rattle.odb_nodes.specs.Tree.Change.{changed}
 use Rattle.odb_nodes.specs.Tree.Write.{written}
 use Rattle.odb_nodes.specs.declared.change.Change.{Change}
@@ -107,9 +107,9 @@ watched_misused number step why since = refl
 
 -- ---- nothing has happened
 
-pub keeps_none : (first : Volume) → Keeps (tree_at first []) (watched_after []) 0 nothing_kept
-unfolding watched_from
-keeps_none first = keeps_nothing (tree_at first []) 0
+pub keeps_none : (first : Volume) → IsTree (tree_of first.state) → Keeps (tree_at first []) (watched_after []) 0 nothing_kept
+unfolding watched_from disk_after
+keeps_none first is_tree = keeps_nothing (tree_at first []) 0 is_tree
 
 -- ---- one event more
 

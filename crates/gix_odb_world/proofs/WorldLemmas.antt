@@ -37,7 +37,7 @@ explains_none world is_tree handles cores shown outcomes records =
       handles = λ handle. rw handles tt;
       running = λ handle. tt;
       lawful = IsLawful-none world.disk;
-      watched = subst (Keeps (tree_at world.disk []) (watched_after []) 0) (sym shown) (keeps_none world.disk);
+      watched = subst (Keeps (tree_at world.disk []) (watched_after []) 0) (sym shown) (keeps_none world.disk is_tree);
       start = is_tree;
       throughout = λ now handle within. throughout_none world.disk now handle;
     }

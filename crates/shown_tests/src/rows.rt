@@ -48,6 +48,28 @@ const LATER: &str = "\
     watch /o, put /o/pack/a.idx 1 x, watch /o, put /o/pack/a.idx 1 y|watched made watched second ;\
     make /p, make /q, make /q/pack, put /q/pack/a.idx 1 x, watch /p, move /q/pack /p/pack, put /p/pack/a.idx 1 y|made made made made watched made second ";
 
+/// A folder `/s` with no pack directory, or with a link at its place.
+const NO_DIRECTORY: &str = "\
+    make /s, watch /s, put /s/a 1 x, make /s/pack, put /s/pack/a.idx 1 x, put /s/pack/a.idx 1 y|made watched made made made second ;\
+    make /s, watch /s, make /s/pack, take /s/pack, make /s/pack, put /s/pack/a.idx 1 x, put /s/pack/a.idx 1 y|made watched made made made made second ;\
+    link /s /w, watch /s, make /w, make /w/pack, put /w/pack/a.idx 1 x, put /w/pack/a.idx 1 y|made watched made made made second ;\
+    make /q, make /s, link /s/pack /q, watch /s, put /q/a.idx 1 x, put /q/a.idx 1 y|made made made watched made second ;\
+    make /q, make /s, link /s/pack /q, watch /s, put /q/a.idx 1 x, take /q/a.idx, put /t 1 y, move /t /q/a.idx|made made made watched made made made second ;\
+    make /q, make /s, link /s/pack /q, watch /s, put /q/a.idx 1 x, put /s/pack 1 z, link /s/pack /q, put /q/a.idx 1 y|made made made watched made made made second ;\
+    make /q, put /q/a.idx 1 x, make /r, put /r/a.idx 1 y, make /s, link /s/pack /q, watch /s, take /s/pack, link /s/pack /r|made made made made made made watched made second ;\
+    make /u, link /u/pack /o/pack, watch /u, put /o/pack/a.idx 1 x, make /q, link /u/pack /q, put /q/a.idx 1 y|made made watched made made made second ";
+
+/// Files that are moved, grow or get another time in the pack directory.
+const CHANGED: &str = "\
+    put /o/pack/a.tmp 1 x, move /o/pack/a.tmp /o/pack/a.idx, put /o/pack/a.idx 1 y|made made second ;\
+    put /o/pack/a.idx 1 x, move /o/pack/a.idx /o/pack/b.idx, put /o/pack/b.idx 1 y|made made second ;\
+    put /o/pack/a.idx 1 x, move /o/pack/a.idx /o/pack/b.idx, put /o/pack/a.idx 1 y|made made second ;\
+    put /o/pack/a.idx 1 x, move /o/pack/a.idx /o/pack/a.idx|made made ;\
+    put /o/pack/a.idx 1 x, link /l /o/pack/a.idx, more /l y|made made second ;\
+    put /o/pack/multi-pack-index 1 x, more /o/pack/multi-pack-index y|made second ;\
+    put /o/pack/multi-pack-index 1 x, put /t 2 y, move /t /o/pack/multi-pack-index, time /o/pack/multi-pack-index 1|made made made second ;\
+    put /o/pack/multi-pack-index 1 x, time /o/pack/multi-pack-index 2, put /o/pack/multi-pack-index 2 y|made made second ";
+
 fn check(rt: &HostRuntime, rows: &str) -> Result<(), Fail> {
     let alloc = rt.alloc();
     for row in rows.split(';') {
@@ -63,7 +85,7 @@ fn check(rt: &HostRuntime, rows: &str) -> Result<(), Fail> {
 // Catches a second content that is let through or made up: by a time, a removal, a move, a link, or before a folder is watched.
 #[test]
 fn second_contents(rt: HostRuntime) -> Result<(), Fail> {
-    for rows in [FOLDER, MULTI_INDEX, LINKS, LATER] {
+    for rows in [FOLDER, MULTI_INDEX, LINKS, LATER, NO_DIRECTORY, CHANGED] {
         check(&rt, rows)?;
     }
     Ok(())

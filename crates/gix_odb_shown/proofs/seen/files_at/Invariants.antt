@@ -1,0 +1,7 @@
+use Rattle.std.proofs.Common.{◌≡◌, map}
+use Rattle.gix_odb_shown.specs.Seen.{shown_at}
+use Rattle.gix_odb_shown.proofs.seen.files_at.Given as goal
+
+-- the files so far are those of the paths so far
+abbrev pub invariant-loop-path : goal.invariant-loop-path
+invariant-loop-path l = l.files.items ≡ map (shown_at l.kind l.time l.bytes) l.yielded
