@@ -21,9 +21,9 @@ def contents(numbers):
     return ",".join("blob:" + blob(number)[0].hex() for number in numbers)
 
 
-def put(stem, numbers, time, front=""):
+def put(stem, numbers, time, front="", directory="/o/pack"):
     """The lines that put a pack of these objects, and then its index."""
-    return ["%sput /o/pack/%s.%s %d @%s:%s" % (front, stem, end, time, kind, contents(numbers)) for end, kind in (("pack", "pack"), ("idx", "idx"))]
+    return ["%sput %s/%s.%s %d @%s:%s" % (front, directory, stem, end, time, kind, contents(numbers)) for end, kind in (("pack", "pack"), ("idx", "idx"))]
 
 
 def found(number):
@@ -32,13 +32,13 @@ def found(number):
     return ["find 0 " + name, "finish 0"], ["applied", "found blob %d %s" % (len(data), data.hex())]
 
 
-def joined(setup, opened, parts):
+def joined(setup, opened, parts, directory=("mkdir /o/pack",)):
     """A script with its output, of the lines of its setup and of parts that each have their output."""
     steps, output = ["steps", "open 0 /o slots=%d" % opened, "finish 0"], ["applied", "opened %d" % opened]
     for lines, printed in parts:
         steps += lines
         output += printed
-    return "\n".join(["mkdir /o", "mkdir /o/pack", *setup, *steps]) + "\n", "\n".join(output) + "\n"
+    return "\n".join(["mkdir /o", *directory, *setup, *steps]) + "\n", "\n".join(output) + "\n"
 
 
 def one_pack(count):
@@ -68,11 +68,28 @@ def replaced(count):
     return joined(put("pack-0", [0], 0), 4, parts)
 
 
+def behind_link(count):
+    """So many files that other programs put and move in a directory to which the pack path of an open store leads by a link, and then one find."""
+    changes = [(["do put /q/tmp-%d 1 68" % it, "do rename /q/tmp-%d /q/note-%d" % (it, it)], ["applied"] * 2) for it in range(count)]
+    return joined(["mkdir /q", "link /o/pack /q", *put("pack-a", range(10), 1, directory="/q")], 4, [*changes, found(7)], [])
+
+
+def unlisted(count):
+    """So many small objects that are written into a store with no pack directory."""
+    parts = []
+    for it in range(count):
+        data, name = blob(it)
+        parts.append((["write 0 blob " + data.hex(), "finish 0"], ["applied", "wrote " + name]))
+    return joined([], 4, parts, [])
+
+
 CASES = {
     "objects in one pack": (one_pack, (1000, 4000, 16000)),
     "packs": (many_packs, (20, 80, 320)),
     "handles": (handles, (2000, 8000, 32000)),
     "replacements": (replaced, (200, 800)),
+    "changes behind a link": (behind_link, (2000, 8000, 32000)),
+    "writes without packs": (unlisted, (2000, 8000)),
 }
 
 
