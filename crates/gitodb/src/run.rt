@@ -113,7 +113,7 @@ fn world<S: Source, K: Sink>(alloc: Global, source: &mut S, sink: &mut K) -> Sta
         Err(ReadError::Failed) => return Status::ReadFault,
         Err(ReadError::NoMemory) => return Status::NoMemory,
     };
-    match answer_script(alloc, &script) {
+    match answer_script(alloc, script) {
         Ok((output, status)) => answer(sink, &output, status),
         Err(NoMemory) => Status::NoMemory,
     }

@@ -3,6 +3,8 @@ ghost use Rattle.std.specs.Prelude.{◌≡◌, ◌++◌, ℕ, List, IfOk, OnOk};
 ghost use Rattle.std.specs.Option.{option_copied};
 ghost use Rattle.gix_odb_world.specs.Play.{IsPlayed};
 ghost use Rattle.odb_print.specs.Print.{printed_at, line_of};
+ghost use Rattle.odb_script.specs.Script.{reading_of};
+ghost use Rattle.script_reasons.specs.Told.{told_by};
 ghost use Rattle.gitodb.specs.Session.{Answers, AnswersWith, Says, ending_text, status_by};
 
 use crate::status::Status;
@@ -12,19 +14,28 @@ use odb_base::{ByteList, NoMemory, Sequence};
 use odb_disk::MemDisk;
 use odb_print::print_outcome;
 use odb_program::{labelled, text};
-use odb_script::{Ending, read};
+use odb_script::{Ending, Reading, read};
 use script_reasons::told_of;
 use std::alloc::Global;
 
-/// What is written for a script, and the status.
-pub fn answer_script(alloc: Global, script: &[u8]) -> Result<(Vec<u8>, Status), NoMemory>
-    ensures answered { IfOk result (λ answer. AnswersWith script.now answer.0.items answer.1) }
+/// What is written for a script, and the status. The script itself isn't kept while its lines are played.
+pub fn answer_script(alloc: Global, script: Vec<u8>) -> Result<(Vec<u8>, Status), NoMemory>
+    ensures answered { IfOk result (λ answer. AnswersWith script.items answer.0.items answer.1) }
 {
-    let reading = read(alloc, script)?;
-    let told = told_of(alloc, script, &reading)?;
+    let (reading, told) = understood(alloc, script)?;
     let (disk, lines, ending) = reading.into_parts(alloc)?;
     let out = answer_lines(alloc, disk, lines, ending)?;
     Ok((out, status_by(ending, told)))
+}
+
+/// What a script says, and what is told of it.
+fn understood(alloc: Global, script: Vec<u8>) -> Result<(Reading, Vec<u8>), NoMemory>
+    ensures reading { IfOk result (λ understood. understood.0 ≡ reading_of script.items) }
+    ensures told { IfOk result (λ understood. understood.1.items ≡ told_by understood.0.script script.items understood.0.ending) }
+{
+    let reading = read(alloc, &script)?;
+    let told = told_of(alloc, &script, &reading)?;
+    Ok((reading, told))
 }
 
 /// What is written for a script that makes this disk, plays these lines on it, and ends so.

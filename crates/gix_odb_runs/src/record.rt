@@ -16,10 +16,10 @@ use std::alloc::Global;
 #[derive(Drop)]
 pub enum Did {
     Nothing,
-    /// One call of the disk, at a path; it failed where its number was listed.
+    /// One call of the disk, at a path; it failed where its number was listed. The path is boxed, since few steps have one.
     Disk {
         op: Op,
-        path: PathText,
+        path: Boxed<PathText>,
         failed: bool,
     },
     /// One event of the core of a store, which is the entry of a number in the core's journal. Stores are numbered from 0,
@@ -40,9 +40,10 @@ impl Did {
     ) -> Result<Did, NoMemory>
         ensures did { IfOk result (λ did. did ≡ did_of (option_map (λ path. path.now) opened.entry) ask.now answer.now) }
     {
+        let path = path_recorded(alloc, opened, ask)?;
         Ok(Did::Disk {
             op: ask.op(),
-            path: path_recorded(alloc, opened, ask)?,
+            path: Boxed::new(alloc, path)?,
             failed: matches!(answer, DiskAnswer::Refused(DiskError::Failed)),
         })
     }

@@ -25,7 +25,7 @@ mod world;
 pub use bound::bound_of;
 pub use gix_odb_calls::{
     Call, CallError, IdPairs, Line, Options, Outcome, PathList, Reply, Slots, Step, Why, find,
-    init, write,
+    init, load_index, write,
 };
 pub use gix_odb_runs::{Did, JournalList, OutcomeList, Record, RecordList, Run};
 pub use play::Play;

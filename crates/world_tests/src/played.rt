@@ -196,7 +196,10 @@ pub(crate) fn record_shown(alloc: Global, record: &Record) -> Result<String, All
 fn did_shown(alloc: Global, did: &Did) -> Result<String, AllocError> {
     match did {
         Did::Nothing => "-".to_string(alloc),
-        Did::Disk { op, path, failed } => format!(in alloc; "{op:?} {path} {failed}"),
+        Did::Disk { op, path, failed } => {
+            let path = path.get();
+            format!(in alloc; "{op:?} {path} {failed}")
+        }
         Did::Core { store, entry } => format!(in alloc; "core {store} {entry}"),
     }
 }

@@ -6,8 +6,7 @@ use Rattle.gitodb.proofs.run.world.Goals as goal
 
 pub returns-in-Ok-answer_script : goal.returns-in-Ok-answer_script
 returns-in-Ok-answer_script g c =
-    let answers = rw c.deref.ensures.value at c.in-Ok-answer_script.ensures.answered in
-    let delivered = rw c.deref-in-Ok-answer_script.ensures.value at c.answer.ensures.delivered in
+    let delivered = rw c.deref.ensures.value at c.answer.ensures.delivered in
     record {
       ends = λ help version. Ends-world (record {
         command = World;
@@ -15,5 +14,5 @@ returns-in-Ok-answer_script g c =
         output = _;
         help = help;
         version = version;
-      }) c.in-Ok.script.items c.in-Ok-answer_script.output.items c.in-Ok-answer_script.status _ refl c.in-Ok.ensures.read answers delivered;
+      }) c.in-Ok.script.items c.in-Ok-answer_script.output.items c.in-Ok-answer_script.status _ refl c.in-Ok.ensures.read c.in-Ok-answer_script.ensures.answered delivered;
     }

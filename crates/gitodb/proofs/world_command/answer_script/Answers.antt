@@ -12,7 +12,7 @@ returns c =
     let disk = c.in_ok-disk.ensures.disk ∙ ap (λ (r : Reading). disk_of r.script) reads in
     let lines = c.in_ok-disk.ensures.lines ∙ ap (λ (r : Reading). lines_of r.script) reads in
     let ends = c.in_ok-disk.ensures.ending ∙ ap (λ (r : Reading). r.ending) reads in
-    let told = c.in_ok-told.ensures.told ∙ told_of-is _ _ reads in
+    let told = c.in_ok-reading.ensures.told ∙ told_of-is _ _ reads in
     record {
       answered = record {
         ending = c.in_ok-disk.ending;
