@@ -59,22 +59,31 @@ fn gone(rt: HostRuntime) -> Result<(), Fail> {
     Ok(())
 }
 
-/// Writes two bytes, and then sends an error. It answers whether both are in the pipe.
+/// Sends an error between two pieces of two bytes. It answers whether all are in the pipe.
 fn fail<R: Wait>(rt: &R, alloc: Global, writer: &mut Writer) -> Result<bool, NoMemory> {
     let error = error_of(alloc, b"no")?;
-    let is_written = writer.write(rt, alloc, b"ab").is_ok();
-    Ok(is_written && writer.send_error(rt, error).is_ok())
+    let is_begun = writer.write(rt, alloc, b"ab").is_ok();
+    let is_sent = writer.send_error(rt, error).is_ok();
+    Ok(is_begun && is_sent && writer.write(rt, alloc, b"cd").is_ok())
 }
 
-// Catches bytes that are lost before an error, and an error that is passed over.
+/// Whether an answer is the error that was sent.
+fn is_no<T: Drop>(answer: Result<T, PipeError>) -> bool {
+    match answer {
+        Ok(_) => false,
+        Err(PipeError::Sent(text)) => text.as_slice() == b"no".as_slice(),
+    }
+}
+
+// Catches bytes that are lost before an error, and an error that is passed over, or is another one.
 #[test]
 fn fails(rt: HostRuntime) -> Result<(), Fail> {
     let alloc: Global = rt.alloc();
-    let (mut writer, mut reader) = pipe::unidirectional(alloc, 2)?;
+    let (mut writer, mut reader) = pipe::unidirectional(alloc, 3)?;
     let is_sent = fail(&rt, alloc, &mut writer)?;
     let mut out = [0u8; 4];
     let count = reader.read(&rt, &mut out).unwrap_or(0);
-    let has_failed = reader.read(&rt, &mut out).is_err();
+    let has_failed = is_no(reader.read(&rt, &mut out));
     assert!(rt; is_sent && count == 2 && has_failed);
     Ok(())
 }
@@ -85,6 +94,21 @@ fn first_of(bytes: Result<&[u8], PipeError>) -> u8 {
         Ok([first, ..]) => *first,
         _ => 0,
     }
+}
+
+// Catches an error that stands before the bytes at hand, is passed over, is another one or is answered again, and bytes that are
+// lost behind it.
+#[test]
+fn fails_between(rt: HostRuntime) -> Result<(), Fail> {
+    let alloc: Global = rt.alloc();
+    let (mut writer, mut reader) = pipe::unidirectional(alloc, 3)?;
+    let is_sent = fail(&rt, alloc, &mut writer)?;
+    let first = first_of(reader.fill_buf(&rt));
+    reader.consume(2);
+    let has_failed = is_no(reader.fill_buf(&rt));
+    let last = first_of(reader.fill_buf(&rt));
+    assert!(rt; is_sent && first == b'a' && has_failed && last == b'c');
+    Ok(())
 }
 
 // Catches bytes that are lent again once they were used.

@@ -1,4 +1,4 @@
-//! Numbers that two workers put their counts to, and that go into a list.
+//! Numbers that two workers put their counts to, or double, and that go into a list.
 use gix_features_parts::parallel::Reduce;
 use gix_features_threads::parallel::{
     Finalize, ParallelError, Stepwise, in_parallel, in_parallel_if, in_parallel_with_finalize,
@@ -63,6 +63,12 @@ fn counted(item: u32, count: &mut u32) -> u32 {
     item.wrapping_mul(10).wrapping_add(*count)
 }
 
+/// The double of a number, which is counted.
+fn doubled(item: u32, count: &mut u32) -> u32 {
+    *count = count.wrapping_add(1);
+    item.wrapping_mul(2)
+}
+
 /// A call.
 #[derive(Clone, Copy)]
 enum Call {
@@ -76,14 +82,17 @@ enum Call {
 }
 
 /// What a call makes of the numbers from 1 to 3.
-fn answer_of<'f, H: Threads + Sync>(
+fn answer_of<'f, H: Threads + Sync, C: Fn(u32, &mut u32) -> u32 + Sync + Drop>(
     rt: &H,
     alloc: Global,
     call: Call,
+    consume: C,
     list: Collected<'f>,
-) -> Result<Vec<u32>, ParallelError<Refused>> {
+) -> Result<Vec<u32>, ParallelError<Refused>>
+    requires consumes { C.IsAlwaysCallable consume }
+{
     match call {
-        Call::Plain => in_parallel(rt, alloc, 1..4u32, None, 2, |_| 0, counted, list),
+        Call::Plain => in_parallel(rt, alloc, 1..4u32, None, 2, |_| 0, consume, list),
         Call::If(holds) => in_parallel_if(
             rt,
             alloc,
@@ -92,7 +101,7 @@ fn answer_of<'f, H: Threads + Sync>(
             None,
             2,
             |_| 0,
-            counted,
+            consume,
             list,
         ),
         Call::Counted => in_parallel_with_finalize(
@@ -102,22 +111,25 @@ fn answer_of<'f, H: Threads + Sync>(
             Some(2),
             1,
             |_| 0,
-            counted,
+            consume,
             |count| count,
             list,
         ),
-        Call::Steps(steps) => stepped(rt, alloc, steps, list),
+        Call::Steps(steps) => stepped(rt, alloc, steps, consume, list),
     }
 }
 
 /// What comes of so many steps, whatever they give, and of the rest.
-fn stepped<'f, H: Threads + Sync>(
+fn stepped<'f, H: Threads + Sync, C: Fn(u32, &mut u32) -> u32 + Sync + Drop>(
     rt: &H,
     alloc: Global,
     steps: u32,
+    consume: C,
     list: Collected<'f>,
-) -> Result<Vec<u32>, ParallelError<Refused>> {
-    let mut rest = Stepwise::new(rt, alloc, 1..4u32, None, 2, |_| 0, counted, list)?;
+) -> Result<Vec<u32>, ParallelError<Refused>>
+    requires consumes { C.IsAlwaysCallable consume }
+{
+    let mut rest = Stepwise::new(rt, alloc, 1..4u32, None, 2, |_| 0, consume, list)?;
     for _ in 0..steps {
         let _ = rest.next(rt);
     }
@@ -159,8 +171,23 @@ const ROWS: [Row; 14] = [
     (Call::Steps(4), Some(Refused::List), Err(Refused::List), 3),
 ];
 
+/// Calls whose workers double.
+const DOUBLED: [Row; 4] = [
+    (Call::Plain, None, Ok([2, 4, 6, 0, 0]), 3),
+    (Call::If(false), None, Ok([2, 4, 6, 0, 0]), 3),
+    (Call::Counted, None, Ok([2, 4, 6, 2, 1]), 5),
+    (Call::Steps(1), None, Ok([2, 4, 6, 0, 0]), 3),
+];
+
 /// Whether a call gives what its row says.
-fn is_right<H: Threads + Sync>(rt: &H, alloc: Global, row: &Row) -> bool {
+fn is_right<H: Threads + Sync, C: Fn(u32, &mut u32) -> u32 + Sync + Drop>(
+    rt: &H,
+    alloc: Global,
+    consume: C,
+    row: &Row,
+) -> bool
+    requires consumes { C.IsAlwaysCallable consume }
+{
     let (call, refuses, wanted, count) = row;
     let fed = AtomicU64::new(0);
     let list = Collected {
@@ -168,7 +195,7 @@ fn is_right<H: Threads + Sync>(rt: &H, alloc: Global, row: &Row) -> bool {
         refuses: *refuses,
         fed: &fed,
     };
-    let answer = answer_of(rt, alloc, *call, list);
+    let answer = answer_of(rt, alloc, *call, consume, list);
     is_same(answer, wanted) && fed.load(Ordering::SeqCst) == *count
 }
 
@@ -196,7 +223,18 @@ fn is_list(all: &[u32], wanted: &[u32; 5]) -> bool {
 fn lists(rt: HostRuntime) -> Result<(), Fail> {
     let alloc: Global = rt.alloc();
     for (number, row) in ROWS.iter().enumerate() {
-        assert!(rt; is_right(&rt, alloc, row), "row {number}");
+        assert!(rt; is_right(&rt, alloc, counted, row), "row {number}");
+    }
+    Ok(())
+}
+
+// Catches an output that is lost, fed twice, or fed out of the order of the items, where it follows from its item alone; and
+// counts that aren't in the order of the workers.
+#[test]
+fn doubles(rt: HostRuntime) -> Result<(), Fail> {
+    let alloc: Global = rt.alloc();
+    for (number, row) in DOUBLED.iter().enumerate() {
+        assert!(rt; is_right(&rt, alloc, doubled, row), "row {number}");
     }
     Ok(())
 }
