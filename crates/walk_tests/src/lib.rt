@@ -11,6 +11,8 @@ mod entries;
 #[cfg(test)]
 mod led;
 #[cfg(test)]
+mod names;
+#[cfg(test)]
 mod skips;
 #[cfg(test)]
 mod streams;
