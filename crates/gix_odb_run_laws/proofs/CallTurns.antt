@@ -17,11 +17,14 @@ use Rattle.gix_odb_events.specs.declared.answer.PartAsk.{PartAsk}
 use Rattle.gix_odb_events.specs.declared.answer.PartAsk.TheVariants as parts
 use Rattle.gix_odb_looks.specs.Exchange.{Exchange, WasTold}
 use Rattle.gix_odb_looks.specs.LookUpOrder as looks
+use Rattle.gix_odb_looks.specs.Shown.{IsIndexRow}
+use Rattle.gix_odb_looks.proofs.FoundLaws.{what_is_handed_was_shown}
 use Rattle.gix_odb_looks.proofs.HandedLaws.{rows_of_a_listing_have_different_paths}
 use Rattle.gix_odb_look_laws.specs.ListedFiles.{AreOfTree, listed_in}
 use Rattle.gix_odb_look_laws.specs.ListerCalls.{IsRowSeen}
 use Rattle.gix_odb_look_laws.proofs.ListingLaws.{rows_of_a_listing_are_those_of_the_tree, rows_of_a_listing_were_seen}
 use Rattle.gix_odb_refresh.specs.RefreshOrder as refreshes
+use Rattle.gix_odb_refresh.proofs.RefreshLaws.{rows_are_of_the_folders}
 use Rattle.gix_odb_look_laws.proofs.RefreshHappenLaws.{what_a_refresh_hands_on_can_happen}
 use Rattle.gix_odb.specs.Contents.{folder_list, sought}
 use Rattle.gix_odb.specs.OpenOrder as openings
@@ -39,6 +42,7 @@ use Rattle.gix_odb_world.specs.Running.{Knows, Runs}
 use Rattle.gix_odb_world.specs.Running.Opening.{ask_or}
 use Rattle.gix_odb_world.specs.Status.{Working}
 use Rattle.gix_odb_world.specs.Told.{look_now, refresh_now, told_since, view_then}
+use Rattle.gix_odb_world.proofs.Stock.OneCore.{ShownSince}
 use Rattle.gix_odb_run_laws.specs.Turn.{AsksCore, IsTurnAt}
 use Rattle.gix_odb_run_laws.proofs.QueryTurns.{same_event}
 use Rattle.gix_odb_run_laws.proofs.RefreshListings.{rows_of_a_refresh_are_those_of_the_tree, rows_of_a_refresh_were_seen}
@@ -68,10 +72,11 @@ no_opening_event store (Some slots) ask event is = cc is
 
 -- ---- a listing that is handed on
 
--- The rows of a listing have different paths; each was seen in what the handle was told; and where one tree answered all of it, they are the tree's
--- listed files.
+-- The rows of a listing have different paths; each is that of an index in the pack directory of one of the store's folders, and was seen in what the
+-- handle was told; and where one tree answered all of it, they are the tree's listed files.
 pub record IsListed (store : Store) (told : List Exchange) (listing : Listing) : Type 0 where
   pub different : HasDifferentPaths listing.rows
+  pub at : All (IsIndexRow (setting_in store)) listing.rows
   pub seen : All (IsRowSeen (λ ask answer. WasTold told (parts.Disk ask) (told_by.Disk answer))) listing.rows
   pub of_tree : (tree : Tree) → AreOfTree tree [] told → listing.rows ≡ longest_first (listed_in tree (folder_list store.parts))
 
@@ -108,6 +113,9 @@ module _ (first : Volume) (events : List Event) (run : Run) (is : IsRun first ev
       ap looks.ask_of (sym knows.is) ∙ part_of (looks.ask_of look) (events_of.Publish listing) asks in
       record {
         different = rows_of_a_listing_have_different_paths setting knows.fits.distinct view knows.query id told knows.asked listing here;
+        at =
+            what_is_handed_was_shown (ShownSince first past running.store) setting running.store.hash knows.query id knows.fits.hashed view
+            knows.well.snapshot told knows.asked knows.well.truth (parts.Core (events_of.Publish listing)) here;
         seen = rows_of_a_listing_were_seen setting view knows.query id told knows.asked listing here;
         of_tree = rows_of_a_listing_are_those_of_the_tree setting view knows.query id told knows.asked listing here;
       }
@@ -117,6 +125,7 @@ module _ (first : Volume) (events : List Event) (run : Run) (is : IsRun first ev
       ap refreshes.ask_of (sym knows.refresh_is) ∙ part_of (refreshes.ask_of refresh) (events_of.Publish listing) asks in
       record {
         different = what_a_refresh_hands_on_can_happen setting view told knows.asked knows.distinct (events_of.Publish listing) here (present (opened 0 0 0 0)) 0;
+        at = rows_are_of_the_folders setting view told knows.asked listing here;
         seen = rows_of_a_refresh_were_seen setting view told knows.asked listing here;
         of_tree = rows_of_a_refresh_are_those_of_the_tree setting view told knows.asked listing here;
       }

@@ -24,7 +24,7 @@ use Rattle.gix_odb.specs.Moments.{Sometime}
 use Rattle.gix_odb_look_laws.specs.ListedFiles.{listed_in}
 use Rattle.gix_odb_look_laws.specs.ListerCalls.{IsRowSeen}
 use Rattle.gix_odb_runs.specs.declared.record.Run.{Run}
-use Rattle.gix_odb_world.specs.AtWork.{Running}
+use Rattle.gix_odb_world.specs.AtWork.{Running, setting_in}
 use Rattle.gix_odb_runs.specs.Event.{Event}
 use Rattle.gix_odb_world.specs.Headline.{IsRun}
 use Rattle.gix_odb_runs.specs.Run.{disk_after, tree_at}
@@ -92,11 +92,13 @@ module _ (first : Volume) (events : List Event) (run : Run) (is : IsRun first ev
     listed : IsListed running.store exchanges listing
     listed = listed_by_turn first events run is place e handle running turn listing publishes
 
-    -- The rows of a listing that a call hands to the core, a query or a write, have different paths. The index of each was itself a file at a moment of
+    -- The rows of a listing that a call hands to the core, a query or a write, have different paths. The path of each is an index path in the pack
+    -- directory of one of the folders of the handle's store, and no row is of a multi-pack index. The index of each was itself a file at a moment of
     -- the call, and its pack's path showed a file at one.
-    pub rows_that_a_turn_publishes_were_shown : AreRowsShown trees running.begun place listing.rows
+    pub rows_that_a_turn_publishes_were_shown : AreRowsShown (setting_in running.store) trees running.begun place listing.rows
     rows_that_a_turn_publishes_were_shown = record {
       different = listed.different;
+      at = listed.at;
       shown =
           All-weaker (IsRowSeen (λ ask answer. WasTold exchanges (parts.Disk ask) (told_by.Disk answer))) (IsRowShown trees running.begun place)
           (row_shown place handle running.begun) listing.rows listed.seen;

@@ -8,6 +8,8 @@ use Rattle.odb_nodes.specs.declared.meta.Meta.{Meta}
 use Rattle.gix_odb_events.specs.PackPath.{pack_path}
 use Rattle.gix_odb_events.specs.PackFiles.{HasDifferentPaths}
 use Rattle.gix_odb_events.specs.declared.listing.ListingRow.{ListingRow}
+use Rattle.gix_odb_looks.specs.LookUpOrder.{Setting}
+use Rattle.gix_odb_looks.specs.Shown.{IsIndexRow}
 use Rattle.gix_odb.specs.Moments.{Sometime}
 
 -- the path of a row is itself a file, of the row's time and length
@@ -29,9 +31,11 @@ pub record IsRowShown (trees : ℕ → Tree) (begun now : ℕ) (row : ListingRow
   pub index : Sometime begun now (λ moment. IsFileOfRow (trees moment) row)
   pub pack : Sometime begun now (λ moment. ShowsSomeFile (trees moment) (pack_path row.path))
 
--- the rows of a listing have different paths, and each was shown so
-pub record AreRowsShown (trees : ℕ → Tree) (begun now : ℕ) (rows : List ListingRow) : Type 0 where
+-- The rows of a listing have different paths. Each is that of an index in the pack directory of one of a store's folders, and of no multi-pack index,
+-- and was shown so.
+pub record AreRowsShown (setting : Setting) (trees : ℕ → Tree) (begun now : ℕ) (rows : List ListingRow) : Type 0 where
   pub different : HasDifferentPaths rows
+  pub at : All (IsIndexRow setting) rows
   pub shown : All (IsRowShown trees begun now) rows
 
 -- the tree stood still from one moment to another
