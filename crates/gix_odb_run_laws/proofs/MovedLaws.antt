@@ -164,9 +164,9 @@ module _ (first : Volume) (events : List Event) (run : Run) (is : IsRun first ev
 
   -- ---- what the call asked
 
-  record Ended : Type 0 where
-    asked : AreAsked setting start (told_since whole handle begun)
-    misses : result_of (behind setting start (told_since whole handle begun)) ≡ Ok (not_found query)
+  pub record Ended : Type 0 where
+    pub asked : AreAsked setting start (told_since whole handle begun)
+    pub misses : result_of (behind setting start (told_since whole handle begun)) ≡ Ok (not_found query)
 
   goes : (asked : Asked) → e.asked ≡ asked → outcome_of (fed_in store (Calling (Looking at.look)) (answered asked)) ≡ outcomes.Reply (not_found query)
   goes asked same =
@@ -208,7 +208,7 @@ module _ (first : Volume) (events : List Event) (run : Run) (is : IsRun first ev
       ended_by x (told_turn past e handle begun begun_early turn.turns.turn (OfCore stands.store stands.seat event answer) asked x refl) same
       (reply_of_result (result_of (fed setting at.look (told.Core answer))) (not_found query) (goes (OfCore stands.store stands.seat event answer) asked))
 
-  ended : Ended
+  pub ended : Ended
   ended = by_ask (ask_of at.look) refl
 
   -- no call of the disk failed

@@ -5,6 +5,7 @@ pub mod Stored
 pub mod Listed
 pub mod Hashed
 pub mod Moved
+pub mod Missed
 pub mod Pending
 pub mod OwnAnswer
 pub mod Memory

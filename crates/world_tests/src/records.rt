@@ -1,9 +1,9 @@
 //! What each step of a run did to the disk.
 use crate::played::{joined, record_shown};
 use crate::words::{compare, halves, step_of};
-use gix_odb_core::{Effect, Entry, Event, Journal, Refusal};
+use gix_odb_core::{Effect, Entry, Event, Journal, PackId, Refusal};
 use gix_odb_world::{Run, Step, World};
-use odb_disk::MemDisk;
+use odb_disk::{MemDisk, PathText};
 use std::alloc::{AllocError, Global};
 use std::test::Fail;
 
@@ -85,7 +85,50 @@ const JOURNALS: &str = "\
     1 1 register seen; 2 1 look seen; 3 1 publish published; 4 1 look seen; 5 1 publish unchanged; 6 1 look seen; \
     7 2 register seen; 8 1 remove removed";
 
-fn event_shown(event: &Event) -> &'static str {
+// A store with one pack, up to where a find has listed it. Its object is the blob of `version 1` and a line feed, with the id that
+// `git hash-object` tells.
+const LISTED: &str = "\
+    make /o|- true 0\n\
+    make /o/pack|- true 0\n\
+    put /o/pack/pack-a.idx @idx:blob:76657273696f6e20310a|- true 0\n\
+    put /o/pack/pack-a.pack @pack:blob:76657273696f6e20310a|- true 0\n\
+    open 0 /o|- false 0\n\
+    turn 0|Look /o false false 0\n\
+    turn 0|core 0 1 false 0\n\
+    find 0 83baae61804e65cc73a7201a7252750c76066a30|- false 0\n\
+    turn 0|core 0 2 false 0\n\
+    turn 0|OpenDir /o/pack false false 0\n\
+    turn 0|NextEntry /o/pack false false 0\n\
+    turn 0|NextEntry /o/pack false false 0\n\
+    turn 0|NextEntry /o/pack false false 0\n\
+    turn 0|CloseDir /o/pack false false 0\n\
+    turn 0|Look /o/pack/pack-a.idx false false 0\n\
+    turn 0|Look /o/pack/pack-a.pack false false 0\n\
+    turn 0|core 0 3 false 0";
+
+const FOUND: &str = "\
+    turn 0|Read /o/pack/pack-a.idx false false 0\n\
+    turn 0|core 0 4 false 0\n\
+    turn 0|Read /o/pack/pack-a.pack false false 0\n\
+    turn 0|core 0 5 false 0";
+
+const FOUND_JOURNAL: &str = "\
+    1 0 register seen; 2 0 look seen; 3 0 publish published; \
+    4 0 put-index 0 /o/pack/pack-a.idx stored; 5 0 put-pack 0 /o/pack/pack-a.pack stored";
+
+// The index vanishes before it is read, and nothing else has the object.
+const VANISHED: &str = "\
+    take /o/pack/pack-a.idx|- true 0\n\
+    turn 0|Read /o/pack/pack-a.idx false false 0\n\
+    turn 0|core 0 4 false 0\n\
+    turn 0|Read /o/83/baae61804e65cc73a7201a7252750c76066a30 false false 0\n\
+    turn 0|core 0 5 false 0";
+
+const VANISHED_JOURNAL: &str = "\
+    1 0 register seen; 2 0 look seen; 3 0 publish published; \
+    4 0 pass-over 0 /o/pack/pack-a.idx Absent seen; 5 0 look seen";
+
+fn event_name(event: &Event) -> &'static str {
     match event {
         Event::Register { stable: false } => "register",
         Event::Remove => "remove",
@@ -95,10 +138,26 @@ fn event_shown(event: &Event) -> &'static str {
     }
 }
 
+fn pack_put_shown(alloc: Global, pack: PackId, path: &PathText) -> Result<String, AllocError> {
+    let slot = pack.index;
+    format!(in alloc; "put-pack {slot} {path}")
+}
+
+/// An event as a word, with the slot and the path of a file.
+fn event_shown(alloc: Global, event: &Event) -> Result<String, AllocError> {
+    match event {
+        Event::PutIndex { slot, path, .. } => format!(in alloc; "put-index {slot} {path}"),
+        Event::PutPack { pack, path, .. } => pack_put_shown(alloc, *pack, path),
+        Event::PassOver { slot, path, why } => format!(in alloc; "pass-over {slot} {path} {why:?}"),
+        _ => event_name(event).to_string(alloc),
+    }
+}
+
 fn answer_shown(answer: &Result<Effect, Refusal>) -> &'static str {
     match answer {
         Ok(Effect::Seen(_)) => "seen",
         Ok(Effect::Removed) => "removed",
+        Ok(Effect::Put { stored: true, .. }) => "stored",
         Ok(Effect::Published(_)) => "published",
         Ok(Effect::Unchanged(_)) => "unchanged",
         _ => "another answer",
@@ -108,7 +167,7 @@ fn answer_shown(answer: &Result<Effect, Refusal>) -> &'static str {
 fn entry_shown(alloc: Global, entry: &Entry) -> Result<String, AllocError> {
     let number = entry.number;
     let seat = entry.seat;
-    let event = event_shown(&entry.event);
+    let event = event_shown(alloc, &entry.event)?;
     let answer = answer_shown(&entry.answer);
     format!(in alloc; "{number} {seat} {event} {answer}")
 }
@@ -142,4 +201,23 @@ fn records_what_each_step_did(rt: HostRuntime) -> Result<(), Fail> {
     assert!(rt; run.records.len() == 44 && run.outcomes.len() == 44 && run.journals.len() == 2);
     check_records(rt.alloc(), &run, RECORDS)?;
     check_journals(rt.alloc(), &run, JOURNALS)
+}
+
+/// The run of these rows behind those of the store with one pack, with its records and its one journal compared.
+fn check_listed(alloc: Global, rows: &str, journal: &str) -> Result<Run, Fail> {
+    let rows = format!(in alloc; "{LISTED}\n{rows}")?;
+    let run = run_of(alloc, &[], rows.as_str())?;
+    check_records(alloc, &run, rows.as_str())?;
+    check_journals(alloc, &run, journal)?;
+    Ok(run)
+}
+
+// A file that is stored without an entry, in another slot or under another path, an index that is passed over without one, or a read
+// that is told under another path.
+#[test]
+fn records_what_is_done_with_files_of_packs(rt: HostRuntime) -> Result<(), Fail> {
+    let found = check_listed(rt.alloc(), FOUND, FOUND_JOURNAL)?;
+    let vanished = check_listed(rt.alloc(), VANISHED, VANISHED_JOURNAL)?;
+    assert!(rt; found.journals.len() == 1 && vanished.journals.len() == 1);
+    Ok(())
 }

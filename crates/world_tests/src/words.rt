@@ -2,11 +2,12 @@
 //!
 //! The letters E and H are the ids of the blobs of no bytes and of `hello`, as `git hash-object` tells them, and Z is
 //! a one behind zeros. S is the id of the blob of `hello` by SHA-256, as python's `hashlib` tells it. `/o:E` is the path of
-//! such an object below `/o`. In data `~` is a NUL.
+//! such an object below `/o`. In data `~` is a NUL, and data behind an `@` are a file as scripts put it.
 use gix_hash::ObjectId;
 use gix_object::Kind;
 use gix_odb_world::{Call, IdPairs, Options, PathList, Slots, Step};
 use odb_disk::{ByteList, Change, PathText};
+use odb_script::{Item, item_of};
 use std::alloc::Global;
 use std::test::Fail;
 
@@ -82,10 +83,22 @@ fn make_of(alloc: Global, text: &str) -> Result<Step, Fail> {
 
 fn put_of(alloc: Global, text: &str) -> Result<Step, Fail> {
     let (path, data) = cut(text);
+    if data.starts_with('@') {
+        return pack_file_of(alloc, path, data);
+    }
     let path = path_of(alloc, path)?;
     let bytes = bytes_of(alloc, data)?;
     let time = 1;
     Ok(Step::Disk(Change::PutFile { path, time, bytes }))
+}
+
+/// A file as a script puts it: `put /o/pack/pack-a.idx @idx:blob:00` and the like.
+fn pack_file_of(alloc: Global, path: &str, data: &str) -> Result<Step, Fail> {
+    let line = format!(in alloc; "put {path} 1 {data}")?;
+    match item_of(alloc, line.as_bytes())? {
+        Item::Setup(change) => Ok(Step::Disk(change)),
+        _ => Err(Fail::new(format_args!("no file in {data}"))),
+    }
 }
 
 fn move_of(alloc: Global, text: &str) -> Result<Step, Fail> {

@@ -1,0 +1,359 @@
+-- A look-up that found nothing ended at a look at the core, whose list is the one that was published or confirmed last for it.
+use Rattle.std.proofs.Common.{◌≡◌, ◌⊎◌, inl, inr, ℕ, Bool, true, false, cond, List, [], ◌∷◌, ◌++◌, slice_get, Option, Some, None, Ok, Err, refl, sym, ap, ◌∙◌, subst}
+use Rattle.std.specs.Prelude.{◌==◌}
+use Rattle.std.proofs.lemmas.Bool.{eqb-true}
+use Rattle.std.proofs.lemmas.Option.{same_Some}
+use Rattle.odb_base.specs.Path.{Path}
+use Rattle.odb_asks.specs.declared.ask.DiskAsk.{DiskAsk}
+use Rattle.gix_hash.specs.declared.object_id.ObjectId.{ObjectId}
+use Rattle.gix_odb_loose.specs.LooseOrder.{disk_ask_of, reply_of}
+use Rattle.gix_odb_loose.specs.declared.call.LooseCall.{LooseCall}
+use Rattle.gix_odb_loose.specs.declared.call.LooseReply.{LooseReply}
+use Rattle.gix_odb_events.specs.Answers.{view_in}
+use Rattle.gix_odb_events.specs.declared.event.Effect.{Effect}
+use Rattle.gix_odb_events.specs.declared.event.Effect.TheVariants as effects
+use Rattle.gix_odb_events.specs.declared.event.Event.TheVariants as events
+use Rattle.gix_odb_events.specs.declared.listing.Listing.{Listing}
+use Rattle.gix_odb_events.specs.declared.view.View.{View}
+use Rattle.gix_odb_packs.specs.TryOrder as tries
+use Rattle.gix_odb_packs.specs.TryOrder.{seek}
+use Rattle.gix_odb_packs.specs.declared.lister.ListStep.{ListStep}
+use Rattle.gix_odb_packs.specs.declared.lister.ListStep.TheVariants as listed
+use Rattle.gix_odb_packs.specs.declared.search.Notes.{Notes}
+use Rattle.gix_odb_packs.specs.declared.trier.Stage.{Stage}
+use Rattle.gix_odb_packs.specs.declared.trier.Stage.TheVariants as tries_stages
+use Rattle.gix_odb_packs.specs.declared.trier.Tried.{Tried}
+use Rattle.gix_odb_packs.specs.declared.trier.Tried.TheVariants as tried
+use Rattle.gix_odb_events.specs.declared.answer.Answer.{Answer}
+use Rattle.gix_odb_events.specs.declared.answer.Answer.TheVariants as told
+use Rattle.gix_odb_events.specs.declared.answer.PartAsk.{PartAsk}
+use Rattle.gix_odb_events.specs.declared.answer.PartAsk.TheVariants as asks
+use Rattle.gix_odb_calls.specs.Verdict.{verdict_on}
+use Rattle.gix_odb_calls.specs.declared.call.CallError.TheVariants as call_errors
+use Rattle.gix_odb_calls.specs.declared.find.Error.TheVariants as find_errors
+use Rattle.gix_odb_calls.specs.declared.load_index.Error.TheVariants as load_errors
+use Rattle.gix_odb_calls.specs.declared.load_index.Error.{Error}
+use Rattle.gix_odb_calls.specs.declared.query.Query.{Query}
+use Rattle.gix_odb_calls.specs.declared.verdict.Verdict.{Verdict}
+use Rattle.gix_odb_calls.specs.declared.verdict.Verdict.TheVariants as verdicts
+use Rattle.gix_odb_looks.specs.Exchange.{AreAsked, Exchange, behind}
+use Rattle.gix_odb_looks.specs.LoadIndex.{of_refusal}
+use Rattle.gix_odb_looks.specs.LookUpOrder.{Setting, after_list, after_loose, ask_at, ask_of, at_folder, by_call, by_listed, by_look, by_published, by_reply, by_tried}
+use Rattle.gix_odb_looks.specs.LookUpOrder.{by_verdict, counted, ended, fed, fed_at, find_error, goal_of, is_unsettled, lister_fed, listing_from, load_refused}
+use Rattle.gix_odb_looks.specs.LookUpOrder.{loose_ask, loose_fed, new_head, not_found, result_at, result_of, seen, started, trier_fed, try_view, unsettled, view_shown}
+use Rattle.gix_odb_looks.specs.LookUpOrder.{with_own, without_notes}
+use Rattle.gix_odb_looks.specs.declared.look_up.LookHead.{LookHead}
+use Rattle.gix_odb_looks.specs.declared.look_up.LookStage.{LookStage}
+use Rattle.gix_odb_looks.specs.declared.look_up.LookStage.TheVariants as stages
+use Rattle.gix_odb_looks.specs.declared.look_up.LookUp.{LookUp}
+use Rattle.gix_odb_looks.specs.declared.look_up.LooseRound.{LooseRound}
+use Rattle.gix_odb_looks.specs.declared.look_up.Part.{Part}
+use Rattle.gix_odb_looks.specs.declared.look_up.Part.TheVariants as parts
+use Rattle.gix_odb_looks.specs.declared.look_up.Purpose.{Purpose}
+use Rattle.gix_odb_looks.specs.declared.look_up.Purpose.TheVariants as purposes
+use Rattle.gix_odb_looks.proofs.MissLaws.Replies.{EndsNoMiss, IsMiss, found_is_no_miss, refused_is_no_miss, verdict_is_no_miss}
+use Rattle.gix_odb_run_laws.specs.Missed.{EndAtLastList, last_list, list_by}
+
+-- ---- what hands on no listing
+
+trying_lists_nothing : (number : Option ℕ) (stage : Stage) (answer : Answer) → number ≡ list_by number (tries.ask_at stage) answer
+trying_lists_nothing number (tries_stages.ReadingIndex place) answer = refl
+trying_lists_nothing number (tries_stages.StoringIndex place file) answer = refl
+trying_lists_nothing number (tries_stages.PassingIndex place why) answer = refl
+trying_lists_nothing number (tries_stages.ReadingPack pack) answer = refl
+trying_lists_nothing number (tries_stages.StoringPack pack file) answer = refl
+trying_lists_nothing number (tries_stages.PassingPack pack) answer = refl
+
+loose_lists_nothing : (number : Option ℕ) (call : Option DiskAsk) (ask : PartAsk) (answer : Answer) → loose_ask call ≡ Some ask → number ≡ list_by number ask answer
+loose_lists_nothing number None ask answer is = absurd (cc is)
+loose_lists_nothing number (Some own) ask answer is =
+    subst (λ (a : PartAsk). number ≡ list_by number a answer) (same_Some (asks.Disk own) ask is) refl
+
+-- ---- the list that was published or confirmed last
+
+-- a list that the look-up published or confirmed itself is that one
+abbrev PartAt : Option ℕ → Part → Type 0
+PartAt number parts.Snapshot = Unit {0}
+PartAt number (parts.List own loose) = Unit {0}
+PartAt number (parts.Published own) = number ≡ Some own
+
+abbrev PurposeAt : Option ℕ → Purpose → Type 0
+PurposeAt number (purposes.First loose) = Unit {0}
+PurposeAt number (purposes.Check own) = number ≡ Some own
+PurposeAt number purposes.Again = Unit {0}
+
+module _ (setting : Setting) (query : Query) where
+  abbrev IsAt : Option ℕ → LookStage → Type 0
+  IsAt number (stages.Trying trier part) = PartAt number part
+  IsAt number (stages.Loose round call) = PartAt number round.part
+  IsAt number (stages.Looking purpose notes) = PurposeAt number purpose
+  IsAt number (stages.Listing lister base notes) = Unit {0}
+  IsAt number (stages.Publishing listing notes) = Unit {0}
+  IsAt number (stages.Done reply) = ¬ (IsMiss query reply)
+
+  record IsLookAt (number : Option ℕ) (look : LookUp) : Type 0 where
+    own : look.head.query ≡ query
+    stage : IsAt number look.stage
+
+  refused_at : (error : Error) → ¬ (IsMiss query (load_refused error))
+  refused_at error = refused_is_no_miss query (call_errors.Find (find_errors.LoadIndex error))
+
+  module _ (number : Option ℕ) (head : LookHead) where
+    -- ---- lists
+
+    list_at : (part : Part) → PartAt number part → (notes : Notes) → IsAt number (after_list setting head part notes)
+    list_at parts.Snapshot at notes = tt
+    list_at (parts.List own true) at notes = tt
+    list_at (parts.List own false) at notes = tt
+    list_at (parts.Published own) at notes = at
+
+    tried_at : (part : Part) → PartAt number part → (result : Tried) → IsAt number (by_tried setting head part result)
+    tried_at part at (tried.More trier) = at
+    tried_at part at (tried.Hit what) = found_is_no_miss query what
+    tried_at part at (tried.Missed notes) = list_at part at notes
+    tried_at part at (tried.Bad error) = refused_is_no_miss query (call_errors.Find (find_error error))
+    tried_at part at (tried.Broken refusal) = refused_at (of_refusal refusal)
+
+    -- ---- loose folders
+
+    loose_at : (part : Part) → PartAt number part → (notes : Notes) → IsAt number (after_loose setting part notes)
+    loose_at parts.Snapshot at notes = tt
+    loose_at (parts.List own loose) at notes = tt
+    loose_at (parts.Published own) at notes = at
+
+    folder_at : (round : LooseRound) → PartAt number round.part → (folder : Option Path) → IsAt number (at_folder setting head round folder)
+    folder_at round at None = loose_at round.part at round.notes
+    folder_at round at (Some folder) = at
+
+    verdict_at : (round : LooseRound) → PartAt number round.part → (verdict : Verdict) → EndsNoMiss query verdict → IsAt number (by_verdict setting head round verdict)
+    verdict_at round at (verdicts.Ends reply) ends = ends
+    verdict_at round at verdicts.Misses ends = folder_at round at (slice_get setting.folders round.next)
+    verdict_at round at (verdicts.Notes error) ends =
+        folder_at (record round { notes = record round.notes { failed = true } }) at (slice_get setting.folders round.next)
+
+    reply_at : head.query ≡ query → (round : LooseRound) → PartAt number round.part → (call : LooseCall) (reply : Option LooseReply)
+        → IsAt number (by_reply setting head round call reply)
+    reply_at own round at call None = at
+    reply_at own round at call (Some reply) =
+        verdict_at round at (verdict_on head.query reply)
+        (subst (λ (q : Query). EndsNoMiss q (verdict_on head.query reply)) own (verdict_is_no_miss head.query reply))
+
+    -- ---- listings
+
+    listed_at : (base : ℕ) (notes : Notes) (step : ListStep) → IsAt number (by_listed base notes step)
+    listed_at base notes (listed.More lister) = tt
+    listed_at base notes (listed.Rows rows) = tt
+    listed_at base notes listed.Broken = refused_at load_errors.Io
+
+    counted_at : (now : ℕ) (next : LookStage) → IsAt number next → (b : Bool) → IsAt number (cond b (unsettled head now) next)
+    counted_at now next at true = refused_at _
+    counted_at now next at false = at
+
+    -- ---- looks at the core
+
+    first_at : (loose : Bool) (view : View) (notes : Notes) (b : Bool)
+        → IsAt number (cond b (try_view setting head (parts.List view.list_no loose) view view.todo notes) (listing_from setting view.list_no notes))
+    first_at loose view notes true =
+        tried_at (parts.List view.list_no loose) tt (seek (goal_of setting head) (record { indices = view.snapshot.indices; todo = view.todo; notes = notes }))
+    first_at loose view notes false = tt
+
+    -- a look-up that ended at a look whose view has the list
+    record IsChecked (effect : Effect) (next : LookStage) : Type 0 where
+      view : View
+      shown : view_in (Ok effect) ≡ Some view
+      newest : number ≡ Some view.list_no
+      done : ask_at next ≡ None
+
+    ended_asks_nothing : (b : Bool) → ask_at (cond b (stages.Done (load_refused load_errors.Io)) (stages.Done (not_found head.query))) ≡ None
+    ended_asks_nothing true = refl
+    ended_asks_nothing false = refl
+
+    check_at : (effect : Effect) (own : ℕ) → number ≡ Some own → (notes : Notes) (view : View) → view_shown effect ≡ Some view → (b : Bool) → (view.list_no == own) ≡ b
+        → let next : LookStage = cond b (ended head.query notes) (counted setting head view.list_no (listing_from setting view.list_no notes)) in
+        IsAt number next ⊎ IsChecked effect next
+    check_at effect own at notes view shown true same =
+        inr
+        (record {
+          view = view;
+          shown = shown;
+          newest = at ∙ ap (λ (n : ℕ). Some n) (sym (eqb-true view.list_no own same));
+          done = ended_asks_nothing notes.failed;
+        })
+    check_at effect own at notes view shown false same =
+        inl (counted_at view.list_no (listing_from setting view.list_no notes) tt (is_unsettled setting head view.list_no))
+
+    look_at : (effect : Effect) (purpose : Purpose) → PurposeAt number purpose → (notes : Notes) (view : Option View) → view_shown effect ≡ view
+        → IsAt number (by_look setting head purpose notes view) ⊎ IsChecked effect (by_look setting head purpose notes view)
+    look_at effect purpose at notes None shown = inl at
+    look_at effect (purposes.First loose) at notes (Some view) shown = inl (first_at loose view notes view.read)
+    look_at effect (purposes.Check own) at notes (Some view) shown = check_at effect own at notes view shown (view.list_no == own) refl
+    look_at effect purposes.Again at notes (Some view) shown = inl tt
+
+  -- ---- a publish
+
+  viewed_at : (head : LookHead) (view : View) (notes : Notes) → IsAt (Some view.list_no) (try_view setting head (parts.Published view.list_no) view view.todo notes)
+  viewed_at head view notes =
+      tried_at (Some view.list_no) head (parts.Published view.list_no) refl
+      (seek (goal_of setting head) (record { indices = view.snapshot.indices; todo = view.todo; notes = notes }))
+
+  published_at : (number : Option ℕ) (head : LookHead) → head.query ≡ query → (listing : Listing) (notes : Notes) (effect : Effect)
+      → IsLookAt (list_by number (asks.Core (events.Publish listing)) (told.Core (Ok effect))) (by_published setting head listing notes effect)
+  published_at number head own listing notes (effects.Published view) = record { own = own; stage = viewed_at (with_own head) view notes }
+  published_at number head own listing notes (effects.Unchanged view) = record { own = own; stage = viewed_at head view notes }
+  published_at number head own listing notes (effects.Outdated list_no) =
+      record { own = own; stage = counted_at number head list_no (stages.Looking purposes.Again notes) tt (is_unsettled setting head list_no) }
+  published_at number head own listing notes (effects.Seen view) = record { own = own; stage = tt }
+  published_at number head own listing notes (effects.Reported view report) = record { own = own; stage = tt }
+  published_at number head own listing notes effects.Removed = record { own = own; stage = tt }
+  published_at number head own listing notes (effects.Put view stored) = record { own = own; stage = tt }
+
+  -- ---- an exchange
+
+  -- the look-up ended at this exchange, a look whose view has the list
+  record EndsHere (number : Option ℕ) (ask : PartAsk) (answer : Answer) (next : LookUp) : Type 0 where
+    asked : ask ≡ asks.Core events.Look
+    effect : Effect
+    answered : answer ≡ told.Core (Ok effect)
+    checked : IsChecked number next.head effect next.stage
+
+  abbrev Goes : Option ℕ → PartAsk → Answer → LookUp → Type 0
+  Goes number ask answer next = IsLookAt (list_by number ask answer) next ⊎ EndsHere number ask answer next
+
+  looked : (number : Option ℕ) (head : LookHead) → head.query ≡ query → (effect : Effect) (stage : LookStage)
+      → IsAt number stage ⊎ IsChecked number head effect stage → Goes number (asks.Core events.Look) (told.Core (Ok effect)) (record { head = head; stage = stage })
+  looked number head own effect stage (inl at) = inl (record { own = own; stage = at })
+  looked number head own effect stage (inr checked) = inr (record { asked = refl; effect = effect; answered = refl; checked = checked })
+
+  goes_at : (number : Option ℕ) (head : LookHead) → head.query ≡ query → (stage : LookStage) → IsAt number stage → (ask : PartAsk) (answer : Answer)
+      → ask_at stage ≡ Some ask → Goes number ask answer (fed_at setting head stage answer)
+  goes_at number head own (stages.Trying trier part) at ask answer is =
+      subst (λ (a : PartAsk). Goes number a answer (fed_at setting head (stages.Trying trier part) answer)) (same_Some (tries.ask_of trier) ask is)
+      (inl
+      (record {
+        own = own;
+        stage =
+            subst (λ (n : Option ℕ). IsAt n (by_tried setting head part (trier_fed trier answer))) (trying_lists_nothing number trier.stage answer)
+            (tried_at number head part at (trier_fed trier answer));
+      }))
+  goes_at number head own (stages.Loose round call) at ask (told.Disk answer) is =
+      inl
+      (record {
+        own = own;
+        stage =
+            subst (λ (n : Option ℕ). IsAt n (by_call setting head round (loose_fed call answer)))
+            (loose_lists_nothing number (disk_ask_of call) ask (told.Disk answer) is)
+            (reply_at number head own round at (loose_fed call answer) (reply_of (loose_fed call answer)));
+      })
+  goes_at number head own (stages.Loose round call) at ask (told.Core answer) is =
+      inl
+      (record {
+        own = own;
+        stage = subst (λ (n : Option ℕ). PartAt n round.part) (loose_lists_nothing number (disk_ask_of call) ask (told.Core answer) is) at;
+      })
+  goes_at number head own (stages.Looking purpose notes) at ask answer is =
+      subst (λ (a : PartAsk). Goes number a answer (fed_at setting head (stages.Looking purpose notes) answer)) (same_Some (asks.Core events.Look) ask is) (by answer)
+    where
+      by : (told_it : Answer) → Goes number (asks.Core events.Look) told_it (fed_at setting head (stages.Looking purpose notes) told_it)
+      by (told.Disk own_answer) = inl (record { own = own; stage = at })
+      by (told.Core (Ok effect)) =
+          looked number head own effect (by_look setting head purpose notes (view_shown effect)) (look_at number head effect purpose at notes (view_shown effect) refl)
+      by (told.Core (Err refusal)) = inl (record { own = own; stage = refused_at (of_refusal refusal) })
+  goes_at number head own (stages.Listing lister base notes) at ask (told.Disk answer) is =
+      inl (record { own = own; stage = listed_at (list_by number ask (told.Disk answer)) head base notes (lister_fed setting lister answer) })
+  goes_at number head own (stages.Listing lister base notes) at ask (told.Core answer) is = inl (record { own = own; stage = tt })
+  goes_at number head own (stages.Publishing listing notes) at ask (told.Disk answer) is = inl (record { own = own; stage = tt })
+  goes_at number head own (stages.Publishing listing notes) at ask (told.Core (Ok effect)) is =
+      subst (λ (a : PartAsk). Goes number a (told.Core (Ok effect)) (by_published setting head listing notes effect)) (same_Some (asks.Core (events.Publish listing)) ask is)
+      (inl (published_at number head own listing notes effect))
+  goes_at number head own (stages.Publishing listing notes) at ask (told.Core (Err refusal)) is = inl (record { own = own; stage = refused_at (of_refusal refusal) })
+  goes_at number head own (stages.Done reply) at ask answer is = absurd (cc is)
+
+  -- ---- a whole look-up
+
+  no_miss_at : (number : Option ℕ) (head : LookHead) (stage : LookStage) → IsAt number stage → ¬ (result_at head stage ≡ Ok (not_found query))
+  no_miss_at number head (stages.Done reply) at is = at (cc is)
+  no_miss_at number head (stages.Trying trier part) at is = cc is
+  no_miss_at number head (stages.Loose round call) at is = cc is
+  no_miss_at number head (stages.Looking purpose notes) at is = cc is
+  no_miss_at number head (stages.Listing lister base notes) at is = cc is
+  no_miss_at number head (stages.Publishing listing notes) at is = cc is
+
+  -- the same behind a list that had this number
+  record Ends (number : Option ℕ) (exchanges : List Exchange) : Type 0 where
+    before : List Exchange
+    last : Exchange
+    are : exchanges ≡ before ++ last ∷ []
+    asked : last.ask ≡ asks.Core events.Look
+    effect : Effect
+    answered : last.answer ≡ told.Core (Ok effect)
+    view : View
+    shown : view_in (Ok effect) ≡ Some view
+    newest : last_list number before ≡ Some view.list_no
+
+  later : (number : Option ℕ) (exchange : Exchange) (exchanges : List Exchange) → Ends (list_by number exchange.ask exchange.answer) exchanges
+      → Ends number (exchange ∷ exchanges)
+  later number exchange exchanges ends = record {
+    before = exchange ∷ ends.before;
+    last = ends.last;
+    are = ap (λ (es : List Exchange). exchange ∷ es) ends.are;
+    asked = ends.asked;
+    effect = ends.effect;
+    answered = ends.answered;
+    view = ends.view;
+    shown = ends.shown;
+    newest = ends.newest;
+  }
+
+  nothing_more : (look : LookUp) → ask_of look ≡ None → (exchanges : List Exchange) → AreAsked setting look exchanges → exchanges ≡ []
+  nothing_more look done [] asked = refl
+  nothing_more look done (exchange ∷ exchanges) asked = let wrong : None ≡ Some exchange.ask = sym done ∙ asked.0 in absurd (cc wrong)
+
+  here : (number : Option ℕ) (exchange : Exchange) (exchanges : List Exchange) (next : LookUp) → EndsHere number exchange.ask exchange.answer next
+      → AreAsked setting next exchanges → Ends number (exchange ∷ exchanges)
+  here number exchange exchanges next ends asked = record {
+    before = [];
+    last = exchange;
+    are = ap (λ (es : List Exchange). exchange ∷ es) (nothing_more next ends.checked.done exchanges asked);
+    asked = ends.asked;
+    effect = ends.effect;
+    answered = ends.answered;
+    view = ends.checked.view;
+    shown = ends.checked.shown;
+    newest = ends.checked.newest;
+  }
+
+  ends_at : (number : Option ℕ) (look : LookUp) → IsLookAt number look → (exchanges : List Exchange) → AreAsked setting look exchanges
+      → result_of (behind setting look exchanges) ≡ Ok (not_found query) → Ends number exchanges
+  ends_at number look at [] asked misses = absurd (no_miss_at number look.head look.stage at.stage misses)
+  ends_at number look at (exchange ∷ exchanges) asked misses =
+      elim (goes_at number (seen look.head exchange.answer) at.own look.stage at.stage exchange.ask exchange.answer asked.0) [
+        | inl next ↦
+            later number exchange exchanges
+            (ends_at (list_by number exchange.ask exchange.answer) (fed setting look exchange.answer) next exchanges asked.1 misses)
+        | inr ends ↦ here number exchange exchanges (fed setting look exchange.answer) ends asked.1
+      ]
+
+  module _ (id : ObjectId) (snapshot : View) where
+    starts_at : (b : Bool)
+        → IsAt None (cond b (try_view setting (new_head query id) parts.Snapshot snapshot [] without_notes) (stages.Looking (purposes.First true) without_notes))
+    starts_at true =
+        tried_at None (new_head query id) parts.Snapshot tt
+        (seek (goal_of setting (new_head query id)) (record { indices = snapshot.snapshot.indices; todo = []; notes = without_notes }))
+    starts_at false = tt
+
+    -- A look-up that found nothing ended at a look at the core, whose list is the one that was published or confirmed last for it.
+    pub misses_end_at_the_last_list : (exchanges : List Exchange) → AreAsked setting (started setting snapshot query id) exchanges
+        → result_of (behind setting (started setting snapshot query id) exchanges) ≡ Ok (not_found query) → EndAtLastList exchanges
+    misses_end_at_the_last_list exchanges asked misses =
+        let ends = ends_at None (started setting snapshot query id) (record { own = refl; stage = starts_at snapshot.read }) exchanges asked misses in
+        record {
+          before = ends.before;
+          last = ends.last;
+          are = ends.are;
+          asked = ends.asked;
+          effect = ends.effect;
+          answered = ends.answered;
+          view = ends.view;
+          shown = ends.shown;
+          newest = ends.newest;
+        }
