@@ -10,7 +10,7 @@ use std::alloc::Global;
 use thiserror::Error;
 
 /// What is wanted of an object.
-#[derive(Clone, Copy, Debug, PartialEq, Eq)]
+#[derive(Clone, Copy, PartialEq, Eq)]
 pub enum Wanted {
     /// Its kind and its data.
     Object,

@@ -1,6 +1,6 @@
 //! The folders of packs are listed, one after another.
 ghost use Rattle.std.specs.Prelude.{◌≡◌, [], IfOk, OnOk, slice_get, true};
-ghost use Rattle.gix_odb_packs.specs.ListOrder.{ask_of, at_paths, behind_folder, by_index, by_pack, closed, opened, read, started, with_row};
+ghost use Rattle.gix_odb_packs.specs.ListOrder.{ask_of, at_paths, behind_folder, by_index, by_pack, closed, fed_at, opened, read, started, with_row};
 ghost use Rattle.gix_odb_packs.specs.ListOrder as order;
 
 use crate::folders::{PathList, index_paths, pack_folder};
@@ -122,16 +122,49 @@ impl Lister {
         ensures fed { IfOk result (λ listed. listed ≡ order.fed folders.now self answer) }
     {
         if let DiskAnswer::Refused(DiskError::NoMemory) = answer {
+            drop(self);
             return Err(NoMemory);
         }
         let Lister { head, stage } = self;
-        match stage {
-            ListStage::Opening => opened(alloc, folders, head, answer),
-            ListStage::Reading { dir, entries } => read(head, dir, entries, answer),
-            ListStage::Closing { entries, .. } => closed(alloc, folders, head, entries),
-            ListStage::Breaking { .. } => Ok(ListStep::Broken),
-            ListStage::Index { path, left } => by_index(alloc, folders, head, path, left, answer),
-            ListStage::Pack { row, left } => by_pack(alloc, folders, head, row, left, answer),
+        fed_at(alloc, folders, head, stage, answer)
+    }
+}
+
+/// What it comes to behind the answer to what a stage asked for.
+fn fed_at(
+    alloc: Global,
+    folders: &[PathText],
+    head: ListHead,
+    stage: ListStage,
+    answer: DiskAnswer,
+) -> Result<ListStep, NoMemory>
+    ensures fed { IfOk result (λ listed. listed ≡ fed_at folders.now head stage answer) }
+{
+    match stage {
+        ListStage::Opening => {
+            let step = opened(alloc, folders, head, &answer);
+            drop(answer);
+            step
+        }
+        ListStage::Reading { dir, entries } => read(head, dir, entries, answer),
+        ListStage::Closing { entries, .. } => {
+            drop(answer);
+            closed(alloc, folders, head, entries)
+        }
+        ListStage::Breaking { .. } => {
+            drop(head);
+            drop(answer);
+            Ok(ListStep::Broken)
+        }
+        ListStage::Index { path, left } => {
+            let step = by_index(alloc, folders, head, path, left, &answer);
+            drop(answer);
+            step
+        }
+        ListStage::Pack { row, left } => {
+            let step = by_pack(alloc, folders, head, row, left, &answer);
+            drop(answer);
+            step
         }
     }
 }
@@ -168,13 +201,21 @@ fn more(head: ListHead, stage: ListStage) -> ListStep
 fn behind_folder(alloc: Global, folders: &[PathText], head: ListHead) -> Result<ListStep, NoMemory>
     ensures behind { IfOk result (λ listed. listed ≡ behind_folder head (slice_get folders.now head.next)) }
 {
-    let ListHead { next, rows, .. } = head;
+    let ListHead { folder, next, rows } = head;
+    drop(folder);
     let Some(folder) = folders.get(next) else {
         return Ok(ListStep::Rows(rows));
     };
-    let folder = pack_folder(alloc, folder)?;
-    let next = next + 1;
-    Ok(more(ListHead { folder, next, rows }, ListStage::Opening))
+    match pack_folder(alloc, folder) {
+        Ok(folder) => {
+            let next = next + 1;
+            Ok(more(ListHead { folder, next, rows }, ListStage::Opening))
+        }
+        Err(error) => {
+            drop(rows);
+            Err(error)
+        }
+    }
 }
 
 /// The stream of a folder is read from its beginning.
@@ -190,14 +231,17 @@ fn opened(
     alloc: Global,
     folders: &[PathText],
     head: ListHead,
-    answer: DiskAnswer,
+    answer: &DiskAnswer,
 ) -> Result<ListStep, NoMemory>
-    ensures opened { IfOk result (λ listed. listed ≡ opened folders.now head answer) }
+    ensures opened { IfOk result (λ listed. listed ≡ opened folders.now head answer.now) }
 {
-    match &answer {
+    match answer {
         DiskAnswer::Dir(dir) => Ok(reading(alloc, head, *dir)),
         DiskAnswer::Refused(DiskError::Absent) => behind_folder(alloc, folders, head),
-        _ => Ok(ListStep::Broken),
+        _ => {
+            drop(head);
+            Ok(ListStep::Broken)
+        }
     }
 }
 
@@ -244,11 +288,20 @@ fn at_paths(
     ensures at { IfOk result (λ listed. listed ≡ at_paths folders.now head left) }
 {
     let Some(path) = left.first() else {
+        drop(left);
         return behind_folder(alloc, folders, head);
     };
-    let path = path.try_clone(alloc)?;
-    left.advance();
-    Ok(more(head, ListStage::Index { path, left }))
+    match path.try_clone(alloc) {
+        Ok(path) => {
+            left.advance();
+            Ok(more(head, ListStage::Index { path, left }))
+        }
+        Err(error) => {
+            drop(head);
+            drop(left);
+            Err(error)
+        }
+    }
 }
 
 /// What it comes to that an index was looked at: its pack is looked at, where it is a file itself.
@@ -258,9 +311,9 @@ fn by_index(
     head: ListHead,
     path: PathText,
     left: Rest<PathText>,
-    answer: DiskAnswer,
+    answer: &DiskAnswer,
 ) -> Result<ListStep, NoMemory>
-    ensures by { IfOk result (λ listed. listed ≡ by_index folders.now head path left answer) }
+    ensures by { IfOk result (λ listed. listed ≡ by_index folders.now head path left answer.now) }
 {
     match answer {
         DiskAnswer::Meta(meta) if meta.kind == Kind::File => {
@@ -272,8 +325,16 @@ fn by_index(
             };
             Ok(more(head, ListStage::Pack { row, left }))
         }
-        DiskAnswer::Refused(DiskError::Failed) => Ok(ListStep::Broken),
-        _ => at_paths(alloc, folders, head, left),
+        DiskAnswer::Refused(DiskError::Failed) => {
+            drop(head);
+            drop(path);
+            drop(left);
+            Ok(ListStep::Broken)
+        }
+        _ => {
+            drop(path);
+            at_paths(alloc, folders, head, left)
+        }
     }
 }
 
@@ -291,19 +352,46 @@ impl ListHead {
 fn by_pack(
     alloc: Global,
     folders: &[PathText],
-    mut head: ListHead,
+    head: ListHead,
     row: ListingRow,
     left: Rest<PathText>,
-    answer: DiskAnswer,
+    answer: &DiskAnswer,
 ) -> Result<ListStep, NoMemory>
-    ensures by { IfOk result (λ listed. listed ≡ by_pack folders.now head row left answer) }
+    ensures by { IfOk result (λ listed. listed ≡ by_pack folders.now head row left answer.now) }
 {
     match answer {
         DiskAnswer::Meta(meta) if meta.kind == Kind::File => {
-            head.put(row)?;
+            behind_row(alloc, folders, head, row, left)
+        }
+        DiskAnswer::Refused(DiskError::Failed) => {
+            drop(head);
+            drop(row);
+            drop(left);
+            Ok(ListStep::Broken)
+        }
+        _ => {
+            drop(row);
             at_paths(alloc, folders, head, left)
         }
-        DiskAnswer::Refused(DiskError::Failed) => Ok(ListStep::Broken),
-        _ => at_paths(alloc, folders, head, left),
+    }
+}
+
+/// The next index of the folder is looked at, behind one that has this row.
+fn behind_row(
+    alloc: Global,
+    folders: &[PathText],
+    mut head: ListHead,
+    row: ListingRow,
+    left: Rest<PathText>,
+) -> Result<ListStep, NoMemory>
+    ensures behind { IfOk result (λ listed. listed ≡ at_paths folders.now (with_row head row) left) }
+{
+    match head.put(row) {
+        Ok(()) => at_paths(alloc, folders, head, left),
+        Err(error) => {
+            drop(left);
+            drop(head);
+            Err(error)
+        }
     }
 }

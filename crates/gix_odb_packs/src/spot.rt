@@ -8,7 +8,7 @@ use gix_odb_events::LoadedIndex;
 use gix_pack_files::index;
 
 /// Where an index says that an object stands: the place of its pack among the packs of the index, and the offset there.
-#[derive(Clone, Copy, Debug)]
+#[derive(Clone, Copy)]
 pub(crate) struct Spot {
     pub place: u32,
     pub offset: u64,

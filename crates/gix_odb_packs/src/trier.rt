@@ -174,9 +174,11 @@ impl Trier {
         let Trier { goal, ahead, stage } = self;
         match answer {
             Answer::Disk(answer) => behind_disk(alloc, goal, ahead, stage, answer),
-            Answer::Core(Ok(effect)) => behind_core(alloc, goal, ahead, stage, effect),
-            Answer::Core(Err(Refusal::NoMemory)) => Err(NoMemory),
-            Answer::Core(Err(refusal)) => Ok(refused(goal, ahead, stage, refusal)),
+            Answer::Core(answer) => {
+                let tried = behind_event(alloc, goal, ahead, stage, &answer);
+                drop(answer);
+                tried
+            }
         }
     }
 }
@@ -205,22 +207,49 @@ fn behind_disk(
     }
 }
 
+/// What it comes to behind an event. Want of memory ends it.
+fn behind_event(
+    alloc: Global,
+    goal: Goal,
+    ahead: Ahead,
+    stage: Stage,
+    answer: &Result<Effect, Refusal>,
+) -> Result<Tried, NoMemory>
+    ensures fed { IfOk result (λ tried. tried ≡ order.by_answer goal ahead stage (Answer.Core answer.now)) }
+{
+    match answer {
+        Ok(effect) => behind_core(alloc, goal, ahead, stage, effect),
+        Err(Refusal::NoMemory) => {
+            drop(ahead);
+            drop(stage);
+            Err(NoMemory)
+        }
+        Err(refusal) => Ok(refused(goal, ahead, stage, *refusal)),
+    }
+}
+
 /// What it comes to behind an event that wasn't refused.
 fn behind_core(
     alloc: Global,
     goal: Goal,
     ahead: Ahead,
     stage: Stage,
-    effect: Effect,
+    effect: &Effect,
 ) -> Result<Tried, NoMemory>
-    ensures fed { IfOk result (λ tried. tried ≡ behind_core goal ahead stage effect) }
+    ensures fed { IfOk result (λ tried. tried ≡ behind_core goal ahead stage effect.now) }
 {
     match stage {
         Stage::StoringIndex { place, file } => index_stored(
             alloc, goal, ahead, place, file, effect,
         ),
-        Stage::PassingIndex { .. } => seek(alloc, goal, ahead),
-        Stage::StoringPack { pack, file } => pack_stored(alloc, goal, pack, file, effect),
+        Stage::PassingIndex { place, .. } => {
+            drop(place);
+            seek(alloc, goal, ahead)
+        }
+        Stage::StoringPack { pack, file } => {
+            drop(ahead);
+            pack_stored(alloc, goal, pack, file, effect)
+        }
         Stage::PassingPack(pack) => pack_passed(alloc, goal, ahead, pack),
         stage => Ok(at(goal, ahead, stage)),
     }
@@ -251,8 +280,14 @@ fn at_search(alloc: Global, goal: Goal, ahead: Ahead, found: Sought) -> Result<T
 {
     match found {
         Sought::Nowhere => at_todo(alloc, goal, ahead),
-        Sought::Finds(found) => Ok(Tried::Hit(found)),
-        Sought::Fails(error) => Ok(Tried::Bad(error)),
+        Sought::Finds(found) => {
+            drop(ahead);
+            Ok(Tried::Hit(found))
+        }
+        Sought::Fails(error) => {
+            drop(ahead);
+            Ok(Tried::Bad(error))
+        }
         Sought::Wants(pack) => Ok(at(goal, ahead, Stage::ReadingPack(pack))),
     }
 }
@@ -262,10 +297,31 @@ fn at_todo(alloc: Global, goal: Goal, mut ahead: Ahead) -> Result<Tried, NoMemor
     ensures at { IfOk result (λ tried. tried ≡ at_todo goal ahead ahead.todo) }
 {
     let Some(todo) = ahead.todo.first() else {
-        return Ok(Tried::Missed(ahead.notes));
+        return Ok(missed(ahead));
     };
     let slot = todo.slot;
-    let path = todo.path.value().try_clone(alloc)?;
-    ahead.todo.advance();
-    Ok(at(goal, ahead, Stage::ReadingIndex(IndexPlace { slot, path })))
+    match todo.path.value().try_clone(alloc) {
+        Ok(path) => {
+            ahead.todo.advance();
+            Ok(at(goal, ahead, Stage::ReadingIndex(IndexPlace { slot, path })))
+        }
+        Err(error) => {
+            drop(ahead);
+            Err(error)
+        }
+    }
+}
+
+/// Nothing is left to be tried.
+fn missed(ahead: Ahead) -> Tried
+    ensures missed { result ≡ Tried.Missed ahead.notes }
+{
+    let Ahead {
+        indices,
+        todo,
+        notes,
+    } = ahead;
+    drop(indices);
+    drop(todo);
+    Tried::Missed(notes)
 }

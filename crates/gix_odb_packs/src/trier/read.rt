@@ -86,11 +86,18 @@ pub(super) fn index_read(
     ensures read { IfOk result (λ tried. tried ≡ index_read goal ahead place answer) }
 {
     match answer {
-        DiskAnswer::File { bytes, .. } => {
-            let stage = index_or_bad(alloc, goal, place, bytes)?;
-            Ok(at(goal, ahead, stage))
+        DiskAnswer::File { bytes, .. } => match index_or_bad(alloc, goal, place, bytes) {
+            Ok(stage) => Ok(at(goal, ahead, stage)),
+            Err(error) => {
+                drop(ahead);
+                Err(error)
+            }
+        },
+        DiskAnswer::Refused(DiskError::NoMemory) => {
+            drop(ahead);
+            drop(place);
+            Err(NoMemory)
         }
-        DiskAnswer::Refused(DiskError::NoMemory) => Err(NoMemory),
         answer => Ok(index_missed(goal, ahead, place, &answer)),
     }
 }
@@ -114,11 +121,19 @@ fn pack_or_bad(
     ensures read { IfOk result (λ tried. tried ≡ pack_or_bad goal ahead pack bytes) }
 {
     match data::File::parse(bytes, goal.id.kind()) {
-        Ok(file) => {
-            let file = Shared::new(alloc, file)?;
-            Ok(at(goal, ahead, Stage::StoringPack { pack, file }))
+        Ok(file) => match Shared::new(alloc, file) {
+            Ok(file) => Ok(at(goal, ahead, Stage::StoringPack { pack, file })),
+            Err(lack) => {
+                drop(ahead);
+                drop(pack);
+                Err(lack)
+            }
+        },
+        Err(_) => {
+            drop(ahead);
+            drop(pack);
+            Ok(Tried::Bad(Error::LoadPack))
         }
-        Err(_) => Ok(Tried::Bad(Error::LoadPack)),
     }
 }
 
@@ -135,7 +150,16 @@ pub(super) fn pack_read(
     match answer {
         DiskAnswer::File { bytes, .. } => pack_or_bad(alloc, goal, ahead, pack, bytes),
         DiskAnswer::Refused(DiskError::Absent) => Ok(at(goal, ahead, Stage::PassingPack(pack))),
-        DiskAnswer::Refused(DiskError::NoMemory) => Err(NoMemory),
-        _ => Ok(Tried::Bad(Error::LoadPack)),
+        DiskAnswer::Refused(DiskError::NoMemory) => {
+            drop(ahead);
+            drop(pack);
+            Err(NoMemory)
+        }
+        answer => {
+            drop(ahead);
+            drop(pack);
+            drop(answer);
+            Ok(Tried::Bad(Error::LoadPack))
+        }
     }
 }

@@ -84,12 +84,17 @@ pub(super) fn index_stored(
     ahead: Ahead,
     place: IndexPlace,
     file: Shared<index::File>,
-    effect: Effect,
+    effect: &Effect,
 ) -> Result<Tried, NoMemory>
-    ensures stored { IfOk result (λ tried. tried ≡ index_stored goal ahead place file effect) }
+    ensures stored { IfOk result (λ tried. tried ≡ index_stored goal ahead place file effect.now) }
 {
-    let found = search_stored(alloc, goal, &ahead.notes, place, file, &effect)?;
-    at_search(alloc, goal, ahead, found)
+    match search_stored(alloc, goal, &ahead.notes, place, file, effect) {
+        Ok(found) => at_search(alloc, goal, ahead, found),
+        Err(error) => {
+            drop(ahead);
+            Err(error)
+        }
+    }
 }
 
 /// What a look into a pack comes to.
@@ -144,11 +149,11 @@ pub(super) fn pack_stored(
     goal: Goal,
     pack: WantedPack,
     file: Shared<data::File>,
-    effect: Effect,
+    effect: &Effect,
 ) -> Result<Tried, NoMemory>
-    ensures stored { IfOk result (λ tried. tried ≡ pack_stored goal pack file effect) }
+    ensures stored { IfOk result (λ tried. tried ≡ pack_stored goal pack file effect.now) }
 {
-    let shown = pack_behind(&pack, &effect).unwrap_or(&file);
+    let shown = pack_behind(&pack, effect).unwrap_or(&file);
     Ok(by_given(goal.given_by(alloc, shown.value(), pack.offset)?))
 }
 
