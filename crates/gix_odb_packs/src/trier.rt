@@ -262,7 +262,11 @@ fn refused(goal: Goal, ahead: Ahead, stage: Stage, refusal: Refusal) -> Tried
     match stage {
         Stage::ReadingIndex(place) => at(goal, ahead, Stage::ReadingIndex(place)),
         Stage::ReadingPack(pack) => at(goal, ahead, Stage::ReadingPack(pack)),
-        _ => Tried::Broken(refusal),
+        stage => {
+            drop(ahead);
+            drop(stage);
+            Tried::Broken(refusal)
+        }
     }
 }
 

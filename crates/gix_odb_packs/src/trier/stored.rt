@@ -72,8 +72,17 @@ fn search_stored(
     ensures search { IfOk result (λ search. search ≡ search_stored goal notes.now place file effect.now) }
 {
     match shown_behind(&place, effect) {
-        Some(shown) => goal.tried(alloc, notes, shown),
-        None => goal.tried(alloc, notes, &own_index(alloc, place, file)?),
+        Some(shown) => {
+            drop(place);
+            drop(file);
+            goal.tried(alloc, notes, shown)
+        }
+        None => {
+            let own = own_index(alloc, place, file)?;
+            let found = goal.tried(alloc, notes, &own);
+            drop(own);
+            found
+        }
     }
 }
 
@@ -154,7 +163,10 @@ pub(super) fn pack_stored(
     ensures stored { IfOk result (λ tried. tried ≡ pack_stored goal pack file effect.now) }
 {
     let shown = pack_behind(&pack, effect).unwrap_or(&file);
-    Ok(by_given(goal.given_by(alloc, shown.value(), pack.offset)?))
+    let given = goal.given_by(alloc, shown.value(), pack.offset);
+    drop(pack);
+    drop(file);
+    Ok(by_given(given?))
 }
 
 /// What it comes to that an absent pack was passed over.
