@@ -11,7 +11,7 @@ mod parts;
 
 use gix_hash::ObjectId;
 use gix_odb_calls::{Query, Reply, StoreParts};
-use gix_odb_events::{Answer, Event, Listing, PartAsk, Refusal, View};
+use gix_odb_events::{Answer, Event, Listing, PartAsk, View};
 use gix_odb_loose::LooseCall;
 use gix_odb_packs::{Lister, Notes, Trier};
 use odb_base::{NoMemory, PathText};
@@ -209,15 +209,7 @@ impl LookUp {
         ensures fed { IfOk result (λ look. look ≡ order.fed (setting_of setting.now) self answer) }
     {
         let LookUp { head, stage } = self;
-        let head = head.seen(&answer);
-        match answer {
-            Answer::Disk(answer) => answered::by_disk(alloc, setting, head, stage, answer),
-            Answer::Core(Ok(effect)) => answered::by_effect(alloc, setting, head, stage, effect),
-            Answer::Core(Err(Refusal::NoMemory)) => Err(NoMemory),
-            Answer::Core(Err(refusal)) => answered::by_refusal(
-                alloc, setting, head, stage, refusal,
-            ),
-        }
+        answered::fed(alloc, setting, head.seen(&answer), stage, answer)
     }
 
     /// The reply of a look-up that is done, or the look-up that goes on.

@@ -1,9 +1,10 @@
 //! What comes behind an answer to a look-up.
-ghost use Rattle.std.specs.Prelude.{◌≡◌, IfOk, Some, Ok, Err};
+ghost use Rattle.std.specs.Prelude.{◌≡◌, IfOk, Some};
 ghost use Rattle.std.specs.Option.{option_copied};
+ghost use Rattle.gix_odb_looks.specs.LoadIndex.{of_refusal};
 ghost use Rattle.gix_odb_looks.specs.LookUpOrder.{setting_of};
+ghost use Rattle.gix_odb_packs.specs.LongestFirst.{longest_first};
 ghost use Rattle.gix_odb_looks.specs.LookUpOrder as order;
-ghost use Rattle.gix_odb_events.specs.declared.answer.Answer.TheVariants as told;
 
 use super::parts::{
     by_tried, by_verdict, ended, is_unsettled, listing_from, load_refused, try_view, unsettled,
@@ -12,7 +13,7 @@ use super::{LookHead, LookStage, LookUp, LooseRound, Part, Purpose, Setting};
 use crate::load_index::of_refusal;
 use gix_odb_calls::load_index;
 use gix_odb_calls::verdict::verdict_on;
-use gix_odb_events::{Answer, Effect, Listing, Refusal, View};
+use gix_odb_events::{Answer, Effect, Listing, ListingRowList, Refusal, View};
 use gix_odb_loose::LooseCall;
 use gix_odb_packs::longest_first::longest_first;
 use gix_odb_packs::{ListStep, Lister, Notes, Trier};
@@ -26,81 +27,42 @@ fn at(head: LookHead, stage: LookStage) -> LookUp
     LookUp { head, stage }
 }
 
-/// What comes behind an answer of the disk.
-pub(super) fn by_disk(
+/// What comes behind an answer at a stage.
+pub(super) fn fed(
     alloc: Global,
     setting: &Setting<'_>,
     head: LookHead,
     stage: LookStage,
-    answer: DiskAnswer,
+    answer: Answer,
 ) -> Result<LookUp, NoMemory>
-    ensures fed { IfOk result (λ look. look ≡ order.fed_at (setting_of setting.now) head stage (told.Disk answer)) }
+    ensures fed { IfOk result (λ look. look ≡ order.fed_at (setting_of setting.now) head stage answer) }
 {
-    let stage = match stage {
-        LookStage::Trying { trier, part } => {
-            by_trier(alloc, setting, head, trier, part, Answer::Disk(answer))?
-        }
-        LookStage::Loose { round, call } => by_call(alloc, setting, head, round, call, answer)?,
+    match stage {
+        LookStage::Trying { trier, part } => by_trier(alloc, setting, head, trier, part, answer),
+        LookStage::Loose { round, call } => by_call(alloc, setting, head, round, call, answer),
         LookStage::Listing {
             lister,
             base,
             notes,
-        } => by_lister(alloc, setting, lister, base, notes, answer)?,
-        stage => stage,
-    };
-    Ok(at(head, stage))
-}
-
-/// What comes behind an event that wasn't refused.
-pub(super) fn by_effect(
-    alloc: Global,
-    setting: &Setting<'_>,
-    head: LookHead,
-    stage: LookStage,
-    effect: Effect,
-) -> Result<LookUp, NoMemory>
-    ensures fed { IfOk result (λ look. look ≡ order.fed_at (setting_of setting.now) head stage (told.Core (Ok effect))) }
-{
-    match stage {
-        LookStage::Trying { trier, part } => {
-            let answer = Answer::Core(Ok(effect));
-            Ok(at(head, by_trier(alloc, setting, head, trier, part, answer)?))
-        }
+        } => by_lister(alloc, setting, head, lister, base, notes, answer),
         LookStage::Looking { purpose, notes } => {
-            Ok(at(
-                head,
-                by_look(alloc, setting, head, purpose, notes, &effect)?,
-            ))
+            let look = looked(alloc, setting, head, purpose, notes, &answer);
+            drop(answer);
+            look
         }
         LookStage::Publishing { listing, notes } => {
-            by_published(alloc, setting, head, listing, notes, &effect)
+            let look = published(alloc, setting, head, listing, notes, &answer);
+            drop(answer);
+            look
         }
-        stage => Ok(at(head, stage)),
+        LookStage::Done(reply) => {
+            drop(answer);
+            Ok(at(head, LookStage::Done(reply)))
+        }
     }
 }
 
-/// What comes behind an event that was refused.
-pub(super) fn by_refusal(
-    alloc: Global,
-    setting: &Setting<'_>,
-    head: LookHead,
-    stage: LookStage,
-    refusal: Refusal,
-) -> Result<LookUp, NoMemory>
-    ensures fed { IfOk result (λ look. look ≡ order.fed_at (setting_of setting.now) head stage (told.Core (Err refusal))) }
-{
-    match stage {
-        LookStage::Trying { trier, part } => {
-            let answer = Answer::Core(Err(refusal));
-            Ok(at(head, by_trier(alloc, setting, head, trier, part, answer)?))
-        }
-        LookStage::Looking { .. } | LookStage::Publishing { .. } => {
-            Ok(at(head, LookStage::Done(load_refused(of_refusal(refusal)))))
-        }
-        stage => Ok(at(head, stage)),
-    }
-}
-
+/// What comes behind a step of trying.
 fn by_trier(
     alloc: Global,
     setting: &Setting<'_>,
@@ -108,57 +70,184 @@ fn by_trier(
     trier: Trier,
     part: Part,
     answer: Answer,
-) -> Result<LookStage, NoMemory>
-    ensures by { IfOk result (λ stage. stage ≡ order.by_tried (setting_of setting.now) head part (order.trier_fed trier answer)) }
+) -> Result<LookUp, NoMemory>
+    ensures by { IfOk result (λ look. look ≡ order.at head (order.by_tried (setting_of setting.now) head part (order.trier_fed trier answer))) }
 {
     let tried = trier.feed(alloc, answer)?;
-    by_tried(alloc, setting, head, part, tried)
+    Ok(at(head, by_tried(alloc, setting, head, part, tried)?))
 }
 
-/// What comes behind a step of a folder's call.
+/// What comes behind an answer to a folder's call. One of the core leaves it.
 fn by_call(
     alloc: Global,
     setting: &Setting<'_>,
     head: LookHead,
     round: LooseRound,
     call: LooseCall,
-    answer: DiskAnswer,
-) -> Result<LookStage, NoMemory>
-    ensures by { IfOk result (λ stage. stage ≡ order.by_call (setting_of setting.now) head round (order.loose_fed call answer)) }
+    answer: Answer,
+) -> Result<LookUp, NoMemory>
+    ensures by { IfOk result (λ look. look ≡ order.fed_at (setting_of setting.now) head (LookStage.Loose round call) answer) }
 {
-    match call.feed(alloc, answer)?.into_reply() {
+    match answer {
+        Answer::Disk(answer) => call_fed(alloc, setting, head, round, call, answer),
+        answer => {
+            drop(answer);
+            Ok(at(head, LookStage::Loose { round, call }))
+        }
+    }
+}
+
+/// What comes behind a step of a folder's call.
+fn call_fed(
+    alloc: Global,
+    setting: &Setting<'_>,
+    head: LookHead,
+    round: LooseRound,
+    call: LooseCall,
+    answer: DiskAnswer,
+) -> Result<LookUp, NoMemory>
+    ensures by { IfOk result (λ look. look ≡ order.at head (order.by_call (setting_of setting.now) head round (order.loose_fed call answer))) }
+{
+    match call.feed(alloc, answer) {
+        Ok(call) => Ok(at(head, called(alloc, setting, head, round, call)?)),
+        Err(error) => {
+            drop(round);
+            Err(error)
+        }
+    }
+}
+
+/// What comes behind a folder's call that was fed: that of its reply, where it has one.
+fn called(
+    alloc: Global,
+    setting: &Setting<'_>,
+    head: LookHead,
+    round: LooseRound,
+    call: LooseCall,
+) -> Result<LookStage, NoMemory>
+    ensures by { IfOk result (λ stage. stage ≡ order.by_call (setting_of setting.now) head round call) }
+{
+    match call.into_reply() {
         Ok(reply) => by_verdict(alloc, setting, head, round, verdict_on(head.query, reply)),
         Err(call) => Ok(LookStage::Loose { round, call }),
     }
 }
 
-/// What comes behind a step of a listing.
+/// What comes behind an answer to a listing. One of the core leaves it.
 fn by_lister(
     alloc: Global,
     setting: &Setting<'_>,
+    head: LookHead,
+    lister: Lister,
+    base: u64,
+    notes: Notes,
+    answer: Answer,
+) -> Result<LookUp, NoMemory>
+    ensures by { IfOk result (λ look. look ≡ order.fed_at (setting_of setting.now) head (LookStage.Listing lister base notes) answer) }
+{
+    match answer {
+        Answer::Disk(answer) => lister_fed(alloc, setting, head, lister, base, notes, answer),
+        answer => {
+            drop(answer);
+            let stage = LookStage::Listing {
+                lister,
+                base,
+                notes,
+            };
+            Ok(at(head, stage))
+        }
+    }
+}
+
+/// What comes behind a step of a listing.
+fn lister_fed(
+    alloc: Global,
+    setting: &Setting<'_>,
+    head: LookHead,
     lister: Lister,
     base: u64,
     notes: Notes,
     answer: DiskAnswer,
-) -> Result<LookStage, NoMemory>
-    ensures by { IfOk result (λ stage. stage ≡ order.by_listed base notes (order.lister_fed (setting_of setting.now) lister answer)) }
+) -> Result<LookUp, NoMemory>
+    ensures by { IfOk result (λ look. look ≡ order.at head (order.by_listed base notes (order.lister_fed (setting_of setting.now) lister answer))) }
 {
-    match lister.feed(alloc, setting.parts.folders.as_slice(), answer)? {
+    match lister.feed(alloc, setting.parts.folders.as_slice(), answer) {
+        Ok(step) => Ok(at(head, by_step(base, notes, step)?)),
+        Err(error) => {
+            drop(notes);
+            Err(error)
+        }
+    }
+}
+
+/// What comes behind what a listing came to.
+fn by_step(base: u64, notes: Notes, step: ListStep) -> Result<LookStage, NoMemory>
+    ensures by { IfOk result (λ stage. stage ≡ order.by_listed base notes step) }
+{
+    match step {
         ListStep::More(lister) => Ok(LookStage::Listing {
             lister,
             base,
             notes,
         }),
-        ListStep::Rows(rows) => {
-            let rows = longest_first(rows)?;
-            let listing = Listing { base, rows };
-            Ok(LookStage::Publishing { listing, notes })
-        }
+        ListStep::Rows(rows) => publishing(base, notes, rows),
         ListStep::Broken => Ok(LookStage::Done(load_refused(load_index::Error::Io))),
     }
 }
 
-/// What comes behind a look at the core.
+/// The rows of a listing are to be published.
+fn publishing(base: u64, notes: Notes, rows: ListingRowList) -> Result<LookStage, NoMemory>
+    ensures publishes { IfOk result (λ stage. stage ≡ LookStage.Publishing (record { base = base; rows = longest_first rows }) notes) }
+{
+    match longest_first(rows) {
+        Ok(rows) => Ok(LookStage::Publishing {
+            listing: Listing { base, rows },
+            notes,
+        }),
+        Err(error) => {
+            drop(notes);
+            Err(error)
+        }
+    }
+}
+
+/// What comes behind an answer to a look at the core. One of the disk leaves the stage.
+fn looked(
+    alloc: Global,
+    setting: &Setting<'_>,
+    head: LookHead,
+    purpose: Purpose,
+    notes: Notes,
+    answer: &Answer,
+) -> Result<LookUp, NoMemory>
+    ensures by { IfOk result (λ look. look ≡ order.fed_at (setting_of setting.now) head (LookStage.Looking purpose notes) answer.now) }
+{
+    match answer {
+        Answer::Core(Ok(effect)) => {
+            Ok(at(
+                head,
+                by_look(alloc, setting, head, purpose, notes, effect)?,
+            ))
+        }
+        Answer::Core(Err(refusal)) => {
+            drop(notes);
+            Ok(at(head, refused(*refusal)?))
+        }
+        Answer::Disk(_) => Ok(at(head, LookStage::Looking { purpose, notes })),
+    }
+}
+
+/// The end of a look-up whose event was refused. Want of memory is handed on.
+fn refused(refusal: Refusal) -> Result<LookStage, NoMemory>
+    ensures refused { IfOk result (λ stage. stage ≡ LookStage.Done (order.load_refused (of_refusal refusal))) }
+{
+    match refusal {
+        Refusal::NoMemory => Err(NoMemory),
+        refusal => Ok(LookStage::Done(load_refused(of_refusal(refusal)))),
+    }
+}
+
+/// What comes behind a look at the core that showed something.
 fn by_look(
     alloc: Global,
     setting: &Setting<'_>,
@@ -230,7 +319,29 @@ impl LookHead {
     }
 }
 
-/// What comes behind a listing that was handed to the core.
+/// What comes behind an answer to a listing that was handed to the core. One of the disk leaves the stage.
+fn published(
+    alloc: Global,
+    setting: &Setting<'_>,
+    head: LookHead,
+    listing: Listing,
+    notes: Notes,
+    answer: &Answer,
+) -> Result<LookUp, NoMemory>
+    ensures by { IfOk result (λ look. look ≡ order.fed_at (setting_of setting.now) head (LookStage.Publishing listing notes) answer.now) }
+{
+    match answer {
+        Answer::Core(Ok(effect)) => by_published(alloc, setting, head, listing, notes, effect),
+        Answer::Core(Err(refusal)) => {
+            drop(listing);
+            drop(notes);
+            Ok(at(head, refused(*refusal)?))
+        }
+        Answer::Disk(_) => Ok(at(head, LookStage::Publishing { listing, notes })),
+    }
+}
+
+/// What comes behind a listing that the core took, or found outdated.
 fn by_published(
     alloc: Global,
     setting: &Setting<'_>,

@@ -94,13 +94,20 @@ fn loose_from(
     ensures from { IfOk result (λ stage. stage ≡ order.loose_from (setting_of setting.now) head part notes) }
 {
     let parts = setting.parts;
-    let call = head.loose(alloc, &parts.objects, parts.alloc_limit_bytes)?;
-    let round = LooseRound {
-        next: 0,
-        notes,
-        part,
-    };
-    Ok(LookStage::Loose { round, call })
+    match head.loose(alloc, &parts.objects, parts.alloc_limit_bytes) {
+        Ok(call) => {
+            let round = LooseRound {
+                next: 0,
+                notes,
+                part,
+            };
+            Ok(LookStage::Loose { round, call })
+        }
+        Err(error) => {
+            drop(notes);
+            Err(error)
+        }
+    }
 }
 
 impl LookHead {
@@ -126,13 +133,18 @@ pub(super) fn listing_from(
 ) -> Result<LookStage, NoMemory>
     ensures from { IfOk result (λ stage. stage ≡ order.listing_from (setting_of setting.now) base notes) }
 {
-    let lister = Lister::start(alloc, &setting.parts.objects)?;
     let notes = notes.without_absent(alloc);
-    Ok(LookStage::Listing {
-        lister,
-        base,
-        notes,
-    })
+    match Lister::start(alloc, &setting.parts.objects) {
+        Ok(lister) => Ok(LookStage::Listing {
+            lister,
+            base,
+            notes,
+        }),
+        Err(error) => {
+            drop(notes);
+            Err(error)
+        }
+    }
 }
 
 /// What comes behind the indices of a list.
@@ -250,10 +262,17 @@ fn at_folder(
     let Some(folder) = setting.parts.folders.as_slice().get(next) else {
         return after_loose(alloc, setting, part, notes);
     };
-    let call = head.loose(alloc, folder, setting.parts.alloc_limit_bytes)?;
-    let next = next + 1;
-    let round = LooseRound { next, notes, part };
-    Ok(LookStage::Loose { round, call })
+    match head.loose(alloc, folder, setting.parts.alloc_limit_bytes) {
+        Ok(call) => {
+            let next = next + 1;
+            let round = LooseRound { next, notes, part };
+            Ok(LookStage::Loose { round, call })
+        }
+        Err(error) => {
+            drop(notes);
+            Err(error)
+        }
+    }
 }
 
 impl LooseRound {
@@ -278,9 +297,15 @@ pub(super) fn by_verdict(
     ensures by { IfOk result (λ stage. stage ≡ order.by_verdict (setting_of setting.now) head round verdict) }
 {
     match verdict {
-        Verdict::Ends(reply) => Ok(LookStage::Done(reply)),
+        Verdict::Ends(reply) => {
+            drop(round);
+            Ok(LookStage::Done(reply))
+        }
         Verdict::Misses => at_folder(alloc, setting, head, round),
-        Verdict::Notes(_) => at_folder(alloc, setting, head, round.noting()),
+        Verdict::Notes(error) => {
+            drop(error);
+            at_folder(alloc, setting, head, round.noting())
+        }
     }
 }
 
