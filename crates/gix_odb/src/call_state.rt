@@ -108,11 +108,13 @@ impl CallState {
                 Ok(CallState::Looking(look.feed(alloc, &setting, answer)?))
             }
             CallState::Refreshing { refresh, write } => {
-                let refresh = refresh.feed(alloc, handle.parts(), answer)?;
-                Ok(fronted(refresh, write))
+                refreshed_on(alloc, handle, refresh, write, answer)
             }
             CallState::Writing(call) => Ok(CallState::Writing(written_on(alloc, call, answer)?)),
-            CallState::Refused(error) => Ok(CallState::Refused(error)),
+            CallState::Refused(error) => {
+                drop(answer);
+                Ok(CallState::Refused(error))
+            }
         }
     }
 
@@ -148,13 +150,35 @@ fn write_ask(alloc: Global, call: &LooseCall) -> Result<Option<PartAsk>, NoMemor
     }
 }
 
+// A write after an answer to what stands in front of it.
+fn refreshed_on(
+    alloc: Global,
+    handle: &HandleState,
+    refresh: Refresh,
+    write: LooseCall,
+    answer: Answer,
+) -> Result<CallState, NoMemory>
+    ensures fed { IfOk result (λ state. state ≡ calls.fed (setting_at handle.now) (CallState.Refreshing refresh write) answer) }
+{
+    match refresh.feed(alloc, handle.parts(), answer) {
+        Ok(refresh) => Ok(fronted(refresh, write)),
+        Err(error) => {
+            drop(write);
+            Err(error)
+        }
+    }
+}
+
 // A write after an answer.
 fn written_on(alloc: Global, call: LooseCall, answer: Answer) -> Result<LooseCall, NoMemory>
     ensures fed { IfOk result (λ next. next ≡ calls.written_on call answer) }
 {
     match answer {
         Answer::Disk(answer) => call.feed(alloc, answer),
-        Answer::Core(_) => Ok(call),
+        answer => {
+            drop(answer);
+            Ok(call)
+        }
     }
 }
 
@@ -213,7 +237,10 @@ fn fronted(refresh: Refresh, write: LooseCall) -> CallState
 {
     match refresh {
         Refresh::Ready => CallState::Writing(write),
-        Refresh::Refused(error) => CallState::Refused(error),
+        Refresh::Refused(error) => {
+            drop(write);
+            CallState::Refused(error)
+        }
         refresh => CallState::Refreshing { refresh, write },
     }
 }
@@ -258,11 +285,21 @@ fn told(reply: LooseReply) -> Reply
     ensures told { result ≡ wrote_as reply }
 {
     match reply {
-        LooseReply::Wrote(Ok(id)) => Reply::Wrote(id),
-        LooseReply::Wrote(Err(error)) => {
-            Reply::Refused(CallError::Write(write::Error::LooseWrite(error)))
-        }
+        LooseReply::Wrote(answer) => wrote(answer),
         // A write comes to nothing else.
-        LooseReply::Contains(_) | LooseReply::Found(_) | LooseReply::Header(_) => Reply::NotFound,
+        reply => {
+            drop(reply);
+            Reply::NotFound
+        }
+    }
+}
+
+// The reply of a write that came to this.
+fn wrote(answer: Result<ObjectId, gix_odb_loose::write::Error>) -> Reply
+    ensures told { result ≡ wrote_as (LooseReply.Wrote answer) }
+{
+    match answer {
+        Ok(id) => Reply::Wrote(id),
+        Err(error) => Reply::Refused(CallError::Write(write::Error::LooseWrite(error))),
     }
 }

@@ -88,7 +88,10 @@ impl OpenState {
                 let step = lister.feed(alloc, folders, answer)?;
                 Ok(listed_on(percent, minimum, step))
             }
-            state => Ok(state),
+            state => {
+                drop(answer);
+                Ok(state)
+            }
         }
     }
 
