@@ -224,10 +224,7 @@ fn looked(
 {
     match answer {
         Answer::Core(Ok(effect)) => {
-            Ok(at(
-                head,
-                by_look(alloc, setting, head, purpose, notes, effect)?,
-            ))
+            Ok(at(head, by_look(alloc, setting, head, purpose, notes, effect)?))
         }
         Answer::Core(Err(refusal)) => {
             drop(notes);
