@@ -140,12 +140,15 @@ impl Core {
     {
         let Core { opening, state } = self;
         let State {
-            shape: _,
-            view: _,
-            passed: _,
+            shape,
+            view,
+            passed,
             refreshes: _,
             journal,
         } = state;
+        drop(shape);
+        drop(view);
+        drop(passed);
         Remains { opening, journal }
     }
 

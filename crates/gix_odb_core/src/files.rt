@@ -39,6 +39,7 @@ impl Shape {
             return Ok(Turn::quiet(Told::Put { stored: false }));
         };
         if self.state_id == u64::MAX {
+            drop(filled);
             return Ok(Turn::quiet(Told::Refused(Refusal::GenerationOverflow)));
         }
         Ok(Turn {

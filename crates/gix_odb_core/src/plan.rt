@@ -61,10 +61,12 @@ fn answer_twice(told: &Told, view: &View) -> Result<Answers, NoMemory>
     }
 }
 
-/// The plan that leaves this, and is shown and answered so.
-fn plan_of(shelf: Option<Shelf>, view: View, answers: Answers) -> Plan
-    ensures plan { result ≡ record { shelf = shelf; view = view; kept = answers.kept; given = answers.given } }
+/// The plan of a turn that is shown and answered so.
+fn plan_of(turn: Turn, view: View, answers: Answers) -> Plan
+    ensures plan { result ≡ record { shelf = turn.shelf; view = view; kept = answers.kept; given = answers.given } }
 {
+    let Turn { shelf, told } = turn;
+    drop(told);
     let Answers { kept, given } = answers;
     Plan {
         shelf,
@@ -74,20 +76,26 @@ fn plan_of(shelf: Option<Shelf>, view: View, answers: Answers) -> Plan
     }
 }
 
-/// The plan of what an event leaves and tells, whose entry has this number.
-fn planned_with(
+/// What is shown behind a turn, and its answer twice.
+fn shown_with(
     alloc: Global,
     view: &View,
-    shelf: Option<Shelf>,
-    told: &Told,
+    turn: &Turn,
     entry: u64,
-) -> Result<Plan, NoMemory>
-    requires few { IfSome shelf (λ shelf. length shelf.slots ≤ most_slots) }
-    ensures plan { IfOk result (λ plan. IsPlan view.now (record { shelf = shelf; told = told.now }) entry plan) }
+) -> Result<(View, Answers), NoMemory>
+    requires few { IfSome turn.now.shelf (λ shelf. length shelf.slots ≤ most_slots) }
+    ensures view { IfOk result (λ shown. shown.0 ≡ view_behind view.now turn.now.shelf entry) }
+    ensures kept { IfOk result (λ shown. shown.1.kept ≡ answer_with turn.now.told (view_behind view.now turn.now.shelf entry)) }
+    ensures given { IfOk result (λ shown. shown.1.given ≡ answer_with turn.now.told (view_behind view.now turn.now.shelf entry)) }
 {
-    let view = view_behind(alloc, view, &shelf, entry)?;
-    let answers = answer_twice(told, &view)?;
-    Ok(plan_of(shelf, view, answers))
+    let view = view_behind(alloc, view, &turn.shelf, entry)?;
+    match answer_twice(&turn.told, &view) {
+        Ok(answers) => Ok((view, answers)),
+        Err(lack) => {
+            drop(view);
+            Err(lack)
+        }
+    }
 }
 
 /// The plan of a turn, whose entry has this number.
@@ -95,6 +103,11 @@ pub(crate) fn planned(alloc: Global, view: &View, turn: Turn, entry: u64) -> Res
     requires few { IfSome turn.shelf (λ shelf. length shelf.slots ≤ most_slots) }
     ensures plan { IfOk result (λ plan. IsPlan view.now turn entry plan) }
 {
-    let Turn { shelf, told } = turn;
-    planned_with(alloc, view, shelf, &told, entry)
+    match shown_with(alloc, view, &turn, entry) {
+        Ok((view, answers)) => Ok(plan_of(turn, view, answers)),
+        Err(lack) => {
+            drop(turn);
+            Err(lack)
+        }
+    }
 }

@@ -83,12 +83,15 @@ impl State {
         ensures journal { result ≡ self.journal }
     {
         let State {
-            shape: _,
-            view: _,
-            passed: _,
+            shape,
+            view,
+            passed,
             refreshes: _,
             journal,
         } = self;
+        drop(shape);
+        drop(view);
+        drop(passed);
         journal
     }
 
