@@ -7,8 +7,9 @@ use crate::call::{CallError, Reply};
 use crate::find;
 use crate::query::Query;
 use gix_hash::ObjectId;
+use gix_object::Kind;
 use gix_odb_loose::{LooseCall, LooseJob, LooseReply};
-use odb_base::{NoMemory, PathText};
+use odb_base::{ByteList, NoMemory, PathText};
 use std::alloc::Global;
 
 /// What the reply of one folder means for the query.
@@ -53,17 +54,36 @@ pub fn verdict_on(query: Query, reply: LooseReply) -> Verdict
     ensures verdict { result ≡ queries.verdict_on query reply }
 {
     match (query, reply) {
-        (Query::Find(_), LooseReply::Found(Ok(Some((kind, bytes))))) => {
-            Verdict::Ends(Reply::Found { kind, bytes })
-        }
-        (Query::Find(_), LooseReply::Found(Err(error))) => Verdict::Ends(refused(error)),
-        (Query::Header(_), LooseReply::Header(Ok(Some((size, kind))))) => {
-            Verdict::Ends(Reply::Header(find::Header::Loose { kind, size }))
-        }
-        (Query::Header(_), LooseReply::Header(Err(error))) => Verdict::Ends(refused(error)),
+        (Query::Find(_), LooseReply::Found(answer)) => verdict_on_find(answer),
+        (Query::Header(_), LooseReply::Header(answer)) => verdict_on_header(answer),
         (Query::Test(_), LooseReply::Contains(answer)) => verdict_on_test(answer),
-        // Nothing is at the path; or the reply is that to another job, which no folder gives.
-        _ => Verdict::Misses,
+        // The reply is that to another job, which no folder gives.
+        (_, reply) => {
+            drop(reply);
+            Verdict::Misses
+        }
+    }
+}
+
+// An object ends a find, as an error does; nothing at the path is a miss.
+fn verdict_on_find(answer: Result<Option<(Kind, ByteList)>, gix_odb_loose::find::Error>) -> Verdict
+    ensures verdict { (id : ObjectId) → result ≡ queries.verdict_on (Query.Find id) (LooseReply.Found answer) }
+{
+    match answer {
+        Ok(Some((kind, bytes))) => Verdict::Ends(Reply::Found { kind, bytes }),
+        Ok(None) => Verdict::Misses,
+        Err(error) => Verdict::Ends(refused(error)),
+    }
+}
+
+// The same of a header.
+fn verdict_on_header(answer: Result<Option<(u64, Kind)>, gix_odb_loose::find::Error>) -> Verdict
+    ensures verdict { (id : ObjectId) → result ≡ queries.verdict_on (Query.Header id) (LooseReply.Header answer) }
+{
+    match answer {
+        Ok(Some((size, kind))) => Verdict::Ends(Reply::Header(find::Header::Loose { kind, size })),
+        Ok(None) => Verdict::Misses,
+        Err(error) => Verdict::Ends(refused(error)),
     }
 }
 
