@@ -1,5 +1,5 @@
 -- What is shown of slots: the loaded files of the listed ones, those of the others, and what is still to be loaded.
-use Rattle.std.specs.Prelude.{ℕ, Bool, false, List, get_or, Option, Some, None, option_map, if◌then◌else◌, nat_eq}
+use Rattle.std.specs.Prelude.{ℕ, Bool, true, false, List, get_or, Option, Some, None, option_map, if◌then◌else◌, nat_eq}
 use Rattle.std.specs.List.{filter_map, list_any, enumerate_from}
 use Rattle.gix_odb_events.specs.OnDiskFile.{loaded}
 use Rattle.gix_odb_slots.specs.Publish.{slot_at}
@@ -27,6 +27,11 @@ shown_slot place (Some filled) =
 abbrev pub todo_of : ℕ → Option LoadedIndex → Filled → Option Todo
 todo_of place None filled = Some (record { slot = place; path = index_path filled.index })
 todo_of place (Some index) filled = None
+
+-- whether its bytes are at hand. No public clause cites this
+abbrev pub is_index_loaded : Option LoadedIndex → Bool
+is_index_loaded None = false
+is_index_loaded (Some index) = true
 
 abbrev pub unloaded_slot : ℕ → Slot → Option Todo
 unloaded_slot place None = None

@@ -2,7 +2,7 @@
 ghost use Rattle.std.specs.Prelude.{◌≡◌, ◌≤◌, ◌<◌, ◌++◌, ◌||◌, ℕ, false, None, Some, IfOk, OnOk, get_or, length, nat_eq, if◌then◌else◌};
 ghost use Rattle.std.specs.Option.{option_to_list};
 ghost use Rattle.gix_odb_slots.specs.Publish.{slot_at};
-ghost use Rattle.gix_odb_slots.specs.Shown.{is_listed, kept_unmarked, loaded_index, shown_indices, shown_kept, shown_slot, shown_todo, unloaded_slot};
+ghost use Rattle.gix_odb_slots.specs.Shown.{is_index_loaded, is_listed, kept_unmarked, loaded_index, shown_indices, shown_kept, shown_slot, shown_todo, unloaded_slot};
 ghost use Rattle.gix_odb_events.specs.PackId.{most_slots};
 
 use crate::slot::{Filled, IndexFile, Slot};
@@ -63,17 +63,27 @@ fn shown_slot(place: u16, slot: &Slot) -> Result<Option<SnapshotIndex>, NoMemory
     }
 }
 
+/// Whether the bytes of the index of a slot are at hand.
+fn is_loaded(index: &IndexFile) -> bool
+    ensures loaded { result ≡ is_index_loaded (loaded_index index.now) }
+{
+    match index {
+        IndexFile::Single(file) => file.loaded().is_some(),
+        IndexFile::Multi(file) => file.loaded().is_some(),
+    }
+}
+
 /// What is still to be loaded of what a slot holds.
 fn unloaded_filled(place: u16, filled: &Filled) -> Result<Option<Todo>, NoMemory>
     ensures unloaded { IfOk result (λ unloaded. unloaded ≡ unloaded_slot place (Some filled.now)) }
 {
-    match loaded_index(&filled.index)? {
-        Some(_) => Ok(None),
-        None => Ok(Some(Todo {
-            slot: place,
-            path: filled.index.shared_path()?,
-        })),
+    if is_loaded(&filled.index) {
+        return Ok(None);
     }
+    Ok(Some(Todo {
+        slot: place,
+        path: filled.index.shared_path()?,
+    }))
 }
 
 /// What is still to be loaded of a slot.
