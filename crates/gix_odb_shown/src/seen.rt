@@ -2,14 +2,14 @@
 //!
 //! A watched path shows the file at a place where the last name of both is the same and the pack directory that the path
 //! goes through, links followed, is the one that the place lies in. Each folder is asked for that, and no other path.
-ghost use Rattle.std.specs.Prelude.{◌≡◌, ◌++◌, ◌∷◌, [], true, false, map, IfOk, IfSome, OnOk, Ok, Some, None};
+ghost use Rattle.std.specs.Prelude.{◌≡◌, ◌++◌, ◌∷◌, [], true, false, map, unwrap_or, ℕ, List, IfOk, IfSome, OnOk, Ok, Some, None};
 ghost use Rattle.std.specs.Result.{result_ok};
 ghost use Rattle.std.specs.List.{starts_with};
 ghost use Rattle.std.specs.FinSet as set;
 ghost use Rattle.odb_base.specs.Path.{Name, Path, last_name, same_name};
 ghost use Rattle.odb_nodes.specs.Tree.{IsTree};
 ghost use Rattle.odb_nodes.specs.Tree.Change.{is_possible_in};
-ghost use Rattle.odb_nodes.specs.Tree.Follow.{looked};
+ghost use Rattle.odb_nodes.specs.Tree.Follow.{looked, read_of};
 ghost use Rattle.odb_nodes.specs.Tree.Write.{file_spot, vacant};
 ghost use Rattle.gix_odb_shown.specs.Plain.{ArePlain};
 ghost use Rattle.gix_odb_shown.specs.Seen.{AreSeenOf, IsLinkAside, IsSeen, files_seen, has_packs, have_packs, is_place, is_watched_name, kind_found, path_through, paths_to, place_of, shown_at};
@@ -146,7 +146,7 @@ fn append_seen(
 }
 
 /// What watched paths show where the file that a path leads to comes to stand at a place, with more bytes behind its own
-/// and another time, if one is given. It isn't read where the place has no watched name.
+/// and another time, if one is given. It isn't read where no watched path leads to the place.
 fn seen_of(
     alloc: Global,
     tree: &Tree,
@@ -158,14 +158,38 @@ fn seen_of(
 ) -> Result<Option<Vec<ShownFile>>, NoMemory>
     ensures seen { IfOk result (λ seen. IfSome seen (λ files. AreSeenOf tree.now folders.now.keys source.now place.now more.now time files.items)) }
 {
-    if !has_watched_name(place) {
+    let Some(name) = place.file_name() else {
+        return Ok(Some(Vec::new(alloc)));
+    };
+    let Some(kind) = watched_kind(name) else {
+        return Ok(Some(Vec::new(alloc)));
+    };
+    let last = behind_directory(alloc, place)?;
+    let paths = paths_to(alloc, tree, folders, place, &last)?;
+    if paths.is_empty() {
         return Ok(Some(Vec::new(alloc)));
     }
+    seen_at(alloc, tree, source, paths, kind, more, time)
+}
+
+/// What these paths show where they come to lead to a file like that which another path leads to, with more bytes behind
+/// its own and another time, if one is given.
+fn seen_at(
+    alloc: Global,
+    tree: &Tree,
+    source: &PathText,
+    paths: Vec<PathText>,
+    kind: WatchedKind,
+    more: &ByteList,
+    time: Option<u64>,
+) -> Result<Option<Vec<ShownFile>>, NoMemory>
+    ensures seen { IfOk result (λ seen. IfSome seen (λ files. (file : List ℕ × ℕ) → read_of tree.now source.now ≡ Ok file
+        → files.items ≡ map (shown_at kind (unwrap_or time file.1) (file.0 ++ more.now)) paths.items)) }
+{
     match tree.read(alloc, source) {
         Ok((bytes, old)) => {
             let bytes = longer(bytes, more)?;
-            let time = time.unwrap_or(old);
-            Ok(Some(files_seen(alloc, tree, folders, place, time, &bytes)?))
+            Ok(Some(files_at(alloc, paths, kind, time.unwrap_or(old), &bytes)?))
         }
         Err(DiskError::NoMemory) => Err(NoMemory),
         Err(_) => Ok(None),
