@@ -7,3 +7,4 @@ mod LastNodeLemmas
 mod TreeMovesLemmas
 mod ListingLemmas
 mod NodeMapLemmas
+mod WaysLemmas

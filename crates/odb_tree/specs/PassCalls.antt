@@ -1,7 +1,7 @@
 -- What a pass along a path comes to in a tree in memory. No public clause cites this.
-use Rattle.std.specs.Prelude.{◌≡◌, Result, Ok, Err}
+use Rattle.std.specs.Prelude.{◌≡◌, Option, Some, None, Result, Ok, Err}
 use Rattle.odb_base.specs.Path.{Path}
-use Rattle.odb_nodes.specs.Tree.Follow.{Pass, Reached, Onward}
+use Rattle.odb_nodes.specs.Tree.Follow.{Pass, Reached, Onward, Missing, Blocked}
 use Rattle.odb_nodes.specs.declared.disk_error.DiskError.{DiskError}
 use Rattle.odb_tree.specs.declared.tree.follow.Way.{Way}
 use Rattle.odb_tree.specs.declared.tree.follow.Way.TheVariants as ways
@@ -12,3 +12,10 @@ abbrev pub Comes : Path → Result Way DiskError → Pass → Type 0
 Comes path (Ok (ways.Reached node)) told = told ≡ Reached path node.now
 Comes path (Ok (ways.Onward onward)) told = told ≡ Onward onward
 Comes path (Err error) told = Ends error told
+
+-- the path that a pass is led on to, if it is
+abbrev pub onward_of : Pass → Option Path
+onward_of (Reached path node) = None
+onward_of (Onward path) = Some path
+onward_of Missing = None
+onward_of Blocked = None

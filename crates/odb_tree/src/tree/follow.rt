@@ -1,7 +1,7 @@
 //! Where a path leads in a tree, links followed.
 use super::{MAX_LINKS, Tree};
 use crate::node_map::path_before;
-use crate::{ByteList, PathText};
+use crate::{ByteList, NoMemory, PathText};
 use odb_nodes::{Content, DiskError, Meta, Node};
 use std::alloc::Global;
 
@@ -13,14 +13,15 @@ pub(super) enum Way<'a> {
 }
 
 impl Tree {
-    ghost use Rattle.std.specs.Prelude.{◌≡◌, ◌≢◌, Bool, [], ◌++◌, true, Some, None, Err};
+    ghost use Rattle.std.specs.Prelude.{◌≡◌, ◌≢◌, Bool, [], ◌++◌, true, Some, None, Err, IfOk, OnOk};
     ghost use Rattle.std.specs.List.{starts_with};
     ghost use Rattle.odb_base.specs.Path.{Path, same_name};
     ghost use Rattle.odb_nodes.specs.Tree.{IsTree, node_at};
-    ghost use Rattle.odb_nodes.specs.Tree.Follow.{Missing, looked, read_of, pass, past, followed, followed_within};
+    ghost use Rattle.odb_nodes.specs.Tree.Follow.{Missing, looked, read_of, pass, past, followed, followed_within, most_links};
+    ghost use Rattle.odb_nodes.specs.Tree.Way.{ways_within};
     ghost use Rattle.odb_nodes.specs.Answers.{Answers};
     ghost use Rattle.odb_nodes.specs.TreeCalls.{ComesOnward, Leads};
-    ghost use Rattle.odb_tree.specs.PassCalls.{Comes};
+    ghost use Rattle.odb_tree.specs.PassCalls.{Comes, onward_of};
 
     /// What a look at a path gives. A link in the last place is followed where `follow` is set.
     pub fn look(&self, alloc: Global, path: &PathText, follow: bool) -> Result<Meta, DiskError>
@@ -40,6 +41,46 @@ impl Tree {
         match &node.content {
             Content::File { bytes, time } => Ok((bytes.try_clone(alloc)?, *time)),
             Content::Dir | Content::Link(_) => Err(DiskError::WrongKind),
+        }
+    }
+
+    /// The paths along which a path is followed: the path itself, and after each link the one that it leads on to.
+    pub fn ways(&self, alloc: Global, path: &PathText) -> Result<Vec<PathText>, NoMemory>
+        ensures ways { IfOk result (λ ways. ways.items ≡ ways_within most_links self.now true path.now) }
+    {
+        let mut ways = Vec::new(alloc);
+        self.add_ways(alloc, path, MAX_LINKS, &mut ways)?;
+        Ok(ways)
+    }
+
+    /// Adds the paths along which a path is followed with so many links left.
+    fn add_ways(
+        &self,
+        alloc: Global,
+        path: &PathText,
+        links: u8,
+        ways: &mut Vec<PathText>,
+    ) -> Result<(), NoMemory>
+        ensures added { OnOk result (ways.new.items ≡ ways.old.items ++ ways_within links self.now true path.now) }
+    {
+        ways.push(path.try_clone(alloc)?)?;
+        if links == 0 {
+            return Ok(());
+        }
+        match self.onward(alloc, path)? {
+            None => Ok(()),
+            Some(onward) => self.add_ways(alloc, &onward, links - 1, ways),
+        }
+    }
+
+    /// The path that the first link on the way of a path leads on to, if there is a link.
+    fn onward(&self, alloc: Global, path: &PathText) -> Result<Option<PathText>, NoMemory>
+        ensures onward { IfOk result (λ onward. onward ≡ onward_of (pass self.now true [] path.now)) }
+    {
+        match self.pass(alloc, path, true) {
+            Ok(Way::Onward(onward)) => Ok(Some(onward)),
+            Err(DiskError::NoMemory) => Err(NoMemory),
+            Ok(Way::Reached(_)) | Err(_) => Ok(None),
         }
     }
 
