@@ -4,8 +4,9 @@
 //! form NFC where that is asked for. The other modules are those of `gix_features_parts`: `interrupt` ends work where a flag
 //! is set, `progress` counts bytes that pass, `decode` reads numbers of variable length, `iter` cuts items into chunks,
 //! `cache` takes what a cache tells, `threading` names what threads share, and `parallel` has what work in parallel is split
-//! by, and how its results come into order again. Those of `gix_features_threads` stand beside them: `parallel` also has
-//! items consumed by several workers at once, and `io::pipe` is a pipe from one thread to another.
+//! by, and how its results come into order again. It also has what `gix_features_workers`, `gix_features_rounds` and
+//! `gix_features_eager` have: items consumed by several workers at once, and items that are drawn ahead. `io::pipe` is a
+//! pipe from one thread to another, that of `gix_features_pipe`.
 //! ```rust
 //! let root = PathText::parse(alloc, "/src")?;
 //! let walk = fs::walkdir_sorted_new(root, Parallelism::Serial, usize::MAX, true);
@@ -16,7 +17,7 @@
 #![tactic(auto)]
 
 pub mod fs;
+pub mod io;
 pub mod parallel;
 
 pub use gix_features_parts::{cache, decode, interrupt, iter, progress, threading};
-pub use gix_features_threads::io;

@@ -1,11 +1,13 @@
 //! Items that several workers consume at once, what work in parallel is split by, and how its results come into order again.
 pub mod reduce;
 
+pub use gix_features_eager::{EagerIter, EagerIterIf};
 pub use gix_features_parts::parallel::{
     InOrderError, InOrderIter, Reduce, SequenceId, num_threads,
     optimize_chunk_size_and_thread_limit,
 };
-pub use gix_features_threads::parallel::{
-    EagerIter, EagerIterIf, ParallelError, Scope, Stepwise, build_thread, in_parallel,
-    in_parallel_if, in_parallel_with_finalize, in_parallel_with_slice, join, threads,
+pub use gix_features_rounds::in_parallel_with_slice;
+pub use gix_features_workers::{
+    ParallelError, Scope, Stepwise, build_thread, in_parallel, in_parallel_if,
+    in_parallel_with_finalize, join, threads,
 };

@@ -2,7 +2,7 @@
 ghost use Rattle.std.specs.Prelude.{◌<◌, ◌≤◌};
 
 use crate::stopping::linger;
-use gix_features_threads::parallel::EagerIter;
+use gix_features_eager::EagerIter;
 use odb_base::NoMemory;
 use std::alloc::Global;
 use std::sync::Wait;

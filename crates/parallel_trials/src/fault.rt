@@ -1,5 +1,5 @@
 //! Why a trial came to nothing.
-use gix_features_threads::parallel::ParallelError;
+use gix_features_workers::ParallelError;
 use odb_base::NoMemory;
 use std::io;
 use thiserror::Error;

@@ -2,7 +2,7 @@
 ghost use Rattle.std.specs.Prelude.{◌<◌};
 
 use gix_features_parts::parallel::Reduce;
-use gix_features_threads::parallel::{ParallelError, in_parallel};
+use gix_features_workers::{ParallelError, in_parallel};
 use odb_base::NoMemory;
 use sha1::Sha1;
 use std::alloc::Global;

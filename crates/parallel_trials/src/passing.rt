@@ -1,9 +1,9 @@
 //! Bytes that go through a pipe.
 ghost use Rattle.std.specs.Prelude.{◌<◌, ◌≤◌};
 
-use gix_features_threads::io::pipe;
-use gix_features_threads::io::pipe::{Reader, Writer};
-use gix_features_threads::parallel::join;
+use gix_features_pipe::pipe;
+use gix_features_pipe::pipe::{Reader, Writer};
+use gix_features_workers::join;
 use odb_base::NoMemory;
 use std::alloc::Global;
 use std::sync::Wait;

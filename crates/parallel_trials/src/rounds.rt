@@ -1,7 +1,8 @@
 //! Numbers of a slice that workers double in rounds.
 ghost use Rattle.std.specs.Prelude.{◌<◌, ◌≤◌};
 
-use gix_features_threads::parallel::{ParallelError, in_parallel_with_slice};
+use gix_features_rounds::in_parallel_with_slice;
+use gix_features_workers::ParallelError;
 use odb_base::NoMemory;
 use std::alloc::Global;
 use std::thread::Threads;

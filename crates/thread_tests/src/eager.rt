@@ -1,7 +1,7 @@
 //! Numbers that are drawn ahead.
 ghost use Rattle.std.specs.Prelude.{◌<◌};
 
-use gix_features_threads::parallel::{EagerIter, EagerIterIf};
+use gix_features_eager::{EagerIter, EagerIterIf};
 use odb_disk::NoMemory;
 use std::alloc::Global;
 use std::sync::Wait;

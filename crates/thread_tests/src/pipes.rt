@@ -1,6 +1,6 @@
 //! Bytes that go through a pipe.
-use gix_features_threads::io::pipe;
-use gix_features_threads::io::pipe::{Gone, PipeError, Reader, Writer};
+use gix_features_pipe::pipe;
+use gix_features_pipe::pipe::{Gone, PipeError, Reader, Writer};
 use odb_disk::{ByteList, NoMemory};
 use std::alloc::Global;
 use std::sync::Wait;

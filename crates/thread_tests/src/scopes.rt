@@ -1,5 +1,5 @@
 //! Threads of a caller's own.
-use gix_features_threads::parallel::{build_thread, join, threads};
+use gix_features_workers::{build_thread, join, threads};
 use std::sync::Wait;
 use std::sync::atomic::{AtomicU64, Ordering};
 use std::test::Fail;

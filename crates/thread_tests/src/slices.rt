@@ -1,5 +1,6 @@
 //! Numbers of a slice that two workers double in rounds.
-use gix_features_threads::parallel::{ParallelError, in_parallel_with_slice};
+use gix_features_rounds::in_parallel_with_slice;
+use gix_features_workers::ParallelError;
 use std::alloc::Global;
 use std::test::Fail;
 use std::thread::Threads;

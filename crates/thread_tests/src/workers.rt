@@ -1,6 +1,6 @@
 //! Numbers that two workers put their counts to, or double, and that go into a list.
 use gix_features_parts::parallel::Reduce;
-use gix_features_threads::parallel::{
+use gix_features_workers::{
     Finalize, ParallelError, Stepwise, in_parallel, in_parallel_if, in_parallel_with_finalize,
 };
 use std::alloc::Global;

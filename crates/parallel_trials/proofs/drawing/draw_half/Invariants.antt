@@ -1,5 +1,5 @@
 use Rattle.std.specs.Prelude.{⊤}
-use Rattle.gix_features_threads.specs.Eager.{IsReady}
+use Rattle.gix_features_eager.specs.Eager.{IsReady}
 use Rattle.parallel_trials.proofs.drawing.draw_half.Given as goal
 
 -- the numbers may be asked

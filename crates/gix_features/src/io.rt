@@ -1,0 +1,2 @@
+//! Bytes that go from one thread to another.
+pub use gix_features_pipe::pipe;

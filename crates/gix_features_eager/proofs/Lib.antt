@@ -1,0 +1,2 @@
+mod EagerLemmas
+mod SendLemmas

@@ -1,0 +1,169 @@
+//! The items of an iterator, which a worker draws ahead.
+ghost use Rattle.std.specs.Prelude.{◌≡◌, ◌<◌, ◌++◌, [], true, false, List, None, IfOk, OnErr};
+ghost use Rattle.std.specs.Iterator.{Drains};
+ghost use Rattle.std.specs.Vec.Iter.{into_iter_items};
+ghost use Rattle.gix_features_eager.specs.Eager.{IsReady, HasGiven, GivesNext, IsOver, is_last, is_want, has_worker};
+ghost use Rattle.gix_features_eager.specs.declared.source.Source.TheVariants.{Ended};
+
+use crate::source::Source;
+use crate::starting::start;
+use odb_base::NoMemory;
+use std::alloc::Global;
+use std::mem;
+use std::sync::Wait;
+use std::thread::Threads;
+use std::vec::IntoIter;
+
+/// The items of an iterator, which a worker draws ahead in chunks; or, where no thread can be started, items that are drawn
+/// as they are asked for.
+pub struct EagerIter<I: Iterator, H: Threads>
+where
+    I::Item: Drop,
+{
+    rt: H,
+    source: Source<I>,
+    /// What is at hand of the last chunk that a worker sent.
+    at_hand: IntoIter<I::Item>,
+}
+
+// The worker is joined.
+impl<I: Iterator + Drop, H: Threads + Drop> Drop for EagerIter<I, H>
+where
+    I::Item: Drop,
+{
+    fn drop(self) {
+        let EagerIter {
+            rt,
+            source,
+            at_hand: _,
+        } = self;
+        source.end(&rt);
+    }
+}
+
+impl<I, H> EagerIter<I, H>
+where
+    I: Iterator + Send + Drop + 'static,
+    I::Item: Send + Drop + 'static,
+    H: Threads + Wait + Copy + Send + 'static,
+{
+    /// Starts a worker that draws the items of an iterator in chunks of `chunk_size`, of which so many may be in flight.
+    pub fn new(
+        rt: H,
+        alloc: Global,
+        iter: I,
+        chunk_size: usize,
+        chunks_in_flight: usize,
+    ) -> Result<EagerIter<I, H>, NoMemory>
+        requires size { 0 < chunk_size }
+        requires in_flight { 0 < chunks_in_flight }
+        requires can { I.can_next iter }
+        ensures ready { IfOk result (IsReady I.can_next) }
+        ensures begun { IfOk result (λ eager. HasGiven I.next_gives iter eager []) }
+    {
+        let at_hand = Vec::new(alloc).into_iter();
+        let source = start(rt, alloc, iter, chunk_size, chunks_in_flight)?;
+        Ok(EagerIter {
+            rt,
+            source,
+            at_hand,
+        })
+    }
+}
+
+impl<I, H> EagerIter<I, H>
+where
+    I: Iterator + Drop,
+    I::Item: Drop,
+    H: Threads + Wait + Copy,
+{
+    /// The next item, or want of memory where the worker broke off. After it, and after the last item, there is nothing.
+    pub fn next(&mut self) -> Option<Result<I::Item, NoMemory>>
+        requires ready { IsReady I.can_next self.old }
+        ensures ready { IsReady I.can_next self.new }
+        ensures given { GivesNext I.next_gives self.old result self.new }
+        ensures over { is_last result ≡ true → IsOver self.new }
+        ensures stays { IsOver self.old → (result ≡ None) × IsOver self.new }
+        ensures want { is_want result ≡ true → has_worker self.old.source ≡ true }
+    {
+        let rt = self.rt;
+        'drawing: for _ in rt.forever() {
+            if let Some(item) = self.at_hand.next() {
+                return Some(Ok(item));
+            }
+            if !self.source.has_worker() {
+                return self.next_here();
+            }
+            match self.refill() {
+                Ok(true) => {}
+                Ok(false) => return None,
+                Err(NoMemory) => return Some(Err(NoMemory)),
+            }
+        }
+        unreachable!()
+    }
+
+    /// The next item of the iterator that is here, if there is one.
+    fn next_here(&mut self) -> Option<Result<I::Item, NoMemory>>
+        requires ready { IsReady I.can_next self.old }
+        requires alone { has_worker self.old.source ≡ false }
+        requires used { into_iter_items self.old.at_hand ≡ [] }
+        ensures ready { IsReady I.can_next self.new }
+        ensures given { GivesNext I.next_gives self.old result self.new }
+        ensures over { is_last result ≡ true → IsOver self.new }
+        ensures stays { IsOver self.old → (result ≡ None) × IsOver self.new }
+        ensures want { is_want result ≡ false }
+    {
+        let Source::Here(iter) = &mut self.source else {
+            return None;
+        };
+        if let Some(item) = iter.next() {
+            return Some(Ok(item));
+        }
+        self.end();
+        None
+    }
+
+    /// Takes the next chunk of the worker. It answers whether there is one.
+    fn refill(&mut self) -> Result<bool, NoMemory>
+        requires ready { IsReady I.can_next self.old }
+        requires sent { has_worker self.old.source ≡ true }
+        requires used { into_iter_items self.old.at_hand ≡ [] }
+        ensures ready { IsReady I.can_next self.new }
+        ensures more { IfOk result (λ more. more ≡ true → (first : I) (items : List I.Item)
+            → HasGiven I.next_gives first self.old items → HasGiven I.next_gives first self.new items) }
+        ensures all { IfOk result (λ more. more ≡ false → (first : I) (items : List I.Item)
+            → HasGiven I.next_gives first self.old items → Drains I.next_gives first items) }
+        ensures goes_on { IfOk result (λ more. more ≡ true → has_worker self.new.source ≡ true) }
+        ensures over { IfOk result (λ more. more ≡ false → IsOver self.new) }
+        ensures broken { OnErr result (IsOver self.new) }
+    {
+        let rt = self.rt;
+        let Source::Elsewhere(worker) = &mut self.source else {
+            return Ok(false);
+        };
+        match worker.take(&rt) {
+            Ok(Some(chunk)) => {
+                self.at_hand = chunk.into_iter();
+                Ok(true)
+            }
+            Ok(None) => {
+                self.end();
+                Ok(false)
+            }
+            Err(NoMemory) => {
+                self.end();
+                Err(NoMemory)
+            }
+        }
+    }
+
+    /// Nothing more is drawn. A worker is ended.
+    fn end(&mut self)
+        ensures ended { self.new.source ≡ Ended }
+        ensures same { self.new.at_hand ≡ self.old.at_hand }
+    {
+        let rt = self.rt;
+        mem::replace(&mut self.source, Source::Ended).end(&rt);
+    }
+}

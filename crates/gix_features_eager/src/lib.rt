@@ -1,0 +1,20 @@
+//! Items of an iterator that a worker draws ahead, as `parallel::EagerIter` of the crate `gix-features` 0.50.
+//!
+//! The worker draws them in chunks, of which so many may be on their way. They come in the iterator's order.
+//! ```rust
+//! let mut paths = EagerIter::new(rt, alloc, paths, 64, 8)?;
+//! while let Some(path) = paths.next() {
+//!     work(path?)?;
+//! }
+//! ```
+#![tactic(auto)]
+
+mod choice;
+mod elsewhere;
+mod iter;
+mod source;
+mod starting;
+mod worker;
+
+pub use choice::EagerIterIf;
+pub use iter::EagerIter;

@@ -1,0 +1,3 @@
+-- A worker's messages, and what was taken of them.
+pub mod Messages
+pub mod Taking

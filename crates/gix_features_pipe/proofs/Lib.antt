@@ -1,0 +1,2 @@
+pub mod PipeLemmas
+pub mod PipeLaws

@@ -1,9 +1,0 @@
-use Rattle.std.proofs.Common.{◌≡◌, []}
-use Rattle.gix_features_threads.specs.Pipe.{Reads}
-use Rattle.gix_features_threads.proofs.io.pipe.reader.Reader.reach.Given as goal
-
-abbrev pub invariant-reaching : goal.invariant-reaching
-invariant-reaching g l = record {
-  nothing : Reads l.initial.self l.self [];
-  note : l.self.has_ended ≡ l.initial.self.has_ended;
-}

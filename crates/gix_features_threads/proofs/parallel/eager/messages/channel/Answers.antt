@@ -1,5 +1,0 @@
-use Rattle.gix_features_threads.proofs.EndsLemmas.{begins}
-use Rattle.gix_features_threads.proofs.parallel.eager.messages.channel.Goals as goal
-
-pub bounded_with-requires-clause-rule : goal.bounded_with-requires-clause-rule
-bounded_with-requires-clause-rule g c = begins _ tt

@@ -1,8 +1,0 @@
--- What comes of a further state stands behind what came of those before it.
-use Rattle.gix_features_threads.specs.Workers.{EndsAs}
-use Rattle.gix_features_threads.proofs.RoundsLemmas.{AllZip-push}
-use Rattle.gix_features_threads.proofs.parallel.slice.values_of.Goals as goal
-
-pub loop-state-preserved : goal.loop-state-preserved
-loop-state-preserved g c =
-    rw c.in_ok-push.ensures.items (AllZip-push (EndsAs g.L.Fn c.args.state_to_rval.now) c.loop-state.yielded c.loop-state.values.items _ _ c.loop-state.invariant (record { met = c.state_to_rval.ensures }))

@@ -1,2 +1,0 @@
-//! Bytes that go from one thread to another.
-pub mod pipe;

@@ -1,0 +1,4 @@
+mod DealtLemmas
+mod WorkersLemmas
+mod ReducedLemmas
+pub mod WorkersLaws
