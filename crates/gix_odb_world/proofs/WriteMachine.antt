@@ -28,7 +28,7 @@ use Rattle.gix_odb.specs.CallOrder.{fronted, result_of_write, writing_result}
 use Rattle.gix_odb.specs.declared.call_state.CallState.TheVariants.{Refused}
 use Rattle.gix_odb.specs.declared.handle_state.HandleState.{HandleState}
 use Rattle.gix_odb_world.specs.AtWork.{Modes, setting_in}
-use Rattle.gix_odb_world.specs.Bound.{turns_of_lap}
+use Rattle.gix_odb_looks.specs.Laps.{turns_of_lap}
 use Rattle.gix_odb_runs.specs.Event.{Answer, CoreEvent, Event, FromCore, FromDisk, ToCore, ToDisk, answered, part_asked, to_disk}
 use Rattle.gix_odb_world.specs.Handle.{IsHandleOf}
 use Rattle.gix_odb_world.specs.Machine.{placed}

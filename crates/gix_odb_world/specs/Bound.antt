@@ -7,19 +7,11 @@ use Rattle.odb_nodes.specs.Tree.Follow.{listed}
 use Rattle.gix_odb_calls.specs.declared.call.Call.{Call}
 use Rattle.gix_odb_calls.specs.declared.call.Call.TheVariants.{Write}
 use Rattle.gix_odb_loose.specs.WriteJobs.{pieces_of}
+use Rattle.gix_odb_looks.specs.Laps.{turns_of_lap}
 use Rattle.gix_odb.specs.Contents.{StoreData, folder_list}
 use Rattle.gix_odb_world.specs.AtWork.{Modes, Store, Task, OpenStore, MakeCall}
 
--- ---- the numbers: a lap is one way through all that a store's list names, and through its folders
-
--- The turns that a lap has for the list itself, for each slot and for each entry of a folder that is listed: to read, look at, open,
--- close and put one takes fewer.
-abbrev pub turns_each : ℕ
-turns_each = 8
-
--- the turns that it has for a folder beside those for its entries: its listings and its loose file take fewer
-abbrev pub turns_of_folder : ℕ
-turns_of_folder = 16
+-- ---- the numbers beside those of a lap, which is one way through all that a store's list names, and through its folders
 
 -- the laps that no change of the list causes: the first, and the one that finds the list as it was
 abbrev pub laps_without_change : ℕ
@@ -40,10 +32,6 @@ most_changes = 1000000
 abbrev pub turns_of_write : Option ℕ → ℕ
 turns_of_write None = 0
 turns_of_write (Some bytes) = turns_beside_pieces + pieces_of bytes
-
--- the turns of one lap over a store with so many slots and folders, where a folder that is listed has at most so many entries
-abbrev pub turns_of_lap : (slots folders entries : ℕ) → ℕ
-turns_of_lap slots folders entries = turns_each + turns_each * slots + folders * (turns_each * entries + turns_of_folder)
 
 -- the bound for a store with so many slots and folders, so many changes of the list that a call bears,
 -- and at most so many entries in a folder that it lists

@@ -57,11 +57,13 @@ RegistersOwnThroughout events = (now : ℕ) → now ≤ length events → Regist
 
 -- ---- snapshots
 
--- a view is no older than another: neither its list number, nor its state number, nor its generation is less
+-- a view is no older than another: neither its list number, nor its state number, nor its generation, nor the number of the entry that handed it
+-- over is less
 pub record IsNoOlder (before now : View) : Type 0 where
   pub list_no : before.list_no ≤ now.list_no
   pub state_id : before.snapshot.marker.state_id ≤ now.snapshot.marker.state_id
   pub generation : before.snapshot.marker.generation ≤ now.snapshot.marker.generation
+  pub entry : before.snapshot.entry ≤ now.snapshot.entry
 
 -- the modes of a handle of an open store
 abbrev pub open_modes_at : Modes → Task → Option Modes

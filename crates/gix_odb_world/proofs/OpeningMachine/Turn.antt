@@ -38,7 +38,8 @@ use Rattle.gix_odb.specs.declared.open_state.OpenState.TheVariants as opens
 use Rattle.gix_odb.proofs.OpenLaws.{an_opening_takes_at_most_a_lap, openings_change_no_file, openings_register_few_slots, openings_register_their_number}
 use Rattle.gix_odb.proofs.OpenLaws.{refused_openings_have_causes, streams_of_openings_are_their_own}
 use Rattle.gix_odb_world.specs.AtWork.{OpenStore, Running, Store, setting_in}
-use Rattle.gix_odb_world.specs.Bound.{HasAtMost, laps_without_change, turns_of_lap}
+use Rattle.gix_odb_looks.specs.Laps.{turns_of_lap}
+use Rattle.gix_odb_world.specs.Bound.{HasAtMost, laps_without_change}
 use Rattle.gix_odb_world.specs.Causes.{Sometime, ShowsDirectory}
 use Rattle.gix_odb_runs.specs.Cores.{answer_behind, cores_after}
 use Rattle.gix_odb_runs.specs.Event.{Event, OfDisk, ToDisk, ToNewCore}

@@ -1,5 +1,5 @@
 -- A handle's snapshot is no older than an earlier one that it had from the same core.
-use Rattle.std.proofs.Common.{◌≡◌, ℕ, zero, suc, ◌+◌, ◌≤◌, ◌⊎◌, inl, inr, Bool, true, false, List, [], ◌∷◌, ◌++◌, length, take, Option, Some, None, refl, sym, ◌∙◌, ap, subst, arith}
+use Rattle.std.proofs.Common.{◌≡◌, ℕ, zero, suc, ◌+◌, ◌≤◌, ◌⊎◌, inl, inr, Bool, true, false, List, [], ◌∷◌, ◌++◌, length, min, take, Option, Some, None, refl, sym, ◌∙◌, ap, subst, arith}
 use Rattle.std.proofs.lemmas.List.{append_assoc, length-append}
 use Rattle.std.specs.Prelude.{◌==◌, slice_get}
 use Rattle.std.specs.List.{All, cons_option, last_or}
@@ -9,6 +9,7 @@ use Rattle.std.proofs.lemmas.Option.{get_or_from_slice_get, slice_get_within}
 use Rattle.gix_odb_core.specs.History.{History}
 use Rattle.gix_odb_core.specs.Replay.{IsLegal, IsNext, number_behind, replay, snapshot_of}
 use Rattle.gix_odb_events.specs.Answers.{view_in}
+use Rattle.gix_odb_events.specs.View.{last_state}
 use Rattle.gix_odb_core.specs.Views.{view_of}
 use Rattle.gix_odb_core.specs.declared.journal.Entry.{Entry}
 use Rattle.gix_odb_core.specs.declared.shape.Shape.{Shape}
@@ -27,26 +28,36 @@ use Rattle.gix_odb_world.proofs.SeatLemmas.Grown.{HasGrown, grown_since}
 
 -- ---- views and shapes
 
--- a view shows no later shape: none of its numbers is greater
-record IsShownBy (view : View) (shape : Shape) : Type 0 where
+-- the number of the newest of these entries
+abbrev newest : List Entry → ℕ
+newest past = min (length past) last_state
+
+newest-push : (past : List Entry) (entry : Entry) → newest (past ++ entry ∷ []) ≡ number_behind past
+newest-push past entry = ap (λ n. min n last_state) (length-append past (entry ∷ []))
+
+-- a view shows no later shape, and none that an entry behind a number left: none of its numbers is greater
+record IsShownBy (view : View) (number : ℕ) (shape : Shape) : Type 0 where
   list_no : view.list_no ≤ shape.list_no
   state_id : view.snapshot.marker.state_id ≤ shape.state_id
   generation : view.snapshot.marker.generation ≤ shape.generation
+  entry : view.snapshot.entry ≤ number
 
-shown_later : (view : View) (shape : Shape) (entries : List Entry) → IsShownBy view shape → IsShownBy view (replay shape entries)
-shown_later view shape entries shown =
+shown_later : (view : View) (number more : ℕ) (shape : Shape) (entries : List Entry) → number ≤ more → IsShownBy view number shape → IsShownBy view more (replay shape entries)
+shown_later view number more shape entries less shown =
     let falls = entries_lower_no_number entries shape in
     let a = shown.list_no in let b = falls.list_no in
     let c = shown.state_id in let d = falls.state_id in
     let e = shown.generation in let f = falls.generation in
-    record { list_no = omega arith; state_id = omega arith; generation = omega arith }
+    let g = shown.entry in
+    record { list_no = omega arith; state_id = omega arith; generation = omega arith; entry = omega arith }
 
 no_older_then : (one two three : View) → IsNoOlder one two → IsNoOlder two three → IsNoOlder one three
 no_older_then one two three first next =
     let a = first.list_no in let b = next.list_no in
     let c = first.state_id in let d = next.state_id in
     let e = first.generation in let f = next.generation in
-    record { list_no = omega arith; state_id = omega arith; generation = omega arith }
+    let g = first.entry in let h = next.entry in
+    record { list_no = omega arith; state_id = omega arith; generation = omega arith; entry = omega arith }
 
 -- ---- a journal
 
@@ -69,29 +80,33 @@ module _ (seat : ℕ) where
   module _ (opening : Shape) where
     -- a view that an entry hands over shows the shape behind it
     shown_by : (past : List Entry) (entry : Entry) (view : View) → IsNext opening past entry → view_in entry.answer ≡ Some view
-        → IsShownBy view (replay opening (past ++ entry ∷ []))
+        → IsShownBy view (newest (past ++ entry ∷ [])) (replay opening (past ++ entry ∷ []))
     shown_by past entry view next handed =
         let is : view ≡ view_of (replay opening (past ++ entry ∷ [])) (number_behind past) = entry_hands_the_view_behind_it opening past entry view next handed in
-        subst (λ (v : View). IsShownBy v (replay opening (past ++ entry ∷ []))) (sym is) record { list_no = omega arith; state_id = omega arith; generation = omega arith }
+        let longer = newest-push past entry in
+        subst (λ (v : View). IsShownBy v (newest (past ++ entry ∷ [])) (replay opening (past ++ entry ∷ []))) (sym is)
+        record { list_no = omega arith; state_id = omega arith; generation = omega arith; entry = omega (arith, longer) }
 
     -- and so is no older than one that showed an earlier shape
     no_older_by : (past : List Entry) (entry : Entry) (before view : View) → IsNext opening past entry → view_in entry.answer ≡ Some view
-        → IsShownBy before (replay opening past) → IsNoOlder before view
+        → IsShownBy before (newest past) (replay opening past) → IsNoOlder before view
     no_older_by past entry before view next handed shown =
         let is : view ≡ view_of (replay opening (past ++ entry ∷ [])) (number_behind past) = entry_hands_the_view_behind_it opening past entry view next handed in
-        let later : IsShownBy before (replay opening (past ++ entry ∷ [])) =
-        subst (IsShownBy before) (sym (replay_of_joined_journals past (entry ∷ []) opening)) (shown_later before (replay opening past) (entry ∷ []) shown) in
-        subst (IsNoOlder before) (sym is) record { list_no = later.list_no; state_id = later.state_id; generation = later.generation }
+        let later : IsShownBy before (number_behind past) (replay opening (past ++ entry ∷ [])) =
+        subst (IsShownBy before (number_behind past)) (sym (replay_of_joined_journals past (entry ∷ []) opening))
+        (shown_later before (newest past) (number_behind past) (replay opening past) (entry ∷ []) (omega arith) shown) in
+        subst (IsNoOlder before) (sym is) record { list_no = later.list_no; state_id = later.state_id; generation = later.generation; entry = later.entry }
 
     -- the snapshot shows no later shape than the present one
     abbrev ShowsPast : List Entry → Type 0
-    ShowsPast past = (view : View) → snapshot_of seat past ≡ Some view → IsShownBy view (replay opening past)
+    ShowsPast past = (view : View) → snapshot_of seat past ≡ Some view → IsShownBy view (newest past) (replay opening past)
 
     shows_next : (past : List Entry) (entry : Entry) → IsNext opening past entry → ShowsPast past → ShowsPast (past ++ entry ∷ [])
     shows_next past entry next shows view is = elim (snapshot_by past entry (entry.seat == seat) refl (view_in entry.answer) refl) [
       | inl same ↦
-          subst (IsShownBy view) (sym (replay_of_joined_journals past (entry ∷ []) opening))
-          (shown_later view (replay opening past) (entry ∷ []) (shows view (sym same ∙ is)))
+          let longer = newest-push past entry in
+          subst (IsShownBy view (newest (past ++ entry ∷ []))) (sym (replay_of_joined_journals past (entry ∷ []) opening))
+          (shown_later view (newest past) (newest (past ++ entry ∷ [])) (replay opening past) (entry ∷ []) (omega (arith, longer)) (shows view (sym same ∙ is)))
       | inr new ↦ let both : new.0 ≡ view = cc (new.2, is) in shown_by past entry view next (new.1 ∙ ap Some both)
     ]
 
@@ -122,7 +137,7 @@ module _ (seat : ℕ) where
       later_at : (before : View) (count more : ℕ) → snapshot_of seat (take count entries) ≡ Some before → Later before (take (count + more) entries)
       later_at before count zero is =
           let same : count ≡ count + 0 = omega arith in
-          subst (λ n. Later before (take n entries)) same (before, is, record { list_no = omega arith; state_id = omega arith; generation = omega arith })
+          subst (λ n. Later before (take n entries)) same (before, is, record { list_no = omega arith; state_id = omega arith; generation = omega arith; entry = omega arith })
       later_at before count (suc more) is =
           let same : suc (count + more) ≡ count + suc more = omega arith in
           subst (λ n. Later before (take n entries)) same (later_by before (count + more) (slice_get entries (count + more)) refl (later_at before count more is))

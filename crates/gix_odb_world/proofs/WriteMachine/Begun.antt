@@ -19,7 +19,7 @@ use Rattle.gix_odb.specs.CallOrder.{fronted}
 use Rattle.gix_odb.specs.Contents.{folder_list}
 use Rattle.gix_odb_world.specs.declared.work.Work.TheVariants.{Calling}
 use Rattle.gix_odb_world.specs.AtWork.{Modes, setting_in, view_in_modes}
-use Rattle.gix_odb_world.specs.Bound.{turns_of_lap}
+use Rattle.gix_odb_looks.specs.Laps.{turns_of_lap}
 use Rattle.gix_odb_runs.specs.Event.{Event}
 use Rattle.gix_odb_world.specs.Running.Write.{InFront, IsAtOwnWrite, IsInFront, KnowsOfWrite, Own, Unlisted, WriteState, work_of}
 use Rattle.gix_odb_world.specs.Status.{MakeCall, OpenStore, Running, Store, Task, begun_with, running_from}

@@ -29,7 +29,8 @@ use Rattle.gix_odb_look_laws.proofs.RefreshHappenLaws.{what_a_refresh_hands_on_c
 use Rattle.gix_odb.specs.CallOrder.{result_of_write, unlisted}
 use Rattle.gix_odb.specs.Contents.{folder_list}
 use Rattle.gix_odb_world.specs.AtWork.{MakeCall, Running, Store, setting_in}
-use Rattle.gix_odb_world.specs.Bound.{HasAtMost, bound_of_task, laps_without_change, turns_beside_pieces, turns_of_lap}
+use Rattle.gix_odb_looks.specs.Laps.{turns_of_lap}
+use Rattle.gix_odb_world.specs.Bound.{HasAtMost, bound_of_task, laps_without_change, turns_beside_pieces}
 use Rattle.gix_odb_runs.specs.Cores.{answer_behind, cores_after, history_at}
 use Rattle.gix_odb_runs.specs.Event.{Asked, CoreAnswer, CoreEvent, Event, OfCore, OfDisk, ToCore, ToDisk}
 use Rattle.gix_odb_world.specs.Promise.{Promise}

@@ -34,7 +34,8 @@ use Rattle.gix_odb_world.specs.declared.work.Work.TheVariants.{Calling}
 use Rattle.gix_odb_runs.specs.Event.{Answer, Ask, Event, part_asked, to_disk}
 use Rattle.gix_odb_world.specs.Machine.{Machine, by_answer, by_part}
 use Rattle.gix_odb_world.specs.AtWork.{MakeCall, Running, Store, setting_in}
-use Rattle.gix_odb_world.specs.Bound.{HasAtMost, bound_of_task, turns_of_lap}
+use Rattle.gix_odb_looks.specs.Laps.{turns_of_lap}
+use Rattle.gix_odb_world.specs.Bound.{HasAtMost, bound_of_task}
 use Rattle.gix_odb_runs.specs.Run.{tree_at}
 use Rattle.gix_odb_world.specs.Running.Answered.{IsAnsweredWell}
 use Rattle.gix_odb_world.specs.Told.{refresh_begun, refresh_now, told_since, turns_in_front}
