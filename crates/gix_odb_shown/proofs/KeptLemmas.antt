@@ -1,5 +1,5 @@
 -- When a tree shows a second content, and what is kept after a tree was noted.
-use Rattle.std.proofs.Common.{◌≡◌, ◌≢◌, ◌⊎◌, ◌↔◌, ◌||◌, inl, inr, ℕ, Bool, true, false, cond, List, [], ◌∷◌, ◌++◌, codes, Option, Some, None, IsSome, is_some, Result, Ok, Err, OnOk, refl, sym, ap, ◌∙◌, subst}
+use Rattle.std.proofs.Common.{◌≡◌, ◌≢◌, ◌⊎◌, ◌↔◌, ◌||◌, inl, inr, ℕ, Bool, true, false, List, [], ◌∷◌, ◌++◌, codes, Option, Some, None, IsSome, is_some, Result, Ok, Err, OnOk, refl, sym, ap, ◌∙◌, subst}
 use Rattle.std.specs.List.{list_any}
 use Rattle.std.specs.Ordering.{eq_by_cmp}
 use Rattle.std.specs.FinMap as finite
@@ -7,7 +7,6 @@ use Rattle.std.specs.FinSet as set
 use Rattle.std.specs.BTreeSet as tree_set
 use Rattle.std.specs.BTreeSet.{BTreeSet}
 use Rattle.std.specs.Cmp.Lexicographic.{bytes_decides}
-use Rattle.std.proofs.lemmas.Cmp.{eq_by_cmp_equiv}
 use Rattle.std.proofs.lemmas.Bool.{false≢true, or_right, or_cases, cases_Bool}
 use Rattle.odb_base.specs.Path.{Name, Path, path_cmp, same_name}
 use Rattle.odb_base.specs.PathLaws.{one_place, path_order, parent_of-push}
@@ -16,12 +15,16 @@ use Rattle.odb_nodes.specs.Tree.{IsTree, Tree}
 use Rattle.odb_nodes.specs.Tree.Follow.{Refusal}
 use Rattle.odb_nodes.proofs.TreeLemmas.{same_path, own_path}
 use Rattle.gix_odb_shown.specs.Watched.{Shows, pack_directory}
-use Rattle.gix_odb_shown.specs.Plain.{ArePlain, IsPlain}
+use Rattle.gix_odb_shown.specs.Led.{AreLed, Learns}
+use Rattle.gix_odb_shown.specs.Ways.{Knows, Ways}
+use Rattle.gix_odb_shown.specs.declared.led.NewWays.{NewWays}
 use Rattle.gix_odb_shown.specs.Kept.{Kept, Contents, Folders, key_cmp, ShowsInOne, IsSecond, Notes, LiesInOne, Fits, nothing_kept}
 use Rattle.gix_odb_shown.specs.Files.{IsIn, Reveals, files_in, differs, with_files}
 use Rattle.gix_odb_shown.specs.declared.shown_file.ShownFile.{ShownFile}
 use Rattle.gix_odb_shown.proofs.ListLemmas.{one_passes, passes_one}
 use Rattle.gix_odb_shown.proofs.FilesLemmas.{in_shows, shown_in}
+use Rattle.gix_odb_shown.proofs.LedLemmas.{learnt_knows, led_knows, sound_plain}
+use Rattle.gix_odb_shown.proofs.PlacesLemmas.{inserted_keys}
 use Rattle.gix_odb_shown.proofs.ContentsLemmas.{all_stay, all_there, all_only, IsOneOf, differs_from, from_other}
 
 -- ---- what lies in a folder lies in no other
@@ -64,12 +67,12 @@ module _ (kept : Kept) (tree : Tree) (files : List ShownFile)
 
 -- ---- what is kept after a tree was noted
 
-module _ (old : Kept) (folders : Folders) (tree : Tree) (files : List ShownFile) (plain : Bool)
+module _ (old : Kept) (folders : Folders) (tree : Tree) (files : List ShownFile) (ways : Ways)
     (show : (file : ShownFile) → IsIn files file → ShowsInOne folders tree file.key.0 file.key.1 file.bytes)
     (shown : (path : Path) (time : ℕ) (bytes : List ℕ) → ShowsInOne folders tree path time bytes
     → (finite.get old.contents (path, time) ≡ Some bytes) ⊎ IsIn files (record { key = (path, time); bytes = bytes })) where
   abbrev noted : Kept
-  noted = record { folders = folders; contents = with_files old.contents files; plain = plain }
+  noted = record { folders = folders; contents = with_files old.contents files; ways = ways }
 
   pub notes_files : Notes old folders tree noted
   notes_files = record {
@@ -102,8 +105,8 @@ module _ (kept : Kept) (before after : Tree) (files : List ShownFile) (fits : Fi
         | inr one ↦ one
       ])
 
-  pub notes_after : (plain : Bool) → Notes kept kept.folders after (record { folders = kept.folders; contents = with_files kept.contents files; plain = plain })
-  notes_after plain = notes_files kept kept.folders after files plain r.shown (λ path time bytes shows.
+  pub notes_after : (ways : Ways) → Notes kept kept.folders after (record { folders = kept.folders; contents = with_files kept.contents files; ways = ways })
+  notes_after ways = notes_files kept kept.folders after files ways r.shown (λ path time bytes shows.
       elim (r.whole path time bytes shows) [
         | inl there ↦ inl (fits.whole path time bytes there)
         | inr one ↦ inr one
@@ -117,7 +120,7 @@ lies_by folders tree path time bytes s = record { folder = s.folder; among = s.a
 module _ (old : Kept) (folders : Folders) (tree : Tree) (new : Kept) (n : Notes old folders tree new)
     (agree : (path : Path) (time : ℕ) (first bytes : List ℕ) → finite.get old.contents (path, time) ≡ Some first → ShowsInOne folders tree path time bytes → first ≡ bytes)
     (lies : (path : Path) (time : ℕ) (bytes : List ℕ) → finite.get old.contents (path, time) ≡ Some bytes → LiesInOne folders path)
-    (plain : new.plain ≡ true → ArePlain tree folders) (is_tree : IsTree tree) where
+    (knows : (folder : Path) → set.contains folders folder ≡ true → Knows new.ways tree folder) (is_tree : IsTree tree) where
   some_kept : (o : Option (List ℕ)) → IsSome o → (bytes : List ℕ) × (o ≡ Some bytes)
   some_kept None is = absurd (false≢true is)
   some_kept (Some bytes) is = (bytes, refl)
@@ -139,7 +142,7 @@ module _ (old : Kept) (folders : Folders) (tree : Tree) (new : Kept) (n : Notes 
           | inl before ↦ lies path time bytes before
           | inr now ↦ lies_by folders tree path time bytes now
         ]);
-    plain = λ is. subst (λ (f : Folders). ArePlain tree f) (sym n.folders_are) (plain is);
+    knows = λ folder among. knows folder (ap (λ (f : Folders). set.contains f folder) (sym n.folders_are) ∙ among);
   }
 
 -- after a change that shows no second content
@@ -160,8 +163,8 @@ first_agrees kept tree first_only path time first bytes known shows = elim (case
 ]
 
 pub fits_after : (old : Kept) (before after : Tree) (new : Kept) → Fits old before → (IsSecond old after → ⊥) → Notes old old.folders after new
-    → (new.plain ≡ true → ArePlain after old.folders) → IsTree after → Fits new after
-fits_after old before after new fits first_only n plain is_tree = fits_noted old old.folders after new n (first_agrees old after first_only) fits.only plain is_tree
+    → ((folder : Path) → set.contains old.folders folder ≡ true → Knows new.ways after folder) → IsTree after → Fits new after
+fits_after old before after new fits first_only n knows is_tree = fits_noted old old.folders after new n (first_agrees old after first_only) fits.only knows is_tree
 
 -- ---- a folder more
 
@@ -197,8 +200,8 @@ module _ (old : Kept) (folder : Path) (tree : Tree) (fits : Fits old tree) where
     | inr among ↦ inl (fits.whole path time bytes (record { folder = s.folder; among = among; shows = s.shows }))
   ]
 
-  pub notes_folder : (plain : Bool) → Notes old more tree (record { folders = more; contents = with_files old.contents (files_in tree folder); plain = plain })
-  notes_folder plain = notes_files old more tree (files_in tree folder) plain own_show own_shown
+  pub notes_folder : (ways : Ways) → Notes old more tree (record { folders = more; contents = with_files old.contents (files_in tree folder); ways = ways })
+  notes_folder ways = notes_files old more tree (files_in tree folder) ways own_show own_shown
 
   -- what was kept is of folders that were watched, so it is the same as what they show
   own_agrees : (path : Path) (time : ℕ) (first bytes : List ℕ) → finite.get old.contents (path, time) ≡ Some first → ShowsInOne more tree path time bytes → first ≡ bytes
@@ -212,15 +215,15 @@ module _ (old : Kept) (folder : Path) (tree : Tree) (fits : Fits old tree) where
   own_lies path time bytes known =
       let l = fits.only path time bytes known in record { folder = l.folder; among = among_more old.folders folder l.folder l.among; name = l.name; path_is = l.path_is }
 
-  -- where it is plain, and so are those that are watched already, all are
-  pub plain_too : (old.plain ≡ true) → IsPlain tree folder → ArePlain tree more
-  plain_too known own other among = elim (among_either old.folders folder other among) [
-    | inl same ↦ subst (IsPlain tree) (sym same) own
-    | inr before ↦ fits.plain known other before
+  -- what was known of those that are watched already is known beside what is looked up of it
+  pub knows_more : (new : Ways) (found : NewWays) → AreLed tree (folder ∷ []) found → Learns old.ways found new → (other : Path) → set.contains more other ≡ true → Knows new tree other
+  knows_more new found led learns other among = elim (among_either old.folders folder other among) [
+    | inl same ↦ led_knows tree (folder ∷ []) found led other (inl (sym same)) old.ways new learns
+    | inr before ↦ learnt_knows old.ways new found tree other learns (sound_plain tree (folder ∷ []) found led other) (fits.knows other before)
   ]
 
-  pub fits_watched : (new : Kept) → Notes old more tree new → (new.plain ≡ true → ArePlain tree more) → Fits new tree
-  fits_watched new n plain = fits_noted old more tree new n own_agrees own_lies plain fits.is_tree
+  pub fits_watched : (new : Kept) → Notes old more tree new → ((other : Path) → set.contains more other ≡ true → Knows new.ways tree other) → Fits new tree
+  fits_watched new n knows = fits_noted old more tree new n own_agrees own_lies knows fits.is_tree
 
   -- a folder that is watched already
   module _ (among : set.contains old.folders folder ≡ true) where
@@ -250,77 +253,66 @@ nothing_fits tree is_tree = record {
   is_tree = is_tree;
   whole = λ path time bytes s. absurd (false≢true (sym (set.contains-empty path_cmp s.folder) ∙ s.among));
   only = λ path time bytes known. let both : None ≡ Some bytes = sym (finite.get-empty key_cmp (path, time)) ∙ known in absurd (cc);
-  plain = λ is folder among. absurd (false≢true (sym (set.contains-empty path_cmp folder) ∙ among));
+  knows = λ folder among. absurd (false≢true (sym (set.contains-empty path_cmp folder) ∙ among));
 }
 
 -- ---- what the code asks
-
--- what is kept, of equal parts
-kept_parts : (a b : Folders) (c d : Contents) (plain : Bool) → a ≡ b → c ≡ d
-    → ◌≡◌ {A = Kept} (record { folders = a; contents = c; plain = plain }) (record { folders = b; contents = d; plain = plain })
-kept_parts a b c d plain f g = λ i. record { folders = f i; contents = g i; plain = plain }
-
-cond-or : (b c : Bool) → cond b true c ≡ (b || c)
-cond-or true c = refl
-cond-or false c = refl
-
--- an insert adds a folder to the set of them
-inserted_keys : (old new : BTreeSet Path) (folder : Path) → tree_set.Updates path_cmp old new folder true
-    → set.from_list {R = path_cmp} new.keys ≡ set.insert (set.from_list old.keys) folder
-inserted_keys old new folder updates =
-    set.same_set path_order one_place _ _ (λ q.
-    set.contains-from_list path_order new.keys q ∙ updates.0 q ∙ cond-or (eq_by_cmp path_cmp folder q) (tree_set.contains path_cmp old q)
-    ∙ ap (λ b. b || tree_set.contains path_cmp old q) ((eq_by_cmp_equiv path_order).symm folder q)
-    ∙ sym (set.contains-insert path_order (set.from_list old.keys) folder q ∙ ap (λ b. eq_by_cmp path_cmp q folder || b) (set.contains-from_list path_order old.keys q)))
 
 pub second_answered : (kept : Kept) (before after : Tree) (files : List ShownFile) (fits : Fits kept before) → Reveals kept.folders before after files → (answer : Bool)
     → answer ≡ list_any (differs kept.contents) files → (answer ≡ true) ↔ IsSecond kept after
 second_answered kept before after files fits r answer is =
     let second = second_after kept before after files fits r in (λ yes. second.0 (sym is ∙ yes), λ s. is ∙ second.1 s)
 
+-- what is kept, of equal parts
+kept_parts : (a b : Folders) (c d : Contents) (ways : Ways) → a ≡ b → c ≡ d
+    → ◌≡◌ {A = Kept} (record { folders = a; contents = c; ways = ways }) (record { folders = b; contents = d; ways = ways })
+kept_parts a b c d ways f g = λ i. record { folders = f i; contents = g i; ways = ways }
+
 module _ (kept : Kept) (before after : Tree) (fits : Fits kept before) (files : List ShownFile) (r : Reveals kept.folders before after files) (folders : Folders)
-    (own contents : Contents) (was plain : Bool) (view : ◌≡◌ {A = Kept} (record { folders = folders; contents = own; plain = was }) kept) where
+    (own contents : Contents) (was ways : Ways) (view : ◌≡◌ {A = Kept} (record { folders = folders; contents = own; ways = was }) kept) where
   abbrev told : Kept
-  told = record { folders = folders; contents = contents; plain = plain }
+  told = record { folders = folders; contents = contents; ways = ways }
 
   pub keep_notes : contents ≡ with_files own files → Notes kept kept.folders after told
   keep_notes is =
       subst (λ (k : Kept). Notes kept kept.folders after k)
-      (kept_parts kept.folders folders (with_files kept.contents files) contents plain (sym (ap (λ (k : Kept). k.folders) view))
+      (kept_parts kept.folders folders (with_files kept.contents files) contents ways (sym (ap (λ (k : Kept). k.folders) view))
       (ap (λ (k : Kept). with_files k.contents files) (sym view) ∙ sym is))
-      (notes_after kept before after files fits r plain)
+      (notes_after kept before after files fits r ways)
 
-  pub keep_fits : (IsSecond kept after → ⊥) → (plain ≡ true → ArePlain after kept.folders) → IsTree after → contents ≡ with_files own files → Fits told after
-  keep_fits first_only are is_tree is = fits_after kept before after told fits first_only (keep_notes is) are is_tree
+  pub keep_fits : (IsSecond kept after → ⊥) → IsTree after → (found : NewWays) → Learns was found ways
+      → ((folder : Path) → set.contains kept.folders folder ≡ true → (old new : Ways) → Knows old before folder → Learns old found new → Knows new after folder)
+      → contents ≡ with_files own files → Fits told after
+  keep_fits first_only is_tree found learns knows is = fits_after kept before after told fits first_only (keep_notes is)
+      (λ folder among. knows folder among kept.ways ways (fits.knows folder among) (subst (λ (w : Ways). Learns w found ways) (ap (λ (k : Kept). k.ways) view) learns)) is_tree
 
-module _ (kept : Kept) (tree : Tree) (fits : Fits kept tree) (folder : Path) (old : BTreeSet Path) (own : Contents) (was : Bool)
-    (view : ◌≡◌ {A = Kept} (record { folders = set.from_list old.keys; contents = own; plain = was }) kept) where
+module _ (kept : Kept) (tree : Tree) (fits : Fits kept tree) (folder : Path) (old : BTreeSet Path) (own : Contents) (was : Ways)
+    (view : ◌≡◌ {A = Kept} (record { folders = set.from_list old.keys; contents = own; ways = was }) kept) where
   pub watched_again : list_any (eq_by_cmp path_cmp folder) old.keys ≡ true → Notes kept (set.insert kept.folders folder) tree kept
   watched_again there =
       notes_again kept folder tree fits
       (sym (ap (λ (k : Kept). set.contains k.folders folder) view) ∙ set.contains-from_list path_order old.keys folder ∙ there)
 
-  module _ (new : BTreeSet Path) (added : tree_set.Updates path_cmp old new folder true) (contents : Contents) (plain : Bool) where
+  module _ (new : BTreeSet Path) (added : tree_set.Updates path_cmp old new folder true) (contents : Contents) (ways : Ways) where
     abbrev watched : Kept
-    watched = record { folders = set.from_list new.keys; contents = contents; plain = plain }
+    watched = record { folders = set.from_list new.keys; contents = contents; ways = ways }
 
     watched_notes : contents ≡ with_files own (files_in tree folder) → Notes kept (set.insert kept.folders folder) tree watched
     watched_notes is =
         subst (λ (k : Kept). Notes kept (set.insert kept.folders folder) tree k)
-        (kept_parts (set.insert kept.folders folder) (set.from_list new.keys) (with_files kept.contents (files_in tree folder)) contents plain
+        (kept_parts (set.insert kept.folders folder) (set.from_list new.keys) (with_files kept.contents (files_in tree folder)) contents ways
         (ap (λ (k : Kept). set.insert k.folders folder) (sym view) ∙ sym (inserted_keys old new folder added))
         (ap (λ (k : Kept). with_files k.contents (files_in tree folder)) (sym view) ∙ sym is))
-        (notes_folder kept folder tree fits plain)
+        (notes_folder kept folder tree fits ways)
 
     pub watch_notes : {A E : Type 0} (answer : Result A E) → OnOk answer (contents ≡ with_files own (files_in tree folder))
         → OnOk answer (Notes kept (set.insert kept.folders folder) tree watched)
     watch_notes (Ok done) is = watched_notes is
     watch_notes (Err error) is = tt
 
-    watched_plain : (plain ≡ true → (was ≡ true) × IsPlain tree folder) → plain ≡ true → ArePlain tree (set.insert kept.folders folder)
-    watched_plain both is = let parts = both is in plain_too kept folder tree fits (sym (ap (λ (k : Kept). k.plain) view) ∙ parts.0) parts.1
-
-    pub watch_fits : {A E : Type 0} → (plain ≡ true → (was ≡ true) × IsPlain tree folder) → (answer : Result A E)
+    pub watch_fits : {A E : Type 0} (found : NewWays) → AreLed tree (folder ∷ []) found → Learns was found ways → (answer : Result A E)
         → OnOk answer (contents ≡ with_files own (files_in tree folder)) → OnOk answer (Fits watched tree)
-    watch_fits both (Ok done) is = fits_watched kept folder tree fits watched (watched_notes is) (watched_plain both)
-    watch_fits both (Err error) is = tt
+    watch_fits found led learns (Ok done) is =
+        fits_watched kept folder tree fits watched (watched_notes is)
+        (knows_more kept folder tree fits ways found led (subst (λ (w : Ways). Learns w found ways) (ap (λ (k : Kept). k.ways) view) learns))
+    watch_fits found led learns (Err error) is = tt

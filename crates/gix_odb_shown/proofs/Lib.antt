@@ -6,9 +6,15 @@ mod EntryLemmas
 mod FilesLemmas
 mod ContentsLemmas
 mod EndLemmas
+mod FrontLemmas
+mod PlacesLemmas
+mod PlainsLemmas
+mod WayLemmas
 mod SpotLemmas
 mod PlainLemmas
+mod TouchedLemmas
+mod LedLemmas
 mod RevealLemmas
 mod SeenLemmas
-mod LinkLemmas
+mod JudgedLemmas
 mod KeptLemmas

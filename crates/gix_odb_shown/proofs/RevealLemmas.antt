@@ -16,10 +16,10 @@ use Rattle.gix_odb_shown.specs.Watched.{counted, pack_directory, watched_kind}
 use Rattle.gix_odb_shown.specs.Plain.{ArePlain}
 use Rattle.gix_odb_shown.specs.Kept.{Folders, ShowsInOne}
 use Rattle.gix_odb_shown.specs.Files.{IsIn, Reveals}
-use Rattle.gix_odb_shown.specs.Seen.{files_named, files_of_kind, files_seen, is_place, path_if, path_through, paths_to, place_of, shown_at}
+use Rattle.gix_odb_shown.specs.Seen.{GainsNoWay, files_named, files_of_kind, files_seen, is_place, path_if, path_through, paths_to, place_of, shown_at}
 use Rattle.gix_odb_shown.specs.declared.shown_file.ShownFile.{ShownFile}
 use Rattle.gix_odb_shown.specs.declared.watched.WatchedKind.{WatchedKind}
-use Rattle.gix_odb_shown.proofs.EndLemmas.{IsEnd, leads_back}
+use Rattle.gix_odb_shown.proofs.EndLemmas.{IsEnd, gains_none, leads_back}
 use Rattle.gix_odb_shown.proofs.FilesLemmas.{among_keys, keys_among}
 use Rattle.gix_odb_shown.proofs.ListLemmas.{in_flat_map, in_map, of_flat_map, of_map}
 use Rattle.gix_odb_shown.proofs.SpotLemmas.{LeadsInto, into_spot, is_place_by, own_place, place_spot, place_there, read_stands, spot_below_root, spot_into, spot_leads, spot_name, spot_read}
@@ -159,6 +159,9 @@ module _ (keys : List Path) (t u : Tree) (plain : ArePlain t (set.from_list keys
 
   pub file_plain : ArePlain u these
   file_plain = plain_after keys t u plain Differs each leaf_ends
+
+  pub file_gains_none : GainsNoWay t u
+  file_gains_none = gains_none t u Differs each leaf_ends
 
   -- ---- a folder's path that leads to the place
 

@@ -29,8 +29,8 @@ use Rattle.odb_nodes.proofs.WriteLaws.{at_place, read_at, rename_source, untouch
 use Rattle.gix_odb_shown.specs.Plain.{ArePlain}
 use Rattle.gix_odb_shown.specs.Seen.{AreSeenOf, IsSeen, files_seen, kind_found}
 use Rattle.gix_odb_shown.specs.declared.shown_file.ShownFile.{ShownFile}
-use Rattle.gix_odb_shown.proofs.EndLemmas.{IsEnd}
-use Rattle.gix_odb_shown.proofs.RevealLemmas.{IsGone, file_plain, file_reveals, plain_after, reveals_nothing}
+use Rattle.gix_odb_shown.proofs.EndLemmas.{IsEnd, gains_none}
+use Rattle.gix_odb_shown.proofs.RevealLemmas.{IsGone, file_gains_none, file_plain, file_reveals, plain_after, reveals_nothing}
 
 -- ---- files
 
@@ -95,6 +95,7 @@ module _ (keys : List Path) (t : Tree) (plain : ArePlain t (set.from_list keys))
         (record {
           reveals = file_reveals keys t (changed t change) plain q time bytes node at content no_directory each;
           plain = file_plain keys t (changed t change) plain q time bytes node at content no_directory each;
+          ways = file_gains_none keys t (changed t change) plain q time bytes node at content no_directory each;
         })
 
   pub put_is_seen : (q : Path) (time : ℕ) (bytes : List ℕ) → is_possible_in t (PutFile q time bytes) ≡ true → (files : List ShownFile) → files ≡ files_seen t keys q time bytes
@@ -131,6 +132,7 @@ module _ (keys : List Path) (t : Tree) (plain : ArePlain t (set.from_list keys))
         reveals =
             reveals_nothing keys t u plain Gone each ends (λ p gone node at. let both : None ≡ Some node = sym gone ∙ at in absurd (cc));
         plain = plain_after keys t u plain Gone each ends;
+        ways = gains_none t u Gone each ends;
       })
     where
       u : Tree
@@ -174,6 +176,7 @@ module _ (keys : List Path) (t : Tree) (plain : ArePlain t (set.from_list keys))
         (record {
           reveals = reveals_nothing keys t u plain IsIt each ends no_file;
           plain = plain_after keys t u plain IsIt each ends;
+          ways = gains_none t u IsIt each ends;
         })
       where
         u : Tree

@@ -1,6 +1,6 @@
--- What is kept: the watched folders, what their paths have shown, and whether the folders are plain.
-use Rattle.std.specs.Prelude.{◌≡◌, ◌≢◌, ◌⊎◌, ◌++◌, ℕ, Bool, true, List, [], ◌∷◌, Some, IsSome, refl}
-use Rattle.std.specs.Coded.{Coded, code_by, coded×, coded_ℕ, coded_bool, coded_list}
+-- What is kept: the watched folders, what their paths have shown, and over which places these lead.
+use Rattle.std.specs.Prelude.{◌≡◌, ◌≢◌, ◌⊎◌, ◌++◌, ℕ, true, List, [], ◌∷◌, Some, IsSome, refl}
+use Rattle.std.specs.Coded.{Coded, code_by, coded×, coded_ℕ, coded_list}
 use Rattle.std.specs.FinMap as finite
 use Rattle.std.specs.FinSet as set
 use Rattle.std.specs.Ordering.{nat_cmp, ordering_then}
@@ -8,7 +8,7 @@ use Rattle.std.specs.declared.cmp.Ordering.{Ordering}
 use Rattle.odb_base.specs.Path.{Name, Path, path_cmp}
 use Rattle.odb_nodes.specs.Tree.{IsTree, Tree}
 use Rattle.gix_odb_shown.specs.Watched.{Shows, pack_directory}
-use Rattle.gix_odb_shown.specs.Plain.{ArePlain}
+use Rattle.gix_odb_shown.specs.Ways.{Knows, Ways, coded_ways, no_ways}
 
 -- a path, and the time under which what it shows counts
 abbrev pub Key : Type 0
@@ -27,19 +27,19 @@ coded_contents = finite.code (coded× (coded_list (coded_list coded_ℕ)) coded_
 abbrev pub Folders : Type 0
 Folders = set.FinSet path_cmp
 
--- the watched folders, what was shown, and whether the folders are known to be plain
+-- the watched folders, what was shown, and what is known of the ways of watched paths
 pub record Kept : Type 0 where
   pub folders : Folders
   pub contents : Contents
-  pub plain : Bool
+  pub ways : Ways
 
 abbrev pub coded_kept : Coded Kept
 coded_kept =
-    code_by (Folders × (Contents × Bool)) (coded× (set.code (coded_list (coded_list coded_ℕ))) (coded× coded_contents coded_bool))
-    (λ k. (k.folders, (k.contents, k.plain))) (λ p. record { folders = p.0; contents = p.1.0; plain = p.1.1 }) (λ _. refl)
+    code_by (Folders × (Contents × Ways)) (coded× (set.code (coded_list (coded_list coded_ℕ))) (coded× coded_contents coded_ways))
+    (λ k. (k.folders, (k.contents, k.ways))) (λ p. record { folders = p.0; contents = p.1.0; ways = p.1.1 }) (λ _. refl)
 
 abbrev pub nothing_kept : Kept
-nothing_kept = record { folders = set.empty; contents = finite.empty; plain = true }
+nothing_kept = record { folders = set.empty; contents = finite.empty; ways = no_ways }
 
 -- a tree shows bytes at a path of one of the folders
 pub record ShowsInOne (folders : Folders) (tree : Tree) (path : Path) (time : ℕ) (bytes : List ℕ) : Type 0 where
@@ -73,9 +73,9 @@ pub record LiesInOne (folders : Folders) (path : Path) : Type 0 where
   pub path_is : path ≡ pack_directory folder ++ name ∷ []
 
 -- What is kept fits a tree: all that the tree shows in the watched folders is kept, nothing else than what such paths showed is, and
--- the folders are plain that are known to be. The tree is that of a disk, so that nothing stands where nothing stands above it.
+-- what is known of the ways in these folders holds. The tree is that of a disk, so that nothing stands where nothing stands above it.
 pub record Fits (kept : Kept) (tree : Tree) : Type 0 where
   pub is_tree : IsTree tree
   pub whole : (path : Path) (time : ℕ) (bytes : List ℕ) → ShowsInOne kept.folders tree path time bytes → finite.get kept.contents (path, time) ≡ Some bytes
   pub only : (path : Path) (time : ℕ) (bytes : List ℕ) → finite.get kept.contents (path, time) ≡ Some bytes → LiesInOne kept.folders path
-  pub plain : kept.plain ≡ true → ArePlain tree kept.folders
+  pub knows : (folder : Path) → set.contains kept.folders folder ≡ true → Knows kept.ways tree folder

@@ -1,30 +1,37 @@
 -- What a change makes the watched paths of plain folders show. No public clause cites this.
-use Rattle.std.specs.Prelude.{◌≡◌, ◌≢◌, ◌++◌, ◌&&◌, ℕ, Bool, true, false, List, [], ◌∷◌, map, Option, Some, None, Result, Ok, Err, unwrap_or, if◌then◌else◌}
+use Rattle.std.specs.Prelude.{◌≡◌, ◌++◌, ◌&&◌, ℕ, Bool, true, false, List, [], ◌∷◌, map, Option, Some, None, Result, Ok, Err, unwrap_or, if◌then◌else◌}
 use lib.Pointwise.{pointwise}
 use Rattle.std.specs.Result.{result_ok}
 use Rattle.std.specs.Option.{option_or}
-use Rattle.std.specs.List.{flat_map, list_all}
+use Rattle.std.specs.List.{flat_map}
 use Rattle.std.specs.FinSet as set
 use Rattle.odb_base.specs.Path.{Name, Path, last_name, same_name}
 use Rattle.odb_nodes.specs.Tree.{Tree}
 use Rattle.odb_nodes.specs.Tree.Change.{changed}
 use Rattle.odb_nodes.specs.Tree.Follow.{Refusal, looked, read_of}
+use Rattle.odb_nodes.specs.Tree.Way.{on_way}
 use Rattle.odb_nodes.specs.Tree.Write.{file_spot, vacant}
 use Rattle.odb_nodes.specs.declared.change.Change.{Change}
 use Rattle.odb_nodes.specs.declared.entry.Entry.{Entry}
 use Rattle.odb_nodes.specs.declared.meta.Meta.{Meta}
 use Rattle.odb_nodes.specs.declared.meta.Kind.{Kind}
 use Rattle.odb_nodes.specs.declared.meta.Kind.TheVariants as kinds
-use Rattle.gix_odb_shown.specs.Watched.{counted, pack_directory, watched_kind}
+use Rattle.gix_odb_shown.specs.Watched.{counted, is_some_kind, pack_directory, watched_kind}
 use Rattle.gix_odb_shown.specs.Plain.{ArePlain}
 use Rattle.gix_odb_shown.specs.Files.{Reveals}
 use Rattle.gix_odb_shown.specs.declared.shown_file.ShownFile.{ShownFile}
 use Rattle.gix_odb_shown.specs.declared.watched.WatchedKind.{WatchedKind}
 
--- The files are what a change makes watched paths show, but for what they show already, and the folders are plain afterwards.
+-- a path is followed along no others than before
+abbrev pub GainsNoWay : Tree → Tree → Type 0
+GainsNoWay before after = (path q : Path) → on_way after true path q ≡ true → on_way before true path q ≡ true
+
+-- The files are what a change makes watched paths show, but for what they show already. The folders are plain afterwards, and no path is
+-- followed along others than before.
 pub record IsSeen (keys : List Path) (tree : Tree) (change : Change) (files : List ShownFile) : Type 0 where
   pub reveals : Reveals (set.from_list keys) tree (changed tree change) files
   pub plain : ArePlain (changed tree change) (set.from_list keys)
+  pub ways : GainsNoWay tree (changed tree change)
 
 -- ---- the watched paths that lead to a place
 
@@ -62,14 +69,6 @@ files_named tree keys place (Some name) time bytes = files_of_kind tree keys pla
 abbrev pub files_seen : Tree → List Path → Path → (time : ℕ) → List ℕ → List ShownFile
 files_seen tree keys place time bytes = files_named tree keys place (last_name place) time bytes
 
-abbrev pub is_some_kind : Option WatchedKind → Bool
-is_some_kind None = false
-is_some_kind (Some kind) = true
-
-abbrev pub is_watched_name : Option Name → Bool
-is_watched_name None = false
-is_watched_name (Some name) = is_some_kind (watched_kind name)
-
 -- The files are those that are seen where a file like that which a path is read as comes to stand at a place, with more bytes behind
 -- its own, and another time if one is given.
 abbrev pub AreSeenOf : Tree → List Path → (source place : Path) → (more : List ℕ) → Option ℕ → List ShownFile → Type 0
@@ -82,27 +81,6 @@ AreSeenOf tree keys source place more time files =
 abbrev pub kind_found : Result Meta Refusal → Option Kind
 kind_found (Ok meta) = Some meta.kind
 kind_found (Err refusal) = None
-
-abbrev pub is_directory_found : Option Kind → Bool
-is_directory_found None = false
-is_directory_found (Some kinds.File) = false
-is_directory_found (Some kinds.Dir) = true
-is_directory_found (Some kinds.Link) = false
-
--- whether the pack path of a folder leads to a directory
-abbrev pub has_packs : Tree → Path → Bool
-has_packs tree folder = is_directory_found (kind_found (looked tree (pack_directory folder) true))
-
--- and that of each of these
-abbrev pub have_packs : Tree → List Path → Bool
-have_packs tree keys = list_all (has_packs tree) keys
-
--- A link that is put at a path is followed by no watched one of these folders: it has no watched name, takes the place of no other
--- link, and each folder has a pack directory.
-pub record IsLinkAside (tree : Tree) (keys : List Path) (path : Path) : Type 0 where
-  pub unwatched : is_watched_name (last_name path) ≡ false
-  pub packs : have_packs tree keys ≡ true
-  pub no_link : kind_found (looked tree path false) ≢ Some kinds.Link
 
 -- ---- whether a folder is plain
 

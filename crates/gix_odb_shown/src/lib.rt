@@ -12,12 +12,16 @@
 #![tactic(auto)]
 
 mod contents;
+mod led;
+mod places;
 mod plain;
 mod revealed;
 mod seen;
 mod shown;
 mod shown_file;
+mod touched;
 mod watched;
+mod ways;
 
 pub use revealed::Revealed;
 pub use shown::Shown;

@@ -1,9 +1,9 @@
-//! Whether no watched name in the pack directories of folders is a link.
-ghost use Rattle.std.specs.Prelude.{◌≡◌, true, IfOk};
+//! Whether no watched name in the pack directory of a folder is a link.
+ghost use Rattle.std.specs.Prelude.{◌≡◌, not, IfOk};
 ghost use Rattle.std.specs.List.{list_any};
-ghost use Rattle.std.specs.FinSet as set;
-ghost use Rattle.gix_odb_shown.specs.Plain.{ArePlain, IsPlain};
+ghost use Rattle.gix_odb_shown.specs.Files.{listed};
 ghost use Rattle.gix_odb_shown.specs.Seen.{is_watched_link};
+ghost use Rattle.gix_odb_shown.specs.Watched.{pack_directory};
 
 use crate::shown_file::listed;
 use crate::watched::{pack_directory, watched_kind};
@@ -11,26 +11,10 @@ use odb_base::{NoMemory, PathText};
 use odb_nodes::{Entry, EntryQueue, Kind};
 use odb_tree::Tree;
 use std::alloc::Global;
-use std::collections::BTreeSet;
-
-/// Whether each of the folders is plain.
-pub(crate) fn are_plain(
-    alloc: Global,
-    tree: &Tree,
-    folders: &BTreeSet<PathText>,
-) -> Result<bool, NoMemory>
-    ensures plain { IfOk result (λ plain. plain ≡ true → ArePlain tree.now (set.from_list folders.now.keys)) }
-{
-    let mut plain = true;
-    for folder in folders {
-        plain = is_plain(alloc, tree, folder)? && plain;
-    }
-    Ok(plain)
-}
 
 /// Whether a folder is plain: no entry of the directory that its pack path leads to is a link with a watched name.
 pub(crate) fn is_plain(alloc: Global, tree: &Tree, folder: &PathText) -> Result<bool, NoMemory>
-    ensures plain { IfOk result (λ plain. plain ≡ true → IsPlain tree.now folder.now) }
+    ensures plain { IfOk result (λ plain. plain ≡ not (list_any is_watched_link (listed tree.now (pack_directory folder.now)))) }
 {
     let directory = pack_directory(alloc, folder)?;
     let entries = listed(alloc, tree, &directory)?;
@@ -48,7 +32,7 @@ fn has_watched_link(mut entries: EntryQueue) -> bool
     has
 }
 
-fn is_watched_link(entry: &Entry) -> bool
+pub(crate) fn is_watched_link(entry: &Entry) -> bool
     ensures link { result ≡ is_watched_link entry.now }
 {
     match entry.kind {

@@ -12,7 +12,7 @@ ghost use Rattle.odb_nodes.specs.Tree.Change.{is_possible_in};
 ghost use Rattle.odb_nodes.specs.Tree.Follow.{looked, read_of};
 ghost use Rattle.odb_nodes.specs.Tree.Write.{file_spot, vacant};
 ghost use Rattle.gix_odb_shown.specs.Plain.{ArePlain};
-ghost use Rattle.gix_odb_shown.specs.Seen.{AreSeenOf, IsLinkAside, IsSeen, files_seen, has_packs, have_packs, is_place, is_watched_name, kind_found, path_through, paths_to, place_of, shown_at};
+ghost use Rattle.gix_odb_shown.specs.Seen.{AreSeenOf, IsSeen, files_seen, is_place, kind_found, path_through, paths_to, place_of, shown_at};
 
 use crate::shown_file::ShownFile;
 use crate::watched::{WatchedKind, counted, pack_directory, watched_kind};
@@ -23,8 +23,7 @@ use std::alloc::Global;
 use std::collections::BTreeSet;
 
 /// The files that watched paths show after a change, but for those that they show already. None where the tree after it
-/// has to be looked at: where a link or a directory is moved, or a link is put with a watched name, in place of another
-/// link, or while a folder has no pack directory.
+/// has to be looked at: where a link is put, or a link or a directory is moved.
 pub(crate) fn seen_in(
     alloc: Global,
     tree: &Tree,
@@ -41,7 +40,7 @@ pub(crate) fn seen_in(
             Ok(Some(files_seen(alloc, tree, folders, path, *time, bytes)?))
         }
         Change::MakeDir { .. } => Ok(Some(Vec::new(alloc))),
-        Change::PutLink { path, .. } => link_seen(alloc, tree, folders, path),
+        Change::PutLink { .. } => Ok(None),
         Change::Rename { from, to } => moved_seen(alloc, tree, folders, from, to),
         Change::Append { path, bytes } => append_seen(alloc, tree, folders, path, bytes),
         Change::Remove { .. } => Ok(Some(Vec::new(alloc))),
@@ -49,47 +48,6 @@ pub(crate) fn seen_in(
             let nothing = ByteList::new(alloc);
             seen_of(alloc, tree, folders, path, path, &nothing, Some(*time))
         }
-    }
-}
-
-/// What watched paths show where a link is put: nothing new where it has no watched name, takes the place of no link, and
-/// each folder has a pack directory.
-fn link_seen(
-    alloc: Global,
-    tree: &Tree,
-    folders: &BTreeSet<PathText>,
-    path: &PathText,
-) -> Result<Option<Vec<ShownFile>>, NoMemory>
-    ensures aside { IfOk result (λ seen. IfSome seen (λ files. IsLinkAside tree.now folders.now.keys path.now)) }
-    ensures seen { IfOk result (λ seen. IfSome seen (λ files. files.items ≡ [])) }
-{
-    if has_watched_name(path) || !have_packs(alloc, tree, folders)? {
-        return Ok(None);
-    }
-    match kind_at(alloc, tree, path, false)? {
-        Some(Kind::Link) => Ok(None),
-        _ => Ok(Some(Vec::new(alloc))),
-    }
-}
-
-/// Whether the pack path of each of the folders leads to a directory.
-fn have_packs(alloc: Global, tree: &Tree, folders: &BTreeSet<PathText>) -> Result<bool, NoMemory>
-    ensures have { IfOk result (λ have. have ≡ have_packs tree.now folders.now.keys) }
-{
-    let mut have = true;
-    for folder in folders {
-        have = has_packs(alloc, tree, folder)? && have;
-    }
-    Ok(have)
-}
-
-fn has_packs(alloc: Global, tree: &Tree, folder: &PathText) -> Result<bool, NoMemory>
-    ensures has { IfOk result (λ has. has ≡ has_packs tree.now folder.now) }
-{
-    let directory = pack_directory(alloc, folder)?;
-    match kind_at(alloc, tree, &directory, true)? {
-        Some(Kind::Dir) => Ok(true),
-        _ => Ok(false),
     }
 }
 
@@ -201,15 +159,6 @@ fn longer(mut bytes: ByteList, more: &ByteList) -> Result<ByteList, NoMemory>
 {
     bytes.extend_from_slice(more.as_slice())?;
     Ok(bytes)
-}
-
-fn has_watched_name(path: &PathText) -> bool
-    ensures watched { result ≡ is_watched_name (last_name path.now) }
-{
-    match path.file_name() {
-        Some(name) => watched_kind(name).is_some(),
-        None => false,
-    }
 }
 
 /// What the watched paths show that lead to a place, where a file with these bytes and this time stands there.
@@ -325,7 +274,11 @@ fn vacant(alloc: Global, tree: &Tree, path: &PathText) -> Result<Option<PathText
 
 /// The place of the file that a path leads to.
 #[tactic(auto, unfolding(odb_nodes::specs::Tree::Write::change_of_append))]
-fn file_spot(alloc: Global, tree: &Tree, path: &PathText) -> Result<Option<PathText>, NoMemory>
+pub(crate) fn file_spot(
+    alloc: Global,
+    tree: &Tree,
+    path: &PathText,
+) -> Result<Option<PathText>, NoMemory>
     ensures place { IfOk result (λ place. place ≡ result_ok (file_spot tree.now path.now)) }
 {
     let nothing = ByteList::new(alloc);

@@ -1,18 +1,23 @@
 //! What the watched paths of folders have shown.
-ghost use Rattle.std.specs.Prelude.{◌≡◌, ◌↔◌, IsTrue, true, false, IfOk, IfSome, OnOk};
+ghost use Rattle.std.specs.Prelude.{◌≡◌, ◌↔◌, ◌&&◌, IsTrue, true, IfOk, IfSome, OnOk};
+ghost use Rattle.std.specs.List.{flat_map, list_any};
 ghost use Rattle.std.specs.FinSet as set;
-ghost use Rattle.odb_nodes.specs.Tree.{IsTree, Tree as TreeValue};
+ghost use Rattle.odb_base.specs.Path.{Path};
+ghost use Rattle.odb_nodes.specs.Tree.{Tree as TreeValue};
 ghost use Rattle.odb_nodes.specs.Tree.Change.{changed, is_possible_in};
-ghost use Rattle.gix_odb_shown.specs.Files.{Reveals};
+ghost use Rattle.gix_odb_shown.specs.Files.{files_in};
 ghost use Rattle.gix_odb_shown.specs.Kept.{Fits, IsSecond, Notes, nothing_kept};
-ghost use Rattle.gix_odb_shown.specs.Plain.{ArePlain};
+ghost use Rattle.gix_odb_shown.specs.Led.{AreLed, SeesTouched, is_in, places_of};
+ghost use Rattle.gix_odb_shown.specs.Ways.{is_touched};
 ghost use Rattle.gix_odb_shown.specs.Revealed.{IsRevealed};
 
 use crate::contents::Contents;
-use crate::plain::{are_plain, is_plain};
+use crate::led::{no_ways, ways_of, ways_of_one};
 use crate::revealed::Revealed;
 use crate::seen::seen_in;
 use crate::shown_file::{ShownFile, files_in, files_of_all};
+use crate::touched::touched_by;
+use crate::ways::Ways;
 use odb_base::{NoMemory, PathText};
 use odb_nodes::{Change, Impossible};
 use odb_tree::Tree;
@@ -25,9 +30,8 @@ use std::marker::Model;
 pub struct Shown {
     folders: BTreeSet<PathText>,
     contents: Contents,
-    /// No watched name in the directories that the folders' pack paths lead to is a link. Where this isn't known, it is
-    /// false.
-    plain: bool,
+    /// Over which places the watched paths of the folders lead.
+    ways: Ways,
 }
 
 impl Model for Shown {
@@ -38,7 +42,7 @@ impl Model for Shown {
 
     ghost coded = { coded_kept };
 
-    ghost view = { λ s. record { folders = set.from_list s.folders.keys; contents = s.contents; plain = s.plain } };
+    ghost view = { λ s. record { folders = set.from_list s.folders.keys; contents = s.contents; ways = s.ways } };
 }
 
 impl Shown {
@@ -49,7 +53,7 @@ impl Shown {
         Shown {
             folders: BTreeSet::new(alloc),
             contents: Contents::new(alloc),
-            plain: true,
+            ways: Ways::new(alloc),
         }
     }
 
@@ -63,7 +67,8 @@ impl Shown {
             return Ok(());
         }
         let files = files_in(alloc, tree, folder)?;
-        self.plain = is_plain(alloc, tree, folder)? && self.plain;
+        let found = ways_of_one(alloc, tree, folder)?;
+        self.ways.learn(found)?;
         self.folders.insert(folder.try_clone(alloc)?)?;
         self.contents.keep_all(files)
     }
@@ -101,9 +106,16 @@ impl Shown {
         requires possible { is_possible_in tree.now change.now ≡ true }
         ensures revealed { IfOk result (IsRevealed self.now.folders tree.now (changed tree.now change.now)) }
     {
-        match self.seen(alloc, tree, change)? {
-            Some(files) => Ok(Revealed { files, plain: true }),
-            None => revealed_by_tree(alloc, &self.folders, &changed(alloc, tree, change)?),
+        let touched = touched_by(alloc, &self.ways, &self.folders, tree, change)?;
+        match self.seen(alloc, tree, &touched, change)? {
+            Some(files) => Ok(Revealed {
+                files,
+                ways: no_ways(alloc),
+            }),
+            None => {
+                let after = changed(alloc, tree, change)?;
+                revealed_by_tree(alloc, &touched, &after)
+            }
         }
     }
 
@@ -119,44 +131,48 @@ impl Shown {
         ensures notes { OnOk result ((before after : TreeValue) → Fits self.old before → IsRevealed self.old.folders before after revealed → Notes self.old self.old.folders after self.new) }
         ensures fits { OnOk result ((before after : TreeValue) → Fits self.old before → IsRevealed self.old.folders before after revealed → (IsSecond self.old after → ⊥) → Fits self.new after) }
     {
-        let Revealed { files, plain } = revealed;
-        self.plain = plain;
+        let Revealed { files, ways } = revealed;
+        self.ways.learn(ways)?;
         self.contents.keep_all(files)
     }
 
-    /// What a change makes watched paths show, where the folders are plain and the change tells it.
+    /// What a change makes the watched paths of the folders that it touches show, where these are plain and the change
+    /// tells it, or where there are none.
     fn seen(
         &self,
         alloc: Global,
         tree: &Tree,
+        touched: &BTreeSet<PathText>,
         change: &Change,
     ) -> Result<Option<Vec<ShownFile>>, NoMemory>
         requires fits { Fits self.now tree.now }
         requires possible { is_possible_in tree.now change.now ≡ true }
-        ensures reveals { IfOk result (λ seen. IfSome seen (λ files. Reveals self.now.folders tree.now (changed tree.now change.now) files.items)) }
-        ensures plain { IfOk result (λ seen. IfSome seen (λ files. ArePlain (changed tree.now change.now) self.now.folders)) }
-        ensures is_tree { IsTree (changed tree.now change.now) }
+        requires touched { (folder : Path) → is_in touched.now.keys folder ≡ (set.contains self.now.folders folder && list_any (is_touched self.now.ways folder) (places_of tree.now change.now)) }
+        ensures seen { IfOk result (λ seen. IfSome seen (λ files. SeesTouched self.now.folders tree.now (changed tree.now change.now) files.items)) }
     {
-        if self.plain {
-            seen_in(alloc, tree, &self.folders, change)
+        if touched.is_empty() {
+            return Ok(Some(Vec::new(alloc)));
+        }
+        if self.ways.are_plain(touched) {
+            seen_in(alloc, tree, touched, change)
         } else {
             Ok(None)
         }
     }
 }
 
-/// All that a tree shows in the folders.
+/// All that a tree shows in the folders that a change touches, and what it tells of their ways.
 fn revealed_by_tree(
     alloc: Global,
-    folders: &BTreeSet<PathText>,
+    touched: &BTreeSet<PathText>,
     after: &Tree,
 ) -> Result<Revealed, NoMemory>
-    ensures reveals { IfOk result (λ revealed. (before : TreeValue) → Reveals (set.from_list folders.now.keys) before after.now revealed.files.items) }
-    ensures plain { IfOk result (λ revealed. revealed.plain ≡ true → ArePlain after.now (set.from_list folders.now.keys)) }
+    ensures files { IfOk result (λ revealed. revealed.files.items ≡ flat_map (files_in after.now) touched.now.keys) }
+    ensures led { IfOk result (λ revealed. AreLed after.now touched.now.keys revealed.ways) }
 {
-    let files = files_of_all(alloc, after, folders)?;
-    let plain = are_plain(alloc, after, folders)?;
-    Ok(Revealed { files, plain })
+    let files = files_of_all(alloc, after, touched)?;
+    let ways = ways_of(alloc, after, touched)?;
+    Ok(Revealed { files, ways })
 }
 
 /// The tree after a change that is possible.

@@ -91,7 +91,11 @@ pub(crate) fn add_file(
 }
 
 /// The path of a name in a directory.
-fn joined(alloc: Global, directory: &PathText, name: &PathName) -> Result<PathText, NoMemory>
+pub(crate) fn joined(
+    alloc: Global,
+    directory: &PathText,
+    name: &PathName,
+) -> Result<PathText, NoMemory>
     requires named { is_name name.now ≡ true }
     ensures path { IfOk result (λ path. path ≡ directory.now ++ name.now ∷ []) }
 {

@@ -1,6 +1,7 @@
 //! Which names of a pack directory are watched.
 ghost use Rattle.std.specs.Prelude.{◌≡◌, IfOk};
-ghost use Rattle.gix_odb_shown.specs.Watched.{counted, pack_directory, watched_kind};
+ghost use Rattle.odb_base.specs.Path.{last_name};
+ghost use Rattle.gix_odb_shown.specs.Watched.{counted, is_watched_name, pack_directory, watched_kind};
 
 use odb_base::{BadPath, NoMemory, PathText};
 use std::alloc::Global;
@@ -37,6 +38,16 @@ pub(crate) fn watched_kind(name: &str) -> Option<WatchedKind>
         return Some(WatchedKind::MultiIndex);
     }
     None
+}
+
+/// Whether a path has a last name, and one that is watched.
+pub(crate) fn has_watched_name(path: &PathText) -> bool
+    ensures watched { result ≡ is_watched_name (last_name path.now) }
+{
+    match path.file_name() {
+        Some(name) => watched_kind(name).is_some(),
+        None => false,
+    }
 }
 
 /// The time under which the bytes of a file count, by its own time.

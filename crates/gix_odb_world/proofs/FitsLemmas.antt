@@ -76,7 +76,10 @@ module _ (world : Course) (explained : IsExplained world) where
     };
     whole = λ path time bytes shows. ∥∥₁_elim explained (Coded-set (coded_option (coded_list coded_ℕ)) _ _) (λ h. (fits_by h).whole path time bytes shows);
     only = λ path time bytes kept. lies world.shown.folders path (λ h. (fits_by h).only path time bytes kept);
-    plain = λ yes folder among. record {
-      files = λ name kind is place at. ∥∥₁_elim explained (Coded-set coded_bool _ _) (λ h. ((fits_by h).plain yes folder among).files name kind is place at);
+    knows = λ folder among. record {
+      plain = λ yes. record {
+        files = λ name kind is place at. ∥∥₁_elim explained (Coded-set coded_bool _ _) (λ h. (((fits_by h).knows folder among).plain yes).files name kind is place at);
+      };
+      touched = λ name kind is q on. ∥∥₁_elim explained (Coded-set coded_bool _ _) (λ h. ((fits_by h).knows folder among).touched name kind is q on);
     };
   }

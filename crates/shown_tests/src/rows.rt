@@ -70,6 +70,23 @@ const CHANGED: &str = "\
     put /o/pack/multi-pack-index 1 x, put /t 2 y, move /t /o/pack/multi-pack-index, time /o/pack/multi-pack-index 1|made made made second ;\
     put /o/pack/multi-pack-index 1 x, time /o/pack/multi-pack-index 2, put /o/pack/multi-pack-index 2 y|made made second ";
 
+/// Changes on the ways of watched paths, and beside them.
+const WAYS: &str = "\
+    put /t 1 x, link /o/pack/a.idx /t, put /u 1 y, make /q, link /l /u, move /u /v, put /o/pack/b.idx 1 z, put /t 1 y|made made made made made made made second ;\
+    put /t 1 x, link /m /t, link /o/pack/a.idx /m, put /u 1 y, link /m /u|made made made made second ;\
+    put /t 1 x, link /o/pack/a.idx /t, take /o/pack/a.idx, put /t 1 y, put /o/pack/a.idx 1 y|made made made made second ;\
+    put /t 1 x, link /o/pack/a.idx /t, take /o/pack/a.idx, put /o/pack/a.idx 1 x, put /t 1 y, put /o/pack/a.idx 1 y|made made made made made second ;\
+    make /q, make /q/pack, put /q/pack/a.idx 1 x, link /m /q, link /p /m, watch /p, make /r, make /r/pack, put /r/pack/a.idx 1 y, link /m /r|made made made made made watched made made made second ;\
+    make /q, make /q/pack, put /q/pack/a.idx 1 x, link /m /q, link /p /m, watch /p, make /r, make /r/pack, put /r/pack/a.idx 1 x, link /m /r, put /q/pack/a.idx 1 y, put /r/pack/a.idx 1 y|made made made made made watched made made made made made second ;\
+    put /o/pack/a.idx 1 x, move /o /w, put /w/pack/a.idx 1 y, move /w /o|made made made second ;\
+    put /o/pack/a.idx 1 x, move /o /w, move /w /o, put /o/pack/a.idx 1 y|made made made second ";
+
+/// Several folders, of which a change touches one or two.
+const FOLDERS: &str = "\
+    make /a, make /a/pack, watch /a, make /b, make /b/pack, watch /b, put /a/pack/a.idx 1 x, put /b/pack/a.idx 1 y, put /b/pack/a.idx 1 x|made made watched made made watched made made second ;\
+    make /a, make /a/pack, watch /a, make /b, make /b/pack, watch /b, make /c, watch /c, link /c/pack /b/pack, put /b/pack/a.idx 1 x, put /a/pack/a.idx 1 y, put /c/pack 1 z, link /c/pack /a/pack|made made watched made made watched made watched made made made made second ;\
+    make /a, make /a/pack, watch /a, make /b, make /b/pack, watch /b, put /t 1 x, link /b/pack/a.idx /t, put /a/pack/a.idx 1 z, put /t 1 y|made made watched made made watched made made made second ";
+
 fn check(rt: &HostRuntime, rows: &str) -> Result<(), Fail> {
     let alloc = rt.alloc();
     for row in rows.split(';') {
@@ -85,7 +102,16 @@ fn check(rt: &HostRuntime, rows: &str) -> Result<(), Fail> {
 // Catches a second content that is let through or made up: by a time, a removal, a move, a link, or before a folder is watched.
 #[test]
 fn second_contents(rt: HostRuntime) -> Result<(), Fail> {
-    for rows in [FOLDER, MULTI_INDEX, LINKS, LATER, NO_DIRECTORY, CHANGED] {
+    for rows in [
+        FOLDER,
+        MULTI_INDEX,
+        LINKS,
+        LATER,
+        NO_DIRECTORY,
+        CHANGED,
+        WAYS,
+        FOLDERS,
+    ] {
         check(&rt, rows)?;
     }
     Ok(())

@@ -2,7 +2,6 @@ use Rattle.std.proofs.Common.{◌∙◌, sym, ap, subst, IfOk, IfSome}
 use Rattle.odb_nodes.specs.Tree.Change.{is_possible_in}
 use Rattle.odb_nodes.specs.declared.change.Change.{Change}
 use Rattle.gix_odb_shown.specs.Seen.{IsSeen}
-use Rattle.gix_odb_shown.proofs.LinkLemmas.{link_answer}
 use Rattle.gix_odb_shown.proofs.SeenLemmas.{appended_answer, made_dir_is_seen, moved_answer, put_is_seen, removed_is_seen, timed_answer}
 use Rattle.gix_odb_shown.proofs.seen.seen_in.Goals as goal
 
@@ -21,14 +20,6 @@ returns-in-MakeDir c = record {
       subst (λ (change : Change). IsSeen c.args.folders.now.keys c.args.tree.now change c.new.result.items) (sym c.in-MakeDir.is)
       (made_dir_is_seen c.args.folders.now.keys c.args.tree.now c.requires.plain c.requires.is_tree c.in-MakeDir.path c.in-MakeDir.dev
       (ap (is_possible_in c.args.tree.now) (sym c.in-MakeDir.is) ∙ c.requires.possible) c.new.result.items c.new.ensures.items);
-}
-
-pub returns-in-PutLink : goal.returns-in-PutLink
-returns-in-PutLink c = record {
-  seen =
-      subst (λ (change : Change). IfOk c.link_seen.result (λ seen. IfSome seen (λ files. IsSeen c.args.folders.now.keys c.args.tree.now change files.items))) (sym c.in-PutLink.is)
-      (link_answer c.args.folders.now.keys c.args.tree.now c.requires.is_tree c.requires.plain (λ files. files.items) c.in-PutLink.path c.in-PutLink.target
-      (ap (is_possible_in c.args.tree.now) (sym c.in-PutLink.is) ∙ c.requires.possible) c.link_seen.result c.link_seen.ensures.aside c.link_seen.ensures.seen);
 }
 
 pub returns-in-Rename : goal.returns-in-Rename

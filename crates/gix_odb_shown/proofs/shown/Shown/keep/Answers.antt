@@ -8,7 +8,7 @@ returns-clause-notes c =
     on_ok_weaker c.keep_all.result
     (λ kept before after fits is.
     keep_notes c.args.self.now before after fits c.args.revealed.files.items is.reveals (set.from_list c.self.inside.folders.keys) c.self.inside.contents c.keep_all.new.self
-    c.self.inside.plain c.args.revealed.plain c.self.view_is kept)
+    c.self.inside.ways c.learn.new.self c.self.view_is kept)
     c.keep_all.ensures.kept
 
 pub returns-clause-fits : goal.returns-clause-fits
@@ -16,5 +16,5 @@ returns-clause-fits c =
     on_ok_weaker c.keep_all.result
     (λ kept before after fits is first.
     keep_fits c.args.self.now before after fits c.args.revealed.files.items is.reveals (set.from_list c.self.inside.folders.keys) c.self.inside.contents c.keep_all.new.self
-    c.self.inside.plain c.args.revealed.plain c.self.view_is first is.plain is.is_tree kept)
+    c.self.inside.ways c.learn.new.self c.self.view_is first is.is_tree c.args.revealed.ways c.in_ok-learn.ensures.learns is.knows kept)
     c.keep_all.ensures.kept

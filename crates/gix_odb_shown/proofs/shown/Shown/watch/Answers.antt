@@ -1,38 +1,30 @@
 use Rattle.std.proofs.Common.{◌≡◌, ◌∙◌, sym, subst, true, List, OnOk}
-use Rattle.std.proofs.lemmas.Bool.{false≢true}
 use Rattle.std.specs.BTreeSet as tree_set
 use Rattle.odb_base.specs.Path.{Path, path_cmp}
 use Rattle.gix_odb_shown.specs.Files.{with_files}
 use Rattle.gix_odb_shown.specs.declared.shown_file.ShownFile.{ShownFile}
 use Rattle.gix_odb_shown.proofs.KeptLemmas.{watch_fits, watch_notes, watched_again}
-use Rattle.gix_odb_shown.proofs.shown.Shown.watch.Goals.{then-branch, else-branch}
 use Rattle.gix_odb_shown.proofs.shown.Shown.watch.Goals as goal
 
 pub returns-then-contains-clause-notes : goal.returns-then-contains-clause-notes
 returns-then-contains-clause-notes c =
-    watched_again c.args.self.now c.args.tree.now c.requires.fits c.args.folder.now c.self.inside.folders c.self.inside.contents c.self.inside.plain c.self.view_is
+    watched_again c.args.self.now c.args.tree.now c.requires.fits c.args.folder.now c.self.inside.folders c.self.inside.contents c.self.inside.ways c.self.view_is
     (sym c.contains.ensures ∙ c.if-contains.true)
 
 pub returns-clause-notes : goal.returns-clause-notes
 returns-clause-notes c =
-    watch_notes c.args.self.now c.args.tree.now c.requires.fits c.args.folder.now c.self.inside.folders c.self.inside.contents c.self.inside.plain c.self.view_is
+    watch_notes c.args.self.now c.args.tree.now c.requires.fits c.args.folder.now c.self.inside.folders c.self.inside.contents c.self.inside.ways c.self.view_is
     c.insert.new.self
     (subst (λ (key : Path). tree_set.Updates path_cmp c.self.inside.folders c.insert.new.self key true) c.in_ok-try_clone.ensures.copy c.in_ok-insert.ensures.updates)
-    c.keep_all.new.self c.if-branch.self c.keep_all.result
+    c.keep_all.new.self c.learn.new.self c.keep_all.result
     (subst (λ (files : List ShownFile). OnOk c.keep_all.result (c.keep_all.new.self ≡ with_files c.self.inside.contents files)) c.in_ok-files.ensures.files
     c.keep_all.ensures.kept)
 
 pub returns-clause-fits : goal.returns-clause-fits
 returns-clause-fits c =
-    watch_fits c.args.self.now c.args.tree.now c.requires.fits c.args.folder.now c.self.inside.folders c.self.inside.contents c.self.inside.plain c.self.view_is
+    watch_fits c.args.self.now c.args.tree.now c.requires.fits c.args.folder.now c.self.inside.folders c.self.inside.contents c.self.inside.ways c.self.view_is
     c.insert.new.self
     (subst (λ (key : Path). tree_set.Updates path_cmp c.self.inside.folders c.insert.new.self key true) c.in_ok-try_clone.ensures.copy c.in_ok-insert.ensures.updates)
-    c.keep_all.new.self c.if-branch.self
-    (λ yes.
-    elim c.if-branch.branch [
-      | then-branch w ↦ (sym w.self-is ∙ yes, c.in_ok-is_plain.ensures.plain w.if-branch.true)
-      | else-branch w ↦ absurd (false≢true (sym w.if-branch.false ∙ sym w.self-is ∙ yes))
-    ])
-    c.keep_all.result
+    c.keep_all.new.self c.learn.new.self c.in_ok-found.found c.in_ok-found.ensures.led c.in_ok-learn.ensures.learns c.keep_all.result
     (subst (λ (files : List ShownFile). OnOk c.keep_all.result (c.keep_all.new.self ≡ with_files c.self.inside.contents files)) c.in_ok-files.ensures.files
     c.keep_all.ensures.kept)
