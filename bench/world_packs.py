@@ -83,6 +83,20 @@ def unlisted(count):
     return joined([], 4, parts, [])
 
 
+def own_folders(count):
+    """So many open stores, each in a folder of its own, and a pack that other programs put into each."""
+    opened = [(["open %d /s%d slots=1" % (it, it), "finish %d" % it], ["applied", "opened 1"]) for it in range(1, count + 1)]
+    packs = [(put("pack-a", [it], 1, "do ", "/s%d/pack" % it), ["applied"] * 2) for it in range(1, count + 1)]
+    directories = [line for it in range(1, count + 1) for line in ("mkdir /s%d" % it, "mkdir /s%d/pack" % it)]
+    return joined([*put("pack-a", range(10), 1), *directories], 1, [*opened, *packs, found(7)])
+
+
+def beside(count):
+    """So many links and directories that other programs put and move outside the watched folders, and then one find."""
+    changes = [(["do link /q/l-%d /q" % it, "do rename /q/l-%d /q/k-%d" % (it, it), "do mkdir /q/d-%d" % it, "do rename /q/d-%d /q/e-%d" % (it, it)], ["applied"] * 4) for it in range(count)]
+    return joined(["mkdir /q", *put("pack-a", range(10), 1)], 4, [*changes, found(7)])
+
+
 CASES = {
     "objects in one pack": (one_pack, (1000, 4000, 16000)),
     "packs": (many_packs, (20, 80, 320)),
@@ -90,6 +104,8 @@ CASES = {
     "replacements": (replaced, (200, 800)),
     "changes behind a link": (behind_link, (2000, 8000, 32000)),
     "writes without packs": (unlisted, (2000, 8000)),
+    "stores in folders of their own": (own_folders, (500, 2000)),
+    "links and directories beside": (beside, (2000, 8000)),
 }
 
 
