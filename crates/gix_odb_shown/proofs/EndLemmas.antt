@@ -1,14 +1,16 @@
 -- Trees that differ at ends of ways alone: what leads somewhere in one leads there in the other, unless they differ at that place.
 use Rattle.std.proofs.Common.{◌≡◌, ◌⊎◌, inl, inr, ℕ, zero, suc, true, false, [], ◌∷◌, ◌++◌, Option, Some, None, Result, Ok, Err, refl, sym, ap, ◌∙◌, subst}
-use Rattle.std.proofs.lemmas.Bool.{false≢true, or_cases, or_left, or_right}
-use Rattle.odb_base.specs.Path.{Name, Path}
+use Rattle.std.specs.List.{starts_with}
+use Rattle.std.proofs.lemmas.Bool.{false≢true}
+use Rattle.odb_base.specs.Path.{Name, Path, same_name}
 use Rattle.odb_nodes.specs.Tree.{Tree, is_directory, is_directory_content, node_at}
 use Rattle.odb_nodes.specs.Tree.Follow.{Pass, Reached, Onward, Missing, Blocked, pass, past, beyond, at_last, ending, Place, Refusal, LinkLoop, arrives, followed_within, most_links}
-use Rattle.odb_nodes.specs.Tree.Way.{is_front_of_one, is_link, is_link_content, on_way, on_way_within, ways_onward, ways_within}
+use Rattle.odb_nodes.specs.Tree.Way.{is_link, is_link_content, on_way, ways_within}
 use Rattle.odb_nodes.specs.declared.node.Node.{Node}
-use Rattle.odb_nodes.proofs.TreeLemmas.Moved.{begins}
 use Rattle.gix_odb_shown.specs.Seen.{GainsNoWay}
-use Rattle.gix_odb_shown.proofs.WayLemmas.{led_on}
+use Rattle.gix_odb_shown.specs.Ways.{IsIn}
+use Rattle.gix_odb_shown.proofs.ListLemmas.{one_passes, passes_one}
+use Rattle.gix_odb_shown.proofs.WholeLemmas.{in_onward, onward_in}
 use Rattle.odb_nodes.specs.declared.node.Content.{Content}
 use Rattle.odb_nodes.specs.declared.node.Content.TheVariants.{File, Dir, Link}
 
@@ -113,19 +115,21 @@ module _ (t u : Tree) (Differs : Path → Type 0) (each : (p : Path) → (node_a
 
   -- ---- no path is followed along others than before
 
-  gains_within : (links : ℕ) (path q : Path) → on_way_within links u true path q ≡ true → on_way_within links t true path q ≡ true
+  gains_within : (links : ℕ) (path q : Path) → IsIn (ways_within links u true path) q → IsIn (ways_within links t true path) q
   unfolding ways_within
-  gains_within zero path q on = on
-  gains_within (suc links) path q on =
-      elim (or_cases (begins path q) (is_front_of_one (ways_onward (ways_within links u true) (pass u true [] path)) q) on) [
-        | inl own ↦ or_left (begins path q) (is_front_of_one (ways_onward (ways_within links t true) (pass t true [] path)) q) own
-        | inr led ↦
-            let l = led_on (ways_within links u true) (pass u true [] path) q led in
-            let onward : pass t true [] path ≡ Onward l.path = subst (λ (p : Pass). Back p (pass t true [] path)) l.onward (pass_back [] path) in
-            or_right (begins path q) (is_front_of_one (ways_onward (ways_within links t true) (pass t true [] path)) q)
-            (ap (λ (p : Pass). is_front_of_one (ways_onward (ways_within links t true) p) q) onward ∙ gains_within links l.path q l.on)
-      ]
+  gains_within zero path q one = one
+  gains_within (suc links) path q (inl own) = inl own
+  gains_within (suc links) path q (inr led) =
+      let l = in_onward (ways_within links u true) (pass u true [] path) q led in
+      let onward : pass t true [] path ≡ Onward l.path = subst (λ (p : Pass). Back p (pass t true [] path)) l.onward (pass_back [] path) in
+      inr (onward_in (ways_within links t true) (pass t true [] path) q l.path onward (gains_within links l.path q l.one))
 
   pub gains_none : GainsNoWay t u
-  unfolding on_way
-  gains_none path q on = gains_within most_links path q on
+  gains_none path q one = gains_within most_links path q one
+
+-- what is no more of a way than before is on no more of it
+pub gains_no_front : (t u : Tree) → GainsNoWay t u → (path q : Path) → on_way u true path q ≡ true → on_way t true path q ≡ true
+unfolding on_way
+gains_no_front t u gains path q on =
+    let o = one_passes (λ (way : Path). starts_with same_name way q) (ways_within most_links u true path) on in
+    passes_one (λ (way : Path). starts_with same_name way q) (ways_within most_links t true path) o.0 (gains path o.0 o.1) o.2

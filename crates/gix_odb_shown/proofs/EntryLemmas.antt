@@ -15,7 +15,8 @@ use Rattle.odb_nodes.specs.declared.node.Content.{Content}
 use Rattle.odb_nodes.specs.declared.node.Content.TheVariants.{File, Dir, Link}
 use Rattle.odb_nodes.proofs.TreeLemmas.{same_path}
 use Rattle.odb_nodes.proofs.TreeLemmas.Change.{name_in-push}
-use Rattle.gix_odb_shown.specs.Files.{IsIn, listed}
+use Rattle.gix_odb_shown.specs.Files.{listed}
+use Rattle.gix_odb_shown.specs.Ways.{IsIn}
 use Rattle.gix_odb_shown.proofs.ListLemmas.{in_filter_map}
 
 -- a path leads to a directory that has a name

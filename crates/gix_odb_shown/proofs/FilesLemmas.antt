@@ -12,7 +12,8 @@ use Rattle.odb_nodes.specs.declared.entry.Entry.{Entry}
 use Rattle.odb_nodes.proofs.TreeLemmas.{same_path, own_path}
 use Rattle.gix_odb_shown.specs.Watched.{Shows, pack_directory, watched_kind, counted}
 use Rattle.gix_odb_shown.specs.Kept.{Folders, ShowsInOne}
-use Rattle.gix_odb_shown.specs.Files.{IsIn, Reveals, file_read, files_at, files_in, listed}
+use Rattle.gix_odb_shown.specs.Files.{Reveals, file_read, files_at, files_in, listed}
+use Rattle.gix_odb_shown.specs.Ways.{IsIn}
 use Rattle.gix_odb_shown.specs.declared.watched.WatchedKind.{WatchedKind}
 use Rattle.gix_odb_shown.specs.declared.shown_file.ShownFile.{ShownFile}
 use Rattle.gix_odb_shown.proofs.ListLemmas.{in_flat_map, of_flat_map, one_passes, passes_one}
@@ -20,7 +21,7 @@ use Rattle.gix_odb_shown.proofs.EntryLemmas.{read_has_name, has_entry}
 
 module _ (folder : Path) (tree : Tree) where
   -- a file that is read is shown
-  read_shows : (name : Name) (path : Path) → path ≡ pack_directory folder ++ name ∷ [] → (kind : Option WatchedKind) → watched_kind name ≡ kind
+  pub read_shows : (name : Name) (path : Path) → path ≡ pack_directory folder ++ name ∷ [] → (kind : Option WatchedKind) → watched_kind name ≡ kind
       → (told : Result (List ℕ × ℕ) Refusal) → read_of tree path ≡ told → (file : ShownFile) → IsIn (file_read path kind told) file → Shows folder tree file.key.0 file.key.1 file.bytes
   read_shows name path path_is None is told reads file one = absurd one
   read_shows name path path_is (Some kind) is (Err refusal) reads file one = absurd one

@@ -1,11 +1,12 @@
 -- The fronts of a path, as a list.
-use Rattle.std.proofs.Common.{arith, length, length-append, ◌<◌, ◌+◌, ◌≡◌, ◌⊎◌, inl, inr, true, List, [], ◌∷◌, ◌++◌, map, Option, Some, None, Result, Ok, Err, OnOk, append_assoc, refl, sym, ap, ◌∙◌, subst}
+use Rattle.std.proofs.Common.{arith, length, length-append, ◌<◌, ◌+◌, ◌≡◌, ◌⊎◌, inl, inr, true, List, [], ◌∷◌, ◌++◌, map, Some, None, append_assoc, refl, sym, ap, ◌∙◌, subst}
 use Rattle.std.specs.List.{starts_with}
 use Rattle.std.specs.Cmp.Lexicographic.{bytes_decides}
 use Rattle.std.proofs.lemmas.Bool.{and_parts, false≢true}
 use Rattle.odb_base.specs.Path.{Name, Path, parent_of, same_name}
 use Rattle.odb_base.specs.PathLaws.{parent_of-nothing, parent_of-some}
-use Rattle.gix_odb_shown.specs.Files.{IsIn}
+use Rattle.odb_nodes.proofs.TreeLemmas.Moved.{begins-append}
+use Rattle.gix_odb_shown.specs.Ways.{IsIn}
 use Rattle.gix_odb_shown.specs.Led.{front_pairs, fronts, with_folder}
 use Rattle.gix_odb_shown.proofs.ListLemmas.{in_either, in_map}
 
@@ -35,6 +36,17 @@ front_or_whole path name q is =
     elim (in_either (fronts path) ((path ++ name ∷ []) ∷ []) q (subst (λ (l : List Path). IsIn l q) (fronts_push path name) (front_in (path ++ name ∷ []) q is))) [
       | inl front ↦ inl front
       | inr whole ↦ elim whole [ inl same ↦ inr (sym same) | inr none ↦ absurd none ]
+    ]
+
+-- and what goes on behind it is no whole
+pub shorter_in : (path : Path) (name : Name) (q : Path) (step : Name) (rest : Path) → q ++ step ∷ rest ≡ path ++ name ∷ [] → IsIn (fronts path) q
+shorter_in path name q step rest is =
+    elim (front_or_whole path name q (ap (λ (p : Path). starts_with same_name p q) (sym is) ∙ begins-append q (step ∷ rest))) [
+      | inl front ↦ front
+      | inr whole ↦
+          let long : length (q ++ step ∷ rest) ≡ length q = ap length (is ∙ sym whole) in
+          let parts = length-append q (step ∷ rest) in
+          absurd (omega (arith, long, parts))
     ]
 
 -- ---- what the code adds

@@ -1,27 +1,29 @@
 -- What is judged of a change in the folders that it touches is judged of it in all.
-use Rattle.std.proofs.Common.{arith, length, ◌≡◌, ◌⊎◌, inl, inr, ℕ, Bool, true, false, ◌&&◌, List, [], ◌∷◌, map, Option, Some, None, Result, Ok, Err, IfOk, IfSome, refl, sym, ap, ◌∙◌, subst}
+use Rattle.std.proofs.Common.{arith, length, ◌≡◌, ◌⊎◌, inl, inr, ℕ, Bool, true, false, ◌&&◌, List, [], ◌∷◌, ◌++◌, Option, Some, None, Result, Ok, Err, IfOk, IfSome, refl, sym, ap, ◌∙◌, subst}
 use Rattle.std.specs.List.{flat_map, list_any}
-use Rattle.std.specs.FinMap as finite
 use Rattle.std.specs.FinSet as set
-use Rattle.std.specs.Ordering.{eq_by_cmp}
 use Rattle.std.proofs.lemmas.Bool.{and_parts, false≢true}
 use Rattle.odb_base.specs.Path.{Path, path_cmp}
 use Rattle.odb_nodes.specs.Tree.{IsTree, Tree}
 use Rattle.odb_nodes.specs.Tree.Change.{changed, is_possible_in}
 use Rattle.odb_nodes.specs.declared.change.Change.{Change}
-use Rattle.gix_odb_shown.specs.Files.{IsIn, Reveals, files_in}
+use Rattle.odb_nodes.specs.declared.change.Change.TheVariants.{PutLink}
+use Rattle.odb_nodes.proofs.TreeLemmas.Changed.{IsTree-changed}
+use Rattle.gix_odb_shown.specs.Files.{Reveals, files_in}
+use Rattle.gix_odb_shown.specs.Watched.{pack_directory}
+use Rattle.gix_odb_shown.specs.Ways.{IsIn, Knows, Ways, is_touched}
 use Rattle.gix_odb_shown.specs.Kept.{Contents, Fits, Folders, Kept, ShowsInOne}
 use Rattle.gix_odb_shown.specs.Led.{AreLed, Learns, SeesTouched, is_in, places_of}
-use Rattle.gix_odb_shown.specs.Plain.{ArePlain, IsPlain}
+use Rattle.gix_odb_shown.specs.PutLink.{IsLinkSeen}
 use Rattle.gix_odb_shown.specs.Revealed.{IsRevealed}
 use Rattle.gix_odb_shown.specs.Seen.{IsSeen}
-use Rattle.gix_odb_shown.specs.Ways.{Knows, Ways, is_touched}
-use Rattle.gix_odb_shown.specs.declared.led.NewWays.{NewWays}
 use Rattle.gix_odb_shown.specs.declared.revealed.Revealed.{Revealed}
 use Rattle.gix_odb_shown.specs.declared.shown_file.ShownFile.{ShownFile}
+use Rattle.gix_odb_shown.proofs.EndLemmas.{gains_no_front}
 use Rattle.gix_odb_shown.proofs.FilesLemmas.{all_revealed, keys_among}
-use Rattle.gix_odb_shown.proofs.LedLemmas.{learnt_knows, led_knows, sound_plain}
+use Rattle.gix_odb_shown.proofs.LedLemmas.{learnt_knows, led_knows}
 use Rattle.gix_odb_shown.proofs.PlacesLemmas.{is_in_set}
+use Rattle.gix_odb_shown.proofs.PutLinkLemmas.{link_knows, link_reveals}
 use Rattle.gix_odb_shown.proofs.TouchedLemmas.{untouched_knows, untouched_shows}
 
 -- these folders are those that a change touches
@@ -73,10 +75,9 @@ module _ (kept : Kept) (t : Tree) (change : Change) (fits : Fits kept t) (possib
 
   -- ---- by the places of the change
 
-  -- the folders that it touches are plain
-  pub plain_touched : ((folder : Path) → is_in keys folder ≡ true → finite.get kept.ways.plain folder ≡ Some true) → ArePlain t (set.from_list keys)
-  plain_touched plain folder among =
-      let one = sym (is_in_set keys folder) ∙ among in (fits.knows folder (one_watched folder one)).plain (plain folder one)
+  -- what is known of the folders that it touches
+  pub known_touched : (folder : Path) → set.contains (set.from_list {R = path_cmp} keys) folder ≡ true → Knows kept.ways t folder
+  known_touched folder among = fits.knows folder (among_watched folder among)
 
   seen_touched : (files : List ShownFile) → IsSeen keys t change files → SeesTouched kept.folders t u files
   seen_touched files seen = record {
@@ -86,8 +87,10 @@ module _ (kept : Kept) (t : Tree) (change : Change) (fits : Fits kept t) (possib
     where
       by : (folder : Path) → set.contains kept.folders folder ≡ true → (ways : Ways) → Knows ways t folder → (b : Bool) → is_in keys folder ≡ b → Knows ways u folder
       by folder among ways k true one = record {
-        plain = λ _. seen.plain folder (is_in_set keys folder ∙ one);
-        touched = λ name kind watched q on. k.touched name kind watched q (seen.ways _ q on);
+        touched = λ name kind watched q on. k.touched name kind watched q (gains_no_front t u seen.ways (pack_directory folder ++ name ∷ []) q on);
+        fronts = λ name kind watched q step rest way.
+            k.fronts name kind watched q step rest (seen.ways (pack_directory folder ++ name ∷ []) (q ++ step ∷ rest) way);
+        links = λ name kind watched q way. k.links name kind watched q (seen.ways (pack_directory folder ++ name ∷ []) q way);
       }
       by folder among ways k false none = others_known folder among none ways k
 
@@ -112,25 +115,30 @@ module _ (kept : Kept) (t : Tree) (change : Change) (fits : Fits kept t) (possib
 
   -- ---- by the tree after it
 
-  pub tree_revealed : IsTree u → (revealed : Revealed) → revealed.files.items ≡ flat_map (files_in u) keys → AreLed u keys revealed.ways → IsRevealed kept.folders t u revealed
-  tree_revealed is_tree revealed files led = record {
+  -- what is revealed of the folders that it touches is revealed of all
+  pub touched_revealed : IsTree u → (revealed : Revealed) → Reveals (set.from_list keys) t u revealed.files.items
+      → ((folder : Path) → is_in keys folder ≡ true → (old new : Ways) → Knows old t folder → Learns old revealed.ways new → Knows new u folder) → IsRevealed kept.folders t u revealed
+  touched_revealed is_tree revealed reveals known = record {
     is_tree = is_tree;
-    reveals = reveals_all revealed.files.items (subst (Reveals (set.from_list keys) t u) (sym files) (all_revealed keys u t));
+    reveals = reveals_all revealed.files.items reveals;
     knows = λ folder among old new k learns. by folder among old new k learns (is_in keys folder) refl;
   }
     where
       by : (folder : Path) → set.contains kept.folders folder ≡ true → (old new : Ways) → Knows old t folder → Learns old revealed.ways new → (b : Bool) → is_in keys folder ≡ b → Knows new u folder
-      by folder among old new k learns true one =
-          led_knows u keys revealed.ways led folder (keys_among keys folder (is_in_set keys folder ∙ one)) old new learns
+      by folder among old new k learns true one = known folder one old new k learns
       by folder among old new k learns false none =
-          learnt_knows old new revealed.ways u folder learns (sound_plain u keys revealed.ways led folder) (others_known folder among none old k)
+          learnt_knows old new revealed.ways u folder learns (others_known folder among none old k)
 
-  pub place_revealed : IsTree u → (revealed : Revealed) → SeesTouched kept.folders t u revealed.files.items → revealed.ways.plain.items ≡ [] → IsRevealed kept.folders t u revealed
-  place_revealed is_tree revealed seen none = record {
+  pub tree_revealed : IsTree u → (revealed : Revealed) → revealed.files.items ≡ flat_map (files_in u) keys → AreLed u keys revealed.ways → IsRevealed kept.folders t u revealed
+  tree_revealed is_tree revealed files led =
+      touched_revealed is_tree revealed (subst (Reveals (set.from_list keys) t u) (sym files) (all_revealed keys u t))
+      (λ folder one old new k learns. led_knows u keys revealed.ways led folder (keys_among keys folder (is_in_set keys folder ∙ one)) old new learns)
+
+  pub place_revealed : IsTree u → (revealed : Revealed) → SeesTouched kept.folders t u revealed.files.items → IsRevealed kept.folders t u revealed
+  place_revealed is_tree revealed seen = record {
     is_tree = is_tree;
     reveals = seen.reveals;
-    knows = λ folder among old new k learns.
-        learnt_knows old new revealed.ways u folder learns (λ one. absurd (subst (λ (l : List (Path × Bool)). IsIn l (folder, true)) none one)) (seen.knows folder among old k);
+    knows = λ folder among old new k learns. learnt_knows old new revealed.ways u folder learns (seen.knows folder among old k);
   }
 
   pub tree_answer : {E : Type 0} → IsTree u → (after : Tree) → after ≡ u → (answer : Result Revealed E) → IfOk answer (λ revealed. revealed.files.items ≡ flat_map (files_in after) keys)
@@ -150,3 +158,21 @@ touched_watched kept watched contents ways t change keys view is =
 pub none_of_them : (keys : List Path) → length keys ≡ 0 → keys ≡ []
 none_of_them [] is = refl
 none_of_them (key ∷ keys) is = absurd (omega (arith, is))
+
+-- ---- by the place of a link
+
+pub link_revealed : (kept : Kept) (t : Tree) (change : Change) (fits : Fits kept t) (possible : is_possible_in t change ≡ true) (keys : List Path)
+    → AreTouched keys kept.folders kept.ways t change → (place target : Path) → change ≡ PutLink place target → (ways : Ways) → ways ≡ kept.ways → (seen : Revealed)
+    → IsLinkSeen t keys ways place target seen → IsRevealed kept.folders t (changed t change) seen
+link_revealed kept t change fits possible keys touched place target is ways same seen s =
+    subst (λ (c : Change). IsRevealed kept.folders t (changed t c) seen) (sym is)
+    (by (subst (λ (c : Change). is_possible_in t c ≡ true) is possible) (subst (AreTouched keys kept.folders kept.ways t) is touched)
+    (subst (λ (w : Ways). IsLinkSeen t keys w place target seen) same s))
+  where
+    by : is_possible_in t (PutLink place target) ≡ true → AreTouched keys kept.folders kept.ways t (PutLink place target) → IsLinkSeen t keys kept.ways place target seen
+        → IsRevealed kept.folders t (changed t (PutLink place target)) seen
+    by can these shown =
+        touched_revealed kept t (PutLink place target) fits can keys these (IsTree-changed t (PutLink place target) fits.is_tree can) seen
+        (link_reveals t fits.is_tree place target can keys kept.ways (known_touched kept t (PutLink place target) fits can keys these) seen shown)
+        (λ folder one old new k learns.
+        link_knows t fits.is_tree place target can keys kept.ways (known_touched kept t (PutLink place target) fits can keys these) seen shown folder one old new learns k)

@@ -16,14 +16,14 @@ use Rattle.odb_nodes.specs.Tree.Follow.{Refusal}
 use Rattle.odb_nodes.proofs.TreeLemmas.{same_path, own_path}
 use Rattle.gix_odb_shown.specs.Watched.{Shows, pack_directory}
 use Rattle.gix_odb_shown.specs.Led.{AreLed, Learns}
-use Rattle.gix_odb_shown.specs.Ways.{Knows, Ways}
+use Rattle.gix_odb_shown.specs.Ways.{IsIn, Knows, Ways}
 use Rattle.gix_odb_shown.specs.declared.led.NewWays.{NewWays}
 use Rattle.gix_odb_shown.specs.Kept.{Kept, Contents, Folders, key_cmp, ShowsInOne, IsSecond, Notes, LiesInOne, Fits, nothing_kept}
-use Rattle.gix_odb_shown.specs.Files.{IsIn, Reveals, files_in, differs, with_files}
+use Rattle.gix_odb_shown.specs.Files.{Reveals, files_in, differs, with_files}
 use Rattle.gix_odb_shown.specs.declared.shown_file.ShownFile.{ShownFile}
 use Rattle.gix_odb_shown.proofs.ListLemmas.{one_passes, passes_one}
 use Rattle.gix_odb_shown.proofs.FilesLemmas.{in_shows, shown_in}
-use Rattle.gix_odb_shown.proofs.LedLemmas.{learnt_knows, led_knows, sound_plain}
+use Rattle.gix_odb_shown.proofs.LedLemmas.{learnt_knows, led_knows}
 use Rattle.gix_odb_shown.proofs.PlacesLemmas.{inserted_keys}
 use Rattle.gix_odb_shown.proofs.ContentsLemmas.{all_stay, all_there, all_only, IsOneOf, differs_from, from_other}
 
@@ -219,7 +219,7 @@ module _ (old : Kept) (folder : Path) (tree : Tree) (fits : Fits old tree) where
   pub knows_more : (new : Ways) (found : NewWays) → AreLed tree (folder ∷ []) found → Learns old.ways found new → (other : Path) → set.contains more other ≡ true → Knows new tree other
   knows_more new found led learns other among = elim (among_either old.folders folder other among) [
     | inl same ↦ led_knows tree (folder ∷ []) found led other (inl (sym same)) old.ways new learns
-    | inr before ↦ learnt_knows old.ways new found tree other learns (sound_plain tree (folder ∷ []) found led other) (fits.knows other before)
+    | inr before ↦ learnt_knows old.ways new found tree other learns (fits.knows other before)
   ]
 
   pub fits_watched : (new : Kept) → Notes old more tree new → ((other : Path) → set.contains more other ≡ true → Knows new.ways tree other) → Fits new tree

@@ -2,19 +2,21 @@
 pub mod KeepsLaws
 pub mod ReadLaws
 mod ListLemmas
+mod NameLemmas
+mod WholeLemmas
 mod EntryLemmas
 mod FilesLemmas
 mod ContentsLemmas
 mod EndLemmas
 mod FrontLemmas
 mod PlacesLemmas
-mod PlainsLemmas
 mod WayLemmas
-mod SpotLemmas
-mod PlainLemmas
 mod TouchedLemmas
 mod LedLemmas
+mod LeadsLemmas
 mod RevealLemmas
 mod SeenLemmas
+mod OnwardLemmas
+mod PutLinkLemmas
 mod JudgedLemmas
 mod KeptLemmas

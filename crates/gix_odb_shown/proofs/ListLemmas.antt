@@ -1,7 +1,7 @@
 -- Elements of lists, by cases.
 use Rattle.std.proofs.Common.{◌≡◌, ◌⊎◌, inl, inr, Bool, true, List, [], ◌∷◌, ◌++◌, map, Option, Some, None, refl, sym, ap, ◌∙◌, subst}
 use Rattle.std.specs.List.{list_all, list_any, flat_map, filter_map, cons_option}
-use Rattle.gix_odb_shown.specs.Files.{IsIn}
+use Rattle.gix_odb_shown.specs.Ways.{IsIn}
 use Rattle.std.proofs.lemmas.Bool.{and_parts, false≢true, or_left, or_right, or_cases}
 use Rattle.std.proofs.lemmas.List.Concat.{flat_map-cons}
 

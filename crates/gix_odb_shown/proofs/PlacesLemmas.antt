@@ -1,5 +1,5 @@
 -- Folders by places, and what is added to them.
-use Rattle.std.proofs.Common.{◌≡◌, inl, inr, Bool, true, false, ◌&&◌, ◌||◌, cond, List, [], ◌∷◌, ◌++◌, Option, Some, None, refl, sym, ap, ◌∙◌, subst}
+use Rattle.std.proofs.Common.{◌≡◌, Bool, true, false, ◌&&◌, ◌||◌, cond, List, [], ◌∷◌, ◌++◌, Option, Some, None, Result, Ok, Err, IfOk, refl, sym, ap, ◌∙◌}
 use Rattle.std.specs.List.{list_any}
 use Rattle.std.specs.Ordering.{eq_by_cmp}
 use Rattle.std.specs.FinMap as finite
@@ -11,11 +11,12 @@ use Rattle.std.specs.BTreeSet as tree_set
 use Rattle.std.specs.BTreeSet.{BTreeSet}
 use Rattle.std.proofs.lemmas.Cmp.{eq_by_cmp_equiv}
 use Rattle.std.proofs.lemmas.Bool.{false≢true}
-use Rattle.odb_base.specs.Path.{Path, path_cmp}
+use Rattle.odb_base.specs.Path.{Path, last_name, parent_of, path_cmp}
 use Rattle.odb_base.specs.PathLaws.{one_place, path_order}
 use Rattle.odb_nodes.proofs.TreeLemmas.{same_path}
 use Rattle.gix_odb_shown.specs.Led.{is_in, is_pair}
-use Rattle.gix_odb_shown.specs.Ways.{Places, has, is_among}
+use Rattle.gix_odb_shown.specs.Watched.{is_watched_name}
+use Rattle.gix_odb_shown.specs.Ways.{Places, Ways, has, has_above, is_among, is_touched}
 
 -- ---- truth values
 
@@ -210,6 +211,46 @@ module _ (es : List (Path × set.FinSet path_cmp)) (own : Places) (view : finite
       → is_in new folder ≡ ((is_in watched folder && has own place folder) || is_in touched folder)
   touched_some folders some new added folder =
       added folder ∙ ap (λ b. (is_in watched folder && b) || is_in touched folder) (taken_there es own view place folders some folder)
+
+-- ---- all that is kept at a place
+
+pub all_copied : {V E : Type 0} (items : V → List Path) (keys : List Path) (own : set.FinSet path_cmp) → set.from_list {R = path_cmp} keys ≡ own → (answer : Result V E)
+    → IfOk answer (λ all. items all ≡ keys) → IfOk answer (λ all. (folder : Path) → is_in (items all) folder ≡ set.contains own folder)
+all_copied items keys own view (Ok all) is =
+    λ folder. ap (λ (l : List Path). is_in l folder) is ∙ sym (is_in_set keys folder) ∙ ap (λ (s : set.FinSet path_cmp). set.contains s folder) view
+all_copied items keys own view (Err error) is = tt
+
+module _ (es : List (Path × set.FinSet path_cmp)) (own : Places) (view : finite.from_entries {R = path_cmp} es ≡ own) (place : Path) where
+  pub none_at : None ≡ lookup (is_at (path_cmp place)) es → (all : List Path) → all ≡ [] → (folder : Path) → is_in all folder ≡ has own place folder
+  none_at none all empty folder =
+      ap (λ (l : List Path). is_in l folder) empty ∙ sym (ap (λ (o : Option (set.FinSet path_cmp)). is_among o folder) (at_path es own view place ∙ sym none))
+
+  pub all_there : {V E : Type 0} (items : V → List Path) (folders : set.FinSet path_cmp) → Some folders ≡ lookup (is_at (path_cmp place)) es → (answer : Result V E)
+      → IfOk answer (λ all. (folder : Path) → is_in (items all) folder ≡ set.contains folders folder)
+      → IfOk answer (λ all. (folder : Path) → is_in (items all) folder ≡ has own place folder)
+  all_there items folders some (Ok all) is = λ folder. is folder ∙ taken_there es own view place folders some folder
+  all_there items folders some (Err error) is = tt
+
+-- ---- a folder is touched at the place, or at the directory that it lies in
+
+two_over : (watched front end old : Bool) → ((watched && end) || ((watched && front) || old)) ≡ ((watched && (front || end)) || old)
+two_over true true true old = refl
+two_over true true false old = refl
+two_over true false true old = refl
+two_over true false false old = refl
+two_over false front end old = refl
+
+pub touched_above : (fronts ends links : Places) (own : Ways) → ◌≡◌ {A = Ways} (record { fronts = fronts; ends = ends; links = links }) own → (place directory : Path)
+    → is_watched_name (last_name place) ≡ true → parent_of place ≡ Some directory → (watched old mid new : List Path)
+    → ((folder : Path) → is_in mid folder ≡ ((is_in watched folder && has fronts place folder) || is_in old folder))
+    → ((folder : Path) → is_in new folder ≡ ((is_in watched folder && has ends directory folder) || is_in mid folder)) → (folder : Path)
+    → is_in new folder ≡ ((is_in watched folder && is_touched own folder place) || is_in old folder)
+touched_above fronts ends links own view place directory named parent watched old mid new first second folder =
+    second folder ∙ ap (λ b. (is_in watched folder && has ends directory folder) || b) (first folder)
+    ∙ two_over (is_in watched folder) (has fronts place folder) (has ends directory folder) (is_in old folder)
+    ∙ ap (λ b. (is_in watched folder && (has fronts place folder || b)) || is_in old folder)
+    (sym (ap (λ b. b && has_above ends (parent_of place) folder) named ∙ ap (λ (o : Option Path). has_above ends o folder) parent))
+    ∙ ap (λ (w : Ways). (is_in watched folder && is_touched w folder place) || is_in old folder) view
 
 -- ---- the folders that places touch, one place after the other
 

@@ -1,8 +1,8 @@
--- What is seen of a change is what it reveals, and plain folders stay plain.
+-- What is seen of a change is what it reveals.
 use Rattle.std.proofs.Common.{◌≡◌, ◌≢◌, ◌⊎◌, inl, inr, ℕ, Bool, true, false, List, [], ◌∷◌, ◌++◌, Option, Some, None, Result, Ok, Err, IfOk, IfSome, if◌then◌else◌, append-nil, refl, sym, ap, ◌∙◌, subst}
 use Rattle.std.specs.FinSet as set
 use Rattle.std.proofs.lemmas.Bool.{false≢true}
-use Rattle.odb_base.specs.Path.{Name, Path}
+use Rattle.odb_base.specs.Path.{Name, Path, path_cmp}
 use Rattle.odb_nodes.specs.Tree.{IsTree, Tree, is_directory, is_directory_content, node_at}
 use Rattle.odb_nodes.specs.Tree.Follow as following
 use Rattle.odb_nodes.specs.Tree.Follow.{Place, file_of, file_of_place, followed, looked, meta_of_place, meta_with, most_links, read_of}
@@ -18,7 +18,7 @@ use Rattle.odb_nodes.specs.declared.node.Content.TheVariants.{File, Dir, Link}
 use Rattle.odb_nodes.specs.declared.node.Node.{Node}
 use Rattle.odb_nodes.proofs.TreeLemmas.{cases_path, node_at-put, node_at-taken, other_path}
 use Rattle.odb_nodes.proofs.TreeLemmas.Change.{made-make_dir, made-put_file, made-remove, made-set_time}
-use Rattle.odb_nodes.proofs.TreeLemmas.Changed.{made-append, made-rename}
+use Rattle.odb_nodes.proofs.TreeLemmas.Changed.{IsTree-changed, made-append, made-rename}
 use Rattle.odb_nodes.proofs.TreeLemmas.Follow.{followed_reached, pass_to_unfollowed}
 use Rattle.odb_nodes.proofs.TreeLemmas.Moved.{begins, begins-own, moved_away, moved_below, moved_other, moved_target}
 use Rattle.odb_nodes.proofs.TreeLemmas.MovedTree.{CanMove, file_no_directory, goes_on, none_below, shorter_front}
@@ -26,11 +26,12 @@ use Rattle.odb_nodes.proofs.TreeLemmas.Possible.{can_make_dir, can_put_file, pos
 use Rattle.odb_nodes.proofs.TreeLemmas.Write.{file_at}
 use Rattle.odb_nodes.proofs.MovedNumbersLemmas.{can_rename}
 use Rattle.odb_nodes.proofs.WriteLaws.{at_place, read_at, rename_source, untouched}
-use Rattle.gix_odb_shown.specs.Plain.{ArePlain}
-use Rattle.gix_odb_shown.specs.Seen.{AreSeenOf, IsSeen, files_seen, kind_found}
+use Rattle.gix_odb_shown.specs.Led.{is_link_kind}
+use Rattle.gix_odb_shown.specs.Seen.{AreSeenOf, AreShownAt, IsSeen, is_link_found, kind_found}
+use Rattle.gix_odb_shown.specs.Ways.{Knows, Ways}
 use Rattle.gix_odb_shown.specs.declared.shown_file.ShownFile.{ShownFile}
 use Rattle.gix_odb_shown.proofs.EndLemmas.{IsEnd, gains_none}
-use Rattle.gix_odb_shown.proofs.RevealLemmas.{IsGone, file_gains_none, file_plain, file_reveals, plain_after, reveals_nothing}
+use Rattle.gix_odb_shown.proofs.RevealLemmas.{IsGone, file_gains_none, file_reveals, reveals_nothing}
 
 -- ---- files
 
@@ -78,7 +79,33 @@ node_of : (o : Option Node) → is_file o ≡ true → (node : Node) × (o ≡ S
 node_of None file = absurd (false≢true file)
 node_of (Some node) file = (node, refl)
 
-module _ (keys : List Path) (t : Tree) (plain : ArePlain t (set.from_list keys)) where
+-- ---- where no link is found none stands
+
+module _ (t : Tree) (is_tree : IsTree t) (path : Path) where
+  kind_at : (node : Node) → node_at t path ≡ Some node → kind_found (looked t path false) ≡ Some (meta_with node.dev node.ino node.content).kind
+  unfolding looked
+  kind_at node at =
+      ap (λ (found : Result Place following.Refusal). kind_found (meta_of_place found))
+      (followed_reached t false path most_links path node (pass_to_unfollowed t is_tree path node at false refl))
+
+  link_looked : (dev ino : ℕ) (content : Content) → is_link_kind (meta_with dev ino content).kind ≡ is_link_content content
+  link_looked dev ino (File bytes time) = refl
+  link_looked dev ino Dir = refl
+  link_looked dev ino (Link target) = refl
+
+  no_link_found : is_link_found (kind_found (looked t path false)) ≡ false → is_link (node_at t path) ≡ false
+  no_link_found free = by (node_at t path) refl
+    where
+      by : (o : Option Node) → node_at t path ≡ o → is_link o ≡ false
+      by None at = refl
+      by (Some node) at = sym (link_looked node.dev node.ino node.content) ∙ sym (ap is_link_found (kind_at node at)) ∙ free
+
+file_no_link : (content : Content) → is_file_content content ≡ true → is_link_content content ≡ false
+file_no_link (File bytes time) file = refl
+file_no_link Dir file = absurd (false≢true file)
+file_no_link (Link target) file = absurd (false≢true file)
+
+module _ (keys : List Path) (t : Tree) (is_tree : IsTree t) (ways : Ways) (knows : (folder : Path) → set.contains (set.from_list {R = path_cmp} keys) folder ≡ true → Knows ways t folder) where
   -- where one place alone is touched, the others are as they were
   one_place : (u : Tree) (q : Path) → ((p : Path) → p ≢ q → node_at u p ≡ node_at t p) → (p : Path) → (node_at u p ≡ node_at t p) ⊎ ((p ≡ q) ⊎ IsGone t u p)
   one_place u q others p = elim (cases_path p q) [
@@ -86,29 +113,28 @@ module _ (keys : List Path) (t : Tree) (plain : ArePlain t (set.from_list keys))
     | inr apart ↦ inl (others p apart)
   ]
 
-  -- a file comes to stand at a place where no directory was
-  module _ (change : Change) (q : Path) (time : ℕ) (bytes : List ℕ) (node : Node) (at : node_at (changed t change) q ≡ Some node) (content : node.content ≡ File bytes time)
-      (no_directory : is_directory (node_at t q) ≡ false) (each : (p : Path) → (node_at (changed t change) p ≡ node_at t p) ⊎ ((p ≡ q) ⊎ IsGone t (changed t change) p)) where
-    file_is_seen : (files : List ShownFile) → files ≡ files_seen t keys q time bytes → IsSeen keys t change files
-    file_is_seen files is =
-        subst (IsSeen keys t change) (sym is)
-        (record {
-          reveals = file_reveals keys t (changed t change) plain q time bytes node at content no_directory each;
-          plain = file_plain keys t (changed t change) plain q time bytes node at content no_directory each;
-          ways = file_gains_none keys t (changed t change) plain q time bytes node at content no_directory each;
-        })
+  -- a file comes to stand at a place where neither a link nor a directory was
+  module _ (change : Change) (possible : is_possible_in t change ≡ true) (q : Path) (time : ℕ) (bytes : List ℕ) (node : Node) (at : node_at (changed t change) q ≡ Some node)
+      (content : node.content ≡ File bytes time) (no_link : is_link (node_at t q) ≡ false) (no_directory : is_directory (node_at t q) ≡ false)
+      (each : (p : Path) → (node_at (changed t change) p ≡ node_at t p) ⊎ ((p ≡ q) ⊎ IsGone t (changed t change) p)) where
+    file_is_seen : (files : List ShownFile) → AreShownAt t keys ways.links q (bytes, time) files → IsSeen keys t change files
+    file_is_seen files shown = record {
+      reveals =
+          file_reveals t (changed t change) q time bytes node at content no_link no_directory each (IsTree-changed t change is_tree possible) keys ways knows files shown;
+      ways = file_gains_none t (changed t change) q time bytes node at content no_link no_directory each;
+    }
 
-  pub put_is_seen : (q : Path) (time : ℕ) (bytes : List ℕ) → is_possible_in t (PutFile q time bytes) ≡ true → (files : List ShownFile) → files ≡ files_seen t keys q time bytes
-      → IsSeen keys t (PutFile q time bytes) files
-  put_is_seen q time bytes possible files is =
+  pub put_is_seen : (q : Path) (time : ℕ) (bytes : List ℕ) → is_possible_in t (PutFile q time bytes) ≡ true → is_link_found (kind_found (looked t q false)) ≡ false → (files : List ShownFile)
+      → AreShownAt t keys ways.links q (bytes, time) files → IsSeen keys t (PutFile q time bytes) files
+  put_is_seen q time bytes possible free files shown =
       let change : Change = PutFile q time bytes in
       let node : Node = put_node t q (File bytes time) (node_at t q) in
-      file_is_seen change q time bytes node (ap (λ (u : Tree). node_at u q) (made-put_file t q time bytes) ∙ node_at-put t q node) (put_content t q time bytes (node_at t q))
-      (can_put_file t q time bytes possible).no_directory
-      (one_place (changed t change) q (λ p apart. untouched t change p (other_path p q apart))) files is
+      file_is_seen change possible q time bytes node (ap (λ (u : Tree). node_at u q) (made-put_file t q time bytes) ∙ node_at-put t q node) (put_content t q time bytes (node_at t q))
+      (no_link_found t is_tree q free) (can_put_file t q time bytes possible).no_directory
+      (one_place (changed t change) q (λ p apart. untouched t change p (other_path p q apart))) files shown
 
   pub appended_is_seen : (path : Path) (more : List ℕ) → is_possible_in t (Append path more) ≡ true → (files : List ShownFile)
-      → ((place : Path) → file_spot t path ≡ Ok place → AreSeenOf t keys path place more None files) → IsSeen keys t (Append path more) files
+      → ((place : Path) → file_spot t path ≡ Ok place → AreSeenOf t keys ways.links path place more None files) → IsSeen keys t (Append path more) files
   unfolding read_of
   appended_is_seen path more possible files seen =
       let change : Change = Append path more in
@@ -117,10 +143,9 @@ module _ (keys : List Path) (t : Tree) (plain : ArePlain t (set.from_list keys))
       let f = file_at t path q s.1 in
       let had = file_content f.node.content f.file in
       let node : Node = record f.node { content = longer f.node.content more } in
-      file_is_seen change q had.time (had.bytes ++ more) node
+      file_is_seen change possible q had.time (had.bytes ++ more) node
       (ap (λ (u : Tree). node_at u q) (made-append t path more ∙ ap (with_longer t more) f.leads) ∙ node_at-put t q node)
-      (ap (λ (c : Content). longer c more) had.is)
-      (file_no_directory t q f.node f.at f.file)
+      (ap (λ (c : Content). longer c more) had.is) (ap is_link f.at ∙ file_no_link f.node.content f.file) (file_no_directory t q f.node f.at f.file)
       (one_place (changed t change) q
       (λ p apart. untouched t change p (ap (λ (told : Result Place following.Refusal). at_place told p) f.leads ∙ other_path p q apart))) files
       (seen q s.1 (had.bytes, had.time) (ap file_of_place f.leads ∙ ap file_of had.is))
@@ -130,8 +155,7 @@ module _ (keys : List Path) (t : Tree) (plain : ArePlain t (set.from_list keys))
       subst (IsSeen keys t (Remove q)) (sym is)
       (record {
         reveals =
-            reveals_nothing keys t u plain Gone each ends (λ p gone node at. let both : None ≡ Some node = sym gone ∙ at in absurd (cc));
-        plain = plain_after keys t u plain Gone each ends;
+            reveals_nothing (set.from_list keys) t u Gone each ends (λ p gone node at. let both : None ≡ Some node = sym gone ∙ at in absurd (cc));
         ways = gains_none t u Gone each ends;
       })
     where
@@ -150,176 +174,172 @@ module _ (keys : List Path) (t : Tree) (plain : ArePlain t (set.from_list keys))
       ends : (p : Path) → Gone p → IsEnd u p
       ends p gone = record { no_link = ap is_link gone; empty = λ is. absurd (false≢true (sym (ap is_directory gone) ∙ is)) }
 
-  -- ---- what is told of a tree of a disk
+  pub timed_is_seen : (q : Path) (time : ℕ) → is_possible_in t (SetTime q time) ≡ true → (files : List ShownFile) → AreSeenOf t keys ways.links q q [] (Some time) files
+      → IsSeen keys t (SetTime q time) files
+  timed_is_seen q time possible files seen =
+      let change : Change = SetTime q time in
+      let file = sym (possible-set_time t q time) ∙ possible in
+      let n = node_of (node_at t q) file in
+      let is_one : is_file_content n.0.content ≡ true = sym (ap is_file n.1) ∙ file in
+      let had = file_content n.0.content is_one in
+      let node : Node = record n.0 { content = timed time n.0.content } in
+      file_is_seen change possible q time had.bytes node
+      (ap (λ (u : Tree). node_at u q) (made-set_time t q time ∙ ap (with_time t q time) n.1) ∙ node_at-put t q node)
+      (ap (timed time) had.is)
+      (ap is_link n.1 ∙ file_no_link n.0.content is_one) (file_no_directory t q n.0 n.1 is_one)
+      (one_place (changed t change) q (λ p apart. untouched t change p (other_path p q apart))) files
+      (subst (λ (b : List ℕ). AreShownAt t keys ways.links q (b, time) files) (append-nil had.bytes)
+      (seen (had.bytes, had.time) (read_at t is_tree q n.0 n.1 (no_link_at n.0.content had.bytes had.time had.is) ∙ ap file_of had.is)))
 
-  module _ (is_tree : IsTree t) where
-    pub timed_is_seen : (q : Path) (time : ℕ) → is_possible_in t (SetTime q time) ≡ true → (files : List ShownFile) → AreSeenOf t keys q q [] (Some time) files
-        → IsSeen keys t (SetTime q time) files
-    timed_is_seen q time possible files seen =
-        let change : Change = SetTime q time in
-        let file = sym (possible-set_time t q time) ∙ possible in
-        let n = node_of (node_at t q) file in
-        let is_one : is_file_content n.0.content ≡ true = sym (ap is_file n.1) ∙ file in
-        let had = file_content n.0.content is_one in
-        let node : Node = record n.0 { content = timed time n.0.content } in
-        file_is_seen change q time had.bytes node
-        (ap (λ (u : Tree). node_at u q) (made-set_time t q time ∙ ap (with_time t q time) n.1) ∙ node_at-put t q node)
-        (ap (timed time) had.is)
-        (file_no_directory t q n.0 n.1 is_one)
-        (one_place (changed t change) q (λ p apart. untouched t change p (other_path p q apart))) files
-        (seen (had.bytes, had.time) (read_at t is_tree q n.0 n.1 (no_link_at n.0.content had.bytes had.time had.is) ∙ ap file_of had.is)
-        ∙ ap (files_seen t keys q time) (append-nil had.bytes))
+  pub made_dir_is_seen : (q : Path) (dev : ℕ) → is_possible_in t (MakeDir q dev) ≡ true → (files : List ShownFile) → files ≡ [] → IsSeen keys t (MakeDir q dev) files
+  made_dir_is_seen q dev possible files is =
+      subst (IsSeen keys t (MakeDir q dev)) (sym is)
+      (record {
+        reveals = reveals_nothing (set.from_list keys) t u IsIt each ends no_file;
+        ways = gains_none t u IsIt each ends;
+      })
+    where
+      u : Tree
+      u = changed t (MakeDir q dev)
 
-    pub made_dir_is_seen : (q : Path) (dev : ℕ) → is_possible_in t (MakeDir q dev) ≡ true → (files : List ShownFile) → files ≡ [] → IsSeen keys t (MakeDir q dev) files
-    made_dir_is_seen q dev possible files is =
-        subst (IsSeen keys t (MakeDir q dev)) (sym is)
-        (record {
-          reveals = reveals_nothing keys t u plain IsIt each ends no_file;
-          plain = plain_after keys t u plain IsIt each ends;
-          ways = gains_none t u IsIt each ends;
-        })
-      where
-        u : Tree
-        u = changed t (MakeDir q dev)
+      IsIt : Path → Type 0
+      IsIt p = p ≡ q
 
-        IsIt : Path → Type 0
-        IsIt p = p ≡ q
+      made : (node : Node) → node_at u q ≡ Some node → node.content ≡ Dir
+      made node at =
+          let both = sym (ap (λ (v : Tree). node_at v q) (made-make_dir t q dev) ∙ node_at-put t q _) ∙ at in
+          ap (λ (o : Option Node). content_or Dir o) (sym both)
+        where
+          content_or : Content → Option Node → Content
+          content_or other None = other
+          content_or other (Some n) = n.content
 
-        made : (node : Node) → node_at u q ≡ Some node → node.content ≡ Dir
-        made node at =
-            let both = sym (ap (λ (v : Tree). node_at v q) (made-make_dir t q dev) ∙ node_at-put t q _) ∙ at in
-            ap (λ (o : Option Node). content_or Dir o) (sym both)
-          where
-            content_or : Content → Option Node → Content
-            content_or other None = other
-            content_or other (Some n) = n.content
+      each : (p : Path) → (node_at u p ≡ node_at t p) ⊎ IsIt p
+      each p = elim (cases_path p q) [
+        | inl same ↦ inr same
+        | inr apart ↦ inl (untouched t (MakeDir q dev) p (other_path p q apart))
+      ]
 
-        each : (p : Path) → (node_at u p ≡ node_at t p) ⊎ IsIt p
-        each p = elim (cases_path p q) [
-          | inl same ↦ inr same
-          | inr apart ↦ inl (untouched t (MakeDir q dev) p (other_path p q apart))
-        ]
+      link_by : (o : Option Node) → node_at u q ≡ o → is_link o ≡ false
+      link_by None at = refl
+      link_by (Some node) at = ap is_link_content (made node at)
 
-        link_by : (o : Option Node) → node_at u q ≡ o → is_link o ≡ false
-        link_by None at = refl
-        link_by (Some node) at = ap is_link_content (made node at)
+      below : (name : Name) → node_at u (q ++ name ∷ []) ≡ None
+      below name =
+          untouched t (MakeDir q dev) (q ++ name ∷ [])
+          (other_path (q ++ name ∷ []) q (λ same. false≢true (sym (shorter_front q name) ∙ ap (begins q) same ∙ begins-own q)))
+          ∙ none_below t is_tree q (can_make_dir t q dev possible).no_directory name []
 
-        below : (name : Name) → node_at u (q ++ name ∷ []) ≡ None
-        below name =
-            untouched t (MakeDir q dev) (q ++ name ∷ [])
-            (other_path (q ++ name ∷ []) q (λ same. false≢true (sym (shorter_front q name) ∙ ap (begins q) same ∙ begins-own q)))
-            ∙ none_below t is_tree q (can_make_dir t q dev possible).no_directory name []
+      ends : (p : Path) → IsIt p → IsEnd u p
+      ends p same = record {
+        no_link = ap (λ (r : Path). is_link (node_at u r)) same ∙ link_by (node_at u q) refl;
+        empty = λ _ name. ap (λ (r : Path). node_at u (r ++ name ∷ [])) same ∙ below name;
+      }
 
-        ends : (p : Path) → IsIt p → IsEnd u p
-        ends p same = record {
-          no_link = ap (λ (r : Path). is_link (node_at u r)) same ∙ link_by (node_at u q) refl;
-          empty = λ _ name. ap (λ (r : Path). node_at u (r ++ name ∷ [])) same ∙ below name;
-        }
+      no_file : (p : Path) → IsIt p → (node : Node) → node_at u p ≡ Some node → is_file_content node.content ≡ false
+      no_file p same node at = ap is_file_content (made node (sym (ap (node_at u) same) ∙ at))
 
-        no_file : (p : Path) → IsIt p → (node : Node) → node_at u p ≡ Some node → is_file_content node.content ≡ false
-        no_file p same node at = ap is_file_content (made node (sym (ap (node_at u) same) ∙ at))
+  pub moved_is_seen : (from to : Path) → is_possible_in t (Rename from to) ≡ true → kind_found (looked t from false) ≡ Some kinds.File
+      → is_link_found (kind_found (looked t to false)) ≡ false → (files : List ShownFile) → AreSeenOf t keys ways.links from to [] None files → IsSeen keys t (Rename from to) files
+  unfolding looked
+  moved_is_seen from to possible look free files seen =
+      file_is_seen (Rename from to) possible to had.time had.bytes node
+      (ap (λ (v : Tree). node_at v to) (made-rename t from to) ∙ moved_target t from to ∙ at) had.is (no_link_found t is_tree to free) m.free each files
+      (subst (λ (b : List ℕ). AreShownAt t keys ways.links to (b, had.time) files) (append-nil had.bytes)
+      (seen (had.bytes, had.time) (read_at t is_tree from node at (no_link_at node.content had.bytes had.time had.is) ∙ ap file_of had.is)))
+    where
+      m : CanMove t from to
+      m = can_rename t is_tree from to possible
 
-    pub moved_is_seen : (from to : Path) → is_possible_in t (Rename from to) ≡ true → kind_found (looked t from false) ≡ Some kinds.File → (files : List ShownFile)
-        → AreSeenOf t keys from to [] None files → IsSeen keys t (Rename from to) files
-    unfolding looked
-    moved_is_seen from to possible look files seen =
-        file_is_seen (Rename from to) to had.time had.bytes node
-        (ap (λ (v : Tree). node_at v to) (made-rename t from to) ∙ moved_target t from to ∙ at) had.is m.free each files
-        (seen (had.bytes, had.time) (read_at t is_tree from node at (no_link_at node.content had.bytes had.time had.is) ∙ ap file_of had.is)
-        ∙ ap (files_seen t keys to had.time) (append-nil had.bytes))
-      where
-        m : CanMove t from to
-        m = can_rename t is_tree from to possible
+      node : Node
+      node = m.node
 
-        node : Node
-        node = m.node
+      at : node_at t from ≡ Some node
+      at = m.at
 
-        at : node_at t from ≡ Some node
-        at = m.at
+      found : followed t false from ≡ Ok (record { path = from; node = node })
+      found = followed_reached t false from most_links from node (pass_to_unfollowed t is_tree from node at false refl)
 
-        found : followed t false from ≡ Ok (record { path = from; node = node })
-        found = followed_reached t false from most_links from node (pass_to_unfollowed t is_tree from node at false refl)
+      looked_file : kind_found (meta_of_place (followed t false from)) ≡ Some kinds.File → (meta_with node.dev node.ino node.content).kind ≡ kinds.File
+      looked_file told =
+          let both : Some (meta_with node.dev node.ino node.content).kind ≡ Some kinds.File =
+          sym (ap (λ (found : Result Place following.Refusal). kind_found (meta_of_place found)) found) ∙ told in
+          cc
 
-        looked_file : kind_found (meta_of_place (followed t false from)) ≡ Some kinds.File → (meta_with node.dev node.ino node.content).kind ≡ kinds.File
-        looked_file told =
-            let both : Some (meta_with node.dev node.ino node.content).kind ≡ Some kinds.File =
-            sym (ap (λ (found : Result Place following.Refusal). kind_found (meta_of_place found)) found) ∙ told in
-            cc
+      had : HasFile node.content
+      had = looked_content node.dev node.ino node.content (looked_file look)
 
-        had : HasFile node.content
-        had = looked_content node.dev node.ino node.content (looked_file look)
+      leaf : is_directory (node_at t from) ≡ false
+      leaf = ap is_directory at ∙ ap is_directory_content had.is
 
-        leaf : is_directory (node_at t from) ≡ false
-        leaf = ap is_directory at ∙ ap is_directory_content had.is
+      u : Tree
+      u = changed t (Rename from to)
 
-        u : Tree
-        u = changed t (Rename from to)
+      u_is : (p : Path) → node_at u p ≡ node_at (with_moved t from to) p
+      u_is p = ap (λ (v : Tree). node_at v p) (made-rename t from to)
 
-        u_is : (p : Path) → node_at u p ≡ node_at (with_moved t from to) p
-        u_is p = ap (λ (v : Tree). node_at v p) (made-rename t from to)
+      -- nothing stands below a file
+      under : (p base : Path) → begins p base ≡ true → p ≢ base → is_directory (node_at t base) ≡ false → node_at t p ≡ None
+      under p base goes apart other = let g = goes_on p base goes apart in ap (node_at t) g.2 ∙ none_below t is_tree base other g.0 g.1
 
-        -- nothing stands below a file
-        under : (p base : Path) → begins p base ≡ true → p ≢ base → is_directory (node_at t base) ≡ false → node_at t p ≡ None
-        under p base goes apart other = let g = goes_on p base goes apart in ap (node_at t) g.2 ∙ none_below t is_tree base other g.0 g.1
+      under_to : (p : Path) → begins p to ≡ true → p ≢ to → node_at u p ≡ None
+      under_to p goes apart =
+          let g = goes_on p to goes apart in
+          u_is p ∙ ap (node_at (with_moved t from to)) g.2 ∙ moved_below t from to (g.0 ∷ g.1) ∙ none_below t is_tree from leaf g.0 g.1
 
-        under_to : (p : Path) → begins p to ≡ true → p ≢ to → node_at u p ≡ None
-        under_to p goes apart =
-            let g = goes_on p to goes apart in
-            u_is p ∙ ap (node_at (with_moved t from to)) g.2 ∙ moved_below t from to (g.0 ∷ g.1) ∙ none_below t is_tree from leaf g.0 g.1
+      other_by : (p : Path) → p ≢ to → p ≢ from → (b c : Bool) → begins p to ≡ b → begins p from ≡ c → node_at u p ≡ node_at t p
+      other_by p off_to off_from true c to_is from_is = under_to p to_is off_to ∙ sym (under p to to_is off_to m.free)
+      other_by p off_to off_from false true to_is from_is = u_is p ∙ moved_away t from to p to_is from_is ∙ sym (under p from from_is off_from leaf)
+      other_by p off_to off_from false false to_is from_is = u_is p ∙ moved_other t from to p to_is from_is
 
-        other_by : (p : Path) → p ≢ to → p ≢ from → (b c : Bool) → begins p to ≡ b → begins p from ≡ c → node_at u p ≡ node_at t p
-        other_by p off_to off_from true c to_is from_is = under_to p to_is off_to ∙ sym (under p to to_is off_to m.free)
-        other_by p off_to off_from false true to_is from_is = u_is p ∙ moved_away t from to p to_is from_is ∙ sym (under p from from_is off_from leaf)
-        other_by p off_to off_from false false to_is from_is = u_is p ∙ moved_other t from to p to_is from_is
+      source : (p : Path) → p ≢ to → p ≡ from → IsGone t u p
+      source p off_to same = record {
+        gone = ap (node_at u) same ∙ rename_source t is_tree from to possible (λ both. off_to (same ∙ both));
+        no_link = ap (λ (r : Path). is_link (node_at t r)) same ∙ ap is_link at ∙ ap is_link_content had.is;
+        no_directory = ap (λ (r : Path). is_directory (node_at t r)) same ∙ leaf;
+      }
 
-        source : (p : Path) → p ≢ to → p ≡ from → IsGone t u p
-        source p off_to same = record {
-          gone = ap (node_at u) same ∙ rename_source t is_tree from to possible (λ both. off_to (same ∙ both));
-          no_link = ap (λ (r : Path). is_link (node_at t r)) same ∙ ap is_link at ∙ ap is_link_content had.is;
-          no_directory = ap (λ (r : Path). is_directory (node_at t r)) same ∙ leaf;
-        }
-
-        each : (p : Path) → (node_at u p ≡ node_at t p) ⊎ ((p ≡ to) ⊎ IsGone t u p)
-        each p = elim (cases_path p to) [
-          | inl same ↦ inr (inl same)
-          | inr off_to ↦
-              elim (cases_path p from) [
-                | inl same ↦ inr (inr (source p off_to same))
-                | inr off_from ↦ inl (other_by p off_to off_from (begins p to) (begins p from) refl refl)
-              ]
-        ]
+      each : (p : Path) → (node_at u p ≡ node_at t p) ⊎ ((p ≡ to) ⊎ IsGone t u p)
+      each p = elim (cases_path p to) [
+        | inl same ↦ inr (inl same)
+        | inr off_to ↦
+            elim (cases_path p from) [
+              | inl same ↦ inr (inr (source p off_to same))
+              | inr off_from ↦ inl (other_by p off_to off_from (begins p to) (begins p from) refl refl)
+            ]
+      ]
 
 -- ---- what the code answers
 
-module _ (keys : List Path) (t : Tree) (is_tree : IsTree t) (plain : ArePlain t (set.from_list keys)) {V E : Type 0} (items : V → List ShownFile) (answer : Result (Option V) E) where
-  pub moved_answer : (from to : Path) → is_possible_in t (Rename from to) ≡ true → IfOk answer (λ seen. IfSome seen (λ files. kind_found (looked t from false) ≡ Some kinds.File))
-      → IfOk answer (λ seen. IfSome seen (λ files. AreSeenOf t keys from to [] None (items files))) → IfOk answer (λ seen. IfSome seen (λ files. IsSeen keys t (Rename from to) (items files)))
-  moved_answer from to possible look seen = by answer look seen
-    where
-      by : (a : Result (Option V) E) → IfOk a (λ seen. IfSome seen (λ files. kind_found (looked t from false) ≡ Some kinds.File))
-          → IfOk a (λ seen. IfSome seen (λ files. AreSeenOf t keys from to [] None (items files))) → IfOk a (λ seen. IfSome seen (λ files. IsSeen keys t (Rename from to) (items files)))
-      by (Ok (Some files)) look seen = moved_is_seen keys t plain is_tree from to possible look (items files) seen
-      by (Ok None) look seen = tt
-      by (Err error) look seen = tt
+module _ (keys : List Path) (t : Tree) (is_tree : IsTree t) (ways : Ways) (knows : (folder : Path) → set.contains (set.from_list {R = path_cmp} keys) folder ≡ true → Knows ways t folder)
+    {V E : Type 0} (items : V → List ShownFile) where
+  pub put_answer : (answer : Result (Option V) E) (q : Path) (time : ℕ) (bytes : List ℕ) → is_possible_in t (PutFile q time bytes) ≡ true
+      → IfOk answer (λ seen. IfSome seen (λ files. is_link_found (kind_found (looked t q false)) ≡ false))
+      → IfOk answer (λ seen. IfSome seen (λ files. AreShownAt t keys ways.links q (bytes, time) (items files)))
+      → IfOk answer (λ seen. IfSome seen (λ files. IsSeen keys t (PutFile q time bytes) (items files)))
+  put_answer (Ok (Some files)) q time bytes possible free shown = put_is_seen keys t is_tree ways knows q time bytes possible free (items files) shown
+  put_answer (Ok None) q time bytes possible free shown = tt
+  put_answer (Err error) q time bytes possible free shown = tt
 
-  pub appended_answer : (path : Path) (more : List ℕ) → is_possible_in t (Append path more) ≡ true
-      → IfOk answer (λ seen. IfSome seen (λ files. (place : Path) → file_spot t path ≡ Ok place → AreSeenOf t keys path place more None (items files)))
+  pub moved_answer : (answer : Result (Option V) E) (from to : Path) → is_possible_in t (Rename from to) ≡ true
+      → IfOk answer (λ seen. IfSome seen (λ files. kind_found (looked t from false) ≡ Some kinds.File))
+      → IfOk answer (λ seen. IfSome seen (λ files. is_link_found (kind_found (looked t to false)) ≡ false))
+      → IfOk answer (λ seen. IfSome seen (λ files. AreSeenOf t keys ways.links from to [] None (items files)))
+      → IfOk answer (λ seen. IfSome seen (λ files. IsSeen keys t (Rename from to) (items files)))
+  moved_answer (Ok (Some files)) from to possible look free seen = moved_is_seen keys t is_tree ways knows from to possible look free (items files) seen
+  moved_answer (Ok None) from to possible look free seen = tt
+  moved_answer (Err error) from to possible look free seen = tt
+
+  pub appended_answer : (answer : Result (Option V) E) (path : Path) (more : List ℕ) → is_possible_in t (Append path more) ≡ true
+      → IfOk answer (λ seen. IfSome seen (λ files. (place : Path) → file_spot t path ≡ Ok place → AreSeenOf t keys ways.links path place more None (items files)))
       → IfOk answer (λ seen. IfSome seen (λ files. IsSeen keys t (Append path more) (items files)))
-  appended_answer path more possible seen = by answer seen
-    where
-      by : (a : Result (Option V) E) → IfOk a (λ seen. IfSome seen (λ files. (place : Path) → file_spot t path ≡ Ok place → AreSeenOf t keys path place more None (items files)))
-          → IfOk a (λ seen. IfSome seen (λ files. IsSeen keys t (Append path more) (items files)))
-      by (Ok (Some files)) seen = appended_is_seen keys t plain path more possible (items files) seen
-      by (Ok None) seen = tt
-      by (Err error) seen = tt
+  appended_answer (Ok (Some files)) path more possible seen = appended_is_seen keys t is_tree ways knows path more possible (items files) seen
+  appended_answer (Ok None) path more possible seen = tt
+  appended_answer (Err error) path more possible seen = tt
 
-  pub timed_answer : (q : Path) (time : ℕ) (nothing : List ℕ) → nothing ≡ [] → is_possible_in t (SetTime q time) ≡ true
-      → IfOk answer (λ seen. IfSome seen (λ files. AreSeenOf t keys q q nothing (Some time) (items files))) → IfOk answer (λ seen. IfSome seen (λ files. IsSeen keys t (SetTime q time) (items files)))
-  timed_answer q time nothing none possible seen = by answer seen
-    where
-      by : (a : Result (Option V) E) → IfOk a (λ seen. IfSome seen (λ files. AreSeenOf t keys q q nothing (Some time) (items files)))
-          → IfOk a (λ seen. IfSome seen (λ files. IsSeen keys t (SetTime q time) (items files)))
-      by (Ok (Some files)) seen =
-          timed_is_seen keys t plain is_tree q time possible (items files) (subst (λ (more : List ℕ). AreSeenOf t keys q q more (Some time) (items files)) none seen)
-      by (Ok None) seen = tt
-      by (Err error) seen = tt
+  pub timed_answer : (answer : Result (Option V) E) (q : Path) (time : ℕ) → is_possible_in t (SetTime q time) ≡ true
+      → IfOk answer (λ seen. IfSome seen (λ files. AreSeenOf t keys ways.links q q [] (Some time) (items files)))
+      → IfOk answer (λ seen. IfSome seen (λ files. IsSeen keys t (SetTime q time) (items files)))
+  timed_answer (Ok (Some files)) q time possible seen = timed_is_seen keys t is_tree ways knows q time possible (items files) seen
+  timed_answer (Ok None) q time possible seen = tt
+  timed_answer (Err error) q time possible seen = tt

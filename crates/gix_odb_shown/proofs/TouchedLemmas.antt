@@ -1,33 +1,29 @@
 -- What a change leaves as it was in a folder that it doesn't touch.
-use Rattle.std.proofs.Common.{◌≡◌, ◌⊎◌, inl, inr, ℕ, Bool, true, false, if◌then◌else◌, List, [], ◌∷◌, ◌++◌, Option, Some, None, Result, Ok, Err, refl, sym, ap, ◌∙◌, subst}
+use Rattle.std.proofs.Common.{◌≡◌, inl, inr, ℕ, Bool, true, false, if◌then◌else◌, List, [], ◌∷◌, ◌++◌, Some, Result, Ok, Err, refl, sym, ap, ◌∙◌, subst}
 use Rattle.std.specs.List.{list_any, starts_with}
 use Rattle.std.specs.Ordering.{eq_by_cmp}
 use Rattle.std.proofs.lemmas.Bool.{false≢true, false_from_ne_true, or_cases}
 use Rattle.odb_base.specs.Path.{Name, Path, path_cmp, same_name}
-use Rattle.odb_nodes.specs.Tree.{Tree, node_at}
+use Rattle.odb_nodes.specs.Tree.{Tree}
 use Rattle.odb_nodes.specs.Tree.Follow as following
 use Rattle.odb_nodes.specs.Tree.Follow.{Place, followed, read_of}
 use Rattle.odb_nodes.specs.Tree.Change.{changed, is_file_place, is_possible_in}
-use Rattle.odb_nodes.specs.Tree.Way.{SameOnWay, is_link, on_way}
+use Rattle.odb_nodes.specs.Tree.Way.{SameOnWay}
 use Rattle.odb_nodes.specs.Tree.Write as writing
-use Rattle.odb_nodes.specs.Tree.Write.{and_then, file_path, file_spot, from_followed, spot}
+use Rattle.odb_nodes.specs.Tree.Write.{and_then, file_path, file_spot, from_followed}
 use Rattle.odb_nodes.specs.declared.change.Change.{Change}
 use Rattle.odb_nodes.specs.declared.change.Change.TheVariants.{PutFile, MakeDir, PutLink, Rename, Append, Remove, SetTime}
-use Rattle.odb_nodes.specs.declared.node.Node.{Node}
 use Rattle.odb_nodes.proofs.TreeLemmas.{same_path}
 use Rattle.odb_nodes.proofs.TreeLemmas.Moved.{begins, begins-own}
 use Rattle.odb_nodes.proofs.TreeLemmas.Possible.{possible-append}
-use Rattle.odb_nodes.proofs.WayLaws.{front_on_way, on_way_kept, read_kept, same_unfollowed, same_untouched, spot_kept}
+use Rattle.odb_nodes.proofs.WayLaws.{front_on_way, on_way_kept, read_kept, same_untouched}
 use Rattle.odb_nodes.proofs.WriteLaws.{at_place, touches}
-use Rattle.gix_odb_shown.specs.Files.{IsIn}
+use Rattle.gix_odb_shown.specs.Ways.{IsIn, Knows, Ways, is_touched}
 use Rattle.gix_odb_shown.specs.Led.{place_if, places_of}
-use Rattle.gix_odb_shown.specs.Plain.{IsPlain}
 use Rattle.gix_odb_shown.specs.Watched.{Shows, pack_directory, watched_kind}
-use Rattle.gix_odb_shown.specs.Ways.{Knows, Ways, is_touched}
 use Rattle.gix_odb_shown.specs.declared.watched.WatchedKind.{WatchedKind}
 use Rattle.gix_odb_shown.proofs.ListLemmas.{passes_one}
-use Rattle.gix_odb_shown.proofs.SpotLemmas.{into_spot}
-use Rattle.gix_odb_shown.proofs.WayLemmas.{place_on_way}
+use Rattle.gix_odb_shown.proofs.WholeLemmas.{same_ways_there}
 
 -- ---- what a change touches lies at one of its places, or below
 
@@ -83,17 +79,6 @@ module _ (ways : Ways) (t : Tree) (change : Change) (possible : is_possible_in t
         false≢true (sym apart
         ∙ passes_one (is_touched ways folder) (places_of t change) a.place a.one (knows.touched name kind watched a.place (front_on_way t true path q a.place a.front on)))))
 
-    -- what stands at the name does
-    node_same : (s : Path) → spot t path ≡ Ok s → node_at u s ≡ node_at t s
-    node_same s is =
-        let i = into_spot t (pack_directory folder) name s is in
-        same_ways s (ap (on_way t true path) (sym i.is) ∙ place_on_way t name (pack_directory folder) i.place i.leads)
-
-    link_same : IsPlain t folder → (s : Path) → spot u path ≡ Ok s → is_link (node_at u s) ≡ false
-    link_same plain s is =
-        let before : spot t path ≡ Ok s = sym (spot_kept t u path (same_unfollowed t u path same_ways)) ∙ is in
-        ap is_link (node_same s before) ∙ plain.files name kind watched s before
-
   -- what it shows it showed
   pub untouched_shows : (path : Path) (time : ℕ) (bytes : List ℕ) → Shows folder u path time bytes → Shows folder t path time bytes
   untouched_shows path time bytes s = record {
@@ -107,13 +92,15 @@ module _ (ways : Ways) (t : Tree) (change : Change) (possible : is_possible_in t
     counts = s.counts;
   }
 
-  pub untouched_plain : IsPlain t folder → IsPlain u folder
-  untouched_plain plain = record { files = λ name kind watched s is. link_same name kind watched plain s is }
-
   -- and what is known of it holds
   pub untouched_knows : (others : Ways) → Knows others t folder → Knows others u folder
   untouched_knows others k = record {
-    plain = λ is. untouched_plain (k.plain is);
     touched = λ name kind watched q on.
         k.touched name kind watched q (sym (on_way_kept t u true (pack_directory folder ++ name ∷ []) (same_ways name kind watched) q) ∙ on);
+    fronts = λ name kind watched q step rest one.
+        k.fronts name kind watched q step rest
+        (subst (λ (ways : List Path). IsIn ways (q ++ step ∷ rest)) (same_ways_there t u (pack_directory folder ++ name ∷ []) (same_ways name kind watched)) one);
+    links = λ name kind watched q one.
+        k.links name kind watched q
+        (subst (λ (ways : List Path). IsIn ways q) (same_ways_there t u (pack_directory folder ++ name ∷ []) (same_ways name kind watched)) one);
   }

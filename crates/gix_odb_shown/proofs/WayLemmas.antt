@@ -1,20 +1,22 @@
 -- The ways of a path with one name more.
-use Rattle.std.proofs.Common.{◌≡◌, ◌⊎◌, inl, inr, ℕ, zero, suc, Bool, true, false, List, [], ◌∷◌, ◌++◌, append-nil, append_assoc, Option, Some, None, Result, Ok, Err, refl, sym, ap, ◌∙◌, subst}
+use Rattle.std.proofs.Common.{◌≡◌, ◌⊎◌, inl, inr, ℕ, zero, suc, true, false, List, [], ◌∷◌, ◌++◌, Option, Some, None, Result, Ok, refl, sym, ap, ◌∙◌, subst}
 use Rattle.std.specs.List.{starts_with}
-use Rattle.std.proofs.lemmas.Bool.{false≢true, or_cases, or_left, or_right}
-use Rattle.odb_base.specs.Path.{Name, Path, same_name}
+use Rattle.std.proofs.lemmas.Bool.{false≢true, or_cases}
+use Rattle.odb_base.specs.Path.{Name, Path, last_name, same_name}
 use Rattle.odb_nodes.specs.Tree.{Tree, node_at}
-use Rattle.odb_nodes.specs.Tree.Follow.{Pass, Reached, Onward, Missing, Blocked, pass, past, beyond, at_last, ending, Place, Refusal, LinkLoop, arrives, followed, followed_within, most_links}
+use Rattle.odb_nodes.specs.Tree.Follow.{Pass, Reached, Onward, Missing, Blocked, pass, at_last, ending, Place, Refusal, arrives, followed, followed_within, most_links}
 use Rattle.odb_nodes.specs.Tree.Way.{is_front_of_one, is_link_content, on_way, on_way_within, ways_onward, ways_within}
 use Rattle.odb_nodes.specs.declared.node.Content.{Content}
 use Rattle.odb_nodes.specs.declared.node.Content.TheVariants.{File, Dir, Link}
 use Rattle.odb_nodes.specs.declared.node.Node.{Node}
-use Rattle.odb_nodes.proofs.TreeLemmas.Moved.{begins, begins-own}
-use Rattle.gix_odb_shown.specs.Files.{IsIn}
+use Rattle.odb_nodes.proofs.TreeLemmas.Moved.{begins}
+use Rattle.gix_odb_shown.specs.Ways.{IsIn}
 use Rattle.gix_odb_shown.specs.Led.{fronts}
 use Rattle.gix_odb_shown.proofs.EntryLemmas.{HasName, by_name, inside, next, pass_by}
-use Rattle.gix_odb_shown.proofs.FrontLemmas.{front_in, front_or_whole}
+use Rattle.gix_odb_shown.proofs.FrontLemmas.{front_in, front_or_whole, shorter_in}
 use Rattle.gix_odb_shown.proofs.ListLemmas.{one_passes}
+use Rattle.gix_odb_shown.proofs.NameLemmas.{last_name-push}
+use Rattle.gix_odb_shown.proofs.WholeLemmas.{in_onward}
 
 -- what is on the way behind a pass is on the way that a link leads on to
 pub record LedOn (further : Path → List Path) (p : Pass) (q : Path) : Type 0 where
@@ -118,69 +120,57 @@ module _ (t : Tree) (name : Name) where
   unfolding on_way
   beside_way path q on = beside_within most_links path q on
 
-  -- ---- the place of the name is on the way
+  -- ---- a way is one of the path's with the name behind it, or a link stands at the name
 
-  last_whole : (way p : Path) (node n : Node) (content : Content) → at_last true way node content ≡ Reached p n → way ≡ p
-  last_whole way p node n (File bytes time) is = cc
-  last_whole way p node n Dir is = cc
-  last_whole way p node n (Link target) is = absurd (cc)
+  -- one of these ways with the name behind it
+  pub record IsWhole (ways : List Path) (q : Path) : Type 0 where
+    pub way : Path
+    pub one : IsIn ways way
+    pub is : way ++ name ∷ [] ≡ q
 
-  ending_whole : (way p : Path) (n : Node) (o : Option Node) → ending true way o ≡ Reached p n → way ≡ p
-  ending_whole way p n None is = absurd (cc)
-  ending_whole way p n (Some node) is = last_whole way p node n node.content is
+  abbrev Whole : List Path → Result Place Refusal → Path → Type 0
+  Whole ways told q = IsWhole ways q ⊎ HasLink told
 
-  past_whole : (p : Path) (n : Node) (content : Content) (names : Path) (further : Pass) → past content names further ≡ Reached p n → further ≡ Reached p n
-  past_whole p n (File bytes time) names further is = absurd (cc)
-  past_whole p n Dir names further is = is
-  past_whole p n (Link target) names further is = absurd (cc)
+  more_whole : (way : Path) (ways : List Path) (q : Path) → IsWhole ways q → IsWhole (way ∷ ways) q
+  more_whole way ways q w = record { way = w.way; one = inr w.one; is = w.is }
 
-  beyond_whole : (p : Path) (n : Node) (o : Option Node) (names : Path) (further : Pass) → beyond o names further ≡ Reached p n → further ≡ Reached p n
-  beyond_whole p n None names further is = absurd (cc)
-  beyond_whole p n (Some node) names further is = past_whole p n node.content names further is
+  onward_whole : (path : Path) (further : Path → List Path) (g : Path → Result Place Refusal) (q : Path) (more : Path → List Path)
+      → ((y : Path) → IsIn (further (y ++ name ∷ [])) q → Whole (more y) (g y) q) → (p : Pass) (x : Path) → by_name t name p ≡ Onward x → IsIn (further x) q
+      → Whole (path ∷ ways_onward more p) (arrives g p) q
+  onward_whole path further g q more again (Reached way node) x e one = inr (link_inside way node node.content refl x e)
+  onward_whole path further g q more again (Onward y) x e one =
+      let same : y ++ name ∷ [] ≡ x = cc in
+      elim (again y (subst (λ (p : Path). IsIn (further p) q) (sym same) one)) [
+        | inl w ↦ inl (more_whole path (more y) q w)
+        | inr link ↦ inr link
+      ]
+  onward_whole path further g q more again Missing x e one = absurd (cc)
+  onward_whole path further g q more again Blocked x e one = absurd (cc)
 
-  reached_whole : (p : Path) (n : Node) (way names : Path) → pass t true way names ≡ Reached p n → way ++ names ≡ p
-  unfolding pass
-  reached_whole p n way [] is = append-nil way ∙ ending_whole way p n (node_at t way) is
-  reached_whole p n way (x ∷ names) is =
-      sym (append_assoc way (x ∷ []) names) ∙ reached_whole p n (way ++ x ∷ []) names (beyond_whole p n (node_at t way) (x ∷ names) (pass t true (way ++ x ∷ []) names) is)
-
-  own_way : (path : Path) (more : List Path) → is_front_of_one ((path ++ name ∷ []) ∷ more) (path ++ name ∷ []) ≡ true
-  own_way path more = or_left (begins (path ++ name ∷ []) (path ++ name ∷ [])) (is_front_of_one more (path ++ name ∷ [])) (begins-own (path ++ name ∷ []))
-
-  place_by : (path : Path) (place : Place) (g : Path → Result Place Refusal) (further : Path → List Path)
-      → ((y : Path) → g y ≡ Ok place → is_front_of_one (further (y ++ name ∷ [])) (place.path ++ name ∷ []) ≡ true)
-      → ((x : Path) (n : Node) (p : Pass) → p ≡ Reached x n → p ≡ pass t true [] path → path ≡ x) → (p : Pass) → p ≡ pass t true [] path → arrives g p ≡ Ok place
-      → is_front_of_one ((path ++ name ∷ []) ∷ ways_onward further (by_name t name p)) (place.path ++ name ∷ []) ≡ true
-  place_by path place g further again whole (Reached x n) at is =
-      let same : ◌≡◌ {A = Place} (record { path = x; node = n }) place = cc in
-      let here : path ≡ place.path = whole x n (Reached x n) refl at ∙ ap (λ (k : Place). k.path) same in
-      ap (λ (r : Path). is_front_of_one ((path ++ name ∷ []) ∷ ways_onward further (by_name t name (Reached x n))) (r ++ name ∷ [])) (sym here)
-      ∙ own_way path (ways_onward further (by_name t name (Reached x n)))
-  place_by path place g further again whole (Onward y) at is =
-      or_right (begins (path ++ name ∷ []) (place.path ++ name ∷ [])) (is_front_of_one (further (y ++ name ∷ [])) (place.path ++ name ∷ [])) (again y is)
-  place_by path place g further again whole Missing at is = absurd (cc)
-  place_by path place g further again whole Blocked at is = absurd (cc)
-
-  whole_by : (path x : Path) (n : Node) (p : Pass) → p ≡ Reached x n → p ≡ pass t true [] path → path ≡ x
-  whole_by path x n p reached at = reached_whole x n [] path (sym at ∙ reached)
-
-  place_within : (links : ℕ) (path : Path) (place : Place) → followed_within links t true path ≡ Ok place
-      → on_way_within links t true (path ++ name ∷ []) (place.path ++ name ∷ []) ≡ true
+  whole_within : (links : ℕ) (path q : Path) → IsIn (ways_within links t true (path ++ name ∷ [])) q → Whole (ways_within links t true path) (followed_within links t true path) q
   unfolding ways_within followed_within
-  place_within zero path place is = zero_by (pass t true [] path) refl is
-    where
-      zero_by : (p : Pass) → p ≡ pass t true [] path → arrives (λ _. Err LinkLoop) p ≡ Ok place → is_front_of_one ((path ++ name ∷ []) ∷ []) (place.path ++ name ∷ []) ≡ true
-      zero_by (Reached x n) at e =
-          let same : ◌≡◌ {A = Place} (record { path = x; node = n }) place = cc in
-          let here : path ≡ place.path = whole_by path x n (Reached x n) refl at ∙ ap (λ (k : Place). k.path) same in
-          ap (λ (r : Path). is_front_of_one ((path ++ name ∷ []) ∷ []) (r ++ name ∷ [])) (sym here) ∙ own_way path []
-      zero_by (Onward y) at e = absurd (cc)
-      zero_by Missing at e = absurd (cc)
-      zero_by Blocked at e = absurd (cc)
-  place_within (suc links) path place is =
-      ap (λ (p : Pass). is_front_of_one ((path ++ name ∷ []) ∷ ways_onward (ways_within links t true) p) (place.path ++ name ∷ [])) (pass_by t name [] path)
-      ∙ place_by path place (followed_within links t true) (ways_within links t true) (λ y. place_within links y place) (whole_by path) (pass t true [] path) refl is
+  whole_within zero path q (inl same) = inl (record { way = path; one = inl refl; is = same })
+  whole_within zero path q (inr none) = absurd none
+  whole_within (suc links) path q (inl same) = inl (record { way = path; one = inl refl; is = same })
+  whole_within (suc links) path q (inr more) =
+      let l = in_onward (ways_within links t true) (pass t true [] (path ++ name ∷ [])) q more in
+      onward_whole path (ways_within links t true) (followed_within links t true) q (ways_within links t true) (λ y. whole_within links y q) (pass t true [] path) l.path
+      (sym (pass_by t name [] path) ∙ l.onward) l.one
 
-  pub place_on_way : (path : Path) (place : Place) → followed t true path ≡ Ok place → on_way t true (path ++ name ∷ []) (place.path ++ name ∷ []) ≡ true
-  unfolding on_way
-  place_on_way path place is = place_within most_links path place is
+  pub whole_way : (path q : Path) → IsIn (ways_within most_links t true (path ++ name ∷ [])) q → IsWhole (ways_within most_links t true path) q ⊎ HasLink (followed t true path)
+  whole_way path q one = whole_within most_links path q one
+
+  -- so its last name is that name
+  pub named_way : (path q : Path) → IsIn (ways_within most_links t true (path ++ name ∷ [])) q → (last_name q ≡ Some name) ⊎ HasLink (followed t true path)
+  named_way path q one = elim (whole_way path q one) [
+    | inl w ↦ inl (ap last_name (sym w.is) ∙ last_name-push w.way name)
+    | inr link ↦ inr link
+  ]
+
+  -- and what it goes on behind is a front of one of the path's ways
+  pub front_way : (path q : Path) (step : Name) (rest : Path) → IsIn (ways_within most_links t true (path ++ name ∷ [])) (q ++ step ∷ rest)
+      → IsFront (ways_within most_links t true path) q ⊎ HasLink (followed t true path)
+  front_way path q step rest one = elim (whole_way path (q ++ step ∷ rest) one) [
+    | inl w ↦ inl (record { way = w.way; one = w.one; front = shorter_in w.way name q step rest (sym w.is) })
+    | inr link ↦ inr link
+  ]

@@ -1,5 +1,5 @@
 -- The files that a tree shows in pack directories, as lists. No public clause cites this.
-use Rattle.std.specs.Prelude.{◌≡◌, ◌⊎◌, ◌++◌, ℕ, Bool, false, not, List, [], ◌∷◌, Option, Some, None, Result, Ok, Err, unwrap_or}
+use Rattle.std.specs.Prelude.{◌⊎◌, ◌++◌, ℕ, Bool, false, not, List, [], ◌∷◌, Option, Some, None, Result, Ok, Err, unwrap_or}
 use Rattle.std.specs.Result.{result_ok}
 use Rattle.std.specs.List.{flat_map}
 use Rattle.std.specs.FinMap as finite
@@ -10,13 +10,9 @@ use Rattle.odb_nodes.specs.Entries.{opened}
 use Rattle.odb_nodes.specs.declared.entry.Entry.{Entry}
 use Rattle.gix_odb_shown.specs.Watched.{watched_kind, counted, pack_directory}
 use Rattle.gix_odb_shown.specs.Kept.{Contents, Folders, ShowsInOne}
+use Rattle.gix_odb_shown.specs.Ways.{IsIn}
 use Rattle.gix_odb_shown.specs.declared.watched.WatchedKind.{WatchedKind}
 use Rattle.gix_odb_shown.specs.declared.shown_file.ShownFile.{ShownFile}
-
--- an element is one of these
-abbrev pub IsIn : {X : Type 0} → List X → X → Type 0
-IsIn [] x = ⊥
-IsIn (y ∷ ys) x = (y ≡ x) ⊎ IsIn ys x
 
 -- what a read of a path gives, if it is that of a watched kind
 abbrev pub file_read : Path → Option WatchedKind → Result (List ℕ × ℕ) Refusal → List ShownFile

@@ -1,8 +1,7 @@
 -- What is looked up of the ways of folders, and what is kept of it. No public clause cites this.
-use Rattle.std.specs.Prelude.{◌≡◌, ◌++◌, ◌||◌, ◌&&◌, Bool, not, true, false, List, [], ◌∷◌, map, Option, Some, None, Result, Ok, Err, if◌then◌else◌}
+use Rattle.std.specs.Prelude.{◌≡◌, ◌++◌, ◌||◌, ◌&&◌, Bool, true, false, List, [], ◌∷◌, map, Result, Ok, Err, if◌then◌else◌}
 use Rattle.std.specs.List.{flat_map, list_any}
 use Rattle.std.specs.Ordering.{eq_by_cmp}
-use Rattle.std.specs.FinMap as finite
 use Rattle.std.specs.FinSet as set
 use Rattle.odb_base.specs.Path.{Path, path_cmp}
 use Rattle.odb_nodes.specs.Tree.{Tree}
@@ -13,11 +12,12 @@ use Rattle.odb_nodes.specs.Tree.Write.{file_spot}
 use Rattle.odb_nodes.specs.declared.change.Change.{Change}
 use Rattle.odb_nodes.specs.declared.change.Change.TheVariants.{PutFile, MakeDir, PutLink, Rename, Append, Remove, SetTime}
 use Rattle.odb_nodes.specs.declared.entry.Entry.{Entry}
-use Rattle.gix_odb_shown.specs.Watched.{pack_directory}
+use Rattle.odb_nodes.specs.declared.meta.Kind.{Kind}
+use Rattle.odb_nodes.specs.declared.meta.Kind.TheVariants as kinds
+use Rattle.gix_odb_shown.specs.Watched.{is_some_kind, pack_directory, watched_kind}
 use Rattle.gix_odb_shown.specs.Kept.{Folders}
 use Rattle.gix_odb_shown.specs.Files.{Reveals, listed}
-use Rattle.gix_odb_shown.specs.Seen.{is_watched_link}
-use Rattle.gix_odb_shown.specs.Ways.{Knows, Places, Plains, Ways, has}
+use Rattle.gix_odb_shown.specs.Ways.{Knows, Places, Ways, has}
 use Rattle.gix_odb_shown.specs.declared.led.NewWays.{NewWays}
 use Rattle.gix_odb_shown.specs.declared.shown_file.ShownFile.{ShownFile}
 
@@ -39,12 +39,21 @@ places_of tree (SetTime path time) = path ∷ []
 
 -- ---- the ways of a folder
 
+abbrev pub is_link_kind : Kind → Bool
+is_link_kind kinds.File = false
+is_link_kind kinds.Dir = false
+is_link_kind kinds.Link = true
+
+-- an entry is a link with a watched name
+abbrev pub is_watched_link : Entry → Bool
+is_watched_link entry = is_link_kind entry.kind && is_some_kind (watched_kind entry.name)
+
 -- the paths that a path begins with
 abbrev pub fronts : Path → List Path
 fronts [] = [] ∷ []
 fronts (name ∷ path) = [] ∷ map (λ front. name ∷ front) (fronts path)
 
--- a place with a folder
+-- a place with a folder, or with another path
 abbrev pub with_folder : (folder place : Path) → Path × Path
 with_folder folder place = (place, folder)
 
@@ -67,15 +76,20 @@ fronts_of tree folder = pairs_along tree folder (pack_directory folder) ++ flat_
 abbrev pub ends_of : Tree → (folder : Path) → List (Path × Path)
 ends_of tree folder = map (with_folder folder) (ways_within most_links tree true (pack_directory folder))
 
--- whether it is plain
-abbrev pub plain_of : Tree → (folder : Path) → Path × Bool
-plain_of tree folder = (folder, not (list_any is_watched_link (listed tree (pack_directory folder))))
+-- the ways of a watched link, each with the path of the link
+abbrev pub link_ends : Tree → (folder : Path) → Entry → List (Path × Path)
+link_ends tree folder entry =
+    if is_watched_link entry then map (with_folder (pack_directory folder ++ entry.name ∷ [])) (ways_within most_links tree true (pack_directory folder ++ entry.name ∷ [])) else []
+
+-- those of the watched links in its pack directory
+abbrev pub links_of : Tree → (folder : Path) → List (Path × Path)
+links_of tree folder = flat_map (link_ends tree folder) (listed tree (pack_directory folder))
 
 -- what is looked up is that of these folders
 pub record AreLed (tree : Tree) (keys : List Path) (found : NewWays) : Type 0 where
-  pub plain : found.plain.items ≡ map (plain_of tree) keys
   pub fronts : found.fronts.items ≡ flat_map (fronts_of tree) keys
   pub ends : found.ends.items ≡ flat_map (ends_of tree) keys
+  pub links : found.links.items ≡ flat_map (links_of tree) keys
 
 -- ---- what is kept of it
 
@@ -90,15 +104,11 @@ is_pair place folder pair = eq_by_cmp path_cmp place pair.0 && eq_by_cmp path_cm
 abbrev pub AreAdded : List (Path × Path) → Places → Places → Type 0
 AreAdded pairs old new = (place folder : Path) → has new place folder ≡ (list_any (is_pair place folder) pairs || has old place folder)
 
-abbrev pub with_plains : Plains → List (Path × Bool) → Plains
-with_plains plain [] = plain
-with_plains plain (one ∷ more) = with_plains (finite.insert plain one.0 one.1) more
-
 -- what was looked up is kept
 pub record Learns (old : Ways) (found : NewWays) (new : Ways) : Type 0 where
-  pub plain : new.plain ≡ with_plains old.plain found.plain.items
   pub fronts : AreAdded found.fronts.items old.fronts new.fronts
   pub ends : AreAdded found.ends.items old.ends new.ends
+  pub links : AreAdded found.links.items old.links new.links
 
 -- The files are what a change makes watched paths of these folders show, but for what they show already, and what was known of the ways of the
 -- folders holds after it too.

@@ -1,79 +1,97 @@
--- What a change makes the watched paths of plain folders show. No public clause cites this.
-use Rattle.std.specs.Prelude.{◌≡◌, ◌++◌, ◌&&◌, ℕ, Bool, true, false, List, [], ◌∷◌, map, Option, Some, None, Result, Ok, Err, unwrap_or, if◌then◌else◌}
+-- What a change makes watched paths show, by the place that it is made at. No public clause cites this.
+use Rattle.std.specs.Prelude.{◌≡◌, ◌++◌, ◌&&◌, ℕ, Bool, true, false, List, [], ◌∷◌, Option, Some, None, Result, Ok, Err, unwrap_or, if◌then◌else◌}
 use lib.Pointwise.{pointwise}
-use Rattle.std.specs.Result.{result_ok}
-use Rattle.std.specs.Option.{option_or}
-use Rattle.std.specs.List.{flat_map}
+use Rattle.std.specs.List.{flat_map, list_any}
 use Rattle.std.specs.FinSet as set
-use Rattle.odb_base.specs.Path.{Name, Path, last_name, same_name}
+use Rattle.odb_base.specs.Path.{Name, Path, last_name, parent_of, same_name}
 use Rattle.odb_nodes.specs.Tree.{Tree}
 use Rattle.odb_nodes.specs.Tree.Change.{changed}
-use Rattle.odb_nodes.specs.Tree.Follow.{Refusal, looked, read_of}
-use Rattle.odb_nodes.specs.Tree.Way.{on_way}
-use Rattle.odb_nodes.specs.Tree.Write.{file_spot, vacant}
+use Rattle.odb_nodes.specs.Tree.Follow.{Refusal, most_links, read_of}
+use Rattle.odb_nodes.specs.Tree.Way.{ways_within}
 use Rattle.odb_nodes.specs.declared.change.Change.{Change}
-use Rattle.odb_nodes.specs.declared.entry.Entry.{Entry}
 use Rattle.odb_nodes.specs.declared.meta.Meta.{Meta}
 use Rattle.odb_nodes.specs.declared.meta.Kind.{Kind}
-use Rattle.odb_nodes.specs.declared.meta.Kind.TheVariants as kinds
-use Rattle.gix_odb_shown.specs.Watched.{counted, is_some_kind, pack_directory, watched_kind}
-use Rattle.gix_odb_shown.specs.Plain.{ArePlain}
-use Rattle.gix_odb_shown.specs.Files.{Reveals}
+use Rattle.gix_odb_shown.specs.Watched.{is_some_kind, named_kind, pack_directory, watched_kind}
+use Rattle.gix_odb_shown.specs.Ways.{IsIn, Places, has}
+use Rattle.gix_odb_shown.specs.Files.{Reveals, file_read}
+use Rattle.gix_odb_shown.specs.Led.{is_in, is_link_kind}
 use Rattle.gix_odb_shown.specs.declared.shown_file.ShownFile.{ShownFile}
-use Rattle.gix_odb_shown.specs.declared.watched.WatchedKind.{WatchedKind}
 
 -- a path is followed along no others than before
 abbrev pub GainsNoWay : Tree → Tree → Type 0
-GainsNoWay before after = (path q : Path) → on_way after true path q ≡ true → on_way before true path q ≡ true
+GainsNoWay before after = (path q : Path) → IsIn (ways_within most_links after true path) q → IsIn (ways_within most_links before true path) q
 
--- The files are what a change makes watched paths show, but for what they show already. The folders are plain afterwards, and no path is
--- followed along others than before.
+-- The files are what a change makes watched paths show, but for what they show already, and no path is followed along others than before.
 pub record IsSeen (keys : List Path) (tree : Tree) (change : Change) (files : List ShownFile) : Type 0 where
   pub reveals : Reveals (set.from_list keys) tree (changed tree change) files
-  pub plain : ArePlain (changed tree change) (set.from_list keys)
   pub ways : GainsNoWay tree (changed tree change)
 
 -- ---- the watched paths that lead to a place
 
--- where a path leads to nothing, the place that it leads to; where it leads to a file, the place of that
-abbrev pub place_of : Tree → Path → Option Path
-place_of tree path = option_or (result_ok (vacant tree path)) (result_ok (file_spot tree path))
+abbrev pub is_place : (place way : Path) → Bool
+is_place place way = pointwise same_name way place
 
-abbrev pub is_place : Path → Option Path → Bool
-is_place place None = false
-is_place place (Some found) = pointwise same_name found place
+-- Whether a path leads to a place, where nothing or a file stands: the place is what it is followed along at last.
+abbrev pub leads_to : Tree → (place path : Path) → Bool
+leads_to tree place path = list_any (is_place place) (ways_within most_links tree true path)
 
 abbrev pub path_if : Bool → Path → List Path
 path_if leads path = if leads then path ∷ [] else []
 
 -- the path behind the pack directory of a folder, if it leads to a place
-abbrev pub path_through : Tree → Path → (last : Path) → (folder : Path) → List Path
-path_through tree place last folder = path_if (is_place place (place_of tree (pack_directory folder ++ last))) (pack_directory folder ++ last)
+abbrev pub path_through : Tree → (place last folder : Path) → List Path
+path_through tree place last folder = path_if (leads_to tree place (pack_directory folder ++ last)) (pack_directory folder ++ last)
 
-abbrev pub paths_to : Tree → List Path → Path → (last : Path) → List Path
-paths_to tree keys place last = flat_map (path_through tree place last) keys
+abbrev pub paths_through : Tree → List Path → (place last : Path) → List Path
+paths_through tree keys place last = flat_map (path_through tree place last) keys
 
--- what a path shows that leads to a file
-abbrev pub shown_at : WatchedKind → (time : ℕ) → List ℕ → Path → ShownFile
-shown_at kind time bytes path = record { key = (path, counted kind time); bytes = bytes }
+-- those of the place's own last name
+abbrev pub own_paths : Tree → List Path → (place : Path) → Option Name → List Path
+own_paths tree keys place None = []
+own_paths tree keys place (Some name) = if is_some_kind (watched_kind name) then paths_through tree keys place (name ∷ []) else []
 
-abbrev pub files_of_kind : Tree → List Path → Path → Name → Option WatchedKind → (time : ℕ) → List ℕ → List ShownFile
-files_of_kind tree keys place name None time bytes = []
-files_of_kind tree keys place name (Some kind) time bytes = map (shown_at kind time bytes) (paths_to tree keys place (name ∷ []))
+-- whether a path lies in the pack directory of one of these folders
+abbrev pub is_of_folder : List Path → (directory : Path) → Option Path → Bool
+is_of_folder keys directory None = false
+is_of_folder keys directory (Some folder) = is_in keys folder && pointwise same_name (pack_directory folder) directory
 
-abbrev pub files_named : Tree → List Path → Path → Option Name → (time : ℕ) → List ℕ → List ShownFile
-files_named tree keys place None time bytes = []
-files_named tree keys place (Some name) time bytes = files_of_kind tree keys place name (watched_kind name) time bytes
+abbrev pub is_in_directory : List Path → Option Path → Bool
+is_in_directory keys None = false
+is_in_directory keys (Some directory) = is_of_folder keys directory (parent_of directory)
 
--- what the watched paths of these folders show that lead to a place, where a file with these bytes and this time stands there
-abbrev pub files_seen : Tree → List Path → Path → (time : ℕ) → List ℕ → List ShownFile
-files_seen tree keys place time bytes = files_named tree keys place (last_name place) time bytes
+abbrev pub lies_in_one : List Path → Path → Bool
+lies_in_one keys path = is_in_directory keys (parent_of path)
 
--- The files are those that are seen where a file like that which a path is read as comes to stand at a place, with more bytes behind
--- its own, and another time if one is given.
-abbrev pub AreSeenOf : Tree → List Path → (source place : Path) → (more : List ℕ) → Option ℕ → List ShownFile → Type 0
-AreSeenOf tree keys source place more time files =
-    (file : List ℕ × ℕ) → read_of tree source ≡ Ok file → files ≡ files_seen tree keys place (unwrap_or time file.1) (file.0 ++ more)
+-- the path of a link, if it is one of these folders' and leads to a place
+abbrev pub link_through : Tree → List Path → (place path : Path) → List Path
+link_through tree keys place path = path_if (lies_in_one keys path && leads_to tree place path) path
+
+-- The paths are those of the place's own last name, and those that are kept at it as links', as far as they lead to it.
+pub record ArePathsTo (tree : Tree) (keys : List Path) (links : Places) (place : Path) (paths : List Path) : Type 0 where
+  pub linked : List Path
+  pub at : (path : Path) → is_in linked path ≡ has links place path
+  pub are : paths ≡ own_paths tree keys place (last_name place) ++ flat_map (link_through tree keys place) linked
+
+-- ---- what they show
+
+-- what a path shows that leads to a file, if its name is watched
+abbrev pub shown_at : List ℕ × ℕ → Path → List ShownFile
+shown_at file path = file_read path (named_kind (last_name path)) (Ok file)
+
+-- the files are what watched paths of these folders show that lead to a place, where a file with these bytes and this time stands there
+pub record AreShownAt (tree : Tree) (keys : List Path) (links : Places) (place : Path) (file : List ℕ × ℕ) (files : List ShownFile) : Type 0 where
+  pub paths : List Path
+  pub are_to : ArePathsTo tree keys links place paths
+  pub are : files ≡ flat_map (shown_at file) paths
+
+-- a file with more bytes behind its own, and another time if one is given
+abbrev pub changed_file : (more : List ℕ) → Option ℕ → List ℕ × ℕ → List ℕ × ℕ
+changed_file more time file = (file.0 ++ more, unwrap_or time file.1)
+
+-- The files are those that are seen where a file like that which a path is read as comes to stand at a place, so changed.
+abbrev pub AreSeenOf : Tree → List Path → Places → (source place : Path) → (more : List ℕ) → Option ℕ → List ShownFile → Type 0
+AreSeenOf tree keys links source place more time files =
+    (file : List ℕ × ℕ) → read_of tree source ≡ Ok file → AreShownAt tree keys links place (changed_file more time file) files
 
 -- ---- what is looked at
 
@@ -82,13 +100,6 @@ abbrev pub kind_found : Result Meta Refusal → Option Kind
 kind_found (Ok meta) = Some meta.kind
 kind_found (Err refusal) = None
 
--- ---- whether a folder is plain
-
-abbrev pub is_link_kind : Kind → Bool
-is_link_kind kinds.File = false
-is_link_kind kinds.Dir = false
-is_link_kind kinds.Link = true
-
--- an entry is a link with a watched name
-abbrev pub is_watched_link : Entry → Bool
-is_watched_link entry = is_link_kind entry.kind && is_some_kind (watched_kind entry.name)
+abbrev pub is_link_found : Option Kind → Bool
+is_link_found None = false
+is_link_found (Some kind) = is_link_kind kind

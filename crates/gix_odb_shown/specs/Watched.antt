@@ -21,6 +21,11 @@ abbrev pub is_some_kind : Option WatchedKind → Bool
 is_some_kind None = false
 is_some_kind (Some kind) = true
 
+-- the same of a path's last name, if it has one
+abbrev pub named_kind : Option Name → Option WatchedKind
+named_kind None = None
+named_kind (Some name) = watched_kind name
+
 -- whether a path has a last name, and one that is watched
 abbrev pub is_watched_name : Option Name → Bool
 is_watched_name None = false

@@ -2,27 +2,29 @@
 ghost use Rattle.std.specs.Prelude.{◌≡◌, ◌++◌, ◌∷◌, [], map, true, IfOk, OnOk};
 ghost use Rattle.std.specs.List.{flat_map};
 ghost use Rattle.odb_base.specs.Path.{is_name};
+ghost use Rattle.odb_nodes.specs.Tree.Follow.{most_links};
+ghost use Rattle.odb_nodes.specs.Tree.Way.{ways_within};
 ghost use Rattle.gix_odb_shown.specs.Files.{listed};
-ghost use Rattle.gix_odb_shown.specs.Led.{AreLed, ends_of, front_pairs, fronts_of, link_pairs, pairs_along, plain_of};
+ghost use Rattle.gix_odb_shown.specs.Led.{AreLed, ends_of, front_pairs, fronts_of, link_ends, link_pairs, links_of, pairs_along, with_folder};
 ghost use Rattle.gix_odb_shown.specs.Watched.{pack_directory};
 
-use crate::plain::{is_plain, is_watched_link};
 use crate::shown_file::{joined, listed};
-use crate::watched::pack_directory;
+use crate::watched::{is_watched_link, pack_directory};
 use odb_base::{NoMemory, PathText};
 use odb_nodes::Entry;
 use odb_tree::Tree;
 use std::alloc::Global;
 use std::collections::BTreeSet;
 
-/// What is found out of the ways of folders: each with whether it is plain, and with the places that touch it.
+/// What is found out of the ways of folders: places, each with a folder that it touches, or with the path of a link.
 #[derive(Drop)]
 pub(crate) struct NewWays {
-    pub plain: Vec<(PathText, bool)>,
     /// The fronts of the ways of its pack directory, and of the watched links in that.
     pub fronts: Vec<(PathText, PathText)>,
     /// The ways of its pack directory.
     pub ends: Vec<(PathText, PathText)>,
+    /// The ways of the watched links in that, with the paths of these.
+    pub links: Vec<(PathText, PathText)>,
 }
 
 /// What a tree tells of the ways of folders.
@@ -34,9 +36,9 @@ pub(crate) fn ways_of(
     ensures led { IfOk result (AreLed tree.now folders.now.keys) }
 {
     Ok(NewWays {
-        plain: plain_of_all(alloc, tree, folders)?,
         fronts: fronts_of_all(alloc, tree, folders)?,
         ends: ends_of_all(alloc, tree, folders)?,
+        links: links_of_all(alloc, tree, folders)?,
     })
 }
 
@@ -55,42 +57,15 @@ pub(crate) fn ways_of_one(
 
 /// Nothing is found out.
 pub(crate) fn no_ways(alloc: Global) -> NewWays
-    ensures plain { result.plain.items ≡ [] }
     ensures fronts { result.fronts.items ≡ [] }
     ensures ends { result.ends.items ≡ [] }
+    ensures links { result.links.items ≡ [] }
 {
     NewWays {
-        plain: Vec::new(alloc),
         fronts: Vec::new(alloc),
         ends: Vec::new(alloc),
+        links: Vec::new(alloc),
     }
-}
-
-fn plain_of_all(
-    alloc: Global,
-    tree: &Tree,
-    folders: &BTreeSet<PathText>,
-) -> Result<Vec<(PathText, bool)>, NoMemory>
-    ensures plain { IfOk result (λ all. all.items ≡ map (plain_of tree.now) folders.now.keys) }
-{
-    let mut all = Vec::new(alloc);
-    for folder in folders {
-        add_plain(alloc, tree, folder, &mut all)?;
-    }
-    Ok(all)
-}
-
-fn add_plain(
-    alloc: Global,
-    tree: &Tree,
-    folder: &PathText,
-    all: &mut Vec<(PathText, bool)>,
-) -> Result<(), NoMemory>
-    ensures added { OnOk result (all.new.items ≡ all.old.items ++ plain_of tree.now folder.now ∷ []) }
-{
-    let plain = is_plain(alloc, tree, folder)?;
-    all.push((folder.try_clone(alloc)?, plain))?;
-    Ok(())
 }
 
 fn fronts_of_all(
@@ -116,27 +91,89 @@ fn ends_of_all(
 {
     let mut pairs = Vec::new(alloc);
     for folder in folders {
-        let mut more = ends_of(alloc, tree, folder)?;
-        pairs.append(&mut more)?;
+        add_ends_of(alloc, tree, folder, &mut pairs)?;
+    }
+    Ok(pairs)
+}
+
+fn links_of_all(
+    alloc: Global,
+    tree: &Tree,
+    folders: &BTreeSet<PathText>,
+) -> Result<Vec<(PathText, PathText)>, NoMemory>
+    ensures links { IfOk result (λ pairs. pairs.items ≡ flat_map (links_of tree.now) folders.now.keys) }
+{
+    let mut pairs = Vec::new(alloc);
+    for folder in folders {
+        add_links_of(alloc, tree, folder, &mut pairs)?;
     }
     Ok(pairs)
 }
 
 /// The ways of a folder's pack directory.
-fn ends_of(
+fn add_ends_of(
     alloc: Global,
     tree: &Tree,
     folder: &PathText,
-) -> Result<Vec<(PathText, PathText)>, NoMemory>
-    ensures ends { IfOk result (λ pairs. pairs.items ≡ ends_of tree.now folder.now) }
+    pairs: &mut Vec<(PathText, PathText)>,
+) -> Result<(), NoMemory>
+    ensures added { OnOk result (pairs.new.items ≡ pairs.old.items ++ ends_of tree.now folder.now) }
 {
     let directory = pack_directory(alloc, folder)?;
-    let ways = tree.ways(alloc, &directory)?;
-    let mut pairs = Vec::new(alloc);
-    for way in ways {
-        pairs.push((way, folder.try_clone(alloc)?))?;
+    add_ends(alloc, tree, &directory, folder, pairs)
+}
+
+/// The ways of the watched links in a folder's pack directory, each with the path of the link.
+fn add_links_of(
+    alloc: Global,
+    tree: &Tree,
+    folder: &PathText,
+    pairs: &mut Vec<(PathText, PathText)>,
+) -> Result<(), NoMemory>
+    ensures added { OnOk result (pairs.new.items ≡ pairs.old.items ++ links_of tree.now folder.now) }
+{
+    let directory = pack_directory(alloc, folder)?;
+    let mut entries = listed(alloc, tree, &directory)?;
+    while let Some(entry) = entries.pop() {
+        add_ends_of_link(alloc, tree, folder, &directory, &entry, pairs)?;
     }
-    Ok(pairs)
+    Ok(())
+}
+
+fn add_ends_of_link(
+    alloc: Global,
+    tree: &Tree,
+    folder: &PathText,
+    directory: &PathText,
+    entry: &Entry,
+    pairs: &mut Vec<(PathText, PathText)>,
+) -> Result<(), NoMemory>
+    requires named { is_name entry.now.name ≡ true }
+    requires directory { directory.now ≡ pack_directory folder.now }
+    ensures added { OnOk result (pairs.new.items ≡ pairs.old.items ++ link_ends tree.now folder.now entry.now) }
+{
+    if !is_watched_link(entry) {
+        return Ok(());
+    }
+    let path = joined(alloc, directory, &entry.name)?;
+    add_ends(alloc, tree, &path, &path, pairs)
+}
+
+/// All ways of a path, each with the same path beside it.
+fn add_ends(
+    alloc: Global,
+    tree: &Tree,
+    path: &PathText,
+    beside: &PathText,
+    pairs: &mut Vec<(PathText, PathText)>,
+) -> Result<(), NoMemory>
+    ensures added { OnOk result (pairs.new.items ≡ pairs.old.items ++ map (with_folder beside.now) (ways_within most_links tree.now true path.now)) }
+{
+    let ways = tree.ways(alloc, path)?;
+    for way in ways {
+        pairs.push((way, beside.try_clone(alloc)?))?;
+    }
+    Ok(())
 }
 
 /// The fronts of the ways of a folder's pack directory, and of the watched links in that.
@@ -207,7 +244,7 @@ fn add_fronts_along(
 }
 
 /// The fronts of a path, the shortest first.
-fn add_fronts(
+pub(crate) fn add_fronts(
     alloc: Global,
     folder: &PathText,
     path: &PathText,

@@ -14,7 +14,7 @@
 mod contents;
 mod led;
 mod places;
-mod plain;
+mod put_link;
 mod revealed;
 mod seen;
 mod shown;

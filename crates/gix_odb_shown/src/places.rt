@@ -1,4 +1,4 @@
-//! Folders by places.
+//! Folders, or other paths, by places.
 ghost use Rattle.std.specs.Prelude.{◌≡◌, ◌&&◌, ◌||◌, false, OnOk, IfOk};
 ghost use Rattle.std.specs.FinMap as finite;
 ghost use Rattle.std.specs.FinSet as set;
@@ -60,6 +60,22 @@ impl FolderSet {
         }
         Ok(())
     }
+
+    fn all(&self, alloc: Global) -> Result<Vec<PathText>, NoMemory>
+        ensures all { IfOk result (λ all. (folder : Path) → is_in all.items folder ≡ set.contains self.now folder) }
+    {
+        copied(alloc, &self.folders)
+    }
+}
+
+fn copied(alloc: Global, paths: &BTreeSet<PathText>) -> Result<Vec<PathText>, NoMemory>
+    ensures all { IfOk result (λ all. all.items ≡ paths.now.keys) }
+{
+    let mut all = Vec::new(alloc);
+    for path in paths {
+        all.push(path.try_clone(alloc)?)?;
+    }
+    Ok(all)
 }
 
 fn add_watched(
@@ -117,6 +133,16 @@ impl Places {
         match self.folders.get(place) {
             None => Ok(()),
             Some(folders) => folders.add_to(alloc, watched, touched),
+        }
+    }
+
+    /// All that is kept at a place.
+    pub(crate) fn all_at(&self, alloc: Global, place: &PathText) -> Result<Vec<PathText>, NoMemory>
+        ensures all { IfOk result (λ all. (folder : Path) → is_in all.items folder ≡ has self.now place.now folder) }
+    {
+        match self.folders.get(place) {
+            None => Ok(Vec::new(alloc)),
+            Some(folders) => folders.all(alloc),
         }
     }
 

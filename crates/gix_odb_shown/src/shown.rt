@@ -13,6 +13,7 @@ ghost use Rattle.gix_odb_shown.specs.Revealed.{IsRevealed};
 
 use crate::contents::Contents;
 use crate::led::{no_ways, ways_of, ways_of_one};
+use crate::put_link::link_seen;
 use crate::revealed::Revealed;
 use crate::seen::seen_in;
 use crate::shown_file::{ShownFile, files_in, files_of_all};
@@ -112,11 +113,31 @@ impl Shown {
                 files,
                 ways: no_ways(alloc),
             }),
-            None => {
-                let after = changed(alloc, tree, change)?;
-                revealed_by_tree(alloc, &touched, &after)
+            None => self.revealed_anew(alloc, tree, &touched, change),
+        }
+    }
+
+    /// The same of a change that gives the watched paths of the folders that it touches other ways: by the place of a link,
+    /// where that tells it, or else by the tree after the change.
+    fn revealed_anew(
+        &self,
+        alloc: Global,
+        tree: &Tree,
+        touched: &BTreeSet<PathText>,
+        change: &Change,
+    ) -> Result<Revealed, NoMemory>
+        requires fits { Fits self.now tree.now }
+        requires possible { is_possible_in tree.now change.now ≡ true }
+        requires touched { (folder : Path) → is_in touched.now.keys folder ≡ (set.contains self.now.folders folder && list_any (is_touched self.now.ways folder) (places_of tree.now change.now)) }
+        ensures revealed { IfOk result (IsRevealed self.now.folders tree.now (changed tree.now change.now)) }
+    {
+        if let Change::PutLink { path, target } = change {
+            if let Some(revealed) = link_seen(alloc, tree, touched, &self.ways, path, target)? {
+                return Ok(revealed);
             }
         }
+        let after = changed(alloc, tree, change)?;
+        revealed_by_tree(alloc, touched, &after)
     }
 
     /// Whether a path would show a second content among what a change would make them show.
@@ -136,8 +157,8 @@ impl Shown {
         self.contents.keep_all(files)
     }
 
-    /// What a change makes the watched paths of the folders that it touches show, where these are plain and the change
-    /// tells it, or where there are none.
+    /// What a change makes the watched paths of the folders that it touches show, where its place tells it, or where there
+    /// are no such folders.
     fn seen(
         &self,
         alloc: Global,
@@ -153,11 +174,7 @@ impl Shown {
         if touched.is_empty() {
             return Ok(Some(Vec::new(alloc)));
         }
-        if self.ways.are_plain(touched) {
-            seen_in(alloc, tree, touched, change)
-        } else {
-            Ok(None)
-        }
+        seen_in(alloc, tree, touched, &self.ways, change)
     }
 }
 

@@ -1,9 +1,11 @@
 //! Which names of a pack directory are watched.
 ghost use Rattle.std.specs.Prelude.{◌≡◌, IfOk};
 ghost use Rattle.odb_base.specs.Path.{last_name};
-ghost use Rattle.gix_odb_shown.specs.Watched.{counted, is_watched_name, pack_directory, watched_kind};
+ghost use Rattle.gix_odb_shown.specs.Led.{is_watched_link};
+ghost use Rattle.gix_odb_shown.specs.Watched.{counted, is_watched_name, named_kind, pack_directory, watched_kind};
 
 use odb_base::{BadPath, NoMemory, PathText};
+use odb_nodes::{Entry, Kind};
 use std::alloc::Global;
 
 /// What a watched name stands for.
@@ -38,6 +40,26 @@ pub(crate) fn watched_kind(name: &str) -> Option<WatchedKind>
         return Some(WatchedKind::MultiIndex);
     }
     None
+}
+
+/// The same of a path's last name, if it has one.
+pub(crate) fn named_kind(path: &PathText) -> Option<WatchedKind>
+    ensures kind { result ≡ named_kind (last_name path.now) }
+{
+    match path.file_name() {
+        Some(name) => watched_kind(name),
+        None => None,
+    }
+}
+
+/// Whether an entry is a link with a watched name.
+pub(crate) fn is_watched_link(entry: &Entry) -> bool
+    ensures link { result ≡ is_watched_link entry.now }
+{
+    match entry.kind {
+        Kind::Link => watched_kind(entry.name.as_str()).is_some(),
+        Kind::File | Kind::Dir => false,
+    }
 }
 
 /// Whether a path has a last name, and one that is watched.

@@ -1,38 +1,37 @@
 //! What is kept of the ways of watched paths.
-ghost use Rattle.std.specs.Prelude.{◌≡◌, ◌&&◌, ◌||◌, true, Some, OnOk, IfOk};
-ghost use Rattle.std.specs.FinMap as finite;
-ghost use Rattle.odb_base.specs.Path.{Path, path_cmp};
-ghost use Rattle.gix_odb_shown.specs.Led.{Learns, is_in, with_plains};
-ghost use Rattle.gix_odb_shown.specs.Ways.{is_touched, no_ways};
+ghost use Rattle.std.specs.Prelude.{◌≡◌, ◌&&◌, ◌||◌, false, OnOk, IfOk};
+ghost use Rattle.odb_base.specs.Path.{Path};
+ghost use Rattle.gix_odb_shown.specs.Led.{Learns, is_in};
+ghost use Rattle.gix_odb_shown.specs.PutLink.{IsNoFront};
+ghost use Rattle.gix_odb_shown.specs.Ways.{has, is_touched, no_ways};
 
 use crate::led::NewWays;
 use crate::places::Places;
 use crate::watched::has_watched_name;
 use odb_base::{NoMemory, PathText};
 use std::alloc::Global;
-use std::collections::{BTreeMap, BTreeSet};
+use std::collections::BTreeSet;
 use std::marker::Model;
 
 /// Over which places the watched paths of folders lead.
 #[derive(Drop)]
 pub(crate) struct Ways {
-    /// Whether no watched name in a folder's pack directory is a link.
-    plain: BTreeMap<PathText, bool>,
     /// The folders at each front of the ways of their pack directories, and of the watched links in these.
     fronts: Places,
     /// The folders at the ways of their pack directories.
     ends: Places,
+    /// The paths of the watched links in these, at their ways.
+    links: Places,
 }
 
 impl Model for Ways {
-    ghost use Rattle.std.specs.FinMap as finite;
     ghost use Rattle.gix_odb_shown.specs.Ways.{Ways as WaysValue, coded_ways};
 
     ghost Value = { WaysValue };
 
     ghost coded = { coded_ways };
 
-    ghost view = { λ w. record { plain = finite.from_entries w.plain.entries; fronts = w.fronts; ends = w.ends } };
+    ghost view = { λ w. record { fronts = w.fronts; ends = w.ends; links = w.links } };
 }
 
 impl Ways {
@@ -40,30 +39,35 @@ impl Ways {
         ensures empty { result ≡ no_ways }
     {
         Ways {
-            plain: BTreeMap::new(alloc),
             fronts: Places::new(alloc),
             ends: Places::new(alloc),
+            links: Places::new(alloc),
         }
     }
 
-    /// Whether each of these folders is known to be plain.
-    pub(crate) fn are_plain(&self, folders: &BTreeSet<PathText>) -> bool
-        ensures plain { result ≡ true → (folder : Path) → is_in folders.now.keys folder ≡ true → finite.get self.now.plain folder ≡ Some true }
+    /// The paths of links that are kept at a place.
+    pub(crate) fn links_at(
+        &self,
+        alloc: Global,
+        place: &PathText,
+    ) -> Result<Vec<PathText>, NoMemory>
+        ensures links { IfOk result (λ links. (path : Path) → is_in links.items path ≡ has self.now.links place.now path) }
     {
-        let mut plain = true;
-        for folder in folders {
-            plain = self.is_plain(folder) && plain;
-        }
-        plain
+        self.links.all_at(alloc, place)
     }
 
-    fn is_plain(&self, folder: &PathText) -> bool
-        ensures plain { result ≡ true → finite.get self.now.plain folder.now ≡ Some true }
+    /// Whether one of these folders is kept at a front.
+    pub(crate) fn is_front(
+        &self,
+        alloc: Global,
+        place: &PathText,
+        folders: &BTreeSet<PathText>,
+    ) -> Result<bool, NoMemory>
+        ensures front { IfOk result (λ front. front ≡ false → IsNoFront self.now folders.now.keys place.now) }
     {
-        match self.plain.get(folder) {
-            Some(plain) => *plain,
-            None => false,
-        }
+        let mut found = BTreeSet::new(alloc);
+        self.fronts.add_to(alloc, place, folders, &mut found)?;
+        Ok(!found.is_empty())
     }
 
     /// Adds the watched folders that a change at a place may touch.
@@ -91,24 +95,12 @@ impl Ways {
         ensures learns { OnOk result (Learns self.old found self.new) }
     {
         let NewWays {
-            plain,
             fronts,
             ends,
+            links,
         } = found;
         self.fronts.add_all(fronts)?;
         self.ends.add_all(ends)?;
-        keep_plain(&mut self.plain, plain)
+        self.links.add_all(links)
     }
-}
-
-fn keep_plain(
-    plain: &mut BTreeMap<PathText, bool>,
-    found: Vec<(PathText, bool)>,
-) -> Result<(), NoMemory>
-    ensures kept { OnOk result (finite.from_entries {R = path_cmp} plain.new.entries ≡ with_plains (finite.from_entries plain.old.entries) found.items) }
-{
-    for (folder, is_plain) in found {
-        plain.insert(folder, is_plain)?;
-    }
-    Ok(())
 }

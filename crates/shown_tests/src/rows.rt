@@ -81,11 +81,53 @@ const WAYS: &str = "\
     put /o/pack/a.idx 1 x, move /o /w, put /w/pack/a.idx 1 y, move /w /o|made made made second ;\
     put /o/pack/a.idx 1 x, move /o /w, move /w /o, put /o/pack/a.idx 1 y|made made made second ";
 
+/// Changes of files that links lead to from watched paths, and of what such links are replaced by.
+const LINKED_FILES: &str = "\
+    link /o/pack/a.idx /t, put /t 1 x, take /t, put /t 1 y|made made made second ;\
+    link /o/pack/a.idx /t, put /u 1 x, move /u /t, put /u 1 y, move /u /t|made made made made second ;\
+    put /t 1 x, link /o/pack/a.idx /t, more /t y|made made second ;\
+    put /t 1 x, link /o/pack/a.idx /t, put /u 1 y, move /u /t|made made made second ;\
+    put /t 1 x, link /o/pack/a.idx /t, put /u 1 x, move /u /t, time /t 2, more /t |made made made made made made ;\
+    put /t 1 x, link /o/pack/multi-pack-index /t, put /t 2 y, time /t 1|made made made second ;\
+    put /t 1 x, link /o/pack/multi-pack-index /t, time /t 2, more /t y|made made made second ;\
+    put /t 1 x, link /o/pack/a.rev /t, more /t y|made made made ;\
+    make /q, link /o/pack/a.idx /q/b.pack, put /q/b.pack 1 x, more /q/b.pack y|made made made second ;\
+    link /o/pack/a.pack /m, link /m /t, put /t 1 x, put /t 1 y|made made made second ;\
+    make /e, link /d /e, link /o/pack/a.idx /d/x, put /e/x 1 x, put /e/x 1 y|made made made made second ;\
+    put /o/pack/b.idx 1 x, link /o/pack/a.idx /o/pack/b.idx, take /o/pack/a.idx, put /o/pack/a.idx 1 y|made made made second ;\
+    link /o/pack/a.idx /o/pack/b.idx, put /o/pack/b.idx 1 x, take /o/pack/a.idx, put /o/pack/a.idx 1 y|made made made second ;\
+    link /o/pack/a.idx /t, take /o/pack/a.idx, put /t 1 x, put /o/pack/a.idx 1 y|made made made made ;\
+    put /t 1 x, link /o/pack/a.idx /t, put /u 1 y, move /u /o/pack/a.idx|made made made second ;\
+    put /t 1 x, link /o/pack/a.idx /t, put /u 1 x, move /u /o/pack/a.idx, put /t 1 y, put /o/pack/a.idx 1 y|made made made made made second ;\
+    put /t 1 x, link /m /t, link /o/pack/a.idx /m, put /u 1 y, move /u /m|made made made made second ;\
+    put /t 1 x, link /m /t, link /o/pack/a.idx /m, put /m 1 y|made made made second ;\
+    link /m /t, link /o/pack/a.idx /m, put /u 1 x, move /u /m, put /t 1 y, put /m 1 y|made made made made made second ";
+
+/// Links that are put at new names, of which the place tells what they show, or the tree after them.
+const NEW_LINKS: &str = "\
+    put /t 1 x, link /o/pack/a.idx /t, link /o/pack/b.idx /t, put /t 1 y|made made made second ;\
+    put /t 1 x, link /o/pack/a.idx /t, take /o/pack/a.idx, link /o/pack/a.idx /t, put /t 1 y|made made made made second ;\
+    put /t 1 x, put /u 1 y, link /o/pack/a.idx /t, take /o/pack/a.idx, link /o/pack/a.idx /u|made made made made second ;\
+    put /t 1 x, put /u 1 x, link /o/pack/a.idx /t, take /o/pack/a.idx, link /o/pack/a.idx /u, put /t 1 y, put /u 1 y|made made made made made made second ;\
+    put /o/pack/a.idx 1 x, put /t 1 x, link /o/pack/a.idx /t, put /t 1 y|made made made second ;\
+    put /o/pack/a.idx 1 x, put /t 1 y, link /o/pack/a.idx /t|made made second ;\
+    make /e, link /d /e, put /e/x 1 x, link /o/pack/a.idx /d/x, take /o/pack/a.idx, put /o/pack/a.idx 1 y|made made made made made second ;\
+    link /o/pack/a.idx /e/x, make /f, put /f/x 1 x, move /f /e, put /e/x 1 y|made made made made second ;\
+    make /e, link /o/pack/a.idx /e, take /o/pack/a.idx, put /o/pack/a.idx 1 x|made made made made ;\
+    put /t 1 x, link /o/pack/multi-pack-index /t, put /t 2 y, put /t 1 y|made made made second ;\
+    put /t 1 x, link /o/pack/a.rev /t, put /t 1 y|made made made ;\
+    link /o/pack/b.idx /o/pack/a.idx, put /t 1 x, link /o/pack/a.idx /t, put /t 1 y|made made made second ;\
+    link /o/pack/a.idx /o/pack/a.idx/b, take /o/pack/a.idx, put /o/pack/a.idx 1 x|made made made ;\
+    make /s, link /s/pack /o/pack, watch /s, put /t 1 x, link /o/pack/a.idx /t, make /r, put /r/a.idx 1 y, link /s/pack /r|made made watched made made made made second ;\
+    make /a, make /a/pack, watch /a, link /a/pack/b.idx /o/pack/c.idx, put /t 1 x, link /o/pack/c.idx /t, take /a/pack/b.idx, put /a/pack/b.idx 1 y|made made watched made made made made second ";
+
 /// Several folders, of which a change touches one or two.
 const FOLDERS: &str = "\
     make /a, make /a/pack, watch /a, make /b, make /b/pack, watch /b, put /a/pack/a.idx 1 x, put /b/pack/a.idx 1 y, put /b/pack/a.idx 1 x|made made watched made made watched made made second ;\
     make /a, make /a/pack, watch /a, make /b, make /b/pack, watch /b, make /c, watch /c, link /c/pack /b/pack, put /b/pack/a.idx 1 x, put /a/pack/a.idx 1 y, put /c/pack 1 z, link /c/pack /a/pack|made made watched made made watched made watched made made made made second ;\
-    make /a, make /a/pack, watch /a, make /b, make /b/pack, watch /b, put /t 1 x, link /b/pack/a.idx /t, put /a/pack/a.idx 1 z, put /t 1 y|made made watched made made watched made made made second ";
+    make /a, make /a/pack, watch /a, make /b, make /b/pack, watch /b, put /t 1 x, link /b/pack/a.idx /t, put /a/pack/a.idx 1 z, put /t 1 y|made made watched made made watched made made made second ;\
+    make /a, make /a/pack, watch /a, put /a/pack/a.idx 1 y, link /a/pack/b.idx /t, link /o/pack/c.idx /t, put /t 1 x, take /o/pack/c.idx, put /o/pack/c.idx 1 y|made made watched made made made made made second ;\
+    make /a, make /a/pack, watch /a, link /a/pack/b.idx /o/pack/c.idx, put /o/pack/c.idx 1 x, take /a/pack/b.idx, put /a/pack/b.idx 1 y|made made watched made made made second ";
 
 fn check(rt: &HostRuntime, rows: &str) -> Result<(), Fail> {
     let alloc = rt.alloc();
@@ -110,6 +152,8 @@ fn second_contents(rt: HostRuntime) -> Result<(), Fail> {
         NO_DIRECTORY,
         CHANGED,
         WAYS,
+        LINKED_FILES,
+        NEW_LINKS,
         FOLDERS,
     ] {
         check(&rt, rows)?;

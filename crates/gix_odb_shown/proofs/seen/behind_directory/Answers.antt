@@ -1,5 +1,5 @@
 use Rattle.std.proofs.Common.{◌≡◌, ◌∙◌, sym, Some, None}
-use Rattle.gix_odb_shown.proofs.SpotLemmas.{begins_directory, behind_answer, root_unnamed}
+use Rattle.gix_odb_shown.proofs.NameLemmas.{begins_directory, behind_answer, root_unnamed}
 use Rattle.gix_odb_shown.proofs.seen.behind_directory.Goals as goal
 
 pub behind-requires : goal.behind-requires

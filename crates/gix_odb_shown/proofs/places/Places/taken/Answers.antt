@@ -1,4 +1,4 @@
-use Rattle.std.proofs.Common.{◌≡◌, ◌∙◌, sym, ap}
+use Rattle.std.proofs.Common.{◌∙◌, sym, ap}
 use Rattle.std.specs.FinSet as set
 use Rattle.odb_base.specs.Path.{path_cmp}
 use Rattle.gix_odb_shown.proofs.PlacesLemmas.{others_stay, taken_none, taken_there}

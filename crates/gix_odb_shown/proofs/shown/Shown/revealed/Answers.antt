@@ -1,6 +1,5 @@
-use Rattle.std.proofs.Common.{◌≡◌, ◌∙◌, sym, subst, Option, IfSome}
 use Rattle.odb_nodes.proofs.TreeLemmas.Changed.{IsTree-changed}
-use Rattle.gix_odb_shown.proofs.JudgedLemmas.{AreTouched, place_revealed, touched_watched, tree_answer}
+use Rattle.gix_odb_shown.proofs.JudgedLemmas.{place_revealed, touched_watched}
 use Rattle.gix_odb_shown.proofs.shown.Shown.revealed.Goals as goal
 
 pub seen-requires : goal.seen-requires
@@ -12,14 +11,13 @@ seen-requires c = record {
       c.in_ok-touched.ensures.touched;
 }
 
-pub returns : goal.returns
-returns c = record {
-  revealed =
-      tree_answer c.args.self.now c.args.tree.now c.args.change.now c.requires.fits c.requires.possible c.in_ok-touched.touched.keys
-      (touched_watched c.args.self.now c.self.inside.folders.keys c.self.inside.contents c.self.inside.ways c.args.tree.now c.args.change.now c.in_ok-touched.touched.keys c.self.view_is
-      c.in_ok-touched.ensures.touched)
-      (IsTree-changed c.args.tree.now c.args.change.now c.requires.fits.is_tree c.requires.possible) c.in_ok-after-in-None.after c.in_ok-after-in-None.ensures.changed c.revealed_by_tree.result
-      c.revealed_by_tree.ensures.files c.revealed_by_tree.ensures.led;
+pub revealed_anew-requires : goal.revealed_anew-requires
+revealed_anew-requires c = record {
+  fits = c.requires.fits;
+  possible = c.requires.possible;
+  touched =
+      touched_watched c.args.self.now c.self.inside.folders.keys c.self.inside.contents c.self.inside.ways c.args.tree.now c.args.change.now c.in_ok-touched.touched.keys c.self.view_is
+      c.in_ok-touched.ensures.touched;
 }
 
 pub returns-in-Some : goal.returns-in-Some
@@ -29,5 +27,5 @@ returns-in-Some c = record {
       (touched_watched c.args.self.now c.self.inside.folders.keys c.self.inside.contents c.self.inside.ways c.args.tree.now c.args.change.now c.in_ok-touched.touched.keys c.self.view_is
       c.in_ok-touched.ensures.touched)
       (IsTree-changed c.args.tree.now c.args.change.now c.requires.fits.is_tree c.requires.possible) (record { files = c.in-Some.files; ways = c.no_ways.result })
-      (rw c.in-Some.is at c.in_ok-files.ensures.seen) c.no_ways.ensures.plain;
+      (rw c.in-Some.is at c.in_ok-files.ensures.seen);
 }

@@ -1,9 +1,9 @@
-use Rattle.std.proofs.Common.{◌≡◌, ◌∙◌, true, Some, sym, ap, subst}
-use Rattle.std.specs.FinMap as finite
-use Rattle.odb_base.specs.Path.{Path}
+use Rattle.std.proofs.Common.{◌≡◌, sym, true, subst}
+use Rattle.std.specs.FinSet as set
+use Rattle.odb_base.specs.Path.{Path, path_cmp}
 use Rattle.gix_odb_shown.specs.Kept.{Kept}
-use Rattle.gix_odb_shown.specs.Led.{is_in}
-use Rattle.gix_odb_shown.proofs.JudgedLemmas.{none_of_them, none_touched, plain_touched, seen_answer}
+use Rattle.gix_odb_shown.specs.Ways.{Knows}
+use Rattle.gix_odb_shown.proofs.JudgedLemmas.{known_touched, none_of_them, none_touched, seen_answer}
 use Rattle.gix_odb_shown.proofs.shown.Shown.seen.Goals as goal
 
 pub returns-then-is_empty : goal.returns-then-is_empty
@@ -16,15 +16,14 @@ returns-then-is_empty c = record {
 pub seen_in-requires : goal.seen_in-requires
 seen_in-requires c = record {
   is_tree = c.requires.fits.is_tree;
-  plain =
-      plain_touched c.args.self.now c.args.tree.now c.args.change.now c.requires.fits c.requires.possible c.args.touched.now.keys c.requires.touched
-      (subst (λ (k : Kept). (folder : Path) → is_in c.args.touched.now.keys folder ≡ true → finite.get k.ways.plain folder ≡ Some true) c.self.view_is
-      (c.are_plain.ensures.plain c.if-are_plain.true));
+  knows =
+      subst (λ (k : Kept). (folder : Path) → set.contains (set.from_list {R = path_cmp} c.args.touched.now.keys) folder ≡ true → Knows k.ways c.args.tree.now folder) (sym c.self.view_is)
+      (known_touched c.args.self.now c.args.tree.now c.args.change.now c.requires.fits c.requires.possible c.args.touched.now.keys c.requires.touched);
   possible = c.requires.possible;
 }
 
-pub returns-then-are_plain : goal.returns-then-are_plain
-returns-then-are_plain c = record {
+pub returns : goal.returns
+returns c = record {
   seen =
       seen_answer c.args.self.now c.args.tree.now c.args.change.now c.requires.fits c.requires.possible c.args.touched.now.keys c.requires.touched (λ files. files.items) c.seen_in.result
       c.seen_in.ensures.seen;
