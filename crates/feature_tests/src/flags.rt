@@ -3,38 +3,54 @@ use crate::words::{add, compare};
 use gix_features_parts::interrupt::{self, AtomicFlag, Flag, Iter, IterWithErr, SetAfter};
 use odb_disk::{MemSink, MemSource};
 use std::alloc::{AllocError, Global};
+use std::fmt::Debug;
 use std::sync::atomic::{AtomicBool, Ordering};
 use std::test::Fail;
 
 const NUMBERS: [u8; 3] = [1, 2, 3];
 
-fn until_set(alloc: Global, flag: SetAfter) -> Result<String, AllocError> {
-    let mut all = String::new(alloc);
-    for number in Iter::new(NUMBERS.iter().copied(), flag) {
-        add(&mut all, format!(in alloc; "{number}")?.as_str())?;
-    }
-    Ok(all)
+/// Adds what is given of an item.
+fn add_item<T: Debug>(alloc: Global, all: &mut String, item: &T) -> Result<(), AllocError> {
+    let text = format!(in alloc; "{item:?}")?;
+    add(all, text.as_str())
 }
 
-fn error_when_set(alloc: Global, flag: SetAfter) -> Result<String, AllocError> {
-    let mut all = String::new(alloc);
-    for number in IterWithErr::new(NUMBERS.iter().copied(), || "stopped", flag) {
-        add(&mut all, format!(in alloc; "{number:?}")?.as_str())?;
+fn until_set(alloc: Global, all: &mut String, flag: SetAfter) -> Result<(), AllocError> {
+    for number in Iter::new(NUMBERS.iter().copied(), flag) {
+        add_item(alloc, all, &number)?;
     }
-    Ok(all)
+    Ok(())
+}
+
+fn error_when_set(alloc: Global, all: &mut String, flag: SetAfter) -> Result<(), AllocError> {
+    for number in IterWithErr::new(NUMBERS.iter().copied(), || "stopped", flag) {
+        add_item(alloc, all, &number)?;
+    }
+    Ok(())
+}
+
+/// Fails where other numbers are given until a flag is set than those that are wanted.
+fn ended_row(alloc: Global, questions: u64, want: &str) -> Result<(), Fail> {
+    let mut all = String::new(alloc);
+    until_set(alloc, &mut all, SetAfter::new(questions))?;
+    compare("until the flag is set", all.as_str(), want)
+}
+
+/// The same with an error where it is set.
+fn failed_row(alloc: Global, questions: u64, want: &str) -> Result<(), Fail> {
+    let mut all = String::new(alloc);
+    error_when_set(alloc, &mut all, SetAfter::new(questions))?;
+    compare("an error where the flag is set", all.as_str(), want)
 }
 
 // Catches a flag that is asked once alone, an item after the flag, and an error that is given twice or at the inner end.
 #[test]
 fn items(rt: HostRuntime) -> Result<(), Fail> {
-    let ended = until_set(rt.alloc(), SetAfter::new(2))?;
-    compare("set after two", ended.as_str(), "1, 2")?;
-    let whole = until_set(rt.alloc(), SetAfter::new(9))?;
-    compare("not set", whole.as_str(), "1, 2, 3")?;
-    let failed = error_when_set(rt.alloc(), SetAfter::new(1))?;
-    compare("an error", failed.as_str(), "Ok(1), Err(\"stopped\")")?;
-    let whole = error_when_set(rt.alloc(), SetAfter::new(9))?;
-    compare("no error", whole.as_str(), "Ok(1), Ok(2), Ok(3)")
+    let alloc: Global = rt.alloc();
+    ended_row(alloc, 2, "1, 2")?;
+    ended_row(alloc, 9, "1, 2, 3")?;
+    failed_row(alloc, 1, "Ok(1), Err(\"stopped\")")?;
+    failed_row(alloc, 9, "Ok(1), Ok(2), Ok(3)")
 }
 
 // Catches a flag that isn't read anew.
@@ -58,6 +74,22 @@ fn answer_word(answer: Result<usize, interrupt::Error>) -> &'static str {
     }
 }
 
+/// A source under a flag that is set after two questions.
+type Reading = interrupt::Read<MemSource, SetAfter>;
+
+/// Fails where a read isn't answered so.
+fn read_row(source: &mut Reading, text: &str, want: &str) -> Result<(), Fail> {
+    let mut out = [0; 2];
+    compare(text, answer_word(source.read(&mut out)), want)
+}
+
+/// Three reads.
+fn read_thrice(source: &mut Reading) -> Result<(), Fail> {
+    read_row(source, "first read", "two")?;
+    read_row(source, "second read", "failed")?;
+    read_row(source, "third read", "interrupted")
+}
+
 // Catches a read after the flag was set, and a failed one that is taken for an interruption.
 #[test]
 fn reads(rt: HostRuntime) -> Result<(), Fail> {
@@ -67,16 +99,22 @@ fn reads(rt: HostRuntime) -> Result<(), Fail> {
         inner,
         should_interrupt: SetAfter::new(2),
     };
-    let mut out = [0; 2];
-    compare("first read", answer_word(source.read(&mut out)), "two")?;
-    compare("second read", answer_word(source.read(&mut out)), "failed")?;
-    compare(
-        "third read",
-        answer_word(source.read(&mut out)),
-        "interrupted",
-    )?;
-    assert!(rt; source.inner.left() == b"cdef".as_slice());
+    let read = read_thrice(&mut source);
+    let is_left = source.inner.left() == b"cdef".as_slice();
+    drop(source);
+    read?;
+    assert!(rt; is_left);
     Ok(())
+}
+
+/// A sink under a flag that is set after two questions.
+type Writing = interrupt::Write<MemSink, SetAfter>;
+
+/// Three writes.
+fn write_thrice(sink: &mut Writing) -> Result<(), Fail> {
+    compare("first write", answer_word(sink.write(b"ab")), "two")?;
+    compare("second write", answer_word(sink.write(b"cd")), "failed")?;
+    compare("third write", answer_word(sink.write(b"ef")), "interrupted")
 }
 
 // Catches a write after the flag was set, and a failed one that is taken for an interruption.
@@ -86,9 +124,10 @@ fn writes(rt: HostRuntime) -> Result<(), Fail> {
         inner: MemSink::with_faults(rt.alloc(), &[2])?,
         should_interrupt: SetAfter::new(2),
     };
-    compare("first write", answer_word(sink.write(b"ab")), "two")?;
-    compare("second write", answer_word(sink.write(b"cd")), "failed")?;
-    compare("third write", answer_word(sink.write(b"ef")), "interrupted")?;
-    assert!(rt; sink.inner.bytes() == b"ab".as_slice());
+    let written = write_thrice(&mut sink);
+    let is_written = sink.inner.bytes() == b"ab".as_slice();
+    drop(sink);
+    written?;
+    assert!(rt; is_written);
     Ok(())
 }

@@ -3,7 +3,7 @@ use crate::words::{add, compare, halves};
 use gix_features_parts::decode::{Error, leb64_from_read};
 use gix_features_parts::iter::Chunks;
 use gix_features_parts::parallel::{num_threads, optimize_chunk_size_and_thread_limit};
-use odb_disk::MemSource;
+use odb_disk::{MemSource, NoMemory};
 use std::alloc::{AllocError, Global};
 use std::test::Fail;
 
@@ -79,37 +79,38 @@ fn failed_read(rt: HostRuntime) -> Result<(), Fail> {
     compare("a second read that fails", shown.as_str(), "source 1")
 }
 
-fn plan_shown(alloc: Global, plan: (usize, Option<usize>, usize)) -> Result<String, AllocError> {
+/// A plan: how large chunks are, the limit of threads, and how many there are.
+type Plan = (usize, Option<usize>, usize);
+
+/// Fails where a plan isn't the one that is wanted.
+fn plan_row(alloc: Global, text: &str, plan: Plan, want: &str) -> Result<(), Fail> {
     let (chunk, limit, threads) = plan;
-    format!(in alloc; "{chunk} {limit:?} {threads}")
+    let shown = format!(in alloc; "{chunk} {limit:?} {threads}")?;
+    compare(text, shown.as_str(), want)
 }
 
 // Catches a chunk above the greatest size, an empty one, and threads that would have nothing to do.
 #[test]
 fn sizes_of_known_items(rt: HostRuntime) -> Result<(), Fail> {
+    let alloc: Global = rt.alloc();
     let hundred = optimize_chunk_size_and_thread_limit(10, Some(100), None, Some(4), 1);
-    let shown = plan_shown(rt.alloc(), hundred)?;
-    compare("100 items", shown.as_str(), "12 Some(4) 4")?;
+    plan_row(alloc, "100 items", hundred, "12 Some(4) 4")?;
     let few = optimize_chunk_size_and_thread_limit(10, Some(3), None, Some(4), 1);
-    let shown = plan_shown(rt.alloc(), few)?;
-    compare("3 items", shown.as_str(), "1 Some(1) 1")?;
+    plan_row(alloc, "3 items", few, "1 Some(1) 1")?;
     let many = optimize_chunk_size_and_thread_limit(10, Some(100_000), None, Some(4), 1);
-    let shown = plan_shown(rt.alloc(), many)?;
-    compare("100000 items", shown.as_str(), "1000 Some(4) 4")
+    plan_row(alloc, "100000 items", many, "1000 Some(4) 4")
 }
 
 // Catches bounds of a chunk that are mixed up, and a limit that the number of threads stands above.
 #[test]
 fn sizes_of_unknown_items(rt: HostRuntime) -> Result<(), Fail> {
+    let alloc: Global = rt.alloc();
     let small = optimize_chunk_size_and_thread_limit(10, None, None, Some(4), 1);
-    let shown = plan_shown(rt.alloc(), small)?;
-    compare("small chunks", shown.as_str(), "50 Some(4) 4")?;
+    plan_row(alloc, "small chunks", small, "50 Some(4) 4")?;
     let large = optimize_chunk_size_and_thread_limit(5000, None, Some(2), Some(4), 1);
-    let shown = plan_shown(rt.alloc(), large)?;
-    compare("large chunks", shown.as_str(), "1000 Some(2) 2")?;
+    plan_row(alloc, "large chunks", large, "1000 Some(2) 2")?;
     let one = optimize_chunk_size_and_thread_limit(7, None, Some(0), None, 1);
-    let shown = plan_shown(rt.alloc(), one)?;
-    compare("one core", shown.as_str(), "7 Some(1) 1")
+    plan_row(alloc, "one core", one, "7 Some(1) 1")
 }
 
 // Catches a limit of 0 that is taken for no thread.
@@ -124,22 +125,36 @@ fn threads(rt: HostRuntime) -> Result<(), Fail> {
     compare("threads", shown.as_str(), "(4, 4, 3)")
 }
 
+/// Adds a chunk, where there is memory for it.
+fn add_chunk(
+    alloc: Global,
+    all: &mut String,
+    chunk: Result<Vec<u8>, NoMemory>,
+) -> Result<(), Fail> {
+    let text = format!(in alloc; "{:?}", chunk?)?;
+    Ok(add(all, text.as_str())?)
+}
+
 /// Numbers in chunks of a size.
-fn chunks_shown(alloc: Global, numbers: &[u8], size: usize) -> Result<String, Fail> {
-    let mut all = String::new(alloc);
+fn chunks_shown(alloc: Global, all: &mut String, numbers: &[u8], size: usize) -> Result<(), Fail> {
     for chunk in Chunks::new(alloc, numbers.iter().copied(), size.max(1)) {
-        let text = format!(in alloc; "{:?}", chunk?)?;
-        add(&mut all, text.as_str())?;
+        add_chunk(alloc, all, chunk)?;
     }
-    Ok(all)
+    Ok(())
+}
+
+/// Fails where numbers come in other chunks than those that are wanted.
+fn chunk_row(alloc: Global, numbers: &[u8], size: usize, want: &str) -> Result<(), Fail> {
+    let mut all = String::new(alloc);
+    chunks_shown(alloc, &mut all, numbers, size)?;
+    compare("chunks", all.as_str(), want)
 }
 
 // Catches a last chunk that is lost, and an empty one behind a full one.
 #[test]
 fn chunks(rt: HostRuntime) -> Result<(), Fail> {
-    let odd = chunks_shown(rt.alloc(), &[1, 2, 3], 2)?;
-    compare("three by two", odd.as_str(), "[1, 2], [3]")?;
-    let even = chunks_shown(rt.alloc(), &[1, 2, 3, 4], 2)?;
-    compare("four by two", even.as_str(), "[1, 2], [3, 4]")?;
-    compare("none", chunks_shown(rt.alloc(), &[], 2)?.as_str(), "")
+    let alloc: Global = rt.alloc();
+    chunk_row(alloc, &[1, 2, 3], 2, "[1, 2], [3]")?;
+    chunk_row(alloc, &[1, 2, 3, 4], 2, "[1, 2], [3, 4]")?;
+    chunk_row(alloc, &[], 2, "")
 }

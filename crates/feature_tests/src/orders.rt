@@ -33,13 +33,29 @@ fn given_shown(
     }
 }
 
-fn order_shown(alloc: Global, words: &str) -> Result<String, AllocError> {
-    let mut all = String::new(alloc);
+/// Adds what is given.
+fn add_given(
+    alloc: Global,
+    all: &mut String,
+    given: Result<char, InOrderError<Broken>>,
+) -> Result<(), AllocError> {
+    let text = given_shown(alloc, given)?;
+    add(all, text.as_str())
+}
+
+fn order_shown(alloc: Global, all: &mut String, words: &str) -> Result<(), AllocError> {
     for given in InOrderIter::from(alloc, words.split(' ').map(item_of)) {
-        let text = given_shown(alloc, given)?;
-        add(&mut all, text.as_str())?;
+        add_given(alloc, all, given)?;
     }
-    Ok(all)
+    Ok(())
+}
+
+/// Fails where a row's items are given in another order than is wanted.
+fn order_row(alloc: Global, row: &str) -> Result<(), Fail> {
+    let (words, want) = halves(row);
+    let mut all = String::new(alloc);
+    order_shown(alloc, &mut all, words)?;
+    compare(words, all.as_str(), want)
 }
 
 /// Items as they come, and what is given.
@@ -61,8 +77,7 @@ const ORDERS: &str = "\
 #[test]
 fn orders(rt: HostRuntime) -> Result<(), Fail> {
     for row in ORDERS.split(';') {
-        let (words, want) = halves(row);
-        compare(words, order_shown(rt.alloc(), words)?.as_str(), want)?;
+        order_row(rt.alloc(), row)?;
     }
     Ok(())
 }

@@ -1,5 +1,7 @@
 -- What follows for callers from what workers make of items.
-use Rattle.std.proofs.Common.{◌≡◌, ◌≢◌, ℕ, zero, suc, ◌+◌, ◌-◌, ◌*◌, ◌<◌, ◌≤◌, Bool, true, false, List, [], ◌∷◌, length, map, get_or, refl, sym, ap, ◌∙◌, subst, arith, ◌⊎◌, inl, inr, ⊎_elim, if◌then◌else◌, Result, Ok, Err}
+use Rattle.std.proofs.Common.{◌≡◌, ◌≢◌, ℕ, zero, suc, ◌+◌, ◌-◌, ◌*◌, ◌<◌, ◌≤◌, Bool, true, false, List, [], ◌∷◌, length, map, get_or, refl, sym, ap, ◌∙◌, subst, arith, ◌⊎◌, inl, inr, ⊎_elim, if◌then◌else◌, Result, Ok, Err, Option, Some, None}
+use Rattle.std.specs.List.{AllByRecursion}
+use Rattle.std.specs.Iterator.{Drains}
 use Rattle.std.proofs.lemmas.Bool.{cases_lt}
 use Rattle.std.proofs.lemmas.List.{length-map, nil_from_length}
 use Rattle.gix_features_workers.specs.Workers.{share, Works, AreWorked}
@@ -40,39 +42,47 @@ same_from_shares {T} n turn (x ∷ xs) (y ∷ ys) h long same =
     (λ (other : k ≢ turn). sym (share-other n turn x xs k h b other) ∙ same k b ∙ share-other n turn y ys k h b other) (eq_or_ne k turn)) in
     ap (λ a. a ∷ xs) first ∙ ap (λ (l : List T). y ∷ l) rest
 
+-- what holds of each item holds of each item of a share
+pub share-All : {T : Type 0} (P : T → Type 0) (n k : ℕ) (items : List T) → AllByRecursion P items → AllByRecursion P (share n k items)
+share-All P n k [] all = tt
+share-All P n zero (x ∷ xs) all = (all.0, share-All P n (n - 1) xs all.1)
+share-All P n (suc k) (x ∷ xs) all = share-All P n k xs all.1
+
 element_of : {X : Type 0} (xs : List X) (k : ℕ) → k < length xs → X
 element_of [] k b = absurd (omega (arith, b))
 element_of (x ∷ xs) k b = x
 
-module _ {S T O L : Type 0} (begins : ℕ → S → Type 0) (consumes : S → T → O → S → Type 0) (ends : S → L → Type 0) (makes : T → O) (ignores : (s t : S) (x : T) (o : O) → consumes s x o t → o ≡ makes x) where
-  Works-map : {t : S} (xs : List T) (os : List O) {s : S} → Works consumes s xs os t → os ≡ map makes xs
-  Works-map [] [] Works.Done = refl
-  Works-map [] (o ∷ os) none = elim none [ ]
-  Works-map (x ∷ xs) [] none = elim none [ ]
-  Works-map (x ∷ xs) (o ∷ os) (Works.Next first rest) = ap (λ p. p ∷ os) (ignores _ _ x o first) ∙ ap (λ (l : List O). makes x ∷ l) (Works-map xs os rest)
+-- Of items that may be passed, as numbers within the range of their type, an output follows from its item alone.
+module _ {S T O L : Type 0} (begins : ℕ → S → Type 0) (consumes : S → T → O → S → Type 0) (ends : S → L → Type 0) (fits : T → Type 0) (makes : T → O)
+    (ignores : (s t : S) (x : T) (o : O) → fits x → consumes s x o t → o ≡ makes x) where
+  Works-map : {t : S} (xs : List T) (os : List O) {s : S} → AllByRecursion fits xs → Works consumes s xs os t → os ≡ map makes xs
+  Works-map [] [] all Works.Done = refl
+  Works-map [] (o ∷ os) all none = elim none [ ]
+  Works-map (x ∷ xs) [] all none = elim none [ ]
+  Works-map (x ∷ xs) (o ∷ os) all (Works.Next first rest) = ap (λ p. p ∷ os) (ignores _ _ x o all.0 first) ∙ ap (λ (l : List O). makes x ∷ l) (Works-map xs os all.1 rest)
 
   -- Where an output follows from its item alone, the outputs are the same for each number of workers.
-  pub same_outputs : (n : ℕ) (items : List T) (outputs : List O) (lasts : List L) → 0 < n → AreWorked begins consumes ends n items outputs lasts → outputs ≡ map makes items
-  same_outputs n items outputs lasts some worked = same_from_shares n 0 outputs (map makes items) some (worked.one_each ∙ sym (length-map items makes))
+  pub same_outputs : (n : ℕ) (items : List T) (outputs : List O) (lasts : List L) → 0 < n → AllByRecursion fits items → AreWorked begins consumes ends n items outputs lasts → outputs ≡ map makes items
+  same_outputs n items outputs lasts some all worked = same_from_shares n 0 outputs (map makes items) some (worked.one_each ∙ sym (length-map items makes))
       (λ k b.
       let there = element_of lasts k (omega (arith, worked.workers, b)) in
       let one = worked.each k there b in
-      ap (λ i. share n i outputs) (turns-first n k) ∙ Works-map (share n k items) (share n k outputs) one.worked ∙ sym (share-map makes n k items)
+      ap (λ i. share n i outputs) (turns-first n k) ∙ Works-map (share n k items) (share n k outputs) (share-All fits n k items all) one.worked ∙ sym (share-map makes n k items)
       ∙ ap (λ i. share n i (map makes items)) (sym (turns-first n k)))
 
   -- So the answer is what a reducer comes to that is fed these outputs.
-  pub answer_of_outputs : {A : Type 0} (gives : List T → Type 0) (reduces : List O → A → Type 0) (n : ℕ) (answer : A) → 0 < n
+  pub answer_of_outputs : {A : Type 0} (gives : List T → Type 0) (reduces : List O → A → Type 0) → ((xs : List T) → gives xs → AllByRecursion fits xs) → (n : ℕ) (answer : A) → 0 < n
       → IsAnswer gives (AreWorked begins consumes ends n) reduces answer → (items : List T) × gives items × reduces (map makes items) answer
-  answer_of_outputs gives reduces n answer some is =
-      (is.items, is.given, subst (λ (l : List O). reduces l answer) (same_outputs n is.items is.outputs is.lasts some is.worked) is.reduced)
+  answer_of_outputs gives reduces all n answer some is =
+      (is.items, is.given, subst (λ (l : List O). reduces l answer) (same_outputs n is.items is.outputs is.lasts some (all is.items is.given) is.worked) is.reduced)
 
   -- Where there is one way to draw the items and one to reduce outputs too, the answer is the same for each number of workers.
-  pub same_answers : {A : Type 0} (gives : List T → Type 0) (reduces : List O → A → Type 0) → ((xs ys : List T) → gives xs → gives ys → xs ≡ ys)
-      → ((os : List O) (a b : A) → reduces os a → reduces os b → a ≡ b) → (n m : ℕ) (a b : A) → 0 < n → 0 < m
+  pub same_answers : {A : Type 0} (gives : List T → Type 0) (reduces : List O → A → Type 0) → ((xs : List T) → gives xs → AllByRecursion fits xs)
+      → ((xs ys : List T) → gives xs → gives ys → xs ≡ ys) → ((os : List O) (a b : A) → reduces os a → reduces os b → a ≡ b) → (n m : ℕ) (a b : A) → 0 < n → 0 < m
       → IsAnswer gives (AreWorked begins consumes ends n) reduces a → IsAnswer gives (AreWorked begins consumes ends m) reduces b → a ≡ b
-  same_answers gives reduces one_list one_answer n m a b some some' is is' =
-      let first = answer_of_outputs gives reduces n a some is in
-      let second = answer_of_outputs gives reduces m b some' is' in
+  same_answers gives reduces all one_list one_answer n m a b some some' is is' =
+      let first = answer_of_outputs gives reduces all n a some is in
+      let second = answer_of_outputs gives reduces all m b some' is' in
       one_answer (map makes first.0) a b first.2
       (subst (λ (l : List T). reduces (map makes l) b) (one_list second.0 first.0 second.1 first.1) second.2)
 
@@ -99,6 +109,15 @@ module _ {R O P A E : Type 0} (feeds : R → O → Result P E → R → Type 0) 
       absurd (given_and_failed y e (sym (one_given _ s t o (Err e) (Ok y) failed fed).0))
   one_answer (o ∷ os) a b (Reduces.Fails {s = s} {error = e} failed) (Reduces.Fails {s = t} {error = f} failed') =
       same_failure e f (one_given _ s t o (Err e) (Err f) failed failed').0
+
+-- ---- one way to draw items
+
+-- An iterator that shows what is left gives just that.
+pub drained : {I T : Type 0} (steps : I → Option T → I → Type 0) (rest : I → List T) → ((s t : I) → steps s None t → rest s ≡ [])
+    → ((s t : I) (x : T) → steps s (Some x) t → rest s ≡ x ∷ rest t) → (xs : List T) (s : I) → Drains steps s xs → xs ≡ rest s
+drained steps rest stop go [] s all = sym (ap rest all.1.1 ∙ stop all.1.0 all.0 all.1.2)
+drained steps rest stop go (x ∷ xs) s all =
+    ap (λ l. x ∷ l) (drained steps rest stop go xs all.1.1.0 (all.0, (all.1.0, all.1.1.2, all.1.2))) ∙ sym (go s all.1.1.0 x all.1.1.1)
 
 -- where the condition doesn't hold there is one worker
 few_or_more : (n : ℕ) → (n ≤ 1) ⊎ (1 < n)

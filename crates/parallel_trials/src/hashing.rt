@@ -72,10 +72,27 @@ pub fn hash_of_all<H: Threads + Sync>(
 fn messages_of(alloc: Global, count: usize, kib: usize) -> Result<Vec<Message>, NoMemory> {
     let mut messages = Vec::new(alloc);
     for number in 0..count {
-        let piece = vec![in alloc; (number % 256) as u8; 1024]?;
-        messages.push(Message { piece, kib })?;
+        match add_message(alloc, &mut messages, number, kib) {
+            Ok(()) => {}
+            Err(NoMemory) => {
+                drop(messages);
+                return Err(NoMemory);
+            }
+        }
     }
     Ok(messages)
+}
+
+/// Adds the message of a number.
+fn add_message(
+    alloc: Global,
+    messages: &mut Vec<Message>,
+    number: usize,
+    kib: usize,
+) -> Result<(), NoMemory> {
+    let piece = vec![in alloc; (number % 256) as u8; 1024]?;
+    messages.push(Message { piece, kib })?;
+    Ok(())
 }
 
 /// The hash of a message.

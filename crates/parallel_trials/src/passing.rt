@@ -21,9 +21,22 @@ pub fn pass<H: Threads + Wait + Sync>(
 ) -> Result<u64, NoMemory>
     requires few { kib ≤ 65_536 }
 {
-    let (writer, reader) = pipe::unidirectional(alloc, IN_FLIGHT)?;
-    let piece = vec![in alloc; 7u8; kib * 1024]?;
-    let buffer = vec![in alloc; 0u8; kib * 1024]?;
+    let piece = filled(alloc, 7, kib)?;
+    let buffer = match filled(alloc, 0, kib) {
+        Ok(buffer) => buffer,
+        Err(NoMemory) => {
+            drop(piece);
+            return Err(NoMemory);
+        }
+    };
+    let (writer, reader) = match pipe::unidirectional(alloc, IN_FLIGHT) {
+        Ok(ends) => ends,
+        Err(NoMemory) => {
+            drop(piece);
+            drop(buffer);
+            return Err(NoMemory);
+        }
+    };
     let (all, bytes) = join(
         rt,
         move || write_all(rt, alloc, writer, piece.as_slice(), pieces),
@@ -32,11 +45,31 @@ pub fn pass<H: Threads + Wait + Sync>(
     if all { Ok(bytes) } else { Err(NoMemory) }
 }
 
+/// So many KiB of one byte.
+fn filled(alloc: Global, byte: u8, kib: usize) -> Result<Vec<u8>, NoMemory>
+    requires few { kib ≤ 65_536 }
+{
+    Ok(vec![in alloc; byte; kib * 1024]?)
+}
+
 /// Writes a piece so many times, and lets the pipe go. It answers whether all were written.
 fn write_all<H: Wait>(
     rt: &H,
     alloc: Global,
     mut writer: Writer,
+    piece: &[u8],
+    pieces: usize,
+) -> bool {
+    let all = write_each(rt, alloc, &mut writer, piece, pieces);
+    drop(writer);
+    all
+}
+
+/// Writes a piece so many times. It answers whether all were written.
+fn write_each<H: Wait>(
+    rt: &H,
+    alloc: Global,
+    writer: &mut Writer,
     piece: &[u8],
     pieces: usize,
 ) -> bool {
@@ -48,17 +81,23 @@ fn write_all<H: Wait>(
     true
 }
 
-/// Reads to the end. It answers how many bytes came.
+/// Reads to the end, and lets the pipe go. It answers how many bytes came.
 fn read_all<H: Wait>(rt: &H, mut reader: Reader, mut buffer: Vec<u8>) -> u64 {
+    let bytes = read_each(rt, &mut reader, buffer.as_mut_slice());
+    drop(reader);
+    drop(buffer);
+    bytes
+}
+
+/// Reads until a read doesn't fill the buffer, as at the end and where a read fails. It answers how many bytes came.
+fn read_each<H: Wait>(rt: &H, reader: &mut Reader, buffer: &mut [u8]) -> u64 {
     let mut bytes = 0u64;
     for _ in rt.forever() {
-        let Ok(count) = reader.read(rt, buffer.as_mut_slice()) else {
-            return bytes;
-        };
+        let count = reader.read(rt, buffer).unwrap_or(0);
         bytes = bytes.saturating_add(count as u64);
         if count < buffer.len() {
-            return bytes;
+            break;
         }
     }
-    unreachable!()
+    bytes
 }

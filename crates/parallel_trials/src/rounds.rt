@@ -17,10 +17,26 @@ pub fn double_all<H: Threads + Sync>(
     requires some { 0 < workers }
 {
     let mut numbers = ones(alloc, items)?;
+    let doubled = double_each(rt, alloc, numbers.as_mut_slice(), workers);
+    let sum = sum_of(numbers.as_slice());
+    drop(numbers);
+    doubled?;
+    Ok(sum)
+}
+
+/// Has workers double each number.
+fn double_each<H: Threads + Sync>(
+    rt: &H,
+    alloc: Global,
+    numbers: &mut [u64],
+    workers: usize,
+) -> Result<(), ParallelError<NoMemory>>
+    requires some { 0 < workers }
+{
     in_parallel_with_slice(
         rt,
         alloc,
-        numbers.as_mut_slice(),
+        numbers,
         Some(workers),
         1,
         |_| (),
@@ -28,7 +44,7 @@ pub fn double_all<H: Threads + Sync>(
         || Some(()),
         |_state| (),
     )?;
-    Ok(sum_of(numbers.as_slice()))
+    Ok(())
 }
 
 /// So many numbers, each of which is 1.

@@ -6,7 +6,7 @@ use crate::fault::Fault;
 use crate::hashing::hash_of_all;
 use crate::passing::pass;
 use crate::rounds::double_all;
-use crate::stopping::stop_half_way;
+use crate::stopping::{Seen, stop_half_way};
 use crate::trial::Trial;
 use std::alloc::Global;
 use std::sync::Wait;
@@ -25,27 +25,24 @@ pub fn show<R: Threads + Wait + Print + Copy + Send + Sync + 'static>(
             workers,
             messages,
             kib,
-        } => {
-            let number = hash_of_all(rt, alloc, workers, messages, kib)?;
-            println!(rt; "{number}")?;
-        }
-        Trial::Pipe { pieces, kib } => {
-            let bytes = pass(rt, alloc, pieces, kib)?;
-            println!(rt; "{bytes}")?;
-        }
-        Trial::Stop { items, workers } => {
-            let seen = stop_half_way(rt, alloc, items, workers)?;
-            let (read, written, back) = (seen.read, seen.written, seen.came_back);
-            println!(rt; "read {read}, written {written}, came back {back}")?;
-        }
+        } => show_number(rt, hash_of_all(rt, alloc, workers, messages, kib)?),
+        Trial::Pipe { pieces, kib } => show_number(rt, pass(rt, alloc, pieces, kib)?),
+        Trial::Stop { items, workers } => show_seen(rt, stop_half_way(rt, alloc, items, workers)?),
         Trial::Draw { items, chunk_size } => {
             let count = draw_half(*rt, alloc, items, chunk_size)?;
-            println!(rt; "{count}")?;
+            show_number(rt, u64::from(count))
         }
-        Trial::Slice { items, workers } => {
-            let sum = double_all(rt, alloc, items, workers)?;
-            println!(rt; "{sum}")?;
-        }
+        Trial::Slice { items, workers } => show_number(rt, double_all(rt, alloc, items, workers)?),
     }
-    Ok(())
+}
+
+/// Prints a number.
+fn show_number<R: Print>(rt: &R, number: u64) -> Result<(), Fault> {
+    Ok(println!(rt; "{number}")?)
+}
+
+/// Prints what was seen of workers whose reader goes.
+fn show_seen<R: Print>(rt: &R, seen: Seen) -> Result<(), Fault> {
+    let (read, written, back) = (seen.read, seen.written, seen.came_back);
+    Ok(println!(rt; "read {read}, written {written}, came back {back}")?)
 }

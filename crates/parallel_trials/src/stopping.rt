@@ -75,8 +75,14 @@ pub fn stop_half_way<H: Threads + Wait + Sync>(
 ) -> Result<Seen, ParallelError<NoMemory>>
     requires some { 0 < workers }
 {
-    let (writer, reader) = pipe::unidirectional(alloc, IN_FLIGHT)?;
     let is_new = notes(alloc, items as usize)?;
+    let (writer, reader) = match pipe::unidirectional(alloc, IN_FLIGHT) {
+        Ok(ends) => ends,
+        Err(NoMemory) => {
+            drop(is_new);
+            return Err(ParallelError::NoMemory);
+        }
+    };
     let (counts, read) = join(
         rt,
         move || -> Result<(u32, u32), ParallelError<NoMemory>>

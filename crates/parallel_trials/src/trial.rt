@@ -1,6 +1,6 @@
 //! What the words of the command line ask for.
 ghost use Rattle.std.specs.Prelude.{◌<◌, ◌≤◌, ⊤, IfSome};
-ghost use Rattle.parallel_trials.specs.Asked.{IsBounded};
+ghost use Rattle.parallel_trials.specs.Asked.{IsBounded, IsFew};
 
 use odb_base::parse_decimal;
 
@@ -38,26 +38,38 @@ pub fn trial_of(words: &[String]) -> Option<Trial>
     ensures bounded { IfSome result IsBounded }
 {
     match words {
+        [name, first, second] => with_two(name.as_str(), number(first)?, number(second)?),
         [name, workers, messages, kib] if name.as_str() == "hash" => Some(Trial::Hash {
             workers: number(workers)?,
             messages: number(messages)?,
             kib: number(kib)?,
         }),
-        [name, pieces, kib] if name.as_str() == "pipe" => Some(Trial::Pipe {
-            pieces: number(pieces)?,
-            kib: number(kib)?,
+        _ => None,
+    }
+}
+
+/// The trial of a name and two numbers, if there is one.
+fn with_two(name: &str, first: usize, second: usize) -> Option<Trial>
+    requires first { IsFew first }
+    requires second { IsFew second }
+    ensures bounded { IfSome result IsBounded }
+{
+    match name {
+        "pipe" => Some(Trial::Pipe {
+            pieces: first,
+            kib: second,
         }),
-        [name, items, workers] if name.as_str() == "stop" => Some(Trial::Stop {
-            items: number(items)? as u32,
-            workers: number(workers)?,
+        "stop" => Some(Trial::Stop {
+            items: first as u32,
+            workers: second,
         }),
-        [name, items, chunk_size] if name.as_str() == "draw" => Some(Trial::Draw {
-            items: number(items)? as u32,
-            chunk_size: number(chunk_size)?,
+        "draw" => Some(Trial::Draw {
+            items: first as u32,
+            chunk_size: second,
         }),
-        [name, items, workers] if name.as_str() == "slice" => Some(Trial::Slice {
-            items: number(items)?,
-            workers: number(workers)?,
+        "slice" => Some(Trial::Slice {
+            items: first,
+            workers: second,
         }),
         _ => None,
     }

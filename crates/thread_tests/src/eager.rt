@@ -1,9 +1,11 @@
 //! Numbers that are drawn ahead.
-ghost use Rattle.std.specs.Prelude.{◌<◌};
+ghost use Rattle.std.specs.Prelude.{◌<◌, ⊤};
+ghost use Rattle.gix_features_eager.specs.Eager.{IsReadyIf};
 
 use gix_features_eager::{EagerIter, EagerIterIf};
 use odb_disk::NoMemory;
 use std::alloc::Global;
+use std::ops::Range;
 use std::sync::Wait;
 use std::test::Fail;
 use std::thread::Threads;
@@ -56,12 +58,10 @@ fn draws_ahead(rt: HostRuntime) -> Result<(), Fail> {
     Ok(())
 }
 
-/// Whether the numbers from 1 to 3 are given and then the end, where it is chosen whether they are drawn ahead.
-fn is_chosen<H: Threads + Wait + Copy + Send + 'static>(rt: H, alloc: Global, ahead: bool) -> bool {
-    let Ok(mut numbers) = EagerIterIf::new(rt, alloc, move || ahead, 1..4u32, 2, 1) else {
-        return false;
-    };
-    let is_ahead = matches!(&numbers, EagerIterIf::Eager(_));
+/// Whether the numbers from 1 to 3 are given and then the end.
+fn gives_three<H: Threads + Wait + Copy>(numbers: &mut EagerIterIf<Range<u32>, H>) -> bool
+    requires ready { IsReadyIf (λ _. ⊤) numbers.old }
+{
     let Some(Ok(first)) = numbers.next() else {
         return false;
     };
@@ -72,7 +72,18 @@ fn is_chosen<H: Threads + Wait + Copy + Send + 'static>(rt: H, alloc: Global, ah
         return false;
     };
     let last = number_of(numbers.next());
-    is_ahead == ahead && [first, second, third, last] == [1, 2, 3, 0]
+    [first, second, third, last] == [1, 2, 3, 0]
+}
+
+/// The same where it is chosen whether they are drawn ahead.
+fn is_chosen<H: Threads + Wait + Copy + Send + 'static>(rt: H, alloc: Global, ahead: bool) -> bool {
+    let Ok(mut numbers) = EagerIterIf::new(rt, alloc, move || ahead, 1..4u32, 2, 1) else {
+        return false;
+    };
+    let is_ahead = matches!(&numbers, EagerIterIf::Eager(_));
+    let is_given = gives_three(&mut numbers);
+    drop(numbers);
+    is_ahead == ahead && is_given
 }
 
 // Catches a condition that isn't heeded, and want of memory in place of the end.

@@ -10,4 +10,6 @@ mod scopes;
 #[cfg(test)]
 mod slices;
 #[cfg(test)]
+mod sums;
+#[cfg(test)]
 mod workers;

@@ -1,4 +1,7 @@
 //! Bytes that go through a pipe.
+ghost use Rattle.std.specs.Prelude.{◌≡◌, ◌++◌, List, map, take, IfSome};
+ghost use Rattle.gix_features_pipe.specs.Pipe.{Item, Byte, items_of, written, AreEnds, IsBegun};
+
 use gix_features_pipe::pipe;
 use gix_features_pipe::pipe::{Gone, PipeError, Reader, Writer};
 use odb_disk::{ByteList, NoMemory};
@@ -8,13 +11,26 @@ use std::test::Fail;
 use std::thread;
 use std::thread::Threads;
 
-/// Writes two pieces, and lets the pipe go.
-fn write_two<R: Wait>(rt: &R, alloc: Global, mut writer: Writer) -> bool {
-    writer.write(rt, alloc, b"abc").is_ok() && writer.write(rt, alloc, b"d").is_ok()
+/// Whether a piece could be written.
+fn is_put<R: Wait>(rt: &R, alloc: Global, writer: &mut Writer, bytes: &[u8]) -> bool {
+    writer.write(rt, alloc, bytes).is_ok()
 }
 
-fn read_all<R: Wait>(rt: &R, mut reader: Reader, out: &mut [u8]) -> Result<usize, PipeError> {
-    reader.read(rt, out)
+/// How many bytes are read, or 9 where an error is answered.
+fn count_read<R: Wait>(rt: &R, reader: &mut Reader, out: &mut [u8]) -> usize {
+    reader.read(rt, out).unwrap_or(9)
+}
+
+/// Writes two pieces, and lets the pipe go.
+fn write_two<R: Wait>(rt: &R, alloc: Global, mut writer: Writer) -> bool {
+    let first = is_put(rt, alloc, &mut writer, b"abc");
+    let second = is_put(rt, alloc, &mut writer, b"d");
+    first && second
+}
+
+/// How many bytes are read, or 9 where an error is answered. The pipe is let go.
+fn read_all<R: Wait>(rt: &R, mut reader: Reader, out: &mut [u8]) -> usize {
+    count_read(rt, &mut reader, out)
 }
 
 /// Whether both pieces were written, and how many bytes were read meanwhile.
@@ -24,7 +40,7 @@ fn relay<R: Threads + Wait + Sync>(
     writer: Writer,
     reader: Reader,
     out: &mut [u8],
-) -> (bool, Result<usize, PipeError>) {
+) -> (bool, usize) {
     thread::join(
         rt,
         move || write_two(rt, alloc, writer),
@@ -38,11 +54,17 @@ fn reads(rt: HostRuntime) -> Result<(), Fail> {
     let alloc: Global = rt.alloc();
     let (writer, reader) = pipe::unidirectional(alloc, 1)?;
     let mut out = [0u8; 8];
-    let (written, read) = relay(&rt, alloc, writer, reader, &mut out);
-    assert!(rt; written);
-    assert_eq!(rt; read?, 4);
-    assert_eq!(rt; out[..4], b"abcd"[..4]);
+    let (written, count) = relay(&rt, alloc, writer, reader, &mut out);
+    assert!(rt; written && count == 4 && out[..4] == b"abcd"[..4]);
     Ok(())
+}
+
+/// How many bytes come back of a piece that nobody reads.
+fn back<R: Wait>(rt: &R, alloc: Global, writer: &mut Writer) -> usize {
+    match writer.write(rt, alloc, b"abc") {
+        Err(Gone::Piece(piece)) => piece.len(),
+        _ => 0,
+    }
 }
 
 // Catches a piece that is lost where nobody reads it.
@@ -51,20 +73,19 @@ fn gone(rt: HostRuntime) -> Result<(), Fail> {
     let alloc: Global = rt.alloc();
     let (mut writer, reader) = pipe::unidirectional(alloc, 1)?;
     drop(reader);
-    let back = match writer.write(&rt, alloc, b"abc") {
-        Err(Gone::Piece(piece)) => piece.len(),
-        _ => 0,
-    };
-    assert_eq!(rt; back, 3);
+    let count = back(&rt, alloc, &mut writer);
+    drop(writer);
+    assert_eq!(rt; count, 3);
     Ok(())
 }
 
 /// Sends an error between two pieces of two bytes. It answers whether all are in the pipe.
 fn fail<R: Wait>(rt: &R, alloc: Global, writer: &mut Writer) -> Result<bool, NoMemory> {
     let error = error_of(alloc, b"no")?;
-    let is_begun = writer.write(rt, alloc, b"ab").is_ok();
+    let is_begun = is_put(rt, alloc, writer, b"ab");
     let is_sent = writer.send_error(rt, error).is_ok();
-    Ok(is_begun && is_sent && writer.write(rt, alloc, b"cd").is_ok())
+    let is_ended = is_put(rt, alloc, writer, b"cd");
+    Ok(is_begun && is_sent && is_ended)
 }
 
 /// Whether an answer is the error that was sent.
@@ -75,16 +96,24 @@ fn is_no<T: Drop>(answer: Result<T, PipeError>) -> bool {
     }
 }
 
+/// Whether the bytes before an error are read, and then the error.
+fn reads_before<R: Wait>(rt: &R, reader: &mut Reader) -> bool {
+    let mut out = [0u8; 4];
+    let count = count_read(rt, reader, &mut out);
+    let has_failed = is_no(reader.read(rt, &mut out));
+    count == 2 && has_failed
+}
+
 // Catches bytes that are lost before an error, and an error that is passed over, or is another one.
 #[test]
 fn fails(rt: HostRuntime) -> Result<(), Fail> {
     let alloc: Global = rt.alloc();
     let (mut writer, mut reader) = pipe::unidirectional(alloc, 3)?;
-    let is_sent = fail(&rt, alloc, &mut writer)?;
-    let mut out = [0u8; 4];
-    let count = reader.read(&rt, &mut out).unwrap_or(0);
-    let has_failed = is_no(reader.read(&rt, &mut out));
-    assert!(rt; is_sent && count == 2 && has_failed);
+    let is_sent = fail(&rt, alloc, &mut writer);
+    let is_read = reads_before(&rt, &mut reader);
+    drop(writer);
+    drop(reader);
+    assert!(rt; is_sent? && is_read);
     Ok(())
 }
 
@@ -96,19 +125,35 @@ fn first_of(bytes: Result<&[u8], PipeError>) -> u8 {
     }
 }
 
+/// Whether the bytes before an error are lent, and then the error, and then the bytes behind it.
+fn lends_around<R: Wait>(rt: &R, reader: &mut Reader) -> bool {
+    let first = first_of(reader.fill_buf(rt));
+    reader.consume(2);
+    let has_failed = is_no(reader.fill_buf(rt));
+    let last = first_of(reader.fill_buf(rt));
+    first == b'a' && has_failed && last == b'c'
+}
+
 // Catches an error that stands before the bytes at hand, is passed over, is another one or is answered again, and bytes that are
 // lost behind it.
 #[test]
 fn fails_between(rt: HostRuntime) -> Result<(), Fail> {
     let alloc: Global = rt.alloc();
     let (mut writer, mut reader) = pipe::unidirectional(alloc, 3)?;
-    let is_sent = fail(&rt, alloc, &mut writer)?;
-    let first = first_of(reader.fill_buf(&rt));
-    reader.consume(2);
-    let has_failed = is_no(reader.fill_buf(&rt));
-    let last = first_of(reader.fill_buf(&rt));
-    assert!(rt; is_sent && first == b'a' && has_failed && last == b'c');
+    let is_sent = fail(&rt, alloc, &mut writer);
+    let is_lent = lends_around(&rt, &mut reader);
+    drop(writer);
+    drop(reader);
+    assert!(rt; is_sent? && is_lent);
     Ok(())
+}
+
+/// Whether bytes are lent, and then those that weren't used.
+fn lends_rest<R: Wait>(rt: &R, reader: &mut Reader) -> bool {
+    let first = first_of(reader.fill_buf(rt));
+    reader.consume(2);
+    let third = first_of(reader.fill_buf(rt));
+    first == b'a' && third == b'c'
 }
 
 // Catches bytes that are lent again once they were used.
@@ -116,11 +161,11 @@ fn fails_between(rt: HostRuntime) -> Result<(), Fail> {
 fn lends(rt: HostRuntime) -> Result<(), Fail> {
     let alloc: Global = rt.alloc();
     let (mut writer, mut reader) = pipe::unidirectional(alloc, 1)?;
-    let is_written = writer.write(&rt, alloc, b"abc").is_ok();
-    let first = first_of(reader.fill_buf(&rt));
-    reader.consume(2);
-    let third = first_of(reader.fill_buf(&rt));
-    assert!(rt; is_written && first == b'a' && third == b'c');
+    let is_written = is_put(&rt, alloc, &mut writer, b"abc");
+    let is_lent = lends_rest(&rt, &mut reader);
+    drop(writer);
+    drop(reader);
+    assert!(rt; is_written && is_lent);
     Ok(())
 }
 
@@ -131,12 +176,18 @@ fn error_of(alloc: Global, text: &[u8]) -> Result<PipeError, NoMemory> {
 
 /// Whether an error comes back that nobody takes.
 fn comes_back<R: Wait>(rt: &R, alloc: Global) -> Result<bool, NoMemory> {
-    let (mut writer, reader) = pipe::unidirectional(alloc, 1)?;
+    let error = error_of(alloc, b"no")?;
+    let (mut writer, reader) = match pipe::unidirectional(alloc, 1) {
+        Ok(ends) => ends,
+        Err(NoMemory) => {
+            drop(error);
+            return Err(NoMemory);
+        }
+    };
     drop(reader);
-    match writer.send_error(rt, error_of(alloc, b"no")?) {
-        Ok(()) => Ok(false),
-        Err(PipeError::Sent(text)) => Ok(text.as_slice() == b"no".as_slice()),
-    }
+    let sent = writer.send_error(rt, error);
+    drop(writer);
+    Ok(is_no(sent))
 }
 
 // Catches an error that is lost where nobody reads it.
@@ -150,10 +201,14 @@ fn error_gone(rt: HostRuntime) -> Result<(), Fail> {
 /// A reader of a pipe into which these bytes were written and whose writer is gone.
 fn left_with<R: Wait>(rt: &R, alloc: Global, bytes: &[u8]) -> Result<Reader, NoMemory> {
     let (mut writer, reader) = pipe::unidirectional(alloc, 1)?;
-    if writer.write(rt, alloc, bytes).is_err() || writer.flush().is_err() {
-        return Err(NoMemory);
+    let is_written = is_put(rt, alloc, &mut writer, bytes) && writer.flush().is_ok();
+    drop(writer);
+    if is_written {
+        Ok(reader)
+    } else {
+        drop(reader);
+        Err(NoMemory)
     }
-    Ok(reader)
 }
 
 /// Whether a reader has these bytes at hand once it was filled.
@@ -169,20 +224,25 @@ fn lent<R: Wait>(rt: &R, reader: &mut Reader) -> usize {
     }
 }
 
+/// Whether these bytes are at hand, are read, and the end comes behind them each time that it is asked for.
+fn ends_behind<R: Wait>(rt: &R, reader: &mut Reader, bytes: &[u8]) -> bool {
+    let is_at_hand = is_filled(rt, reader, bytes);
+    let mut out = [0u8; 4];
+    let first = count_read(rt, reader, &mut out);
+    let second = count_read(rt, reader, &mut out);
+    let third = lent(rt, reader);
+    is_at_hand && first == bytes.len() && second == 0 && third == 0 && is_filled(rt, reader, b"")
+}
+
 // Catches bytes that aren't at hand once they were waited for, an end that is taken for an error, and an end that isn't the end
 // at the next read.
 #[test]
 fn ends(rt: HostRuntime) -> Result<(), Fail> {
     let alloc: Global = rt.alloc();
     let mut reader = left_with(&rt, alloc, b"abc")?;
-    let is_at_hand = is_filled(&rt, &mut reader, b"abc");
-    let mut out = [0u8; 4];
-    let first = reader.read(&rt, &mut out).unwrap_or(9);
-    let second = reader.read(&rt, &mut out).unwrap_or(9);
-    let third = lent(&rt, &mut reader);
-    assert!(rt;
-        is_at_hand && first == 3 && second == 0 && third == 0 && is_filled(&rt, &mut reader, b"")
-    );
+    let is_right = ends_behind(&rt, &mut reader, b"abc");
+    drop(reader);
+    assert!(rt; is_right);
     Ok(())
 }
 
@@ -191,9 +251,11 @@ fn read_together<R: Wait>(rt: &R, alloc: Global) -> Result<[u8; 4], NoMemory> {
     let (mut writer, reader) = pipe::unidirectional(alloc, 2)?;
     let is_begun = writer.write(rt, alloc, b"ab").is_ok();
     let (mut writer, mut reader) = pipe::together(writer, reader);
-    let is_written = writer.write(rt, alloc, b"cd").is_ok();
+    let is_written = is_put(rt, alloc, &mut writer, b"cd");
     let mut out = [0u8; 4];
-    let count = reader.read(rt, &mut out).unwrap_or(0);
+    let count = count_read(rt, &mut reader, &mut out);
+    drop(writer);
+    drop(reader);
     if is_begun && is_written && count == 4 {
         Ok(out)
     } else {
@@ -206,5 +268,39 @@ fn read_together<R: Wait>(rt: &R, alloc: Global) -> Result<[u8; 4], NoMemory> {
 fn one_thread(rt: HostRuntime) -> Result<(), Fail> {
     let alloc: Global = rt.alloc();
     assert!(rt; read_together(&rt, alloc)? == *b"abcd");
+    Ok(())
+}
+
+/// What is read first of a pipe, both of whose ends are in one thread, is what was written first.
+fn read_first<R: Wait>(rt: &R, writer: Writer, mut reader: Reader, out: &mut [u8]) -> Option<usize>
+    requires ends { AreEnds writer reader }
+    requires begun { IsBegun reader }
+    ensures first { IfSome result (λ count. (later : List Item) × (items_of (written writer) ≡ map Byte (take count out.new) ++ later)) }
+{
+    match reader.read(rt, out) {
+        Ok(count) => {
+            let (writer, reader) = pipe::together(writer, reader);
+            drop(writer);
+            drop(reader);
+            Some(count)
+        }
+        Err(error) => {
+            drop(error);
+            drop(writer);
+            drop(reader);
+            None
+        }
+    }
+}
+
+// Catches a read that gives nothing, or no byte at all, both of which `first` allows.
+#[test]
+fn first_bytes(rt: HostRuntime) -> Result<(), Fail> {
+    let alloc: Global = rt.alloc();
+    let (mut writer, reader) = pipe::unidirectional(alloc, 1)?;
+    let is_written = writer.write(&rt, alloc, b"abc").is_ok();
+    let mut out = [0u8; 2];
+    let count = read_first(&rt, writer, reader, &mut out);
+    assert!(rt; is_written && count == Some(2) && out == *b"ab");
     Ok(())
 }

@@ -69,6 +69,16 @@ fn doubled(item: u32, count: &mut u32) -> u32 {
     item.wrapping_mul(2)
 }
 
+/// A worker's count at the beginning.
+fn none(_worker: usize) -> u32 {
+    0
+}
+
+/// A worker's count at the end.
+fn last(count: u32) -> u32 {
+    count
+}
+
 /// A call.
 #[derive(Clone, Copy)]
 enum Call {
@@ -92,7 +102,7 @@ fn answer_of<'f, H: Threads + Sync, C: Fn(u32, &mut u32) -> u32 + Sync + Drop>(
     requires consumes { C.IsAlwaysCallable consume }
 {
     match call {
-        Call::Plain => in_parallel(rt, alloc, 1..4u32, None, 2, |_| 0, consume, list),
+        Call::Plain => in_parallel(rt, alloc, 1..4u32, None, 2, none, consume, list),
         Call::If(holds) => in_parallel_if(
             rt,
             alloc,
@@ -100,7 +110,7 @@ fn answer_of<'f, H: Threads + Sync, C: Fn(u32, &mut u32) -> u32 + Sync + Drop>(
             1..4u32,
             None,
             2,
-            |_| 0,
+            none,
             consume,
             list,
         ),
@@ -110,9 +120,9 @@ fn answer_of<'f, H: Threads + Sync, C: Fn(u32, &mut u32) -> u32 + Sync + Drop>(
             1..4u32,
             Some(2),
             1,
-            |_| 0,
+            none,
             consume,
-            |count| count,
+            last,
             list,
         ),
         Call::Steps(steps) => stepped(rt, alloc, steps, consume, list),
@@ -129,7 +139,7 @@ fn stepped<'f, H: Threads + Sync, C: Fn(u32, &mut u32) -> u32 + Sync + Drop>(
 ) -> Result<Vec<u32>, ParallelError<Refused>>
     requires consumes { C.IsAlwaysCallable consume }
 {
-    let mut rest = Stepwise::new(rt, alloc, 1..4u32, None, 2, |_| 0, consume, list)?;
+    let mut rest = Stepwise::new(rt, alloc, 1..4u32, None, 2, none, consume, list)?;
     for _ in 0..steps {
         let _ = rest.next(rt);
     }

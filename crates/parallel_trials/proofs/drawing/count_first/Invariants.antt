@@ -1,6 +1,6 @@
 use Rattle.std.specs.Prelude.{⊤}
 use Rattle.gix_features_eager.specs.Eager.{IsReady}
-use Rattle.parallel_trials.proofs.drawing.draw_half.Given as goal
+use Rattle.parallel_trials.proofs.drawing.count_first.Given as goal
 
 -- the numbers may be asked
 abbrev pub invariant-loop-wanted : goal.invariant-loop-wanted
