@@ -97,6 +97,19 @@ def beside(count):
     return joined(["mkdir /q", *put("pack-a", range(10), 1)], 4, [*changes, found(7)])
 
 
+def among_links(count):
+    """So many files that other programs put and remove in a pack directory in which one watched name is a link, and put where that link leads, while the tree grows; and then one find."""
+    lines = ["do put /q/note-%d 1 68", "do put /o/pack/pack-%d.idx 1 68", "do remove /o/pack/pack-%d.idx"]
+    changes = [([line % it for line in lines] + ["do put /q/z 1 68"], ["applied"] * 4) for it in range(count)]
+    return joined(["mkdir /q", "link /o/pack/pack-z.idx /q/z", *put("pack-a", range(10), 1)], 4, [*changes, found(7)])
+
+
+def linked_in(count):
+    """So many files that other programs put elsewhere and link into the pack directory of an open store, and then one find."""
+    changes = [(["do put /q/pack-%d.idx 1 68" % it, "do link /o/pack/pack-%d.idx /q/pack-%d.idx" % (it, it)], ["applied"] * 2) for it in range(count)]
+    return joined(["mkdir /q", *put("pack-a", range(10), 1)], 4, [*changes, found(7)])
+
+
 CASES = {
     "objects in one pack": (one_pack, (1000, 4000, 16000)),
     "packs": (many_packs, (20, 80, 320)),
@@ -106,6 +119,8 @@ CASES = {
     "writes without packs": (unlisted, (2000, 8000)),
     "stores in folders of their own": (own_folders, (500, 2000)),
     "links and directories beside": (beside, (2000, 8000)),
+    "packs among links": (among_links, (2000, 8000)),
+    "indices linked in": (linked_in, (2000, 8000)),
 }
 
 
