@@ -16,16 +16,9 @@ use Rattle.odb_nodes.specs.declared.node.Content.TheVariants.{File, Dir, Link}
 use Rattle.odb_nodes.proofs.TreeLemmas.{same_path}
 use Rattle.odb_nodes.proofs.TreeLemmas.Change.{name_in-push}
 use Rattle.gix_odb_shown.specs.Files.{listed}
+use Rattle.gix_odb_shown.specs.Sight.{HasName}
 use Rattle.gix_odb_shown.specs.Ways.{IsIn}
 use Rattle.gix_odb_shown.proofs.ListLemmas.{in_filter_map}
-
--- a path leads to a directory that has a name
-pub record HasName (t : Tree) (name : Name) (told : Result Place Refusal) : Type 0 where
-  pub place : Place
-  pub leads : told ≡ Ok place
-  pub directory : place.node.content ≡ Dir
-  pub node : Node
-  pub stands : node_at t (place.path ++ name ∷ []) ≡ Some node
 
 -- ---- what a directory says of a name in it
 

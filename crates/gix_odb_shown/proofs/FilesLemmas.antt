@@ -1,23 +1,20 @@
 -- The files that a tree shows in a pack directory, as what its paths show.
-use Rattle.std.proofs.Common.{◌≡◌, inl, inr, ℕ, true, List, [], ◌∷◌, ◌++◌, Option, Some, None, Result, Ok, Err, refl, sym, ap, ◌∙◌, subst}
-use Rattle.std.specs.List.{flat_map}
+use Rattle.std.proofs.Common.{◌≡◌, ◌⊎◌, inl, inr, ℕ, true, List, [], ◌∷◌, ◌++◌, Option, Some, None, Result, Ok, Err, refl, sym, ap, ◌∙◌, subst}
 use Rattle.std.specs.Ordering.{eq_by_cmp}
 use Rattle.std.specs.FinSet as set
-use Rattle.odb_base.specs.Path.{Name, Path, path_cmp}
+use Rattle.odb_base.specs.Path.{Name, Path, last_name, path_cmp}
 use Rattle.odb_base.specs.PathLaws.{path_order}
 use Rattle.odb_nodes.specs.Tree.{Tree}
 use Rattle.odb_nodes.specs.Tree.Follow.{Refusal, read_of}
-use Rattle.odb_nodes.specs.Entries.{entry_of}
-use Rattle.odb_nodes.specs.declared.entry.Entry.{Entry}
 use Rattle.odb_nodes.proofs.TreeLemmas.{same_path, own_path}
-use Rattle.gix_odb_shown.specs.Watched.{Shows, pack_directory, watched_kind, counted}
-use Rattle.gix_odb_shown.specs.Kept.{Folders, ShowsInOne}
-use Rattle.gix_odb_shown.specs.Files.{Reveals, file_read, files_at, files_in, listed}
+use Rattle.gix_odb_shown.specs.Watched.{Shows, counted, named_kind, pack_directory, watched_kind}
+use Rattle.gix_odb_shown.specs.Files.{AreFilesIn, AreFilesOf, Reveals, file_at, file_read}
 use Rattle.gix_odb_shown.specs.Ways.{IsIn}
 use Rattle.gix_odb_shown.specs.declared.watched.WatchedKind.{WatchedKind}
 use Rattle.gix_odb_shown.specs.declared.shown_file.ShownFile.{ShownFile}
-use Rattle.gix_odb_shown.proofs.ListLemmas.{in_flat_map, of_flat_map, one_passes, passes_one}
-use Rattle.gix_odb_shown.proofs.EntryLemmas.{read_has_name, has_entry}
+use Rattle.gix_odb_shown.proofs.ListLemmas.{in_either, in_flat_map, in_left, in_right, of_flat_map, one_passes, passes_one}
+use Rattle.gix_odb_shown.proofs.NameLemmas.{last_name-push}
+use Rattle.gix_odb_shown.proofs.EntryLemmas.{read_has_name}
 
 module _ (folder : Path) (tree : Tree) where
   -- a file that is read is shown
@@ -30,39 +27,44 @@ module _ (folder : Path) (tree : Tree) where
       (record { name = name; path_is = path_is; kind = kind; is_watched = is; at = found.1; reads = reads; counts = refl })
   read_shows name path path_is (Some kind) is (Ok found) reads file (inr none) = absurd none
 
-  pub at_shows : (name : Name) (file : ShownFile) → IsIn (files_at tree (pack_directory folder) name) file → Shows folder tree file.key.0 file.key.1 file.bytes
-  at_shows name file one =
-      read_shows name (pack_directory folder ++ name ∷ []) refl (watched_kind name) refl (read_of tree (pack_directory folder ++ name ∷ [])) refl file one
+  kind_of_name : (name : Name) (path : Path) → path ≡ pack_directory folder ++ name ∷ [] → named_kind (last_name path) ≡ watched_kind name
+  kind_of_name name path path_is = ap named_kind (ap last_name path_is ∙ last_name-push (pack_directory folder) name)
+
+  pub at_shows : (name : Name) (path : Path) → path ≡ pack_directory folder ++ name ∷ [] → (file : ShownFile) → IsIn (file_at tree path) file
+      → Shows folder tree file.key.0 file.key.1 file.bytes
+  at_shows name path path_is file one =
+      read_shows name path path_is (named_kind (last_name path)) (sym (kind_of_name name path path_is)) (read_of tree path) refl file one
 
   -- and what is shown is read
-  pub shown_at : (path : Path) (time : ℕ) (bytes : List ℕ) → (s : Shows folder tree path time bytes) → IsIn (files_at tree (pack_directory folder) s.name) (record { key = (path, time); bytes = bytes })
+  pub shown_at : (path : Path) (time : ℕ) (bytes : List ℕ) → Shows folder tree path time bytes → IsIn (file_at tree path) (record { key = (path, time); bytes = bytes })
   shown_at path time bytes s =
       subst (λ (told : List ShownFile). IsIn told (record { key = (path, time); bytes = bytes })) (sym reading)
-      (inl (ap (λ (k : Path × ℕ). record { key = k; bytes = bytes }) key))
+      (inl (ap (λ (t : ℕ). record { key = (path, t); bytes = bytes }) s.counts))
     where
-      own : Path
-      own = pack_directory folder ++ s.name ∷ []
-
-      key : ◌≡◌ {A = Path × ℕ} (own, counted s.kind s.at) (path, time)
-      key = λ i. (sym s.path_is i, s.counts i)
-
-      reading : files_at tree (pack_directory folder) s.name ≡ record { key = (own, counted s.kind s.at); bytes = bytes } ∷ []
+      reading : file_at tree path ≡ record { key = (path, counted s.kind s.at); bytes = bytes } ∷ []
       reading =
-          ap (λ kind. file_read own kind (read_of tree own)) s.is_watched
-          ∙ ap (λ told. file_read own (Some s.kind) told) (ap (read_of tree) (sym s.path_is) ∙ s.reads)
+          ap (λ kind. file_read path kind (read_of tree path)) (kind_of_name s.name path s.path_is ∙ s.is_watched)
+          ∙ ap (λ told. file_read path (Some s.kind) told) s.reads
 
-  -- what the directory's files are
-  pub in_shows : (file : ShownFile) → IsIn (files_in tree folder) file → Shows folder tree file.key.0 file.key.1 file.bytes
-  unfolding files_in
-  in_shows file one =
-      let o = of_flat_map (λ (entry : Entry). files_at tree (pack_directory folder) entry.name) (listed tree (pack_directory folder)) file one in at_shows o.0.name file o.2
+-- what the directory's files are
+pub in_shows : (folder : Path) (tree : Tree) (files : List ShownFile) → AreFilesIn tree folder files → (file : ShownFile) → IsIn files file
+    → Shows folder tree file.key.0 file.key.1 file.bytes
+in_shows folder tree files a file one =
+    let o = of_flat_map (file_at tree) a.paths file (subst (λ (l : List ShownFile). IsIn l file) a.are one) in
+    let n = a.watched.only o.0 o.1 in
+    at_shows folder tree n.0 o.0 n.1 file o.2
 
-  pub shown_in : (path : Path) (time : ℕ) (bytes : List ℕ) → Shows folder tree path time bytes → IsIn (files_in tree folder) (record { key = (path, time); bytes = bytes })
-  unfolding files_in
-  shown_in path time bytes s =
-      let h = read_has_name tree s.name (pack_directory folder) (bytes, s.at) (ap (read_of tree) (sym s.path_is) ∙ s.reads) in
-      in_flat_map (λ (entry : Entry). files_at tree (pack_directory folder) entry.name) (listed tree (pack_directory folder)) (entry_of h.node s.name)
-      (record { key = (path, time); bytes = bytes }) (has_entry tree (pack_directory folder) s.name h) (shown_at path time bytes s)
+pub shown_in : (folder : Path) (tree : Tree) (files : List ShownFile) → AreFilesIn tree folder files → (path : Path) (time : ℕ) (bytes : List ℕ)
+    → Shows folder tree path time bytes → IsIn files (record { key = (path, time); bytes = bytes })
+shown_in folder tree files a path time bytes s =
+    subst (λ (l : List ShownFile). IsIn l (record { key = (path, time); bytes = bytes })) (sym a.are)
+    (in_flat_map (file_at tree) a.paths path (record { key = (path, time); bytes = bytes }) (subst (IsIn a.paths) (sym s.path_is) among)
+    (shown_at folder tree path time bytes s))
+  where
+    among : IsIn a.paths (pack_directory folder ++ s.name ∷ [])
+    among =
+        a.watched.whole s.name s.kind s.is_watched
+        (read_has_name tree s.name (pack_directory folder) (bytes, s.at) (ap (read_of tree) (sym s.path_is) ∙ s.reads))
 
 -- ---- the files of several folders
 
@@ -74,18 +76,39 @@ keys_among keys folder among =
     let o = one_passes (eq_by_cmp path_cmp folder) keys (sym (set.contains-from_list path_order keys folder) ∙ among) in
     subst (IsIn keys) (sym (same_path folder o.0 o.2)) o.1
 
-module _ (keys : List Path) (tree : Tree) where
-  abbrev folders : Folders
-  folders = set.from_list keys
+-- all that they show is among all that they show, whatever they showed before
+pub all_revealed : (keys : List Path) (before after : Tree) (files : List ShownFile) → AreFilesOf after keys files → Reveals (set.from_list keys) before after files
+all_revealed keys before after files a = record {
+  shown = λ file one. let s = a.shown file one in record { folder = s.0; among = among_keys keys s.0 s.1; shows = s.2 };
+  whole = λ path time bytes s. inr (a.whole s.folder (keys_among keys s.folder s.among) path time bytes s.shows);
+}
 
-  pub all_show : (file : ShownFile) → IsIn (flat_map (files_in tree) keys) file → ShowsInOne folders tree file.key.0 file.key.1 file.bytes
-  all_show file one =
-      let o = of_flat_map (files_in tree) keys file one in record { folder = o.0; among = among_keys keys o.0 o.1; shows = in_shows o.0 tree file o.2 }
+-- The files so far, where some of the folders are left.
+pub record AreFilesSoFar (tree : Tree) (keys left : List Path) (files : List ShownFile) : Type 0 where
+  pub shown : (file : ShownFile) → IsIn files file → (folder : Path) × IsIn keys folder × Shows folder tree file.key.0 file.key.1 file.bytes
+  pub keyed : (folder : Path) → IsIn left folder → IsIn keys folder
+  pub whole : (folder : Path) → IsIn keys folder → IsIn left folder ⊎ ((path : Path) (time : ℕ) (bytes : List ℕ) → Shows folder tree path time bytes
+      → IsIn files (record { key = (path, time); bytes = bytes }))
 
-  pub shown_by_one : (path : Path) (time : ℕ) (bytes : List ℕ) → ShowsInOne folders tree path time bytes → IsIn (flat_map (files_in tree) keys) (record { key = (path, time); bytes = bytes })
-  shown_by_one path time bytes s =
-      in_flat_map (files_in tree) keys s.folder (record { key = (path, time); bytes = bytes }) (keys_among keys s.folder s.among) (shown_in s.folder tree path time bytes s.shows)
+files_with : (tree : Tree) (keys : List Path) (folder : Path) (left : List Path) (files more : List ShownFile) → AreFilesSoFar tree keys (folder ∷ left) files
+    → AreFilesIn tree folder more → AreFilesSoFar tree keys left (files ++ more)
+files_with tree keys folder left files more so a = record {
+  shown = λ file one. elim (in_either files more file one) [
+    | inl before ↦ so.shown file before
+    | inr this ↦ (folder, so.keyed folder (inl refl), in_shows folder tree more a file this)
+  ];
+  keyed = λ other one. so.keyed other (inr one);
+  whole = λ other one. elim (so.whole other one) [
+    | inl (inl same) ↦ inr (λ path time bytes s. in_right files more (record { key = (path, time); bytes = bytes })
+        (shown_in folder tree more a path time bytes (subst (λ (f : Path). Shows f tree path time bytes) (sym same) s)))
+    | inl (inr later) ↦ inl later
+    | inr before ↦ inr (λ path time bytes s. in_left files more (record { key = (path, time); bytes = bytes }) (before path time bytes s))
+  ];
+}
 
-  -- all that they show is among all that they show, whatever they showed before
-  pub all_revealed : (before : Tree) → Reveals folders before tree (flat_map (files_in tree) keys)
-  all_revealed before = record { shown = all_show; whole = λ path time bytes s. inr (shown_by_one path time bytes s) }
+-- and those of one folder more
+pub files_next : (tree : Tree) (keys : List Path) (folder : Path) (before left : List Path) (files more all : List ShownFile) → AreFilesSoFar tree keys before files
+    → before ≡ folder ∷ left → AreFilesIn tree folder more → all ≡ files ++ more → AreFilesSoFar tree keys left all
+files_next tree keys folder before left files more all so first a are =
+    subst (AreFilesSoFar tree keys left) (sym are)
+    (files_with tree keys folder left files more (subst (λ (l : List Path). AreFilesSoFar tree keys l files) first so) a)

@@ -2,13 +2,13 @@
 use Rattle.std.proofs.Common.{arith, length, length-append, ◌<◌, ◌+◌, ◌≡◌, ◌⊎◌, inl, inr, true, List, [], ◌∷◌, ◌++◌, map, Some, None, append_assoc, refl, sym, ap, ◌∙◌, subst}
 use Rattle.std.specs.List.{starts_with}
 use Rattle.std.specs.Cmp.Lexicographic.{bytes_decides}
-use Rattle.std.proofs.lemmas.Bool.{and_parts, false≢true}
+use Rattle.std.proofs.lemmas.Bool.{and_from, and_parts, false≢true}
 use Rattle.odb_base.specs.Path.{Name, Path, parent_of, same_name}
 use Rattle.odb_base.specs.PathLaws.{parent_of-nothing, parent_of-some}
 use Rattle.odb_nodes.proofs.TreeLemmas.Moved.{begins-append}
 use Rattle.gix_odb_shown.specs.Ways.{IsIn}
 use Rattle.gix_odb_shown.specs.Led.{front_pairs, fronts, with_folder}
-use Rattle.gix_odb_shown.proofs.ListLemmas.{in_either, in_map}
+use Rattle.gix_odb_shown.proofs.ListLemmas.{in_either, in_map, of_map}
 
 map_push : {X Y : Type 0} (f : X → Y) (xs : List X) (x : X) → map f (xs ++ x ∷ []) ≡ map f xs ++ f x ∷ []
 map_push f [] x = refl
@@ -23,6 +23,15 @@ front_in (name ∷ path) (x ∷ q) is =
     let parts = and_parts (same_name x name) (starts_with same_name path q) is in
     inr (subst (λ (n : Name). IsIn (map (λ front. name ∷ front) (fronts path)) (n ∷ q)) (sym ((bytes_decides x name).0 parts.0))
     (in_map (λ (front : Path). name ∷ front) (fronts path) q (front_in path q parts.1)))
+
+-- and a path begins with each of its fronts
+pub front_begins : (path q : Path) → IsIn (fronts path) q → starts_with same_name path q ≡ true
+front_begins [] q (inl same) = ap (starts_with same_name []) (sym same)
+front_begins [] q (inr none) = absurd none
+front_begins (name ∷ path) q (inl same) = ap (starts_with same_name (name ∷ path)) (sym same)
+front_begins (name ∷ path) q (inr more) =
+    let f = of_map (λ (front : Path). name ∷ front) (fronts path) q more in
+    ap (starts_with same_name (name ∷ path)) (sym f.2) ∙ and_from (same_name name name) (starts_with same_name path f.0) ((bytes_decides name name).1 refl) (front_begins path f.0 f.1)
 
 -- those of a path with one name more are those of the path, and the whole
 pub fronts_push : (path : Path) (name : Name) → fronts (path ++ name ∷ []) ≡ fronts path ++ (path ++ name ∷ []) ∷ []

@@ -1,29 +1,28 @@
 -- What is judged of a change in the folders that it touches is judged of it in all.
 use Rattle.std.proofs.Common.{arith, length, ◌≡◌, ◌⊎◌, inl, inr, ℕ, Bool, true, false, ◌&&◌, List, [], ◌∷◌, ◌++◌, Option, Some, None, Result, Ok, Err, IfOk, IfSome, refl, sym, ap, ◌∙◌, subst}
-use Rattle.std.specs.List.{flat_map, list_any}
+use Rattle.std.specs.List.{list_any}
 use Rattle.std.specs.FinSet as set
 use Rattle.std.proofs.lemmas.Bool.{and_parts, false≢true}
 use Rattle.odb_base.specs.Path.{Path, path_cmp}
 use Rattle.odb_nodes.specs.Tree.{IsTree, Tree}
 use Rattle.odb_nodes.specs.Tree.Change.{changed, is_possible_in}
 use Rattle.odb_nodes.specs.declared.change.Change.{Change}
-use Rattle.odb_nodes.specs.declared.change.Change.TheVariants.{PutLink}
 use Rattle.odb_nodes.proofs.TreeLemmas.Changed.{IsTree-changed}
-use Rattle.gix_odb_shown.specs.Files.{Reveals, files_in}
+use Rattle.gix_odb_shown.specs.Files.{AreFilesOf, Reveals}
 use Rattle.gix_odb_shown.specs.Watched.{pack_directory}
 use Rattle.gix_odb_shown.specs.Ways.{IsIn, Knows, Ways, is_touched}
 use Rattle.gix_odb_shown.specs.Kept.{Contents, Fits, Folders, Kept, ShowsInOne}
 use Rattle.gix_odb_shown.specs.Led.{AreLed, Learns, SeesTouched, is_in, places_of}
-use Rattle.gix_odb_shown.specs.PutLink.{IsLinkSeen}
-use Rattle.gix_odb_shown.specs.Revealed.{IsRevealed}
+use Rattle.gix_odb_shown.specs.Rerouted.{IsRerouted}
+use Rattle.gix_odb_shown.specs.Revealed.{IsFound}
 use Rattle.gix_odb_shown.specs.Seen.{IsSeen}
-use Rattle.gix_odb_shown.specs.declared.revealed.Revealed.{Revealed}
+use Rattle.gix_odb_shown.specs.declared.revealed.Found.{Found}
 use Rattle.gix_odb_shown.specs.declared.shown_file.ShownFile.{ShownFile}
 use Rattle.gix_odb_shown.proofs.EndLemmas.{gains_no_front}
 use Rattle.gix_odb_shown.proofs.FilesLemmas.{all_revealed, keys_among}
 use Rattle.gix_odb_shown.proofs.LedLemmas.{learnt_knows, led_knows}
 use Rattle.gix_odb_shown.proofs.PlacesLemmas.{is_in_set}
-use Rattle.gix_odb_shown.proofs.PutLinkLemmas.{link_knows, link_reveals}
+use Rattle.gix_odb_shown.proofs.ReroutedLemmas.{rerouted_knows, rerouted_reveals}
 use Rattle.gix_odb_shown.proofs.TouchedLemmas.{untouched_knows, untouched_shows}
 
 -- these folders are those that a change touches
@@ -88,8 +87,9 @@ module _ (kept : Kept) (t : Tree) (change : Change) (fits : Fits kept t) (possib
       by : (folder : Path) → set.contains kept.folders folder ≡ true → (ways : Ways) → Knows ways t folder → (b : Bool) → is_in keys folder ≡ b → Knows ways u folder
       by folder among ways k true one = record {
         touched = λ name kind watched q on. k.touched name kind watched q (gains_no_front t u seen.ways (pack_directory folder ++ name ∷ []) q on);
-        fronts = λ name kind watched q step rest way.
-            k.fronts name kind watched q step rest (seen.ways (pack_directory folder ++ name ∷ []) (q ++ step ∷ rest) way);
+        directory = λ way q one begins. k.directory way q (seen.ways (pack_directory folder) way one) begins;
+        passed = λ name kind watched q step rest way.
+            k.passed name kind watched q step rest (seen.ways (pack_directory folder ++ name ∷ []) (q ++ step ∷ rest) way);
         links = λ name kind watched q way. k.links name kind watched q (seen.ways (pack_directory folder ++ name ∷ []) q way);
       }
       by folder among ways k false none = others_known folder among none ways k
@@ -116,35 +116,35 @@ module _ (kept : Kept) (t : Tree) (change : Change) (fits : Fits kept t) (possib
   -- ---- by the tree after it
 
   -- what is revealed of the folders that it touches is revealed of all
-  pub touched_revealed : IsTree u → (revealed : Revealed) → Reveals (set.from_list keys) t u revealed.files.items
-      → ((folder : Path) → is_in keys folder ≡ true → (old new : Ways) → Knows old t folder → Learns old revealed.ways new → Knows new u folder) → IsRevealed kept.folders t u revealed
-  touched_revealed is_tree revealed reveals known = record {
+  pub touched_revealed : IsTree u → (found : Found) → Reveals (set.from_list keys) t u found.files.items
+      → ((folder : Path) → is_in keys folder ≡ true → (old new : Ways) → Knows old t folder → Learns old found.ways new → Knows new u folder) → IsFound kept.folders t u found
+  touched_revealed is_tree found reveals known = record {
     is_tree = is_tree;
-    reveals = reveals_all revealed.files.items reveals;
+    reveals = reveals_all found.files.items reveals;
     knows = λ folder among old new k learns. by folder among old new k learns (is_in keys folder) refl;
   }
     where
-      by : (folder : Path) → set.contains kept.folders folder ≡ true → (old new : Ways) → Knows old t folder → Learns old revealed.ways new → (b : Bool) → is_in keys folder ≡ b → Knows new u folder
+      by : (folder : Path) → set.contains kept.folders folder ≡ true → (old new : Ways) → Knows old t folder → Learns old found.ways new → (b : Bool) → is_in keys folder ≡ b → Knows new u folder
       by folder among old new k learns true one = known folder one old new k learns
       by folder among old new k learns false none =
-          learnt_knows old new revealed.ways u folder learns (others_known folder among none old k)
+          learnt_knows old new found.ways u folder learns (others_known folder among none old k)
 
-  pub tree_revealed : IsTree u → (revealed : Revealed) → revealed.files.items ≡ flat_map (files_in u) keys → AreLed u keys revealed.ways → IsRevealed kept.folders t u revealed
-  tree_revealed is_tree revealed files led =
-      touched_revealed is_tree revealed (subst (Reveals (set.from_list keys) t u) (sym files) (all_revealed keys u t))
-      (λ folder one old new k learns. led_knows u keys revealed.ways led folder (keys_among keys folder (is_in_set keys folder ∙ one)) old new learns)
+  pub tree_revealed : IsTree u → (found : Found) → AreFilesOf u keys found.files.items → AreLed u keys found.ways → IsFound kept.folders t u found
+  tree_revealed is_tree found files led =
+      touched_revealed is_tree found (all_revealed keys t u found.files.items files)
+      (λ folder one old new k learns. led_knows u keys found.ways led folder (keys_among keys folder (is_in_set keys folder ∙ one)) old new learns)
 
-  pub place_revealed : IsTree u → (revealed : Revealed) → SeesTouched kept.folders t u revealed.files.items → IsRevealed kept.folders t u revealed
-  place_revealed is_tree revealed seen = record {
+  pub place_revealed : IsTree u → (found : Found) → SeesTouched kept.folders t u found.files.items → IsFound kept.folders t u found
+  place_revealed is_tree found seen = record {
     is_tree = is_tree;
     reveals = seen.reveals;
-    knows = λ folder among old new k learns. learnt_knows old new revealed.ways u folder learns (seen.knows folder among old k);
+    knows = λ folder among old new k learns. learnt_knows old new found.ways u folder learns (seen.knows folder among old k);
   }
 
-  pub tree_answer : {E : Type 0} → IsTree u → (after : Tree) → after ≡ u → (answer : Result Revealed E) → IfOk answer (λ revealed. revealed.files.items ≡ flat_map (files_in after) keys)
-      → IfOk answer (λ revealed. AreLed after keys revealed.ways) → IfOk answer (IsRevealed kept.folders t u)
-  tree_answer is_tree after same (Ok revealed) files led =
-      tree_revealed is_tree revealed (subst (λ (v : Tree). revealed.files.items ≡ flat_map (files_in v) keys) same files) (subst (λ (v : Tree). AreLed v keys revealed.ways) same led)
+  pub tree_answer : {E : Type 0} → IsTree u → (after : Tree) → after ≡ u → (answer : Result Found E) → IfOk answer (λ found. AreFilesOf after keys found.files.items)
+      → IfOk answer (λ found. AreLed after keys found.ways) → IfOk answer (IsFound kept.folders t u)
+  tree_answer is_tree after same (Ok found) files led =
+      tree_revealed is_tree found (subst (λ (v : Tree). AreFilesOf v keys found.files.items) same files) (subst (λ (v : Tree). AreLed v keys found.ways) same led)
   tree_answer is_tree after same (Err error) files led = tt
 
 -- what the code asks
@@ -159,20 +159,17 @@ pub none_of_them : (keys : List Path) → length keys ≡ 0 → keys ≡ []
 none_of_them [] is = refl
 none_of_them (key ∷ keys) is = absurd (omega (arith, is))
 
--- ---- by the place of a link
+-- ---- by the paths that lead to its places
 
-pub link_revealed : (kept : Kept) (t : Tree) (change : Change) (fits : Fits kept t) (possible : is_possible_in t change ≡ true) (keys : List Path)
-    → AreTouched keys kept.folders kept.ways t change → (place target : Path) → change ≡ PutLink place target → (ways : Ways) → ways ≡ kept.ways → (seen : Revealed)
-    → IsLinkSeen t keys ways place target seen → IsRevealed kept.folders t (changed t change) seen
-link_revealed kept t change fits possible keys touched place target is ways same seen s =
-    subst (λ (c : Change). IsRevealed kept.folders t (changed t c) seen) (sym is)
-    (by (subst (λ (c : Change). is_possible_in t c ≡ true) is possible) (subst (AreTouched keys kept.folders kept.ways t) is touched)
-    (subst (λ (w : Ways). IsLinkSeen t keys w place target seen) same s))
+pub rerouted_found : (kept : Kept) (t : Tree) (change : Change) (fits : Fits kept t) (possible : is_possible_in t change ≡ true) (keys : List Path)
+    → AreTouched keys kept.folders kept.ways t change → (ways : Ways) → ways ≡ kept.ways → (after : Tree) → after ≡ changed t change → (found : Found)
+    → IsRerouted t after keys ways (places_of t change) found → IsFound kept.folders t (changed t change) found
+rerouted_found kept t change fits possible keys touched ways same after is found r =
+    touched_revealed kept t change fits possible keys touched (IsTree-changed t change fits.is_tree possible) found
+    (rerouted_reveals t change possible keys kept.ways (known_touched kept t change fits possible keys touched) found told)
+    (λ folder one old new k learns. rerouted_knows t change possible keys kept.ways (known_touched kept t change fits possible keys touched) found told folder one old new learns k)
   where
-    by : is_possible_in t (PutLink place target) ≡ true → AreTouched keys kept.folders kept.ways t (PutLink place target) → IsLinkSeen t keys kept.ways place target seen
-        → IsRevealed kept.folders t (changed t (PutLink place target)) seen
-    by can these shown =
-        touched_revealed kept t (PutLink place target) fits can keys these (IsTree-changed t (PutLink place target) fits.is_tree can) seen
-        (link_reveals t fits.is_tree place target can keys kept.ways (known_touched kept t (PutLink place target) fits can keys these) seen shown)
-        (λ folder one old new k learns.
-        link_knows t fits.is_tree place target can keys kept.ways (known_touched kept t (PutLink place target) fits can keys these) seen shown folder one old new learns k)
+    told : IsRerouted t (changed t change) keys kept.ways (places_of t change) found
+    told =
+        subst (λ (w : Ways). IsRerouted t (changed t change) keys w (places_of t change) found) same
+        (subst (λ (u : Tree). IsRerouted t u keys ways (places_of t change) found) is r)

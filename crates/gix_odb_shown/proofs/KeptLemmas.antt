@@ -16,15 +16,17 @@ use Rattle.odb_nodes.specs.Tree.Follow.{Refusal}
 use Rattle.odb_nodes.proofs.TreeLemmas.{same_path, own_path}
 use Rattle.gix_odb_shown.specs.Watched.{Shows, pack_directory}
 use Rattle.gix_odb_shown.specs.Led.{AreLed, Learns}
+use Rattle.gix_odb_shown.specs.Stale.{AreStale, Forgets}
 use Rattle.gix_odb_shown.specs.Ways.{IsIn, Knows, Ways}
 use Rattle.gix_odb_shown.specs.declared.led.NewWays.{NewWays}
 use Rattle.gix_odb_shown.specs.Kept.{Kept, Contents, Folders, key_cmp, ShowsInOne, IsSecond, Notes, LiesInOne, Fits, nothing_kept}
-use Rattle.gix_odb_shown.specs.Files.{Reveals, files_in, differs, with_files}
+use Rattle.gix_odb_shown.specs.Files.{AreFilesIn, Reveals, differs, with_files}
 use Rattle.gix_odb_shown.specs.declared.shown_file.ShownFile.{ShownFile}
 use Rattle.gix_odb_shown.proofs.ListLemmas.{one_passes, passes_one}
 use Rattle.gix_odb_shown.proofs.FilesLemmas.{in_shows, shown_in}
 use Rattle.gix_odb_shown.proofs.LedLemmas.{learnt_knows, led_knows}
 use Rattle.gix_odb_shown.proofs.PlacesLemmas.{inserted_keys}
+use Rattle.gix_odb_shown.proofs.StaleLemmas.{forgotten_knows}
 use Rattle.gix_odb_shown.proofs.ContentsLemmas.{all_stay, all_there, all_only, IsOneOf, differs_from, from_other}
 
 -- ---- what lies in a folder lies in no other
@@ -190,18 +192,19 @@ module _ (old : Kept) (folder : Path) (tree : Tree) (fits : Fits old tree) where
   more = one_more old.folders folder
 
   -- the files of the folder are all that is to be noted
-  own_show : (file : ShownFile) → IsIn (files_in tree folder) file → ShowsInOne more tree file.key.0 file.key.1 file.bytes
-  own_show file one = record { folder = folder; among = among_own old.folders folder; shows = in_shows folder tree file one }
+  module _ (files : List ShownFile) (f : AreFilesIn tree folder files) where
+    own_show : (file : ShownFile) → IsIn files file → ShowsInOne more tree file.key.0 file.key.1 file.bytes
+    own_show file one = record { folder = folder; among = among_own old.folders folder; shows = in_shows folder tree files f file one }
 
-  own_shown : (path : Path) (time : ℕ) (bytes : List ℕ) → ShowsInOne more tree path time bytes
-      → (finite.get old.contents (path, time) ≡ Some bytes) ⊎ IsIn (files_in tree folder) (record { key = (path, time); bytes = bytes })
-  own_shown path time bytes s = elim (among_either old.folders folder s.folder s.among) [
-    | inl same ↦ inr (shown_in folder tree path time bytes (subst (λ (f : Path). Shows f tree path time bytes) same s.shows))
-    | inr among ↦ inl (fits.whole path time bytes (record { folder = s.folder; among = among; shows = s.shows }))
-  ]
+    own_shown : (path : Path) (time : ℕ) (bytes : List ℕ) → ShowsInOne more tree path time bytes
+        → (finite.get old.contents (path, time) ≡ Some bytes) ⊎ IsIn files (record { key = (path, time); bytes = bytes })
+    own_shown path time bytes s = elim (among_either old.folders folder s.folder s.among) [
+      | inl same ↦ inr (shown_in folder tree files f path time bytes (subst (λ (other : Path). Shows other tree path time bytes) same s.shows))
+      | inr among ↦ inl (fits.whole path time bytes (record { folder = s.folder; among = among; shows = s.shows }))
+    ]
 
-  pub notes_folder : (ways : Ways) → Notes old more tree (record { folders = more; contents = with_files old.contents (files_in tree folder); ways = ways })
-  notes_folder ways = notes_files old more tree (files_in tree folder) ways own_show own_shown
+    pub notes_folder : (ways : Ways) → Notes old more tree (record { folders = more; contents = with_files old.contents files; ways = ways })
+    notes_folder ways = notes_files old more tree files ways own_show own_shown
 
   -- what was kept is of folders that were watched, so it is the same as what they show
   own_agrees : (path : Path) (time : ℕ) (first bytes : List ℕ) → finite.get old.contents (path, time) ≡ Some first → ShowsInOne more tree path time bytes → first ≡ bytes
@@ -280,11 +283,13 @@ module _ (kept : Kept) (before after : Tree) (fits : Fits kept before) (files : 
       (ap (λ (k : Kept). with_files k.contents files) (sym view) ∙ sym is))
       (notes_after kept before after files fits r ways)
 
-  pub keep_fits : (IsSecond kept after → ⊥) → IsTree after → (found : NewWays) → Learns was found ways
+  pub keep_fits : (IsSecond kept after → ⊥) → IsTree after → (stale : List (Path × Path)) → AreStale before stale → (mid : Ways) → Forgets was stale mid → (found : NewWays) → Learns mid found ways
       → ((folder : Path) → set.contains kept.folders folder ≡ true → (old new : Ways) → Knows old before folder → Learns old found new → Knows new after folder)
       → contents ≡ with_files own files → Fits told after
-  keep_fits first_only is_tree found learns knows is = fits_after kept before after told fits first_only (keep_notes is)
-      (λ folder among. knows folder among kept.ways ways (fits.knows folder among) (subst (λ (w : Ways). Learns w found ways) (ap (λ (k : Kept). k.ways) view) learns)) is_tree
+  keep_fits first_only is_tree stale are_stale mid forgets found learns knows is = fits_after kept before after told fits first_only (keep_notes is)
+      (λ folder among.
+      knows folder among mid ways
+      (forgotten_knows kept.ways mid stale before folder (subst (λ (w : Ways). Forgets w stale mid) (ap (λ (k : Kept). k.ways) view) forgets) are_stale (fits.knows folder among)) learns) is_tree
 
 module _ (kept : Kept) (tree : Tree) (fits : Fits kept tree) (folder : Path) (old : BTreeSet Path) (own : Contents) (was : Ways)
     (view : ◌≡◌ {A = Kept} (record { folders = set.from_list old.keys; contents = own; ways = was }) kept) where
@@ -297,22 +302,23 @@ module _ (kept : Kept) (tree : Tree) (fits : Fits kept tree) (folder : Path) (ol
     abbrev watched : Kept
     watched = record { folders = set.from_list new.keys; contents = contents; ways = ways }
 
-    watched_notes : contents ≡ with_files own (files_in tree folder) → Notes kept (set.insert kept.folders folder) tree watched
-    watched_notes is =
-        subst (λ (k : Kept). Notes kept (set.insert kept.folders folder) tree k)
-        (kept_parts (set.insert kept.folders folder) (set.from_list new.keys) (with_files kept.contents (files_in tree folder)) contents ways
-        (ap (λ (k : Kept). set.insert k.folders folder) (sym view) ∙ sym (inserted_keys old new folder added))
-        (ap (λ (k : Kept). with_files k.contents (files_in tree folder)) (sym view) ∙ sym is))
-        (notes_folder kept folder tree fits ways)
+    module _ (files : List ShownFile) (f : AreFilesIn tree folder files) where
+      watched_notes : contents ≡ with_files own files → Notes kept (set.insert kept.folders folder) tree watched
+      watched_notes is =
+          subst (λ (k : Kept). Notes kept (set.insert kept.folders folder) tree k)
+          (kept_parts (set.insert kept.folders folder) (set.from_list new.keys) (with_files kept.contents files) contents ways
+          (ap (λ (k : Kept). set.insert k.folders folder) (sym view) ∙ sym (inserted_keys old new folder added))
+          (ap (λ (k : Kept). with_files k.contents files) (sym view) ∙ sym is))
+          (notes_folder kept folder tree fits files f ways)
 
-    pub watch_notes : {A E : Type 0} (answer : Result A E) → OnOk answer (contents ≡ with_files own (files_in tree folder))
-        → OnOk answer (Notes kept (set.insert kept.folders folder) tree watched)
-    watch_notes (Ok done) is = watched_notes is
-    watch_notes (Err error) is = tt
+      pub watch_notes : {A E : Type 0} (answer : Result A E) → OnOk answer (contents ≡ with_files own files)
+          → OnOk answer (Notes kept (set.insert kept.folders folder) tree watched)
+      watch_notes (Ok done) is = watched_notes is
+      watch_notes (Err error) is = tt
 
-    pub watch_fits : {A E : Type 0} (found : NewWays) → AreLed tree (folder ∷ []) found → Learns was found ways → (answer : Result A E)
-        → OnOk answer (contents ≡ with_files own (files_in tree folder)) → OnOk answer (Fits watched tree)
-    watch_fits found led learns (Ok done) is =
-        fits_watched kept folder tree fits watched (watched_notes is)
-        (knows_more kept folder tree fits ways found led (subst (λ (w : Ways). Learns w found ways) (ap (λ (k : Kept). k.ways) view) learns))
-    watch_fits found led learns (Err error) is = tt
+      pub watch_fits : {A E : Type 0} (found : NewWays) → AreLed tree (folder ∷ []) found → Learns was found ways → (answer : Result A E)
+          → OnOk answer (contents ≡ with_files own files) → OnOk answer (Fits watched tree)
+      watch_fits found led learns (Ok done) is =
+          fits_watched kept folder tree fits watched (watched_notes is)
+          (knows_more kept folder tree fits ways found led (subst (λ (w : Ways). Learns w found ways) (ap (λ (k : Kept). k.ways) view) learns))
+      watch_fits found led learns (Err error) is = tt

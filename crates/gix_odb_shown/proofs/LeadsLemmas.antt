@@ -9,10 +9,11 @@ use Rattle.odb_base.specs.Path.{Name, Path, last_name, parent_of, path_cmp, same
 use Rattle.odb_base.specs.PathLaws.{parent_of-push, parent_of-some}
 use Rattle.odb_nodes.specs.Tree.{Tree}
 use Rattle.odb_nodes.specs.Tree.Follow.{most_links}
-use Rattle.odb_nodes.specs.Tree.Way.{ways_within}
+use Rattle.odb_nodes.specs.Tree.Way.{on_way, ways_within}
 use Rattle.odb_nodes.proofs.TreeLemmas.{own_path, same_path}
 use Rattle.gix_odb_shown.specs.Led.{is_in}
-use Rattle.gix_odb_shown.specs.Seen.{ArePathsTo, is_in_directory, is_of_folder, is_place, leads_to, lies_in_one, link_through, own_paths, path_if, path_through, paths_through}
+use Rattle.gix_odb_shown.specs.Seen.{ArePathsOver, ArePathsTo, is_in_directory, is_of_folder, leads_to, lies_in_one, link_over, link_through, own_paths, path_if, path_through, paths_through}
+use Rattle.gix_odb_shown.specs.Sight.{is_place}
 use Rattle.gix_odb_shown.specs.Watched.{is_some_kind, pack_directory, watched_kind}
 use Rattle.gix_odb_shown.specs.Ways.{IsIn, Places, has}
 use Rattle.gix_odb_shown.specs.declared.watched.WatchedKind.{WatchedKind}
@@ -53,6 +54,13 @@ if_in false path is = absurd (false≢true is)
 
 -- ---- a path in the pack directory of one of these folders
 
+-- it is one
+pub record LiesIn (keys : List Path) (path : Path) : Type 0 where
+  pub folder : Path
+  pub among : is_in keys folder ≡ true
+  pub name : Name
+  pub path_is : path ≡ pack_directory folder ++ name ∷ []
+
 -- it is one that leads to the place
 pub record Leads (t : Tree) (keys : List Path) (place path : Path) : Type 0 where
   pub folder : Path
@@ -64,10 +72,9 @@ pub record Leads (t : Tree) (keys : List Path) (place path : Path) : Type 0 wher
 module _ (t : Tree) (keys : List Path) (place : Path) where
   -- ---- a path that lies in one of them
 
-  of_folder : (path directory : Path) → parent_of path ≡ Some directory → (o : Option Path) → is_of_folder keys directory o ≡ true → IsIn (ways_within most_links t true path) place
-      → Leads t keys place path
-  of_folder path directory parent None is way = absurd (false≢true is)
-  of_folder path directory parent (Some folder) is way =
+  of_folder : (path directory : Path) → parent_of path ≡ Some directory → (o : Option Path) → is_of_folder keys directory o ≡ true → LiesIn keys path
+  of_folder path directory parent None is = absurd (false≢true is)
+  of_folder path directory parent (Some folder) is =
       let parts = and_parts (is_in keys folder) (pointwise same_name (pack_directory folder) directory) is in
       let last = parent_of-some path directory parent in
       record {
@@ -75,12 +82,20 @@ module _ (t : Tree) (keys : List Path) (place : Path) where
         among = parts.0;
         name = last.0;
         path_is = last.1 ∙ ap (λ (p : Path). p ++ last.0 ∷ []) (sym (same_names (pack_directory folder) directory parts.1));
-        way = way;
       }
 
-  in_directory_of : (path : Path) (o : Option Path) → parent_of path ≡ o → is_in_directory keys o ≡ true → IsIn (ways_within most_links t true path) place → Leads t keys place path
-  in_directory_of path None parent is way = absurd (false≢true is)
-  in_directory_of path (Some directory) parent is way = of_folder path directory parent (parent_of directory) is way
+  in_directory_of : (path : Path) (o : Option Path) → parent_of path ≡ o → is_in_directory keys o ≡ true → LiesIn keys path
+  in_directory_of path None parent is = absurd (false≢true is)
+  in_directory_of path (Some directory) parent is = of_folder path directory parent (parent_of directory) is
+
+  with_way : (path : Path) → LiesIn keys path → IsIn (ways_within most_links t true path) place → Leads t keys place path
+  with_way path l way = record {
+    folder = l.folder;
+    among = l.among;
+    name = l.name;
+    path_is = l.path_is;
+    way = way;
+  }
 
   lies_there : (folder : Path) (name : Name) → is_in keys folder ≡ true → lies_in_one keys (pack_directory folder ++ name ∷ []) ≡ true
   lies_there folder name among =
@@ -117,7 +132,54 @@ module _ (t : Tree) (keys : List Path) (place : Path) where
       let o = of_flat_map (link_through t keys place) linked path one in
       let l = in_if (lies_in_one keys o.0 && leads_to t place o.0) o.0 path o.2 in
       let parts = and_parts (lies_in_one keys o.0) (leads_to t place o.0) l.0 in
-      subst (Leads t keys place) l.1 (in_directory_of o.0 (parent_of o.0) refl parts.0 (leads_way t place o.0 parts.1))
+      subst (Leads t keys place) l.1 (with_way o.0 (in_directory_of o.0 (parent_of o.0) refl parts.0) (leads_way t place o.0 parts.1))
+
+  -- a path of the place's own last name that leads to it
+  own_there : (folder : Path) → is_in keys folder ≡ true → (name : Name) (kind : WatchedKind) → watched_kind name ≡ Some kind
+      → IsIn (ways_within most_links t true (pack_directory folder ++ name ∷ [])) place → last_name place ≡ Some name
+      → IsIn (own_paths t keys place (last_name place)) (pack_directory folder ++ name ∷ [])
+  own_there folder among name kind watched way named =
+      let own = pack_directory folder ++ name ∷ [] in
+      subst (λ (o : Option Name). IsIn (own_paths t keys place o) own) (sym named)
+      (subst (λ (b : Bool). IsIn (if b then paths_through t keys place (name ∷ []) else []) own) (sym (ap is_some_kind watched))
+      (in_flat_map (path_through t place (name ∷ [])) keys folder own (is_in_one keys folder among) (if_in (leads_to t place own) own (way_leads_to t place own way))))
+
+  -- ---- the paths that are followed over the place
+
+  module _ (links : Places) (paths : List Path) (a : ArePathsOver t keys links place paths) where
+    link_lies : (path : Path) → IsIn (flat_map (link_over t keys place) a.linked) path → LiesIn keys path
+    link_lies path one =
+        let o = of_flat_map (link_over t keys place) a.linked path one in
+        let l = in_if (lies_in_one keys o.0 && on_way t true o.0 place) o.0 path o.2 in
+        let parts = and_parts (lies_in_one keys o.0) (on_way t true o.0 place) l.0 in
+        subst (LiesIn keys) l.1 (in_directory_of o.0 (parent_of o.0) refl parts.0)
+
+    -- each of them lies in the pack directory of one of these folders
+    pub over_lies : (path : Path) → IsIn paths path → LiesIn keys path
+    over_lies path one =
+        elim (in_either (own_paths t keys place (last_name place)) (flat_map (link_over t keys place) a.linked) path (subst (λ (l : List Path). IsIn l path) a.are one)) [
+          | inl own ↦ let l = own_leads (last_name place) path own in record { folder = l.folder; among = l.among; name = l.name; path_is = l.path_is }
+          | inr link ↦ link_lies path link
+        ]
+
+    -- and a path that is followed over the place is one of them, if it leads to it and has the same last name, or is kept there
+    module _ (folder : Path) (among : is_in keys folder ≡ true) (name : Name) (kind : WatchedKind) (watched : watched_kind name ≡ Some kind) where
+      pub named_over : IsIn (ways_within most_links t true (pack_directory folder ++ name ∷ [])) place → last_name place ≡ Some name → IsIn paths (pack_directory folder ++ name ∷ [])
+      named_over way named =
+          subst (λ (l : List Path). IsIn l (pack_directory folder ++ name ∷ [])) (sym a.are)
+          (in_left (own_paths t keys place (last_name place)) (flat_map (link_over t keys place) a.linked) (pack_directory folder ++ name ∷ [])
+          (own_there folder among name kind watched way named))
+
+      pub kept_over : on_way t true (pack_directory folder ++ name ∷ []) place ≡ true → has links place (pack_directory folder ++ name ∷ []) ≡ true
+          → IsIn paths (pack_directory folder ++ name ∷ [])
+      kept_over on kept =
+          let own = pack_directory folder ++ name ∷ [] in
+          subst (λ (l : List Path). IsIn l own) (sym a.are)
+          (in_right (own_paths t keys place (last_name place)) (flat_map (link_over t keys place) a.linked) own
+          (in_flat_map (link_over t keys place) a.linked own own (is_in_one a.linked own (a.at own ∙ kept))
+          (if_in (lies_in_one keys own && on_way t true own place) own (and_from (lies_in_one keys own) (on_way t true own place) (lies_there folder name among) on))))
+
+  -- ---- the paths that lead to the place
 
   module _ (links : Places) (paths : List Path) (a : ArePathsTo t keys links place paths) where
     -- each of them leads to the place
@@ -134,12 +196,6 @@ module _ (t : Tree) (keys : List Path) (place : Path) where
       abbrev own : Path
       own = pack_directory folder ++ name ∷ []
 
-      named_there : last_name place ≡ Some name → IsIn (own_paths t keys place (last_name place)) own
-      named_there named =
-          subst (λ (o : Option Name). IsIn (own_paths t keys place o) own) (sym named)
-          (subst (λ (b : Bool). IsIn (if b then paths_through t keys place (name ∷ []) else []) own) (sym (ap is_some_kind watched))
-          (in_flat_map (path_through t place (name ∷ [])) keys folder own (is_in_one keys folder among) (if_in (leads_to t place own) own (way_leads_to t place own way))))
-
       linked_there : has links place own ≡ true → IsIn (flat_map (link_through t keys place) a.linked) own
       linked_there kept =
           in_flat_map (link_through t keys place) a.linked own own (is_in_one a.linked own (a.at own ∙ kept))
@@ -149,7 +205,7 @@ module _ (t : Tree) (keys : List Path) (place : Path) where
       pub leads_path : (last_name place ≡ Some name) ⊎ (has links place own ≡ true) → IsIn paths own
       leads_path (inl named) =
           subst (λ (l : List Path). IsIn l own) (sym a.are)
-          (in_left (own_paths t keys place (last_name place)) (flat_map (link_through t keys place) a.linked) own (named_there named))
+          (in_left (own_paths t keys place (last_name place)) (flat_map (link_through t keys place) a.linked) own (own_there folder among name kind watched way named))
       leads_path (inr kept) =
           subst (λ (l : List Path). IsIn l own) (sym a.are)
           (in_right (own_paths t keys place (last_name place)) (flat_map (link_through t keys place) a.linked) own (linked_there kept))

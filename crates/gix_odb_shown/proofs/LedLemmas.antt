@@ -1,36 +1,23 @@
 -- What is looked up of the ways of folders is known of them from then on.
-use Rattle.std.proofs.Common.{◌≡◌, inl, inr, Bool, true, false, ◌&&◌, ◌||◌, if◌then◌else◌, List, [], ◌∷◌, ◌++◌, map, Option, Some, None, refl, sym, ap, ◌∙◌, subst}
-use Rattle.std.specs.List.{flat_map, list_any}
+use Rattle.std.proofs.Common.{◌≡◌, ◌⊎◌, inl, inr, ℕ, Bool, true, false, ◌&&◌, ◌||◌, List, [], ◌∷◌, ◌++◌, map, Option, Some, None, refl, sym, ap, ◌∙◌, subst}
+use Rattle.std.specs.List.{flat_map, list_any, starts_with}
 use Rattle.std.proofs.lemmas.Bool.{and_from, false≢true, or_left, or_right}
-use Rattle.odb_base.specs.Path.{Name, Path, last_name, parent_of}
+use Rattle.odb_base.specs.Path.{Name, Path, last_name, parent_of, same_name}
 use Rattle.odb_base.specs.PathLaws.{parent_of-push}
 use Rattle.odb_nodes.specs.Tree.{Tree}
-use Rattle.odb_nodes.specs.Tree.Follow.{followed, most_links}
-use Rattle.odb_nodes.specs.Tree.Way.{is_link_content, on_way, ways_within}
-use Rattle.odb_nodes.specs.Entries.{entry_of, kind_of}
-use Rattle.odb_nodes.specs.declared.entry.Entry.{Entry}
-use Rattle.odb_nodes.specs.declared.node.Content.{Content}
-use Rattle.odb_nodes.specs.declared.node.Content.TheVariants.{File, Dir, Link}
+use Rattle.odb_nodes.specs.Tree.Follow.{most_links}
+use Rattle.odb_nodes.specs.Tree.Way.{on_way, ways_within}
 use Rattle.odb_nodes.proofs.TreeLemmas.{own_path}
-use Rattle.odb_nodes.proofs.TreeLemmas.Moved.{begins-append}
-use Rattle.gix_odb_shown.specs.Files.{listed}
-use Rattle.gix_odb_shown.specs.Led.{AreAdded, AreLed, Learns, ends_of, front_pairs, fronts, fronts_of, is_link_kind, is_pair, is_watched_link, link_ends, link_pairs, links_of, pairs_along, with_folder}
+use Rattle.odb_nodes.proofs.TreeLemmas.Moved.{begins-append, begins-own}
+use Rattle.gix_odb_shown.specs.Led.{AddsWays, AreAdded, AreLed, IsLed, Learns, directory_ways, front_pairs, fronts, further, is_pair, link_ends, link_fronts, own_ways, with_folder}
 use Rattle.gix_odb_shown.specs.Watched.{is_some_kind, is_watched_name, pack_directory, watched_kind}
 use Rattle.gix_odb_shown.specs.Ways.{IsIn, Knows, Places, Ways, has, has_above, is_touched}
 use Rattle.gix_odb_shown.specs.declared.led.NewWays.{NewWays}
 use Rattle.gix_odb_shown.specs.declared.watched.WatchedKind.{WatchedKind}
-use Rattle.gix_odb_shown.proofs.EntryLemmas.{has_entry}
-use Rattle.gix_odb_shown.proofs.FrontLemmas.{front_in}
+use Rattle.gix_odb_shown.proofs.FrontLemmas.{front_begins, front_in, front_or_whole, shorter_in}
 use Rattle.gix_odb_shown.proofs.ListLemmas.{in_flat_map, in_left, in_map, in_right, passes_one}
 use Rattle.gix_odb_shown.proofs.NameLemmas.{last_name-push}
-use Rattle.gix_odb_shown.proofs.WayLemmas.{HasLink, IsFront, beside_way, front_way, named_way, on_way_front}
-
--- ---- the kind of an entry
-
-link_kind : (content : Content) → is_link_kind (kind_of content) ≡ is_link_content content
-link_kind (File bytes time) = refl
-link_kind Dir = refl
-link_kind (Link target) = refl
+use Rattle.gix_odb_shown.proofs.WayLemmas.{further_has, on_way_front, whole_or_further}
 
 -- ---- folders at places
 
@@ -51,8 +38,12 @@ touched_front ways folder q kept = or_left (has ways.fronts q folder) (is_watche
 pub learnt_knows : (old new : Ways) (found : NewWays) (t : Tree) (folder : Path) → Learns old found new → Knows old t folder → Knows new t folder
 learnt_knows old new found t folder learns k = record {
   touched = λ name kind watched q on. still q (k.touched name kind watched q on);
-  fronts = λ name kind watched q step rest one.
-      added_stay found.fronts.items old.fronts new.fronts learns.fronts q folder (k.fronts name kind watched q step rest one);
+  directory = λ way q one begins. added_stay found.passed.items old.passed new.passed learns.passed q folder (k.directory way q one begins);
+  passed = λ name kind watched q step rest one.
+      elim (k.passed name kind watched q step rest one) [
+        | inl over ↦ inl (added_stay found.passed.items old.passed new.passed learns.passed q folder over)
+        | inr kept ↦ inr (added_stay found.links.items old.links new.links learns.links q (pack_directory folder ++ name ∷ []) kept)
+      ];
   links = λ name kind watched q one.
       elim (k.links name kind watched q one) [
         | inl named ↦ inl named
@@ -77,92 +68,180 @@ learnt_knows old new found t folder learns k = record {
     still : (q : Path) → is_touched old folder q ≡ true → is_touched new folder q ≡ true
     still q is = by_front (has old.fronts q folder) q refl is
 
--- ---- what is looked up of one of these folders
+-- ---- what is looked up of a folder
 
-module _ (t : Tree) (keys : List Path) (found : NewWays) (led : AreLed t keys found) where
-  module _ (folder : Path) (one : IsIn keys folder) (old new : Ways) (learns : Learns old found new) where
-    along : (path q : Path) → IsFront (ways_within most_links t true path) q → IsIn (pairs_along t folder path) (q, folder)
-    along path q f =
-        in_flat_map (front_pairs folder) (ways_within most_links t true path) f.way (q, folder) f.one (in_map (with_folder folder) (fronts f.way) q f.front)
+module _ (t : Tree) (folder : Path) where
+  module _ (found : NewWays) (led : IsLed t folder found) (old new : Ways) (learns : Learns old found new) where
+    front_kept : (q : Path) → IsIn found.fronts.items (q, folder) → has new.fronts q folder ≡ true
+    front_kept q there = added_there found.fronts.items old.fronts new.fronts learns.fronts q folder there
 
-    front_kept : (q : Path) → IsIn (fronts_of t folder) (q, folder) → has new.fronts q folder ≡ true
-    front_kept q there =
-        added_there found.fronts.items old.fronts new.fronts learns.fronts q folder
-        (subst (λ (l : List (Path × Path)). IsIn l (q, folder)) (sym led.fronts) (in_flat_map (fronts_of t) keys folder (q, folder) one there))
+    passed_kept : (q : Path) → IsIn found.passed.items (q, folder) → has new.passed q folder ≡ true
+    passed_kept q there = added_there found.passed.items old.passed new.passed learns.passed q folder there
 
     -- a front of a way of the pack directory
-    directory_kept : (q : Path) → IsFront (ways_within most_links t true (pack_directory folder)) q → has new.fronts q folder ≡ true
-    directory_kept q f =
-        front_kept q
-        (in_left (pairs_along t folder (pack_directory folder)) (flat_map (link_pairs t folder) (listed t (pack_directory folder))) (q, folder) (along (pack_directory folder) q f))
+    directory_kept : (way q : Path) → IsIn (directory_ways t folder) way → IsIn (fronts way) q → has new.fronts q folder ≡ true
+    directory_kept way q one front = front_kept q (led.fronts way q one (front_begins way q front))
 
-    end_there : (name : Name) (kind : WatchedKind) → watched_kind name ≡ Some kind → (way q : Path) → IsIn (ways_within most_links t true (pack_directory folder)) way → q ≡ way ++ name ∷ []
-        → is_touched new folder q ≡ true
-    end_there name kind watched way q led_way is =
-        or_right (has new.fronts q folder) (is_watched_name (last_name q) && has_above new.ends (parent_of q) folder)
-        (and_from (is_watched_name (last_name q)) (has_above new.ends (parent_of q) folder)
-        (ap (λ (p : Path). is_watched_name (last_name p)) is ∙ ap is_watched_name (last_name-push way name) ∙ ap is_some_kind watched)
-        (ap (λ (p : Path). has_above new.ends (parent_of p) folder) is ∙ ap (λ (o : Option Path). has_above new.ends o folder) (parent_of-push way name)
-        ∙ added_there found.ends.items old.ends new.ends learns.ends way folder
-        (subst (λ (l : List (Path × Path)). IsIn l (way, folder)) (sym led.ends)
-        (in_flat_map (ends_of t) keys folder (way, folder) one (in_map (with_folder folder) (ways_within most_links t true (pack_directory folder)) way led_way)))))
+    module _ (name : Name) (kind : WatchedKind) (watched : watched_kind name ≡ Some kind) where
+      abbrev path : Path
+      path = pack_directory folder ++ name ∷ []
 
-    -- a watched link in the pack directory
-    module _ (name : Name) (kind : WatchedKind) (watched : watched_kind name ≡ Some kind) (link : HasLink t name (followed t true (pack_directory folder))) where
-      abbrev entry : Entry
-      entry = entry_of link.has.node name
+      end_there : (way q : Path) → IsIn (directory_ways t folder) way → q ≡ way ++ name ∷ [] → is_touched new folder q ≡ true
+      end_there way q one is =
+          or_right (has new.fronts q folder) (is_watched_name (last_name q) && has_above new.ends (parent_of q) folder)
+          (and_from (is_watched_name (last_name q)) (has_above new.ends (parent_of q) folder)
+          (ap (λ (p : Path). is_watched_name (last_name p)) is ∙ ap is_watched_name (last_name-push way name) ∙ ap is_some_kind watched)
+          (ap (λ (p : Path). has_above new.ends (parent_of p) folder) is ∙ ap (λ (o : Option Path). has_above new.ends o folder) (parent_of-push way name)
+          ∙ added_there found.ends.items old.ends new.ends learns.ends way folder (led.ends way one)))
 
-      is_one : is_watched_link entry ≡ true
-      is_one = ap (λ (b : Bool). b && is_some_kind (watched_kind name)) (link_kind link.has.node.content ∙ link.link) ∙ ap is_some_kind watched
-
-      listed_there : IsIn (listed t (pack_directory folder)) entry
-      listed_there = has_entry t (pack_directory folder) name link.has
-
-      link_front : (q : Path) → IsFront (ways_within most_links t true (pack_directory folder ++ name ∷ [])) q → has new.fronts q folder ≡ true
-      link_front q f =
-          let there : IsIn (link_pairs t folder entry) (q, folder) =
-          subst (λ (b : Bool). IsIn (if b then pairs_along t folder (pack_directory folder ++ name ∷ []) else []) (q, folder)) (sym is_one)
-          (along (pack_directory folder ++ name ∷ []) q f) in
-          front_kept q
-          (in_right (pairs_along t folder (pack_directory folder)) (flat_map (link_pairs t folder) (listed t (pack_directory folder))) (q, folder)
-          (in_flat_map (link_pairs t folder) (listed t (pack_directory folder)) entry (q, folder) listed_there there))
-
-      link_kept : (q : Path) → IsIn (ways_within most_links t true (pack_directory folder ++ name ∷ [])) q → has new.links q (pack_directory folder ++ name ∷ []) ≡ true
-      link_kept q way =
-          let path = pack_directory folder ++ name ∷ [] in
-          let there : IsIn (link_ends t folder entry) (q, path) =
-          subst (λ (b : Bool). IsIn (if b then map (with_folder path) (ways_within most_links t true path) else []) (q, path)) (sym is_one)
-          (in_map (with_folder path) (ways_within most_links t true path) q way) in
-          added_there found.links.items old.links new.links learns.links q path
-          (subst (λ (l : List (Path × Path)). IsIn l (q, path)) (sym led.links)
-          (in_flat_map (links_of t) keys folder (q, path) one (in_flat_map (link_ends t folder) (listed t (pack_directory folder)) entry (q, path) listed_there there)))
-
-    touched_there : (name : Name) (kind : WatchedKind) → watched_kind name ≡ Some kind → (q : Path) → on_way t true (pack_directory folder ++ name ∷ []) q ≡ true → is_touched new folder q ≡ true
-    touched_there name kind watched q on = elim (beside_way t name (pack_directory folder) q on) [
-      | inr link ↦ touched_front new folder q (link_front name kind watched link q (on_way_front t (pack_directory folder ++ name ∷ []) q on))
-      | inl b ↦ elim b.at [
-        | inl front ↦ touched_front new folder q (directory_kept q (record { way = b.way; one = b.one; front = front }))
-        | inr behind ↦ end_there name kind watched b.way q b.one behind
+      whole_touched : (way whole q : Path) → IsIn (directory_ways t folder) way → way ++ name ∷ [] ≡ whole → starts_with same_name whole q ≡ true → is_touched new folder q ≡ true
+      whole_touched way whole q one is begins = elim (front_or_whole way name q (ap (λ (p : Path). starts_with same_name p q) is ∙ begins)) [
+        | inl front ↦ touched_front new folder q (directory_kept way q one front)
+        | inr behind ↦ end_there way q one behind
       ]
-    ]
 
-    fronts_there : (name : Name) (kind : WatchedKind) → watched_kind name ≡ Some kind → (q : Path) (step : Name) (rest : Path)
-        → IsIn (ways_within most_links t true (pack_directory folder ++ name ∷ [])) (q ++ step ∷ rest) → has new.fronts q folder ≡ true
-    fronts_there name kind watched q step rest way = elim (front_way t name (pack_directory folder) q step rest way) [
-      | inl f ↦ directory_kept q f
-      | inr link ↦
-          link_front name kind watched link q
-          (record { way = q ++ step ∷ rest; one = way; front = front_in (q ++ step ∷ rest) q (begins-append q (step ∷ rest)) })
-    ]
+      touched_there : (q : Path) → on_way t true path q ≡ true → is_touched new folder q ≡ true
+      touched_there q on =
+          let w = on_way_front t path q on in
+          elim (whole_or_further t name (pack_directory folder) w.0 w.1) [
+            | inl whole ↦ whole_touched whole.0 w.0 q whole.1 whole.2 w.2
+            | inr more ↦ touched_front new folder q (front_kept q (led.link_fronts name kind watched w.0 q more w.2))
+          ]
+
+      link_kept : (way q : Path) → IsIn (further t (own_ways t folder) path) way → starts_with same_name way q ≡ true → has new.links q path ≡ true
+      link_kept way q more begins = added_there found.links.items old.links new.links learns.links q path (led.links name kind watched way q more begins)
+
+      passed_there : (q : Path) (step : Name) (rest : Path) → IsIn (ways_within most_links t true path) (q ++ step ∷ rest)
+          → (has new.passed q folder ≡ true) ⊎ (has new.links q path ≡ true)
+      passed_there q step rest one = elim (whole_or_further t name (pack_directory folder) (q ++ step ∷ rest) one) [
+        | inl whole ↦ inl (passed_kept q (led.passed whole.0 q whole.1 (front_begins whole.0 q (shorter_in whole.0 name q step rest (sym whole.2)))))
+        | inr more ↦ inr (link_kept (q ++ step ∷ rest) q more (begins-append q (step ∷ rest)))
+      ]
+
+      link_there : (q : Path) → IsIn (ways_within most_links t true path) q → (last_name q ≡ Some name) ⊎ (has new.links q path ≡ true)
+      link_there q one = elim (whole_or_further t name (pack_directory folder) q one) [
+        | inl whole ↦ inl (ap last_name (sym whole.2) ∙ last_name-push whole.0 name)
+        | inr more ↦ inr (link_kept q q more (begins-own q))
+      ]
 
     -- is known from then on
-    pub led_knows : Knows new t folder
-    led_knows = record {
+    one_knows : Knows new t folder
+    one_knows = record {
       touched = touched_there;
-      fronts = fronts_there;
-      links = λ name kind watched q way.
-          elim (named_way t name (pack_directory folder) q way) [
-            | inl named ↦ inl named
-            | inr link ↦ inr (link_kept name kind watched link q way)
-          ];
+      directory = λ way q one begins. passed_kept q (led.passed way q one begins);
+      passed = passed_there;
+      links = link_there;
     }
+
+pub led_knows : (t : Tree) (keys : List Path) (found : NewWays) → AreLed t keys found → (folder : Path) → IsIn keys folder → (old new : Ways) → Learns old found new → Knows new t folder
+led_knows t keys found led folder one old new learns = one_knows t folder found (led folder one) old new learns
+
+-- ---- what the code adds
+
+module _ (t : Tree) (folder : Path) where
+  abbrev own : ℕ
+  own = own_ways t folder
+
+  module _ (old new : NewWays) (adds : AddsWays t folder old new) where
+    -- a front of a way is among the pairs of all
+    front_beside : (beside : Path) (ways : List Path) (way q : Path) → IsIn ways way → starts_with same_name way q ≡ true → IsIn (flat_map (front_pairs beside) ways) (q, beside)
+    front_beside beside ways way q one begins =
+        in_flat_map (front_pairs beside) ways way (q, beside) one (in_map (with_folder beside) (fronts way) q (front_in way q begins))
+
+    front_among : (ways : List Path) (way q : Path) → IsIn ways way → starts_with same_name way q ≡ true → IsIn (flat_map (front_pairs folder) ways) (q, folder)
+    front_among = front_beside folder
+
+    module _ (name : Name) (kind : WatchedKind) (watched : watched_kind name ≡ Some kind) (way : Path) (one : IsIn (further t own (pack_directory folder ++ name ∷ [])) way) where
+      -- a path that has further ways is among those whose further ways are added
+      path_among : IsIn adds.paths (pack_directory folder ++ name ∷ [])
+      path_among = adds.watched.whole name kind watched (further_has t name (pack_directory folder) way one)
+
+      link_front_added : (q : Path) → starts_with same_name way q ≡ true → IsIn new.fronts.items (q, folder)
+      link_front_added q begins =
+          subst (λ (l : List (Path × Path)). IsIn l (q, folder)) (sym adds.fronts)
+          (in_right (old.fronts.items ++ flat_map (front_pairs folder) (directory_ways t folder)) (flat_map (link_fronts t own folder) adds.paths) (q, folder)
+          (in_flat_map (link_fronts t own folder) adds.paths (pack_directory folder ++ name ∷ []) (q, folder) path_among
+          (front_among (further t own (pack_directory folder ++ name ∷ [])) way q one begins)))
+
+      link_end_added : (q : Path) → starts_with same_name way q ≡ true → IsIn new.links.items (q, pack_directory folder ++ name ∷ [])
+      link_end_added q begins =
+          let path = pack_directory folder ++ name ∷ [] in
+          subst (λ (l : List (Path × Path)). IsIn l (q, path)) (sym adds.links)
+          (in_right old.links.items (flat_map (link_ends t own) adds.paths) (q, path)
+          (in_flat_map (link_ends t own) adds.paths path (q, path) path_among (front_beside path (further t own path) way q one begins)))
+
+    -- what is added of a folder is found out
+    pub adds_led : IsLed t folder new
+    adds_led = record {
+      fronts = λ way q one begins.
+          subst (λ (l : List (Path × Path)). IsIn l (q, folder)) (sym adds.fronts)
+          (in_left (old.fronts.items ++ flat_map (front_pairs folder) (directory_ways t folder)) (flat_map (link_fronts t own folder) adds.paths) (q, folder)
+          (in_right old.fronts.items (flat_map (front_pairs folder) (directory_ways t folder)) (q, folder) (front_among (directory_ways t folder) way q one begins)));
+      passed = λ way q one begins.
+          subst (λ (l : List (Path × Path)). IsIn l (q, folder)) (sym adds.passed)
+          (in_right old.passed.items (flat_map (front_pairs folder) (directory_ways t folder)) (q, folder) (front_among (directory_ways t folder) way q one begins));
+      ends = λ way one.
+          subst (λ (l : List (Path × Path)). IsIn l (way, folder)) (sym adds.ends)
+          (in_right old.ends.items (map (with_folder folder) (directory_ways t folder)) (way, folder) (in_map (with_folder folder) (directory_ways t folder) way one));
+      link_fronts = λ name kind watched way q one begins. link_front_added name kind watched way one q begins;
+      links = λ name kind watched way q one begins. link_end_added name kind watched way one q begins;
+    }
+
+    -- and what was found out before stays
+    front_stays : (pair : Path × Path) → IsIn old.fronts.items pair → IsIn new.fronts.items pair
+    front_stays pair one =
+        subst (λ (l : List (Path × Path)). IsIn l pair) (sym adds.fronts)
+        (in_left (old.fronts.items ++ flat_map (front_pairs folder) (directory_ways t folder)) (flat_map (link_fronts t own folder) adds.paths) pair
+        (in_left old.fronts.items (flat_map (front_pairs folder) (directory_ways t folder)) pair one))
+
+    passed_stays : (pair : Path × Path) → IsIn old.passed.items pair → IsIn new.passed.items pair
+    passed_stays pair one =
+        subst (λ (l : List (Path × Path)). IsIn l pair) (sym adds.passed)
+        (in_left old.passed.items (flat_map (front_pairs folder) (directory_ways t folder)) pair one)
+
+    end_stays : (pair : Path × Path) → IsIn old.ends.items pair → IsIn new.ends.items pair
+    end_stays pair one =
+        subst (λ (l : List (Path × Path)). IsIn l pair) (sym adds.ends) (in_left old.ends.items (map (with_folder folder) (directory_ways t folder)) pair one)
+
+    link_stays : (pair : Path × Path) → IsIn old.links.items pair → IsIn new.links.items pair
+    link_stays pair one =
+        subst (λ (l : List (Path × Path)). IsIn l pair) (sym adds.links) (in_left old.links.items (flat_map (link_ends t own) adds.paths) pair one)
+
+    led_stays : (other : Path) → IsLed t other old → IsLed t other new
+    led_stays other led = record {
+      fronts = λ way q one begins. front_stays (q, other) (led.fronts way q one begins);
+      passed = λ way q one begins. passed_stays (q, other) (led.passed way q one begins);
+      ends = λ way one. end_stays (way, other) (led.ends way one);
+      link_fronts = λ name kind watched way q one begins. front_stays (q, other) (led.link_fronts name kind watched way q one begins);
+      links = λ name kind watched way q one begins. link_stays (q, pack_directory other ++ name ∷ []) (led.links name kind watched way q one begins);
+    }
+
+-- ---- folder by folder
+
+-- what is found out of each of these folders but for those that are left
+abbrev pub AreLedBut : Tree → (keys left : List Path) → NewWays → Type 0
+AreLedBut t keys left found = (folder : Path) → IsIn keys folder → IsLed t folder found ⊎ IsIn left folder
+
+pub none_led : (t : Tree) (keys left : List Path) (found : NewWays) → left ≡ keys → AreLedBut t keys left found
+none_led t keys left found same folder one = inr (subst (λ (l : List Path). IsIn l folder) (sym same) one)
+
+pub one_more_led : (t : Tree) (keys : List Path) (folder : Path) (left later : List Path) (old new : NewWays) → later ≡ folder ∷ left → AreLedBut t keys later old → AddsWays t folder old new
+    → AreLedBut t keys left new
+one_more_led t keys folder left later old new next led adds other one = elim (led other one) [
+  | inl before ↦ inl (led_stays t folder old new adds other before)
+  | inr among ↦ elim (subst (λ (l : List Path). IsIn l other) next among) [
+    | inl same ↦ inl (subst (λ (p : Path). IsLed t p new) same (adds_led t folder old new adds))
+    | inr more ↦ inr more
+  ]
+]
+
+pub all_led : (t : Tree) (keys left : List Path) (found : NewWays) → left ≡ [] → AreLedBut t keys left found → AreLed t keys found
+all_led t keys left found none led folder one = elim (led folder one) [
+  | inl is ↦ is
+  | inr more ↦ absurd (subst (λ (l : List Path). IsIn l folder) none more)
+]
+
+-- what is found out of one folder alone
+pub only_led : (t : Tree) (folder : Path) (old new : NewWays) → AddsWays t folder old new → AreLed t (folder ∷ []) new
+only_led t folder old new adds other (inl same) = subst (λ (p : Path). IsLed t p new) same (adds_led t folder old new adds)
+only_led t folder old new adds other (inr none) = absurd none

@@ -6,6 +6,7 @@ mod NameLemmas
 mod WholeLemmas
 mod EntryLemmas
 mod FilesLemmas
+mod WatchedPathsLemmas
 mod ContentsLemmas
 mod EndLemmas
 mod FrontLemmas
@@ -14,9 +15,11 @@ mod WayLemmas
 mod TouchedLemmas
 mod LedLemmas
 mod LeadsLemmas
+mod StaleLemmas
 mod RevealLemmas
 mod SeenLemmas
-mod OnwardLemmas
-mod PutLinkLemmas
+mod ReroutedLemmas
 mod JudgedLemmas
 mod KeptLemmas
+mod SightLemmas
+mod SightWaysLemmas

@@ -1,5 +1,5 @@
 -- Folders by places, and what is added to them.
-use Rattle.std.proofs.Common.{◌≡◌, Bool, true, false, ◌&&◌, ◌||◌, cond, List, [], ◌∷◌, ◌++◌, Option, Some, None, Result, Ok, Err, IfOk, refl, sym, ap, ◌∙◌}
+use Rattle.std.proofs.Common.{◌≡◌, Bool, true, false, not, ◌&&◌, ◌||◌, cond, List, [], ◌∷◌, ◌++◌, Option, Some, None, Result, Ok, Err, IfOk, refl, sym, ap, ◌∙◌}
 use Rattle.std.specs.List.{list_any}
 use Rattle.std.specs.Ordering.{eq_by_cmp}
 use Rattle.std.specs.FinMap as finite
@@ -13,7 +13,7 @@ use Rattle.std.proofs.lemmas.Cmp.{eq_by_cmp_equiv}
 use Rattle.std.proofs.lemmas.Bool.{false≢true}
 use Rattle.odb_base.specs.Path.{Path, last_name, parent_of, path_cmp}
 use Rattle.odb_base.specs.PathLaws.{one_place, path_order}
-use Rattle.odb_nodes.proofs.TreeLemmas.{same_path}
+use Rattle.odb_nodes.proofs.TreeLemmas.{own_path, same_path}
 use Rattle.gix_odb_shown.specs.Led.{is_in, is_pair}
 use Rattle.gix_odb_shown.specs.Watched.{is_watched_name}
 use Rattle.gix_odb_shown.specs.Ways.{Places, Ways, has, has_above, is_among, is_touched}
@@ -240,12 +240,12 @@ two_over true false true old = refl
 two_over true false false old = refl
 two_over false front end old = refl
 
-pub touched_above : (fronts ends links : Places) (own : Ways) → ◌≡◌ {A = Ways} (record { fronts = fronts; ends = ends; links = links }) own → (place directory : Path)
+pub touched_above : (fronts passed ends links : Places) (own : Ways) → ◌≡◌ {A = Ways} (record { fronts = fronts; passed = passed; ends = ends; links = links }) own → (place directory : Path)
     → is_watched_name (last_name place) ≡ true → parent_of place ≡ Some directory → (watched old mid new : List Path)
     → ((folder : Path) → is_in mid folder ≡ ((is_in watched folder && has fronts place folder) || is_in old folder))
     → ((folder : Path) → is_in new folder ≡ ((is_in watched folder && has ends directory folder) || is_in mid folder)) → (folder : Path)
     → is_in new folder ≡ ((is_in watched folder && is_touched own folder place) || is_in old folder)
-touched_above fronts ends links own view place directory named parent watched old mid new first second folder =
+touched_above fronts passed ends links own view place directory named parent watched old mid new first second folder =
     second folder ∙ ap (λ b. (is_in watched folder && has ends directory folder) || b) (first folder)
     ∙ two_over (is_in watched folder) (has fronts place folder) (has ends directory folder) (is_in old folder)
     ∙ ap (λ b. (is_in watched folder && (has fronts place folder || b)) || is_in old folder)
@@ -272,3 +272,77 @@ touched_next test yielded place watched new old before added =
     by true false true = refl
     by true false false = refl
     by false t l = refl
+
+-- ---- folders that are dropped
+
+not_or : (here so_far old : Bool) → (not here && (not so_far && old)) ≡ (not (so_far || here) && old)
+not_or true true old = refl
+not_or true false old = refl
+not_or false true old = refl
+not_or false false old = refl
+
+pub drops_none : (old : Bool) → old ≡ (not false && old)
+drops_none old = refl
+
+pub drops_next : (yielded : List (Path × Path)) (place folder q other : Path) (new mid old : Bool) → mid ≡ (not (list_any (is_pair q other) yielded) && old)
+    → new ≡ (not (eq_by_cmp path_cmp q place && eq_by_cmp path_cmp other folder) && mid) → new ≡ (not (list_any (is_pair q other) (yielded ++ (place, folder) ∷ [])) && old)
+drops_next yielded place folder q other new mid old before dropped =
+    let here = eq_by_cmp path_cmp q place && eq_by_cmp path_cmp other folder in
+    let so_far = list_any (is_pair q other) yielded in
+    dropped ∙ ap (λ b. not here && b) before ∙ not_or here so_far old ∙ sym (ap (λ b. not b && old) (any_push (is_pair q other) yielded (place, folder)))
+
+-- a folder is taken from a set of them
+pub folder_dropped : (old new : BTreeSet Path) (folder : Path) (own : set.FinSet path_cmp) → set.from_list {R = path_cmp} old.keys ≡ own → tree_set.Updates path_cmp old new folder false → (other : Path)
+    → set.contains (set.from_list {R = path_cmp} new.keys) other ≡ (not (eq_by_cmp path_cmp other folder) && set.contains own other)
+folder_dropped old new folder own view updates other =
+    is_in_set new.keys other ∙ updates.0 other ∙ by (eq_by_cmp path_cmp folder other) (is_in old.keys other)
+    ∙ ap (λ b. not b && is_in old.keys other) (eq_swap folder other)
+    ∙ ap (λ b. not (eq_by_cmp path_cmp other folder) && b) (sym (is_in_set old.keys other) ∙ ap (λ (s : set.FinSet path_cmp). set.contains s other) view)
+  where
+    by : (b c : Bool) → cond b false c ≡ (not b && c)
+    by true c = refl
+    by false c = refl
+
+-- none is in an empty set
+pub none_in_empty : (keys : List Path) (own : set.FinSet path_cmp) → set.from_list {R = path_cmp} keys ≡ own → keys ≡ [] → (folder : Path) → set.contains own folder ≡ false
+none_in_empty keys own view none folder =
+    ap (λ (s : set.FinSet path_cmp). set.contains s folder) (sym view) ∙ is_in_set keys folder ∙ ap (λ (l : List Path). is_in l folder) none
+
+module _ (old mid : Places) (place folder : Path) (before folders : set.FinSet path_cmp) (taken : (other : Path) → set.contains before other ≡ has old place other)
+    (others : (q : Path) → eq_by_cmp path_cmp q place ≡ false → finite.get mid q ≡ finite.get old q)
+    (dropped : (other : Path) → set.contains folders other ≡ (not (eq_by_cmp path_cmp other folder) && set.contains before other)) where
+  here_dropped : (q other : Path) → eq_by_cmp path_cmp q place ≡ true → set.contains folders other ≡ (not (eq_by_cmp path_cmp other folder) && has old q other)
+  here_dropped q other tied =
+      dropped other
+      ∙ ap (λ (c : Bool). not (eq_by_cmp path_cmp other folder) && c) (taken other ∙ ap (λ (p : Path). has old p other) (sym (same_path q place tied)))
+
+  -- none is left at the place
+  pub place_emptied : ((other : Path) → has mid place other ≡ false) → ((other : Path) → set.contains folders other ≡ false) → (q other : Path)
+      → has mid q other ≡ (not (eq_by_cmp path_cmp q place && eq_by_cmp path_cmp other folder) && has old q other)
+  place_emptied gone empty q other = by (eq_by_cmp path_cmp q place) refl
+    where
+      by : (b : Bool) → eq_by_cmp path_cmp q place ≡ b → has mid q other ≡ (not (b && eq_by_cmp path_cmp other folder) && has old q other)
+      by true tied = ap (λ (p : Path). has mid p other) (same_path q place tied) ∙ gone other ∙ sym (empty other) ∙ here_dropped q other tied
+      by false apart = ap (λ (o : Option (set.FinSet path_cmp)). is_among o other) (others q apart)
+
+  -- others are
+  pub place_dropped : (es : List (Path × set.FinSet path_cmp)) → finite.from_entries {R = path_cmp} es ≡ mid → (fs : List (Path × set.FinSet path_cmp))
+      → ((q : Path) → lookup (is_at (path_cmp q)) fs ≡ cond (is_at (path_cmp place) q) (Some folders) (lookup (is_at (path_cmp q)) es)) → (q other : Path)
+      → has (finite.from_entries {R = path_cmp} fs) q other ≡ (not (eq_by_cmp path_cmp q place && eq_by_cmp path_cmp other folder) && has old q other)
+  place_dropped es view fs updates q other =
+      ap (λ (o : Option (set.FinSet path_cmp)). is_among o other) (get_path fs q ∙ updates q) ∙ ap at_or (eq_swap place q) ∙ by (eq_by_cmp path_cmp q place) refl
+    where
+      at_or : Bool → Bool
+      at_or b = is_among (cond b (Some folders) (lookup (is_at (path_cmp q)) es)) other
+
+      by : (b : Bool) → eq_by_cmp path_cmp q place ≡ b → at_or b ≡ (not (b && eq_by_cmp path_cmp other folder) && has old q other)
+      by true tied = here_dropped q other tied
+      by false apart = ap (λ (o : Option (set.FinSet path_cmp)). is_among o other) (sym (at_path es mid view q) ∙ others q apart)
+
+-- nothing is kept at a place that is taken away
+pub none_after : (es fs : List (Path × set.FinSet path_cmp)) (place : Path)
+    → ((q : Path) → lookup (is_at (path_cmp q)) fs ≡ cond (is_at (path_cmp place) q) None (lookup (is_at (path_cmp q)) es)) → (folder : Path)
+    → has (finite.from_entries {R = path_cmp} fs) place folder ≡ false
+none_after es fs place updates folder =
+    ap (λ (o : Option (set.FinSet path_cmp)). is_among o folder)
+    (get_path fs place ∙ updates place ∙ ap (λ (b : Bool). cond b None (lookup (is_at (path_cmp place)) es)) (own_path place))

@@ -1,6 +1,7 @@
 -- What is seen of a change is what it reveals.
-use Rattle.std.proofs.Common.{◌≡◌, ◌≢◌, ◌⊎◌, inl, inr, ℕ, Bool, true, false, List, [], ◌∷◌, ◌++◌, Option, Some, None, Result, Ok, Err, IfOk, IfSome, if◌then◌else◌, append-nil, refl, sym, ap, ◌∙◌, subst}
+use Rattle.std.proofs.Common.{◌≡◌, ◌≢◌, ◌⊎◌, inl, inr, ℕ, Bool, true, false, List, [], ◌∷◌, ◌++◌, Option, Some, None, Result, Ok, Err, IfOk, IfSome, IsOk, is_ok, if◌then◌else◌, append-nil, refl, sym, ap, ◌∙◌, subst}
 use Rattle.std.specs.FinSet as set
+use Rattle.std.specs.Result.{result_ok}
 use Rattle.std.proofs.lemmas.Bool.{false≢true}
 use Rattle.odb_base.specs.Path.{Name, Path, path_cmp}
 use Rattle.odb_nodes.specs.Tree.{IsTree, Tree, is_directory, is_directory_content, node_at}
@@ -104,6 +105,66 @@ file_no_link : (content : Content) → is_file_content content ≡ true → is_l
 file_no_link (File bytes time) file = refl
 file_no_link Dir file = absurd (false≢true file)
 file_no_link (Link target) file = absurd (false≢true file)
+
+-- ---- the file that is moved
+
+module _ (t : Tree) (is_tree : IsTree t) (from to : Path) (possible : is_possible_in t (Rename from to) ≡ true) where
+  abbrev its_move : CanMove t from to
+  its_move = can_rename t is_tree from to possible
+
+  moved_found : followed t false from ≡ Ok (record { path = from; node = its_move.node })
+  moved_found = followed_reached t false from most_links from its_move.node (pass_to_unfollowed t is_tree from its_move.node its_move.at false refl)
+
+  moved_kind : kind_found (meta_of_place (followed t false from)) ≡ Some kinds.File → (meta_with its_move.node.dev its_move.node.ino its_move.node.content).kind ≡ kinds.File
+  moved_kind told =
+      let both : Some (meta_with its_move.node.dev its_move.node.ino its_move.node.content).kind ≡ Some kinds.File =
+      sym (ap (λ (found : Result Place following.Refusal). kind_found (meta_of_place found)) moved_found) ∙ told in
+      cc
+
+  moved_file : kind_found (looked t from false) ≡ Some kinds.File → HasFile its_move.node.content
+  unfolding looked
+  moved_file look = looked_content its_move.node.dev its_move.node.ino its_move.node.content (moved_kind look)
+
+  moved_read : (look : kind_found (looked t from false) ≡ Some kinds.File) → read_of t from ≡ Ok ((moved_file look).bytes, (moved_file look).time)
+  moved_read look =
+      let had = moved_file look in
+      read_at t is_tree from its_move.node its_move.at (no_link_at its_move.node.content had.bytes had.time had.is) ∙ ap file_of had.is
+
+-- ---- what is read
+
+ok_is : {A E : Type 0} (told : Result A E) (x : A) → told ≡ Ok x → IsOk told
+ok_is told x is = ap is_ok is
+
+-- a path to whose file bytes are added
+append_file : (t : Tree) (path : Path) → is_file_place (followed t true path) ≡ true → (file : List ℕ × ℕ) × (read_of t path ≡ Ok file)
+unfolding read_of
+append_file t path file =
+    let s = spot_of t path file in
+    let f = file_at t path s.0 s.1 in
+    let had = file_content f.node.content f.file in
+    ((had.bytes, had.time), ap file_of_place f.leads ∙ ap file_of had.is)
+
+pub append_reads : (t : Tree) (path : Path) → is_file_place (followed t true path) ≡ true → IsOk (read_of t path)
+append_reads t path file = let a = append_file t path file in ok_is (read_of t path) a.0 a.1
+
+-- it has a place
+pub append_place : (t : Tree) (path : Path) → is_file_place (followed t true path) ≡ true → result_ok (file_spot t path) ≢ None
+append_place t path file none =
+    let s = spot_of t path file in
+    let both : Some s.0 ≡ None = sym (ap result_ok s.1) ∙ none in cc
+
+pub append_possible : (t : Tree) (path : Path) (more : List ℕ) → is_possible_in t (Append path more) ≡ true → is_file_place (followed t true path) ≡ true
+append_possible t path more possible = sym (possible-append t path more) ∙ possible
+
+pub timed_reads : (t : Tree) → IsTree t → (q : Path) (time : ℕ) → is_possible_in t (SetTime q time) ≡ true → IsOk (read_of t q)
+timed_reads t is_tree q time possible =
+    let file = sym (possible-set_time t q time) ∙ possible in
+    let n = node_of (node_at t q) file in
+    let had = file_content n.0.content (sym (ap is_file n.1) ∙ file) in
+    ok_is (read_of t q) (had.bytes, had.time) (read_at t is_tree q n.0 n.1 (no_link_at n.0.content had.bytes had.time had.is) ∙ ap file_of had.is)
+
+pub moved_reads : (t : Tree) → IsTree t → (from to : Path) → is_possible_in t (Rename from to) ≡ true → kind_found (looked t from false) ≡ Some kinds.File → IsOk (read_of t from)
+moved_reads t is_tree from to possible look = ok_is (read_of t from) ((moved_file t is_tree from to possible look).bytes, (moved_file t is_tree from to possible look).time) (moved_read t is_tree from to possible look)
 
 module _ (keys : List Path) (t : Tree) (is_tree : IsTree t) (ways : Ways) (knows : (folder : Path) → set.contains (set.from_list {R = path_cmp} keys) folder ≡ true → Knows ways t folder) where
   -- where one place alone is touched, the others are as they were
@@ -241,12 +302,11 @@ module _ (keys : List Path) (t : Tree) (is_tree : IsTree t) (ways : Ways) (knows
 
   pub moved_is_seen : (from to : Path) → is_possible_in t (Rename from to) ≡ true → kind_found (looked t from false) ≡ Some kinds.File
       → is_link_found (kind_found (looked t to false)) ≡ false → (files : List ShownFile) → AreSeenOf t keys ways.links from to [] None files → IsSeen keys t (Rename from to) files
-  unfolding looked
   moved_is_seen from to possible look free files seen =
       file_is_seen (Rename from to) possible to had.time had.bytes node
       (ap (λ (v : Tree). node_at v to) (made-rename t from to) ∙ moved_target t from to ∙ at) had.is (no_link_found t is_tree to free) m.free each files
       (subst (λ (b : List ℕ). AreShownAt t keys ways.links to (b, had.time) files) (append-nil had.bytes)
-      (seen (had.bytes, had.time) (read_at t is_tree from node at (no_link_at node.content had.bytes had.time had.is) ∙ ap file_of had.is)))
+      (seen (had.bytes, had.time) (moved_read t is_tree from to possible look)))
     where
       m : CanMove t from to
       m = can_rename t is_tree from to possible
@@ -257,17 +317,8 @@ module _ (keys : List Path) (t : Tree) (is_tree : IsTree t) (ways : Ways) (knows
       at : node_at t from ≡ Some node
       at = m.at
 
-      found : followed t false from ≡ Ok (record { path = from; node = node })
-      found = followed_reached t false from most_links from node (pass_to_unfollowed t is_tree from node at false refl)
-
-      looked_file : kind_found (meta_of_place (followed t false from)) ≡ Some kinds.File → (meta_with node.dev node.ino node.content).kind ≡ kinds.File
-      looked_file told =
-          let both : Some (meta_with node.dev node.ino node.content).kind ≡ Some kinds.File =
-          sym (ap (λ (found : Result Place following.Refusal). kind_found (meta_of_place found)) found) ∙ told in
-          cc
-
       had : HasFile node.content
-      had = looked_content node.dev node.ino node.content (looked_file look)
+      had = moved_file t is_tree from to possible look
 
       leaf : is_directory (node_at t from) ≡ false
       leaf = ap is_directory at ∙ ap is_directory_content had.is
@@ -329,17 +380,3 @@ module _ (keys : List Path) (t : Tree) (is_tree : IsTree t) (ways : Ways) (knows
   moved_answer (Ok (Some files)) from to possible look free seen = moved_is_seen keys t is_tree ways knows from to possible look free (items files) seen
   moved_answer (Ok None) from to possible look free seen = tt
   moved_answer (Err error) from to possible look free seen = tt
-
-  pub appended_answer : (answer : Result (Option V) E) (path : Path) (more : List ℕ) → is_possible_in t (Append path more) ≡ true
-      → IfOk answer (λ seen. IfSome seen (λ files. (place : Path) → file_spot t path ≡ Ok place → AreSeenOf t keys ways.links path place more None (items files)))
-      → IfOk answer (λ seen. IfSome seen (λ files. IsSeen keys t (Append path more) (items files)))
-  appended_answer (Ok (Some files)) path more possible seen = appended_is_seen keys t is_tree ways knows path more possible (items files) seen
-  appended_answer (Ok None) path more possible seen = tt
-  appended_answer (Err error) path more possible seen = tt
-
-  pub timed_answer : (answer : Result (Option V) E) (q : Path) (time : ℕ) → is_possible_in t (SetTime q time) ≡ true
-      → IfOk answer (λ seen. IfSome seen (λ files. AreSeenOf t keys ways.links q q [] (Some time) (items files)))
-      → IfOk answer (λ seen. IfSome seen (λ files. IsSeen keys t (SetTime q time) (items files)))
-  timed_answer (Ok (Some files)) q time possible seen = timed_is_seen keys t is_tree ways knows q time possible (items files) seen
-  timed_answer (Ok None) q time possible seen = tt
-  timed_answer (Err error) q time possible seen = tt

@@ -1,5 +1,5 @@
 -- What a change leaves as it was in a folder that it doesn't touch.
-use Rattle.std.proofs.Common.{◌≡◌, inl, inr, ℕ, Bool, true, false, if◌then◌else◌, List, [], ◌∷◌, ◌++◌, Some, Result, Ok, Err, refl, sym, ap, ◌∙◌, subst}
+use Rattle.std.proofs.Common.{◌≡◌, inl, inr, ℕ, Bool, true, false, if◌then◌else◌, List, [], ◌∷◌, ◌++◌, codes, Some, Result, Ok, Err, refl, sym, ap, ◌∙◌, subst}
 use Rattle.std.specs.List.{list_any, starts_with}
 use Rattle.std.specs.Ordering.{eq_by_cmp}
 use Rattle.std.proofs.lemmas.Bool.{false≢true, false_from_ne_true, or_cases}
@@ -16,21 +16,22 @@ use Rattle.odb_nodes.specs.declared.change.Change.TheVariants.{PutFile, MakeDir,
 use Rattle.odb_nodes.proofs.TreeLemmas.{same_path}
 use Rattle.odb_nodes.proofs.TreeLemmas.Moved.{begins, begins-own}
 use Rattle.odb_nodes.proofs.TreeLemmas.Possible.{possible-append}
-use Rattle.odb_nodes.proofs.WayLaws.{front_on_way, on_way_kept, read_kept, same_untouched}
+use Rattle.odb_nodes.proofs.WayLaws.{front_on_way, on_way_kept, read_kept, same_directory, same_unfollowed, same_untouched}
 use Rattle.odb_nodes.proofs.WriteLaws.{at_place, touches}
 use Rattle.gix_odb_shown.specs.Ways.{IsIn, Knows, Ways, is_touched}
 use Rattle.gix_odb_shown.specs.Led.{place_if, places_of}
 use Rattle.gix_odb_shown.specs.Watched.{Shows, pack_directory, watched_kind}
 use Rattle.gix_odb_shown.specs.declared.watched.WatchedKind.{WatchedKind}
+use Rattle.gix_odb_shown.specs.declared.watched.WatchedKind.TheVariants.{PackOrIndex}
 use Rattle.gix_odb_shown.proofs.ListLemmas.{passes_one}
 use Rattle.gix_odb_shown.proofs.WholeLemmas.{same_ways_there}
 
 -- ---- what a change touches lies at one of its places, or below
 
-record IsAt (t : Tree) (change : Change) (q : Path) : Type 0 where
-  place : Path
-  one : IsIn (places_of t change) place
-  front : begins q place ≡ true
+pub record IsAt (t : Tree) (change : Change) (q : Path) : Type 0 where
+  pub place : Path
+  pub one : IsIn (places_of t change) place
+  pub front : begins q place ≡ true
 
 at_own : (t : Tree) (change : Change) (q path : Path) → IsIn (places_of t change) path → eq_by_cmp path_cmp q path ≡ true → IsAt t change q
 at_own t change q path one tied = record { place = path; one = one; front = ap (λ (p : Path). begins p path) (same_path q path tied) ∙ begins-own path }
@@ -47,7 +48,7 @@ append_at (Ok found) q file tied =
     ap_in is = subst (λ (l : List Path). IsIn l found.path) is (inl refl)
 append_at (Err refusal) q file tied = absurd (false≢true file)
 
-touched_at : (t : Tree) (change : Change) (q : Path) → is_possible_in t change ≡ true → touches t change q ≡ true → IsAt t change q
+pub touched_at : (t : Tree) (change : Change) (q : Path) → is_possible_in t change ≡ true → touches t change q ≡ true → IsAt t change q
 unfolding file_spot
 touched_at t (PutFile path time bytes) q possible tied = at_own t (PutFile path time bytes) q path (inl refl) tied
 touched_at t (MakeDir path dev) q possible tied = at_own t (MakeDir path dev) q path (inl refl) tied
@@ -79,6 +80,14 @@ module _ (ways : Ways) (t : Tree) (change : Change) (possible : is_possible_in t
         false≢true (sym apart
         ∙ passes_one (is_touched ways folder) (places_of t change) a.place a.one (knows.touched name kind watched a.place (front_on_way t true path q a.place a.front on)))))
 
+  -- and so are those of its pack directory
+  index_watched : watched_kind (codes ".idx") ≡ Some PackOrIndex
+  index_watched = refl
+
+  same_directory_ways : SameOnWay t u true (pack_directory folder)
+  same_directory_ways =
+      same_directory t u (pack_directory folder) (codes ".idx") (same_unfollowed t u (pack_directory folder ++ codes ".idx" ∷ []) (same_ways (codes ".idx") PackOrIndex index_watched))
+
   -- what it shows it showed
   pub untouched_shows : (path : Path) (time : ℕ) (bytes : List ℕ) → Shows folder u path time bytes → Shows folder t path time bytes
   untouched_shows path time bytes s = record {
@@ -97,8 +106,9 @@ module _ (ways : Ways) (t : Tree) (change : Change) (possible : is_possible_in t
   untouched_knows others k = record {
     touched = λ name kind watched q on.
         k.touched name kind watched q (sym (on_way_kept t u true (pack_directory folder ++ name ∷ []) (same_ways name kind watched) q) ∙ on);
-    fronts = λ name kind watched q step rest one.
-        k.fronts name kind watched q step rest
+    directory = λ way q one begins. k.directory way q (subst (λ (ways : List Path). IsIn ways way) (same_ways_there t u (pack_directory folder) same_directory_ways) one) begins;
+    passed = λ name kind watched q step rest one.
+        k.passed name kind watched q step rest
         (subst (λ (ways : List Path). IsIn ways (q ++ step ∷ rest)) (same_ways_there t u (pack_directory folder ++ name ∷ []) (same_ways name kind watched)) one);
     links = λ name kind watched q one.
         k.links name kind watched q

@@ -1,15 +1,17 @@
 -- The files that a tree shows in pack directories, as lists. No public clause cites this.
-use Rattle.std.specs.Prelude.{◌⊎◌, ◌++◌, ℕ, Bool, false, not, List, [], ◌∷◌, Option, Some, None, Result, Ok, Err, unwrap_or}
+use Rattle.std.specs.Prelude.{◌≡◌, ◌⊎◌, ◌++◌, ℕ, Bool, false, not, List, [], ◌∷◌, Option, Some, None, Result, Ok, Err, unwrap_or}
 use Rattle.std.specs.Result.{result_ok}
 use Rattle.std.specs.List.{flat_map}
 use Rattle.std.specs.FinMap as finite
-use Rattle.odb_base.specs.Path.{Name, Path, same_name}
+use Rattle.odb_base.specs.Path.{Path, last_name, same_name}
 use Rattle.odb_nodes.specs.Tree.{Tree}
 use Rattle.odb_nodes.specs.Tree.Follow.{Refusal, read_of}
 use Rattle.odb_nodes.specs.Entries.{opened}
+use Rattle.odb_nodes.specs.declared.change.Change.{Change}
 use Rattle.odb_nodes.specs.declared.entry.Entry.{Entry}
-use Rattle.gix_odb_shown.specs.Watched.{watched_kind, counted, pack_directory}
+use Rattle.gix_odb_shown.specs.Watched.{Shows, counted, named_kind, pack_directory}
 use Rattle.gix_odb_shown.specs.Kept.{Contents, Folders, ShowsInOne}
+use Rattle.gix_odb_shown.specs.Sight.{AreWatchedIn, place_put, put_path, watched_path}
 use Rattle.gix_odb_shown.specs.Ways.{IsIn}
 use Rattle.gix_odb_shown.specs.declared.watched.WatchedKind.{WatchedKind}
 use Rattle.gix_odb_shown.specs.declared.shown_file.ShownFile.{ShownFile}
@@ -20,17 +22,33 @@ file_read path None told = []
 file_read path (Some kind) (Err refusal) = []
 file_read path (Some kind) (Ok file) = record { key = (path, counted kind file.1); bytes = file.0 } ∷ []
 
--- what a tree shows at a name of a directory
-abbrev pub files_at : Tree → Path → Name → List ShownFile
-files_at tree directory name = file_read (directory ++ name ∷ []) (watched_kind name) (read_of tree (directory ++ name ∷ []))
+-- what a tree shows at a path, if its name is watched
+abbrev pub file_at : Tree → Path → List ShownFile
+file_at tree path = file_read path (named_kind (last_name path)) (read_of tree path)
 
 -- the entries of a directory, or none where there is no directory
 abbrev pub listed : Tree → Path → List Entry
 listed tree directory = unwrap_or (result_ok (opened tree directory)) []
 
--- what a tree shows in the pack directory of a folder
-unfoldable pub files_in : Tree → Path → List ShownFile
-files_in tree folder = flat_map (λ entry. files_at tree (pack_directory folder) entry.name) (listed tree (pack_directory folder))
+-- the watched paths of a directory at whose names something stands, by another path that leads there
+abbrev pub listed_paths : Tree → (like directory : Path) → List Path
+listed_paths tree like directory = flat_map (λ entry. watched_path directory entry.name) (listed tree like)
+
+-- the same after a change: that of what the change puts may be among them too
+abbrev pub paths_like : Tree → Option Change → (like directory : Path) → List Path
+paths_like tree change like directory = listed_paths tree like directory ++ put_path directory (place_put change)
+
+-- The files are what a tree shows in the pack directory of a folder.
+pub record AreFilesIn (tree : Tree) (folder : Path) (files : List ShownFile) : Type 0 where
+  pub paths : List Path
+  pub watched : AreWatchedIn tree (pack_directory folder) paths
+  pub are : files ≡ flat_map (file_at tree) paths
+
+-- They are what it shows in those of several folders.
+pub record AreFilesOf (tree : Tree) (keys : List Path) (files : List ShownFile) : Type 0 where
+  pub shown : (file : ShownFile) → IsIn files file → (folder : Path) × IsIn keys folder × Shows folder tree file.key.0 file.key.1 file.bytes
+  pub whole : (folder : Path) → IsIn keys folder → (path : Path) (time : ℕ) (bytes : List ℕ) → Shows folder tree path time bytes
+      → IsIn files (record { key = (path, time); bytes = bytes })
 
 -- whether other bytes than a file's are kept under its key
 abbrev pub is_other : Option (List ℕ) → List ℕ → Bool

@@ -1,9 +1,9 @@
 -- What is looked up of the ways of folders, and what is kept of it. No public clause cites this.
-use Rattle.std.specs.Prelude.{◌≡◌, ◌++◌, ◌||◌, ◌&&◌, Bool, true, false, List, [], ◌∷◌, map, Result, Ok, Err, if◌then◌else◌}
-use Rattle.std.specs.List.{flat_map, list_any}
+use Rattle.std.specs.Prelude.{◌≡◌, ◌++◌, ◌||◌, ◌&&◌, ℕ, Bool, true, false, List, [], ◌∷◌, drop, length, map, Some, Result, Ok, Err}
+use Rattle.std.specs.List.{flat_map, list_any, starts_with}
 use Rattle.std.specs.Ordering.{eq_by_cmp}
 use Rattle.std.specs.FinSet as set
-use Rattle.odb_base.specs.Path.{Path, path_cmp}
+use Rattle.odb_base.specs.Path.{Name, Path, path_cmp, same_name}
 use Rattle.odb_nodes.specs.Tree.{Tree}
 use Rattle.odb_nodes.specs.Tree.Follow.{most_links}
 use Rattle.odb_nodes.specs.Tree.Way.{ways_within}
@@ -11,15 +11,16 @@ use Rattle.odb_nodes.specs.Tree.Write as writing
 use Rattle.odb_nodes.specs.Tree.Write.{file_spot}
 use Rattle.odb_nodes.specs.declared.change.Change.{Change}
 use Rattle.odb_nodes.specs.declared.change.Change.TheVariants.{PutFile, MakeDir, PutLink, Rename, Append, Remove, SetTime}
-use Rattle.odb_nodes.specs.declared.entry.Entry.{Entry}
 use Rattle.odb_nodes.specs.declared.meta.Kind.{Kind}
 use Rattle.odb_nodes.specs.declared.meta.Kind.TheVariants as kinds
-use Rattle.gix_odb_shown.specs.Watched.{is_some_kind, pack_directory, watched_kind}
+use Rattle.gix_odb_shown.specs.Watched.{pack_directory, watched_kind}
 use Rattle.gix_odb_shown.specs.Kept.{Folders}
-use Rattle.gix_odb_shown.specs.Files.{Reveals, listed}
-use Rattle.gix_odb_shown.specs.Ways.{Knows, Places, Ways, has}
+use Rattle.gix_odb_shown.specs.Files.{Reveals}
+use Rattle.gix_odb_shown.specs.Sight.{AreWatchedIn}
+use Rattle.gix_odb_shown.specs.Ways.{IsIn, Knows, Places, Ways, has}
 use Rattle.gix_odb_shown.specs.declared.led.NewWays.{NewWays}
 use Rattle.gix_odb_shown.specs.declared.shown_file.ShownFile.{ShownFile}
+use Rattle.gix_odb_shown.specs.declared.watched.WatchedKind.{WatchedKind}
 
 -- ---- the places of a change
 
@@ -44,10 +45,6 @@ is_link_kind kinds.File = false
 is_link_kind kinds.Dir = false
 is_link_kind kinds.Link = true
 
--- an entry is a link with a watched name
-abbrev pub is_watched_link : Entry → Bool
-is_watched_link entry = is_link_kind entry.kind && is_some_kind (watched_kind entry.name)
-
 -- the paths that a path begins with
 abbrev pub fronts : Path → List Path
 fronts [] = [] ∷ []
@@ -60,36 +57,44 @@ with_folder folder place = (place, folder)
 abbrev pub front_pairs : (folder way : Path) → List (Path × Path)
 front_pairs folder way = map (with_folder folder) (fronts way)
 
--- the fronts of all ways of a path
-abbrev pub pairs_along : Tree → (folder path : Path) → List (Path × Path)
-pairs_along tree folder path = flat_map (front_pairs folder) (ways_within most_links tree true path)
+-- the ways of a path behind the first so many: those on which a link leads that stands at its name in a directory which has so many
+abbrev pub further : Tree → (own : ℕ) (path : Path) → List Path
+further tree own path = drop own (ways_within most_links tree true path)
 
--- those of a watched link
-abbrev pub link_pairs : Tree → (folder : Path) → Entry → List (Path × Path)
-link_pairs tree folder entry = if is_watched_link entry then pairs_along tree folder (pack_directory folder ++ entry.name ∷ []) else []
+abbrev pub link_fronts : Tree → (own : ℕ) (folder path : Path) → List (Path × Path)
+link_fronts tree own folder path = flat_map (front_pairs folder) (further tree own path)
 
--- those of a folder's pack directory, and of the watched links in it
-abbrev pub fronts_of : Tree → (folder : Path) → List (Path × Path)
-fronts_of tree folder = pairs_along tree folder (pack_directory folder) ++ flat_map (link_pairs tree folder) (listed tree (pack_directory folder))
+abbrev pub link_ends : Tree → (own : ℕ) (path : Path) → List (Path × Path)
+link_ends tree own path = flat_map (front_pairs path) (further tree own path)
 
--- the ways of its pack directory
-abbrev pub ends_of : Tree → (folder : Path) → List (Path × Path)
-ends_of tree folder = map (with_folder folder) (ways_within most_links tree true (pack_directory folder))
+-- the ways of a folder's pack directory, and how many these are
+abbrev pub directory_ways : Tree → (folder : Path) → List Path
+directory_ways tree folder = ways_within most_links tree true (pack_directory folder)
 
--- the ways of a watched link, each with the path of the link
-abbrev pub link_ends : Tree → (folder : Path) → Entry → List (Path × Path)
-link_ends tree folder entry =
-    if is_watched_link entry then map (with_folder (pack_directory folder ++ entry.name ∷ [])) (ways_within most_links tree true (pack_directory folder ++ entry.name ∷ [])) else []
+abbrev pub own_ways : Tree → (folder : Path) → ℕ
+own_ways tree folder = length (directory_ways tree folder)
 
--- those of the watched links in its pack directory
-abbrev pub links_of : Tree → (folder : Path) → List (Path × Path)
-links_of tree folder = flat_map (link_ends tree folder) (listed tree (pack_directory folder))
+-- what a tree tells of the ways of a folder is added
+pub record AddsWays (tree : Tree) (folder : Path) (old new : NewWays) : Type 0 where
+  pub paths : List Path
+  pub watched : AreWatchedIn tree (pack_directory folder) paths
+  pub fronts : new.fronts.items ≡ (old.fronts.items ++ flat_map (front_pairs folder) (directory_ways tree folder)) ++ flat_map (link_fronts tree (own_ways tree folder) folder) paths
+  pub passed : new.passed.items ≡ old.passed.items ++ flat_map (front_pairs folder) (directory_ways tree folder)
+  pub ends : new.ends.items ≡ old.ends.items ++ map (with_folder folder) (directory_ways tree folder)
+  pub links : new.links.items ≡ old.links.items ++ flat_map (link_ends tree (own_ways tree folder)) paths
 
--- what is looked up is that of these folders
-pub record AreLed (tree : Tree) (keys : List Path) (found : NewWays) : Type 0 where
-  pub fronts : found.fronts.items ≡ flat_map (fronts_of tree) keys
-  pub ends : found.ends.items ≡ flat_map (ends_of tree) keys
-  pub links : found.links.items ≡ flat_map (links_of tree) keys
+-- What is found out has the ways of a folder's pack directory and their fronts, and the fronts of the ways on which its watched links lead.
+pub record IsLed (tree : Tree) (folder : Path) (found : NewWays) : Type 0 where
+  pub fronts : (way q : Path) → IsIn (directory_ways tree folder) way → starts_with same_name way q ≡ true → IsIn found.fronts.items (q, folder)
+  pub passed : (way q : Path) → IsIn (directory_ways tree folder) way → starts_with same_name way q ≡ true → IsIn found.passed.items (q, folder)
+  pub ends : (way : Path) → IsIn (directory_ways tree folder) way → IsIn found.ends.items (way, folder)
+  pub link_fronts : (name : Name) (kind : WatchedKind) → watched_kind name ≡ Some kind → (way q : Path) → IsIn (further tree (own_ways tree folder) (pack_directory folder ++ name ∷ [])) way
+      → starts_with same_name way q ≡ true → IsIn found.fronts.items (q, folder)
+  pub links : (name : Name) (kind : WatchedKind) → watched_kind name ≡ Some kind → (way q : Path) → IsIn (further tree (own_ways tree folder) (pack_directory folder ++ name ∷ [])) way
+      → starts_with same_name way q ≡ true → IsIn found.links.items (q, pack_directory folder ++ name ∷ [])
+
+abbrev pub AreLed : Tree → List Path → NewWays → Type 0
+AreLed tree keys found = (folder : Path) → IsIn keys folder → IsLed tree folder found
 
 -- ---- what is kept of it
 
@@ -107,6 +112,7 @@ AreAdded pairs old new = (place folder : Path) → has new place folder ≡ (lis
 -- what was looked up is kept
 pub record Learns (old : Ways) (found : NewWays) (new : Ways) : Type 0 where
   pub fronts : AreAdded found.fronts.items old.fronts new.fronts
+  pub passed : AreAdded found.passed.items old.passed new.passed
   pub ends : AreAdded found.ends.items old.ends new.ends
   pub links : AreAdded found.links.items old.links new.links
 

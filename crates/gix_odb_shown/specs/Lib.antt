@@ -8,4 +8,6 @@ pub mod Files
 pub mod Revealed
 pub mod Led
 pub mod Seen
-pub mod PutLink
+pub mod Rerouted
+pub mod Sight
+pub mod Stale

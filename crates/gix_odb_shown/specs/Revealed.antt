@@ -6,12 +6,19 @@ use Rattle.odb_nodes.specs.Tree.{IsTree, Tree}
 use Rattle.gix_odb_shown.specs.Files.{Reveals}
 use Rattle.gix_odb_shown.specs.Kept.{Folders}
 use Rattle.gix_odb_shown.specs.Led.{Learns}
+use Rattle.gix_odb_shown.specs.Stale.{AreStale}
 use Rattle.gix_odb_shown.specs.Ways.{Knows, Ways}
+use Rattle.gix_odb_shown.specs.declared.revealed.Found.{Found}
 use Rattle.gix_odb_shown.specs.declared.revealed.Revealed.{Revealed}
 
 -- It is what the paths of these folders show in a tree beside what they showed in the one before, and with it what was known of their ways in
 -- that one is known in this one.
-pub record IsRevealed (folders : Folders) (before after : Tree) (revealed : Revealed) : Type 0 where
+pub record IsFound (folders : Folders) (before after : Tree) (found : Found) : Type 0 where
   pub is_tree : IsTree after
-  pub reveals : Reveals folders before after revealed.files.items
-  pub knows : (folder : Path) → set.contains folders folder ≡ true → (old new : Ways) → Knows old before folder → Learns old revealed.ways new → Knows new after folder
+  pub reveals : Reveals folders before after found.files.items
+  pub knows : (folder : Path) → set.contains folders folder ≡ true → (old new : Ways) → Knows old before folder → Learns old found.ways new → Knows new after folder
+
+-- And with it, what may be forgotten of the ways in the tree before.
+pub record IsRevealed (folders : Folders) (before after : Tree) (revealed : Revealed) : Type 0 where
+  pub found : IsFound folders before after revealed.found
+  pub stale : AreStale before revealed.stale.items

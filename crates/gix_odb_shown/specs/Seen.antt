@@ -7,7 +7,7 @@ use Rattle.odb_base.specs.Path.{Name, Path, last_name, parent_of, same_name}
 use Rattle.odb_nodes.specs.Tree.{Tree}
 use Rattle.odb_nodes.specs.Tree.Change.{changed}
 use Rattle.odb_nodes.specs.Tree.Follow.{Refusal, most_links, read_of}
-use Rattle.odb_nodes.specs.Tree.Way.{ways_within}
+use Rattle.odb_nodes.specs.Tree.Way.{on_way, ways_within}
 use Rattle.odb_nodes.specs.declared.change.Change.{Change}
 use Rattle.odb_nodes.specs.declared.meta.Meta.{Meta}
 use Rattle.odb_nodes.specs.declared.meta.Kind.{Kind}
@@ -15,6 +15,7 @@ use Rattle.gix_odb_shown.specs.Watched.{is_some_kind, named_kind, pack_directory
 use Rattle.gix_odb_shown.specs.Ways.{IsIn, Places, has}
 use Rattle.gix_odb_shown.specs.Files.{Reveals, file_read}
 use Rattle.gix_odb_shown.specs.Led.{is_in, is_link_kind}
+use Rattle.gix_odb_shown.specs.Sight.{is_place}
 use Rattle.gix_odb_shown.specs.declared.shown_file.ShownFile.{ShownFile}
 
 -- a path is followed along no others than before
@@ -28,10 +29,7 @@ pub record IsSeen (keys : List Path) (tree : Tree) (change : Change) (files : Li
 
 -- ---- the watched paths that lead to a place
 
-abbrev pub is_place : (place way : Path) → Bool
-is_place place way = pointwise same_name way place
-
--- Whether a path leads to a place, where nothing or a file stands: the place is what it is followed along at last.
+-- Whether a path is followed along a place. Where nothing or a file stands there, it leads to it.
 abbrev pub leads_to : Tree → (place path : Path) → Bool
 leads_to tree place path = list_any (is_place place) (ways_within most_links tree true path)
 
@@ -71,6 +69,18 @@ pub record ArePathsTo (tree : Tree) (keys : List Path) (links : Places) (place :
   pub linked : List Path
   pub at : (path : Path) → is_in linked path ≡ has links place path
   pub are : paths ≡ own_paths tree keys place (last_name place) ++ flat_map (link_through tree keys place) linked
+
+-- ---- the watched paths that are followed over a place
+
+abbrev pub link_over : Tree → List Path → (place path : Path) → List Path
+link_over tree keys place path = path_if (lies_in_one keys path && on_way tree true path place) path
+
+-- The paths are those of the place's own last name, as far as they lead to it, and those that are kept at it as links', as far as it is on their
+-- way.
+pub record ArePathsOver (tree : Tree) (keys : List Path) (links : Places) (place : Path) (paths : List Path) : Type 0 where
+  pub linked : List Path
+  pub at : (path : Path) → is_in linked path ≡ has links place path
+  pub are : paths ≡ own_paths tree keys place (last_name place) ++ flat_map (link_over tree keys place) linked
 
 -- ---- what they show
 

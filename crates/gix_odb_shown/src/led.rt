@@ -1,18 +1,13 @@
 //! Over which places the watched paths of folders lead, as a tree tells it.
-ghost use Rattle.std.specs.Prelude.{◌≡◌, ◌++◌, ◌∷◌, [], map, true, IfOk, OnOk};
+ghost use Rattle.std.specs.Prelude.{◌≡◌, ◌++◌, ◌∷◌, [], map, Some, IfOk, OnOk};
 ghost use Rattle.std.specs.List.{flat_map};
-ghost use Rattle.odb_base.specs.Path.{is_name};
-ghost use Rattle.odb_nodes.specs.Tree.Follow.{most_links};
-ghost use Rattle.odb_nodes.specs.Tree.Way.{ways_within};
-ghost use Rattle.gix_odb_shown.specs.Files.{listed};
-ghost use Rattle.gix_odb_shown.specs.Led.{AreLed, ends_of, front_pairs, fronts_of, link_ends, link_pairs, links_of, pairs_along, with_folder};
-ghost use Rattle.gix_odb_shown.specs.Watched.{pack_directory};
+ghost use Rattle.odb_base.specs.Path.{parent_of};
+ghost use Rattle.gix_odb_shown.specs.Led.{AddsWays, AreLed, front_pairs, link_ends, link_fronts, with_folder};
+ghost use Rattle.gix_odb_shown.specs.Rerouted.{AddsAlong, AreAlong};
 
-use crate::shown_file::{joined, listed};
-use crate::watched::{is_watched_link, pack_directory};
+use crate::sight::Sight;
+use crate::watched::pack_directory;
 use odb_base::{NoMemory, PathText};
-use odb_nodes::Entry;
-use odb_tree::Tree;
 use std::alloc::Global;
 use std::collections::BTreeSet;
 
@@ -21,230 +16,206 @@ use std::collections::BTreeSet;
 pub(crate) struct NewWays {
     /// The fronts of the ways of its pack directory, and of the watched links in that.
     pub fronts: Vec<(PathText, PathText)>,
+    /// The fronts of the ways of its pack directory alone.
+    pub passed: Vec<(PathText, PathText)>,
     /// The ways of its pack directory.
     pub ends: Vec<(PathText, PathText)>,
-    /// The ways of the watched links in that, with the paths of these.
+    /// The fronts of the ways on which the watched links in that lead, with the paths of these.
     pub links: Vec<(PathText, PathText)>,
 }
 
 /// What a tree tells of the ways of folders.
 pub(crate) fn ways_of(
     alloc: Global,
-    tree: &Tree,
+    sight: &Sight<'_>,
     folders: &BTreeSet<PathText>,
 ) -> Result<NewWays, NoMemory>
-    ensures led { IfOk result (AreLed tree.now folders.now.keys) }
+    ensures led { IfOk result (AreLed sight.now folders.now.keys) }
 {
-    Ok(NewWays {
-        fronts: fronts_of_all(alloc, tree, folders)?,
-        ends: ends_of_all(alloc, tree, folders)?,
-        links: links_of_all(alloc, tree, folders)?,
-    })
+    let mut found = no_ways(alloc);
+    for folder in folders {
+        add_ways_of(alloc, sight, folder, &mut found)?;
+    }
+    Ok(found)
 }
 
 /// The same of one folder.
 pub(crate) fn ways_of_one(
     alloc: Global,
-    tree: &Tree,
+    sight: &Sight<'_>,
     folder: &PathText,
 ) -> Result<NewWays, NoMemory>
-    ensures led { IfOk result (AreLed tree.now (folder.now ∷ [])) }
+    ensures led { IfOk result (AreLed sight.now (folder.now ∷ [])) }
 {
-    let mut folders = BTreeSet::new(alloc);
-    folders.insert(folder.try_clone(alloc)?)?;
-    ways_of(alloc, tree, &folders)
+    let mut found = no_ways(alloc);
+    add_ways_of(alloc, sight, folder, &mut found)?;
+    Ok(found)
 }
 
 /// Nothing is found out.
 pub(crate) fn no_ways(alloc: Global) -> NewWays
     ensures fronts { result.fronts.items ≡ [] }
+    ensures passed { result.passed.items ≡ [] }
     ensures ends { result.ends.items ≡ [] }
     ensures links { result.links.items ≡ [] }
 {
     NewWays {
         fronts: Vec::new(alloc),
+        passed: Vec::new(alloc),
         ends: Vec::new(alloc),
         links: Vec::new(alloc),
     }
 }
 
-fn fronts_of_all(
+/// Adds what a tree tells of the ways of a folder.
+fn add_ways_of(
     alloc: Global,
-    tree: &Tree,
-    folders: &BTreeSet<PathText>,
-) -> Result<Vec<(PathText, PathText)>, NoMemory>
-    ensures fronts { IfOk result (λ pairs. pairs.items ≡ flat_map (fronts_of tree.now) folders.now.keys) }
-{
-    let mut pairs = Vec::new(alloc);
-    for folder in folders {
-        add_fronts_of(alloc, tree, folder, &mut pairs)?;
-    }
-    Ok(pairs)
-}
-
-fn ends_of_all(
-    alloc: Global,
-    tree: &Tree,
-    folders: &BTreeSet<PathText>,
-) -> Result<Vec<(PathText, PathText)>, NoMemory>
-    ensures ends { IfOk result (λ pairs. pairs.items ≡ flat_map (ends_of tree.now) folders.now.keys) }
-{
-    let mut pairs = Vec::new(alloc);
-    for folder in folders {
-        add_ends_of(alloc, tree, folder, &mut pairs)?;
-    }
-    Ok(pairs)
-}
-
-fn links_of_all(
-    alloc: Global,
-    tree: &Tree,
-    folders: &BTreeSet<PathText>,
-) -> Result<Vec<(PathText, PathText)>, NoMemory>
-    ensures links { IfOk result (λ pairs. pairs.items ≡ flat_map (links_of tree.now) folders.now.keys) }
-{
-    let mut pairs = Vec::new(alloc);
-    for folder in folders {
-        add_links_of(alloc, tree, folder, &mut pairs)?;
-    }
-    Ok(pairs)
-}
-
-/// The ways of a folder's pack directory.
-fn add_ends_of(
-    alloc: Global,
-    tree: &Tree,
+    sight: &Sight<'_>,
     folder: &PathText,
-    pairs: &mut Vec<(PathText, PathText)>,
+    found: &mut NewWays,
 ) -> Result<(), NoMemory>
-    ensures added { OnOk result (pairs.new.items ≡ pairs.old.items ++ ends_of tree.now folder.now) }
+    ensures added { OnOk result (AddsWays sight.now folder.now found.old found.new) }
 {
     let directory = pack_directory(alloc, folder)?;
-    add_ends(alloc, tree, &directory, folder, pairs)
+    let ways = sight.ways(alloc, &directory)?;
+    add_directory(alloc, folder, &ways, found)?;
+    let paths = sight.watched_paths(alloc, &directory)?;
+    add_links(alloc, sight, folder, ways.len(), &paths, found)
 }
 
-/// The ways of the watched links in a folder's pack directory, each with the path of the link.
-fn add_links_of(
+/// Adds the ways of a folder's pack directory.
+fn add_directory(
     alloc: Global,
-    tree: &Tree,
     folder: &PathText,
-    pairs: &mut Vec<(PathText, PathText)>,
+    ways: &[PathText],
+    found: &mut NewWays,
 ) -> Result<(), NoMemory>
-    ensures added { OnOk result (pairs.new.items ≡ pairs.old.items ++ links_of tree.now folder.now) }
+    ensures fronts { OnOk result (found.new.fronts.items ≡ found.old.fronts.items ++ flat_map (front_pairs folder.now) ways.now) }
+    ensures passed { OnOk result (found.new.passed.items ≡ found.old.passed.items ++ flat_map (front_pairs folder.now) ways.now) }
+    ensures ends { OnOk result (found.new.ends.items ≡ found.old.ends.items ++ map (with_folder folder.now) ways.now) }
+    ensures links { OnOk result (found.new.links.items ≡ found.old.links.items) }
 {
-    let directory = pack_directory(alloc, folder)?;
-    let mut entries = listed(alloc, tree, &directory)?;
-    while let Some(entry) = entries.pop() {
-        add_ends_of_link(alloc, tree, folder, &directory, &entry, pairs)?;
-    }
-    Ok(())
-}
-
-fn add_ends_of_link(
-    alloc: Global,
-    tree: &Tree,
-    folder: &PathText,
-    directory: &PathText,
-    entry: &Entry,
-    pairs: &mut Vec<(PathText, PathText)>,
-) -> Result<(), NoMemory>
-    requires named { is_name entry.now.name ≡ true }
-    requires directory { directory.now ≡ pack_directory folder.now }
-    ensures added { OnOk result (pairs.new.items ≡ pairs.old.items ++ link_ends tree.now folder.now entry.now) }
-{
-    if !is_watched_link(entry) {
-        return Ok(());
-    }
-    let path = joined(alloc, directory, &entry.name)?;
-    add_ends(alloc, tree, &path, &path, pairs)
-}
-
-/// All ways of a path, each with the same path beside it.
-fn add_ends(
-    alloc: Global,
-    tree: &Tree,
-    path: &PathText,
-    beside: &PathText,
-    pairs: &mut Vec<(PathText, PathText)>,
-) -> Result<(), NoMemory>
-    ensures added { OnOk result (pairs.new.items ≡ pairs.old.items ++ map (with_folder beside.now) (ways_within most_links tree.now true path.now)) }
-{
-    let ways = tree.ways(alloc, path)?;
     for way in ways {
-        pairs.push((way, beside.try_clone(alloc)?))?;
+        add_fronts(alloc, folder, way, &mut found.fronts)?;
+        add_fronts(alloc, folder, way, &mut found.passed)?;
+        add_pair(alloc, way, folder, &mut found.ends)?;
     }
     Ok(())
 }
 
-/// The fronts of the ways of a folder's pack directory, and of the watched links in that.
-fn add_fronts_of(
+/// Adds the ways on which the links among paths of a folder's pack directory lead, which has so many ways itself.
+fn add_links(
     alloc: Global,
-    tree: &Tree,
+    sight: &Sight<'_>,
     folder: &PathText,
-    pairs: &mut Vec<(PathText, PathText)>,
+    own: usize,
+    paths: &[PathText],
+    found: &mut NewWays,
 ) -> Result<(), NoMemory>
-    ensures added { OnOk result (pairs.new.items ≡ pairs.old.items ++ fronts_of tree.now folder.now) }
+    ensures fronts { OnOk result (found.new.fronts.items ≡ found.old.fronts.items ++ flat_map (link_fronts sight.now own folder.now) paths.now) }
+    ensures passed { OnOk result (found.new.passed.items ≡ found.old.passed.items) }
+    ensures ends { OnOk result (found.new.ends.items ≡ found.old.ends.items) }
+    ensures links { OnOk result (found.new.links.items ≡ found.old.links.items ++ flat_map (link_ends sight.now own) paths.now) }
 {
-    let directory = pack_directory(alloc, folder)?;
-    add_fronts_along(alloc, tree, folder, &directory, pairs)?;
-    add_fronts_of_links(alloc, tree, folder, &directory, pairs)
-}
-
-fn add_fronts_of_links(
-    alloc: Global,
-    tree: &Tree,
-    folder: &PathText,
-    directory: &PathText,
-    pairs: &mut Vec<(PathText, PathText)>,
-) -> Result<(), NoMemory>
-    requires directory { directory.now ≡ pack_directory folder.now }
-    ensures added { OnOk result (pairs.new.items ≡ pairs.old.items ++ flat_map (link_pairs tree.now folder.now) (listed tree.now directory.now)) }
-{
-    let mut entries = listed(alloc, tree, directory)?;
-    while let Some(entry) = entries.pop() {
-        add_fronts_of_link(alloc, tree, folder, directory, &entry, pairs)?;
+    for path in paths {
+        add_further(alloc, sight, folder, own, path, found)?;
     }
     Ok(())
 }
 
-fn add_fronts_of_link(
+/// Adds those of one path.
+fn add_further(
     alloc: Global,
-    tree: &Tree,
+    sight: &Sight<'_>,
     folder: &PathText,
-    directory: &PathText,
-    entry: &Entry,
-    pairs: &mut Vec<(PathText, PathText)>,
+    own: usize,
+    path: &PathText,
+    found: &mut NewWays,
 ) -> Result<(), NoMemory>
-    requires named { is_name entry.now.name ≡ true }
-    requires directory { directory.now ≡ pack_directory folder.now }
-    ensures added { OnOk result (pairs.new.items ≡ pairs.old.items ++ link_pairs tree.now folder.now entry.now) }
+    ensures fronts { OnOk result (found.new.fronts.items ≡ found.old.fronts.items ++ link_fronts sight.now own folder.now path.now) }
+    ensures passed { OnOk result (found.new.passed.items ≡ found.old.passed.items) }
+    ensures ends { OnOk result (found.new.ends.items ≡ found.old.ends.items) }
+    ensures links { OnOk result (found.new.links.items ≡ found.old.links.items ++ link_ends sight.now own path.now) }
 {
-    if !is_watched_link(entry) {
-        return Ok(());
+    let ways = sight.ways(alloc, path)?;
+    match ways.get(own..) {
+        Some(further) => add_link(alloc, folder, path, further, found),
+        None => Ok(()),
     }
-    let path = joined(alloc, directory, &entry.name)?;
-    add_fronts_along(alloc, tree, folder, &path, pairs)
 }
 
-/// The fronts of all ways of a path.
-fn add_fronts_along(
+/// The ways on which paths of pack directories lead, behind those of the directories.
+pub(crate) fn ways_along(
     alloc: Global,
-    tree: &Tree,
+    sight: &Sight<'_>,
+    paths: &[PathText],
+) -> Result<NewWays, NoMemory>
+    ensures along { IfOk result (AreAlong sight.now paths.now) }
+{
+    let mut found = no_ways(alloc);
+    for path in paths {
+        add_ways_along(alloc, sight, path, &mut found)?;
+    }
+    Ok(found)
+}
+
+fn add_ways_along(
+    alloc: Global,
+    sight: &Sight<'_>,
+    path: &PathText,
+    found: &mut NewWays,
+) -> Result<(), NoMemory>
+    ensures added { OnOk result (AddsAlong sight.now path.now found.old found.new) }
+{
+    match path.parent(alloc)? {
+        None => Ok(()),
+        Some(directory) => add_ways_in(alloc, sight, &directory, path, found),
+    }
+}
+
+/// Adds those of a path in a directory.
+fn add_ways_in(
+    alloc: Global,
+    sight: &Sight<'_>,
+    directory: &PathText,
+    path: &PathText,
+    found: &mut NewWays,
+) -> Result<(), NoMemory>
+    requires parent { parent_of path.now ≡ Some directory.now }
+    ensures added { OnOk result (AddsAlong sight.now path.now found.old found.new) }
+{
+    match directory.parent(alloc)? {
+        None => Ok(()),
+        Some(folder) => {
+            let own = sight.ways(alloc, directory)?.len();
+            add_further(alloc, sight, &folder, own, path, found)?;
+            Ok(())
+        }
+    }
+}
+
+/// Adds ways on which a link leads.
+fn add_link(
+    alloc: Global,
     folder: &PathText,
     path: &PathText,
-    pairs: &mut Vec<(PathText, PathText)>,
+    ways: &[PathText],
+    found: &mut NewWays,
 ) -> Result<(), NoMemory>
-    ensures added { OnOk result (pairs.new.items ≡ pairs.old.items ++ pairs_along tree.now folder.now path.now) }
+    ensures fronts { OnOk result (found.new.fronts.items ≡ found.old.fronts.items ++ flat_map (front_pairs folder.now) ways.now) }
+    ensures passed { OnOk result (found.new.passed.items ≡ found.old.passed.items) }
+    ensures ends { OnOk result (found.new.ends.items ≡ found.old.ends.items) }
+    ensures links { OnOk result (found.new.links.items ≡ found.old.links.items ++ flat_map (front_pairs path.now) ways.now) }
 {
-    let ways = tree.ways(alloc, path)?;
     for way in ways {
-        add_fronts(alloc, folder, &way, pairs)?;
+        add_fronts(alloc, folder, way, &mut found.fronts)?;
+        add_fronts(alloc, path, way, &mut found.links)?;
     }
     Ok(())
 }
 
 /// The fronts of a path, the shortest first.
-pub(crate) fn add_fronts(
+fn add_fronts(
     alloc: Global,
     folder: &PathText,
     path: &PathText,

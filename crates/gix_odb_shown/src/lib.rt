@@ -14,12 +14,15 @@
 mod contents;
 mod led;
 mod places;
-mod put_link;
+mod rerouted;
 mod revealed;
 mod seen;
 mod shown;
 mod shown_file;
+mod sight;
+mod stale;
 mod touched;
+mod towards;
 mod watched;
 mod ways;
 

@@ -1,10 +1,11 @@
 //! Folders, or other paths, by places.
-ghost use Rattle.std.specs.Prelude.{◌≡◌, ◌&&◌, ◌||◌, false, OnOk, IfOk};
+ghost use Rattle.std.specs.Prelude.{◌≡◌, ◌&&◌, ◌||◌, true, false, not, OnOk, IfOk};
 ghost use Rattle.std.specs.FinMap as finite;
 ghost use Rattle.std.specs.FinSet as set;
 ghost use Rattle.std.specs.Ordering.{eq_by_cmp};
 ghost use Rattle.odb_base.specs.Path.{Path, path_cmp};
 ghost use Rattle.gix_odb_shown.specs.Led.{AreAdded, is_in};
+ghost use Rattle.gix_odb_shown.specs.Stale.{AreDropped};
 ghost use Rattle.gix_odb_shown.specs.Ways.{has};
 
 use odb_base::{NoMemory, PathText};
@@ -44,6 +45,18 @@ impl FolderSet {
     {
         self.folders.insert(folder)?;
         Ok(())
+    }
+
+    fn remove(&mut self, folder: &PathText)
+        ensures removed { (other : Path) → set.contains self.new other ≡ (not (eq_by_cmp path_cmp other folder.now) && set.contains self.old other) }
+    {
+        let _ = self.folders.remove(folder);
+    }
+
+    fn is_empty(&self) -> bool
+        ensures empty { result ≡ true → (folder : Path) → set.contains self.now folder ≡ false }
+    {
+        self.folders.is_empty()
     }
 
     /// Adds those of them that are watched to the touched ones.
@@ -165,9 +178,33 @@ impl Places {
         Ok(())
     }
 
+    /// Drops folders at places.
+    pub(crate) fn remove_all(&mut self, pairs: Vec<(PathText, PathText)>) -> Result<(), NoMemory>
+        ensures removed { OnOk result (AreDropped pairs.items self.old self.new) }
+    {
+        for (place, folder) in pairs {
+            self.remove(place, &folder)?;
+        }
+        Ok(())
+    }
+
+    /// Drops a folder at a place, and the place where no other is kept there.
+    fn remove(&mut self, place: PathText, folder: &PathText) -> Result<(), NoMemory>
+        ensures removed { OnOk result ((q other : Path) → has self.new q other ≡ (not (eq_by_cmp path_cmp q place && eq_by_cmp path_cmp other folder.now) && has self.old q other)) }
+    {
+        let mut folders = self.taken(&place);
+        folders.remove(folder);
+        if folders.is_empty() {
+            return Ok(());
+        }
+        self.folders.insert(place, folders)?;
+        Ok(())
+    }
+
     /// Takes the folders at a place.
     fn taken(&mut self, place: &PathText) -> FolderSet
         ensures taken { (folder : Path) → set.contains result folder ≡ has self.old place.now folder }
+        ensures gone { (folder : Path) → has self.new place.now folder ≡ false }
         ensures others { (q : Path) → eq_by_cmp path_cmp q place.now ≡ false → finite.get self.new q ≡ finite.get self.old q }
     {
         match self.folders.remove(place) {

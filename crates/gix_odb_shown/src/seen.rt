@@ -1,22 +1,25 @@
 //! What a change makes watched paths show, by the place that it is made at.
 //!
-//! A watched path shows the file at a place where the place is what it is followed along at last. It has the place's last
-//! name then, and each folder is asked for its path of that name; or a link stands at its name, and it is kept at the
-//! place. No other path is asked.
-ghost use Rattle.std.specs.Prelude.{◌≡◌, ◌++◌, ◌∷◌, [], true, false, ℕ, List, IfOk, IfSome, OnOk, Ok, Some};
+//! A watched path shows the file at a place where the place is what it is followed along at last. What is shown there before
+//! and after the change is told by the place, as long as no path comes to be followed along others.
+ghost use Rattle.std.specs.Prelude.{◌≡◌, ◌++◌, [], true, false, ℕ, List, IfOk, IfSome, IsOk, OnOk, Ok, Some};
+ghost use Rattle.std.specs.Option.{IfNone};
 ghost use Rattle.std.specs.Result.{result_ok};
-ghost use Rattle.std.specs.List.{flat_map, starts_with};
+ghost use Rattle.std.specs.List.{flat_map};
 ghost use Rattle.std.specs.FinSet as set;
-ghost use Rattle.odb_base.specs.Path.{Name, Path, last_name, path_cmp, same_name};
+ghost use Rattle.odb_base.specs.Path.{Path, path_cmp};
 ghost use Rattle.odb_nodes.specs.Tree.{IsTree};
-ghost use Rattle.odb_nodes.specs.Tree.Change.{is_possible_in};
-ghost use Rattle.odb_nodes.specs.Tree.Follow.{looked, read_of};
+ghost use Rattle.odb_nodes.specs.Tree.Change.{is_file_place, is_possible_in};
+ghost use Rattle.odb_nodes.specs.Tree.Follow.{followed, looked, read_of};
 ghost use Rattle.odb_nodes.specs.Tree.Write.{file_spot};
-ghost use Rattle.gix_odb_shown.specs.Seen.{ArePathsTo, AreSeenOf, AreShownAt, IsSeen, changed_file, is_link_found, kind_found, leads_to, lies_in_one, link_through, own_paths, path_through, paths_through, shown_at};
+ghost use Rattle.odb_nodes.specs.declared.change.Change.TheVariants.{Rename};
+ghost use Rattle.gix_odb_shown.specs.Seen.{AreSeenOf, AreShownAt, IsSeen, changed_file, is_link_found, kind_found, shown_at};
+ghost use Rattle.gix_odb_shown.specs.Sight.{gives_ways};
 ghost use Rattle.gix_odb_shown.specs.Ways.{Knows};
 
 use crate::shown_file::ShownFile;
-use crate::watched::{counted, named_kind, pack_directory, watched_kind};
+use crate::towards::paths_to;
+use crate::watched::{counted, named_kind};
 use crate::ways::Ways;
 use odb_base::{ByteList, NoMemory, PathText};
 use odb_nodes::{Change, DiskError, Kind};
@@ -37,6 +40,7 @@ pub(crate) fn seen_in(
     requires knows { (folder : Path) → set.contains (set.from_list {R = path_cmp} folders.now.keys) folder ≡ true → Knows ways.now tree.now folder }
     requires possible { is_possible_in tree.now change.now ≡ true }
     ensures seen { IfOk result (λ seen. IfSome seen (λ files. IsSeen folders.now.keys tree.now change.now files.items)) }
+    ensures gives_ways { IfOk result (λ seen. IfNone seen (gives_ways change.now ≡ true)) }
 {
     match change {
         Change::PutFile { path, time, bytes } => {
@@ -45,9 +49,15 @@ pub(crate) fn seen_in(
         Change::MakeDir { .. } => Ok(Some(Vec::new(alloc))),
         Change::PutLink { .. } => Ok(None),
         Change::Rename { from, to } => moved_seen(alloc, tree, folders, ways, from, to),
-        Change::Append { path, bytes } => append_seen(alloc, tree, folders, ways, path, bytes),
+        Change::Append { path, bytes } => {
+            let longer = append_seen(alloc, tree, folders, ways, path, bytes)?;
+            Ok(Some(longer))
+        }
         Change::Remove { .. } => Ok(Some(Vec::new(alloc))),
-        Change::SetTime { path, time } => timed_seen(alloc, tree, folders, ways, path, *time),
+        Change::SetTime { path, time } => {
+            let timed = timed_seen(alloc, tree, folders, ways, path, *time)?;
+            Ok(Some(timed))
+        }
     }
 }
 
@@ -80,6 +90,8 @@ fn moved_seen(
     from: &PathText,
     to: &PathText,
 ) -> Result<Option<Vec<ShownFile>>, NoMemory>
+    requires is_tree { IsTree tree.now }
+    requires possible { is_possible_in tree.now (Rename from.now to.now) ≡ true }
     ensures file { IfOk result (λ seen. IfSome seen (λ files. kind_found (looked tree.now from.now false) ≡ Some Kind.File)) }
     ensures free { IfOk result (λ seen. IfSome seen (λ files. is_link_found (kind_found (looked tree.now to.now false)) ≡ false)) }
     ensures seen { IfOk result (λ seen. IfSome seen (λ files. AreSeenOf tree.now folders.now.keys ways.now.links from.now to.now [] None files.items)) }
@@ -89,7 +101,7 @@ fn moved_seen(
     }
     let paths = paths_to(alloc, tree, folders, ways, to)?;
     let nothing = ByteList::new(alloc);
-    seen_of(alloc, tree, from, paths, &nothing, None)
+    Ok(Some(seen_of(alloc, tree, from, paths, &nothing, None)?))
 }
 
 /// What watched paths show where bytes are added to the file that a path leads to.
@@ -100,15 +112,16 @@ fn append_seen(
     ways: &Ways,
     path: &PathText,
     bytes: &ByteList,
-) -> Result<Option<Vec<ShownFile>>, NoMemory>
-    ensures seen { IfOk result (λ seen. IfSome seen (λ files. (place : Path) → file_spot tree.now path.now ≡ Ok place → AreSeenOf tree.now folders.now.keys ways.now.links path.now place bytes.now None files.items)) }
+) -> Result<Vec<ShownFile>, NoMemory>
+    requires file { is_file_place (followed tree.now true path.now) ≡ true }
+    ensures seen { IfOk result (λ files. (place : Path) → file_spot tree.now path.now ≡ Ok place → AreSeenOf tree.now folders.now.keys ways.now.links path.now place bytes.now None files.items) }
 {
     match file_spot(alloc, tree, path)? {
         Some(place) => {
             let paths = paths_to(alloc, tree, folders, ways, &place)?;
             seen_of(alloc, tree, path, paths, bytes, None)
         }
-        None => Ok(None),
+        None => unreachable!("the path leads to a file"),
     }
 }
 
@@ -120,8 +133,9 @@ fn timed_seen(
     ways: &Ways,
     place: &PathText,
     time: u64,
-) -> Result<Option<Vec<ShownFile>>, NoMemory>
-    ensures seen { IfOk result (λ seen. IfSome seen (λ files. AreSeenOf tree.now folders.now.keys ways.now.links place.now place.now [] (Some time) files.items)) }
+) -> Result<Vec<ShownFile>, NoMemory>
+    requires file { IsOk (read_of tree.now place.now) }
+    ensures seen { IfOk result (λ files. AreSeenOf tree.now folders.now.keys ways.now.links place.now place.now [] (Some time) files.items) }
 {
     let paths = paths_to(alloc, tree, folders, ways, place)?;
     let nothing = ByteList::new(alloc);
@@ -168,20 +182,21 @@ fn seen_of(
     paths: Vec<PathText>,
     more: &ByteList,
     time: Option<u64>,
-) -> Result<Option<Vec<ShownFile>>, NoMemory>
-    ensures seen { IfOk result (λ seen. IfSome seen (λ files. (file : List ℕ × ℕ) → read_of tree.now source.now ≡ Ok file
-        → files.items ≡ flat_map (shown_at (changed_file more.now time file)) paths.items)) }
+) -> Result<Vec<ShownFile>, NoMemory>
+    requires file { IsOk (read_of tree.now source.now) }
+    ensures seen { IfOk result (λ files. (file : List ℕ × ℕ) → read_of tree.now source.now ≡ Ok file
+        → files.items ≡ flat_map (shown_at (changed_file more.now time file)) paths.items) }
 {
     if paths.is_empty() {
-        return Ok(Some(Vec::new(alloc)));
+        return Ok(Vec::new(alloc));
     }
     match tree.read(alloc, source) {
         Ok((bytes, old)) => {
             let bytes = longer(bytes, more)?;
-            Ok(Some(files_at(alloc, paths, time.unwrap_or(old), &bytes)?))
+            files_at(alloc, paths, time.unwrap_or(old), &bytes)
         }
         Err(DiskError::NoMemory) => Err(NoMemory),
-        Err(_) => Ok(None),
+        Err(_) => unreachable!("the path leads to a file"),
     }
 }
 
@@ -190,156 +205,6 @@ fn longer(mut bytes: ByteList, more: &ByteList) -> Result<ByteList, NoMemory>
 {
     bytes.extend_from_slice(more.as_slice())?;
     Ok(bytes)
-}
-
-/// The watched paths of these folders that lead to a place.
-pub(crate) fn paths_to(
-    alloc: Global,
-    tree: &Tree,
-    folders: &BTreeSet<PathText>,
-    ways: &Ways,
-    place: &PathText,
-) -> Result<Vec<PathText>, NoMemory>
-    ensures paths { IfOk result (λ paths. ArePathsTo tree.now folders.now.keys ways.now.links place.now paths.items) }
-{
-    let mut paths = own_paths(alloc, tree, folders, place)?;
-    let links = ways.links_at(alloc, place)?;
-    add_links(alloc, tree, folders, place, links, &mut paths)?;
-    Ok(paths)
-}
-
-/// Those of the place's own last name.
-fn own_paths(
-    alloc: Global,
-    tree: &Tree,
-    folders: &BTreeSet<PathText>,
-    place: &PathText,
-) -> Result<Vec<PathText>, NoMemory>
-    ensures paths { IfOk result (λ paths. paths.items ≡ own_paths tree.now folders.now.keys place.now (last_name place.now)) }
-{
-    let Some(name) = place.file_name() else {
-        return Ok(Vec::new(alloc));
-    };
-    if watched_kind(name).is_none() {
-        return Ok(Vec::new(alloc));
-    }
-    let last = behind_directory(alloc, place)?;
-    paths_through(alloc, tree, folders, place, &last)
-}
-
-/// What is left of a path behind the directory that it lies in: its last name.
-fn behind_directory(alloc: Global, path: &PathText) -> Result<PathText, NoMemory>
-    ensures last { IfOk result (λ last. (name : Name) → last_name path.now ≡ Some name → last ≡ name ∷ []) }
-{
-    match path.parent(alloc)? {
-        None => Ok(PathText::root(alloc)),
-        Some(directory) => behind(alloc, path, &directory),
-    }
-}
-
-/// What is left of a path behind one that it begins with.
-fn behind(alloc: Global, path: &PathText, front: &PathText) -> Result<PathText, NoMemory>
-    requires front { starts_with same_name path.now front.now ≡ true }
-    ensures behind { IfOk result (λ rest. front.now ++ rest ≡ path.now) }
-{
-    match path.strip_prefix(alloc, front)? {
-        Some(rest) => Ok(rest),
-        None => unreachable!("the path begins with the other one"),
-    }
-}
-
-/// The paths of a name in the pack directories of folders that lead to a place.
-fn paths_through(
-    alloc: Global,
-    tree: &Tree,
-    folders: &BTreeSet<PathText>,
-    place: &PathText,
-    last: &PathText,
-) -> Result<Vec<PathText>, NoMemory>
-    ensures paths { IfOk result (λ paths. paths.items ≡ paths_through tree.now folders.now.keys place.now last.now) }
-{
-    let mut paths = Vec::new(alloc);
-    for folder in folders {
-        add_path(alloc, tree, folder, place, last, &mut paths)?;
-    }
-    Ok(paths)
-}
-
-fn add_path(
-    alloc: Global,
-    tree: &Tree,
-    folder: &PathText,
-    place: &PathText,
-    last: &PathText,
-    paths: &mut Vec<PathText>,
-) -> Result<(), NoMemory>
-    ensures added { OnOk result (paths.new.items ≡ paths.old.items ++ path_through tree.now place.now last.now folder.now) }
-{
-    let directory = pack_directory(alloc, folder)?;
-    let path = directory.followed_by(alloc, last)?;
-    if leads_to(alloc, tree, &path, place)? {
-        paths.push(path)?;
-    }
-    Ok(())
-}
-
-/// Adds those of these links that are the folders' and lead to a place.
-fn add_links(
-    alloc: Global,
-    tree: &Tree,
-    folders: &BTreeSet<PathText>,
-    place: &PathText,
-    links: Vec<PathText>,
-    paths: &mut Vec<PathText>,
-) -> Result<(), NoMemory>
-    ensures added { OnOk result (paths.new.items ≡ paths.old.items ++ flat_map (link_through tree.now folders.now.keys place.now) links.items) }
-{
-    for path in links {
-        add_link(alloc, tree, folders, place, path, paths)?;
-    }
-    Ok(())
-}
-
-fn add_link(
-    alloc: Global,
-    tree: &Tree,
-    folders: &BTreeSet<PathText>,
-    place: &PathText,
-    path: PathText,
-    paths: &mut Vec<PathText>,
-) -> Result<(), NoMemory>
-    ensures added { OnOk result (paths.new.items ≡ paths.old.items ++ link_through tree.now folders.now.keys place.now path) }
-{
-    if lies_in_one(alloc, folders, &path)? && leads_to(alloc, tree, &path, place)? {
-        paths.push(path)?;
-    }
-    Ok(())
-}
-
-/// Whether a path lies in the pack directory of one of these folders.
-fn lies_in_one(
-    alloc: Global,
-    folders: &BTreeSet<PathText>,
-    path: &PathText,
-) -> Result<bool, NoMemory>
-    ensures lies { IfOk result (λ lies. lies ≡ lies_in_one folders.now.keys path.now) }
-{
-    let Some(directory) = path.parent(alloc)? else {
-        return Ok(false);
-    };
-    let Some(folder) = directory.parent(alloc)? else {
-        return Ok(false);
-    };
-    let packs = pack_directory(alloc, &folder)?;
-    Ok(folders.contains(&folder) && packs == directory)
-}
-
-/// Whether a path leads to a place, where nothing or a file stands.
-fn leads_to(alloc: Global, tree: &Tree, path: &PathText, place: &PathText) -> Result<bool, NoMemory>
-    ensures leads { IfOk result (λ leads. leads ≡ leads_to tree.now place.now path.now) }
-{
-    let ways = tree.ways(alloc, path)?;
-    Ok(ways.iter().any(|way| *way == *place))
 }
 
 /// The place of the file that a path leads to.
@@ -361,7 +226,7 @@ pub(crate) fn file_spot(
 }
 
 /// What watched ones of these paths show that lead to a file with these bytes and this time.
-pub(crate) fn files_at(
+fn files_at(
     alloc: Global,
     paths: Vec<PathText>,
     time: u64,

@@ -1,26 +1,30 @@
 //! What the watched paths of folders have shown.
 ghost use Rattle.std.specs.Prelude.{◌≡◌, ◌↔◌, ◌&&◌, IsTrue, true, IfOk, IfSome, OnOk};
-ghost use Rattle.std.specs.List.{flat_map, list_any};
+ghost use Rattle.std.specs.Option.{IfNone};
+ghost use Rattle.std.specs.List.{list_any};
 ghost use Rattle.std.specs.FinSet as set;
 ghost use Rattle.odb_base.specs.Path.{Path};
 ghost use Rattle.odb_nodes.specs.Tree.{Tree as TreeValue};
 ghost use Rattle.odb_nodes.specs.Tree.Change.{changed, is_possible_in};
-ghost use Rattle.gix_odb_shown.specs.Files.{files_in};
+ghost use Rattle.gix_odb_shown.specs.Files.{AreFilesOf};
 ghost use Rattle.gix_odb_shown.specs.Kept.{Fits, IsSecond, Notes, nothing_kept};
 ghost use Rattle.gix_odb_shown.specs.Led.{AreLed, SeesTouched, is_in, places_of};
+ghost use Rattle.gix_odb_shown.specs.Sight.{gives_ways};
 ghost use Rattle.gix_odb_shown.specs.Ways.{is_touched};
-ghost use Rattle.gix_odb_shown.specs.Revealed.{IsRevealed};
+ghost use Rattle.gix_odb_shown.specs.Revealed.{IsFound, IsRevealed};
 
 use crate::contents::Contents;
 use crate::led::{no_ways, ways_of, ways_of_one};
-use crate::put_link::link_seen;
-use crate::revealed::Revealed;
+use crate::rerouted::rerouted;
+use crate::revealed::{Found, Revealed};
 use crate::seen::seen_in;
 use crate::shown_file::{ShownFile, files_in, files_of_all};
+use crate::sight::Sight;
+use crate::stale::stale_at;
 use crate::touched::touched_by;
 use crate::ways::Ways;
 use odb_base::{NoMemory, PathText};
-use odb_nodes::{Change, Impossible};
+use odb_nodes::Change;
 use odb_tree::Tree;
 use std::alloc::Global;
 use std::collections::BTreeSet;
@@ -67,8 +71,9 @@ impl Shown {
         if self.folders.contains(folder) {
             return Ok(());
         }
-        let files = files_in(alloc, tree, folder)?;
-        let found = ways_of_one(alloc, tree, folder)?;
+        let sight = Sight::now(tree);
+        let files = files_in(alloc, &sight, folder)?;
+        let found = ways_of_one(alloc, &sight, folder)?;
         self.ways.learn(found)?;
         self.folders.insert(folder.try_clone(alloc)?)?;
         self.contents.keep_all(files)
@@ -107,44 +112,54 @@ impl Shown {
         requires possible { is_possible_in tree.now change.now ≡ true }
         ensures revealed { IfOk result (IsRevealed self.now.folders tree.now (changed tree.now change.now)) }
     {
+        let found = self.found(alloc, tree, change)?;
+        let stale = stale_at(alloc, tree, &self.ways, change)?;
+        Ok(Revealed { found, stale })
+    }
+
+    /// What is found out of a change: by its place, or else by what the folders that it touches show after it.
+    fn found(&self, alloc: Global, tree: &Tree, change: &Change) -> Result<Found, NoMemory>
+        requires fits { Fits self.now tree.now }
+        requires possible { is_possible_in tree.now change.now ≡ true }
+        ensures found { IfOk result (IsFound self.now.folders tree.now (changed tree.now change.now)) }
+    {
         let touched = touched_by(alloc, &self.ways, &self.folders, tree, change)?;
         match self.seen(alloc, tree, &touched, change)? {
-            Some(files) => Ok(Revealed {
+            Some(files) => Ok(Found {
                 files,
                 ways: no_ways(alloc),
             }),
-            None => self.revealed_anew(alloc, tree, &touched, change),
+            None => self.found_anew(alloc, tree, &touched, change),
         }
     }
 
-    /// The same of a change that gives the watched paths of the folders that it touches other ways: by the place of a link,
-    /// where that tells it, or else by the tree after the change.
-    fn revealed_anew(
+    /// The same of a change that may give watched paths other ways: by those that lead to its places, or else, where ways go
+    /// on behind these, by all that the folders show after it which it touches.
+    fn found_anew(
         &self,
         alloc: Global,
         tree: &Tree,
         touched: &BTreeSet<PathText>,
         change: &Change,
-    ) -> Result<Revealed, NoMemory>
+    ) -> Result<Found, NoMemory>
         requires fits { Fits self.now tree.now }
         requires possible { is_possible_in tree.now change.now ≡ true }
+        requires gives_ways { gives_ways change.now ≡ true }
         requires touched { (folder : Path) → is_in touched.now.keys folder ≡ (set.contains self.now.folders folder && list_any (is_touched self.now.ways folder) (places_of tree.now change.now)) }
-        ensures revealed { IfOk result (IsRevealed self.now.folders tree.now (changed tree.now change.now)) }
+        ensures found { IfOk result (IsFound self.now.folders tree.now (changed tree.now change.now)) }
     {
-        if let Change::PutLink { path, target } = change {
-            if let Some(revealed) = link_seen(alloc, tree, touched, &self.ways, path, target)? {
-                return Ok(revealed);
-            }
+        let after = Sight::after(tree, change);
+        match rerouted(alloc, tree, &after, touched, &self.ways, change)? {
+            Some(found) => Ok(found),
+            None => found_of(alloc, touched, &after),
         }
-        let after = changed(alloc, tree, change)?;
-        revealed_by_tree(alloc, touched, &after)
     }
 
     /// Whether a path would show a second content among what a change would make them show.
     pub fn has_second(&self, revealed: &Revealed) -> bool
         ensures second { (before after : TreeValue) → Fits self.now before → IsRevealed self.now.folders before after revealed.now → IsTrue result ↔ IsSecond self.now after }
     {
-        self.contents.differs_from_one(&revealed.files)
+        self.contents.differs_from_one(&revealed.found.files)
     }
 
     /// Keeps what a change made watched paths show, in which no second content is.
@@ -152,7 +167,9 @@ impl Shown {
         ensures notes { OnOk result ((before after : TreeValue) → Fits self.old before → IsRevealed self.old.folders before after revealed → Notes self.old self.old.folders after self.new) }
         ensures fits { OnOk result ((before after : TreeValue) → Fits self.old before → IsRevealed self.old.folders before after revealed → (IsSecond self.old after → ⊥) → Fits self.new after) }
     {
-        let Revealed { files, ways } = revealed;
+        let Revealed { found, stale } = revealed;
+        let Found { files, ways } = found;
+        self.ways.forget(stale)?;
         self.ways.learn(ways)?;
         self.contents.keep_all(files)
     }
@@ -170,6 +187,7 @@ impl Shown {
         requires possible { is_possible_in tree.now change.now ≡ true }
         requires touched { (folder : Path) → is_in touched.now.keys folder ≡ (set.contains self.now.folders folder && list_any (is_touched self.now.ways folder) (places_of tree.now change.now)) }
         ensures seen { IfOk result (λ seen. IfSome seen (λ files. SeesTouched self.now.folders tree.now (changed tree.now change.now) files.items)) }
+        ensures gives_ways { IfOk result (λ seen. IfNone seen (gives_ways change.now ≡ true)) }
     {
         if touched.is_empty() {
             return Ok(Some(Vec::new(alloc)));
@@ -179,28 +197,15 @@ impl Shown {
 }
 
 /// All that a tree shows in the folders that a change touches, and what it tells of their ways.
-fn revealed_by_tree(
+fn found_of(
     alloc: Global,
     touched: &BTreeSet<PathText>,
-    after: &Tree,
-) -> Result<Revealed, NoMemory>
-    ensures files { IfOk result (λ revealed. revealed.files.items ≡ flat_map (files_in after.now) touched.now.keys) }
-    ensures led { IfOk result (λ revealed. AreLed after.now touched.now.keys revealed.ways) }
+    after: &Sight<'_>,
+) -> Result<Found, NoMemory>
+    ensures files { IfOk result (λ found. AreFilesOf after.now touched.now.keys found.files.items) }
+    ensures led { IfOk result (λ found. AreLed after.now touched.now.keys found.ways) }
 {
     let files = files_of_all(alloc, after, touched)?;
     let ways = ways_of(alloc, after, touched)?;
-    Ok(Revealed { files, ways })
-}
-
-/// The tree after a change that is possible.
-fn changed(alloc: Global, tree: &Tree, change: &Change) -> Result<Tree, NoMemory>
-    requires possible { is_possible_in tree.now change.now ≡ true }
-    ensures changed { IfOk result (λ after. after ≡ changed tree.now change.now) }
-{
-    let mut after = tree.try_clone(alloc)?;
-    match after.change(alloc, change) {
-        Ok(()) => Ok(after),
-        Err(Impossible::Impossible) => unreachable!("the change is possible"),
-        Err(Impossible::NoMemory) => Err(NoMemory),
-    }
+    Ok(Found { files, ways })
 }

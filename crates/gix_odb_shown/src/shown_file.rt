@@ -2,9 +2,10 @@
 ghost use Rattle.std.specs.Prelude.{◌≡◌, ◌∷◌, ◌++◌, [], true, IfOk, OnOk};
 ghost use Rattle.std.specs.List.{flat_map};
 ghost use Rattle.odb_base.specs.Path.{is_name};
-ghost use Rattle.gix_odb_shown.specs.Files.{files_at, files_in, listed};
+ghost use Rattle.gix_odb_shown.specs.Files.{AreFilesIn, AreFilesOf, file_at, listed};
 
-use crate::watched::{counted, pack_directory, watched_kind};
+use crate::sight::Sight;
+use crate::watched::{counted, named_kind, pack_directory};
 use odb_base::{BadPath, ByteList, NoMemory, PathName, PathText};
 use odb_nodes::{DiskError, EntryQueue};
 use odb_tree::Tree;
@@ -20,31 +21,64 @@ pub(crate) struct ShownFile {
 }
 
 /// What a tree shows in the pack directory of a folder.
-#[tactic(auto, unfolding(crate::specs::Files::files_in))]
 pub(crate) fn files_in(
     alloc: Global,
-    tree: &Tree,
+    sight: &Sight<'_>,
     folder: &PathText,
 ) -> Result<Vec<ShownFile>, NoMemory>
-    ensures files { IfOk result (λ files. files.items ≡ files_in tree.now folder.now) }
+    ensures files { IfOk result (λ files. AreFilesIn sight.now folder.now files.items) }
 {
     let directory = pack_directory(alloc, folder)?;
-    let entries = listed(alloc, tree, &directory)?;
-    files_of(alloc, tree, &directory, entries)
+    let paths = sight.watched_paths(alloc, &directory)?;
+    files_read(alloc, sight, paths)
 }
 
-/// What a tree shows at the entries of a directory.
-fn files_of(
+/// What a tree shows at paths.
+pub(crate) fn files_read(
     alloc: Global,
-    tree: &Tree,
-    directory: &PathText,
-    mut entries: EntryQueue,
+    sight: &Sight<'_>,
+    paths: Vec<PathText>,
 ) -> Result<Vec<ShownFile>, NoMemory>
-    ensures files { IfOk result (λ files. files.items ≡ flat_map (λ entry. files_at tree.now directory.now entry.name) entries) }
+    ensures files { IfOk result (λ files. files.items ≡ flat_map (file_at sight.now) paths.items) }
 {
     let mut files = Vec::new(alloc);
-    while let Some(entry) = entries.pop() {
-        add_file(alloc, tree, directory, &entry.name, &mut files)?;
+    for path in paths {
+        add_file(alloc, sight, path, &mut files)?;
+    }
+    Ok(files)
+}
+
+/// Adds what a tree shows at a path, if its name is watched.
+fn add_file(
+    alloc: Global,
+    sight: &Sight<'_>,
+    path: PathText,
+    files: &mut Vec<ShownFile>,
+) -> Result<(), NoMemory>
+    ensures added { OnOk result (files.new.items ≡ files.old.items ++ file_at sight.now path) }
+{
+    let Some(kind) = named_kind(&path) else {
+        return Ok(());
+    };
+    if let Some((bytes, time)) = sight.read(alloc, &path)? {
+        let key = (path, counted(kind, time));
+        files.push(ShownFile { key, bytes })?;
+    }
+    Ok(())
+}
+
+/// What a tree shows in the pack directories of folders.
+pub(crate) fn files_of_all(
+    alloc: Global,
+    sight: &Sight<'_>,
+    folders: &BTreeSet<PathText>,
+) -> Result<Vec<ShownFile>, NoMemory>
+    ensures files { IfOk result (λ files. AreFilesOf sight.now folders.now.keys files.items) }
+{
+    let mut files = Vec::new(alloc);
+    for folder in folders {
+        let mut more = files_in(alloc, sight, folder)?;
+        files.append(&mut more)?;
     }
     Ok(files)
 }
@@ -64,32 +98,6 @@ pub(crate) fn listed(
     }
 }
 
-/// Adds what a tree shows at a name of a directory, if the name is watched.
-pub(crate) fn add_file(
-    alloc: Global,
-    tree: &Tree,
-    directory: &PathText,
-    name: &PathName,
-    files: &mut Vec<ShownFile>,
-) -> Result<(), NoMemory>
-    requires named { is_name name.now ≡ true }
-    ensures added { OnOk result (files.new.items ≡ files.old.items ++ files_at tree.now directory.now name.now) }
-{
-    let Some(kind) = watched_kind(name.as_str()) else {
-        return Ok(());
-    };
-    let path = joined(alloc, directory, name)?;
-    match tree.read(alloc, &path) {
-        Ok((bytes, time)) => {
-            let key = (path, counted(kind, time));
-            files.push(ShownFile { key, bytes })?;
-            Ok(())
-        }
-        Err(DiskError::NoMemory) => Err(NoMemory),
-        Err(_) => Ok(()),
-    }
-}
-
 /// The path of a name in a directory.
 pub(crate) fn joined(
     alloc: Global,
@@ -104,20 +112,4 @@ pub(crate) fn joined(
         Err(BadPath::Malformed) => unreachable!("an entry has a name"),
         Err(BadPath::NoMemory) => Err(NoMemory),
     }
-}
-
-/// What a tree shows in the pack directories of folders.
-pub(crate) fn files_of_all(
-    alloc: Global,
-    tree: &Tree,
-    folders: &BTreeSet<PathText>,
-) -> Result<Vec<ShownFile>, NoMemory>
-    ensures files { IfOk result (λ files. files.items ≡ flat_map (files_in tree.now) folders.now.keys) }
-{
-    let mut files = Vec::new(alloc);
-    for folder in folders {
-        let mut more = files_in(alloc, tree, folder)?;
-        files.append(&mut more)?;
-    }
-    Ok(files)
 }

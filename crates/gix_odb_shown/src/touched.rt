@@ -32,7 +32,11 @@ pub(crate) fn touched_by(
 }
 
 /// Where a change puts, takes or writes something.
-fn places_of(alloc: Global, tree: &Tree, change: &Change) -> Result<Vec<PathText>, NoMemory>
+pub(crate) fn places_of(
+    alloc: Global,
+    tree: &Tree,
+    change: &Change,
+) -> Result<Vec<PathText>, NoMemory>
     ensures places { IfOk result (λ places. places.items ≡ places_of tree.now change.now) }
 {
     let mut places = Vec::new(alloc);

@@ -1,11 +1,9 @@
 //! Which names of a pack directory are watched.
 ghost use Rattle.std.specs.Prelude.{◌≡◌, IfOk};
 ghost use Rattle.odb_base.specs.Path.{last_name};
-ghost use Rattle.gix_odb_shown.specs.Led.{is_watched_link};
 ghost use Rattle.gix_odb_shown.specs.Watched.{counted, is_watched_name, named_kind, pack_directory, watched_kind};
 
 use odb_base::{BadPath, NoMemory, PathText};
-use odb_nodes::{Entry, Kind};
 use std::alloc::Global;
 
 /// What a watched name stands for.
@@ -49,16 +47,6 @@ pub(crate) fn named_kind(path: &PathText) -> Option<WatchedKind>
     match path.file_name() {
         Some(name) => watched_kind(name),
         None => None,
-    }
-}
-
-/// Whether an entry is a link with a watched name.
-pub(crate) fn is_watched_link(entry: &Entry) -> bool
-    ensures link { result ≡ is_watched_link entry.now }
-{
-    match entry.kind {
-        Kind::Link => watched_kind(entry.name.as_str()).is_some(),
-        Kind::File | Kind::Dir => false,
     }
 }
 

@@ -2,7 +2,8 @@
 ghost use Rattle.std.specs.Prelude.{◌≡◌, ◌&&◌, ◌||◌, false, OnOk, IfOk};
 ghost use Rattle.odb_base.specs.Path.{Path};
 ghost use Rattle.gix_odb_shown.specs.Led.{Learns, is_in};
-ghost use Rattle.gix_odb_shown.specs.PutLink.{IsNoFront};
+ghost use Rattle.gix_odb_shown.specs.Rerouted.{IsNotPassed};
+ghost use Rattle.gix_odb_shown.specs.Stale.{Forgets};
 ghost use Rattle.gix_odb_shown.specs.Ways.{has, is_touched, no_ways};
 
 use crate::led::NewWays;
@@ -18,9 +19,11 @@ use std::marker::Model;
 pub(crate) struct Ways {
     /// The folders at each front of the ways of their pack directories, and of the watched links in these.
     fronts: Places,
+    /// The folders at each front of the ways of their pack directories.
+    passed: Places,
     /// The folders at the ways of their pack directories.
     ends: Places,
-    /// The paths of the watched links in these, at their ways.
+    /// The paths of the watched links in these, at each front of the ways on which they lead.
     links: Places,
 }
 
@@ -31,7 +34,7 @@ impl Model for Ways {
 
     ghost coded = { coded_ways };
 
-    ghost view = { λ w. record { fronts = w.fronts; ends = w.ends; links = w.links } };
+    ghost view = { λ w. record { fronts = w.fronts; passed = w.passed; ends = w.ends; links = w.links } };
 }
 
 impl Ways {
@@ -40,6 +43,7 @@ impl Ways {
     {
         Ways {
             fronts: Places::new(alloc),
+            passed: Places::new(alloc),
             ends: Places::new(alloc),
             links: Places::new(alloc),
         }
@@ -56,17 +60,17 @@ impl Ways {
         self.links.all_at(alloc, place)
     }
 
-    /// Whether one of these folders is kept at a front.
-    pub(crate) fn is_front(
+    /// Whether a way of the pack directory of one of these folders goes over a place.
+    pub(crate) fn is_passed(
         &self,
         alloc: Global,
         place: &PathText,
         folders: &BTreeSet<PathText>,
     ) -> Result<bool, NoMemory>
-        ensures front { IfOk result (λ front. front ≡ false → IsNoFront self.now folders.now.keys place.now) }
+        ensures passed { IfOk result (λ passed. passed ≡ false → IsNotPassed self.now folders.now.keys place.now) }
     {
         let mut found = BTreeSet::new(alloc);
-        self.fronts.add_to(alloc, place, folders, &mut found)?;
+        self.passed.add_to(alloc, place, folders, &mut found)?;
         Ok(!found.is_empty())
     }
 
@@ -90,16 +94,25 @@ impl Ways {
         }
     }
 
+    /// Drops paths of links at places over which they don't lead.
+    pub(crate) fn forget(&mut self, stale: Vec<(PathText, PathText)>) -> Result<(), NoMemory>
+        ensures forgets { OnOk result (Forgets self.old stale.items self.new) }
+    {
+        self.links.remove_all(stale)
+    }
+
     /// Keeps what was found out.
     pub(crate) fn learn(&mut self, found: NewWays) -> Result<(), NoMemory>
         ensures learns { OnOk result (Learns self.old found self.new) }
     {
         let NewWays {
             fronts,
+            passed,
             ends,
             links,
         } = found;
         self.fronts.add_all(fronts)?;
+        self.passed.add_all(passed)?;
         self.ends.add_all(ends)?;
         self.links.add_all(links)
     }

@@ -1,8 +1,9 @@
 -- What a world keeps of watched paths fits its tree, since some events lead to the world.
-use Rattle.std.proofs.Common.{◌≡◌, ◌≢◌, ◌⊎◌, inl, inr, Bool, true, List, [], ◌∷◌, ◌++◌, codes, Option, Some, None, refl, sym, ap, ◌∙◌, subst}
+use Rattle.std.proofs.Common.{◌≡◌, ◌≢◌, ◌⊎◌, inl, inr, Bool, true, false, List, [], ◌∷◌, ◌++◌, codes, Option, Some, None, refl, sym, ap, ◌∙◌, subst}
 use Rattle.std.specs.FinSet as set
 use Rattle.std.proofs.Math.Logic.{∥∥₁_elim}
 use Rattle.std.specs.Coded.{Coded-set, coded_bool, coded_list, coded_option, coded_ℕ}
+use Rattle.std.proofs.lemmas.Bool.{false≢true}
 use Rattle.std.proofs.lemmas.Grind.{not_there}
 use Rattle.odb_base.specs.Path.{Name, Path, last_name, parent_of}
 use Rattle.odb_base.specs.PathLaws.{parent_of-nothing, parent_of-push, parent_of-some}
@@ -84,6 +85,11 @@ module _ (world : Course) (explained : IsExplained world) where
         | inr apart ↦ inr (∥∥₁_elim explained (Coded-set coded_bool _ _) (λ h. other_last last name kept apart (known h)))
       ]
 
+  -- one of two holds
+  one_or_other : (one other : Bool) → (HasHistory world → (one ≡ true) ⊎ (other ≡ true)) → (one ≡ true) ⊎ (other ≡ true)
+  one_or_other true other known = inl refl
+  one_or_other false other known = inr (∥∥₁_elim explained (Coded-set coded_bool _ _) (λ h. elim (known h) [ inl never ↦ absurd (false≢true never) | inr is ↦ is ]))
+
   fits_by : HasHistory world → Fits world.shown (tree_of world.disk.state)
   fits_by h =
       subst (λ (d : Volume). Fits world.shown (tree_of d.state)) (sym h.explains.disk)
@@ -101,8 +107,8 @@ module _ (world : Course) (explained : IsExplained world) where
     only = λ path time bytes kept. lies world.shown.folders path (λ h. (fits_by h).only path time bytes kept);
     knows = λ folder among. record {
       links = λ name kind is q on. kept_link name _ (last_name q) (λ h. ((fits_by h).knows folder among).links name kind is q on);
-      fronts = λ name kind is q step rest way.
-          ∥∥₁_elim explained (Coded-set coded_bool _ _) (λ h. ((fits_by h).knows folder among).fronts name kind is q step rest way);
+      directory = λ way q one front. ∥∥₁_elim explained (Coded-set coded_bool _ _) (λ h. ((fits_by h).knows folder among).directory way q one front);
+      passed = λ name kind is q step rest way. one_or_other _ _ (λ h. ((fits_by h).knows folder among).passed name kind is q step rest way);
       touched = λ name kind is q on. ∥∥₁_elim explained (Coded-set coded_bool _ _) (λ h. ((fits_by h).knows folder among).touched name kind is q on);
     };
   }

@@ -1,7 +1,7 @@
 use Rattle.std.proofs.Common.{◌∙◌, sym, ap}
 use Rattle.std.specs.FinSet as set
 use Rattle.odb_base.specs.Path.{path_cmp}
-use Rattle.gix_odb_shown.proofs.PlacesLemmas.{others_stay, taken_none, taken_there}
+use Rattle.gix_odb_shown.proofs.PlacesLemmas.{none_after, others_stay, taken_none, taken_there}
 use Rattle.gix_odb_shown.proofs.places.Places.taken.Goals.{in-None, in-Some}
 use Rattle.gix_odb_shown.proofs.places.Places.taken.Goals as goal
 
@@ -17,3 +17,6 @@ returns-clause-taken c folder = elim c.match-remove.branch [
 
 pub returns-clause-others : goal.returns-clause-others
 returns-clause-others c = others_stay c.self.inside.folders.entries c.args.self.now c.self.view_is c.args.place.now c.remove.new.self.entries c.remove.ensures.updates.0
+
+pub returns-clause-gone : goal.returns-clause-gone
+returns-clause-gone c folder = none_after c.self.inside.folders.entries c.remove.new.self.entries c.args.place.now c.remove.ensures.updates.0 folder

@@ -7,7 +7,7 @@ pub returns-clause-notes : goal.returns-clause-notes
 returns-clause-notes c =
     on_ok_weaker c.keep_all.result
     (λ kept before after fits is.
-    keep_notes c.args.self.now before after fits c.args.revealed.files.items is.reveals (set.from_list c.self.inside.folders.keys) c.self.inside.contents c.keep_all.new.self
+    keep_notes c.args.self.now before after fits c.args.revealed.found.files.items is.found.reveals (set.from_list c.self.inside.folders.keys) c.self.inside.contents c.keep_all.new.self
     c.self.inside.ways c.learn.new.self c.self.view_is kept)
     c.keep_all.ensures.kept
 
@@ -15,6 +15,7 @@ pub returns-clause-fits : goal.returns-clause-fits
 returns-clause-fits c =
     on_ok_weaker c.keep_all.result
     (λ kept before after fits is first.
-    keep_fits c.args.self.now before after fits c.args.revealed.files.items is.reveals (set.from_list c.self.inside.folders.keys) c.self.inside.contents c.keep_all.new.self
-    c.self.inside.ways c.learn.new.self c.self.view_is first is.is_tree c.args.revealed.ways c.in_ok-learn.ensures.learns is.knows kept)
+    keep_fits c.args.self.now before after fits c.args.revealed.found.files.items is.found.reveals (set.from_list c.self.inside.folders.keys) c.self.inside.contents c.keep_all.new.self
+    c.self.inside.ways c.learn.new.self c.self.view_is first is.found.is_tree c.args.revealed.stale.items is.stale c.forget.new.self c.in_ok-forget.ensures.forgets
+    c.args.revealed.found.ways c.in_ok-learn.ensures.learns is.found.knows kept)
     c.keep_all.ensures.kept

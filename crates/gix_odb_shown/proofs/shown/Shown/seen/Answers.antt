@@ -6,12 +6,10 @@ use Rattle.gix_odb_shown.specs.Ways.{Knows}
 use Rattle.gix_odb_shown.proofs.JudgedLemmas.{known_touched, none_of_them, none_touched, seen_answer}
 use Rattle.gix_odb_shown.proofs.shown.Shown.seen.Goals as goal
 
-pub returns-then-is_empty : goal.returns-then-is_empty
-returns-then-is_empty c = record {
-  seen =
-      none_touched c.args.self.now c.args.tree.now c.args.change.now c.requires.fits c.requires.possible c.args.touched.now.keys c.requires.touched (none_of_them c.args.touched.now.keys (c.is_empty.ensures.0 c.if-is_empty.true))
-      c.new.result.items c.new.ensures.items;
-}
+pub returns-then-is_empty-clause-seen : goal.returns-then-is_empty-clause-seen
+returns-then-is_empty-clause-seen c =
+    none_touched c.args.self.now c.args.tree.now c.args.change.now c.requires.fits c.requires.possible c.args.touched.now.keys c.requires.touched (none_of_them c.args.touched.now.keys (c.is_empty.ensures.0 c.if-is_empty.true))
+    c.new.result.items c.new.ensures.items
 
 pub seen_in-requires : goal.seen_in-requires
 seen_in-requires c = record {
@@ -22,9 +20,7 @@ seen_in-requires c = record {
   possible = c.requires.possible;
 }
 
-pub returns : goal.returns
-returns c = record {
-  seen =
-      seen_answer c.args.self.now c.args.tree.now c.args.change.now c.requires.fits c.requires.possible c.args.touched.now.keys c.requires.touched (λ files. files.items) c.seen_in.result
-      c.seen_in.ensures.seen;
-}
+pub returns-clause-seen : goal.returns-clause-seen
+returns-clause-seen c =
+    seen_answer c.args.self.now c.args.tree.now c.args.change.now c.requires.fits c.requires.possible c.args.touched.now.keys c.requires.touched (λ files. files.items) c.seen_in.result
+    c.seen_in.ensures.seen

@@ -1,0 +1,279 @@
+-- Where a path comes in the tree after a change, told by the tree before.
+use Rattle.std.proofs.Common.{◌≡◌, ◌≢◌, inl, inr, ℕ, true, false, cond, List, [], ◌∷◌, ◌++◌, length, drop, append-nil, append_assoc, arith, Option, Some, None, refl, sym, ap, ◌∙◌, subst}
+use lib.Pointwise.{pointwise_decides}
+use Rattle.std.proofs.lemmas.Bool.{false≢true, false_from_ne_true}
+use Rattle.std.specs.Cmp.Lexicographic.{bytes_decides}
+use Rattle.odb_base.specs.Path.{Path}
+use Rattle.odb_base.specs.PathLaws.{goes_beyond}
+use Rattle.odb_nodes.specs.Tree.{IsTree, Tree, node_at}
+use Rattle.odb_nodes.specs.Tree.Follow.{Pass, Reached, Onward, Missing, Blocked, at_last, beyond, ending, file_of, pass, past}
+use Rattle.odb_nodes.specs.Tree.Change.{changed, is_possible_in, link_node, link_over, put_node, put_over, with_moved}
+use Rattle.odb_nodes.specs.Tree.Write.{changed_by}
+use Rattle.odb_nodes.specs.declared.change.Change.{Change}
+use Rattle.odb_nodes.specs.declared.change.Change.TheVariants.{PutFile, MakeDir, PutLink, Rename, Append, Remove, SetTime}
+use Rattle.odb_nodes.specs.declared.node.Content.{Content}
+use Rattle.odb_nodes.specs.declared.node.Content.TheVariants.{File, Dir, Link}
+use Rattle.odb_nodes.specs.declared.node.Node.{Node}
+use Rattle.odb_nodes.proofs.TreeLemmas.{node_at-put, other_path}
+use Rattle.odb_nodes.proofs.TreeLemmas.Change.{made-put_file, made-put_link, split_last}
+use Rattle.odb_nodes.proofs.TreeLemmas.Changed.{IsTree-changed, made-rename}
+use Rattle.odb_nodes.proofs.TreeLemmas.Follow.{IsDir-from, pass_blocked, pass_from, pass_past, pass_to_other}
+use Rattle.odb_nodes.proofs.TreeLemmas.Moved.{begins, begins-append, begins-more, begins-own, moved_away, moved_below, moved_other, moved_target}
+use Rattle.odb_nodes.proofs.TreeLemmas.MovedTree.{CanMove, goes_on, nothing_below, shorter_front}
+use Rattle.odb_nodes.proofs.MovedNumbersLemmas.{can_rename}
+use Rattle.odb_nodes.proofs.WayLaws.{link_leads_on}
+use Rattle.odb_nodes.proofs.WriteLaws.{untouched}
+use Rattle.gix_odb_shown.specs.Sight.{CanSee, GoesAs, IsArrival, IsPut, IsSight, arrival_of, file_arrival, is_place, link_arrival, moved_arrival}
+use Rattle.gix_odb_shown.specs.declared.sight.Arrival.TheVariants.{Like, LedTo, AtFile, Nowhere}
+use Rattle.gix_odb_shown.proofs.WholeLemmas.{same_pass}
+
+-- ---- passes that go alike
+
+same_goes : (p q : Pass) → p ≡ q → GoesAs p q
+same_goes (Reached path node) q is = (path, sym is)
+same_goes (Onward path) q is = sym is
+same_goes Missing q is = sym is
+same_goes Blocked q is = sym is
+
+last_goes : (p q : Path) (node : Node) (content : Content) → GoesAs (at_last true p node content) (at_last true q node content)
+last_goes p q node (File bytes time) = (q, refl)
+last_goes p q node Dir = (q, refl)
+last_goes p q node (Link target) = refl
+
+ending_goes : (p q : Path) (o : Option Node) → GoesAs (ending true p o) (ending true q o)
+ending_goes p q None = refl
+ending_goes p q (Some node) = last_goes p q node node.content
+
+past_goes : (content : Content) (names : Path) (f g : Pass) → GoesAs f g → GoesAs (past content names f) (past content names g)
+past_goes (File bytes time) names f g goes = refl
+past_goes Dir names f g goes = goes
+past_goes (Link target) names f g goes = refl
+
+beyond_goes : (o : Option Node) (names : Path) (f g : Pass) → GoesAs f g → GoesAs (beyond o names f) (beyond o names g)
+beyond_goes None names f g goes = refl
+beyond_goes (Some node) names f g goes = past_goes node.content names f g goes
+
+-- ---- whether a path is a place
+
+same_place : (place path : Path) → is_place place path ≡ true → path ≡ place
+same_place place path is = (pointwise_decides bytes_decides path place).0 is
+
+own_place : (place path : Path) → path ≡ place → is_place place path ≡ true
+own_place place path same = (pointwise_decides bytes_decides path place).1 same
+
+-- a path that doesn't begin with a place goes as before where the trees differ there alone
+apart_goes : (t u : Tree) (place path : Path) → ((q : Path) → q ≢ place → node_at u q ≡ node_at t q) → begins path place ≡ false → GoesAs (pass u true [] path) (pass t true [] path)
+apart_goes t u place path others apart =
+    same_goes (pass u true [] path) (pass t true [] path) (same_pass t u [] path (λ q front. others q (λ same. false≢true (sym apart ∙ ap (begins path) (sym same) ∙ front))))
+
+-- ---- a file is put
+
+over_content : (t : Tree) (place : Path) (content : Content) (node : Node) (old : Content) → (put_over t place content node old).content ≡ content
+over_content t place content node (File bytes time) = refl
+over_content t place content node Dir = refl
+over_content t place content node (Link target) = refl
+
+file_content : (t : Tree) (place : Path) (content : Content) (o : Option Node) → (put_node t place content o).content ≡ content
+file_content t place content None = refl
+file_content t place content (Some node) = over_content t place content node node.content
+
+module _ (t : Tree) (is_tree : IsTree t) (place : Path) (time : ℕ) (bytes : List ℕ) (possible : is_possible_in t (PutFile place time bytes) ≡ true) (path : Path) where
+  abbrev put : Change
+  put = PutFile place time bytes
+
+  abbrev filed : Tree
+  filed = changed t put
+
+  is_filed : IsTree filed
+  is_filed = IsTree-changed t put is_tree possible
+
+  abbrev file_node : Node
+  file_node = put_node t place (File bytes time) (node_at t place)
+
+  file_stands : node_at filed place ≡ Some file_node
+  file_stands = ap (λ (v : Tree). node_at v place) (made-put_file t place time bytes) ∙ node_at-put t place file_node
+
+  file_is : file_node.content ≡ File bytes time
+  file_is = file_content t place (File bytes time) (node_at t place)
+
+  at_file : path ≡ place → IsPut filed (Some put) path
+  at_file same = record {
+    node = file_node;
+    reached = pass_to_other filed is_filed path file_node (ap (node_at filed) same ∙ file_stands) true (λ target link. let both : File bytes time ≡ Link target = sym file_is ∙ link in cc);
+    file = (bytes, time);
+    put = refl;
+    content = ap file_of file_is;
+  }
+
+  behind_file : begins path place ≡ true → path ≢ place → pass filed true [] path ≡ Blocked
+  behind_file is apart =
+      let g = goes_on path place is apart in
+      ap (pass filed true []) g.2 ∙ pass_from filed is_filed true [] place (g.0 ∷ g.1) file_node file_stands
+      ∙ pass_blocked filed true place (g.0 ∷ g.1) file_node bytes time (omega arith) file_stands file_is
+
+  file_others : (q : Path) → q ≢ place → node_at filed q ≡ node_at t q
+  file_others q apart = untouched t put q (other_path q place apart)
+
+  file_so : IsArrival t filed (Some put) path (file_arrival place path)
+  file_so =
+      elim (is_place place path) as (λ b. is_place place path ≡ b → IsArrival t filed (Some put) path (cond b AtFile (cond (begins path place) Nowhere (Like path)))) [
+        | true ↦ λ is. at_file (same_place place path is)
+        | false ↦ λ other.
+            elim (begins path place) as (λ b. begins path place ≡ b → IsArrival t filed (Some put) path (cond b Nowhere (Like path))) [
+              | true ↦ λ is. inr (behind_file is (λ same. false≢true (sym other ∙ own_place place path same)))
+              | false ↦ λ apart. apart_goes t filed place path file_others apart
+            ] refl
+      ] refl
+
+-- ---- a link is put
+
+pub link_content : (t : Tree) (p target : Path) (o : Option Node) → (link_node t p target o).content ≡ Link target
+link_content t p target None = refl
+link_content t p target (Some node) = over node.content
+  where
+    over : (old : Content) → (link_over t p target node old).content ≡ Link target
+    over (File old at) = refl
+    over Dir = refl
+    over (Link old) = refl
+
+module _ (t : Tree) (is_tree : IsTree t) (place target : Path) (possible : is_possible_in t (PutLink place target) ≡ true) (path : Path) where
+  abbrev link : Change
+  link = PutLink place target
+
+  abbrev linked : Tree
+  linked = changed t link
+
+  is_linked : IsTree linked
+  is_linked = IsTree-changed t link is_tree possible
+
+  abbrev the_link : Node
+  the_link = link_node t place target (node_at t place)
+
+  link_stands : node_at linked place ≡ Some the_link
+  link_stands = ap (λ (v : Tree). node_at v place) (made-put_link t place target) ∙ node_at-put t place the_link
+
+  link_others : (q : Path) → q ≢ place → node_at linked q ≡ node_at t q
+  link_others q apart = untouched t link q (other_path q place apart)
+
+  behind_link : begins path place ≡ true → pass linked true [] path ≡ Onward (target ++ drop (length place) path)
+  behind_link is =
+      ap (pass linked true []) (goes_beyond path place is)
+      ∙ link_leads_on linked is_linked place the_link target link_stands (link_content t place target (node_at t place)) (drop (length place) path)
+
+  link_so : IsArrival t linked (Some link) path (link_arrival place target path)
+  link_so =
+      elim (begins path place) as (λ b. begins path place ≡ b → IsArrival t linked (Some link) path (cond b (LedTo (target ++ drop (length place) path)) (Like path))) [
+        | true ↦ λ is. behind_link is
+        | false ↦ λ apart. apart_goes t linked place path link_others apart
+      ] refl
+
+-- ---- something is moved
+
+module _ (t : Tree) (is_tree : IsTree t) (from to : Path) (possible : is_possible_in t (Rename from to) ≡ true) (path : Path) where
+  abbrev after : Tree
+  after = with_moved t from to
+
+  can : CanMove t from to
+  can = can_rename t is_tree from to possible
+
+  is_after : IsTree after
+  is_after = subst IsTree (made-rename t from to) (IsTree-changed t (Rename from to) is_tree possible)
+
+  target_stands : node_at after to ≡ Some can.node
+  target_stands = moved_target t from to ∙ can.at
+
+  -- below the target it goes as it went below the source
+  below_goes : (way names : Path) → GoesAs (pass after true (to ++ way) names) (pass t true (from ++ way) names)
+  unfolding pass
+  below_goes way [] =
+      subst (λ (o : Option Node). GoesAs (ending true (to ++ way) o) (ending true (from ++ way) (node_at t (from ++ way)))) (sym (moved_below t from to way))
+      (ending_goes (to ++ way) (from ++ way) (node_at t (from ++ way)))
+  below_goes way (x ∷ names) =
+      subst (λ (o : Option Node). GoesAs (beyond o (x ∷ names) (pass after true ((to ++ way) ++ x ∷ []) names)) (beyond (node_at t (from ++ way)) (x ∷ names) (pass t true ((from ++ way) ++ x ∷ []) names)))
+      (sym (moved_below t from to way))
+      (beyond_goes (node_at t (from ++ way)) (x ∷ names) (pass after true ((to ++ way) ++ x ∷ []) names) (pass t true ((from ++ way) ++ x ∷ []) names)
+      (subst (λ (p : Path). GoesAs (pass after true p names) (pass t true ((from ++ way) ++ x ∷ []) names)) (sym (append_assoc to way (x ∷ [])))
+      (subst (λ (p : Path). GoesAs (pass after true (to ++ (way ++ x ∷ [])) names) (pass t true p names)) (sym (append_assoc from way (x ∷ [])))
+      (below_goes (way ++ x ∷ []) names))))
+
+  target_goes : (rest : Path) → GoesAs (pass after true [] (to ++ rest)) (pass t true [] (from ++ rest))
+  target_goes rest =
+      subst (λ (p : Pass). GoesAs p (pass t true [] (from ++ rest)))
+      (ap (λ (w : Path). pass after true w rest) (append-nil to) ∙ sym (pass_from after is_after true [] to rest can.node target_stands))
+      (subst (λ (p : Pass). GoesAs (pass after true (to ++ []) rest) p)
+      (ap (λ (w : Path). pass t true w rest) (append-nil from) ∙ sym (pass_from t is_tree true [] from rest can.node can.at))
+      (below_goes [] rest))
+
+  -- what stood at the source is gone
+  module _ (other : begins path to ≡ false) (source : begins path from ≡ true) where
+    ends_apart : from ≢ to
+    ends_apart same = false≢true (sym other ∙ ap (begins path) (sym same) ∙ source)
+
+    outside : begins to from ≡ false
+    outside = elim can.outside [ inl same ↦ absurd (ends_apart same) | inr is ↦ is ]
+
+    source_off : begins from to ≡ false
+    source_off = false_from_ne_true (begins from to) (λ below.
+        let g = goes_on from to below ends_apart in
+        nothing_below t is_tree to can.free g.0 g.1 can.node (ap (node_at t) (sym g.2) ∙ can.at))
+
+    source_gone : node_at after from ≡ None
+    source_gone = moved_away t from to from source_off (begins-own from)
+
+    below_root : [] ≢ from
+    below_root root = false≢true (sym outside ∙ ap (begins to) (sym root) ∙ begins-append [] to)
+
+    goes_nowhere : pass after true [] path ≡ Missing
+    goes_nowhere =
+        let s = split_last from below_root in
+        let stays : node_at after s.front ≡ node_at t s.front =
+        moved_other t from to s.front
+        (false_from_ne_true (begins s.front to) (λ is. false≢true (sym source_off ∙ ap (λ (p : Path). begins p to) s.is ∙ begins-more s.front to (s.name ∷ []) is)))
+        (ap (begins s.front) s.is ∙ shorter_front s.front s.name) in
+        let d = IsDir-from t s.front (is_tree.ways s.front s.name can.node (ap (node_at t) (sym s.is) ∙ can.at)) in
+        let whole : path ≡ s.front ++ s.name ∷ drop (length from) path =
+        goes_beyond path from source ∙ ap (λ (p : Path). p ++ drop (length from) path) s.is ∙ append_assoc s.front (s.name ∷ []) (drop (length from) path) in
+        pass_past after is_after true path s.front d.node
+        (record { name = s.name; names = drop (length from) path; whole = whole; lacks = ap (node_at after) (sym s.is) ∙ source_gone }) (stays ∙ d.at)
+        ∙ ap (λ (c : Content). past c (s.name ∷ drop (length from) path) Missing) d.content
+
+  -- what lies below neither goes as before
+  off_goes : begins path to ≡ false → begins path from ≡ false → GoesAs (pass after true [] path) (pass t true [] path)
+  off_goes other apart =
+      same_goes (pass after true [] path) (pass t true [] path) (same_pass t after [] path (λ q front.
+      moved_other t from to q (front_off q to front other) (front_off q from front apart)))
+    where
+      front_off : (q base : Path) → begins path q ≡ true → begins path base ≡ false → begins q base ≡ false
+      front_off q base front off = false_from_ne_true (begins q base) (λ is.
+          false≢true (sym off ∙ ap (λ (p : Path). begins p base) (goes_beyond path q front) ∙ begins-more q base (drop (length q) path) is))
+
+  moved_so : IsArrival t after (Some (Rename from to)) path (moved_arrival from to path)
+  moved_so =
+      elim (begins path to) as (λ b. begins path to ≡ b
+      → IsArrival t after (Some (Rename from to)) path (cond b (Like (from ++ drop (length to) path)) (cond (begins path from) Nowhere (Like path)))) [
+        | true ↦ λ is.
+            subst (λ (p : Path). GoesAs (pass after true [] p) (pass t true [] (from ++ drop (length to) path))) (sym (goes_beyond path to is))
+            (target_goes (drop (length to) path))
+        | false ↦ λ other.
+            elim (begins path from) as (λ b. begins path from ≡ b → IsArrival t after (Some (Rename from to)) path (cond b Nowhere (Like path))) [
+              | true ↦ λ source. inl (goes_nowhere other source)
+              | false ↦ λ apart. off_goes other apart
+            ] refl
+      ] refl
+
+-- ---- the law
+
+change_so : (t : Tree) (change : Change) → IsTree t → CanSee t (Some change) → (path : Path) → IsArrival t (changed t change) (Some change) path (arrival_of (Some change) path)
+change_so t (PutFile place time bytes) is_tree sees path = file_so t is_tree place time bytes sees.0 path
+change_so t (MakeDir place dev) is_tree sees path = absurd (false≢true sees.1)
+change_so t (PutLink place target) is_tree sees path = link_so t is_tree place target sees.0 path
+change_so t (Rename from to) is_tree sees path =
+    subst (λ (u : Tree). IsArrival t u (Some (Rename from to)) path (moved_arrival from to path)) (sym (made-rename t from to)) (moved_so t is_tree from to sees.0 path)
+change_so t (Append place bytes) is_tree sees path = absurd (false≢true sees.1)
+change_so t (Remove place) is_tree sees path = absurd (false≢true sees.1)
+change_so t (SetTime place time) is_tree sees path = absurd (false≢true sees.1)
+
+-- A path comes in the tree after the change where its arrival says.
+pub arrives_so : (t : Tree) (change : Option Change) → IsSight t change → (path : Path) → IsArrival t (changed_by t change) change path (arrival_of change path)
+arrives_so t None sight path = same_goes (pass t true [] path) (pass t true [] path) refl
+arrives_so t (Some change) sight path = change_so t change sight.is_tree sight.can path
