@@ -9,13 +9,25 @@ use std::alloc::Global;
 use std::test::Fail;
 
 /// The first word of a text and what stands behind it, which is empty where there is one word alone.
-fn cut(text: &str) -> (&str, &str) {
+pub(crate) fn cut(text: &str) -> (&str, &str) {
     text.split_once(' ').unwrap_or((text, ""))
 }
 
 /// What a row does, and what is to come of it.
 pub(crate) fn halves(row: &str) -> (&str, &str) {
     row.split_once('|').unwrap_or((row, ""))
+}
+
+/// The words that put so many links, each of which leads to the one before and the first to `/0`, and what they come to.
+pub(crate) fn chain(alloc: Global, count: u32) -> Result<(String, String), Fail> {
+    let mut links = String::new(alloc);
+    let mut come = String::new(alloc);
+    for before in 0..count {
+        let link = format!(in alloc; "link /{} /{before}, ", before + 1)?;
+        links.push_str(link.as_str())?;
+        come.push_str("made ")?;
+    }
+    Ok((links, come))
 }
 
 /// Fails where a row comes to something else than is wanted.
