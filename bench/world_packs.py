@@ -110,6 +110,31 @@ def linked_in(count):
     return joined(["mkdir /q", *put("pack-a", range(10), 1)], 4, [*changes, found(7)])
 
 
+def swapped(count):
+    """So many times the link at the pack path of an open store is put over from one directory with two packs to another, while the tree grows; and a find after each 25 of them."""
+    parts = []
+    for it in range(count):
+        parts.append((["do put /x/note-%d 1 68" % it, "do link /o/pack /%s" % "qp"[it % 2]], ["applied"] * 2))
+        if it % 25 == 24:
+            parts.append(found((20, 0)[it % 2] + it % 20))
+    setup = [line for pack in range(4) for line in put("pack-%d" % pack, range(10 * pack, 10 * pack + 10), 1, directory="/" + "ppqq"[pack])]
+    return joined(["mkdir /x", "mkdir /p", "mkdir /q", *setup, "link /o/pack /p"], 4, parts, [])
+
+
+def taken_away(count):
+    """So many links of new names to one place that other programs put into the pack directory of an open store and take away, while the place gets other bytes each time; and then one find."""
+    lines = ["do link /o/pack/pack-%d.idx /t", "do remove /o/pack/pack-%d.idx", "do put /t 1 %08x"]
+    changes = [([line % it for line in lines], ["applied"] * 3) for it in range(count)]
+    return joined(["put /t 1 68", *put("pack-a", range(10), 1)], 4, [*changes, found(7)])
+
+
+def middle(count):
+    """So many packs, and a link beside them whose way goes over another link, which is put over so many times; and then one find."""
+    setup = ["mkdir /e", "put /e/x 1 68", "mkdir /f", "put /f/x 1 68", *put("pack-a", range(10), 1), *["put /o/pack/note-%d.pack 1 68" % it for it in range(count)]]
+    changes = [(["do link /d /%s" % "ef"[it % 2]], ["applied"]) for it in range(count)]
+    return joined(setup, 4, [(["do link /o/pack/z.pack /d/x"], ["applied"]), *changes, found(7)])
+
+
 CASES = {
     "objects in one pack": (one_pack, (1000, 4000, 16000)),
     "packs": (many_packs, (20, 80, 320)),
@@ -121,6 +146,9 @@ CASES = {
     "links and directories beside": (beside, (2000, 8000)),
     "packs among links": (among_links, (2000, 8000)),
     "indices linked in": (linked_in, (2000, 8000)),
+    "pack links swapped": (swapped, (2000, 8000)),
+    "links put and taken away": (taken_away, (2000, 8000)),
+    "a way changed in its middle": (middle, (2000, 8000)),
 }
 
 
