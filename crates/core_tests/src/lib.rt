@@ -34,6 +34,8 @@ mod reports;
 #[cfg(test)]
 mod rows;
 #[cfg(test)]
+mod shared_lists;
+#[cfg(test)]
 mod shelf;
 #[cfg(test)]
 mod shown;

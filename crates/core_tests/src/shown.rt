@@ -7,10 +7,11 @@
 use crate::events::{put_event, word_of_why};
 use crate::text::Text;
 use gix_odb_core::{
-    Core, Effect, Entry, Listed, LoadedIndex, Metrics, OnDiskFile, Passed, Refusal, Report, Shared,
-    SnapshotIndex, Todo, View,
+    Core, Effect, Entry, KeptList, Listed, LoadedIndex, LoadedRest, Metrics, OnDiskFile, Passed,
+    Refusal, Report, Shared, SnapshotIndex, Todo, TodoRest, View,
 };
 use gix_pack::data;
+use odb_base::NoMemory;
 
 /// Puts an answer behind a text.
 pub fn put_answer(text: &mut Text, answer: &Result<Effect, Refusal>) {
@@ -49,11 +50,11 @@ fn put_refusal(text: &mut Text, refusal: Refusal) {
 fn put_view(text: &mut Text, word: &str, view: &View) {
     put_numbers(text, word, view);
     text.put(" [");
-    put_indices(text, view.snapshot.indices.value().as_slice());
+    put_listed_indices(text, view.snapshot.indices.rest());
     text.put("] [");
-    put_indices(text, view.snapshot.kept.value().as_slice());
+    put_kept(text, &view.snapshot.kept);
     text.put("] [");
-    put_todo(text, view.todo.value().as_slice());
+    put_todo(text, view.todo.rest());
     text.put("]");
 }
 
@@ -67,14 +68,32 @@ fn put_numbers(text: &mut Text, word: &str, view: &View) {
     }
 }
 
-fn put_indices(text: &mut Text, indices: &[SnapshotIndex]) {
-    for index in indices {
-        text.comma();
-        text.marked("", u64::from(index.slot));
-        text.path(":", index.path.value());
-        put_loaded(text, &index.index);
-        put_packs(text, index.packs.value().as_slice());
+/// Puts the listed indices that are loaded. No test has more than a hundred.
+fn put_listed_indices(text: &mut Text, rest: Result<LoadedRest, NoMemory>) {
+    let Ok(mut rest) = rest else {
+        return;
+    };
+    for _ in 0..100 {
+        put_index(text, rest.pop());
     }
+}
+
+/// Puts the indices of the other slots. No test has more than a hundred slots.
+fn put_kept(text: &mut Text, kept: &KeptList) {
+    for slot in 0..100 {
+        put_index(text, kept.in_slot(slot));
+    }
+}
+
+fn put_index(text: &mut Text, index: Result<Option<SnapshotIndex>, NoMemory>) {
+    let Ok(Some(index)) = index else {
+        return;
+    };
+    text.comma();
+    text.marked("", u64::from(index.slot));
+    text.path(":", index.path.value());
+    put_loaded(text, &index.index);
+    put_packs(text, index.packs.value().as_slice());
 }
 
 fn put_loaded(text: &mut Text, index: &LoadedIndex) {
@@ -101,12 +120,22 @@ fn put_state(text: &mut Text, pack: &OnDiskFile<Shared<data::File>>) {
     }
 }
 
-fn put_todo(text: &mut Text, todo: &[Todo]) {
-    for todo in todo {
-        text.comma();
-        text.marked("", u64::from(todo.slot));
-        text.path(":", todo.path.value());
+fn put_todo(text: &mut Text, rest: Result<TodoRest, NoMemory>) {
+    let Ok(mut rest) = rest else {
+        return;
+    };
+    for _ in 0..100 {
+        put_unloaded(text, rest.pop());
     }
+}
+
+fn put_unloaded(text: &mut Text, todo: Result<Option<Todo>, NoMemory>) {
+    let Ok(Some(todo)) = todo else {
+        return;
+    };
+    text.comma();
+    text.marked("", u64::from(todo.slot));
+    text.path(":", todo.path.value());
 }
 
 /// A report behind a view: the counts, the listed slots, with `*` for multi-pack indices, `=` for loaded ones and `!`

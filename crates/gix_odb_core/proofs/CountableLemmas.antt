@@ -14,13 +14,12 @@ use Rattle.gix_odb_slots.proofs.SlotsAfterLemmas.{length-slots_after}
 use Rattle.gix_odb_core.proofs.PublishingRule.{listed_slots, publishing_rule}
 use Rattle.gix_odb_core.proofs.RoomLemmas.{slots-stand}
 use Rattle.gix_odb_slots.specs.Files.{slot_passed, slot_with_index, slot_with_pack}
-use Rattle.gix_odb_slots.specs.Publish.{list_after, slot_at}
-use Rattle.gix_odb_slots.specs.Slots.{Slot, holds}
+use Rattle.gix_odb_slots.specs.Publish.{list_after}
+use Rattle.gix_odb_events.specs.Slots.{slot_at, Slot, holds, HasFewPacks}
 use Rattle.gix_odb_events.specs.PackFiles.{HasDifferentPaths}
-use Rattle.gix_odb_slots.specs.Tally.{HasFewPacks}
 use Rattle.gix_odb_events.specs.declared.listing.Listing.{Listing}
 use Rattle.gix_odb_events.specs.declared.listing.ListingRow.{ListingRow}
-use Rattle.gix_odb_slots.specs.declared.slot.Filled.{Filled}
+use Rattle.gix_odb_events.specs.declared.slot.Filled.{Filled}
 use Rattle.gix_odb_core.specs.Countable.{IsCountable, LeavesFewPacks}
 use Rattle.gix_odb_core.specs.Handles.{is_any_stable}
 use Rattle.gix_odb_core.specs.Replay.{CanHappen}

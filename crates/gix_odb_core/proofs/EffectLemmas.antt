@@ -2,7 +2,7 @@
 use Rattle.std.proofs.Common.{◌≡◌, ℕ, Bool, true, false, ◌||◌, ◌==◌, cond, List, Option, Some, None, Ok, Err, ◌⊎◌, inl, inr, refl, sym, ap, subst, ◌∙◌}
 use Rattle.std.proofs.lemmas.Bool.{or_right}
 use Rattle.gix_odb_core.specs.Origins.{is_stored}
-use Rattle.gix_odb_slots.specs.Publish.{slot_at}
+use Rattle.gix_odb_events.specs.Slots.{slot_at}
 use Rattle.gix_odb_core.specs.Quiet.{has_no_effect, is_idle, only_asks}
 use Rattle.gix_odb_core.specs.Replay.{IsNext, answer_of, is_refresh, number_behind, publish_answer, put_answer, replay}
 use Rattle.gix_odb_events.specs.Answers.{Answer}
@@ -16,7 +16,7 @@ use Rattle.gix_odb_events.specs.declared.event.Event.TheVariants as event
 use Rattle.gix_odb_events.specs.declared.event.Refusal.TheVariants as refusals
 use Rattle.gix_odb_core.specs.declared.journal.Entry.{Entry}
 use Rattle.gix_odb_core.specs.declared.shape.Shape.{Shape}
-use Rattle.gix_odb_slots.specs.declared.slot.Filled.{Filled}
+use Rattle.gix_odb_events.specs.declared.slot.Filled.{Filled}
 
 -- a listing published or confirmed the list, and a file was stored
 abbrev pub Succeeds : Event → Answer → Type 0

@@ -6,16 +6,16 @@ use Rattle.odb_base.specs.Path.{Path}
 use Rattle.gix_pack_files.specs.FileBytes.{FileBytes}
 use Rattle.gix_odb_events.specs.OnDiskFile.{file_at, is_loaded, loaded, passed, put_back, stored, trashed, with_state}
 use Rattle.gix_odb_core.specs.Origins.{PassesOver, PutsIndex, PutsPack}
-use Rattle.gix_odb_slots.specs.Slots.{Slot, filled_put_back, filled_trashed, index_put_back, index_trashed}
+use Rattle.gix_odb_events.specs.Slots.{Slot, filled_put_back, filled_trashed, index_put_back, index_trashed}
 use Rattle.gix_odb_events.specs.PackFiles.{same_path}
 use Rattle.gix_odb_slots.specs.Files.{index_passed, index_with, passed_at, slot_passed, slot_with_index, slot_with_pack, stored_at, takes, with_index}
 use Rattle.gix_odb_events.specs.declared.event.Event.{Event}
 use Rattle.gix_odb_events.specs.declared.on_disk_file.FileState.{FileState}
 use Rattle.gix_odb_events.specs.declared.on_disk_file.FileState.TheVariants.{Unloaded, Loaded, Garbage, Missing}
 use Rattle.gix_odb_events.specs.declared.on_disk_file.OnDiskFile.{OnDiskFile}
-use Rattle.gix_odb_slots.specs.declared.slot.Filled.{Filled}
-use Rattle.gix_odb_slots.specs.declared.slot.IndexFile.{IndexFile}
-use Rattle.gix_odb_slots.specs.declared.slot.IndexFile.TheVariants.{Single, Multi}
+use Rattle.gix_odb_events.specs.declared.slot.Filled.{Filled}
+use Rattle.gix_odb_events.specs.declared.slot.IndexFile.{IndexFile}
+use Rattle.gix_odb_events.specs.declared.slot.IndexFile.TheVariants.{Single, Multi}
 use Rattle.gix_odb_events.proofs.SamePathLaws.{same_path-true}
 
 -- ---- states

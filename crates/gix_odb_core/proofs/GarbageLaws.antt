@@ -8,13 +8,12 @@ use Rattle.gix_odb_core.specs.Handles.{is_any_stable}
 use Rattle.gix_odb_core.specs.Misses.{has_garbage, is_garbage, is_index_garbage}
 use Rattle.gix_odb_events.specs.OnDiskFile.{file_at, is_disposable, passed, stored, with_state}
 use Rattle.gix_odb_core.specs.Possible.{IsOpened}
-use Rattle.gix_odb_slots.specs.Publish.{slot_at}
+use Rattle.gix_odb_events.specs.Slots.{slot_at, Slot, has_disposable, is_index_disposable}
 use Rattle.gix_odb_core.specs.Replay.{after_entry, replay}
-use Rattle.gix_odb_slots.specs.Slots.{Slot, has_disposable, is_index_disposable}
 use Rattle.gix_odb_events.specs.PackFiles.{PackFile, same_path}
 use Rattle.gix_odb_core.specs.Steps.{after, shape_published}
 use Rattle.gix_odb_slots.specs.Files.{index_passed, index_with, passed_at, slot_passed, slot_with_index, slot_with_pack, stored_at, takes, with_index}
-use Rattle.gix_odb_slots.specs.Shown.{is_listed, shown_slot}
+use Rattle.gix_odb_events.specs.Shown.{is_listed, shown_slot}
 use Rattle.gix_odb_core.specs.Views.{view_of}
 use Rattle.gix_odb_events.specs.declared.event.Event.{Event}
 use Rattle.gix_odb_events.specs.declared.event.Event.TheVariants as event
@@ -23,9 +22,9 @@ use Rattle.gix_odb_events.specs.declared.on_disk_file.FileState.{FileState}
 use Rattle.gix_odb_events.specs.declared.on_disk_file.FileState.TheVariants.{Unloaded, Loaded, Garbage, Missing}
 use Rattle.gix_odb_events.specs.declared.on_disk_file.OnDiskFile.{OnDiskFile}
 use Rattle.gix_odb_core.specs.declared.shape.Shape.{Shape}
-use Rattle.gix_odb_slots.specs.declared.slot.Filled.{Filled}
-use Rattle.gix_odb_slots.specs.declared.slot.IndexFile.{IndexFile}
-use Rattle.gix_odb_slots.specs.declared.slot.IndexFile.TheVariants.{Single, Multi}
+use Rattle.gix_odb_events.specs.declared.slot.Filled.{Filled}
+use Rattle.gix_odb_events.specs.declared.slot.IndexFile.{IndexFile}
+use Rattle.gix_odb_events.specs.declared.slot.IndexFile.TheVariants.{Single, Multi}
 use Rattle.gix_odb_events.specs.declared.loaded.SnapshotIndex.{SnapshotIndex}
 use Rattle.gix_odb_slots.proofs.DisposableLaws.{listed_slot_has_no_disposable}
 use Rattle.gix_odb_core.proofs.ShownLemmas.{shown_unlisted}

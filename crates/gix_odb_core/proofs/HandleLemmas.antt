@@ -7,7 +7,7 @@ use Rattle.std.proofs.lemmas.Bool.{or_left, or_right}
 use Rattle.std.proofs.lemmas.Map.Lookups.{exact_unsigned}
 use Rattle.gix_odb_core.specs.Handles.{Handles, is_any_stable, registered, with_seat, without_seat}
 use Rattle.gix_odb_core.specs.Possible.{is_remove}
-use Rattle.gix_odb_slots.specs.Publish.{slot_at}
+use Rattle.gix_odb_events.specs.Slots.{slot_at}
 use Rattle.gix_odb_core.specs.Replay.{CanHappen}
 use Rattle.gix_odb_core.specs.Steps.{after, shape_published}
 use Rattle.gix_odb_slots.specs.Files.{slot_with_index, slot_with_pack}

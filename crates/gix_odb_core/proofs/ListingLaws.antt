@@ -7,18 +7,17 @@ use Rattle.gix_odb_core.specs.Listed.{HasRowsInOrder}
 use Rattle.gix_odb_events.specs.Answers.{Refreshes}
 use Rattle.gix_odb_events.specs.View.{HasRow}
 use Rattle.gix_odb_slots.specs.Counts.{listed_in}
-use Rattle.gix_odb_slots.specs.Publish.{slot_at}
+use Rattle.gix_odb_events.specs.Slots.{slot_at, has_disposable, holds, index_path, Slot}
 use Rattle.gix_odb_core.specs.Replay.{answer_of, publish_answer}
-use Rattle.gix_odb_slots.specs.Slots.{has_disposable, holds, index_path, Slot}
 use Rattle.gix_odb_core.specs.Steps.{Publishing, Outdated, TooFew, Overflows, Unchanged, Published, after, publishing, shape_published}
-use Rattle.gix_odb_slots.specs.Shown.{is_listed, loaded_index, shown_slot, todo_of, unloaded_slot}
+use Rattle.gix_odb_events.specs.Shown.{is_listed, loaded_index, shown_slot, todo_of, unloaded_slot}
 use Rattle.gix_odb_core.specs.Views.{view_of}
 use Rattle.gix_odb_events.specs.declared.event.Event.TheVariants as event
 use Rattle.gix_odb_core.specs.declared.journal.Entry.{Entry}
 use Rattle.gix_odb_events.specs.declared.listing.Listing.{Listing}
 use Rattle.gix_odb_events.specs.declared.listing.ListingRow.{ListingRow}
 use Rattle.gix_odb_core.specs.declared.shape.Shape.{Shape}
-use Rattle.gix_odb_slots.specs.declared.slot.Filled.{Filled}
+use Rattle.gix_odb_events.specs.declared.slot.Filled.{Filled}
 use Rattle.gix_odb_events.specs.declared.loaded.LoadedIndex.{LoadedIndex}
 use Rattle.gix_odb_events.specs.declared.loaded.SnapshotIndex.{SnapshotIndex}
 use Rattle.gix_odb_events.specs.declared.view.View.{View}

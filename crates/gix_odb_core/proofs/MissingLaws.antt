@@ -7,7 +7,7 @@ use Rattle.gix_odb_core.specs.Misses.{IsIndexMissing, IsMissedSince, IsMissingAt
 use Rattle.gix_odb_core.specs.Origins.{PassesOver, PutsPack}
 use Rattle.gix_odb_core.specs.Possible.{IsOpened}
 use Rattle.gix_odb_core.specs.Replay.{after_entry, replay}
-use Rattle.gix_odb_slots.specs.Slots.{Slot, new_filled, new_index}
+use Rattle.gix_odb_events.specs.Slots.{Slot, new_filled, new_index}
 use Rattle.gix_odb_events.specs.PackFiles.{PackFile, new_pack, new_packs}
 use Rattle.gix_odb_events.specs.declared.event.Event.{Event}
 use Rattle.gix_odb_events.specs.declared.event.Refusal.TheVariants as refusals
@@ -16,9 +16,9 @@ use Rattle.gix_odb_events.specs.declared.listing.ListingRow.{ListingRow}
 use Rattle.gix_odb_events.specs.declared.on_disk_file.FileState.TheVariants.{Missing}
 use Rattle.gix_odb_events.specs.declared.on_disk_file.OnDiskFile.{OnDiskFile}
 use Rattle.gix_odb_core.specs.declared.shape.Shape.{Shape}
-use Rattle.gix_odb_slots.specs.declared.slot.Filled.{Filled}
-use Rattle.gix_odb_slots.specs.declared.slot.IndexFile.{IndexFile}
-use Rattle.gix_odb_slots.specs.declared.slot.IndexFile.TheVariants.{Single, Multi}
+use Rattle.gix_odb_events.specs.declared.slot.Filled.{Filled}
+use Rattle.gix_odb_events.specs.declared.slot.IndexFile.{IndexFile}
+use Rattle.gix_odb_events.specs.declared.slot.IndexFile.TheVariants.{Single, Multi}
 use Rattle.gix_odb_core.proofs.OrderLaws.{replay_of_joined_journals}
 use Rattle.gix_odb_core.proofs.ReplayLemmas.{replay-push}
 use Rattle.gix_odb_core.proofs.ShapeLaws.{opened_slots_are_empty}

@@ -6,13 +6,12 @@ use Rattle.gix_odb_core.specs.Steps.{IsShape}
 use Rattle.gix_odb_core.specs.Views.{view_of}
 use Rattle.gix_odb_core.specs.declared.shape.Shape.{Shape}
 use Rattle.gix_odb_slots.specs.Counts.{listed_in}
-use Rattle.gix_odb_slots.specs.Publish.{slot_at}
-use Rattle.gix_odb_slots.specs.Shown.{loaded_index, shown_slot, todo_of, unloaded_slot}
-use Rattle.gix_odb_slots.specs.Slots.{Slot, index_path}
+use Rattle.gix_odb_events.specs.Slots.{slot_at, Slot, index_path}
+use Rattle.gix_odb_events.specs.Shown.{loaded_index, shown_slot, todo_of, unloaded_slot}
 use Rattle.gix_odb_events.specs.declared.loaded.LoadedIndex.{LoadedIndex}
 use Rattle.gix_odb_events.specs.declared.loaded.SnapshotIndex.{SnapshotIndex}
 use Rattle.gix_odb_events.specs.declared.loaded.Todo.{Todo}
-use Rattle.gix_odb_slots.specs.declared.slot.Filled.{Filled}
+use Rattle.gix_odb_events.specs.declared.slot.Filled.{Filled}
 use Rattle.gix_odb_core.proofs.ShownLemmas.{shown_of_slot}
 use Rattle.gix_odb_slots.proofs.ApartLemmas.{apart_at}
 use Rattle.gix_odb_slots.proofs.FilterMapLemmas.{IsDistinct-filter_map}

@@ -2,11 +2,10 @@
 use Rattle.std.proofs.Common.{◌≡◌, ℕ, ◌≤◌, false, All, List, [], length, replicate, None, sym, ap, subst, ◌∙◌, arith}
 use Rattle.std.proofs.lemmas.List.{length-replicate}
 use Rattle.std.proofs.lemmas.List.Elements.{All-replicate}
-use Rattle.gix_odb_slots.specs.Tally.{HasFewPacks}
+use Rattle.gix_odb_events.specs.Slots.{HasFewPacks, Slot}
 use Rattle.gix_odb_core.specs.Countable.{IsCountable}
 use Rattle.gix_odb_core.specs.Replay.{passed_in, refreshes_in}
 use Rattle.gix_odb_core.specs.Shelf.{shown_of, without_handles}
-use Rattle.gix_odb_slots.specs.Slots.{Slot}
 use Rattle.gix_odb_core.specs.State.{IsKept, entries_in, newest}
 use Rattle.gix_odb_core.specs.Steps.{opening_shape}
 use Rattle.gix_odb_core.specs.Views.{view_of}

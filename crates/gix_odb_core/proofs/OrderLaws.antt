@@ -3,7 +3,7 @@ use Rattle.std.proofs.Common.{◌≡◌, ℕ, ◌+◌, Bool, true, false, not, �
 use Rattle.std.proofs.Common.{Option, Some, None, Ok, Err, ◌⊎◌, inl, inr, refl, sym, ap, subst, ◌∙◌}
 use Rattle.std.proofs.lemmas.Option.{get_or_from_slice_get, slice_get_within}
 use Rattle.gix_odb_core.specs.Possible.{IsComplete, lacks_memory}
-use Rattle.gix_odb_slots.specs.Publish.{slot_at}
+use Rattle.gix_odb_events.specs.Slots.{slot_at}
 use Rattle.gix_odb_core.specs.Quiet.{has_no_effect, is_idle, only_asks}
 use Rattle.gix_odb_core.specs.Replay.{AreNext, IsLegal, IsNext, after_answer, after_entry, answer_of, number_behind, publish_answer, put_answer, replay}
 use Rattle.gix_odb_events.specs.Answers.{Answer}
@@ -17,7 +17,7 @@ use Rattle.gix_odb_events.specs.declared.event.Event.TheVariants as event
 use Rattle.gix_odb_events.specs.declared.event.Refusal.TheVariants as refusals
 use Rattle.gix_odb_core.specs.declared.journal.Entry.{Entry}
 use Rattle.gix_odb_core.specs.declared.shape.Shape.{Shape}
-use Rattle.gix_odb_slots.specs.declared.slot.Filled.{Filled}
+use Rattle.gix_odb_events.specs.declared.slot.Filled.{Filled}
 use Rattle.gix_odb_core.proofs.ReplayLemmas.{next_first, next_rest, replay-push}
 use Rattle.gix_odb_core.proofs.SlotTurnLemmas.{entry_gives}
 

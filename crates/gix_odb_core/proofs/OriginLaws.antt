@@ -7,20 +7,19 @@ use Rattle.gix_pack_files.specs.FileBytes.{FileBytes}
 use Rattle.gix_odb_events.specs.OnDiskFile.{loaded}
 use Rattle.gix_odb_core.specs.Origins.{ArePacksTold, IsIndexTold, IsMultiOf, IsOfRow, IsTold, Lists, PassesOver, PutsIndex, PutsPack, Tells, TellsListing, TellsPut, is_stored}
 use Rattle.gix_odb_core.specs.Possible.{IsOpened}
-use Rattle.gix_odb_slots.specs.Publish.{slot_at}
+use Rattle.gix_odb_events.specs.Slots.{slot_at, Slot, is_index_of, new_filled, new_index}
 use Rattle.gix_odb_core.specs.Quiet.{has_no_effect}
 use Rattle.gix_odb_core.specs.Replay.{AreNext, IsLegal, IsNext, after_entry, is_refresh, replay}
 use Rattle.gix_odb_events.specs.Answers.{Answer}
-use Rattle.gix_odb_slots.specs.Slots.{Slot, is_index_of, new_filled, new_index}
 use Rattle.gix_odb_events.specs.PackFiles.{PackFile, same_path, new_pack, new_packs}
 use Rattle.gix_odb_events.specs.declared.event.Event.{Event}
 use Rattle.gix_odb_core.specs.declared.journal.Entry.{Entry}
 use Rattle.gix_odb_events.specs.declared.listing.ListingRow.{ListingRow}
 use Rattle.gix_odb_events.specs.declared.on_disk_file.OnDiskFile.{OnDiskFile}
 use Rattle.gix_odb_core.specs.declared.shape.Shape.{Shape}
-use Rattle.gix_odb_slots.specs.declared.slot.Filled.{Filled}
-use Rattle.gix_odb_slots.specs.declared.slot.IndexFile.{IndexFile}
-use Rattle.gix_odb_slots.specs.declared.slot.IndexFile.TheVariants.{Single, Multi}
+use Rattle.gix_odb_events.specs.declared.slot.Filled.{Filled}
+use Rattle.gix_odb_events.specs.declared.slot.IndexFile.{IndexFile}
+use Rattle.gix_odb_events.specs.declared.slot.IndexFile.TheVariants.{Single, Multi}
 use Rattle.gix_odb_core.proofs.EffectLemmas.{Succeeds, succeeds-entry}
 use Rattle.gix_odb_core.proofs.OrderLaws.{entry_without_effect_changes_nothing}
 use Rattle.gix_odb_core.proofs.ReplayLemmas.{next_first, next_rest, replay-push}

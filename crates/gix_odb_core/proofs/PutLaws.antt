@@ -6,13 +6,12 @@ use Rattle.odb_base.specs.Path.{Path}
 use Rattle.gix_pack_files.specs.FileBytes.{FileBytes}
 use Rattle.gix_odb_events.specs.View.{IsShown}
 use Rattle.gix_odb_events.specs.OnDiskFile.{file_at, is_loaded, stored, with_state}
-use Rattle.gix_odb_slots.specs.Publish.{slot_at}
+use Rattle.gix_odb_events.specs.Slots.{slot_at, Slot}
 use Rattle.gix_odb_core.specs.Replay.{answer_of}
-use Rattle.gix_odb_slots.specs.Slots.{Slot}
 use Rattle.gix_odb_events.specs.PackFiles.{PackFile, same_path}
 use Rattle.gix_odb_core.specs.Steps.{after, shape_stored}
 use Rattle.gix_odb_slots.specs.Files.{index_with, slot_with_index, slot_with_pack, stored_at, takes, with_index}
-use Rattle.gix_odb_slots.specs.Shown.{shown_slot}
+use Rattle.gix_odb_events.specs.Shown.{shown_slot}
 use Rattle.gix_odb_events.specs.declared.event.Effect.TheVariants as effects
 use Rattle.gix_odb_events.specs.declared.event.Event.TheVariants as event
 use Rattle.gix_odb_core.specs.declared.journal.Entry.{Entry}
@@ -20,9 +19,9 @@ use Rattle.gix_odb_events.specs.declared.on_disk_file.FileState.{FileState}
 use Rattle.gix_odb_events.specs.declared.on_disk_file.FileState.TheVariants.{Unloaded, Loaded, Garbage, Missing}
 use Rattle.gix_odb_events.specs.declared.pack_id.PackId.{PackId}
 use Rattle.gix_odb_core.specs.declared.shape.Shape.{Shape}
-use Rattle.gix_odb_slots.specs.declared.slot.Filled.{Filled}
-use Rattle.gix_odb_slots.specs.declared.slot.IndexFile.{IndexFile}
-use Rattle.gix_odb_slots.specs.declared.slot.IndexFile.TheVariants.{Single, Multi}
+use Rattle.gix_odb_events.specs.declared.slot.Filled.{Filled}
+use Rattle.gix_odb_events.specs.declared.slot.IndexFile.{IndexFile}
+use Rattle.gix_odb_events.specs.declared.slot.IndexFile.TheVariants.{Single, Multi}
 use Rattle.gix_odb_events.specs.declared.loaded.LoadedIndex.TheVariants as shown
 use Rattle.gix_odb_events.specs.declared.view.View.{View}
 use Rattle.gix_odb_core.proofs.AnswerLemmas.{stored_by, stored_in}

@@ -6,9 +6,8 @@ use Rattle.std.proofs.lemmas.List.Elements.{All-from_recursion, All-nil, recursi
 use Rattle.gix_odb_core.specs.Handles.{is_any_stable}
 use Rattle.gix_odb_events.specs.OnDiskFile.{is_loaded, loaded}
 use Rattle.gix_odb_core.specs.Possible.{IsOpened, IsPossible}
-use Rattle.gix_odb_slots.specs.Publish.{slot_at}
+use Rattle.gix_odb_events.specs.Slots.{slot_at, IsApart, Slot, new_filled, new_index, same_index}
 use Rattle.gix_odb_core.specs.Replay.{CanHappen, after_entry, replay}
-use Rattle.gix_odb_slots.specs.Slots.{IsApart, Slot, new_filled, new_index, same_index}
 use Rattle.gix_odb_events.specs.PackFiles.{same_path, HasDifferentPaths}
 use Rattle.gix_odb_core.specs.Steps.{IsShape, after, is_read, opening_shape, shape_published}
 use Rattle.gix_odb_slots.specs.Files.{slot_passed, slot_with_index, slot_with_pack}
@@ -20,9 +19,9 @@ use Rattle.gix_odb_events.specs.declared.listing.ListingRow.{ListingRow}
 use Rattle.gix_odb_events.specs.declared.on_disk_file.FileState.{FileState}
 use Rattle.gix_odb_events.specs.declared.on_disk_file.FileState.TheVariants.{Unloaded, Loaded, Garbage, Missing}
 use Rattle.gix_odb_core.specs.declared.shape.Shape.{Shape}
-use Rattle.gix_odb_slots.specs.declared.slot.Filled.{Filled}
-use Rattle.gix_odb_slots.specs.declared.slot.IndexFile.{IndexFile}
-use Rattle.gix_odb_slots.specs.declared.slot.IndexFile.TheVariants.{Single, Multi}
+use Rattle.gix_odb_events.specs.declared.slot.Filled.{Filled}
+use Rattle.gix_odb_events.specs.declared.slot.IndexFile.{IndexFile}
+use Rattle.gix_odb_events.specs.declared.slot.IndexFile.TheVariants.{Single, Multi}
 use Rattle.gix_odb_slots.proofs.ApartLaws.{publish_keeps_slots_apart}
 use Rattle.gix_odb_slots.proofs.ApartLemmas.{apart_at, apart_from, each_at, each_from}
 use Rattle.gix_odb_slots.proofs.PublishLaws.{IsDistinct-list_after, listed_slots_are_filled}

@@ -6,16 +6,15 @@ use Rattle.gix_odb_events.specs.View.{IsShown}
 use Rattle.gix_odb_events.specs.OnDiskFile.{loaded}
 use Rattle.gix_odb_core.specs.Origins.{IsIndexTold, IsLoadedTold, IsMultiOf, IsShownTold, IsTold}
 use Rattle.gix_odb_core.specs.Possible.{IsOpened}
-use Rattle.gix_odb_slots.specs.Publish.{slot_at}
+use Rattle.gix_odb_events.specs.Slots.{slot_at, index_path, is_index_of}
 use Rattle.gix_odb_core.specs.Replay.{IsLegal, replay}
-use Rattle.gix_odb_slots.specs.Slots.{index_path, is_index_of}
-use Rattle.gix_odb_slots.specs.Shown.{loaded_index, shown_slot}
+use Rattle.gix_odb_events.specs.Shown.{loaded_index, shown_slot}
 use Rattle.gix_odb_core.specs.declared.journal.Entry.{Entry}
 use Rattle.gix_odb_events.specs.declared.listing.ListingRow.{ListingRow}
 use Rattle.gix_odb_core.specs.declared.shape.Shape.{Shape}
-use Rattle.gix_odb_slots.specs.declared.slot.Filled.{Filled}
-use Rattle.gix_odb_slots.specs.declared.slot.IndexFile.{IndexFile}
-use Rattle.gix_odb_slots.specs.declared.slot.IndexFile.TheVariants.{Single, Multi}
+use Rattle.gix_odb_events.specs.declared.slot.Filled.{Filled}
+use Rattle.gix_odb_events.specs.declared.slot.IndexFile.{IndexFile}
+use Rattle.gix_odb_events.specs.declared.slot.IndexFile.TheVariants.{Single, Multi}
 use Rattle.gix_odb_events.specs.declared.loaded.LoadedIndex.{LoadedIndex}
 use Rattle.gix_odb_events.specs.declared.loaded.LoadedIndex.TheVariants as shown
 use Rattle.gix_odb_events.specs.declared.loaded.SnapshotIndex.{SnapshotIndex}

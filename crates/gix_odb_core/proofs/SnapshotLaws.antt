@@ -10,7 +10,7 @@ use Rattle.gix_odb_core.specs.Views.{view_of}
 use Rattle.gix_odb_events.specs.View.{IsShown, last_state}
 use Rattle.gix_odb_slots.specs.Kept.{ShowsAgain}
 use Rattle.gix_odb_core.specs.Possible.{IsNeverRemoved, IsPossible}
-use Rattle.gix_odb_slots.specs.Publish.{slot_at}
+use Rattle.gix_odb_events.specs.Slots.{slot_at}
 use Rattle.gix_odb_core.specs.Replay.{AreNext, IsLegal, IsNext, answer_of, number_behind, publish_answer, put_answer, replay, snapshot_of}
 use Rattle.gix_odb_events.specs.Answers.{view_in}
 use Rattle.gix_odb_core.specs.Snapshots.{IsHandedLast, handed_to}
@@ -23,7 +23,7 @@ use Rattle.gix_odb_events.specs.declared.event.Event.TheVariants as event
 use Rattle.gix_odb_events.specs.declared.event.Refusal.TheVariants as refusals
 use Rattle.gix_odb_core.specs.declared.journal.Entry.{Entry}
 use Rattle.gix_odb_core.specs.declared.shape.Shape.{Shape}
-use Rattle.gix_odb_slots.specs.declared.slot.Filled.{Filled}
+use Rattle.gix_odb_events.specs.declared.slot.Filled.{Filled}
 use Rattle.gix_odb_events.specs.declared.loaded.SnapshotIndex.{SnapshotIndex}
 use Rattle.gix_odb_events.specs.declared.view.View.{View}
 use Rattle.gix_odb_core.proofs.NumberLaws.{entries_lower_no_number}

@@ -11,19 +11,19 @@ use Rattle.gix_odb_events.specs.View.{IsShown}
 use Rattle.gix_odb_slots.specs.Kept.{KeepsRead, KeepsReadFiles, KeepsReadIndex, ShowsAgain}
 use Rattle.gix_odb_events.specs.OnDiskFile.{loaded}
 use Rattle.gix_odb_core.specs.Possible.{IsNeverRemoved, IsPossible, is_remove}
-use Rattle.gix_odb_slots.specs.Publish.{is_kept, slot_at}
+use Rattle.gix_odb_slots.specs.Publish.{is_kept}
+use Rattle.gix_odb_events.specs.Slots.{slot_at, Slot, index_path}
 use Rattle.gix_odb_core.specs.Replay.{after_entry, replay}
-use Rattle.gix_odb_slots.specs.Slots.{Slot, index_path}
 use Rattle.gix_odb_events.specs.PackFiles.{PackFile}
 use Rattle.gix_odb_core.specs.Steps.{after}
-use Rattle.gix_odb_slots.specs.Shown.{loaded_index, shown_slot}
+use Rattle.gix_odb_events.specs.Shown.{loaded_index, shown_slot}
 use Rattle.gix_odb_events.specs.declared.event.Event.{Event}
 use Rattle.gix_odb_core.specs.declared.journal.Entry.{Entry}
 use Rattle.gix_odb_events.specs.declared.on_disk_file.OnDiskFile.{OnDiskFile}
 use Rattle.gix_odb_core.specs.declared.shape.Shape.{Shape}
-use Rattle.gix_odb_slots.specs.declared.slot.Filled.{Filled}
-use Rattle.gix_odb_slots.specs.declared.slot.IndexFile.{IndexFile}
-use Rattle.gix_odb_slots.specs.declared.slot.IndexFile.TheVariants.{Single, Multi}
+use Rattle.gix_odb_events.specs.declared.slot.Filled.{Filled}
+use Rattle.gix_odb_events.specs.declared.slot.IndexFile.{IndexFile}
+use Rattle.gix_odb_events.specs.declared.slot.IndexFile.TheVariants.{Single, Multi}
 use Rattle.gix_odb_events.specs.declared.loaded.LoadedIndex.{LoadedIndex}
 use Rattle.gix_odb_events.specs.declared.loaded.LoadedIndex.TheVariants as shown
 use Rattle.gix_odb_events.specs.declared.loaded.SnapshotIndex.{SnapshotIndex}

@@ -20,10 +20,10 @@ use Rattle.gix_odb_core.specs.declared.journal.Entry.{Entry}
 use Rattle.gix_odb_core.specs.declared.shape.Shape.{Shape}
 use Rattle.gix_odb_events.specs.declared.view.View.{View}
 use Rattle.gix_odb_slots.specs.Kept.{ShowsAgain}
-use Rattle.gix_odb_slots.specs.Publish.{slot_at}
-use Rattle.gix_odb_slots.specs.Shown.{shown_slot}
+use Rattle.gix_odb_events.specs.Slots.{slot_at}
+use Rattle.gix_odb_events.specs.Shown.{shown_slot}
 use Rattle.gix_odb_events.specs.declared.loaded.SnapshotIndex.{SnapshotIndex}
-use Rattle.gix_odb_slots.specs.declared.slot.Filled.{Filled}
+use Rattle.gix_odb_events.specs.declared.slot.Filled.{Filled}
 use Rattle.gix_odb_core.proofs.HandleLaws.{other_seat, own, own_seat, seats_of_a_journal_are_in_order}
 use Rattle.gix_odb_core.proofs.HandleLemmas.{handles-after, stable_handle}
 use Rattle.gix_odb_core.proofs.OrderLaws.{replay_of_joined_journals}

@@ -1,23 +1,17 @@
--- What every event keeps: how many slots there are, that a list number is at most the state number, and that the counts are small.
-use Rattle.std.proofs.Common.{◌≡◌, ℕ, ◌+◌, ◌≤◌, Bool, true, false, cond, ◌==◌, List, length, set, Option, Some, None, refl, ap, ◌∙◌, arith}
-use Rattle.std.specs.Option.{IfSome}
+-- What every event keeps: how many slots there are, and that a list number is at most the state number.
+use Rattle.std.proofs.Common.{◌≡◌, ℕ, ◌+◌, ◌≤◌, Bool, true, false, cond, ◌==◌, length, set, Option, Some, None, refl, arith}
 use Rattle.std.proofs.lemmas.List.{length-set}
 use Rattle.gix_odb_core.proofs.PublishingRule.{publishing_rule}
 use Rattle.gix_odb_slots.proofs.SlotsAfterLemmas.{length-slots_after}
-use Rattle.gix_odb_core.proofs.TurnLemmas.{after-turn}
 use Rattle.gix_odb_core.specs.Handles.{is_any_stable}
-use Rattle.gix_odb_slots.specs.Publish.{slot_at}
+use Rattle.gix_odb_events.specs.Slots.{slot_at}
 use Rattle.gix_odb_core.specs.Steps.{Publishing, after, shape_published, shape_stored}
 use Rattle.gix_odb_events.specs.View.{last_state}
 use Rattle.gix_odb_slots.specs.Files.{slot_passed, slot_with_index, slot_with_pack}
 use Rattle.gix_odb_events.specs.declared.event.Event.{Event}
 use Rattle.gix_odb_events.specs.declared.event.Event.TheVariants as event
-use Rattle.gix_odb_core.specs.Shelf.{settled_by}
-use Rattle.gix_odb_core.specs.Turn.{turn_of}
-use Rattle.gix_odb_core.specs.declared.journal.Entry.{Entry}
 use Rattle.gix_odb_core.specs.declared.shape.Shape.{Shape}
-use Rattle.gix_odb_core.specs.declared.shape.Shelf.{Shelf}
-use Rattle.gix_odb_slots.specs.declared.slot.Filled.{Filled}
+use Rattle.gix_odb_events.specs.declared.slot.Filled.{Filled}
 
 -- ---- the number of slots
 
@@ -66,11 +60,3 @@ numbered-after shape seat (event.PutPack pack path file) numbered = numbered-sto
 numbered-after shape seat (event.PassOver slot path why) numbered = numbered
 numbered-after shape seat (event.Publish listing) numbered =
     publishing_rule (λ (p : Publishing). IsNumbered (shape_published shape p)) shape listing numbered (λ base short. numbered) (λ confirmed renewed over. numbered) numbered (λ renewed. omega arith)
-
--- the slots that a turn leaves
-pub turn_few : (entries : List Entry) (shape : Shape) (happens : Event) → length shape.slots ≤ 32767 → IfSome (turn_of entries shape happens).shelf (λ shelf. length shelf.slots ≤ 32767)
-turn_few entries shape happens few = by (turn_of entries shape happens).shelf (ap (λ (s : Shape). length s.slots) (after-turn entries shape 0 happens) ∙ length-after shape 0 happens)
-  where
-    by : (o : Option Shelf) → length (settled_by shape o).slots ≡ length shape.slots → IfSome o (λ shelf. length shelf.slots ≤ 32767)
-    by None same = tt
-    by (Some shelf) same = omega (arith, few, same)

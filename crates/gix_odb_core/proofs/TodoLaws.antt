@@ -3,14 +3,13 @@ use Rattle.std.proofs.Common.{Contains, ◌≡◌, ℕ, ◌<◌, List, length, O
 use Rattle.gix_odb_core.specs.Views.{view_of}
 use Rattle.gix_odb_events.specs.View.{IsShown}
 use Rattle.gix_odb_core.specs.Possible.{IsOpened}
-use Rattle.gix_odb_slots.specs.Publish.{slot_at}
+use Rattle.gix_odb_events.specs.Slots.{slot_at, Slot, index_path}
 use Rattle.gix_odb_core.specs.Replay.{IsLegal, replay}
-use Rattle.gix_odb_slots.specs.Slots.{Slot, index_path}
 use Rattle.gix_odb_core.specs.Todos.{IsTodoTold, IsUnread}
-use Rattle.gix_odb_slots.specs.Shown.{loaded_index, shown_slot, todo_of, unloaded_slot}
+use Rattle.gix_odb_events.specs.Shown.{loaded_index, shown_slot, todo_of, unloaded_slot}
 use Rattle.gix_odb_core.specs.declared.journal.Entry.{Entry}
 use Rattle.gix_odb_core.specs.declared.shape.Shape.{Shape}
-use Rattle.gix_odb_slots.specs.declared.slot.Filled.{Filled}
+use Rattle.gix_odb_events.specs.declared.slot.Filled.{Filled}
 use Rattle.gix_odb_events.specs.declared.loaded.LoadedIndex.{LoadedIndex}
 use Rattle.gix_odb_events.specs.declared.loaded.SnapshotIndex.{SnapshotIndex}
 use Rattle.gix_odb_events.specs.declared.loaded.Todo.{Todo}

@@ -4,7 +4,7 @@ use Rattle.odb_base.specs.Path.{Path}
 use Rattle.gix_odb_slots.proofs.PassLemmas.{slots-same}
 use Rattle.gix_odb_core.proofs.PublishingRule.{listed_slots, publishing_rule}
 use Rattle.gix_odb_core.proofs.RoomLemmas.{slots-stand}
-use Rattle.gix_odb_slots.specs.Publish.{slot_at}
+use Rattle.gix_odb_events.specs.Slots.{slot_at, Slot}
 use Rattle.gix_odb_core.specs.Replay.{answer_of, publish_answer, put_answer}
 use Rattle.gix_odb_events.specs.Answers.{Answer}
 use Rattle.gix_odb_core.specs.Shelf.{settled_by, shelf_of}
@@ -23,10 +23,9 @@ use Rattle.gix_odb_events.specs.declared.listing.Listing.{Listing}
 use Rattle.gix_odb_events.specs.declared.listing.ListingRow.{ListingRow}
 use Rattle.gix_odb_core.specs.declared.shape.Shape.{Shape}
 use Rattle.gix_odb_core.specs.declared.shape.Shelf.{Shelf}
-use Rattle.gix_odb_slots.specs.declared.slot.Filled.{Filled}
+use Rattle.gix_odb_events.specs.declared.slot.Filled.{Filled}
 use Rattle.gix_odb_core.specs.declared.turn.Told.TheVariants as told
 use Rattle.gix_odb_core.specs.declared.turn.Turn.{Turn}
-use Rattle.gix_odb_slots.specs.Slots.{Slot}
 use Rattle.gix_odb_events.specs.declared.view.View.{View}
 
 -- ---- a file that is stored

@@ -1,7 +1,7 @@
 -- Shapes over which counts are numbers of 64 bits. No public clause cites this.
 use Rattle.std.specs.Prelude.{◌≤◌, All, length, Option}
 use Rattle.std.specs.Option.{IfSome}
-use Rattle.gix_odb_slots.specs.Tally.{HasFewPacks}
+use Rattle.gix_odb_events.specs.Slots.{HasFewPacks}
 use Rattle.gix_odb_events.specs.declared.event.Event.{Event}
 use Rattle.gix_odb_events.specs.declared.event.Event.TheVariants as event
 use Rattle.gix_odb_core.specs.declared.shape.Shape.{Shape}

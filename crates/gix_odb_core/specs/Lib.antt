@@ -1,10 +1,10 @@
 pub use Rattle.gix_odb_events.specs.PackId
 pub use Rattle.gix_odb_events.specs.OnDiskFile
 pub use Rattle.gix_odb_events.specs.PackPath
-pub use Rattle.gix_odb_slots.specs.Slots
+pub use Rattle.gix_odb_events.specs.Slots
 pub use Rattle.gix_odb_slots.specs.Publish
 pub use Rattle.gix_odb_slots.specs.Files
-pub use Rattle.gix_odb_slots.specs.Shown
+pub use Rattle.gix_odb_events.specs.Shown
 pub use Rattle.gix_odb_slots.specs.Counts
 pub use Rattle.gix_odb_slots.specs.Kept
 pub use Rattle.gix_odb_events.specs.View

@@ -1,7 +1,6 @@
 -- The rows of a listing in a shape, for laws of what a listing comes to.
 use Rattle.std.specs.Prelude.{◌≡◌, ℕ, ◌<◌, true, List, get_or, length}
-use Rattle.gix_odb_slots.specs.Publish.{slot_at}
-use Rattle.gix_odb_slots.specs.Slots.{holds}
+use Rattle.gix_odb_events.specs.Slots.{slot_at, holds}
 use Rattle.gix_odb_events.specs.declared.listing.ListingRow.{ListingRow}
 use Rattle.gix_odb_core.specs.declared.shape.Shape.{Shape}
 

@@ -3,7 +3,7 @@ use Rattle.std.specs.Prelude.{◌≡◌, ◌⊎◌, ◌++◌, ◌||◌, ℕ, Boo
 use Rattle.std.specs.List.{list_any}
 use Rattle.odb_base.specs.Path.{Path}
 use Rattle.gix_odb_core.specs.Origins.{PassesOver}
-use Rattle.gix_odb_slots.specs.Publish.{slot_at}
+use Rattle.gix_odb_events.specs.Slots.{slot_at}
 use Rattle.gix_odb_core.specs.Replay.{after_entry, replay}
 use Rattle.gix_odb_events.specs.PackFiles.{PackFile}
 use Rattle.gix_odb_events.specs.declared.event.Refusal.TheVariants as refusals
@@ -11,9 +11,9 @@ use Rattle.gix_odb_core.specs.declared.journal.Entry.{Entry}
 use Rattle.gix_odb_events.specs.declared.on_disk_file.FileState.{FileState}
 use Rattle.gix_odb_events.specs.declared.on_disk_file.FileState.TheVariants.{Unloaded, Loaded, Garbage, Missing}
 use Rattle.gix_odb_core.specs.declared.shape.Shape.{Shape}
-use Rattle.gix_odb_slots.specs.declared.slot.Filled.{Filled}
-use Rattle.gix_odb_slots.specs.declared.slot.IndexFile.{IndexFile}
-use Rattle.gix_odb_slots.specs.declared.slot.IndexFile.TheVariants.{Single, Multi}
+use Rattle.gix_odb_events.specs.declared.slot.Filled.{Filled}
+use Rattle.gix_odb_events.specs.declared.slot.IndexFile.{IndexFile}
+use Rattle.gix_odb_events.specs.declared.slot.IndexFile.TheVariants.{Single, Multi}
 
 abbrev pub IsIndexMissing : Path → IndexFile → Type 0
 IsIndexMissing path (Single file) = (file.path ≡ path) × (file.state ≡ Missing)

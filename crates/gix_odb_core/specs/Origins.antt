@@ -6,7 +6,7 @@ use Rattle.gix_pack_files.specs.FileBytes.{FileBytes}
 use Rattle.gix_odb_events.specs.OnDiskFile.{loaded}
 use Rattle.gix_odb_core.specs.Replay.{is_refresh}
 use Rattle.gix_odb_events.specs.Answers.{Answer}
-use Rattle.gix_odb_slots.specs.Slots.{holds}
+use Rattle.gix_odb_events.specs.Slots.{holds}
 use Rattle.gix_odb_events.specs.PackFiles.{PackFile, new_packs}
 use Rattle.gix_odb_events.specs.declared.event.Effect.TheVariants as effects
 use Rattle.gix_odb_events.specs.declared.event.Event.{Event}
@@ -16,9 +16,9 @@ use Rattle.gix_odb_core.specs.declared.journal.Entry.{Entry}
 use Rattle.gix_odb_events.specs.declared.listing.Listing.{Listing}
 use Rattle.gix_odb_events.specs.declared.listing.ListingRow.{ListingRow}
 use Rattle.gix_odb_events.specs.declared.pack_id.PackId.{PackId}
-use Rattle.gix_odb_slots.specs.declared.slot.Filled.{Filled}
-use Rattle.gix_odb_slots.specs.declared.slot.IndexFile.{IndexFile}
-use Rattle.gix_odb_slots.specs.declared.slot.IndexFile.TheVariants.{Single, Multi}
+use Rattle.gix_odb_events.specs.declared.slot.Filled.{Filled}
+use Rattle.gix_odb_events.specs.declared.slot.IndexFile.{IndexFile}
+use Rattle.gix_odb_events.specs.declared.slot.IndexFile.TheVariants.{Single, Multi}
 use Rattle.gix_odb_events.specs.declared.loaded.LoadedIndex.{LoadedIndex}
 use Rattle.gix_odb_events.specs.declared.loaded.LoadedIndex.TheVariants as shown
 use Rattle.gix_odb_events.specs.declared.loaded.SnapshotIndex.{SnapshotIndex}

@@ -3,9 +3,9 @@ use Rattle.std.specs.Prelude.{◌≡◌, ℕ, ◌+◌, ◌⊎◌, Bool, true, fa
 use Rattle.std.specs.List.{filter_map, last_or}
 use Rattle.gix_odb_events.specs.Answers.{Answer, view_in}
 use Rattle.gix_odb_core.specs.Handles.{IsRegistered, registered}
-use Rattle.gix_odb_slots.specs.Counts.{listed_in, listed_of}
+use Rattle.gix_odb_slots.specs.Counts.{listed_in}
+use Rattle.gix_odb_events.specs.Slots.{listed_of, slot_at}
 use Rattle.gix_odb_core.specs.Metrics.{metrics_of}
-use Rattle.gix_odb_slots.specs.Publish.{slot_at}
 use Rattle.gix_odb_events.specs.PackFiles.{HasDifferentPaths}
 use Rattle.gix_odb_core.specs.Steps.{Publishing, Outdated, TooFew, Overflows, Unchanged, Published, after, publishing}
 use Rattle.gix_odb_events.specs.View.{last_state}
@@ -19,7 +19,7 @@ use Rattle.gix_odb_core.specs.declared.journal.Entry.{Entry}
 use Rattle.gix_odb_events.specs.declared.metrics.Passed.{Passed}
 use Rattle.gix_odb_events.specs.declared.metrics.Report.{Report}
 use Rattle.gix_odb_core.specs.declared.shape.Shape.{Shape}
-use Rattle.gix_odb_slots.specs.declared.slot.Filled.{Filled}
+use Rattle.gix_odb_events.specs.declared.slot.Filled.{Filled}
 use Rattle.gix_odb_events.specs.declared.view.View.{View}
 
 -- ---- what a journal tells besides

@@ -1,6 +1,6 @@
 -- What an event leaves of a shape, apart from the handles. No public clause cites this.
 use Rattle.std.specs.Prelude.{ℕ, [], Option, Some, None}
-use Rattle.gix_odb_slots.specs.Shown.{shown_indices, shown_kept, shown_todo}
+use Rattle.gix_odb_events.specs.Shown.{shown_indices, shown_kept, shown_todo}
 use Rattle.gix_odb_core.specs.declared.shape.Shape.{Shape}
 use Rattle.gix_odb_core.specs.declared.shape.Shelf.{Shelf}
 use Rattle.gix_odb_events.specs.declared.view.View.{View}

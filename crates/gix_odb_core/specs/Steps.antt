@@ -5,16 +5,16 @@ use Rattle.gix_odb_events.specs.View.{last_generation, last_state}
 use Rattle.gix_odb_core.specs.Handles.{is_any_stable, with_seat, without_seat}
 use Rattle.gix_odb_slots.specs.Files.{slot_passed, slot_with_index, slot_with_pack}
 use Rattle.gix_odb_events.specs.OnDiskFile.{is_loaded}
-use Rattle.gix_odb_slots.specs.Publish.{free_places, list_after, new_rows, same_list, slot_at, slots_after, taken}
-use Rattle.gix_odb_slots.specs.Slots.{IsApart, Slot}
+use Rattle.gix_odb_slots.specs.Publish.{free_places, list_after, new_rows, same_list, slots_after, taken}
+use Rattle.gix_odb_events.specs.Slots.{slot_at, IsApart, Slot}
 use Rattle.gix_odb_events.specs.declared.event.Event.{Event}
 use Rattle.gix_odb_events.specs.declared.event.Event.TheVariants as event
 use Rattle.gix_odb_events.specs.declared.listing.Listing.{Listing}
 use Rattle.gix_odb_events.specs.declared.listing.ListingRow.{ListingRow}
 use Rattle.gix_odb_core.specs.declared.shape.Shape.{Shape}
-use Rattle.gix_odb_slots.specs.declared.slot.Filled.{Filled}
-use Rattle.gix_odb_slots.specs.declared.slot.IndexFile.{IndexFile}
-use Rattle.gix_odb_slots.specs.declared.slot.IndexFile.TheVariants.{Single, Multi}
+use Rattle.gix_odb_events.specs.declared.slot.Filled.{Filled}
+use Rattle.gix_odb_events.specs.declared.slot.IndexFile.{IndexFile}
+use Rattle.gix_odb_events.specs.declared.slot.IndexFile.TheVariants.{Single, Multi}
 
 -- the shape of a core that was just made: all slots are empty, and nothing was read
 abbrev pub opening_shape : ℕ → ℕ → ℕ → ℕ → Shape

@@ -2,13 +2,12 @@
 use Rattle.std.specs.Prelude.{◌≡◌, List, Some, None}
 use Rattle.std.specs.List.{Contains}
 use Rattle.gix_odb_core.specs.Origins.{TellsListing}
-use Rattle.gix_odb_slots.specs.Publish.{slot_at}
-use Rattle.gix_odb_slots.specs.Slots.{index_path}
-use Rattle.gix_odb_slots.specs.Shown.{loaded_index}
+use Rattle.gix_odb_events.specs.Slots.{slot_at, index_path}
+use Rattle.gix_odb_events.specs.Shown.{loaded_index}
 use Rattle.gix_odb_core.specs.declared.journal.Entry.{Entry}
 use Rattle.gix_odb_events.specs.declared.listing.ListingRow.{ListingRow}
 use Rattle.gix_odb_core.specs.declared.shape.Shape.{Shape}
-use Rattle.gix_odb_slots.specs.declared.slot.Filled.{Filled}
+use Rattle.gix_odb_events.specs.declared.slot.Filled.{Filled}
 use Rattle.gix_odb_events.specs.declared.loaded.Todo.{Todo}
 
 -- it is the index of a listed slot, and nothing of it was read

@@ -1,6 +1,6 @@
 -- What a core shows: the loaded files of the listed slots, those of the others, and what is still to be loaded.
 use Rattle.std.specs.Prelude.{ℕ}
-use Rattle.gix_odb_slots.specs.Shown.{shown_indices, shown_kept, shown_todo}
+use Rattle.gix_odb_events.specs.Shown.{shown_indices, shown_kept, shown_todo}
 use Rattle.gix_odb_core.specs.declared.shape.Shape.{Shape}
 use Rattle.gix_odb_events.specs.declared.view.View.{View}
 

@@ -1,7 +1,7 @@
 //! Files that were read, or passed over: what they come to.
 ghost use Rattle.std.specs.Prelude.{◌≡◌, ◌<◌, ◌+◌, IfOk, Some, slice_set};
 ghost use Rattle.gix_odb_slots.specs.Files.{slot_with_index, slot_with_pack};
-ghost use Rattle.gix_odb_slots.specs.Publish.{slot_at};
+ghost use Rattle.gix_odb_events.specs.Slots.{slot_at};
 ghost use Rattle.gix_odb_core.specs.Shelf.{shelf_of};
 ghost use Rattle.gix_odb_events.specs.View.{last_state};
 ghost use Rattle.gix_odb_core.specs.Turn.{pass_turn, put_turn};
@@ -9,11 +9,9 @@ ghost use Rattle.gix_odb_core.specs.Turn.{pass_turn, put_turn};
 use crate::Shared;
 use crate::shape::{Shape, Shelf};
 use crate::turn::{Told, Turn};
-use gix_odb_events::Refusal;
-use gix_odb_slots::Filled;
+use gix_odb_events::{Filled, Refusal};
 use gix_odb_slots::pass::{slot_passed, slot_turns_missing};
 use gix_odb_slots::put::{slot_with_index, slot_with_pack};
-use gix_odb_slots::slots::slots_with;
 use gix_pack_files::{data, index};
 use odb_base::{NoMemory, PathText};
 use std::alloc::Global;
@@ -25,8 +23,8 @@ impl Shape {
         ensures shelf { IfOk result (λ shelf. shelf ≡ record (shelf_of self.now) { slots = slice_set self.now.slots place (Some filled); state_id = self.now.state_id + 1 }) }
     {
         let slot = Some(Shared::new(alloc, filled)?);
-        let slots = slots_with(alloc, self.slots.as_slice(), place, slot)?;
-        let mut shelf = self.with_slots(alloc, slots)?;
+        let slots = self.slots.with(alloc, place, slot)?;
+        let mut shelf = self.with_slots(slots)?;
         shelf.state_id += 1;
         Ok(shelf)
     }
@@ -58,7 +56,7 @@ impl Shape {
     ) -> Result<Turn, NoMemory>
         ensures turn { IfOk result (λ turn. turn ≡ put_turn self.now place (slot_with_index path.now read.now (slot_at self.now.slots place))) }
     {
-        let filled = slot_with_index(path, read, self.slots.as_slice(), place)?;
+        let filled = slot_with_index(path, read, &self.slots, place)?;
         self.put(alloc, place, filled)
     }
 
@@ -72,7 +70,7 @@ impl Shape {
     ) -> Result<Turn, NoMemory>
         ensures turn { IfOk result (λ turn. turn ≡ put_turn self.now place (slot_with_pack path.now read.now (slot_at self.now.slots place))) }
     {
-        let filled = slot_with_pack(alloc, path, read, self.slots.as_slice(), place)?;
+        let filled = slot_with_pack(alloc, path, read, &self.slots, place)?;
         self.put(alloc, place, filled)
     }
 
@@ -85,14 +83,13 @@ impl Shape {
     ) -> Result<Turn, NoMemory>
         ensures turn { IfOk result (λ turn. turn ≡ pass_turn self.now place path.now) }
     {
-        let slots = self.slots.as_slice();
-        if !slot_turns_missing(path, slots, place) {
+        if !slot_turns_missing(path, &self.slots, place) {
             return Ok(Turn::quiet(Told::Seen));
         }
-        let slot = slot_passed(alloc, path, slots, place)?;
-        let slots = slots_with(alloc, slots, place, slot)?;
+        let slot = slot_passed(alloc, path, &self.slots, place)?;
+        let slots = self.slots.with(alloc, place, slot)?;
         Ok(Turn {
-            shelf: Some(self.with_slots(alloc, slots)?),
+            shelf: Some(self.with_slots(slots)?),
             told: Told::Seen,
         })
     }

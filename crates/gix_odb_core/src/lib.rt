@@ -25,10 +25,10 @@ mod turn;
 
 pub use apply::{Core, Remains};
 pub use gix_odb_events::{
-    Effect, Event, FileState, IndexId, Listed, ListedList, Listing, ListingRow, ListingRowList,
-    LoadedIndex, LoadedList, Metrics, OnDiskFile, PackFile, PackFileList, PackId, PassWhy, Passed,
-    PassedList, Refusal, Report, Shared, SlotIndexMarker, Snapshot, SnapshotIndex, Todo, TodoList,
-    View, pack_path, packs_beside,
+    Effect, Event, FileState, IndexId, KeptList, Listed, ListedList, Listing, ListingRow,
+    ListingRowList, LoadedIndex, LoadedList, LoadedRest, Metrics, OnDiskFile, PackFile,
+    PackFileList, PackId, PassWhy, Passed, PassedList, Refusal, Report, Shared, SlotIndexMarker,
+    Snapshot, SnapshotIndex, Todo, TodoList, TodoRest, View, pack_path, packs_beside,
 };
 pub use journal::{Entry, Journal};
 pub use shape::Shape;

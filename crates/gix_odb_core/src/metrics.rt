@@ -13,9 +13,8 @@ impl Shape {
         requires countable { IsCountable self.now }
         ensures metrics { result ≡ metrics_of self.now refreshes }
     {
-        let slots = self.slots.as_slice();
-        let listed = listed_tally(slots, self.list.as_slice());
-        let disposable = disposable_tally(slots);
+        let listed = listed_tally(&self.slots, self.list.value().as_slice());
+        let disposable = disposable_tally(&self.slots);
         Metrics {
             num_handles: self.handles.len(),
             num_refreshes: refreshes,
@@ -23,7 +22,7 @@ impl Shape {
             known_reachable_indices: listed.indices,
             open_reachable_packs: listed.open_packs,
             known_packs: listed.packs,
-            unused_slots: count_unused(slots),
+            unused_slots: count_unused(&self.slots),
             unreachable_indices: disposable.indices,
             unreachable_packs: disposable.open_packs,
             loose_dbs: self.folders,

@@ -1,8 +1,7 @@
 //! What an event will leave and answer, before anything changes.
-ghost use Rattle.std.specs.Prelude.{◌≡◌, ◌≤◌, IfOk, IfSome, length};
+ghost use Rattle.std.specs.Prelude.{◌≡◌, IfOk};
 ghost use Rattle.gix_odb_core.specs.State.{IsPlan, view_behind};
 ghost use Rattle.gix_odb_core.specs.Turn.{answer_with};
-ghost use Rattle.gix_odb_events.specs.PackId.{most_slots};
 
 use crate::shape::Shelf;
 use crate::turn::{Told, Turn, answer};
@@ -28,7 +27,6 @@ fn view_behind(
     shelf: &Option<Shelf>,
     entry: u64,
 ) -> Result<View, NoMemory>
-    requires few { IfSome shelf.now (λ shelf. length shelf.slots ≤ most_slots) }
     ensures view { IfOk result (λ behind. behind ≡ view_behind view.now shelf.now entry) }
 {
     match shelf {
@@ -83,7 +81,6 @@ fn shown_with(
     turn: &Turn,
     entry: u64,
 ) -> Result<(View, Answers), NoMemory>
-    requires few { IfSome turn.now.shelf (λ shelf. length shelf.slots ≤ most_slots) }
     ensures view { IfOk result (λ shown. shown.0 ≡ view_behind view.now turn.now.shelf entry) }
     ensures kept { IfOk result (λ shown. shown.1.kept ≡ answer_with turn.now.told (view_behind view.now turn.now.shelf entry)) }
     ensures given { IfOk result (λ shown. shown.1.given ≡ answer_with turn.now.told (view_behind view.now turn.now.shelf entry)) }
@@ -100,7 +97,6 @@ fn shown_with(
 
 /// The plan of a turn, whose entry has this number.
 pub(crate) fn planned(alloc: Global, view: &View, turn: Turn, entry: u64) -> Result<Plan, NoMemory>
-    requires few { IfSome turn.shelf (λ shelf. length shelf.slots ≤ most_slots) }
     ensures plan { IfOk result (λ plan. IsPlan view.now turn entry plan) }
 {
     match shown_with(alloc, view, &turn, entry) {

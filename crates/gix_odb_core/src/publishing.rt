@@ -1,21 +1,21 @@
 //! What a listing that is published comes to.
 ghost use Rattle.std.specs.Prelude.{◌≡◌, ◌≤◌, ◌<◌, ◌&&◌, ◌==◌, true, false, All, IfOk, length, if◌then◌else◌};
-ghost use Rattle.gix_odb_slots.specs.Publish.{free_places, new_rows, same_list};
+ghost use Rattle.gix_odb_slots.specs.Publish.{free_places, list_after, new_rows, same_list};
 ghost use Rattle.std.specs.Option.{IfSome};
-ghost use Rattle.gix_odb_slots.specs.Tally.{HasFewPacks};
+ghost use Rattle.gix_odb_events.specs.Slots.{HasFewPacks};
 ghost use Rattle.gix_odb_core.specs.Handles.{is_any_stable as any_stable};
 ghost use Rattle.gix_odb_core.specs.Shelf.{shelf_of};
 ghost use Rattle.gix_odb_core.specs.Steps.{publishing, settled_as, with_list, with_room, would_overflow};
 ghost use Rattle.gix_odb_core.specs.Turn.{publish_turn, stands};
 ghost use Rattle.gix_odb_events.specs.PackId.{most_slots};
 
-use crate::shape::{Shape, Shelf};
+use crate::shape::{Shape, Shelf, listed};
 use crate::turn::{Told, Turn};
-use gix_odb_events::{Listing, ListingRow, Refusal};
+use gix_odb_events::{Listing, ListingRow, PlaceList, Refusal, Slot, SlotList};
+use gix_odb_slots::Matched;
 use gix_odb_slots::publish::{
     count_new, free_places, is_any_unsettled, list_after, list_as_is, slots_after, takes_over,
 };
-use gix_odb_slots::{Matched, SlotList};
 use odb_base::{NoMemory, Sequence};
 use std::alloc::Global;
 
@@ -26,12 +26,27 @@ fn risen(renewed: bool) -> u32
     if renewed { 1 } else { 0 }
 }
 
+/// The slots after a listing of these rows, and the new list, as a core and its views share them.
+fn shared_with_list(
+    alloc: Global,
+    rows: &[ListingRow],
+    after: Sequence<Slot>,
+) -> Result<(SlotList, PlaceList), NoMemory>
+    requires few { length after ≤ most_slots }
+    ensures slots { IfOk result (λ shared. shared.0 ≡ after) }
+    ensures list { IfOk result (λ shared. shared.1 ≡ list_after rows.now after) }
+{
+    let list = listed(alloc, list_after(alloc, rows, after.as_slice())?)?;
+    let slots = SlotList::from_vec(alloc, after.into_vec())?;
+    Ok((slots, list))
+}
+
 impl Shape {
     /// Whether a list is the one that it has, where so many rows are new.
-    fn is_confirmed(&self, list: &Sequence<u16>, news: usize) -> bool
+    fn is_confirmed(&self, list: &[u16], news: usize) -> bool
         ensures confirmed { result ≡ (self.now.read && same_list list.now self.now.list && news == 0) }
     {
-        self.read && *list == self.list && news == 0
+        self.read && list == self.list.value().as_slice() && news == 0
     }
 
     /// Whether a listing leaves the slots and the list as they are.
@@ -45,7 +60,7 @@ impl Shape {
             return Ok(false);
         }
         let list = list_as_is(alloc, matched)?;
-        Ok(self.is_confirmed(&list, news))
+        Ok(self.is_confirmed(list.as_slice(), news))
     }
 
     /// Whether a counter that would have to rise stands at its greatest value.
@@ -56,7 +71,7 @@ impl Shape {
     }
 
     /// The shape with a new list.
-    fn with_list(&self, slots: SlotList, list: Sequence<u16>, renewed: bool) -> Shelf
+    fn with_list(&self, slots: SlotList, list: PlaceList, renewed: bool) -> Shelf
         requires numbered { self.now.list_no ≤ self.now.state_id }
         requires rises { would_overflow self.now false renewed ≡ false }
         ensures shelf { result ≡ shelf_of (with_list self.now slots list renewed) }
@@ -74,7 +89,7 @@ impl Shape {
     }
 
     /// The shape with the list that it has.
-    fn with_same_list(&self, slots: SlotList, list: Sequence<u16>) -> Shelf
+    fn with_same_list(&self, slots: SlotList, list: PlaceList) -> Shelf
         requires same { same_list list self.now.list ≡ true }
         ensures shelf { result ≡ shelf_of (record self.now { slots = slots }) }
     {
@@ -93,7 +108,7 @@ impl Shape {
         &self,
         rows: &[ListingRow],
         slots: SlotList,
-        list: Sequence<u16>,
+        list: PlaceList,
         news: usize,
         renewed: bool,
     ) -> Turn
@@ -103,7 +118,7 @@ impl Shape {
         ensures turn { result ≡ publish_turn self.now rows.now (settled_as self.now rows.now slots list renewed) }
         ensures leaves { IfSome result.shelf (λ shelf. shelf.slots ≡ slots) }
     {
-        let confirmed = self.is_confirmed(&list, news);
+        let confirmed = self.is_confirmed(list.value().as_slice(), news);
         if self.would_overflow(confirmed, renewed) {
             return Turn::quiet(Told::Refused(Refusal::GenerationOverflow));
         }
@@ -146,8 +161,8 @@ impl Shape {
         }
         let renewed = takes_over(matched.slots, free, news);
         let after = slots_after(alloc, stable, matched, free)?;
-        let list = list_after(alloc, matched.rows, after.as_slice())?;
-        Ok(self.settled_as(matched.rows, after, list, news, renewed))
+        let (slots, list) = shared_with_list(alloc, matched.rows, after)?;
+        Ok(self.settled_as(matched.rows, slots, list, news, renewed))
     }
 
     /// What a listing comes to.
@@ -163,9 +178,28 @@ impl Shape {
                 list_no: self.list_no,
             }));
         }
+        let slots = self.slots.to_vec(alloc)?;
+        self.publish_over(alloc, listing, &slots)
+    }
+
+    /// What a listing comes to that is in time, with the slots side by side.
+    fn publish_over(
+        &self,
+        alloc: Global,
+        listing: &Listing,
+        slots: &[Slot],
+    ) -> Result<Turn, NoMemory>
+        requires few { length self.now.slots ≤ most_slots }
+        requires numbered { self.now.list_no ≤ self.now.state_id }
+        requires packs { All HasFewPacks self.now.slots }
+        requires slots { slots.now ≡ self.now.slots }
+        requires in_time { listing.now.base ≡ self.now.list_no }
+        ensures turn { IfOk result (λ turn. turn ≡ publish_turn self.now listing.now.rows (publishing self.now listing.now)) }
+        ensures few_packs { IfOk result (λ turn. IfSome turn.shelf (λ shelf. All HasFewPacks shelf.slots)) }
+    {
         let stable = self.handles.is_any_stable();
-        let matched = Matched::new(alloc, listing.rows.as_slice(), self.slots.as_slice())?;
-        let free = free_places(alloc, stable, &matched, self.list.as_slice())?;
+        let matched = Matched::new(alloc, listing.rows.as_slice(), slots)?;
+        let free = free_places(alloc, stable, &matched, self.list.value().as_slice())?;
         let news = count_new(&matched);
         if free.len() < news {
             let needed = news - free.len();

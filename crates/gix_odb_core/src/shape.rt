@@ -1,15 +1,14 @@
 //! The shape of a core: its slots, its list, its counters and its handles.
-ghost use Rattle.std.specs.Prelude.{◌≡◌, ◌≤◌, [], false, IfOk, length, replicate};
+ghost use Rattle.std.specs.Prelude.{◌≡◌, [], false, IfOk, replicate};
 ghost use Rattle.gix_odb_core.specs.Shelf.{settled_by, shelf_of, shown_of, with_shelf, without_handles};
-ghost use Rattle.gix_odb_slots.specs.Shown.{shown_indices, shown_kept, shown_todo};
-ghost use Rattle.gix_odb_events.specs.PackId.{most_slots};
+ghost use Rattle.gix_odb_events.specs.Shown.{shown_indices, shown_kept, shown_todo};
 
 use crate::Shared;
 use crate::handles::HandleTable;
-use gix_odb_events::{SlotIndexMarker, Snapshot, TodoList, View};
-use gix_odb_slots::shown::{shown_indices, shown_kept, shown_todo};
-use gix_odb_slots::slots::empty_slots;
-use gix_odb_slots::{Slot, SlotList};
+use gix_odb_events::{
+    KeptList, ListedPlaces, ListedSlots, LoadedList, PlaceList, SlotIndexMarker, SlotList,
+    Snapshot, TodoList, View,
+};
 use odb_base::{NoMemory, Sequence};
 use std::alloc::Global;
 
@@ -20,7 +19,7 @@ pub struct Shape {
     pub folders: usize,
     pub slots: SlotList,
     /// The slots of the newest listing, in its order.
-    pub list: Sequence<u16>,
+    pub list: PlaceList,
     /// Whether a listing was published.
     pub read: bool,
     /// How many lists were published.
@@ -37,7 +36,7 @@ pub struct Shape {
 #[derive(Drop)]
 pub(crate) struct Shelf {
     pub slots: SlotList,
-    pub list: Sequence<u16>,
+    pub list: PlaceList,
     pub read: bool,
     pub list_no: u64,
     pub generation: u32,
@@ -54,10 +53,10 @@ impl Shelf {
     ) -> Result<Shelf, NoMemory>
         ensures opening { IfOk result (λ shelf. shelf ≡ record { slots = replicate slots None; list = []; read = false; list_no = 0; generation = generation; state_id = state_id }) }
     {
-        let slots = empty_slots(alloc, slots)?;
+        let list = listed(alloc, Sequence::new(alloc))?;
         Ok(Shelf {
-            slots,
-            list: Sequence::new(alloc),
+            slots: SlotList::empty(alloc, slots as usize)?,
+            list,
             read: false,
             list_no: 0,
             generation,
@@ -105,10 +104,10 @@ impl Shape {
     }
 
     /// The same list and counters with other slots.
-    pub(crate) fn with_slots(&self, alloc: Global, slots: SlotList) -> Result<Shelf, NoMemory>
+    pub(crate) fn with_slots(&self, slots: SlotList) -> Result<Shelf, NoMemory>
         ensures shelf { IfOk result (λ shelf. shelf ≡ record (shelf_of self.now) { slots = slots }) }
     {
-        let list = copied(alloc, self.list.as_slice())?;
+        let list = self.list.try_clone()?;
         Ok(Shelf {
             slots,
             list,
@@ -120,59 +119,56 @@ impl Shape {
     }
 }
 
-/// A copy of a list.
-fn copied(alloc: Global, list: &[u16]) -> Result<Sequence<u16>, NoMemory>
-    ensures copy { IfOk result (λ copy. copy ≡ list.now) }
+/// The numbers of listed slots, as the slots and the views of a core share them.
+pub(crate) fn listed(alloc: Global, places: Sequence<u16>) -> Result<PlaceList, NoMemory>
+    ensures list { IfOk result (λ list. list ≡ places) }
 {
-    let items = list.to_vec(alloc)?;
-    Ok(Sequence::from_vec(items))
+    let places = ListedPlaces::new(alloc, places)?;
+    Shared::new(alloc, places)
 }
 
 /// What slots and a list show, handed over with an entry.
 fn snapshot(
-    alloc: Global,
-    slots: &[Slot],
-    list: &[u16],
+    of: &Shared<ListedSlots>,
     marker: SlotIndexMarker,
     entry: u64,
 ) -> Result<Snapshot, NoMemory>
-    requires few { length slots.now ≤ most_slots }
-    ensures snapshot { IfOk result (λ snapshot. snapshot ≡ record { indices = shown_indices slots.now list.now; kept = shown_kept slots.now list.now; marker = marker; entry = entry }) }
+    ensures snapshot { IfOk result (λ snapshot. snapshot ≡ record { indices = shown_indices of.now.slots of.now.list; kept = shown_kept of.now.slots of.now.list; marker = marker; entry = entry }) }
 {
-    let indices = Shared::new(alloc, shown_indices(alloc, slots, list)?)?;
     Ok(Snapshot {
-        indices,
-        kept: Shared::new(alloc, shown_kept(alloc, slots, list)?)?,
+        indices: LoadedList::of(of)?,
+        kept: KeptList::of(of)?,
         marker,
         entry,
     })
 }
 
-/// What is still to be loaded of slots and a list.
-fn todo(alloc: Global, slots: &[Slot], list: &[u16]) -> Result<Shared<TodoList>, NoMemory>
-    ensures todo { IfOk result (λ todo. todo ≡ shown_todo slots.now list.now) }
-{
-    Ok(Shared::new(alloc, shown_todo(alloc, slots, list)?)?)
-}
-
 impl Shelf {
-    /// What a handle sees of it, handed over with an entry.
+    /// Its slots and its list, with one owner more.
+    fn shared(&self, alloc: Global) -> Result<Shared<ListedSlots>, NoMemory>
+        ensures slots { IfOk result (λ shared. shared.slots ≡ self.now.slots) }
+        ensures list { IfOk result (λ shared. shared.list ≡ self.now.list) }
+    {
+        let slots = self.slots.try_clone()?;
+        let list = self.list.try_clone()?;
+        Shared::new(alloc, ListedSlots { slots, list })
+    }
+
+    /// What a handle sees of it, handed over with an entry. It shares the slots and the list.
     pub(crate) fn view(&self, alloc: Global, entry: u64) -> Result<View, NoMemory>
-        requires few { length self.now.slots ≤ most_slots }
         ensures view { IfOk result (λ view. view ≡ shown_of self.now entry) }
     {
-        let slots = self.slots.as_slice();
-        let list = self.list.as_slice();
+        let of = self.shared(alloc)?;
         let marker = SlotIndexMarker {
             generation: self.generation,
             state_id: self.state_id,
         };
-        let snapshot = snapshot(alloc, slots, list, marker, entry)?;
+        let snapshot = snapshot(&of, marker, entry)?;
         Ok(View {
             snapshot,
             list_no: self.list_no,
             read: self.read,
-            todo: todo(alloc, slots, list)?,
+            todo: TodoList::of(&of)?,
         })
     }
 }

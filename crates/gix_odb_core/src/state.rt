@@ -126,11 +126,8 @@ impl State {
         requires kept { IsKept self.now }
         ensures report { IfOk result (λ report. report ≡ report_of self.now.shape self.now.journal.entries.items) }
     {
-        let listed = report_listed(
-            alloc,
-            self.shape.slots.as_slice(),
-            self.shape.list.as_slice(),
-        )?;
+        let list = self.shape.list.value();
+        let listed = report_listed(alloc, &self.shape.slots, list.as_slice())?;
         let passed_over = reported(alloc, self.passed.as_slice())?;
         let report = Report {
             metrics: self.shape.metrics(self.refreshes),

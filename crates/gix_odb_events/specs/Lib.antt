@@ -4,3 +4,6 @@ pub mod PackId
 pub mod OnDiskFile
 pub mod PackPath
 pub mod PackFiles
+pub mod Slots
+pub mod Shown
+pub mod Places

@@ -20,18 +20,25 @@ mod on_disk_file;
 mod pack_file;
 mod pack_id;
 mod pack_place;
-mod shared;
+mod places;
+mod shown;
+mod slot;
 mod view;
 
 pub use answer::{Answer, PartAsk};
 pub use event::{Effect, Event, PassWhy, Refusal};
 pub use listed::{Listed, ListedList};
 pub use listing::{Listing, ListingRow, ListingRowList};
-pub use loaded::{LoadedIndex, LoadedList, SnapshotIndex, Todo, TodoList};
+pub use loaded::{
+    KeptList, ListedSlots, LoadedIndex, LoadedList, LoadedRest, SnapshotIndex, Todo, TodoList,
+    TodoRest,
+};
 pub use metrics::{Metrics, Passed, PassedList, Report};
+pub use odb_shared::Shared;
 pub use on_disk_file::{FileState, OnDiskFile};
 pub use pack_file::{PackFile, PackFileList, new_packs, packs_beside};
 pub use pack_id::{IndexId, PackId};
 pub use pack_place::pack_path;
-pub use shared::Shared;
+pub use places::{ListedPlaces, PlaceList};
+pub use slot::{Filled, IndexFile, Slot, SlotList};
 pub use view::{SlotIndexMarker, Snapshot, View};

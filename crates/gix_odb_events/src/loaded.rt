@@ -1,9 +1,18 @@
-//! Indices that are loaded, and those that are still to be.
+//! Indices that are loaded, and those that are still to be: what is told of one, and the lists of them.
+ghost use Rattle.std.specs.Prelude.{◌≡◌, ◌==◌, [], Contains, IfOk, OnOk, Some, drop};
+ghost use Rattle.std.specs.List.{find};
+ghost use Rattle.gix_odb_events.specs.Shown.{first_of, shown_indices, shown_kept, shown_todo};
+
 use crate::Shared;
 use crate::pack_file::PackFileList;
+use crate::places::{ListedPlaces, PlaceList};
+use crate::shown::{first_shown, first_unloaded, shown_at};
+use crate::slot::SlotList;
 use gix_multi_index as multi_index;
 use gix_pack_files::index;
-use odb_base::{PathText, Sequence};
+use odb_base::{NoMemory, PathText, Sequence};
+use std::alloc::Global;
+use std::marker::Model;
 
 /// An index that is loaded.
 #[derive(Drop)]
@@ -21,9 +30,6 @@ pub struct SnapshotIndex {
     pub packs: Shared<PackFileList>,
 }
 
-/// Loaded indices, in the order in which they are asked.
-pub type LoadedList = Sequence<SnapshotIndex>;
-
 /// An index that is listed and not loaded.
 #[derive(Drop)]
 pub struct Todo {
@@ -31,5 +37,242 @@ pub struct Todo {
     pub path: Shared<PathText>,
 }
 
-/// Indices that are listed and not loaded, in the order of the list.
-pub type TodoList = Sequence<Todo>;
+/// Slots and the list of those that are listed, as the lists of a view share them.
+#[derive(Drop)]
+pub struct ListedSlots {
+    pub slots: SlotList,
+    pub list: PlaceList,
+}
+
+impl ListedSlots {
+    /// No slot.
+    pub fn none(alloc: Global) -> Result<Shared<ListedSlots>, NoMemory>
+        ensures slots { IfOk result (λ none. none.slots ≡ []) }
+        ensures list { IfOk result (λ none. none.list ≡ []) }
+    {
+        let list = ListedPlaces::new(alloc, Sequence::new(alloc))?;
+        let list = Shared::new(alloc, list)?;
+        let slots = SlotList::empty(alloc, 0)?;
+        Shared::new(alloc, ListedSlots { slots, list })
+    }
+}
+
+/// The loaded indices of the listed slots, in the order of the list, in which they are asked. Contracts see it as that list.
+#[derive(Drop)]
+pub struct LoadedList {
+    of: Shared<ListedSlots>,
+}
+
+impl Model for LoadedList {
+    ghost use Rattle.std.specs.Prelude.{List};
+    ghost use Rattle.gix_odb_events.specs.Shown.{shown_indices};
+    ghost use Rattle.gix_odb_events.specs.declared.loaded.SnapshotIndex.{SnapshotIndex};
+
+    ghost Value = { List SnapshotIndex };
+
+    ghost view = { λ loaded. shown_indices loaded.of.slots loaded.of.list };
+}
+
+impl LoadedList {
+    /// What slots and a list show.
+    pub fn of(slots: &Shared<ListedSlots>) -> Result<LoadedList, NoMemory>
+        ensures shown { IfOk result (λ loaded. loaded ≡ shown_indices slots.now.slots slots.now.list) }
+    {
+        Ok(LoadedList {
+            of: slots.try_clone()?,
+        })
+    }
+
+    /// A copy, which shares what it shows.
+    pub fn try_clone(&self) -> Result<LoadedList, NoMemory>
+        ensures copy { IfOk result (λ copy. copy ≡ self.now) }
+    {
+        LoadedList::of(&self.of)
+    }
+
+    /// The whole list, to be taken one by one.
+    pub fn rest(&self) -> Result<LoadedRest, NoMemory>
+        ensures all { IfOk result (λ rest. rest ≡ self.now) }
+    {
+        Ok(LoadedRest {
+            of: self.of.try_clone()?,
+            next: 0,
+        })
+    }
+
+    /// The index of a slot, if it is among these: there is one at most.
+    pub fn in_slot(&self, place: u16) -> Result<Option<SnapshotIndex>, NoMemory>
+        ensures first { IfOk result (λ found. found ≡ find (λ index. index.slot == place) self.now) }
+        ensures only { IfOk result (λ found. (index : SnapshotIndex) → Contains self.now index → index.slot ≡ place → found ≡ Some index) }
+    {
+        let of = self.of.value();
+        if !of.list.value().has(place) {
+            return Ok(None);
+        }
+        shown_at(&of.slots, place)
+    }
+}
+
+/// The loaded indices of the filled slots that aren't listed, in the order of the slots. Contracts see it as that list.
+#[derive(Drop)]
+pub struct KeptList {
+    of: Shared<ListedSlots>,
+}
+
+impl Model for KeptList {
+    ghost use Rattle.std.specs.Prelude.{List};
+    ghost use Rattle.gix_odb_events.specs.Shown.{shown_kept};
+    ghost use Rattle.gix_odb_events.specs.declared.loaded.SnapshotIndex.{SnapshotIndex};
+
+    ghost Value = { List SnapshotIndex };
+
+    ghost view = { λ kept. shown_kept kept.of.slots kept.of.list };
+}
+
+impl KeptList {
+    /// What slots and a list show.
+    pub fn of(slots: &Shared<ListedSlots>) -> Result<KeptList, NoMemory>
+        ensures shown { IfOk result (λ kept. kept ≡ shown_kept slots.now.slots slots.now.list) }
+    {
+        Ok(KeptList {
+            of: slots.try_clone()?,
+        })
+    }
+
+    /// A copy, which shares what it shows.
+    pub fn try_clone(&self) -> Result<KeptList, NoMemory>
+        ensures copy { IfOk result (λ copy. copy ≡ self.now) }
+    {
+        KeptList::of(&self.of)
+    }
+
+    /// The index of a slot, if it is among these: there is one at most.
+    pub fn in_slot(&self, place: u16) -> Result<Option<SnapshotIndex>, NoMemory>
+        ensures first { IfOk result (λ found. found ≡ find (λ index. index.slot == place) self.now) }
+        ensures only { IfOk result (λ found. (index : SnapshotIndex) → Contains self.now index → index.slot ≡ place → found ≡ Some index) }
+    {
+        let of = self.of.value();
+        let listed = of.list.value().has(place);
+        if listed {
+            return Ok(None);
+        }
+        shown_at(&of.slots, place)
+    }
+}
+
+/// The listed indices that are not loaded, in the order of the list. Contracts see it as that list.
+#[derive(Drop)]
+pub struct TodoList {
+    of: Shared<ListedSlots>,
+}
+
+impl Model for TodoList {
+    ghost use Rattle.std.specs.Prelude.{List};
+    ghost use Rattle.gix_odb_events.specs.Shown.{shown_todo};
+    ghost use Rattle.gix_odb_events.specs.declared.loaded.Todo.{Todo};
+
+    ghost Value = { List Todo };
+
+    ghost view = { λ todo. shown_todo todo.of.slots todo.of.list };
+}
+
+impl TodoList {
+    /// What is still to be loaded of slots and a list.
+    pub fn of(slots: &Shared<ListedSlots>) -> Result<TodoList, NoMemory>
+        ensures shown { IfOk result (λ todo. todo ≡ shown_todo slots.now.slots slots.now.list) }
+    {
+        Ok(TodoList {
+            of: slots.try_clone()?,
+        })
+    }
+
+    /// A copy, which shares what it shows.
+    pub fn try_clone(&self) -> Result<TodoList, NoMemory>
+        ensures copy { IfOk result (λ copy. copy ≡ self.now) }
+    {
+        TodoList::of(&self.of)
+    }
+
+    /// The whole list, to be taken one by one.
+    pub fn rest(&self) -> Result<TodoRest, NoMemory>
+        ensures all { IfOk result (λ rest. rest ≡ self.now) }
+    {
+        Ok(TodoRest {
+            of: self.of.try_clone()?,
+            next: 0,
+        })
+    }
+
+    /// What is left of it behind its end: nothing.
+    pub fn end(&self) -> Result<TodoRest, NoMemory>
+        ensures none { IfOk result (λ rest. rest ≡ []) }
+    {
+        let of = self.of.try_clone()?;
+        let next = of.value().list.value().as_slice().len();
+        Ok(TodoRest { of, next })
+    }
+}
+
+/// What is left of a list of loaded indices, which contracts see as the list of it.
+#[derive(Drop)]
+pub struct LoadedRest {
+    of: Shared<ListedSlots>,
+    next: usize,
+}
+
+impl Model for LoadedRest {
+    ghost use Rattle.std.specs.Prelude.{◌≤◌, List, drop, length};
+    ghost use Rattle.gix_odb_events.specs.Shown.{shown_indices};
+    ghost use Rattle.gix_odb_events.specs.declared.loaded.SnapshotIndex.{SnapshotIndex};
+
+    ghost Value = { List SnapshotIndex };
+
+    ghost view = { λ rest. shown_indices rest.of.slots (drop rest.next rest.of.list) };
+
+    ghost invariant = { λ rest. rest.next ≤ length rest.of.list };
+}
+
+impl LoadedRest {
+    /// Takes the first, if one is left.
+    pub fn pop(&mut self) -> Result<Option<SnapshotIndex>, NoMemory>
+        ensures first { IfOk result (λ first. first ≡ first_of self.old) }
+        ensures rest { OnOk result (self.new ≡ drop 1 self.old) }
+    {
+        let of = self.of.value();
+        let (first, gone) = first_shown(&of.slots, &of.list.value().as_slice()[self.next..])?;
+        self.next += gone;
+        Ok(first)
+    }
+}
+
+/// What is left of a list of indices that are still to be loaded, which contracts see as the list of it.
+#[derive(Drop)]
+pub struct TodoRest {
+    of: Shared<ListedSlots>,
+    next: usize,
+}
+
+impl Model for TodoRest {
+    ghost use Rattle.std.specs.Prelude.{◌≤◌, List, drop, length};
+    ghost use Rattle.gix_odb_events.specs.Shown.{shown_todo};
+    ghost use Rattle.gix_odb_events.specs.declared.loaded.Todo.{Todo};
+
+    ghost Value = { List Todo };
+
+    ghost view = { λ rest. shown_todo rest.of.slots (drop rest.next rest.of.list) };
+
+    ghost invariant = { λ rest. rest.next ≤ length rest.of.list };
+}
+
+impl TodoRest {
+    /// Takes the first, if one is left.
+    pub fn pop(&mut self) -> Result<Option<Todo>, NoMemory>
+        ensures first { IfOk result (λ first. first ≡ first_of self.old) }
+        ensures rest { OnOk result (self.new ≡ drop 1 self.old) }
+    {
+        let of = self.of.value();
+        let (first, gone) = first_unloaded(&of.slots, &of.list.value().as_slice()[self.next..])?;
+        self.next += gone;
+        Ok(first)
+    }
+}

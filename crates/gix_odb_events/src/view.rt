@@ -2,7 +2,7 @@
 ghost use Rattle.std.specs.Prelude.{◌≡◌, IfOk};
 ghost use Rattle.gix_odb_events.specs.View.{view_at};
 
-use crate::{LoadedList, Shared, TodoList};
+use crate::loaded::{KeptList, LoadedList, TodoList};
 use odb_base::NoMemory;
 
 /// Which state of a core a snapshot shows.
@@ -18,9 +18,9 @@ pub struct SlotIndexMarker {
 #[derive(Drop)]
 pub struct Snapshot {
     /// Those of the listed slots.
-    pub indices: Shared<LoadedList>,
+    pub indices: LoadedList,
     /// Those of the filled slots that are not listed.
-    pub kept: Shared<LoadedList>,
+    pub kept: KeptList,
     pub marker: SlotIndexMarker,
     /// The number of the journal's entry with which it was handed over.
     pub entry: u64,
@@ -35,7 +35,7 @@ pub struct View {
     /// Whether a listing was published.
     pub read: bool,
     /// What is still to be loaded.
-    pub todo: Shared<TodoList>,
+    pub todo: TodoList,
 }
 
 impl Snapshot {

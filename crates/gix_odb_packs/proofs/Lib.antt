@@ -1,6 +1,9 @@
 -- Laws of trying indices, that other crates may cite; and the lemmas of this crate.
 pub mod SeekLaws
 mod RestLemmas
+mod InSlotLemmas
+mod SearchLemmas
+mod TodoLemmas
 mod SpotLemmas
 mod SingleSpotLemmas
 mod MultiSpotLemmas

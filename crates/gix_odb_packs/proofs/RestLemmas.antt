@@ -1,6 +1,6 @@
 -- What is left of a list behind some of its items.
 use Rattle.std.proofs.Common.{◌≡◌, ℕ, zero, suc, List, [], ◌∷◌, drop, slice_get, refl}
-use Rattle.gix_odb_packs.specs.Rest.{first_of}
+use Rattle.gix_odb_events.specs.Shown.{first_of}
 
 pub first_left : {X : Type 0} (items : List X) (n : ℕ) → slice_get items n ≡ first_of (drop n items)
 first_left [] zero = refl

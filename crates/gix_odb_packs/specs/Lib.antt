@@ -3,6 +3,6 @@ pub mod ListOrder
 pub mod LongestFirst
 pub mod Goal
 pub mod Spot
-pub mod Rest
 pub mod Search
 pub mod TryOrder
+pub mod InSlot

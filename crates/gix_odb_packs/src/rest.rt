@@ -1,7 +1,7 @@
 //! What is left of a shared list.
 ghost use Rattle.std.specs.Prelude.{◌≡◌, drop};
 ghost use Rattle.std.specs.Option.{option_copied};
-ghost use Rattle.gix_odb_packs.specs.Rest.{first_of};
+ghost use Rattle.gix_odb_events.specs.Shown.{first_of};
 
 use gix_odb_events::Shared;
 use odb_base::Sequence;

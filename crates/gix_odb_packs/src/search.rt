@@ -3,9 +3,8 @@ ghost use Rattle.std.specs.Prelude.{◌≡◌, [], false, true, IfOk, OnOk};
 ghost use Rattle.gix_odb_packs.specs.Search.{given_or_not, in_pack, place_in, rest_behind, search, tried, was_absent, with_absent};
 
 use crate::goal::{Error, Found, Goal, Wanted};
-use crate::rest::Rest;
 use crate::spot::{Spot, spot_in};
-use gix_odb_events::{LoadedIndex, PackFile, SnapshotIndex};
+use gix_odb_events::{LoadedIndex, LoadedRest, PackFile, SnapshotIndex};
 use odb_base::{NoMemory, PathText, Sequence};
 use std::alloc::Global;
 
@@ -176,14 +175,14 @@ impl Goal {
         &self,
         alloc: Global,
         notes: &Notes,
-        indices: &mut Rest<SnapshotIndex>,
+        indices: &mut LoadedRest,
     ) -> Result<Sought, NoMemory>
         ensures search { IfOk result (λ found. found ≡ search self.now notes.now.absent indices.old) }
         ensures rest { OnOk result (indices.new ≡ rest_behind self.now notes.now.absent indices.old) }
     {
-        while let Some(index) = indices.first() {
-            let found = self.tried(alloc, notes, index)?;
-            indices.advance();
+        while let Some(index) = indices.pop()? {
+            let found = self.tried(alloc, notes, &index)?;
+            drop(index);
             match found {
                 Sought::Nowhere => {}
                 other => return Ok(other),

@@ -7,10 +7,9 @@ mod read;
 mod stored;
 
 use crate::goal::{Error, Found, Goal};
-use crate::rest::Rest;
 use crate::search::{Notes, Sought, WantedPack};
 use gix_odb_events::{
-    Answer, Effect, Event, PackId, PartAsk, PassWhy, Refusal, Shared, SnapshotIndex, Todo,
+    Answer, Effect, Event, LoadedRest, PackId, PartAsk, PassWhy, Refusal, Shared, Todo, TodoRest,
 };
 use gix_pack_files::{data, index};
 use odb_asks::{DiskAnswer, DiskAsk};
@@ -33,9 +32,9 @@ pub struct Trier {
 #[derive(Drop)]
 pub struct Ahead {
     /// The loaded indices that are left.
-    indices: Rest<SnapshotIndex>,
+    indices: LoadedRest,
     /// The listed indices that are left to be loaded.
-    todo: Rest<Todo>,
+    todo: TodoRest,
     notes: Notes,
 }
 
@@ -139,8 +138,8 @@ impl Trier {
     pub fn start(
         alloc: Global,
         goal: Goal,
-        indices: Rest<SnapshotIndex>,
-        todo: Rest<Todo>,
+        indices: LoadedRest,
+        todo: TodoRest,
         notes: Notes,
     ) -> Result<Tried, NoMemory>
         ensures begun { IfOk result (λ tried. tried ≡ seek goal (record { indices = indices; todo = todo; notes = notes })) }
@@ -300,15 +299,23 @@ fn at_search(alloc: Global, goal: Goal, ahead: Ahead, found: Sought) -> Result<T
 fn at_todo(alloc: Global, goal: Goal, mut ahead: Ahead) -> Result<Tried, NoMemory>
     ensures at { IfOk result (λ tried. tried ≡ at_todo goal ahead ahead.todo) }
 {
-    let Some(todo) = ahead.todo.first() else {
-        return Ok(missed(ahead));
-    };
+    match ahead.todo.pop() {
+        Ok(Some(todo)) => reading(alloc, goal, ahead, &todo),
+        Ok(None) => Ok(missed(ahead)),
+        Err(error) => {
+            drop(ahead);
+            Err(error)
+        }
+    }
+}
+
+/// An index that is still to be loaded is read.
+fn reading(alloc: Global, goal: Goal, ahead: Ahead, todo: &Todo) -> Result<Tried, NoMemory>
+    ensures reads { IfOk result (λ tried. tried ≡ order.at goal ahead (Stage.ReadingIndex (record { slot = todo.now.slot; path = todo.now.path }))) }
+{
     let slot = todo.slot;
     match todo.path.value().try_clone(alloc) {
-        Ok(path) => {
-            ahead.todo.advance();
-            Ok(at(goal, ahead, Stage::ReadingIndex(IndexPlace { slot, path })))
-        }
+        Ok(path) => Ok(at(goal, ahead, Stage::ReadingIndex(IndexPlace { slot, path }))),
         Err(error) => {
             drop(ahead);
             Err(error)

@@ -37,8 +37,8 @@ use Rattle.gix_odb_looks.specs.Caused.{IsRefused}
 use Rattle.gix_odb_looks.specs.Exchange.{Exchange, WasTold}
 use Rattle.gix_odb_packs.proofs.ReachLemmas.{first_or_later, none_in}
 use Rattle.gix_odb_slots.specs.Files.{slot_with_index, slot_with_pack}
-use Rattle.gix_odb_slots.specs.Publish.{slot_at}
-use Rattle.gix_odb_slots.specs.declared.slot.Filled.{Filled}
+use Rattle.gix_odb_events.specs.Slots.{slot_at}
+use Rattle.gix_odb_events.specs.declared.slot.Filled.{Filled}
 use Rattle.gix_odb_runs.specs.Cores.{answer_behind, cores_after, history_at}
 use Rattle.gix_odb_runs.specs.Event.{Ask, Asked, CoreAnswer, CoreEvent, Event, OfCore, OfDisk, OfNewCore, OfNothing, ToCore, ToDisk, ToNewCore}
 use Rattle.gix_odb_runs.specs.Run.{FailedSince, Stand, disk_after, told_now, tree_at}

@@ -2,11 +2,11 @@
 use Rattle.std.proofs.Common.{◌≡◌, ℕ, ◌<◌, Bool, true, false, List, Some, ◌⊎◌, inl, inr, refl, sym, subst, ◌∙◌, arith, ne_eqb}
 use Rattle.std.specs.List.{list_any}
 use Rattle.std.proofs.lemmas.Bool.{not-true}
-use Rattle.gix_odb_slots.specs.Publish.{free_places, is_new, new_rows, settled, slot_at, slots_after, taken}
-use Rattle.gix_odb_slots.specs.Slots.{IsApart, Slot, holds, new_filled}
+use Rattle.gix_odb_slots.specs.Publish.{free_places, is_new, new_rows, settled, slots_after, taken}
+use Rattle.gix_odb_events.specs.Slots.{slot_at, IsApart, Slot, holds, new_filled}
 use Rattle.gix_odb_events.specs.PackFiles.{same_path, HasDifferentPaths}
 use Rattle.gix_odb_events.specs.declared.listing.ListingRow.{ListingRow}
-use Rattle.gix_odb_slots.specs.declared.slot.Filled.{Filled}
+use Rattle.gix_odb_events.specs.declared.slot.Filled.{Filled}
 use Rattle.gix_odb_slots.proofs.ApartLemmas.{apart_at, apart_from}
 use Rattle.gix_odb_slots.proofs.DistinctLemmas.{IsDistinct-filter, IsDistinct-map, IsDistinct-seconds}
 use Rattle.gix_odb_slots.proofs.PublishLaws.{any_from_place}

@@ -1,9 +1,8 @@
 -- Slots that hold different indices, by the places of the slots.
 use Rattle.std.proofs.Common.{◌≡◌, ℕ, zero, suc, ◌<◌, Bool, false, List, [], ◌∷◌, Some, None, filter_map, refl, subst, arith}
 use Rattle.std.specs.List.{AllByRecursion, IsDistinct}
-use Rattle.gix_odb_slots.specs.Publish.{slot_at}
-use Rattle.gix_odb_slots.specs.Slots.{Slot}
-use Rattle.gix_odb_slots.specs.declared.slot.Filled.{Filled}
+use Rattle.gix_odb_events.specs.Slots.{slot_at, Slot}
+use Rattle.gix_odb_events.specs.declared.slot.Filled.{Filled}
 
 -- what holds of each filled slot
 module _ (P : Filled → Type 0) where

@@ -1,14 +1,14 @@
 -- Counts that are summed up a slot at a time are counts over the filled slots.
-use Rattle.std.proofs.Common.{◌≡◌, ℕ, ◌+◌, ◌<◌, cond, List, [], ◌∷◌, length, get_or, drop, Some, None, refl, sym, ap, subst, ◌∙◌, arith}
+use Rattle.std.proofs.Common.{◌≡◌, ℕ, ◌+◌, ◌<◌, true, false, cond, List, [], ◌∷◌, length, get_or, drop, take, Some, None, is_none, refl, sym, ap, subst, ◌∙◌, arith}
 use Rattle.std.specs.List.{cons_option, count_by, sum_by}
 use Rattle.std.proofs.lemmas.List.{drop_more}
-use Rattle.std.proofs.lemmas.List.Sums.{sum_by-cons}
+use Rattle.std.proofs.lemmas.List.Sums.{count_by_more_no, count_by_more_yes, sum_by-cons}
+use Rattle.gix_odb_slots.proofs.SlotsAfterLemmas.{slot_at-get_or}
 use Rattle.gix_odb_slots.specs.Tally.{IsSmall, no_tally, tally_of, with_disposable, with_filled, with_places, with_slot}
-use Rattle.gix_odb_slots.specs.Counts.{disposable_in, disposable_slot, is_index_loaded, listed_in, loaded_packs}
-use Rattle.gix_odb_slots.specs.Publish.{slot_at}
-use Rattle.gix_odb_slots.specs.Slots.{Slot}
+use Rattle.gix_odb_slots.specs.Counts.{disposable_in, disposable_slot, listed_in, loaded_packs}
+use Rattle.gix_odb_events.specs.Slots.{is_index_loaded, slot_at, Slot}
 use Rattle.gix_odb_slots.specs.declared.counts.Tally.{Tally}
-use Rattle.gix_odb_slots.specs.declared.slot.Filled.{Filled}
+use Rattle.gix_odb_events.specs.declared.slot.Filled.{Filled}
 
 -- ---- what is small at the end was small before
 
@@ -42,15 +42,26 @@ module _ (slots : List Slot) (list : List ℕ) (i : ℕ) (tally : Tally) (within
   pub listed_tally-small : IsSmall (with_places slots no_tally list) → IsSmall (with_slot tally (slot_at slots (get_or list i 0)))
   listed_tally-small small = places_small slots (with_slot tally (slot_at slots (get_or list i 0))) (drop (i + 1) list) (subst IsSmall (sym listed_tally-step) small)
 
-module _ (slots : List Slot) (i : ℕ) (slot : Slot) (tally : Tally) (within : i < length slots) (is : slot ≡ get_or slots i slot)
-    (so_far : with_disposable tally (drop i slots) ≡ with_disposable no_tally slots) where
-  pub disposable_tally-step : with_disposable (with_slot tally (disposable_slot slot)) (drop (i + 1) slots) ≡ with_disposable no_tally slots
+module _ (slots : List Slot) (place : ℕ) (tally : Tally) (within : place < length slots)
+    (so_far : with_disposable tally (drop place slots) ≡ with_disposable no_tally slots) where
+  pub disposable_tally-step : with_disposable (with_slot tally (disposable_slot (slot_at slots place))) (drop (place + 1) slots) ≡ with_disposable no_tally slots
   disposable_tally-step =
-      let here : drop i slots ≡ slot ∷ drop (i + 1) slots = drop_more slots i slot within ∙ ap (λ (s : Slot). s ∷ drop (i + 1) slots) (sym is) in
+      let here : drop place slots ≡ slot_at slots place ∷ drop (place + 1) slots =
+      drop_more slots place None within ∙ ap (λ (s : Slot). s ∷ drop (place + 1) slots) (sym (slot_at-get_or slots place)) in
       ap (with_disposable tally) (sym here) ∙ so_far
 
-  pub disposable_tally-small : IsSmall (with_disposable no_tally slots) → IsSmall (with_slot tally (disposable_slot slot))
-  disposable_tally-small small = disposable_small (with_slot tally (disposable_slot slot)) (drop (i + 1) slots) (subst IsSmall (sym disposable_tally-step) small)
+  pub disposable_tally-small : IsSmall (with_disposable no_tally slots) → IsSmall (with_slot tally (disposable_slot (slot_at slots place)))
+  disposable_tally-small small =
+      disposable_small (with_slot tally (disposable_slot (slot_at slots place))) (drop (place + 1) slots) (subst IsSmall (sym disposable_tally-step) small)
+
+-- ---- empty slots
+
+module _ (slots : List Slot) (place : ℕ) (within : place < length slots) where
+  pub count_unused-yes : true ≡ is_none (slot_at slots place) → count_by is_none (take (place + 1) slots) ≡ count_by is_none (take place slots) + 1
+  count_unused-yes empty = count_by_more_yes is_none slots place None within (ap is_none (sym (slot_at-get_or slots place)) ∙ sym empty)
+
+  pub count_unused-no : false ≡ is_none (slot_at slots place) → count_by is_none (take (place + 1) slots) ≡ count_by is_none (take place slots)
+  count_unused-no filled = count_by_more_no is_none slots place None within (ap is_none (sym (slot_at-get_or slots place)) ∙ sym filled)
 
 -- ---- the counts
 

@@ -5,15 +5,15 @@ use Rattle.std.proofs.lemmas.Bool.{or_from}
 use Rattle.odb_base.specs.Path.{Path}
 use Rattle.gix_multi_index.specs.MultiIndex.{told}
 use Rattle.gix_odb_events.specs.OnDiskFile.{is_disposable, put_back, with_state}
-use Rattle.gix_odb_slots.specs.Publish.{is_kept, list_after, settled, slot_at, slots_after, taken}
-use Rattle.gix_odb_slots.specs.Slots.{Slot, filled_put_back, filled_trashed, has_disposable, index_put_back, is_index_disposable, new_filled, new_index}
+use Rattle.gix_odb_slots.specs.Publish.{is_kept, list_after, settled, slots_after, taken}
+use Rattle.gix_odb_events.specs.Slots.{slot_at, Slot, filled_put_back, filled_trashed, has_disposable, index_put_back, is_index_disposable, new_filled, new_index}
 use Rattle.gix_odb_events.specs.PackFiles.{PackFile, new_pack, new_packs}
 use Rattle.gix_odb_events.specs.declared.listing.ListingRow.{ListingRow}
 use Rattle.gix_odb_events.specs.declared.on_disk_file.FileState.{FileState}
 use Rattle.gix_odb_events.specs.declared.on_disk_file.FileState.TheVariants.{Unloaded, Loaded, Garbage, Missing}
-use Rattle.gix_odb_slots.specs.declared.slot.Filled.{Filled}
-use Rattle.gix_odb_slots.specs.declared.slot.IndexFile.{IndexFile}
-use Rattle.gix_odb_slots.specs.declared.slot.IndexFile.TheVariants.{Single, Multi}
+use Rattle.gix_odb_events.specs.declared.slot.Filled.{Filled}
+use Rattle.gix_odb_events.specs.declared.slot.IndexFile.{IndexFile}
+use Rattle.gix_odb_events.specs.declared.slot.IndexFile.TheVariants.{Single, Multi}
 use Rattle.gix_odb_slots.proofs.PublishLaws.{listed_slot_is_kept}
 use Rattle.gix_odb_slots.proofs.SettledLemmas.{holds-settled, settled_cases}
 use Rattle.gix_odb_slots.proofs.SlotsAfterLemmas.{after_cases}

@@ -10,12 +10,11 @@ use Rattle.gix_odb_slots.proofs.SettledLemmas.{settled_cases}
 use Rattle.gix_odb_slots.proofs.SlotsAfterLemmas.{slot_at-get_or}
 use Rattle.gix_odb_slots.specs.Files.{index_with, passed_at, slot_passed, slot_with_index, slot_with_pack, stored_at, takes, with_index}
 use Rattle.gix_odb_events.specs.OnDiskFile.{put_back, trashed, with_state}
-use Rattle.gix_odb_slots.specs.Publish.{settled, slot_at}
-use Rattle.gix_odb_slots.specs.Slots.{Slot}
-use Rattle.gix_odb_slots.specs.Tally.{HasFewPacks, IsFewPacks}
+use Rattle.gix_odb_slots.specs.Publish.{settled}
+use Rattle.gix_odb_events.specs.Slots.{slot_at, Slot, HasFewPacks, IsFewPacks}
 use Rattle.gix_odb_events.specs.declared.listing.ListingRow.{ListingRow}
-use Rattle.gix_odb_slots.specs.declared.slot.Filled.{Filled}
-use Rattle.gix_odb_slots.specs.declared.slot.IndexFile.{IndexFile}
+use Rattle.gix_odb_events.specs.declared.slot.Filled.{Filled}
+use Rattle.gix_odb_events.specs.declared.slot.IndexFile.{IndexFile}
 
 -- what stands at a place
 pub each_few : (slots : List Slot) → All HasFewPacks slots → (place : ℕ) → HasFewPacks (slot_at slots place)

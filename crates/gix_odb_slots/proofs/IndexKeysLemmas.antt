@@ -13,13 +13,13 @@ use Rattle.std.proofs.lemmas.List.Folds.{list_any_more}
 use Rattle.odb_base.specs.Path.{Path, path_cmp}
 use Rattle.gix_odb_slots.specs.IndexKeys.{index_time, key_cmp, parts_cmp, row_has, row_time, slot_has}
 use Rattle.gix_odb_slots.specs.Publish.{is_kept}
-use Rattle.gix_odb_slots.specs.Slots.{Slot, holds, index_path, is_index_of}
+use Rattle.gix_odb_events.specs.Slots.{Slot, holds, index_path, is_index_of}
 use Rattle.gix_odb_events.specs.PackFiles.{same_path}
 use Rattle.gix_odb_slots.specs.declared.index_key.IndexKey.{IndexKey}
 use Rattle.gix_odb_events.specs.declared.listing.ListingRow.{ListingRow}
-use Rattle.gix_odb_slots.specs.declared.slot.Filled.{Filled}
-use Rattle.gix_odb_slots.specs.declared.slot.IndexFile.{IndexFile}
-use Rattle.gix_odb_slots.specs.declared.slot.IndexFile.TheVariants.{Single, Multi}
+use Rattle.gix_odb_events.specs.declared.slot.Filled.{Filled}
+use Rattle.gix_odb_events.specs.declared.slot.IndexFile.{IndexFile}
+use Rattle.gix_odb_events.specs.declared.slot.IndexFile.TheVariants.{Single, Multi}
 
 -- ---- keys that are equal
 

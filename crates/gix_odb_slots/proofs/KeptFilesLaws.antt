@@ -2,10 +2,10 @@
 use Rattle.std.proofs.Common.{nat_eq, Contains, ◌≡◌, ℕ, Bool, true, false, List, [], length, Some, None, ◌⊎◌, inl, inr, zip, refl, ap, ◌∙◌}
 use Rattle.std.specs.List.{list_any}
 use Rattle.std.proofs.lemmas.List.{nil_from_length}
-use Rattle.gix_odb_slots.specs.Publish.{free_places, is_free, is_kept, is_new, list_after, new_rows, settled, slot_at, slots_after, taken}
-use Rattle.gix_odb_slots.specs.Slots.{KeepsFiles, Slot, filled_put_back, filled_trashed, index_path, new_filled}
+use Rattle.gix_odb_slots.specs.Publish.{free_places, is_free, is_kept, is_new, list_after, new_rows, settled, slots_after, taken}
+use Rattle.gix_odb_events.specs.Slots.{slot_at, KeepsFiles, Slot, filled_put_back, filled_trashed, index_path, new_filled}
 use Rattle.gix_odb_events.specs.declared.listing.ListingRow.{ListingRow}
-use Rattle.gix_odb_slots.specs.declared.slot.Filled.{Filled}
+use Rattle.gix_odb_events.specs.declared.slot.Filled.{Filled}
 use Rattle.gix_odb_slots.proofs.KeptFilesLemmas.{keeps-settled, keeps_path}
 use Rattle.gix_odb_slots.proofs.PublishLaws.{listed_slot_is_filled}
 use Rattle.gix_odb_slots.proofs.PublishLemmas.{nothing}

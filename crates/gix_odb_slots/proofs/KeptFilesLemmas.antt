@@ -3,14 +3,14 @@ use Rattle.std.proofs.Common.{◌≡◌, Bool, true, false, List, [], ◌∷◌,
 use Rattle.std.specs.List.{AllZip}
 use Rattle.gix_odb_events.specs.OnDiskFile.{loaded, put_back, trashed, with_state}
 use Rattle.gix_odb_slots.specs.Publish.{is_kept, settled}
-use Rattle.gix_odb_slots.specs.Slots.{KeepsFile, KeepsFiles, KeepsIndex, filled_put_back, filled_trashed, index_path, index_put_back, index_trashed}
+use Rattle.gix_odb_events.specs.Slots.{KeepsFile, KeepsFiles, KeepsIndex, filled_put_back, filled_trashed, index_path, index_put_back, index_trashed}
 use Rattle.gix_odb_events.specs.declared.listing.ListingRow.{ListingRow}
 use Rattle.gix_odb_events.specs.declared.on_disk_file.FileState.{FileState}
 use Rattle.gix_odb_events.specs.declared.on_disk_file.FileState.TheVariants.{Unloaded, Loaded, Garbage, Missing}
 use Rattle.gix_odb_events.specs.declared.on_disk_file.OnDiskFile.{OnDiskFile}
-use Rattle.gix_odb_slots.specs.declared.slot.Filled.{Filled}
-use Rattle.gix_odb_slots.specs.declared.slot.IndexFile.{IndexFile}
-use Rattle.gix_odb_slots.specs.declared.slot.IndexFile.TheVariants.{Single, Multi}
+use Rattle.gix_odb_events.specs.declared.slot.Filled.{Filled}
+use Rattle.gix_odb_events.specs.declared.slot.IndexFile.{IndexFile}
+use Rattle.gix_odb_events.specs.declared.slot.IndexFile.TheVariants.{Single, Multi}
 use Rattle.gix_odb_slots.proofs.SettledLemmas.{settled_cases}
 
 module _ {A : Type 0} where

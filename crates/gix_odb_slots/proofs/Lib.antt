@@ -20,6 +20,5 @@ mod MatchedLemmas
 mod PositionLemmas
 pub mod FilterMapLemmas
 mod LoopLemmas
-mod MarkLemmas
 mod CountsLemmas
 mod SmallLemmas

@@ -8,8 +8,8 @@ use Rattle.std.proofs.lemmas.List.{get_or-map, map_push, take_more}
 use Rattle.std.proofs.lemmas.List.Elements.{All-cons, All-nil}
 use Rattle.std.proofs.lemmas.List.Folds.{list_any_at, list_any_more}
 use Rattle.std.proofs.lemmas.List.Quantifiers.{position-Some}
-use Rattle.gix_odb_slots.specs.Publish.{is_new, new_rows, slot_at}
-use Rattle.gix_odb_slots.specs.Slots.{Slot, holds}
+use Rattle.gix_odb_slots.specs.Publish.{is_new, new_rows}
+use Rattle.gix_odb_events.specs.Slots.{slot_at, Slot, holds}
 use Rattle.gix_odb_events.specs.declared.listing.ListingRow.{ListingRow}
 use Rattle.gix_odb_slots.proofs.SlotsAfterLemmas.{slot_at-get_or}
 

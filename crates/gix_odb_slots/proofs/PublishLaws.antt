@@ -7,11 +7,11 @@ use Rattle.std.proofs.lemmas.List.Elements.{All-from_recursion, recursion_from_A
 use Rattle.std.proofs.lemmas.List.Folds.{Any-from_list_any, list_any_at}
 use Rattle.std.proofs.lemmas.List.Quantifiers.{position-Some}
 use Rattle.odb_base.specs.Path.{Path}
-use Rattle.gix_odb_slots.specs.Publish.{free_places, is_kept, is_new, list_after, new_rows, settled, slot_at, slots_after, taken}
-use Rattle.gix_odb_slots.specs.Slots.{Slot, filled_put_back, holds, index_path, new_filled}
+use Rattle.gix_odb_slots.specs.Publish.{free_places, is_kept, is_new, list_after, new_rows, settled, slots_after, taken}
+use Rattle.gix_odb_events.specs.Slots.{slot_at, Slot, filled_put_back, holds, index_path, new_filled}
 use Rattle.gix_odb_events.specs.PackFiles.{same_path, HasDifferentPaths}
 use Rattle.gix_odb_events.specs.declared.listing.ListingRow.{ListingRow}
-use Rattle.gix_odb_slots.specs.declared.slot.Filled.{Filled}
+use Rattle.gix_odb_events.specs.declared.slot.Filled.{Filled}
 use Rattle.gix_odb_slots.proofs.DistinctLemmas.{IsDistinct-map, each_that_passes}
 use Rattle.gix_odb_slots.proofs.FilterMapLemmas.{any-filter_map, IsDistinct-filter_map, get_or-filter_map, length-filter_map}
 use Rattle.gix_odb_slots.proofs.PositionLemmas.{position-from_any}

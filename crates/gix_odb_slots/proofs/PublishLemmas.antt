@@ -5,10 +5,10 @@ use Rattle.std.specs.List.{cons_option, filter, filter_map, range_with_len, zip}
 use Rattle.std.specs.Option.{option_to_list}
 use Rattle.std.proofs.lemmas.List.{drop_all, drop_more, take_more}
 use Rattle.std.proofs.lemmas.List.Elements.{All-append, All-cons, All-drop, All-nil, filter-append, filter_map-append}
-use Rattle.gix_odb_slots.specs.Publish.{is_free, is_new, new_rows, slot_at, with_taken}
-use Rattle.gix_odb_slots.specs.Slots.{Slot, new_filled}
+use Rattle.gix_odb_slots.specs.Publish.{is_free, is_new, new_rows, with_taken}
+use Rattle.gix_odb_events.specs.Slots.{slot_at, Slot, new_filled}
 use Rattle.gix_odb_events.specs.declared.listing.ListingRow.{ListingRow}
-use Rattle.gix_odb_slots.specs.declared.slot.Filled.{Filled}
+use Rattle.gix_odb_events.specs.declared.slot.Filled.{Filled}
 
 -- one number more
 pub range_with_len-more : (a n : ℕ) → range_with_len a (n + 1) ≡ range_with_len a n ++ (a + n) ∷ []

@@ -2,12 +2,12 @@
 use Rattle.std.proofs.Common.{◌≡◌, ℕ, Bool, true, false, nat_eq, List, Option, Some, None, ◌⊎◌, inl, inr, ⊎_elim, refl, sym, ap, ◌∙◌, ne_eqb}
 use Rattle.std.proofs.lemmas.Bool.{and_cases, and_left, and_right, eqb-false}
 use Rattle.gix_odb_slots.specs.Publish.{is_kept, settled}
-use Rattle.gix_odb_slots.specs.Slots.{filled_put_back, filled_trashed, holds, index_put_back, index_trashed, is_index_of, new_index, same_index}
+use Rattle.gix_odb_events.specs.Slots.{filled_put_back, filled_trashed, holds, index_put_back, index_trashed, is_index_of, new_index, same_index}
 use Rattle.gix_odb_events.specs.PackFiles.{same_path}
 use Rattle.gix_odb_events.specs.declared.listing.ListingRow.{ListingRow}
-use Rattle.gix_odb_slots.specs.declared.slot.Filled.{Filled}
-use Rattle.gix_odb_slots.specs.declared.slot.IndexFile.{IndexFile}
-use Rattle.gix_odb_slots.specs.declared.slot.IndexFile.TheVariants.{Single, Multi}
+use Rattle.gix_odb_events.specs.declared.slot.Filled.{Filled}
+use Rattle.gix_odb_events.specs.declared.slot.IndexFile.{IndexFile}
+use Rattle.gix_odb_events.specs.declared.slot.IndexFile.TheVariants.{Single, Multi}
 use Rattle.gix_odb_slots.proofs.SettledLemmas.{settled_cases}
 use Rattle.gix_odb_events.proofs.SamePathLaws.{same_path_flip}
 

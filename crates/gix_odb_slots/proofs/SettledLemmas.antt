@@ -1,9 +1,9 @@
 -- What settling makes of a filled slot, and that it stays the slot of the same row.
 use Rattle.std.proofs.Common.{◌≡◌, Bool, true, false, List, cond, Some, None, ◌⊎◌, inl, inr, refl, sym, ap, ◌∙◌}
 use Rattle.gix_odb_slots.specs.Publish.{is_kept, settled}
-use Rattle.gix_odb_slots.specs.Slots.{filled_put_back, filled_trashed, holds}
+use Rattle.gix_odb_events.specs.Slots.{filled_put_back, filled_trashed, holds}
 use Rattle.gix_odb_events.specs.declared.listing.ListingRow.{ListingRow}
-use Rattle.gix_odb_slots.specs.declared.slot.Filled.{Filled}
+use Rattle.gix_odb_events.specs.declared.slot.Filled.{Filled}
 use Rattle.gix_odb_slots.proofs.SlotLemmas.{holds-put_back, holds-trashed}
 
 module _ (stable : Bool) (rows : List ListingRow) where

@@ -3,11 +3,11 @@ use Rattle.std.proofs.Common.{◌≡◌, ℕ, true, List, Option, Some, None, re
 use Rattle.std.proofs.lemmas.Bool.{and_parts, and_from}
 use lib.Pointwise.{pointwise_decides}
 use Rattle.gix_odb_events.proofs.SamePathLaws.{same_path-true, same_path-self}
-use Rattle.gix_odb_slots.specs.Slots.{filled_put_back, filled_trashed, holds, index_path, index_put_back, index_trashed, is_index_of, new_filled, new_index}
+use Rattle.gix_odb_events.specs.Slots.{filled_put_back, filled_trashed, holds, index_path, index_put_back, index_trashed, is_index_of, new_filled, new_index}
 use Rattle.gix_odb_events.specs.declared.listing.ListingRow.{ListingRow}
-use Rattle.gix_odb_slots.specs.declared.slot.Filled.{Filled}
-use Rattle.gix_odb_slots.specs.declared.slot.IndexFile.{IndexFile}
-use Rattle.gix_odb_slots.specs.declared.slot.IndexFile.TheVariants.{Single, Multi}
+use Rattle.gix_odb_events.specs.declared.slot.Filled.{Filled}
+use Rattle.gix_odb_events.specs.declared.slot.IndexFile.{IndexFile}
+use Rattle.gix_odb_events.specs.declared.slot.IndexFile.TheVariants.{Single, Multi}
 
 -- ---- which row a slot holds
 

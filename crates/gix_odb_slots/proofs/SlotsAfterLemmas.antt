@@ -6,10 +6,10 @@ use Rattle.std.proofs.lemmas.Bool.{cases_lt, eqb-false}
 use Rattle.std.proofs.lemmas.List.{length-map}
 use Rattle.std.proofs.lemmas.List.Elements.{All-contains_itself, recursion_from_All}
 use Rattle.std.proofs.lemmas.Option.{slice_get-map, slice_get_past, unwrap_or-slice_get}
-use Rattle.gix_odb_slots.specs.Publish.{free_places, is_free, is_kept, is_new, new_rows, place_after, ring_from, settled, slot_at, slots_after, taken, with_taken}
-use Rattle.gix_odb_slots.specs.Slots.{Slot, filled_put_back, new_filled}
+use Rattle.gix_odb_slots.specs.Publish.{free_places, is_free, is_kept, is_new, new_rows, place_after, ring_from, settled, slots_after, taken, with_taken}
+use Rattle.gix_odb_events.specs.Slots.{slot_at, Slot, filled_put_back, new_filled}
 use Rattle.gix_odb_events.specs.declared.listing.ListingRow.{ListingRow}
-use Rattle.gix_odb_slots.specs.declared.slot.Filled.{Filled}
+use Rattle.gix_odb_events.specs.declared.slot.Filled.{Filled}
 use Rattle.gix_odb_slots.proofs.DistinctLemmas.{IsDistinct-filter, IsDistinct-firsts, IsDistinct-ring, each_filter, each_in_ring, each_passes, each_true, each_zip}
 use Rattle.gix_odb_slots.proofs.TakenLemmas.{taker, taker-none, taker_gives}
 

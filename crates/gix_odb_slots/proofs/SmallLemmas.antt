@@ -2,14 +2,13 @@
 use Rattle.std.proofs.Common.{◌≡◌, ℕ, zero, suc, ◌+◌, ◌*◌, ◌≤◌, Bool, true, false, cond, All, List, [], ◌∷◌, length, Some, None, arith}
 use Rattle.std.proofs.lemmas.List.Sums.{count_by-le-length}
 use Rattle.gix_odb_slots.proofs.FewPacksLemmas.{each_few}
-use Rattle.gix_odb_slots.specs.Tally.{HasFewPacks, IsSmall, no_tally, with_disposable, with_filled, with_places, with_slot}
-use Rattle.gix_odb_slots.specs.Counts.{disposable_slot, is_index_loaded}
+use Rattle.gix_odb_slots.specs.Tally.{IsSmall, no_tally, with_disposable, with_filled, with_places, with_slot}
+use Rattle.gix_odb_events.specs.Slots.{HasFewPacks, is_index_loaded, slot_at, Slot, has_disposable}
+use Rattle.gix_odb_slots.specs.Counts.{disposable_slot}
 use Rattle.gix_odb_events.specs.OnDiskFile.{is_loaded}
-use Rattle.gix_odb_slots.specs.Publish.{slot_at}
-use Rattle.gix_odb_slots.specs.Slots.{Slot, has_disposable}
 use Rattle.gix_odb_events.specs.PackFiles.{PackFile}
 use Rattle.gix_odb_slots.specs.declared.counts.Tally.{Tally}
-use Rattle.gix_odb_slots.specs.declared.slot.Filled.{Filled}
+use Rattle.gix_odb_events.specs.declared.slot.Filled.{Filled}
 
 -- the counts over so many slots
 record IsOver (n : ℕ) (tally : Tally) : Type 0 where

@@ -3,15 +3,15 @@ use Rattle.std.proofs.Common.{◌≡◌, ℕ, Bool, true, false, cond, ◌||◌,
 use Rattle.std.specs.List.{list_any, zip}
 use Rattle.gix_odb_events.specs.OnDiskFile.{is_disposable, put_back, with_state}
 use Rattle.gix_odb_slots.specs.Publish.{free_places, is_kept, is_unsettled, new_rows, settled, slots_after, taken, with_taken}
-use Rattle.gix_odb_slots.specs.Slots.{Slot, filled_put_back, has_disposable, index_put_back, is_index_disposable}
+use Rattle.gix_odb_events.specs.Slots.{Slot, filled_put_back, has_disposable, index_put_back, is_index_disposable}
 use Rattle.gix_odb_events.specs.PackFiles.{PackFile}
 use Rattle.gix_odb_events.specs.declared.listing.ListingRow.{ListingRow}
 use Rattle.gix_odb_events.specs.declared.on_disk_file.FileState.{FileState}
 use Rattle.gix_odb_events.specs.declared.on_disk_file.FileState.TheVariants.{Unloaded, Loaded, Garbage, Missing}
 use Rattle.gix_odb_events.specs.declared.on_disk_file.OnDiskFile.{OnDiskFile}
-use Rattle.gix_odb_slots.specs.declared.slot.Filled.{Filled}
-use Rattle.gix_odb_slots.specs.declared.slot.IndexFile.{IndexFile}
-use Rattle.gix_odb_slots.specs.declared.slot.IndexFile.TheVariants.{Single, Multi}
+use Rattle.gix_odb_events.specs.declared.slot.Filled.{Filled}
+use Rattle.gix_odb_events.specs.declared.slot.IndexFile.{IndexFile}
+use Rattle.gix_odb_events.specs.declared.slot.IndexFile.TheVariants.{Single, Multi}
 
 neither : (a b : Bool) → (a || b) ≡ false → (a ≡ false) × (b ≡ false)
 neither true b h = absurd cc

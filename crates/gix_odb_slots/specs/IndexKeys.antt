@@ -4,11 +4,11 @@ use Rattle.std.specs.Ordering.{is_eq, nat_cmp, ordering_then}
 use Rattle.std.specs.Option.{option_cmp}
 use Rattle.std.specs.declared.cmp.Ordering.{Ordering}
 use Rattle.odb_base.specs.Path.{Path, path_cmp}
-use Rattle.gix_odb_slots.specs.Slots.{Slot, index_path}
+use Rattle.gix_odb_events.specs.Slots.{Slot, index_path}
 use Rattle.gix_odb_slots.specs.declared.index_key.IndexKey.{IndexKey}
 use Rattle.gix_odb_events.specs.declared.listing.ListingRow.{ListingRow}
-use Rattle.gix_odb_slots.specs.declared.slot.IndexFile.{IndexFile}
-use Rattle.gix_odb_slots.specs.declared.slot.IndexFile.TheVariants.{Single, Multi}
+use Rattle.gix_odb_events.specs.declared.slot.IndexFile.{IndexFile}
+use Rattle.gix_odb_events.specs.declared.slot.IndexFile.TheVariants.{Single, Multi}
 
 -- the time of a multi-pack index; another index has none
 abbrev pub row_time : Option (List ℕ) → ℕ → Option ℕ

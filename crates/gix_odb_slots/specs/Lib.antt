@@ -2,11 +2,11 @@ pub use Rattle.gix_odb_events.specs.PackId
 pub use Rattle.gix_odb_events.specs.OnDiskFile
 pub use Rattle.gix_odb_events.specs.PackPath
 pub use Rattle.gix_odb_events.specs.PackFiles
-pub mod Slots
+pub use Rattle.gix_odb_events.specs.Slots
+pub use Rattle.gix_odb_events.specs.Shown
 pub mod Publish
 pub mod IndexKeys
 pub mod Files
-pub mod Shown
 pub mod Counts
 pub mod Tally
 pub mod Kept

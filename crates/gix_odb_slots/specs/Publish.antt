@@ -1,8 +1,8 @@
 -- What publishing a listing does to the slots and the list.
-use Rattle.std.specs.Prelude.{ℕ, ◌+◌, ◌-◌, Bool, true, false, ◌&&◌, ◌||◌, not, List, [], ◌∷◌, ◌++◌, length, map, filter, Some, None, max, nat_eq, slice_get, slice_set, unwrap_or, if◌then◌else◌}
+use Rattle.std.specs.Prelude.{ℕ, ◌+◌, ◌-◌, Bool, true, false, ◌&&◌, ◌||◌, not, List, [], ◌∷◌, ◌++◌, length, map, filter, Some, None, max, nat_eq, slice_set, if◌then◌else◌}
 use Rattle.std.specs.List.{list_any, filter_map, position, range_with_len, zip}
 use lib.Pointwise.{pointwise}
-use Rattle.gix_odb_slots.specs.Slots.{Slot, has_disposable, holds, new_filled, filled_put_back, filled_trashed}
+use Rattle.gix_odb_events.specs.Slots.{Slot, has_disposable, holds, slot_at, new_filled, filled_put_back, filled_trashed}
 use Rattle.gix_odb_events.specs.declared.listing.ListingRow.{ListingRow}
 
 -- ---- rows and slots
@@ -27,10 +27,6 @@ is_unsettled rows (Some filled) = not (is_kept rows (Some filled)) || has_dispos
 abbrev pub is_free : Bool → List ListingRow → Slot → Bool
 is_free stable rows None = true
 is_free stable rows (Some filled) = not stable && not (is_kept rows (Some filled))
-
--- what stands at a place; beyond the slots nothing does
-abbrev pub slot_at : List Slot → ℕ → Slot
-slot_at slots place = unwrap_or (slice_get slots place) None
 
 -- ---- which slot a new row takes
 

@@ -1,10 +1,9 @@
 -- How the counts over slots are summed up, a slot at a time.
-use Rattle.std.specs.Prelude.{ℕ, ◌+◌, ◌<◌, ◌^◌, ◌≤◌, List, [], ◌∷◌, length, count_by, sum_by, Some, None, if◌then◌else◌}
-use Rattle.gix_odb_slots.specs.Counts.{disposable_slot, is_index_loaded, loaded_packs}
-use Rattle.gix_odb_slots.specs.Publish.{slot_at}
-use Rattle.gix_odb_slots.specs.Slots.{Slot}
+use Rattle.std.specs.Prelude.{ℕ, ◌+◌, ◌<◌, ◌^◌, List, [], ◌∷◌, length, count_by, sum_by, Some, None, if◌then◌else◌}
+use Rattle.gix_odb_slots.specs.Counts.{disposable_slot, loaded_packs}
+use Rattle.gix_odb_events.specs.Slots.{Slot, is_index_loaded, slot_at}
 use Rattle.gix_odb_slots.specs.declared.counts.Tally.{Tally}
-use Rattle.gix_odb_slots.specs.declared.slot.Filled.{Filled}
+use Rattle.gix_odb_events.specs.declared.slot.Filled.{Filled}
 
 -- the counts over filled slots
 abbrev pub tally_of : List Filled → Tally
@@ -51,13 +50,3 @@ pub record IsSmall (tally : Tally) : Type 0 where
   pub open_indices : tally.open_indices < 2 ^ 64
   pub packs : tally.packs < 2 ^ 64
   pub open_packs : tally.open_packs < 2 ^ 64
-
--- ---- how many packs a slot has
-
--- how many packs a slot has at most: as many as a number of 32 bits tells, since a multi-pack index says so in its header
-abbrev pub IsFewPacks : Filled → Type 0
-IsFewPacks filled = length filled.packs ≤ 4294967296
-
-abbrev pub HasFewPacks : Slot → Type 0
-HasFewPacks None = Unit {0}
-HasFewPacks (Some filled) = IsFewPacks filled

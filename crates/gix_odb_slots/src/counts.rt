@@ -1,15 +1,11 @@
 //! Counts over slots.
 ghost use Rattle.std.specs.Prelude.{◌≡◌, ◌≤◌, All, is_none, length, count_by};
-ghost use Rattle.std.specs.List.{list_any};
-ghost use Rattle.gix_odb_slots.specs.Counts.{disposable_in, disposable_slot, is_index_loaded, is_multi, listed_in, loaded_packs};
-ghost use Rattle.gix_odb_events.specs.OnDiskFile.{is_disposable};
-ghost use Rattle.gix_odb_slots.specs.Publish.{slot_at};
-ghost use Rattle.gix_odb_slots.specs.Slots.{has_disposable, is_index_disposable};
-ghost use Rattle.gix_odb_slots.specs.Tally.{HasFewPacks, IsSmall, tally_of, with_filled, with_slot};
+ghost use Rattle.gix_odb_slots.specs.Counts.{disposable_in, disposable_slot, listed_in, loaded_packs};
+ghost use Rattle.gix_odb_events.specs.Slots.{is_index_loaded, is_multi, slot_at, has_disposable, is_index_disposable, HasFewPacks};
+ghost use Rattle.gix_odb_slots.specs.Tally.{IsSmall, tally_of, with_filled, with_slot};
 ghost use Rattle.gix_odb_events.specs.PackId.{most_slots};
 
-use crate::slot::{Filled, IndexFile, Slot};
-use gix_odb_events::PackFile;
+use gix_odb_events::{Filled, PackFile, SlotList};
 
 /// Counts over filled slots.
 #[derive(Clone, Copy)]
@@ -24,38 +20,6 @@ pub struct Tally {
     pub open_packs: usize,
 }
 
-impl IndexFile {
-    /// Whether its bytes are at hand.
-    pub(crate) fn is_loaded(&self) -> bool
-        ensures loaded { result ≡ is_index_loaded self.now }
-    {
-        match self {
-            IndexFile::Single(file) => file.is_loaded(),
-            IndexFile::Multi(file) => file.is_loaded(),
-        }
-    }
-
-    /// Whether it is garbage, or was missing.
-    fn is_disposable(&self) -> bool
-        ensures disposable { result ≡ is_index_disposable self.now }
-    {
-        match self {
-            IndexFile::Single(file) => file.is_disposable(),
-            IndexFile::Multi(file) => file.is_disposable(),
-        }
-    }
-
-    /// Whether it is a multi-pack index.
-    pub(crate) fn is_multi(&self) -> bool
-        ensures multi { result ≡ is_multi self.now }
-    {
-        match self {
-            IndexFile::Single(_) => false,
-            IndexFile::Multi(_) => true,
-        }
-    }
-}
-
 /// How many packs are loaded.
 fn loaded_packs(packs: &[PackFile]) -> usize
     ensures loaded { result ≡ loaded_packs packs.now }
@@ -68,22 +32,6 @@ fn loaded_packs(packs: &[PackFile]) -> usize
         }
     }
     loaded
-}
-
-/// Whether a pack is garbage, or was missing.
-fn is_any_disposable(packs: &[PackFile]) -> bool
-    ensures disposable { result ≡ list_any (λ pack. is_disposable pack.state) packs.now }
-{
-    packs.iter().any(|pack| pack.is_disposable())
-}
-
-impl Filled {
-    /// Whether one of its files is garbage, or was missing.
-    pub(crate) fn has_disposable(&self) -> bool
-        ensures disposable { result ≡ has_disposable self.now }
-    {
-        self.index.is_disposable() || is_any_disposable(self.packs.value().as_slice())
-    }
 }
 
 impl Tally {
@@ -103,7 +51,7 @@ impl Tally {
     }
 
     /// The slot at a place more, if it is filled.
-    fn with_place(self, slots: &[Slot], place: u16) -> Tally
+    fn with_place(self, slots: &SlotList, place: u16) -> Tally
         requires small { IsSmall (with_slot self (slot_at slots.now place)) }
         ensures tally { result ≡ with_slot self (slot_at slots.now place) }
     {
@@ -113,15 +61,22 @@ impl Tally {
         }
     }
 
-    /// A slot more, if one of its files is garbage, or was missing.
-    fn with_disposable(self, slot: &Slot) -> Tally
-        requires small { IsSmall (with_slot self (disposable_slot slot.now)) }
-        ensures tally { result ≡ with_slot self (disposable_slot slot.now) }
+    /// The slot at a place more, if one of its files is garbage, or was missing.
+    fn with_disposable(self, slots: &SlotList, place: usize) -> Tally
+        requires small { IsSmall (with_slot self (disposable_slot (slot_at slots.now place))) }
+        ensures tally { result ≡ with_slot self (disposable_slot (slot_at slots.now place)) }
     {
-        let Some(filled) = slot else {
-            return self;
-        };
-        let filled = filled.value();
+        match slots.get(place) {
+            Some(Some(filled)) => self.with_filled_if_disposable(filled.value()),
+            _ => self,
+        }
+    }
+
+    /// A filled slot more, if one of its files is garbage, or was missing.
+    fn with_filled_if_disposable(self, filled: &Filled) -> Tally
+        requires small { IsSmall (with_slot self (disposable_slot (Some filled.now))) }
+        ensures tally { result ≡ with_slot self (disposable_slot (Some filled.now)) }
+    {
         if filled.has_disposable() {
             self.with_filled(filled)
         } else {
@@ -139,7 +94,7 @@ const NO_TALLY: Tally = Tally {
 };
 
 /// Counts over the listed slots. A slot that is listed twice counts twice.
-pub fn listed_tally(slots: &[Slot], list: &[u16]) -> Tally
+pub fn listed_tally(slots: &SlotList, list: &[u16]) -> Tally
     requires packs { All HasFewPacks slots.now }
     requires short { length list.now ≤ most_slots }
     ensures tally { result ≡ tally_of (listed_in slots.now list.now) }
@@ -152,25 +107,32 @@ pub fn listed_tally(slots: &[Slot], list: &[u16]) -> Tally
 }
 
 /// Counts over the filled slots with a file that is garbage, or was missing.
-pub fn disposable_tally(slots: &[Slot]) -> Tally
+pub fn disposable_tally(slots: &SlotList) -> Tally
     requires packs { All HasFewPacks slots.now }
     requires few { length slots.now ≤ most_slots }
     ensures tally { result ≡ tally_of (disposable_in slots.now) }
 {
     let mut tally = NO_TALLY;
-    for slot in slots {
-        tally = tally.with_disposable(slot);
+    for place in 0..slots.len() {
+        tally = tally.with_disposable(slots, place);
     }
     tally
 }
 
+/// Whether the slot at a place is empty.
+fn is_empty(slots: &SlotList, place: usize) -> bool
+    ensures empty { result ≡ is_none (slot_at slots.now place) }
+{
+    !matches!(slots.get(place), Some(Some(_)))
+}
+
 /// How many slots are empty.
-pub fn count_unused(slots: &[Slot]) -> usize
+pub fn count_unused(slots: &SlotList) -> usize
     ensures unused { result ≡ count_by is_none slots.now }
 {
     let mut unused = 0;
-    for slot in slots {
-        if slot.is_none() {
+    for place in 0..slots.len() {
+        if is_empty(slots, place) {
             unused += 1;
         }
     }

@@ -5,10 +5,9 @@ ghost use Rattle.std.specs.BTreeMap.{get};
 ghost use Rattle.std.specs.BTreeSet.{contains};
 ghost use Rattle.gix_odb_slots.specs.IndexKeys.{index_time, key_cmp, row_has, row_time, slot_has};
 ghost use Rattle.gix_odb_slots.specs.Publish.{is_kept};
-ghost use Rattle.gix_odb_slots.specs.Slots.{holds, index_path};
+ghost use Rattle.gix_odb_events.specs.Slots.{holds, index_path};
 
-use crate::slot::{Filled, IndexFile, Slot};
-use gix_odb_events::ListingRow;
+use gix_odb_events::{Filled, IndexFile, ListingRow, Slot};
 use odb_base::{NoMemory, PathText};
 use std::alloc::Global;
 use std::collections::{BTreeMap, BTreeSet};

@@ -1,12 +1,11 @@
 //! The rows of a listing beside slots: which slots a row keeps, and which slot holds each row.
 ghost use Rattle.std.specs.Prelude.{◌≡◌, ◌<◌, IfOk, get_or, length, map};
 ghost use Rattle.std.specs.List.{position};
-ghost use Rattle.gix_odb_slots.specs.Publish.{is_kept, is_new, slot_at};
-ghost use Rattle.gix_odb_slots.specs.Slots.{holds};
+ghost use Rattle.gix_odb_slots.specs.Publish.{is_kept, is_new};
+ghost use Rattle.gix_odb_events.specs.Slots.{slot_at, holds};
 
 use crate::index_key::{kept_slots, places_of_rows};
-use crate::slot::Slot;
-use gix_odb_events::ListingRow;
+use gix_odb_events::{ListingRow, Slot};
 use odb_base::NoMemory;
 use std::alloc::Global;
 

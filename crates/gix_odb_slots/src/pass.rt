@@ -2,12 +2,12 @@
 ghost use Rattle.std.specs.Prelude.{◌≡◌, IfOk, map};
 ghost use Rattle.std.specs.List.{list_any};
 ghost use Rattle.gix_odb_events.specs.OnDiskFile.{file_path, file_state, file_at, passed};
-ghost use Rattle.gix_odb_slots.specs.Publish.{slot_at};
+ghost use Rattle.gix_odb_events.specs.Slots.{slot_at};
 ghost use Rattle.gix_odb_slots.specs.Files.{index_passed, index_turns_missing, passed_at, slot_passed, slot_turns_missing, turns_missing};
 
-use crate::slot::{Filled, IndexFile, Slot};
-use crate::{OnDiskFile, Shared};
-use gix_odb_events::{FileState, PackFile, PackFileList};
+use gix_odb_events::{
+    FileState, Filled, IndexFile, OnDiskFile, PackFile, PackFileList, Shared, Slot, SlotList,
+};
 use odb_base::{NoMemory, PathText};
 use std::alloc::Global;
 
@@ -34,7 +34,7 @@ fn is_any_turning_missing(path: &PathText, packs: &[PackFile]) -> bool
 }
 
 /// Whether a file of the slot at a place turns missing once a path is passed over. Where none does, the slots stay as they are.
-pub fn slot_turns_missing(path: &PathText, slots: &[Slot], place: usize) -> bool
+pub fn slot_turns_missing(path: &PathText, slots: &SlotList, place: usize) -> bool
     ensures missing { result ≡ slot_turns_missing path.now (slot_at slots.now place) }
 {
     match slots.get(place) {
@@ -101,7 +101,7 @@ fn filled_passed(alloc: Global, path: &PathText, filled: &Filled) -> Result<Fill
 pub fn slot_passed(
     alloc: Global,
     path: &PathText,
-    slots: &[Slot],
+    slots: &SlotList,
     place: usize,
 ) -> Result<Slot, NoMemory>
     ensures slot { IfOk result (λ slot. slot ≡ slot_passed path.now (slot_at slots.now place)) }

@@ -5,14 +5,13 @@
 ghost use Rattle.std.specs.Prelude.{◌≡◌, ◌≤◌, ◌<◌, ◌-◌, ◌++◌, ◌∷◌, [], IfOk, OnOk, All, Some, drop, is_none, is_some, length, map, filter, take, if◌then◌else◌};
 ghost use Rattle.std.specs.Option.{ForSome, option_to_list};
 ghost use Rattle.std.specs.List.{filter_map, list_any, range_with_len, zip};
-ghost use Rattle.gix_odb_slots.specs.Tally.{HasFewPacks};
-ghost use Rattle.gix_odb_slots.specs.Publish.{free_places, is_free, is_unsettled, list_after, new_rows, place_after, settled, slot_at, slots_after, taken, with_taken};
+ghost use Rattle.gix_odb_events.specs.Slots.{HasFewPacks, slot_at};
+ghost use Rattle.gix_odb_slots.specs.Publish.{free_places, is_free, is_unsettled, list_after, new_rows, place_after, settled, slots_after, taken, with_taken};
 ghost use Rattle.gix_odb_events.specs.PackId.{most_slots};
 
+use crate::Matched;
 use crate::index_key::places_of_rows;
-use crate::slot::{Filled, Slot, SlotList};
-use crate::{Matched, Shared};
-use gix_odb_events::ListingRow;
+use gix_odb_events::{Filled, ListingRow, Shared, Slot};
 use odb_base::{NoMemory, Sequence};
 use std::alloc::Global;
 
@@ -275,7 +274,7 @@ pub fn slots_after(
     stable: bool,
     matched: &Matched,
     free: &[usize],
-) -> Result<SlotList, NoMemory>
+) -> Result<Sequence<Slot>, NoMemory>
     requires within { All (λ place. place < length matched.now.slots.now) free.now }
     requires packs { All HasFewPacks matched.now.slots.now }
     ensures packs { IfOk result (All HasFewPacks) }

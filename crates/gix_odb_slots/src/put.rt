@@ -1,12 +1,12 @@
 //! Files that were read: which slots take them.
 ghost use Rattle.std.specs.Prelude.{◌≡◌, ◌<◌, ◌+◌, IfOk, Some, map, slice_set};
 ghost use Rattle.std.specs.List.{list_any};
-ghost use Rattle.gix_odb_slots.specs.Publish.{slot_at};
+ghost use Rattle.gix_odb_events.specs.Slots.{slot_at};
 ghost use Rattle.gix_odb_slots.specs.Files.{index_with, slot_with_index, slot_with_pack, stored_at, takes};
 
-use crate::slot::{Filled, IndexFile, Slot};
-use crate::{OnDiskFile, Shared};
-use gix_odb_events::{FileState, PackFile, PackFileList};
+use gix_odb_events::{
+    FileState, Filled, IndexFile, OnDiskFile, PackFile, PackFileList, Shared, SlotList,
+};
 use gix_pack_files::{data, index};
 use odb_base::{NoMemory, PathText};
 use std::alloc::Global;
@@ -60,7 +60,7 @@ fn filled_with_index(
 pub fn slot_with_index(
     path: &PathText,
     read: &Shared<index::File>,
-    slots: &[Slot],
+    slots: &SlotList,
     place: usize,
 ) -> Result<Option<Filled>, NoMemory>
     ensures filled { IfOk result (λ stored. stored ≡ slot_with_index path.now read.now (slot_at slots.now place)) }
@@ -154,7 +154,7 @@ pub fn slot_with_pack(
     alloc: Global,
     path: &PathText,
     read: &Shared<data::File>,
-    slots: &[Slot],
+    slots: &SlotList,
     place: usize,
 ) -> Result<Option<Filled>, NoMemory>
     ensures filled { IfOk result (λ stored. stored ≡ slot_with_pack path.now read.now (slot_at slots.now place)) }

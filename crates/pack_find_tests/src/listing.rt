@@ -116,7 +116,7 @@ pub fn put_order(
 
 fn put_published(text: &mut Text, answer: &Result<Effect, Refusal>) {
     match answer {
-        Ok(Effect::Published(view)) => put_todo(text, view.todo.value().as_slice()),
+        Ok(Effect::Published(view)) => put_todo(text, view.todo.rest()),
         Ok(_) => text.next("another answer"),
         Err(refusal) => put_refusal(text, *refusal),
     }

@@ -1,8 +1,8 @@
 //! Calls, events and ends as words.
 use crate::text::Text;
-use gix_odb_core::{Event, ListingRow, PassWhy, Refusal, Todo};
+use gix_odb_core::{Event, ListingRow, PassWhy, Refusal, Todo, TodoRest};
 use gix_odb_packs::{Error, Found, Notes, Tried};
-use odb_base::PathText;
+use odb_base::{NoMemory, PathText};
 use odb_disk::DiskAsk;
 use std::str;
 
@@ -67,12 +67,23 @@ pub fn put_rows(text: &mut Text, rows: &[ListingRow]) {
 }
 
 /// Puts indices that are still to be loaded behind a text, each with its slot.
-pub fn put_todo(text: &mut Text, todo: &[Todo]) {
+pub fn put_todo(text: &mut Text, rest: Result<TodoRest, NoMemory>) {
     text.next("todo");
-    for todo in todo {
-        text.marked(" ", u64::from(todo.slot));
-        text.path(":", todo.path.value());
+    let Ok(mut rest) = rest else {
+        return;
+    };
+    // No test has more than a hundred.
+    for _ in 0..100 {
+        put_unloaded(text, rest.pop());
     }
+}
+
+fn put_unloaded(text: &mut Text, todo: Result<Option<Todo>, NoMemory>) {
+    let Ok(Some(todo)) = todo else {
+        return;
+    };
+    text.marked(" ", u64::from(todo.slot));
+    text.path(":", todo.path.value());
 }
 
 /// Puts a refusal of the core behind a text.

@@ -5,7 +5,7 @@ use crate::shown::{put_ask, put_end, put_event};
 use crate::text::Text;
 use crate::words::cut;
 use gix_odb_core::{Core, View};
-use gix_odb_packs::{Answer, Goal, Notes, PartAsk, Rest, Tried, Trier, Wanted};
+use gix_odb_packs::{Answer, Goal, Notes, PartAsk, Tried, Trier, Wanted};
 use odb_base::NoMemory;
 use odb_disk::MemDisk;
 use std::alloc::Global;
@@ -89,10 +89,10 @@ fn finish(
 
 /// Begins with what a core shows.
 fn begun(alloc: Global, view: &View, goal: Goal) -> Result<Tried, NoMemory> {
-    let indices = view.snapshot.indices.try_clone()?;
-    let todo = view.todo.try_clone()?;
+    let indices = view.snapshot.indices.rest()?;
+    let todo = view.todo.rest()?;
     let notes = Notes::new(alloc);
-    Trier::start(alloc, goal, Rest::all(indices), Rest::all(todo), notes)
+    Trier::start(alloc, goal, indices, todo, notes)
 }
 
 /// Puts the calls, the events and the end of a search behind a text.

@@ -1,8 +1,8 @@
 -- What a core answers: of which kind, and with which number of the list.
 use Rattle.std.proofs.Common.{◌≡◌, ℕ, ◌+◌, ◌≤◌, Bool, true, false, cond, ◌==◌, List, Option, Some, None, Ok, Err, refl, sym, ap}
 use Rattle.gix_odb_slots.specs.Files.{slot_with_index, slot_with_pack}
-use Rattle.gix_odb_slots.specs.Publish.{slot_at}
-use Rattle.gix_odb_slots.specs.declared.slot.Filled.{Filled}
+use Rattle.gix_odb_events.specs.Slots.{slot_at}
+use Rattle.gix_odb_events.specs.declared.slot.Filled.{Filled}
 use Rattle.gix_odb_events.specs.Answers as core
 use Rattle.gix_odb_core.specs.Replay.{answer_of, publish_answer, put_answer}
 use Rattle.gix_odb_core.specs.Steps.{Publishing, Outdated, TooFew, Overflows, Unchanged, Published, after, publishing}

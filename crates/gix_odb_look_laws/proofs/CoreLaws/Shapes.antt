@@ -7,15 +7,15 @@ use Rattle.std.proofs.lemmas.List.Elements.{All-contains}
 use Rattle.std.proofs.lemmas.Map.Steps.{length-le_from_distinct_below}
 use Rattle.std.proofs.lemmas.Map.Views.{Contains-from_any}
 use Rattle.gix_odb_slots.specs.Files.{slot_with_index, slot_with_pack}
-use Rattle.gix_odb_slots.specs.Publish.{free_places, list_after, new_rows, slot_at, slots_after, taken}
-use Rattle.gix_odb_slots.specs.Shown.{loaded_index, shown_indices, shown_slot, shown_todo, todo_of, unloaded_slot}
-use Rattle.gix_odb_slots.specs.Slots.{Slot, index_path}
+use Rattle.gix_odb_slots.specs.Publish.{free_places, list_after, new_rows, slots_after, taken}
+use Rattle.gix_odb_events.specs.Slots.{slot_at, Slot, index_path}
+use Rattle.gix_odb_events.specs.Shown.{loaded_index, shown_indices, shown_slot, shown_todo, todo_of, unloaded_slot}
 use Rattle.gix_odb_events.specs.declared.listing.Listing.{Listing}
 use Rattle.gix_odb_events.specs.declared.listing.ListingRow.{ListingRow}
 use Rattle.gix_odb_events.specs.declared.loaded.LoadedIndex.{LoadedIndex}
 use Rattle.gix_odb_events.specs.declared.loaded.SnapshotIndex.{SnapshotIndex}
 use Rattle.gix_odb_events.specs.declared.loaded.Todo.{Todo}
-use Rattle.gix_odb_slots.specs.declared.slot.Filled.{Filled}
+use Rattle.gix_odb_events.specs.declared.slot.Filled.{Filled}
 use Rattle.gix_odb_slots.proofs.SlotsAfterLemmas.{filled_within}
 use Rattle.gix_odb_core.specs.Handles.{is_any_stable}
 use Rattle.gix_odb_core.specs.Replay.{after_answer, after_entry, replay}

@@ -8,8 +8,8 @@ use super::{LookHead, LookStage, LooseRound, Part, Purpose, Setting};
 use crate::load_index::of_refusal;
 use gix_odb_calls::verdict::{Verdict, folder_call};
 use gix_odb_calls::{CallError, Query, Reply, find, load_index};
-use gix_odb_events::{Shared, Todo, TodoList, View};
-use gix_odb_packs::{self as packs, Found, Goal, Lister, Notes, Rest, Tried, Trier, Wanted};
+use gix_odb_events::{TodoRest, View};
+use gix_odb_packs::{self as packs, Found, Goal, Lister, Notes, Tried, Trier, Wanted};
 use odb_base::{NoMemory, PathText};
 use std::alloc::Global;
 
@@ -215,7 +215,7 @@ pub(super) fn try_view(
 ) -> Result<LookStage, NoMemory>
     ensures tries { IfOk result (λ stage. stage ≡ order.try_view (setting_of setting.now) head part view.now view.now.todo notes) }
 {
-    let todo = Rest::all(view.todo.try_clone()?);
+    let todo = view.todo.rest()?;
     try_lists(alloc, setting, head, part, view, todo, notes)
 }
 
@@ -229,7 +229,7 @@ pub(super) fn try_snapshot(
 ) -> Result<LookStage, NoMemory>
     ensures tries { IfOk result (λ stage. stage ≡ order.try_view (setting_of setting.now) head Part.Snapshot view.now [] notes) }
 {
-    let none = Rest::all(Shared::new(alloc, TodoList::new(alloc))?);
+    let none = view.todo.end()?;
     try_lists(alloc, setting, head, Part::Snapshot, view, none, notes)
 }
 
@@ -239,12 +239,12 @@ fn try_lists(
     head: LookHead,
     part: Part,
     view: &View,
-    todo: Rest<Todo>,
+    todo: TodoRest,
     notes: Notes,
 ) -> Result<LookStage, NoMemory>
     ensures tries { IfOk result (λ stage. stage ≡ order.try_view (setting_of setting.now) head part view.now todo notes) }
 {
-    let indices = Rest::all(view.snapshot.indices.try_clone()?);
+    let indices = view.snapshot.indices.rest()?;
     let tried = Trier::start(alloc, head.goal(setting), indices, todo, notes)?;
     by_tried(alloc, setting, head, part, tried)
 }

@@ -1,13 +1,14 @@
 //! What the core made of a file that was tried.
-ghost use Rattle.std.specs.Prelude.{◌≡◌, IfOk, false, true};
+ghost use Rattle.std.specs.Prelude.{◌≡◌, IfOk, false, true, unwrap_or};
 ghost use Rattle.std.specs.Option.{option_copied};
 ghost use Rattle.std.specs.List.{find};
-ghost use Rattle.gix_odb_packs.specs.TryOrder.{by_given, index_stored, is_at, own_index, pack_among, pack_behind, pack_in, pack_passed, pack_stored, search_stored, shown_behind};
+ghost use Rattle.gix_odb_packs.specs.TryOrder.{by_given, index_stored, is_at, own_index, pack_among, pack_behind, pack_in, pack_passed, pack_stored, search_stored, shown_behind, shown_or_own};
+ghost use Rattle.gix_odb_packs.specs.InSlot.{at_path, pack_of};
 
 use super::{Ahead, IndexPlace, Tried, at_search, seek};
 use crate::goal::{Error, Found, Goal};
 use crate::search::{Notes, Sought, WantedPack};
-use gix_odb_events::{Effect, LoadedIndex, PackFile, Shared, SnapshotIndex, packs_beside};
+use gix_odb_events::{Effect, LoadedIndex, PackFile, Shared, SnapshotIndex, View, packs_beside};
 use gix_pack_files::{data, index};
 use odb_base::NoMemory;
 use std::alloc::Global;
@@ -19,26 +20,45 @@ fn is_at(place: &IndexPlace, shown: &SnapshotIndex) -> bool
     shown.slot == place.slot && *shown.path.value() == place.path
 }
 
-/// The index of a slot and a path, among those that are shown.
-fn shown_among<'a>(place: &IndexPlace, shown: &'a [SnapshotIndex]) -> Option<&'a SnapshotIndex>
-    ensures shown { option_copied result ≡ find (is_at place.now) shown.now }
+/// The index of a slot that is shown, where it stands at a path.
+fn at_path(place: &IndexPlace, shown: Option<SnapshotIndex>) -> Option<SnapshotIndex>
+    ensures at { result ≡ at_path place.now shown }
 {
-    for index in shown {
-        if is_at(place, index) {
-            return Some(index);
-        }
+    let index = shown?;
+    if is_at(place, &index) {
+        Some(index)
+    } else {
+        drop(index);
+        None
     }
-    None
+}
+
+/// The index of a slot and a path among those that are listed.
+fn listed_at(place: &IndexPlace, view: &View) -> Result<Option<SnapshotIndex>, NoMemory>
+    ensures listed { IfOk result (λ shown. shown ≡ find (is_at place.now) view.now.snapshot.indices) }
+{
+    let shown = view.snapshot.indices.in_slot(place.slot)?;
+    Ok(at_path(place, shown))
+}
+
+/// The index of a slot and a path among those that are kept.
+fn kept_at(place: &IndexPlace, view: &View) -> Result<Option<SnapshotIndex>, NoMemory>
+    ensures kept { IfOk result (λ shown. shown ≡ find (is_at place.now) view.now.snapshot.kept) }
+{
+    let shown = view.snapshot.kept.in_slot(place.slot)?;
+    Ok(at_path(place, shown))
 }
 
 /// The index of a slot and a path, as an effect shows it: listed, or else kept.
-fn shown_behind<'a>(place: &IndexPlace, effect: &'a Effect) -> Option<&'a SnapshotIndex>
-    ensures shown { option_copied result ≡ shown_behind place.now effect.now }
+fn shown_behind(place: &IndexPlace, effect: &Effect) -> Result<Option<SnapshotIndex>, NoMemory>
+    ensures shown { IfOk result (λ shown. shown ≡ shown_behind place.now effect.now) }
 {
-    let view = effect.view()?;
-    match shown_among(place, view.snapshot.indices.value().as_slice()) {
-        Some(index) => Some(index),
-        None => shown_among(place, view.snapshot.kept.value().as_slice()),
+    let Some(view) = effect.view() else {
+        return Ok(None);
+    };
+    match listed_at(place, view)? {
+        Some(index) => Ok(Some(index)),
+        None => kept_at(place, view),
     }
 }
 
@@ -60,6 +80,25 @@ fn own_index(
     })
 }
 
+/// An index that was read, as the core shows it, or else as it was read.
+fn shown_or_own(
+    alloc: Global,
+    place: IndexPlace,
+    file: Shared<index::File>,
+    effect: &Effect,
+) -> Result<SnapshotIndex, NoMemory>
+    ensures index { IfOk result (λ index. index ≡ shown_or_own place file (shown_behind place effect.now)) }
+{
+    match shown_behind(&place, effect)? {
+        Some(shown) => {
+            drop(place);
+            drop(file);
+            Ok(shown)
+        }
+        None => own_index(alloc, place, file),
+    }
+}
+
 /// The search in an index that was read, as the core shows it, or else as it was read.
 fn search_stored(
     alloc: Global,
@@ -71,19 +110,10 @@ fn search_stored(
 ) -> Result<Sought, NoMemory>
     ensures search { IfOk result (λ search. search ≡ search_stored goal notes.now place file effect.now) }
 {
-    match shown_behind(&place, effect) {
-        Some(shown) => {
-            drop(place);
-            drop(file);
-            goal.tried(alloc, notes, shown)
-        }
-        None => {
-            let own = own_index(alloc, place, file)?;
-            let found = goal.tried(alloc, notes, &own);
-            drop(own);
-            found
-        }
-    }
+    let index = shown_or_own(alloc, place, file, effect)?;
+    let found = goal.tried(alloc, notes, &index);
+    drop(index);
+    found
 }
 
 /// What it comes to that an index was stored, or that another file stands there.
@@ -128,26 +158,65 @@ fn pack_among<'a>(pack: &WantedPack, packs: &'a [PackFile]) -> Option<&'a Shared
     None
 }
 
-/// The pack as one of these indices shows it, where it is loaded.
-fn pack_in<'a>(pack: &WantedPack, shown: &'a [SnapshotIndex]) -> Option<&'a Shared<data::File>>
-    ensures pack { option_copied result ≡ pack_in pack.now shown.now }
+/// The pack as an index shows it, where it is loaded.
+fn pack_of(
+    pack: &WantedPack,
+    shown: &Option<SnapshotIndex>,
+) -> Result<Option<Shared<data::File>>, NoMemory>
+    ensures pack { IfOk result (λ file. file ≡ pack_of pack.now shown.now) }
 {
-    for index in shown {
-        if index.slot == pack.slot {
-            return pack_among(pack, index.packs.value().as_slice());
-        }
+    let Some(index) = shown else {
+        return Ok(None);
+    };
+    match pack_among(pack, index.packs.value().as_slice()) {
+        None => Ok(None),
+        Some(file) => Ok(Some(file.try_clone()?)),
     }
-    None
+}
+
+/// The pack by the index of its slot that is listed.
+fn listed_pack(pack: &WantedPack, view: &View) -> Result<Option<Shared<data::File>>, NoMemory>
+    ensures pack { IfOk result (λ file. file ≡ pack_in pack.now view.now.snapshot.indices) }
+{
+    let shown = view.snapshot.indices.in_slot(pack.slot)?;
+    pack_of(pack, &shown)
+}
+
+/// The pack by the index of its slot that is kept.
+fn kept_pack(pack: &WantedPack, view: &View) -> Result<Option<Shared<data::File>>, NoMemory>
+    ensures pack { IfOk result (λ file. file ≡ pack_in pack.now view.now.snapshot.kept) }
+{
+    let shown = view.snapshot.kept.in_slot(pack.slot)?;
+    pack_of(pack, &shown)
 }
 
 /// The pack as an effect shows it, by the index of its slot that is listed, or else by the one that is kept.
-fn pack_behind<'a>(pack: &WantedPack, effect: &'a Effect) -> Option<&'a Shared<data::File>>
-    ensures pack { option_copied result ≡ pack_behind pack.now effect.now }
+fn pack_behind(pack: &WantedPack, effect: &Effect) -> Result<Option<Shared<data::File>>, NoMemory>
+    ensures pack { IfOk result (λ file. file ≡ pack_behind pack.now effect.now) }
 {
-    let view = effect.view()?;
-    match pack_in(pack, view.snapshot.indices.value().as_slice()) {
-        Some(file) => Some(file),
-        None => pack_in(pack, view.snapshot.kept.value().as_slice()),
+    let Some(view) = effect.view() else {
+        return Ok(None);
+    };
+    match listed_pack(pack, view)? {
+        Some(file) => Ok(Some(file)),
+        None => kept_pack(pack, view),
+    }
+}
+
+/// The pack as an effect shows it, or else as it was read.
+fn pack_shown(
+    pack: &WantedPack,
+    file: Shared<data::File>,
+    effect: &Effect,
+) -> Result<Shared<data::File>, NoMemory>
+    ensures pack { IfOk result (λ shown. shown ≡ unwrap_or (pack_behind pack.now effect.now) file) }
+{
+    match pack_behind(pack, effect)? {
+        Some(shown) => {
+            drop(file);
+            Ok(shown)
+        }
+        None => Ok(file),
     }
 }
 
@@ -162,10 +231,12 @@ pub(super) fn pack_stored(
 ) -> Result<Tried, NoMemory>
     ensures stored { IfOk result (λ tried. tried ≡ pack_stored goal pack file effect.now) }
 {
-    let shown = pack_behind(&pack, effect).unwrap_or(&file);
-    let given = goal.given_by(alloc, shown.value(), pack.offset);
+    let offset = pack.offset;
+    let shown = pack_shown(&pack, file, effect);
     drop(pack);
-    drop(file);
+    let shown = shown?;
+    let given = goal.given_by(alloc, shown.value(), offset);
+    drop(shown);
     Ok(by_given(given?))
 }
 

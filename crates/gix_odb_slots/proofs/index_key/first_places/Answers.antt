@@ -1,6 +1,6 @@
 use Rattle.std.proofs.Common.{ap, ◌∙◌, arith}
 use Rattle.gix_odb_slots.specs.IndexKeys.{index_time}
-use Rattle.gix_odb_slots.specs.Slots.{index_path}
+use Rattle.gix_odb_events.specs.Slots.{index_path}
 use Rattle.gix_odb_slots.proofs.IndexKeysLemmas.{first_places-end, first_places-step}
 use Rattle.gix_odb_slots.proofs.index_key.first_places.Goals as goal
 

@@ -1,7 +1,7 @@
 use Rattle.std.proofs.Common.{ap, sym, ◌∙◌}
 use Rattle.gix_odb_slots.specs.IndexKeys.{index_time}
 use Rattle.gix_odb_slots.specs.Publish.{is_kept}
-use Rattle.gix_odb_slots.specs.Slots.{index_path}
+use Rattle.gix_odb_events.specs.Slots.{index_path}
 use Rattle.gix_odb_slots.proofs.IndexKeysLemmas.{kept_by_key, none_kept}
 use Rattle.gix_odb_slots.proofs.index_key.has_one_of.Goals as goal
 

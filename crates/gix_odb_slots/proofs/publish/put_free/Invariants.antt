@@ -1,6 +1,7 @@
 use Rattle.std.proofs.Common.{◌≡◌, ◌++◌, ◌-◌, ◌<◌, All, filter, length}
 use Rattle.std.specs.List.{range_with_len}
-use Rattle.gix_odb_slots.specs.Publish.{is_free, slot_at}
+use Rattle.gix_odb_slots.specs.Publish.{is_free}
+use Rattle.gix_odb_events.specs.Slots.{slot_at}
 use Rattle.gix_odb_slots.proofs.publish.put_free.Given as goal
 
 abbrev pub invariant-loop-place : goal.invariant-loop-place

@@ -1,6 +1,6 @@
 use Rattle.std.proofs.Common.{All, subst, sym}
 use Rattle.gix_odb_slots.proofs.FewPacksLemmas.{few-all_settled}
-use Rattle.gix_odb_slots.specs.Tally.{HasFewPacks}
+use Rattle.gix_odb_events.specs.Slots.{HasFewPacks}
 use Rattle.gix_odb_slots.proofs.publish.slots_after.Goals as goal
 
 pub take-requires-clause-packs : goal.take-requires-clause-packs

@@ -1,7 +1,7 @@
 use Rattle.std.proofs.Common.{◌≡◌, ◌<◌, All, drop, length}
 use Rattle.std.specs.List.{zip}
 use Rattle.gix_odb_slots.specs.Publish.{new_rows, with_taken}
-use Rattle.gix_odb_slots.specs.Tally.{HasFewPacks}
+use Rattle.gix_odb_events.specs.Slots.{HasFewPacks}
 use Rattle.gix_odb_slots.proofs.publish.take.Given as goal
 
 abbrev pub invariant-loop-place : goal.invariant-loop-place

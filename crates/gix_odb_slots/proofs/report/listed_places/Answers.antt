@@ -1,7 +1,6 @@
 use Rattle.std.specs.Option.{option_map}
 use Rattle.gix_odb_slots.proofs.LoopLemmas.{filter_map-numbers}
-use Rattle.gix_odb_slots.specs.Counts.{listed_of}
-use Rattle.gix_odb_slots.specs.Publish.{slot_at}
+use Rattle.gix_odb_events.specs.Slots.{listed_of, slot_at}
 use Rattle.gix_odb_slots.proofs.report.listed_places.Goals as goal
 
 pub loop-place-preserved : goal.loop-place-preserved

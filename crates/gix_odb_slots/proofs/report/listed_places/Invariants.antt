@@ -1,8 +1,7 @@
 use Rattle.std.proofs.Common.{◌≡◌, take}
 use Rattle.std.specs.Option.{option_map}
 use Rattle.std.specs.List.{filter_map}
-use Rattle.gix_odb_slots.specs.Counts.{listed_of}
-use Rattle.gix_odb_slots.specs.Publish.{slot_at}
+use Rattle.gix_odb_events.specs.Slots.{listed_of, slot_at}
 use Rattle.gix_odb_slots.proofs.report.listed_places.Given as goal
 
 abbrev pub invariant-loop-place : goal.invariant-loop-place

@@ -1,7 +1,6 @@
 use Rattle.std.proofs.Common.{◌∙◌}
 use Rattle.gix_odb_slots.proofs.LoopLemmas.{filter_map-option_map}
-use Rattle.gix_odb_slots.specs.Counts.{listed_of}
-use Rattle.gix_odb_slots.specs.Publish.{slot_at}
+use Rattle.gix_odb_events.specs.Slots.{listed_of, slot_at}
 use Rattle.gix_odb_slots.proofs.report.report_listed.Goals as goal
 
 pub returns : goal.returns

@@ -1,0 +1,144 @@
+//! What is shown of slots: the index of each, where its bytes are at hand, and else that it is still to be loaded.
+ghost use Rattle.std.specs.Prelude.{◌≡◌, ◌≤◌, IfOk, Some, drop, length};
+ghost use Rattle.gix_odb_events.specs.Shown.{first_of, is_index_loaded, loaded_index, shown_indices, shown_slot, shown_todo, unloaded_slot};
+ghost use Rattle.gix_odb_events.specs.Slots.{slot_at};
+
+use crate::loaded::{LoadedIndex, SnapshotIndex, Todo};
+use crate::slot::{Filled, IndexFile, Slot, SlotList};
+use odb_base::NoMemory;
+
+/// The index of a slot, where its bytes are at hand.
+fn loaded_index(index: &IndexFile) -> Result<Option<LoadedIndex>, NoMemory>
+    ensures loaded { IfOk result (λ shown. shown ≡ loaded_index index.now) }
+{
+    match index {
+        IndexFile::Single(file) => match file.loaded() {
+            None => Ok(None),
+            Some(bytes) => Ok(Some(LoadedIndex::Single(bytes.try_clone()?))),
+        },
+        IndexFile::Multi(file) => match file.loaded() {
+            None => Ok(None),
+            Some(bytes) => Ok(Some(LoadedIndex::Multi(bytes.try_clone()?))),
+        },
+    }
+}
+
+/// What a snapshot has of what a slot holds.
+fn shown_filled(place: u16, filled: &Filled) -> Result<Option<SnapshotIndex>, NoMemory>
+    ensures shown { IfOk result (λ shown. shown ≡ shown_slot place (Some filled.now)) }
+{
+    let Some(index) = loaded_index(&filled.index)? else {
+        return Ok(None);
+    };
+    let path = filled.index.shared_path()?;
+    let packs = filled.packs.try_clone()?;
+    Ok(Some(SnapshotIndex {
+        slot: place,
+        path,
+        index,
+        packs,
+    }))
+}
+
+/// What a snapshot has of a slot.
+fn shown_slot(place: u16, slot: &Slot) -> Result<Option<SnapshotIndex>, NoMemory>
+    ensures shown { IfOk result (λ shown. shown ≡ shown_slot place slot.now) }
+{
+    match slot {
+        None => Ok(None),
+        Some(filled) => shown_filled(place, filled.value()),
+    }
+}
+
+/// Whether the bytes of the index of a slot are at hand.
+fn is_loaded(index: &IndexFile) -> bool
+    ensures loaded { result ≡ is_index_loaded (loaded_index index.now) }
+{
+    match index {
+        IndexFile::Single(file) => file.loaded().is_some(),
+        IndexFile::Multi(file) => file.loaded().is_some(),
+    }
+}
+
+/// What is still to be loaded of what a slot holds.
+fn unloaded_filled(place: u16, filled: &Filled) -> Result<Option<Todo>, NoMemory>
+    ensures unloaded { IfOk result (λ unloaded. unloaded ≡ unloaded_slot place (Some filled.now)) }
+{
+    if is_loaded(&filled.index) {
+        return Ok(None);
+    }
+    Ok(Some(Todo {
+        slot: place,
+        path: filled.index.shared_path()?,
+    }))
+}
+
+/// What is still to be loaded of a slot.
+fn unloaded_slot(place: u16, slot: &Slot) -> Result<Option<Todo>, NoMemory>
+    ensures unloaded { IfOk result (λ unloaded. unloaded ≡ unloaded_slot place slot.now) }
+{
+    match slot {
+        None => Ok(None),
+        Some(filled) => unloaded_filled(place, filled.value()),
+    }
+}
+
+/// What a snapshot has of the slot at a place. Beyond the slots there is nothing.
+pub(crate) fn shown_at(slots: &SlotList, place: u16) -> Result<Option<SnapshotIndex>, NoMemory>
+    ensures shown { IfOk result (λ shown. shown ≡ shown_slot place (slot_at slots.now place)) }
+{
+    match slots.get(place as usize) {
+        None => Ok(None),
+        Some(slot) => shown_slot(place, slot),
+    }
+}
+
+/// What is still to be loaded of the slot at a place. Beyond the slots there is nothing.
+fn unloaded_at(slots: &SlotList, place: u16) -> Result<Option<Todo>, NoMemory>
+    ensures unloaded { IfOk result (λ unloaded. unloaded ≡ unloaded_slot place (slot_at slots.now place)) }
+{
+    match slots.get(place as usize) {
+        None => Ok(None),
+        Some(slot) => unloaded_slot(place, slot),
+    }
+}
+
+/// The first loaded index of a list, and how many of its places are gone through then.
+pub(crate) fn first_shown(
+    slots: &SlotList,
+    places: &[u16],
+) -> Result<(Option<SnapshotIndex>, usize), NoMemory>
+    ensures first { IfOk result (λ found. found.0 ≡ first_of (shown_indices slots.now places.now)) }
+    ensures rest { IfOk result (λ found. shown_indices slots.now (drop found.1 places.now) ≡ drop 1 (shown_indices slots.now places.now)) }
+    ensures within { IfOk result (λ found. found.1 ≤ length places.now) }
+{
+    let mut gone = 0;
+    while gone < places.len() {
+        let place = places[gone];
+        gone += 1;
+        if let Some(index) = shown_at(slots, place)? {
+            return Ok((Some(index), gone));
+        }
+    }
+    Ok((None, gone))
+}
+
+/// The first index of a list that is still to be loaded, and how many of its places are gone through then.
+pub(crate) fn first_unloaded(
+    slots: &SlotList,
+    places: &[u16],
+) -> Result<(Option<Todo>, usize), NoMemory>
+    ensures first { IfOk result (λ found. found.0 ≡ first_of (shown_todo slots.now places.now)) }
+    ensures rest { IfOk result (λ found. shown_todo slots.now (drop found.1 places.now) ≡ drop 1 (shown_todo slots.now places.now)) }
+    ensures within { IfOk result (λ found. found.1 ≤ length places.now) }
+{
+    let mut gone = 0;
+    while gone < places.len() {
+        let place = places[gone];
+        gone += 1;
+        if let Some(todo) = unloaded_at(slots, place)? {
+            return Ok((Some(todo), gone));
+        }
+    }
+    Ok((None, gone))
+}

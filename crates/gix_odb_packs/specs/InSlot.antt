@@ -1,0 +1,18 @@
+-- What the index that a view shows of a slot tells of a path. No public clause cites this.
+use Rattle.std.specs.Prelude.{Option, Some, None, if◌then◌else◌}
+use Rattle.gix_pack_files.specs.FileBytes.{FileBytes}
+use Rattle.gix_odb_events.specs.declared.loaded.SnapshotIndex.{SnapshotIndex}
+use Rattle.gix_odb_packs.specs.TryOrder.Index.{is_at}
+use Rattle.gix_odb_packs.specs.TryOrder.Pack.{pack_among}
+use Rattle.gix_odb_packs.specs.declared.search.WantedPack.{WantedPack}
+use Rattle.gix_odb_packs.specs.declared.trier.IndexPlace.{IndexPlace}
+
+-- the index, where it stands at the path
+abbrev pub at_path : IndexPlace → Option SnapshotIndex → Option SnapshotIndex
+at_path place None = None
+at_path place (Some shown) = if is_at place shown then Some shown else None
+
+-- the pack among those of the index, where it is loaded
+abbrev pub pack_of : WantedPack → Option SnapshotIndex → Option FileBytes
+pack_of pack None = None
+pack_of pack (Some shown) = pack_among pack shown.packs

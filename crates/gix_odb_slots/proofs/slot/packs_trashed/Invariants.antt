@@ -1,6 +1,0 @@
-use Rattle.std.proofs.Common.{◌≡◌, map, take}
-use Rattle.gix_odb_events.specs.OnDiskFile.{trashed, with_state}
-use Rattle.gix_odb_slots.proofs.slot.packs_trashed.Given as goal
-
-abbrev pub invariant-loop-pack : goal.invariant-loop-pack
-invariant-loop-pack l = l.copies ≡ map (with_state trashed) (take l.pack-index l.pack-items)

@@ -1,0 +1,2 @@
+-- Lists in blocks.
+pub mod Blocks

@@ -1,0 +1,218 @@
+//! Lists of places whose copies share what they have in common.
+ghost use Rattle.std.specs.Prelude.{◌≡◌, ◌/◌, IfOk, None, OnOk, ◌++◌, length, replicate, slice_get, slice_set};
+ghost use Rattle.std.specs.Option.{option_copied};
+
+use crate::Shared;
+use crate::filling::Filling;
+use odb_base::{NoMemory, Sequence};
+use std::alloc::Global;
+use std::marker::Model;
+
+/// How many places a block has, if it is not the last.
+pub(crate) const WIDTH: usize = 64;
+
+/// A place: it is empty, or has a value.
+pub(crate) type Place<T> = Option<Shared<T>>;
+
+/// Places that stand beside each other.
+pub(crate) type Block<T> = Sequence<Place<T>>;
+
+/// Blocks, all full but perhaps the last.
+pub(crate) type Blocks<T> = Sequence<Shared<Block<T>>>;
+
+/// A list of places, each empty or with a value, whose copies share what they have in common.
+///
+/// The places stand in blocks, all full but perhaps the last. A copy takes one further owner. A list with another item at one
+/// place has a block of its own there, and shares the others.
+#[derive(Drop)]
+pub struct SharedList<T> {
+    blocks: Shared<Blocks<T>>,
+    len: usize,
+}
+
+impl<T> Model for SharedList<T> {
+    ghost use Rattle.std.specs.Prelude.{◌≡◌, List, Option, length};
+    ghost use Rattle.std.specs.Coded.{coded_list, coded_option};
+    ghost use Rattle.odb_shared.specs.Blocks.{AreFilled, joined};
+
+    ghost Value = { List (Option T) };
+
+    ghost coded = { coded_list (coded_option T.code) };
+
+    ghost view = { λ list. joined list.blocks };
+
+    ghost invariant = { λ list. AreFilled 64 list.blocks × (list.len ≡ length (joined list.blocks)) };
+}
+
+impl<T> SharedList<T> {
+    /// How many places there are.
+    pub fn len(&self) -> usize
+        ensures len { result ≡ length self.now }
+    {
+        self.len
+    }
+
+    /// The place under a number, counted from 0, if there is one.
+    pub fn get(&self, place: usize) -> Option<&Option<Shared<T>>>
+        ensures item { option_copied result ≡ slice_get self.now place }
+    {
+        match block_at(&self.blocks, place) {
+            None => None,
+            Some(block) => block.get(place % WIDTH),
+        }
+    }
+
+    /// A copy, which shares all.
+    pub fn try_clone(&self) -> Result<SharedList<T>, NoMemory>
+        ensures copy { IfOk result (λ copy. copy ≡ self.now) }
+    {
+        let blocks = self.blocks.try_clone()?;
+        Ok(SharedList {
+            blocks,
+            len: self.len,
+        })
+    }
+}
+
+impl<T: Drop> SharedList<T> {
+    /// So many empty places.
+    pub fn empty(alloc: Global, count: usize) -> Result<SharedList<T>, NoMemory>
+        ensures items { IfOk result (λ list. list ≡ replicate count None) }
+    {
+        let mut filling = Filling::new(alloc);
+        for _ in 0..count {
+            filling.push(alloc, None)?;
+        }
+        let blocks = filling.finish(alloc)?;
+        Ok(SharedList { blocks, len: count })
+    }
+
+    /// The items of a vector.
+    pub fn from_vec(alloc: Global, items: Vec<Option<Shared<T>>>) -> Result<SharedList<T>, NoMemory>
+        ensures items { IfOk result (λ list. list ≡ items.items) }
+    {
+        let len = items.len();
+        let mut filling = Filling::new(alloc);
+        for item in items {
+            filling.push(alloc, item)?;
+        }
+        let blocks = filling.finish(alloc)?;
+        Ok(SharedList { blocks, len })
+    }
+
+    /// The same list, with another item at one place. Beyond the list nothing changes.
+    pub fn with(
+        &self,
+        alloc: Global,
+        place: usize,
+        item: Option<Shared<T>>,
+    ) -> Result<SharedList<T>, NoMemory>
+        ensures items { IfOk result (λ list. list ≡ slice_set self.now place item) }
+    {
+        match block_at(&self.blocks, place) {
+            None => self.try_clone(),
+            Some(block) => {
+                let block = block_with(alloc, block, place % WIDTH, item)?;
+                let blocks = blocks_with(alloc, &self.blocks, place / WIDTH, block)?;
+                Ok(SharedList {
+                    blocks,
+                    len: self.len,
+                })
+            }
+        }
+    }
+
+    /// The places in a vector of their own.
+    pub fn to_vec(&self, alloc: Global) -> Result<Vec<Option<Shared<T>>>, NoMemory>
+        ensures items { IfOk result (λ items. items.items ≡ self.now) }
+    {
+        let mut items = Vec::with_capacity(alloc, self.len)?;
+        for block in self.blocks.value().as_slice() {
+            append(&mut items, block.value())?;
+        }
+        Ok(items)
+    }
+}
+
+/// The block that a place is in, if there is one.
+fn block_at<T>(blocks: &Shared<Blocks<T>>, place: usize) -> Option<&Block<T>>
+    ensures block { option_copied result ≡ slice_get blocks.now (place / 64) }
+{
+    match blocks.value().get(place / WIDTH) {
+        None => None,
+        Some(block) => Some(block.value()),
+    }
+}
+
+/// A block with another item at one place.
+fn block_with<T: Drop>(
+    alloc: Global,
+    block: &Block<T>,
+    place: usize,
+    item: Place<T>,
+) -> Result<Shared<Block<T>>, NoMemory>
+    ensures items { IfOk result (λ copy. copy ≡ slice_set block.now place item) }
+{
+    let mut items = Vec::with_capacity(alloc, block.len())?;
+    append(&mut items, block)?;
+    put(&mut items, place, item);
+    Shared::new(alloc, Sequence::from_vec(items))
+}
+
+/// A list of blocks with another one under one number.
+fn blocks_with<T: Drop>(
+    alloc: Global,
+    blocks: &Shared<Blocks<T>>,
+    number: usize,
+    block: Shared<Block<T>>,
+) -> Result<Shared<Blocks<T>>, NoMemory>
+    ensures blocks { IfOk result (λ copy. copy ≡ slice_set blocks.now number block) }
+{
+    let blocks = blocks.value();
+    let mut copies = Vec::with_capacity(alloc, blocks.len())?;
+    append_blocks(&mut copies, blocks)?;
+    put(&mut copies, number, block);
+    Shared::new(alloc, Sequence::from_vec(copies))
+}
+
+/// Adds the places of a block, which have one owner more.
+fn append<T: Drop>(items: &mut Vec<Place<T>>, block: &Block<T>) -> Result<(), NoMemory>
+    ensures items { OnOk result (items.new.items ≡ items.old.items ++ block.now) }
+{
+    for item in block.as_slice() {
+        items.push(another_owner(item)?)?;
+    }
+    Ok(())
+}
+
+/// Adds blocks, which have one owner more.
+fn append_blocks<T: Drop>(
+    items: &mut Vec<Shared<Block<T>>>,
+    blocks: &Blocks<T>,
+) -> Result<(), NoMemory>
+    ensures blocks { OnOk result (items.new.items ≡ items.old.items ++ blocks.now) }
+{
+    for block in blocks.as_slice() {
+        items.push(block.try_clone()?)?;
+    }
+    Ok(())
+}
+
+/// The same place, whose value has one owner more.
+fn another_owner<T>(item: &Place<T>) -> Result<Place<T>, NoMemory>
+    ensures item { IfOk result (λ copy. copy ≡ item.now) }
+{
+    match item {
+        None => Ok(None),
+        Some(value) => Ok(Some(value.try_clone()?)),
+    }
+}
+
+/// Puts an item at a place, if there is that place.
+fn put<X: Drop>(items: &mut Vec<X>, place: usize, item: X)
+    ensures items { items.new.items ≡ slice_set items.old.items place item }
+{
+    if place < items.len() {
+        items[place] = item;
+    }
+}
