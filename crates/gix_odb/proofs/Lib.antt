@@ -1,4 +1,5 @@
 -- Laws of openings that other crates may cite; and the lemmas of this crate.
+pub mod AskLaws
 pub mod OpenLaws
 mod SlotsLemmas
 mod UnseenLemmas

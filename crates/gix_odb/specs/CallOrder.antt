@@ -1,6 +1,7 @@
 -- The order of work of a call: an object is looked for in the store, or written into the objects directory. In front of a write the list
 -- of the store is read, where it was not.
 use Rattle.std.specs.Prelude.{◌≡◌, ℕ, ◌<◌, ◌^◌, true, List, Option, Some, None, Result, Ok, Err}
+use Rattle.std.specs.Result.{result_ok}
 use Rattle.odb_base.specs.Path.{Path}
 use Rattle.odb_asks.specs.declared.ask.DiskAsk.{DiskAsk}
 use Rattle.gix_hash.specs.declared.kind.Kind.{Kind as HashKind}
@@ -19,6 +20,8 @@ use Rattle.gix_odb_calls.specs.declared.call.Call.TheVariants as call_kinds
 use Rattle.gix_odb_calls.specs.declared.call.CallError.TheVariants as call_errors
 use Rattle.gix_odb_calls.specs.declared.call.Reply.{Reply}
 use Rattle.gix_odb_calls.specs.declared.call.Reply.TheVariants as replies
+use Rattle.gix_odb.specs.declared.ask.Ask.{Ask}
+use Rattle.gix_odb.specs.declared.ask.Ask.TheVariants as own
 use Rattle.gix_odb.specs.declared.call_state.CallState.{CallState}
 use Rattle.gix_odb.specs.declared.call_state.CallState.TheVariants.{Looking, Refreshing, Refused, Writing}
 use Rattle.gix_odb_looks.specs.declared.look_up.LookUp.{LookUp}
@@ -32,6 +35,7 @@ use Rattle.gix_odb_events.specs.declared.answer.Answer.{Answer}
 use Rattle.gix_odb_events.specs.declared.answer.Answer.TheVariants as told
 use Rattle.gix_odb_events.specs.declared.answer.PartAsk.{PartAsk}
 use Rattle.gix_odb_events.specs.declared.answer.PartAsk.TheVariants as asks
+use Rattle.gix_odb_events.specs.declared.event.Event.TheVariants as events
 use Rattle.gix_odb_calls.specs.declared.query.Query.{Query}
 use Rattle.gix_odb_calls.specs.declared.query.Query.TheVariants.{Find, Header, Test}
 use Rattle.gix_odb_calls.specs.declared.load_index.Error as load
@@ -120,6 +124,17 @@ result_of (Looking look) = looking_result (looks.result_of look)
 result_of (Refreshing refresh write) = Err (Refreshing refresh write)
 result_of (Writing call) = writing_result (result_of_write call)
 result_of (Refused error) = Ok (unlisted error)
+
+-- What a call does next: it waits for what it asks for, or has its reply. One that neither asks nor is done, as no call on its way is,
+-- looks at the core.
+abbrev pub asked_by : Option PartAsk → Option Reply → Ask
+asked_by (Some (asks.Disk ask)) reply = own.Disk ask
+asked_by (Some (asks.Core event)) reply = own.Core event
+asked_by None (Some reply) = own.Done reply
+asked_by None None = own.Core events.Look
+
+abbrev pub asked_of : CallState → Ask
+asked_of state = asked_by (ask_of state) (result_ok (result_of state))
 
 -- a write after an answer. One of the core leaves it
 abbrev pub written_on : LooseCall → Answer → LooseCall

@@ -1,13 +1,15 @@
 -- What a handle of the code knows of its store, and what it seeks for a query.
-use Rattle.std.specs.Prelude.{false, List, [], Option, unwrap_or}
-use Rattle.std.specs.BTreeMap.{get}
+use Rattle.std.specs.Prelude.{false, List, [], Option, Some, unwrap_or}
+use Rattle.std.specs.BTreeMap.{BTreeMap, get}
 use Rattle.odb_base.specs.Path.{Path}
 use Rattle.gix_hash.specs.declared.kind.Kind.{Kind as HashKind}
 use Rattle.gix_hash.specs.declared.object_id.ObjectId.{ObjectId}
 use Rattle.gix_hash.specs.ObjectId.{id_cmp}
 use Rattle.gix_odb_events.specs.declared.view.Snapshot.{Snapshot}
 use Rattle.gix_odb_events.specs.declared.view.View.{View}
+use Rattle.gix_odb_calls.specs.declared.init.Options.{Options}
 use Rattle.gix_odb_calls.specs.declared.init.Slots.{Slots}
+use Rattle.gix_odb_calls.specs.declared.store_parts.StoreParts.{StoreParts}
 use Rattle.gix_odb_looks.specs.LookUpOrder.{Setting}
 use Rattle.gix_odb.specs.Contents.{replaced, sought_with}
 use Rattle.gix_odb.specs.declared.handle_state.HandleState.{HandleState}
@@ -22,6 +24,18 @@ hash_of handle = handle.store.value.object_hash
 
 abbrev pub folders_of : HandleState → List Path
 folders_of handle = handle.store.value.folders
+
+-- the parts of a store that is opened with these
+abbrev pub parts_of : (objects : Path) → (folders : List Path) → HashKind → BTreeMap ObjectId ObjectId → Options → StoreParts
+parts_of objects folders hash replacements options = record {
+  objects = objects;
+  folders = folders;
+  object_hash = hash;
+  replacements = replacements;
+  alloc_limit_bytes = options.alloc_limit_bytes;
+  slots = options.slots;
+  max_changes = options.max_changes;
+}
 
 -- how many slots the store is to have
 abbrev pub slots_of : HandleState → Slots
@@ -46,6 +60,10 @@ unseen = record { snapshot = nothing_loaded; list_no = 0; read = false; todo = [
 -- what a handle sees: its snapshot, if it has one
 abbrev pub view_at : HandleState → View
 view_at handle = unwrap_or handle.view unseen
+
+-- a handle that sees this
+abbrev pub with_view : HandleState → View → HandleState
+with_view handle view = record handle { view = Some view }
 
 -- the id that replaces another
 abbrev pub replacement_of : HandleState → ObjectId → Option ObjectId

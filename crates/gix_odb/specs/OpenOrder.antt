@@ -1,6 +1,6 @@
 -- The order of work of an opening: one look at the objects directory; a listing of the folders of packs, where the store is to have as
 -- many slots as its indices ask for; and then a core for the store, at which the handle is registered.
-use Rattle.std.specs.Prelude.{ℕ, ◌*◌, ◌/◌, max, true, nat_le, List, length, Option, Some, None, Result, Ok, Err, if◌then◌else◌}
+use Rattle.std.specs.Prelude.{◌≡◌, ℕ, ◌*◌, ◌/◌, max, true, nat_le, List, length, Option, Some, None, Result, Ok, Err, if◌then◌else◌}
 use Rattle.odb_base.specs.Path.{Path}
 use Rattle.odb_asks.specs.declared.ask.DiskAsk.{DiskAsk}
 use Rattle.odb_asks.specs.declared.ask.DiskAsk.TheVariants as asks
@@ -21,8 +21,19 @@ use Rattle.gix_odb_calls.specs.declared.init.Error.TheVariants as opening_errors
 use Rattle.gix_odb_calls.specs.declared.init.Slots.{Slots}
 use Rattle.gix_odb_calls.specs.declared.init.Slots.TheVariants.{AsNeededByDiskState, Given}
 use Rattle.gix_odb_calls.specs.declared.load_index.Error.TheVariants as load_errors
+use Rattle.gix_odb.specs.declared.ask.OpenAsk.{OpenAsk}
+use Rattle.gix_odb.specs.declared.ask.OpenAsk.TheVariants as own
 use Rattle.gix_odb.specs.declared.open_state.OpenState.{OpenState}
 use Rattle.gix_odb.specs.declared.open_state.OpenState.TheVariants as opens
+
+-- a new opening
+abbrev pub started : OpenState
+started = opens.Looking
+
+-- the reply of an opening that is done, or the opening
+abbrev pub result_of : OpenState → Result Reply OpenState
+result_of (opens.Done reply) = Ok reply
+result_of state = Err state
 
 -- ---- asks
 
@@ -43,6 +54,12 @@ opened_in state = None
 abbrev pub registers : OpenState → Option ℕ
 registers (opens.Registering slots) = Some slots
 registers state = None
+
+-- what an opening does next: it makes its call of the disk, or has a core made, or has its reply
+abbrev pub IsAskOf : Path → OpenState → OpenAsk → Type 0
+IsAskOf objects state (own.Disk ask) = ask_of objects state ≡ Some ask
+IsAskOf objects state (own.Register slots) = registers state ≡ Some slots
+IsAskOf objects state (own.Done reply) = result_of state ≡ Ok reply
 
 -- ---- how many slots
 
@@ -95,7 +112,3 @@ fed objects folders slots (opens.Done reply) answer = opens.Done reply
 abbrev pub registered : OpenState → OpenState
 registered (opens.Registering slots) = opens.Done (replies.Opened slots)
 registered state = state
-
-abbrev pub result_of : OpenState → Result Reply OpenState
-result_of (opens.Done reply) = Ok reply
-result_of state = Err state

@@ -1,21 +1,23 @@
 //! The order of work of a call on a handle: an object is looked for, or written.
 ghost use Rattle.std.specs.Prelude.{◌≡◌, ◌<◌, ◌^◌, IfOk};
 ghost use Rattle.std.specs.Option.{option_map};
+ghost use Rattle.std.specs.Result.{result_ok};
 ghost use Rattle.gix_odb_loose.specs.LooseOrder.{disk_ask_of};
-ghost use Rattle.gix_odb.specs.CallOrder.{HasSize, IsOfHash, ask_of, disk_part, fronted, opened_in, result_of, started, writing, wrote_as};
+ghost use Rattle.gix_odb.specs.CallOrder.{HasSize, IsOfHash, ask_of, asked_of, disk_part, fronted, opened_in, result_of, result_of_write, started, writing, wrote_as};
 ghost use Rattle.gix_odb.specs.CallOrder as calls;
 ghost use Rattle.gix_odb_looks.specs.LookUpOrder as looks;
 ghost use Rattle.gix_odb_refresh.specs.RefreshOrder as refreshes;
 ghost use Rattle.gix_odb.specs.HandleState.{hash_of, setting_at, sought_by, view_at};
 
+use crate::ask::Ask;
 use crate::handle_state::HandleState;
 use crate::unseen::unseen;
 use gix_hash::ObjectId;
 use gix_object::Kind;
 use gix_odb_calls::{Call, CallError, Query, Reply, load_index, write};
-use gix_odb_events::{Answer, PartAsk, View};
+use gix_odb_events::{Answer, Event, PartAsk, View};
 use gix_odb_looks::{LookUp, Setting};
-use gix_odb_loose::{LooseCall, LooseJob, LooseReply};
+use gix_odb_loose::{LooseAsk, LooseCall, LooseJob, LooseReply};
 use gix_odb_refresh::Refresh;
 use odb_base::{ByteList, NoMemory, PathText};
 use std::alloc::Global;
@@ -69,8 +71,39 @@ impl CallState {
         }
     }
 
+    /// What the call does next. A reply is copied: `into_reply` moves it out.
+    pub fn ask(&self, alloc: Global) -> Result<Ask, NoMemory>
+        ensures asked { IfOk result (λ ask. ask ≡ asked_of self.now) }
+    {
+        match self.part_ask(alloc)? {
+            Some(PartAsk::Disk(ask)) => Ok(Ask::Disk(ask)),
+            Some(PartAsk::Core(event)) => Ok(Ask::Core(event)),
+            None => match self.reply_copy(alloc)? {
+                Some(reply) => Ok(Ask::Done(reply)),
+                // No call comes to such a state.
+                None => Ok(Ask::Core(Event::Look)),
+            },
+        }
+    }
+
+    // A copy of the reply of a call that is done.
+    fn reply_copy(&self, alloc: Global) -> Result<Option<Reply>, NoMemory>
+        ensures copied { IfOk result (λ reply. reply ≡ result_ok (result_of self.now)) }
+    {
+        match self {
+            CallState::Looking(look) => match look.reply() {
+                Some(reply) => Ok(Some(reply.try_clone(alloc)?)),
+                None => Ok(None),
+            },
+            CallState::Refreshing { .. } => Ok(None),
+            CallState::Writing(call) => write_reply(alloc, call),
+            CallState::Refused(error) => Ok(Some(unlisted(*error))),
+        }
+    }
+
     /// What comes next: a call of the disk, or an event of the store's core; there is none where the call is done.
-    pub fn ask(&self, alloc: Global) -> Result<Option<PartAsk>, NoMemory>
+    /// It copies no reply, which `into_reply` gives then.
+    pub fn part_ask(&self, alloc: Global) -> Result<Option<PartAsk>, NoMemory>
         ensures asked { IfOk result (λ ask. ask ≡ ask_of self.now) }
     {
         match self {
@@ -147,6 +180,19 @@ fn write_ask(alloc: Global, call: &LooseCall) -> Result<Option<PartAsk>, NoMemor
     match call.disk_ask(alloc)? {
         None => Ok(None),
         Some(ask) => Ok(Some(PartAsk::Disk(ask))),
+    }
+}
+
+// A copy of the reply of a write that is done.
+fn write_reply(alloc: Global, call: &LooseCall) -> Result<Option<Reply>, NoMemory>
+    ensures copied { IfOk result (λ reply. reply ≡ result_ok (result_of_write call.now)) }
+{
+    match call.ask(alloc)? {
+        LooseAsk::Disk(ask) => {
+            drop(ask);
+            Ok(None)
+        }
+        LooseAsk::Done(reply) => Ok(Some(told(reply))),
     }
 }
 

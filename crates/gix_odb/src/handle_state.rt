@@ -1,6 +1,6 @@
 //! A handle on a store without its work.
 ghost use Rattle.std.specs.Prelude.{◌≡◌, IfOk, None, false};
-ghost use Rattle.gix_odb.specs.HandleState.{replaced_by, sought_by};
+ghost use Rattle.gix_odb.specs.HandleState.{replaced_by, sought_by, with_view};
 
 use gix_hash::ObjectId;
 use gix_odb_calls::{Query, StoreParts};
@@ -49,6 +49,14 @@ impl HandleState {
             core: self.core,
             view: None,
         })
+    }
+
+    /// The handle with a view that the store's core handed over to it, which is its snapshot from now on.
+    pub fn seeing(mut self, view: View) -> HandleState
+        ensures seeing { result ≡ with_view self view }
+    {
+        self.view = Some(view);
+        self
     }
 
     /// The parts of the handle's store.

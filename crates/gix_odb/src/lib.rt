@@ -6,18 +6,24 @@
 //! `gix_odb_refresh`; what a store holds, and for how long, in `specs/{Contents,Moments,Held}.antt`. Who drives the machines, over which disk, is the matter of the crates above.
 //! ```rust
 //! let mut state = CallState::start(alloc, &handle, &Call::Find(id))?;
-//! while let Some(ask) = state.ask(alloc)? {
-//!     let answer = ..;                       // of the disk, or of the core
+//! let reply = loop {
+//!     let answer = match state.ask(alloc)? {
+//!         Ask::Disk(ask) => ..,              // the answer of the disk
+//!         Ask::Core(event) => ..,            // and that of the core
+//!         Ask::Done(reply) => break reply,
+//!     };
 //!     state = state.feed(alloc, &handle, answer)?;
-//! }
+//! };
 //! ```
 #![tactic(auto)]
 
+mod ask;
 mod call_state;
 mod handle_state;
 mod open_state;
 mod unseen;
 
+pub use ask::{Ask, OpenAsk};
 pub use call_state::CallState;
 pub use gix_odb_calls::{
     Call, CallError, IdPairs, Options, PathList, Query, Reply, Slots, StoreParts, copy_of_pairs,

@@ -1,17 +1,22 @@
 //! The order of work of an opening.
-ghost use Rattle.std.specs.Prelude.{◌≡◌, IfOk, true};
+ghost use Rattle.std.specs.Prelude.{◌≡◌, IfOk, None, false, true};
 ghost use Rattle.std.specs.Option.{option_map};
-ghost use Rattle.gix_odb.specs.HandleState.{folders_of, objects_of, slots_of};
-ghost use Rattle.gix_odb.specs.OpenOrder.{ask_of, opened_in, result_of};
+ghost use Rattle.gix_odb.specs.HandleState.{folders_of, objects_of, parts_of, slots_of};
+ghost use Rattle.gix_odb.specs.OpenOrder.{IsAskOf, ask_of, opened_in, result_of};
 ghost use Rattle.gix_odb.specs.OpenOrder as order;
 
+use crate::ask::OpenAsk;
 use crate::handle_state::HandleState;
-use gix_odb_calls::{CallError, Reply, Slots, StoreParts, init, load_index};
+use gix_hash::ObjectId;
+use gix_odb_calls::{
+    CallError, Options, PathList, Reply, Slots, StoreParts, copy_of_paths, init, load_index,
+};
 use gix_odb_packs::{ListStep, Lister};
 use odb_asks::{DiskAnswer, DiskAsk};
 use odb_base::{NoMemory, PathText};
 use odb_nodes::{DiskError, Kind};
 use std::alloc::Global;
+use std::collections::BTreeMap;
 
 /// The most slots that a store may have: 2^15 - 1. A pack's number has 32 bits, and the lowest 15 of them are the slot
 /// that its index stands in (`PackId::to_intrinsic_pack_id` of `gix_odb_events`).
@@ -37,6 +42,48 @@ pub enum OpenState {
 }
 
 impl OpenState {
+    /// The handle on a store of these folders, the objects directory first, and the opening that is to register it, which asks
+    /// for nothing yet.
+    ///
+    /// It tests none of the conditions of opening, and asks for none: whoever has lists to test does so before.
+    pub fn start(
+        alloc: Global,
+        path: &PathText,
+        folders: &PathList,
+        hash: gix_hash::Kind,
+        replacements: BTreeMap<ObjectId, ObjectId>,
+        options: Options,
+    ) -> Result<(HandleState, OpenState), NoMemory>
+        ensures parts { IfOk result (λ begun. begun.0.store.value ≡ parts_of path.now folders.now hash replacements options) }
+        ensures mode { IfOk result (λ begun. begun.0.ignore_replacements ≡ false) }
+        ensures core { IfOk result (λ begun. begun.0.core ≡ 0) }
+        ensures view { IfOk result (λ begun. begun.0.view ≡ None) }
+        ensures opening { IfOk result (λ begun. begun.1 ≡ order.started) }
+    {
+        let parts = StoreParts {
+            objects: path.try_clone(alloc)?,
+            folders: copy_of_paths(alloc, folders)?,
+            object_hash: hash,
+            replacements,
+            alloc_limit_bytes: options.alloc_limit_bytes,
+            slots: options.slots,
+            max_changes: options.max_changes,
+        };
+        Ok((HandleState::new(alloc, parts)?, OpenState::Looking))
+    }
+
+    /// What the opening does next, for the handle that it is to register. A reply is copied: `into_reply` moves it out.
+    pub fn ask(&self, alloc: Global, handle: &HandleState) -> Result<OpenAsk, NoMemory>
+        ensures asked { IfOk result (λ ask. IsAskOf (objects_of handle.now) self.now ask) }
+    {
+        match self {
+            OpenState::Looking => Ok(OpenAsk::Disk(look_at(alloc, handle)?)),
+            OpenState::Listing { lister, .. } => Ok(OpenAsk::Disk(lister.ask(alloc)?)),
+            OpenState::Registering { slots } => Ok(OpenAsk::Register { slots: *slots }),
+            OpenState::Done(reply) => Ok(OpenAsk::Done(reply.try_clone(alloc)?)),
+        }
+    }
+
     /// The call of the disk that comes next, if what comes next is one.
     pub fn disk_ask(&self, alloc: Global, handle: &HandleState) -> Result<Option<DiskAsk>, NoMemory>
         ensures asked { IfOk result (λ ask. ask ≡ ask_of (objects_of handle.now) self.now) }

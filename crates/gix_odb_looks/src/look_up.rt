@@ -2,6 +2,7 @@
 //! the folders of packs.
 ghost use Rattle.std.specs.Prelude.{◌≡◌, IfOk, [], None, Some};
 ghost use Rattle.std.specs.Option.{option_copied, option_map};
+ghost use Rattle.std.specs.Result.{result_ok};
 ghost use Rattle.gix_odb_looks.specs.LookUpOrder.{setting_of};
 ghost use Rattle.gix_odb_loose.specs.LooseOrder.{disk_ask_of};
 ghost use Rattle.gix_odb_looks.specs.LookUpOrder as order;
@@ -210,6 +211,16 @@ impl LookUp {
     {
         let LookUp { head, stage } = self;
         answered::fed(alloc, setting, head.seen(&answer), stage, answer)
+    }
+
+    /// The reply of a look-up that is done, which is lent: `into_reply` moves it out.
+    pub fn reply(&self) -> Option<&Reply>
+        ensures reply { option_map (λ reply. reply.now) result ≡ result_ok (order.result_of self.now) }
+    {
+        match &self.stage {
+            LookStage::Done(reply) => Some(reply),
+            _ => None,
+        }
     }
 
     /// The reply of a look-up that is done, or the look-up that goes on.

@@ -1,10 +1,10 @@
 -- The code of a turn carries out what the work asks for: a call of the disk, an event of a core, or a core for its store.
 use Rattle.std.proofs.Common.{◌≡◌, ℕ, List, [], ◌∷◌, ◌++◌, length, Option, Some, None, Result, Ok, Err, refl, sym, ap, ◌∙◌}
-use Rattle.std.specs.Prelude.{if◌then◌else◌, IfOk, OnOk}
+use Rattle.std.specs.Prelude.{IfOk, OnOk}
 use Rattle.odb_base.specs.declared.no_memory.NoMemory.{NoMemory}
-use Rattle.odb_nodes.specs.Tree.{tree_of}
+use Rattle.odb_nodes.specs.declared.change.Change.{Change}
 use Rattle.odb_asks.specs.MemDisk.{Volume}
-use Rattle.odb_asks.specs.Ask.{after_ask, answer_now, change_of_ask}
+use Rattle.odb_asks.specs.Ask.{after_ask, answer_now}
 use Rattle.odb_asks.specs.declared.ask.DiskAsk.{DiskAsk}
 use Rattle.gix_odb.specs.declared.handle_state.HandleState.{HandleState}
 use Rattle.gix_odb_core.specs.History.{History}
@@ -20,10 +20,9 @@ use Rattle.gix_odb_world.specs.declared.work.Work.TheVariants.{Opening, Calling}
 use Rattle.gix_odb_runs.specs.Cores.{cores_after_asked, or_before}
 use Rattle.gix_odb_runs.specs.Event.{Ask, CoreAnswer, CoreEvent, OfCore, ToCore, ToDisk, answered, part_asked}
 use Rattle.gix_odb_world.specs.Recorded.{opened_in}
-use Rattle.gix_odb_runs.specs.Run.{Stand, change_asked, did_of_asked, disk_after_asked, stand, told_now}
-use Rattle.gix_odb_world.specs.Table.{AddsCore, Carries, CarriesEvent, carried_at, carried_unasked, change_now, did_now, own_answer, seeing, state_after, told_in}
+use Rattle.gix_odb_runs.specs.Run.{Stand, change_asked, change_by, did_of_asked, disk_after_asked, stand, told_now}
+use Rattle.gix_odb_world.specs.Table.{AddsCore, Carries, CarriesEvent, carried_at, carried_unasked, did_now, own_answer, seeing, state_after, told_in}
 use Rattle.gix_odb_world.specs.WorkOrder.{ask_on, asks_on, asks_or, core_for, fed_after, fed_on, registered_on, registers_in}
-use Rattle.gix_odb_runs.proofs.FailedLemmas.{has_failed-now}
 use Rattle.gix_odb_runs.proofs.WriteAsk.Quiet.{after_ask-change}
 
 -- work that has a core made asks for that
@@ -73,28 +72,25 @@ module _ (disk : Volume) (cores : List History) (seat : ℕ) (state : HandleStat
 
   -- ---- a call of the disk
 
-  change_of_call : (ask : DiskAsk) → change_now disk ask ≡ change_asked disk (Some (ToDisk ask))
-  change_of_call ask = ap (λ b. if b then None else change_of_ask (tree_of disk.state) ask) (has_failed-now disk ask)
-
   pub carries_call : registers_in work ≡ None → (ask : DiskAsk) → ask_on state work ≡ Some (asks.Disk ask) → (disk_then : Volume) (done : Carried)
-      → done.did ≡ did_now (opened_in work) disk ask → done.change ≡ change_now disk ask → done.state ≡ state
+      → done.did ≡ did_now (opened_in work) disk ask → done.change ≡ change_by disk ask → done.state ≡ state
       → done.work ≡ fed_on state work (told.Disk (answer_now disk ask))
       → disk_then ≡ after_ask disk ask
       → IsCarried disk_then cores done
   carries_call other ask is disk_then done did_is change_is state_is work_is disk_is =
       carries_by disk_then cores done (Some (ToDisk ask)) (asks_part state work (Some (asks.Disk ask)) other is)
-      did_is (change_is ∙ change_of_call ask) state_is work_is (disk_is ∙ after_ask-change disk ask) refl
+      did_is change_is state_is work_is (disk_is ∙ after_ask-change disk ask) refl
 
-  -- which failed only where memory ran out
-  pub carries_answer : registers_in work ≡ None → (ask : DiskAsk) → ask_on state work ≡ Some (asks.Disk ask) → (disk_then : Volume)
-      → (result : Result Carried NoMemory)
-      → IfOk result (λ done. done.did ≡ did_now (opened_in work) disk ask) → IfOk result (λ done. done.change ≡ change_now disk ask)
+  -- which failed only where memory ran out, and whose change was told before
+  pub carries_answer : registers_in work ≡ None → (ask : DiskAsk) → ask_on state work ≡ Some (asks.Disk ask) → (change : Option Change) → change ≡ change_by disk ask
+      → (disk_then : Volume) → (result : Result Carried NoMemory)
+      → IfOk result (λ done. done.did ≡ did_now (opened_in work) disk ask) → IfOk result (λ done. done.change ≡ change)
       → IfOk result (λ done. done.state ≡ state) → IfOk result (λ done. done.work ≡ fed_on state work (told.Disk (answer_now disk ask)))
       → OnOk result (disk_then ≡ after_ask disk ask)
       → IfOk result (λ done. IsCarried disk_then cores done)
-  carries_answer other ask is disk_then (Ok done) did_is change_is state_is work_is disk_is =
-      carries_call other ask is disk_then done did_is change_is state_is work_is disk_is
-  carries_answer other ask is disk_then (Err error) did_is change_is state_is work_is disk_is = tt
+  carries_answer other ask is change known disk_then (Ok done) did_is change_is state_is work_is disk_is =
+      carries_call other ask is disk_then done did_is (change_is ∙ known) state_is work_is disk_is
+  carries_answer other ask is change known disk_then (Err error) did_is change_is state_is work_is disk_is = tt
 
   -- ---- an event of a core
 

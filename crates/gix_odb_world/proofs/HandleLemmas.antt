@@ -18,7 +18,7 @@ use Rattle.gix_odb_calls.specs.declared.step.Outcome.TheVariants as outcomes
 use Rattle.gix_odb_calls.specs.declared.step.Why.{Why}
 use Rattle.gix_odb_calls.specs.declared.step.Why.TheVariants.{BadOpen}
 use Rattle.gix_odb_calls.specs.declared.init.Options.{Options}
-use Rattle.gix_odb.specs.declared.open_state.OpenState.TheVariants.{Looking}
+use Rattle.gix_odb.specs.declared.open_state.OpenState.{OpenState}
 use Rattle.gix_odb_runs.specs.declared.record.Did.{Did}
 use Rattle.gix_odb_runs.specs.declared.record.Did.TheVariants.{Core, Nothing}
 use Rattle.gix_odb_world.specs.declared.handle.Handle.{Handle}
@@ -35,7 +35,7 @@ use Rattle.gix_odb_runs.specs.Cores.{answer_behind, cores_after, cores_after_ask
 use Rattle.gix_odb_runs.specs.Event.{Asked, Event, OfCore}
 use Rattle.gix_odb_world.specs.Headline.{LeavesDisk, asked_applied, asked_by_close}
 use Rattle.gix_odb_world.specs.Status.{OpenStore, Store, Status, Free, Resting, Working, store_at, opening_at, ignoring_from, modes_at_opening, status_of}
-use Rattle.gix_odb_world.specs.Handle.{IsHandleOf, IsOpened}
+use Rattle.gix_odb_world.specs.Handle.{Begins, IsHandleOf, IsOpened}
 use Rattle.gix_odb_runs.specs.Run.{IsTurnOf, did_of_asked}
 use Rattle.gix_odb_world.specs.Running.{Runs}
 use Rattle.gix_odb_world.specs.Valid.{Phase, NoneThere, Idle, Running, why_not_open, why_not_idle, are_distinct, are_good_folders, are_good_replacements, is_openable}
@@ -73,16 +73,16 @@ replacements_same path folders hash replacements options n state good begun =
     }
 
 pub opened : (old mid new : Course) (shown : Kept) (number : ℕ) (path : Path) (folders : List Path) (hash : HashKind) (replacements : List (ObjectId × ObjectId)) (options : Options) (state : HandleState)
-    → why_not_open (phase_of_handle (handle_at old number)) true ≡ None → is_openable path folders hash replacements options.max_changes ≡ true
-    → IsOpened path folders hash replacements options state
+    (opening : OpenState)
+    → why_not_open (phase_of_handle (handle_at old number)) true ≡ None → Begins path folders hash replacements options (state, opening)
     → Watches old.shown shown (tree_of old.disk.state) (path ∷ folders)
-    → SetsHandle (record old { shown = shown }) mid number (Some (record { state = state; work = Some (Opening Looking) })) → Notes mid new outcomes.Applied Nothing None
+    → SetsHandle (record old { shown = shown }) mid number (Some (record { state = state; work = Some (Opening opening) })) → Notes mid new outcomes.Applied Nothing None
     → Continues old (steps.Open number path folders hash replacements options) new
-opened old mid new shown number path folders hash replacements options state free good begun watches sets notes =
-    applied old mid new shown (steps.Open number path folders hash replacements options) number (Some (record { state = state; work = Some (Opening Looking) }))
+opened old mid new shown number path folders hash replacements options state opening free begins watches sets notes =
+    applied old mid new shown (steps.Open number path folders hash replacements options) number (Some (record { state = state; work = Some (Opening opening) }))
     (λ n status. opening_at n (store_at n path folders hash replacements options))
-    (ap (why_not_open (phase_of_handle (handle_at old number))) good ∙ free) sets notes watches (λ turn. turn) refl (λ other turn. cc) (λ n asked table. refl)
-    (λ n status match. (replacements_same path folders hash replacements options n state good begun, refl))
+    (ap (why_not_open (phase_of_handle (handle_at old number))) begins.good ∙ free) sets notes watches (λ turn. turn) refl (λ other turn. cc) (λ n asked table. refl)
+    (λ n status match. (replacements_same path folders hash replacements options n state begins.good begins.handle, ap (λ (own : OpenState). Some (Opening own)) begins.opening))
     (λ first events e explains opens asked no_turn. runs_opening first events e number (store_at (length events + 1) path folders hash replacements options))
     (λ events. refl)
 

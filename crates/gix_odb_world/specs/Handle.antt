@@ -1,5 +1,5 @@
--- How a handle of the code stands for a store.
-use Rattle.std.specs.Prelude.{◌≡◌, false, List, None}
+-- How a handle of the code stands for a store, and how its opening begins.
+use Rattle.std.specs.Prelude.{◌≡◌, true, false, List, None}
 use Rattle.std.specs.BTreeMap.{IsFromIterResult}
 use Rattle.odb_base.specs.Path.{Path}
 use Rattle.gix_hash.specs.declared.kind.Kind.{Kind as HashKind}
@@ -7,8 +7,11 @@ use Rattle.gix_hash.specs.declared.object_id.ObjectId.{ObjectId}
 use Rattle.gix_hash.specs.ObjectId.{id_cmp}
 use Rattle.gix_odb.specs.Contents.{replacement_in}
 use Rattle.gix_odb.specs.HandleState.{replacement_of}
-use Rattle.gix_odb_world.specs.Status.{Store, Modes}
+use Rattle.gix_odb.specs.OpenOrder.{started}
 use Rattle.gix_odb.specs.declared.handle_state.HandleState.{HandleState}
+use Rattle.gix_odb.specs.declared.open_state.OpenState.{OpenState}
+use Rattle.gix_odb_world.specs.Status.{Store, Modes}
+use Rattle.gix_odb_world.specs.Valid.{is_openable}
 use Rattle.gix_odb_calls.specs.declared.init.Options.{Options}
 
 -- the handle has what its open step was handed
@@ -23,6 +26,12 @@ pub record IsOpened (objects : Path) (folders : List Path) (hash : HashKind) (re
   pub changes : handle.store.value.max_changes ≡ options.max_changes
   pub core : handle.core ≡ 0
   pub view : handle.view ≡ None
+
+-- an opening begins: the conditions hold, the handle has what its open step was handed, and nothing was asked
+pub record Begins (objects : Path) (folders : List Path) (hash : HashKind) (replacements : List (ObjectId × ObjectId)) (options : Options) (begun : HandleState × OpenState) : Type 0 where
+  pub good : is_openable objects folders hash replacements options.max_changes ≡ true
+  pub handle : IsOpened objects folders hash replacements options begun.0
+  pub opening : begun.1 ≡ started
 
 -- the handle is one of the store, in these modes
 pub record IsHandleOf (store : Store) (modes : Modes) (handle : HandleState) : Type 0 where

@@ -2,7 +2,7 @@
 use Rattle.std.specs.Prelude.{◌≡◌, ℕ, ◌+◌, ◌<◌, ◌≤◌, ◌==◌, length, true, [], ◌∷◌, ◌++◌, List, Vec, Option, Some, None, Result, Ok, Err, IsSome, if◌then◌else◌}
 use Rattle.std.specs.declared.alloc.Global.{Global}
 use Rattle.odb_base.specs.Path.{Path}
-use Rattle.odb_asks.specs.Ask.{answer_now, change_of_ask}
+use Rattle.odb_asks.specs.Ask.{answer_now}
 use Rattle.odb_nodes.specs.Tree.{IsTree, Tree, tree_of}
 use Rattle.odb_asks.specs.MemDisk.{Volume}
 use Rattle.odb_asks.specs.declared.ask.DiskAsk.{DiskAsk}
@@ -33,9 +33,9 @@ use Rattle.gix_odb_events.specs.PackId.{most_slots}
 use Rattle.gix_odb_events.specs.declared.view.View.{View}
 use Rattle.gix_odb_runs.specs.Made.{MakesCore}
 use Rattle.gix_odb_world.specs.Recorded.{opened_in}
-use Rattle.gix_odb_runs.specs.Run.{change_asked, did_of, did_of_asked, disk_after_asked, has_failed, stand, told_now}
+use Rattle.gix_odb_runs.specs.Run.{change_asked, did_of, did_of_asked, disk_after_asked, stand, told_now}
 use Rattle.gix_odb_world.specs.Status.{after_reply}
-use Rattle.gix_odb_world.specs.WorkOrder.{asks_on, fed_after, fed_on, registered_on, result_in}
+use Rattle.gix_odb_world.specs.WorkOrder.{ask_on, asks_on, fed_after, fed_on, registered_on, result_in}
 use Rattle.gix_odb_world.specs.declared.course.Course.{Course}
 use Rattle.gix_odb_world.specs.Headline.{outcome_of}
 use Rattle.gix_odb_world.specs.World.{handle_at}
@@ -73,6 +73,15 @@ change_by_work disk state (Some work) = change_asked disk (asks_on state work)
 abbrev pub change_by_handle : Volume → Option Handle → Option Change
 change_by_handle disk None = None
 change_by_handle disk (Some handle) = change_by_work disk handle.state handle.work
+
+-- what the work of a handle names next, if it is at work and names one
+abbrev pub ask_by_work : HandleState → Option Work → Option PartAsk
+ask_by_work state None = None
+ask_by_work state (Some work) = ask_on state work
+
+abbrev pub ask_by_handle : Option Handle → Option PartAsk
+ask_by_handle None = None
+ask_by_handle (Some handle) = ask_by_work handle.state handle.work
 
 -- the change that a step would make, by the world's own table and disk
 abbrev pub would_change_now : Course → Step → Option Change
@@ -135,10 +144,6 @@ HasOneMore old new = (outcome : Outcome) × (new.outcomes ≡ old.outcomes ++ ou
 -- what a turn did whose work made this call of the disk, of a stream that was opened with a path if it is on one
 abbrev pub did_now : (opened : Option Path) → Volume → DiskAsk → Did
 did_now opened disk ask = did_of opened ask (answer_now disk ask)
-
--- the change of a turn whose work made this call: none where it failed
-abbrev pub change_now : Volume → DiskAsk → Option Change
-change_now disk ask = if has_failed (answer_now disk ask) then None else change_of_ask (tree_of disk.state) ask
 
 -- the handle to which a view was handed over, if one was
 abbrev pub seeing : HandleState → Option View → HandleState

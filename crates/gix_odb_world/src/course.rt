@@ -2,20 +2,21 @@
 ghost use Rattle.std.specs.Prelude.{◌≡◌, ◌≢◌, ◌<◌, ◌^◌, ◌↔◌, ℕ, IsTrue, ◌++◌, ◌∷◌, [], List, IfOk, OnOk, length, None, Some};
 ghost use Rattle.odb_asks.specs.MemDisk.{Volume};
 ghost use Rattle.odb_nodes.specs.Tree.{tree_of};
-ghost use Rattle.gix_odb_runs.specs.Event.{Event};
+ghost use Rattle.gix_odb_runs.specs.Event.{Event, part_asked};
+ghost use Rattle.gix_odb_runs.specs.Run.{change_asked};
 ghost use Rattle.gix_odb_world.specs.Valid.{IsReason};
 ghost use Rattle.gix_odb_world.specs.Headline.{IsRun, outcome_of};
 ghost use Rattle.gix_odb_world.specs.Watch.{TellsChange};
 ghost use Rattle.gix_odb_world.specs.WorkOrder.{ask_on, registers_in, result_in};
 ghost use Rattle.gix_odb_world.specs.World.{Continues, Explains, IsExplained, handle_at};
-ghost use Rattle.gix_odb_world.specs.Table.{CanHappenAt, FitsCore, HasOneMore, IsReasonNow, KeepsTurn, Notes, SetsHandle, Settles, TakesTurn, after_turn, would_change_now};
+ghost use Rattle.gix_odb_world.specs.Table.{CanHappenAt, FitsCore, HasOneMore, IsReasonNow, KeepsTurn, Notes, SetsHandle, Settles, TakesTurn, after_turn, ask_by_handle, would_change_now};
 
 use crate::handle::Handle;
 use crate::opening;
 use crate::turn::{Carried, carried_out, settled};
-use crate::watch::{keep, watch_store};
+use crate::watch::{Judged, keep, watch_store};
 use crate::work::Work;
-use gix_odb::{CallState, HandleState, OpenState};
+use gix_odb::{CallState, HandleState};
 use gix_odb_calls::{Call, IdPairs, Options, Outcome, PathList, Step, Why};
 use gix_odb_runs::cores::{joined, journals_of, removed};
 use gix_odb_runs::{ChangeMade, Did, KeptCore, OutcomeList, Record, RecordList, Run};
@@ -175,11 +176,12 @@ impl Course {
         if let Some(why) = self.why_not_free(number) {
             return self.misuse(why);
         }
-        let Some(state) = opening::begun(alloc, path, folders, hash, replacements, options)? else {
+        let begun = opening::begun(alloc, path, folders, hash, replacements, options)?;
+        let Some((state, opening)) = begun else {
             return self.misuse(Why::BadOpen);
         };
         watch_store(alloc, &mut self.shown, self.disk.tree(), path, folders)?;
-        let work = Some(Work::Opening(OpenState::Looking));
+        let work = Some(Work::Opening(opening));
         self.put(number, Handle { state, work })?;
         self.note(Outcome::Applied, Did::Nothing, None)
     }
@@ -252,51 +254,65 @@ impl Course {
     {
         let judged = self.judged(alloc, number)?;
         match judged {
-            Ok(revealed) => self.make_turn(alloc, number, revealed),
+            Ok(judged) => self.make_turn(alloc, number, judged),
             Err(why) => self.misuse(why),
         }
     }
 
-    /// Makes a turn that is valid, and of which was told what its change would make watched paths show.
-    fn make_turn(
-        &mut self,
-        alloc: Global,
-        number: u32,
-        revealed: Option<Revealed>,
-    ) -> Result<(), NoMemory>
+    /// Makes a turn that is valid, and of which was told what its work asks for, the change that this makes, and what watched paths
+    /// show by it.
+    fn make_turn(&mut self, alloc: Global, number: u32, judged: Judged) -> Result<(), NoMemory>
         requires explained { IsExplained self.old }
         requires valid { IsReasonNow self.old (Step.Turn number) None }
-        requires tells { TellsChange self.old.shown.folders (tree_of self.old.disk.state) (would_change_now self.old (Step.Turn number)) revealed }
+        requires asked { judged.ask ≡ ask_by_handle (handle_at self.old number) }
+        requires change { judged.change ≡ change_asked self.old.disk (part_asked judged.ask) }
+        requires tells { TellsChange self.old.shown.folders (tree_of self.old.disk.state) (would_change_now self.old (Step.Turn number)) judged.revealed }
         ensures continues { OnOk result (Continues self.old (Step.Turn number) self.new) }
         ensures noted { OnOk result (HasOneMore self.old self.new) }
     {
         match self.take_work(number) {
-            Ok((state, work)) => self.carry_out(alloc, number, state, work, revealed),
+            Ok((state, work)) => self.carry_out(alloc, number, state, work, judged),
             Err(why) => {
-                drop(revealed);
+                drop(judged);
                 self.misuse(why)
             }
         }
     }
 
-    /// Carries out what the work of a handle asks for that was taken out of the table, and puts the handle back.
+    /// Carries out what the work of a handle asked for that was taken out of the table, and puts the handle back.
     fn carry_out(
         &mut self,
         alloc: Global,
         number: u32,
         state: HandleState,
         work: Work,
-        revealed: Option<Revealed>,
+        judged: Judged,
     ) -> Result<(), NoMemory>
+        requires asked { judged.ask ≡ ask_on state work }
+        requires change { judged.change ≡ change_asked self.old.disk (part_asked judged.ask) }
         requires fits { (slots : ℕ) → registers_in work ≡ Some slots → FitsCore slots state }
-        requires can_happen { CanHappenAt self.old.cores.items number state (ask_on state work) }
+        requires can_happen { CanHappenAt self.old.cores.items number state judged.ask }
         requires free { handle_at self.old number ≡ None }
-        ensures takes { OnOk result (TakesTurn self.old self.new number state work revealed) }
+        ensures takes { OnOk result (TakesTurn self.old self.new number state work judged.revealed) }
     {
         // The proof takes from this call that the disk shows a tree, each node of which lies in a directory: what a call of
         // the disk changes and what it leaves alone is told of trees.
         let _ = self.disk.tree();
-        match carried_out(alloc, &mut self.disk, &mut self.cores, number, state, work) {
+        let Judged {
+            ask,
+            change,
+            revealed,
+        } = judged;
+        match carried_out(
+            alloc,
+            &mut self.disk,
+            &mut self.cores,
+            number,
+            state,
+            work,
+            ask,
+            change,
+        ) {
             Ok(carried) => self.keep_and_settle(alloc, number, carried, revealed),
             Err(error) => {
                 drop(revealed);

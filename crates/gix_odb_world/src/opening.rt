@@ -1,15 +1,15 @@
-//! The conditions of opening, and the state of a handle whose opening begins.
+//! The conditions of opening, and how an opening begins.
 ghost use Rattle.std.specs.Prelude.{◌≡◌, ◌∷◌, ◌≤◌, IfOk, MatchOption, Some, None, true, false, length};
 ghost use Rattle.std.specs.Map.{keys_of};
 ghost use Rattle.std.specs.BTreeMap.{get, IsFromIterResult};
 ghost use Rattle.odb_base.specs.Path.{path_cmp};
 ghost use Rattle.gix_hash.specs.ObjectId.{id_cmp};
-ghost use Rattle.gix_odb_world.specs.Handle.{IsOpened};
+ghost use Rattle.gix_odb_world.specs.Handle.{Begins};
 ghost use Rattle.gix_odb_world.specs.Valid.{are_distinct, are_good_replacements, is_openable};
 
 use gix_hash::{Kind, ObjectId};
-use gix_odb::HandleState;
-use gix_odb_calls::{IdPairs, Options, PathList, StoreParts, are_pairs_of, copy_of_paths};
+use gix_odb::{HandleState, OpenState};
+use gix_odb_calls::{IdPairs, Options, PathList, are_pairs_of};
 use odb_base::{NoMemory, PathText};
 use std::alloc::Global;
 use std::collections::{BTreeMap, BTreeSet};
@@ -22,7 +22,7 @@ const MAX_FOLDERS: usize = 255;
 /// then.
 const MAX_CHANGES: u32 = 1_000_000;
 
-/// The state of a handle whose opening begins, or nothing where a condition of opening doesn't hold.
+/// A handle and its opening, which begins, or nothing where a condition of opening doesn't hold.
 pub fn begun(
     alloc: Global,
     path: &PathText,
@@ -30,9 +30,9 @@ pub fn begun(
     hash: Kind,
     replacements: &IdPairs,
     options: Options,
-) -> Result<Option<HandleState>, NoMemory>
+) -> Result<Option<(HandleState, OpenState)>, NoMemory>
     ensures begun { IfOk result (λ begun. MatchOption begun (is_openable path.now folders.now hash replacements.now options.max_changes ≡ false)
-        (λ state. (is_openable path.now folders.now hash replacements.now options.max_changes ≡ true) × IsOpened path.now folders.now hash replacements.now options state)) }
+        (Begins path.now folders.now hash replacements.now options)) }
 {
     if options.max_changes > MAX_CHANGES || !are_good_folders(alloc, path, folders)? {
         return Ok(None);
@@ -40,16 +40,8 @@ pub fn begun(
     let Some(replacements) = good_replacements(alloc, hash, replacements)? else {
         return Ok(None);
     };
-    let parts = StoreParts {
-        objects: path.try_clone(alloc)?,
-        folders: copy_of_paths(alloc, folders)?,
-        object_hash: hash,
-        replacements,
-        alloc_limit_bytes: options.alloc_limit_bytes,
-        slots: options.slots,
-        max_changes: options.max_changes,
-    };
-    Ok(Some(HandleState::new(alloc, parts)?))
+    let begun = OpenState::start(alloc, path, folders, hash, replacements, options)?;
+    Ok(Some(begun))
 }
 
 /// Whether the conditions of opening hold.

@@ -1,5 +1,5 @@
 //! A turn of a handle: the one call of the disk or event of a core that its work names, and what the turn comes to.
-ghost use Rattle.std.specs.Prelude.{if◌then◌else◌, ◌≡◌, ◌<◌, ℕ, length, IfOk, IsSome, OnOk, None, Some};
+ghost use Rattle.std.specs.Prelude.{◌≡◌, ◌<◌, ℕ, length, IfOk, IsSome, OnOk, None, Some};
 ghost use Rattle.std.specs.Option.{option_map};
 ghost use Rattle.odb_asks.specs.Ask.{after_ask, answer_now};
 ghost use Rattle.odb_asks.specs.MemDisk.{Volume};
@@ -8,14 +8,14 @@ ghost use Rattle.gix_odb_core.specs.Replay.{CanHappen};
 ghost use Rattle.gix_odb_events.specs.Answers.{view_in};
 ghost use Rattle.gix_odb_events.specs.declared.answer.Answer.TheVariants as told;
 ghost use Rattle.gix_odb_runs.specs.Cores.{answer_behind, cores_after_asked, history_at, registered_at};
-ghost use Rattle.gix_odb_runs.specs.Event.{OfCore};
+ghost use Rattle.gix_odb_runs.specs.Event.{OfCore, part_asked};
 ghost use Rattle.gix_odb_world.specs.Recorded.{opened_in};
-ghost use Rattle.gix_odb_runs.specs.Run.{has_failed};
+ghost use Rattle.gix_odb_runs.specs.Run.{change_asked};
 ghost use Rattle.gix_odb_world.specs.Status.{after_reply};
 ghost use Rattle.gix_odb_world.specs.Headline.{outcome_of};
 ghost use Rattle.gix_odb_world.specs.WorkOrder.{ask_on, fed_on, registers_in, result_in};
 ghost use Rattle.gix_odb_world.specs.Table as tables;
-ghost use Rattle.gix_odb_world.specs.Table.{AddsCore, CanHappenAt, Carries, CarriesEvent, FitsCore, after_turn, carried_at, carried_unasked, change_now, did_now, told_in};
+ghost use Rattle.gix_odb_world.specs.Table.{AddsCore, CanHappenAt, Carries, CarriesEvent, FitsCore, after_turn, carried_at, carried_unasked, did_now, told_in};
 
 use crate::handle::Handle;
 use crate::work::Work;
@@ -23,10 +23,10 @@ use gix_odb::HandleState;
 use gix_odb_calls::{CallError, Outcome, Reply};
 use gix_odb_events::{Answer, Effect, Event, PartAsk, Refusal, View};
 use gix_odb_runs::cores::{EventDone, applied, core_with};
-use gix_odb_runs::{ChangeMade, Did, KeptCore, boxed_change};
+use gix_odb_runs::{ChangeMade, Did, KeptCore};
 use odb_asks::{DiskAnswer, DiskAsk};
 use odb_base::{Boxed, NoMemory};
-use odb_disk::{DiskError, MemDisk, PathText};
+use odb_disk::{MemDisk, PathText};
 use std::alloc::Global;
 
 /// What a turn came to: what it did, the change that it made, and its handle and the work after it.
@@ -38,7 +38,8 @@ pub struct Carried {
     pub work: Work,
 }
 
-/// Carries out the one thing that a piece of work asks for, of the disk or of the cores, by the handle that has a seat.
+/// Carries out the one thing that a piece of work asked for, of the disk or of the cores, by the handle that has a seat. The change
+/// that this makes was told before.
 pub fn carried_out(
     alloc: Global,
     disk: &mut MemDisk,
@@ -46,14 +47,21 @@ pub fn carried_out(
     seat: u32,
     state: HandleState,
     work: Work,
+    ask: Option<PartAsk>,
+    change: ChangeMade,
 ) -> Result<Carried, NoMemory>
+    requires asked { ask ≡ ask_on state work }
+    requires change { change ≡ change_asked disk.old (part_asked ask) }
     requires fits { (slots : ℕ) → registers_in work ≡ Some slots → FitsCore slots state }
-    requires can_happen { CanHappenAt cores.old.items seat state (ask_on state work) }
+    requires can_happen { CanHappenAt cores.old.items seat state ask }
     ensures carried { IfOk result (Carries disk.old disk.new cores.old.items cores.new.items state work (told_in cores.old.items disk.old seat state work)) }
 {
     match work.registers() {
-        Some(slots) => registered(alloc, cores, slots, seat, state, work),
-        None => turned(alloc, disk, cores, seat, state, work),
+        Some(slots) => {
+            drop((ask, change));
+            registered(alloc, cores, slots, seat, state, work)
+        }
+        None => asked(alloc, disk, cores, seat, state, work, ask, change),
     }
 }
 
@@ -116,28 +124,6 @@ fn at_core(mut state: HandleState, work: Work, store: usize, view: View) -> Carr
     }
 }
 
-/// Carries out the call of the disk or the event of its handle's core that a piece of work names, if it names one.
-fn turned(
-    alloc: Global,
-    disk: &mut MemDisk,
-    cores: &mut Vec<KeptCore>,
-    seat: u32,
-    state: HandleState,
-    work: Work,
-) -> Result<Carried, NoMemory>
-    requires other { registers_in work ≡ None }
-    requires can_happen { CanHappenAt cores.old.items seat state (ask_on state work) }
-    ensures carried { IfOk result (Carries disk.old disk.new cores.old.items cores.new.items state work (told_in cores.old.items disk.old seat state work)) }
-{
-    match work.ask(alloc, &state) {
-        Ok(ask) => asked(alloc, disk, cores, seat, state, work, ask),
-        Err(error) => {
-            drop((state, work));
-            Err(error)
-        }
-    }
-}
-
 /// Carries out what a piece of work asked for: a call of the disk, an event of its handle's core, or nothing.
 fn asked(
     alloc: Global,
@@ -147,16 +133,24 @@ fn asked(
     state: HandleState,
     work: Work,
     ask: Option<PartAsk>,
+    change: ChangeMade,
 ) -> Result<Carried, NoMemory>
     requires other { registers_in work ≡ None }
     requires asked { ask ≡ ask_on state work }
+    requires change { change ≡ change_asked disk.old (part_asked ask) }
     requires can_happen { CanHappenAt cores.old.items seat state ask }
     ensures carried { IfOk result (Carries disk.old disk.new cores.old.items cores.new.items state work (told_in cores.old.items disk.old seat state work)) }
 {
     match ask {
-        None => Ok(unasked(state, work)),
-        Some(PartAsk::Disk(ask)) => on_disk(alloc, disk, state, work, &ask),
-        Some(PartAsk::Core(event)) => at_own_core(alloc, cores, seat, state, work, event),
+        None => {
+            drop(change);
+            Ok(unasked(state, work))
+        }
+        Some(PartAsk::Disk(ask)) => on_disk(alloc, disk, state, work, &ask, change),
+        Some(PartAsk::Core(event)) => {
+            drop(change);
+            at_own_core(alloc, cores, seat, state, work, event)
+        }
     }
 }
 
@@ -172,24 +166,25 @@ fn unasked(state: HandleState, work: Work) -> Carried
     }
 }
 
-/// Carries out the call of the disk that a piece of work asks for.
+/// Carries out the call of the disk that a piece of work asks for. Its record has the change that was told of it.
 fn on_disk(
     alloc: Global,
     disk: &mut MemDisk,
     state: HandleState,
     work: Work,
     ask: &DiskAsk,
+    change: ChangeMade,
 ) -> Result<Carried, NoMemory>
     ensures did { IfOk result (λ done. done.did ≡ did_now (opened_in work) disk.old ask.now) }
-    ensures change { IfOk result (λ done. done.change ≡ change_now disk.old ask.now) }
+    ensures change { IfOk result (λ done. done.change ≡ change) }
     ensures state { IfOk result (λ done. done.state ≡ state) }
     ensures work { IfOk result (λ done. done.work ≡ fed_on state work (told.Disk (answer_now disk.old ask.now))) }
     ensures left { OnOk result (disk.new ≡ after_ask disk.old ask.now) }
 {
-    match called(alloc, disk, work.opened(), ask) {
-        Ok((did, change, answer)) => fed(alloc, state, work, did, change, Answer::Disk(answer)),
+    match answered(alloc, disk, work.opened(), ask) {
+        Ok((did, answer)) => fed(alloc, state, work, did, change, Answer::Disk(answer)),
         Err(error) => {
-            drop((state, work));
+            drop((state, work, change));
             Err(error)
         }
     }
@@ -286,34 +281,13 @@ fn shown(answer: &Result<Effect, Refusal>) -> Result<Option<View>, NoMemory>
 }
 
 /// A handle with a view, if one was handed over.
-fn seeing(mut state: HandleState, view: Option<View>) -> HandleState
+fn seeing(state: HandleState, view: Option<View>) -> HandleState
     ensures seeing { result ≡ tables.seeing state view }
 {
     match view {
         None => state,
-        Some(view) => {
-            state.view = Some(view);
-            state
-        }
+        Some(view) => state.seeing(view),
     }
-}
-
-/// Makes a call of the disk: what it did, the change that it made, and the answer.
-fn called(
-    alloc: Global,
-    disk: &mut MemDisk,
-    opened: Option<&PathText>,
-    ask: &DiskAsk,
-) -> Result<(Did, ChangeMade, DiskAnswer), NoMemory>
-    ensures did { IfOk result (λ called. called.0 ≡ did_now (option_map (λ path. path.now) opened.entry) disk.old ask.now) }
-    ensures change { IfOk result (λ called. called.1 ≡ change_now disk.old ask.now) }
-    ensures answer { IfOk result (λ called. called.2 ≡ answer_now disk.old ask.now) }
-    ensures left { OnOk result (disk.new ≡ after_ask disk.old ask.now) }
-{
-    let change = boxed_change(alloc, disk.change_of(alloc, ask)?)?;
-    let (did, answer) = answered(alloc, disk, opened, ask)?;
-    let change = change_unless_failed(change, &answer);
-    Ok((did, change, answer))
 }
 
 /// Makes a call of the disk: what it did, and the answer.
@@ -330,16 +304,6 @@ fn answered(
     let answer = disk.carry_out(alloc, ask)?;
     let did = Did::of(alloc, opened, ask, &answer)?;
     Ok((did, answer))
-}
-
-/// The change that a call of the disk makes where it doesn't fail, or none where it failed.
-fn change_unless_failed(change: ChangeMade, answer: &DiskAnswer) -> ChangeMade
-    ensures change { result ≡ (if has_failed answer.now then None else change) }
-{
-    match answer {
-        DiskAnswer::Refused(DiskError::Failed) => None,
-        _ => change,
-    }
 }
 
 /// What a turn came to that left its work so, and the handle after it.

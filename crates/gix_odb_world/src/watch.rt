@@ -1,4 +1,4 @@
-//! The rule of two contents: which folders are watched, and what a turn would make their paths show.
+//! The rule of two contents: which folders are watched, what the work of a turn asks for, and what this would make their paths show.
 ghost use Rattle.std.specs.Prelude.{◌≡◌, ◌∷◌, IfOk, None, OnOk, Some, true};
 ghost use Rattle.std.specs.Option.{option_map};
 ghost use Rattle.std.specs.Result.{result_err};
@@ -6,21 +6,30 @@ ghost use Rattle.odb_asks.specs.Ask.{change_of_ask};
 ghost use Rattle.odb_nodes.specs.Tree.{Tree as TreeValue, tree_of};
 ghost use Rattle.odb_nodes.specs.Tree.Change.{is_possible_in};
 ghost use Rattle.gix_odb_shown.specs.Kept.{Fits};
+ghost use Rattle.gix_odb_runs.specs.Event.{part_asked};
 ghost use Rattle.gix_odb_runs.specs.Run.{change_asked, change_by};
 ghost use Rattle.gix_odb_world.specs.Valid.{IsFirstReason};
 ghost use Rattle.gix_odb_world.specs.Watch.{NotesMade, ShowsSecondBy, TellsChange, Watches};
-ghost use Rattle.gix_odb_world.specs.WorkOrder.{asks_on};
+ghost use Rattle.gix_odb_world.specs.WorkOrder.{ask_on, asks_on};
 
 use crate::work::Work;
 use gix_odb::HandleState;
 use gix_odb_calls::{PathList, Why};
 use gix_odb_events::PartAsk;
-use gix_odb_runs::ChangeMade;
+use gix_odb_runs::{ChangeMade, boxed_change};
 use gix_odb_shown::{Revealed, Shown};
 use odb_asks::DiskAsk;
-use odb_base::NoMemory;
+use odb_base::{Boxed, NoMemory};
 use odb_disk::{Change, MemDisk, PathText, Tree};
 use std::alloc::Global;
+
+/// What was judged of a turn that is valid: what its work asks for, the change that this makes, and what watched paths show by it.
+#[derive(Drop)]
+pub struct Judged {
+    pub ask: Option<PartAsk>,
+    pub change: ChangeMade,
+    pub revealed: Option<Revealed>,
+}
 
 /// Watches the folders of a store from now on.
 pub fn watch_store(
@@ -53,25 +62,71 @@ fn watch_each(
     Ok(())
 }
 
-/// What the turn of a piece of work would make watched paths show, if it would change the tree; or that this would be a second
-/// content.
-pub fn judged(
+/// What a piece of work asks for, the change that this would make, and what watched paths would show by it; or that this would be a
+/// second content.
+pub fn judged_work(
     alloc: Global,
     disk: &MemDisk,
     shown: &Shown,
     handle: &HandleState,
     work: &Work,
-) -> Result<Result<Option<Revealed>, Why>, NoMemory>
+) -> Result<Result<Judged, Why>, NoMemory>
     requires fits { Fits shown.now (tree_of disk.now.state) }
     ensures why { IfOk result (λ judged. IsFirstReason None (ShowsSecondBy shown.now (tree_of disk.now.state) (change_asked disk.now (asks_on handle.now work.now))) (result_err judged)) }
-    ensures tells { IfOk result (λ judged. IfOk judged (TellsChange shown.now.folders (tree_of disk.now.state) (change_asked disk.now (asks_on handle.now work.now)))) }
+    ensures asked { IfOk result (λ judged. IfOk judged (λ j. j.ask ≡ ask_on handle.now work.now)) }
+    ensures change { IfOk result (λ judged. IfOk judged (λ j. j.change ≡ change_asked disk.now (part_asked j.ask))) }
+    ensures tells { IfOk result (λ judged. IfOk judged (λ j. TellsChange shown.now.folders (tree_of disk.now.state) (change_asked disk.now (asks_on handle.now work.now)) j.revealed)) }
 {
-    if work.registers().is_some() {
-        return Ok(Ok(None));
+    let ask = work.ask(alloc, handle)?;
+    judged_ask(alloc, disk, shown, ask)
+}
+
+/// The same of what a piece of work asks for, which is handed on.
+fn judged_ask(
+    alloc: Global,
+    disk: &MemDisk,
+    shown: &Shown,
+    ask: Option<PartAsk>,
+) -> Result<Result<Judged, Why>, NoMemory>
+    requires fits { Fits shown.now (tree_of disk.now.state) }
+    ensures why { IfOk result (λ judged. IsFirstReason None (ShowsSecondBy shown.now (tree_of disk.now.state) (change_asked disk.now (part_asked ask))) (result_err judged)) }
+    ensures asked { IfOk result (λ judged. IfOk judged (λ j. j.ask ≡ ask)) }
+    ensures change { IfOk result (λ judged. IfOk judged (λ j. j.change ≡ change_asked disk.now (part_asked j.ask))) }
+    ensures tells { IfOk result (λ judged. IfOk judged (λ j. TellsChange shown.now.folders (tree_of disk.now.state) (change_asked disk.now (part_asked ask)) j.revealed)) }
+{
+    match judged_part(alloc, disk, shown, &ask) {
+        Ok(Ok((change, revealed))) => Ok(Ok(Judged {
+            ask,
+            change,
+            revealed,
+        })),
+        Ok(Err(why)) => {
+            drop(ask);
+            Ok(Err(why))
+        }
+        Err(error) => {
+            drop(ask);
+            Err(error)
+        }
     }
-    match work.ask(alloc, handle)? {
-        Some(PartAsk::Disk(ask)) => judged_call(alloc, disk, shown, &ask),
-        _ => Ok(Ok(None)),
+}
+
+/// The change that would be made by what a piece of work asks for, and what watched paths would show by it; or that this would be a
+/// second content.
+fn judged_part(
+    alloc: Global,
+    disk: &MemDisk,
+    shown: &Shown,
+    ask: &Option<PartAsk>,
+) -> Result<Result<(ChangeMade, Option<Revealed>), Why>, NoMemory>
+    requires fits { Fits shown.now (tree_of disk.now.state) }
+    ensures why { IfOk result (λ judged. IsFirstReason None (ShowsSecondBy shown.now (tree_of disk.now.state) (change_asked disk.now (part_asked ask.now))) (result_err judged)) }
+    ensures change { IfOk result (λ judged. IfOk judged (λ j. j.0 ≡ change_asked disk.now (part_asked ask.now))) }
+    ensures tells { IfOk result (λ judged. IfOk judged (λ j. TellsChange shown.now.folders (tree_of disk.now.state) (change_asked disk.now (part_asked ask.now)) j.1)) }
+{
+    match ask {
+        Some(PartAsk::Disk(ask)) => judged_call(alloc, disk, shown, ask),
+        _ => Ok(Ok((None, None))),
     }
 }
 
@@ -81,23 +136,52 @@ fn judged_call(
     disk: &MemDisk,
     shown: &Shown,
     ask: &DiskAsk,
-) -> Result<Result<Option<Revealed>, Why>, NoMemory>
+) -> Result<Result<(ChangeMade, Option<Revealed>), Why>, NoMemory>
     requires fits { Fits shown.now (tree_of disk.now.state) }
     ensures why { IfOk result (λ judged. IsFirstReason None (ShowsSecondBy shown.now (tree_of disk.now.state) (change_by disk.now ask.now)) (result_err judged)) }
-    ensures tells { IfOk result (λ judged. IfOk judged (TellsChange shown.now.folders (tree_of disk.now.state) (change_by disk.now ask.now))) }
+    ensures change { IfOk result (λ judged. IfOk judged (λ j. j.0 ≡ change_by disk.now ask.now)) }
+    ensures tells { IfOk result (λ judged. IfOk judged (λ j. TellsChange shown.now.folders (tree_of disk.now.state) (change_by disk.now ask.now) j.1)) }
 {
     // The proof takes from this call that the disk shows a tree, in which the change of a call is possible.
     let tree = disk.tree();
     if disk.fails_now(ask) {
-        return Ok(Ok(None));
+        return Ok(Ok((None, None)));
     }
-    let Some(change) = disk.change_of(alloc, ask)? else {
-        return Ok(Ok(None));
-    };
-    judged_change(alloc, shown, tree, &change)
+    let made = disk.change_of(alloc, ask)?;
+    let change = boxed_change(alloc, made)?;
+    match change {
+        None => Ok(Ok((None, None))),
+        Some(change) => judged_boxed(alloc, shown, tree, change),
+    }
 }
 
-/// The same of a change that is possible.
+/// The same of a change that is possible, which is handed on.
+fn judged_boxed(
+    alloc: Global,
+    shown: &Shown,
+    tree: &Tree,
+    change: Boxed<Change>,
+) -> Result<Result<(ChangeMade, Option<Revealed>), Why>, NoMemory>
+    requires fits { Fits shown.now tree.now }
+    requires possible { is_possible_in tree.now change ≡ true }
+    ensures why { IfOk result (λ judged. IsFirstReason None (ShowsSecondBy shown.now tree.now (Some change)) (result_err judged)) }
+    ensures change { IfOk result (λ judged. IfOk judged (λ j. j.0 ≡ Some change)) }
+    ensures tells { IfOk result (λ judged. IfOk judged (λ j. TellsChange shown.now.folders tree.now (Some change) j.1)) }
+{
+    match judged_change(alloc, shown, tree, change.get()) {
+        Ok(Ok(revealed)) => Ok(Ok((Some(change), revealed))),
+        Ok(Err(why)) => {
+            drop(change);
+            Ok(Err(why))
+        }
+        Err(error) => {
+            drop(change);
+            Err(error)
+        }
+    }
+}
+
+/// What a change that is possible would make watched paths show; or that this would be a second content.
 fn judged_change(
     alloc: Global,
     shown: &Shown,

@@ -29,7 +29,7 @@ impl Work {
     {
         match self {
             Work::Opening(state) => opening_ask(alloc, handle, state),
-            Work::Calling(state) => state.ask(alloc),
+            Work::Calling(state) => state.part_ask(alloc),
         }
     }
 

@@ -5,7 +5,9 @@ ghost use Rattle.odb_nodes.specs.Tree.{tree_of};
 ghost use Rattle.odb_nodes.specs.Tree.Change.{changed};
 ghost use Rattle.gix_odb_shown.specs.Kept.{Fits};
 ghost use Rattle.gix_odb_shown.specs.Revealed.{IsRevealed};
-ghost use Rattle.gix_odb_world.specs.Table.{IsReasonNow, phase_of_handle, would_change_now};
+ghost use Rattle.gix_odb_runs.specs.Event.{part_asked};
+ghost use Rattle.gix_odb_runs.specs.Run.{change_asked};
+ghost use Rattle.gix_odb_world.specs.Table.{IsReasonNow, ask_by_handle, phase_of_handle, would_change_now};
 ghost use Rattle.gix_odb_world.specs.Valid as valid;
 ghost use Rattle.gix_odb_world.specs.Valid.{is_openable};
 ghost use Rattle.gix_odb_world.specs.Watch.{TellsChange};
@@ -14,7 +16,7 @@ ghost use Rattle.gix_odb_world.specs.World.{handle_at};
 use super::Course;
 use crate::handle::Handle;
 use crate::opening;
-use crate::watch::judged;
+use crate::watch::{Judged, judged_work};
 use gix_odb_calls::{IdPairs, Options, PathList, Step, Why};
 use gix_odb_shown::Revealed;
 use odb_base::NoMemory;
@@ -102,21 +104,19 @@ impl Course {
         Ok(Ok(revealed))
     }
 
-    /// Why a turn isn't valid; or what its change would make watched paths show, if it would make one.
-    pub(super) fn judged(
-        &self,
-        alloc: Global,
-        number: u32,
-    ) -> Result<Result<Option<Revealed>, Why>, NoMemory>
+    /// Why a turn isn't valid; or what its work asks for, the change that this would make, and what watched paths would show by it.
+    pub(super) fn judged(&self, alloc: Global, number: u32) -> Result<Result<Judged, Why>, NoMemory>
         requires fits { Fits self.now.shown (tree_of self.now.disk.state) }
         ensures why { IfOk result (λ judged. IsReasonNow self.now (Step.Turn number) (result_err judged)) }
-        ensures tells { IfOk result (λ judged. IfOk judged (TellsChange self.now.shown.folders (tree_of self.now.disk.state) (would_change_now self.now (Step.Turn number)))) }
+        ensures asked { IfOk result (λ judged. IfOk judged (λ j. j.ask ≡ ask_by_handle (handle_at self.now number))) }
+        ensures change { IfOk result (λ judged. IfOk judged (λ j. j.change ≡ change_asked self.now.disk (part_asked j.ask))) }
+        ensures tells { IfOk result (λ judged. IfOk judged (λ j. TellsChange self.now.shown.folders (tree_of self.now.disk.state) (would_change_now self.now (Step.Turn number)) j.revealed)) }
     {
         match self.handles.get(&number) {
             None => Ok(Err(Why::NoHandle)),
             Some(Handle { state, work }) => match work {
                 None => Ok(Err(Why::NotRunning)),
-                Some(work) => judged(alloc, &self.disk, &self.shown, state, work),
+                Some(work) => judged_work(alloc, &self.disk, &self.shown, state, work),
             },
         }
     }
@@ -127,8 +127,8 @@ impl Course {
         ensures why { IfOk result (IsReasonNow self.now (Step.Turn number)) }
     {
         match self.judged(alloc, number)? {
-            Ok(revealed) => {
-                drop(revealed);
+            Ok(judged) => {
+                drop(judged);
                 Ok(None)
             }
             Err(why) => Ok(Some(why)),

@@ -1,13 +1,16 @@
-use Rattle.std.proofs.Common.{[], ◌∷◌, ◌++◌, None, refl, sym, ap, ◌∙◌, subst, Vec, Global}
+use Rattle.std.proofs.Common.{◌≡◌, [], ◌∷◌, ◌++◌, None, refl, sym, ap, ◌∙◌, subst, Vec, Global}
 use Rattle.std.proofs.lemmas.Result.{on_ok_weaker}
+use Rattle.odb_asks.specs.MemDisk.{Volume}
 use Rattle.gix_odb_core.specs.History.{History}
 use Rattle.gix_odb_calls.specs.declared.step.Outcome.TheVariants.{Misuse}
 use Rattle.gix_odb_calls.specs.declared.step.Step.TheVariants as steps
 use Rattle.gix_odb_world.specs.declared.course.Course.{Course}
 use Rattle.gix_odb_runs.specs.declared.record.Did.TheVariants.{Nothing}
+use Rattle.gix_odb_runs.specs.Event.{part_asked}
+use Rattle.gix_odb_runs.specs.Run.{change_asked}
 use Rattle.gix_odb_world.specs.Headline.{outcome_of}
-use Rattle.gix_odb_world.specs.Table.{CanHappenAt, Notes}
-use Rattle.gix_odb_world.specs.WorkOrder.{ask_on, result_in}
+use Rattle.gix_odb_world.specs.Table.{CanHappenAt, Notes, ask_by_handle}
+use Rattle.gix_odb_world.specs.WorkOrder.{result_in}
 use Rattle.gix_odb_world.proofs.ExplainedFits.{fits_core}
 use Rattle.gix_odb_world.proofs.ExplainedSeats.{turn_can_happen}
 use Rattle.gix_odb_world.proofs.FitsLemmas.{fits_now}
@@ -27,7 +30,7 @@ pub returns-in-Ok-clause-continues : goal.returns-in-Ok-clause-continues
 returns-in-Ok-clause-continues c =
     on_ok_weaker c.carry_out.result
     (λ turn. turned_on c.args.self.now c.take_work.new.self turn.keeps.settles.mid c.carry_out.new.self turn.disk turn.cores turn.keeps.shown c.args.number
-    c.in-Ok.state c.in-Ok.work turn.done _ _ c.args.revealed
+    c.in-Ok.state c.in-Ok.work turn.done _ _ c.args.judged.revealed
     c.in-Ok.ensures.taken c.in-Ok.ensures.sets turn.tree turn.carries refl refl
     c.requires.valid (fits_now c.args.self.now c.requires.explained) c.requires.tells turn.keeps.keeps
     turn.keeps.settles.sets turn.keeps.settles.notes) c.carry_out.ensures.takes
@@ -45,8 +48,18 @@ returns-in-Ok-clause-noted c =
 pub carry_out-requires-clause-fits : goal.carry_out-requires-clause-fits
 carry_out-requires-clause-fits c = fits_core c.args.self.now c.args.number c.in-Ok.state c.in-Ok.work c.in-Ok.ensures.taken c.requires.explained
 
--- and an event of a core that the work asks for can happen
+-- what was asked is what the work asks for that was taken out
+pub carry_out-requires-clause-asked : goal.carry_out-requires-clause-asked
+carry_out-requires-clause-asked c = c.requires.asked ∙ ap ask_by_handle c.in-Ok.ensures.taken
+
+-- the change that was told is still the one that it makes
+pub carry_out-requires-clause-change : goal.carry_out-requires-clause-change
+carry_out-requires-clause-change c =
+    subst (λ (disk : Volume). c.args.judged.change ≡ change_asked disk (part_asked c.args.judged.ask)) (sym c.in-Ok.ensures.sets.disk) c.requires.change
+
+-- and an event of a core that it asks for can happen
 pub carry_out-requires-clause-can_happen : goal.carry_out-requires-clause-can_happen
 carry_out-requires-clause-can_happen c =
-    subst (λ (cores : Vec History Global). CanHappenAt cores.items c.args.number c.in-Ok.state (ask_on c.in-Ok.state c.in-Ok.work)) (sym c.in-Ok.ensures.sets.cores)
-    (turn_can_happen c.args.self.now c.requires.explained c.args.number c.in-Ok.state c.in-Ok.work c.in-Ok.ensures.taken)
+    subst (λ (cores : Vec History Global). CanHappenAt cores.items c.args.number c.in-Ok.state c.args.judged.ask) (sym c.in-Ok.ensures.sets.cores)
+    (subst (CanHappenAt c.args.self.now.cores.items c.args.number c.in-Ok.state) (sym (c.requires.asked ∙ ap ask_by_handle c.in-Ok.ensures.taken))
+    (turn_can_happen c.args.self.now c.requires.explained c.args.number c.in-Ok.state c.in-Ok.work c.in-Ok.ensures.taken))

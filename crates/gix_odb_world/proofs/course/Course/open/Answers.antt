@@ -1,9 +1,9 @@
-use Rattle.std.proofs.Common.{◌≡◌, ◌∷◌, false, true, sym, subst}
+use Rattle.std.proofs.Common.{◌≡◌, ◌∷◌, false, sym, subst}
 use Rattle.std.proofs.lemmas.Result.{on_ok_weaker}
 use Rattle.gix_odb_calls.specs.declared.step.Step.TheVariants as steps
 use Rattle.gix_odb_calls.specs.declared.step.Why.TheVariants.{BadOpen}
 use Rattle.gix_odb_shown.specs.Kept.{Fits}
-use Rattle.gix_odb_world.specs.Handle.{IsOpened}
+use Rattle.gix_odb_world.specs.Handle.{Begins}
 use Rattle.gix_odb_world.specs.Table.{phase_of_handle}
 use Rattle.gix_odb_world.specs.Valid.{is_openable}
 use Rattle.gix_odb_world.specs.Watch.{Watches}
@@ -23,27 +23,25 @@ returns-in-Some-clause-continues c =
     (is_openable c.args.path.now c.args.folders.now c.args.hash c.args.replacements.now c.args.options.max_changes) c.in-Some.why c.in-Some.ensures.why)) c.misuse.ensures.notes
 
 -- a condition of opening doesn't hold
-pub returns-in_default-2-clause-continues : goal.returns-in_default-2-clause-continues
-returns-in_default-2-clause-continues c =
+pub returns-in_default-begun-clause-continues : goal.returns-in_default-begun-clause-continues
+returns-in_default-begun-clause-continues c =
     let bad : is_openable c.args.path.now c.args.folders.now c.args.hash c.args.replacements.now c.args.options.max_changes ≡ false =
-    none_of c.in_ok-state.field-0 (is_openable c.args.path.now c.args.folders.now c.args.hash c.args.replacements.now c.args.options.max_changes ≡ false)
-    (λ state. (is_openable c.args.path.now c.args.folders.now c.args.hash c.args.replacements.now c.args.options.max_changes ≡ true)
-    × IsOpened c.args.path.now c.args.folders.now c.args.hash c.args.replacements.now c.args.options state) c.in_ok-state.ensures.begun c.in_default-2.is in
-    on_ok_weaker c.misuse-in_default-2.result
-    (misused c.args.self.now c.misuse-in_default-2.new.self (steps.Open c.args.number c.args.path.now c.args.folders.now c.args.hash c.args.replacements.now c.args.options) BadOpen
+    none_of c.in_ok-begun.begun (is_openable c.args.path.now c.args.folders.now c.args.hash c.args.replacements.now c.args.options.max_changes ≡ false)
+    (Begins c.args.path.now c.args.folders.now c.args.hash c.args.replacements.now c.args.options) c.in_ok-begun.ensures.begun c.in_default-begun.is in
+    on_ok_weaker c.misuse-in_default-begun.result
+    (misused c.args.self.now c.misuse-in_default-begun.new.self (steps.Open c.args.number c.args.path.now c.args.folders.now c.args.hash c.args.replacements.now c.args.options) BadOpen
     (bad_open (phase_of_handle (handle_at c.args.self.now c.args.number)) (is_openable c.args.path.now c.args.folders.now c.args.hash c.args.replacements.now c.args.options.max_changes)
-    (sym c.in_default.ensures.why) bad)) c.misuse-in_default-2.ensures.notes
+    (sym c.in_default.ensures.why) bad)) c.misuse-in_default-begun.ensures.notes
 
 -- the opening begins
 pub returns-clause-continues : goal.returns-clause-continues
 returns-clause-continues c =
-    let good =
-    some_of c.in_ok-state.field-0 (is_openable c.args.path.now c.args.folders.now c.args.hash c.args.replacements.now c.args.options.max_changes ≡ false)
-    (λ state. (is_openable c.args.path.now c.args.folders.now c.args.hash c.args.replacements.now c.args.options.max_changes ≡ true)
-    × IsOpened c.args.path.now c.args.folders.now c.args.hash c.args.replacements.now c.args.options state) c.in-Some-2.state c.in_ok-state.ensures.begun c.in-Some-2.is in
+    let begins =
+    some_of c.in_ok-begun.begun (is_openable c.args.path.now c.args.folders.now c.args.hash c.args.replacements.now c.args.options.max_changes ≡ false)
+    (Begins c.args.path.now c.args.folders.now c.args.hash c.args.replacements.now c.args.options) (c.in-Some-begun.state, c.in-Some-begun.opening) c.in_ok-begun.ensures.begun c.in-Some-begun.is in
     on_ok_weaker c.note.result
-    (opened c.args.self.now c.put.new.self c.note.new.self c.watch_store.new.shown c.args.number c.args.path.now c.args.folders.now c.args.hash c.args.replacements.now c.args.options c.in-Some-2.state
-    (sym c.in_default.ensures.why) good.0 good.1 (subst (λ t. Watches c.args.self.now.shown c.watch_store.new.shown t (c.args.path.now ∷ c.args.folders.now)) c.tree.ensures.shown c.in_ok-watch_store.ensures.watches)
+    (opened c.args.self.now c.put.new.self c.note.new.self c.watch_store.new.shown c.args.number c.args.path.now c.args.folders.now c.args.hash c.args.replacements.now c.args.options c.in-Some-begun.state
+    c.in-Some-begun.opening (sym c.in_default.ensures.why) begins (subst (λ t. Watches c.args.self.now.shown c.watch_store.new.shown t (c.args.path.now ∷ c.args.folders.now)) c.tree.ensures.shown c.in_ok-watch_store.ensures.watches)
     c.in_ok-put.ensures.sets) c.note.ensures.notes
 
 -- what is kept fits the disk

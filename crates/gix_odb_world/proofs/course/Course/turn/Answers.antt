@@ -1,13 +1,16 @@
-use Rattle.std.proofs.Common.{None, Option, Result, subst}
+use Rattle.std.proofs.Common.{◌≡◌, None, Result, subst}
 use Rattle.std.specs.Prelude.{IfOk}
 use Rattle.std.specs.Result.{result_err}
 use Rattle.std.proofs.lemmas.Result.{on_ok_weaker}
 use Rattle.odb_nodes.specs.Tree.{tree_of}
 use Rattle.gix_odb_calls.specs.declared.step.Step.TheVariants as steps
 use Rattle.gix_odb_calls.specs.declared.step.Why.{Why}
-use Rattle.gix_odb_shown.specs.declared.revealed.Revealed.{Revealed}
-use Rattle.gix_odb_world.specs.Table.{IsReasonNow, would_change_now}
+use Rattle.gix_odb_runs.specs.Event.{part_asked}
+use Rattle.gix_odb_runs.specs.Run.{change_asked}
+use Rattle.gix_odb_world.specs.Table.{IsReasonNow, ask_by_handle, would_change_now}
 use Rattle.gix_odb_world.specs.Watch.{TellsChange}
+use Rattle.gix_odb_world.specs.World.{handle_at}
+use Rattle.gix_odb_world.specs.declared.watch.Judged.{Judged}
 use Rattle.gix_odb_world.proofs.FitsLemmas.{fits_now}
 use Rattle.gix_odb_world.proofs.StepLemmas.{misused_for}
 use Rattle.gix_odb_world.proofs.course.Course.turn.Goals as goal
@@ -17,16 +20,26 @@ pub returns-in-Err-clause-continues : goal.returns-in-Err-clause-continues
 returns-in-Err-clause-continues c =
     on_ok_weaker c.misuse.result
     (misused_for c.args.self.now c.misuse.new.self (steps.Turn c.args.number) c.in-Err.why
-    (subst (λ (j : Result (Option Revealed) Why). IsReasonNow c.args.self.now (steps.Turn c.args.number) (result_err j)) c.in-Err.is c.in_ok-judged.ensures.why)) c.misuse.ensures.notes
+    (subst (λ (j : Result Judged Why). IsReasonNow c.args.self.now (steps.Turn c.args.number) (result_err j)) c.in-Err.is c.in_ok-judged.ensures.why)) c.misuse.ensures.notes
 
 pub judged-requires : goal.judged-requires
 judged-requires c = record { fits = fits_now c.args.self.now c.requires.explained }
 
 pub make_turn-requires-clause-valid : goal.make_turn-requires-clause-valid
 make_turn-requires-clause-valid c =
-    subst (λ (j : Result (Option Revealed) Why). IsReasonNow c.args.self.now (steps.Turn c.args.number) (result_err j)) c.in-Ok.is c.in_ok-judged.ensures.why
+    subst (λ (j : Result Judged Why). IsReasonNow c.args.self.now (steps.Turn c.args.number) (result_err j)) c.in-Ok.is c.in_ok-judged.ensures.why
+
+-- what is handed on is what the work asks for, its change, and what watched paths show by it
+pub make_turn-requires-clause-asked : goal.make_turn-requires-clause-asked
+make_turn-requires-clause-asked c =
+    subst (λ (j : Result Judged Why). IfOk j (λ told. told.ask ≡ ask_by_handle (handle_at c.args.self.now c.args.number))) c.in-Ok.is c.in_ok-judged.ensures.asked
+
+pub make_turn-requires-clause-change : goal.make_turn-requires-clause-change
+make_turn-requires-clause-change c =
+    subst (λ (j : Result Judged Why). IfOk j (λ told. told.change ≡ change_asked c.args.self.now.disk (part_asked told.ask))) c.in-Ok.is c.in_ok-judged.ensures.change
 
 pub make_turn-requires-clause-tells : goal.make_turn-requires-clause-tells
 make_turn-requires-clause-tells c =
-    subst (λ (j : Result (Option Revealed) Why). IfOk j (TellsChange c.args.self.now.shown.folders (tree_of c.args.self.now.disk.state) (would_change_now c.args.self.now (steps.Turn c.args.number))))
+    subst (λ (j : Result Judged Why). IfOk j (λ told. TellsChange c.args.self.now.shown.folders (tree_of c.args.self.now.disk.state)
+    (would_change_now c.args.self.now (steps.Turn c.args.number)) told.revealed))
     c.in-Ok.is c.in_ok-judged.ensures.tells

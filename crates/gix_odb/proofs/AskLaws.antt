@@ -1,0 +1,149 @@
+-- Laws of what calls ask: a call that was started asks for something or has its reply, and says that it is done exactly where it has one.
+use Rattle.std.proofs.Common.{◌≡◌, ◌↔◌, List, [], ◌∷◌, Option, Some, None, Result, Ok, Err, refl, sym, ap, ◌∙◌, subst}
+use Rattle.std.specs.Result.{result_ok}
+use Rattle.gix_hash.specs.declared.kind.Kind.{Kind as HashKind}
+use Rattle.gix_hash.specs.declared.object_id.ObjectId.{ObjectId}
+use Rattle.gix_odb_loose.specs.LooseOrder.{stage_ask, stage_reply}
+use Rattle.gix_odb_loose.specs.declared.call.LooseCall.{LooseCall}
+use Rattle.gix_odb_loose.specs.declared.call.Stage as loose
+use Rattle.gix_odb_loose.specs.declared.call.Stage.TheVariants as loose_stages
+use Rattle.gix_odb_calls.specs.declared.call.Call.{Call}
+use Rattle.gix_odb_calls.specs.declared.call.Call.TheVariants as call_kinds
+use Rattle.gix_odb_calls.specs.declared.call.Reply.{Reply}
+use Rattle.gix_odb_calls.specs.declared.query.Query.{Query}
+use Rattle.gix_odb_calls.specs.declared.query.Query.TheVariants.{Find, Header, Test}
+use Rattle.gix_odb_events.specs.declared.answer.Answer.{Answer}
+use Rattle.gix_odb_events.specs.declared.answer.PartAsk.{PartAsk}
+use Rattle.gix_odb_events.specs.declared.answer.PartAsk.TheVariants as asks
+use Rattle.gix_odb_events.specs.declared.view.View.{View}
+use Rattle.gix_odb_looks.proofs.CauseLaws.{a_done_look_up_asks_nothing}
+use Rattle.gix_odb_looks.specs.Exchange as looks_past
+use Rattle.gix_odb_looks.specs.Exchange.{Exchange}
+use Rattle.gix_odb_looks.specs.LookUpOrder as looks
+use Rattle.gix_odb_looks.specs.LookUpOrder.{Setting}
+use Rattle.gix_odb_looks.specs.declared.look_up.LookHead.{LookHead}
+use Rattle.gix_odb_looks.specs.declared.look_up.LookStage.{LookStage}
+use Rattle.gix_odb_looks.specs.declared.look_up.LookStage.TheVariants as look_stages
+use Rattle.gix_odb_looks.specs.declared.look_up.LookUp.{LookUp}
+use Rattle.gix_odb_refresh.specs.Asked as any
+use Rattle.gix_odb_refresh.specs.RefreshOrder as refreshes
+use Rattle.gix_odb_refresh.specs.declared.refresh.Refresh.{Refresh}
+use Rattle.gix_odb_refresh.specs.declared.refresh.Refresh.TheVariants as fronts
+use Rattle.gix_odb.specs.CallOrder.{ask_of, asked_by, asked_of, disk_part, fed, fronted, looking_result, replied_by, result_of, started, unlisted, writing, writing_result, wrote_as}
+use Rattle.gix_odb.specs.declared.ask.Ask.TheVariants as own
+use Rattle.gix_odb.specs.declared.call_state.CallState.{CallState}
+use Rattle.gix_odb.specs.declared.call_state.CallState.TheVariants.{Looking, Refreshing, Refused, Writing}
+
+-- ---- a call with a reply asks nothing
+
+look_asks_none : (head : LookHead) (stage : LookStage) (reply : Reply) → looking_result (looks.result_at head stage) ≡ Ok reply → looks.ask_at stage ≡ None
+look_asks_none head (look_stages.Trying trier part) reply is = absurd (cc is)
+look_asks_none head (look_stages.Loose round call) reply is = absurd (cc is)
+look_asks_none head (look_stages.Looking purpose notes) reply is = absurd (cc is)
+look_asks_none head (look_stages.Listing lister base notes) reply is = absurd (cc is)
+look_asks_none head (look_stages.Publishing listing notes) reply is = absurd (cc is)
+look_asks_none head (look_stages.Done other) reply is = refl
+
+write_asks_none : (call : LooseCall) (stage : loose.Stage) (reply : Reply) → writing_result (replied_by call (stage_reply stage)) ≡ Ok reply
+    → disk_part (stage_ask stage) ≡ None
+write_asks_none call (loose_stages.Testing path) reply is = absurd (cc is)
+write_asks_none call (loose_stages.Finding path limit) reply is = absurd (cc is)
+write_asks_none call (loose_stages.Heading path) reply is = absurd (cc is)
+write_asks_none call (loose_stages.Writing job) reply is = absurd (cc is)
+write_asks_none call (loose_stages.Done other) reply is = refl
+
+pub a_call_with_a_reply_asks_nothing : (state : CallState) (reply : Reply) → result_of state ≡ Ok reply → ask_of state ≡ None
+a_call_with_a_reply_asks_nothing (Looking look) reply is = look_asks_none look.head look.stage reply is
+a_call_with_a_reply_asks_nothing (Refreshing refresh write) reply is = absurd (cc is)
+a_call_with_a_reply_asks_nothing (Writing call) reply is = write_asks_none call call.stage reply is
+a_call_with_a_reply_asks_nothing (Refused error) reply is = refl
+
+-- ---- it is done
+
+done_by : (ask : Option PartAsk) (result : Result Reply CallState) (reply : Reply) → asked_by ask (result_ok result) ≡ own.Done reply → result ≡ Ok reply
+done_by (Some (asks.Disk ask)) result reply is = absurd (cc is)
+done_by (Some (asks.Core event)) result reply is = absurd (cc is)
+done_by None (Ok other) reply is = let same : other ≡ reply = cc is in ap Ok same
+done_by None (Err state) reply is = absurd (cc is)
+
+-- a call says that it is done, with a reply, exactly where this is its reply
+pub calls_are_done_with_their_reply : (state : CallState) (reply : Reply) → (asked_of state ≡ own.Done reply) ↔ (result_of state ≡ Ok reply)
+calls_are_done_with_their_reply state reply = (
+  done_by (ask_of state) (result_of state) reply,
+  λ is. ap (λ (ask : Option PartAsk). asked_by ask (result_ok (result_of state))) (a_call_with_a_reply_asks_nothing state reply is)
+      ∙ ap (λ (result : Result Reply CallState). asked_by None (result_ok result)) is,
+)
+
+-- ---- a call without a reply asks for something
+
+-- where a write stands: what is in front of it asks for something
+abbrev Stands : CallState → Type 0
+Stands (Looking look) = ⊥
+Stands (Refreshing refresh write) = ¬ (refreshes.ask_of refresh ≡ None)
+Stands (Writing call) = Unit {0}
+Stands (Refused error) = Unit {0}
+
+fronted-stands : (refresh : Refresh) (write : LooseCall) → Stands (fronted refresh write)
+fronted-stands fronts.Looking write = λ is. cc is
+fronted-stands (fronts.Listing lister base) write = λ is. cc is
+fronted-stands (fronts.Publishing listing) write = λ is. cc is
+fronted-stands fronts.Ready write = tt
+fronted-stands (fronts.Refused error) write = tt
+
+fed-stands : (setting : Setting) (state : CallState) (answer : Answer) → Stands state → Stands (fed setting state answer)
+fed-stands setting (Looking look) answer stands = absurd stands
+fed-stands setting (Refreshing refresh write) answer stands = fronted-stands (refreshes.fed setting.objects setting.folders refresh answer) write
+fed-stands setting (Writing call) answer stands = tt
+fed-stands setting (Refused error) answer stands = tt
+
+-- a call behind exchanges
+abbrev pub behind : Setting → CallState → List Exchange → CallState
+behind setting state exchanges = any.behind ask_of (fed setting) state exchanges
+
+behind-stands : (setting : Setting) (state : CallState) (exchanges : List Exchange) → Stands state → Stands (behind setting state exchanges)
+behind-stands setting state [] stands = stands
+behind-stands setting state (exchange ∷ exchanges) stands =
+    behind-stands setting (fed setting state exchange.answer) exchanges (fed-stands setting state exchange.answer stands)
+
+behind-look : (setting : Setting) (look : LookUp) (exchanges : List Exchange) → behind setting (Looking look) exchanges ≡ Looking (looks_past.behind setting look exchanges)
+behind-look setting look [] = refl
+behind-look setting look (exchange ∷ exchanges) = behind-look setting (looks.fed setting look exchange.answer) exchanges
+
+-- what a call has that asks nothing
+abbrev HasReply : CallState → Type 0
+HasReply state = ask_of state ≡ None → (reply : Reply) × (result_of state ≡ Ok reply)
+
+write_has_reply : (call : LooseCall) (stage : loose.Stage) → disk_part (stage_ask stage) ≡ None
+    → (reply : Reply) × (writing_result (replied_by call (stage_reply stage)) ≡ Ok reply)
+write_has_reply call (loose_stages.Testing path) is = absurd (cc is)
+write_has_reply call (loose_stages.Finding path limit) is = absurd (cc is)
+write_has_reply call (loose_stages.Heading path) is = absurd (cc is)
+write_has_reply call (loose_stages.Writing job) is = absurd (cc is)
+write_has_reply call (loose_stages.Done reply) is = (wrote_as reply, refl)
+
+standing_has_reply : (state : CallState) → Stands state → HasReply state
+standing_has_reply (Looking look) stands is = absurd stands
+standing_has_reply (Refreshing refresh write) stands is = absurd (stands is)
+standing_has_reply (Writing call) stands is = write_has_reply call call.stage is
+standing_has_reply (Refused error) stands is = (unlisted error, refl)
+
+module _ (setting : Setting) (hash : HashKind) (view : View) (sought : Query → ObjectId) (exchanges : List Exchange) where
+  query_has_reply : (query : Query) → HasReply (behind setting (Looking (looks.started setting view query (sought query))) exchanges)
+  query_has_reply query =
+      subst HasReply (sym (behind-look setting (looks.started setting view query (sought query)) exchanges))
+      (λ is. let done = (a_done_look_up_asks_nothing setting view query (sought query) exchanges).0 is in (done.0, ap looking_result done.1))
+
+  has_reply : (call : Call) → HasReply (behind setting (started setting hash view sought call) exchanges)
+  has_reply (call_kinds.Find id) = query_has_reply (Find id)
+  has_reply (call_kinds.Header id) = query_has_reply (Header id)
+  has_reply (call_kinds.Test id) = query_has_reply (Test id)
+  has_reply (call_kinds.Write kind size bytes id) =
+      standing_has_reply (behind setting (started setting hash view sought (call_kinds.Write kind size bytes id)) exchanges)
+      (behind-stands setting (started setting hash view sought (call_kinds.Write kind size bytes id)) exchanges
+      (fronted-stands (refreshes.started view) (writing setting.objects hash kind size bytes id)))
+
+  -- a call that was started asks nothing exactly where it has its reply
+  pub a_done_call_asks_nothing : (call : Call) → (ask_of (behind setting (started setting hash view sought call) exchanges) ≡ None)
+      ↔ ((reply : Reply) × (result_of (behind setting (started setting hash view sought call) exchanges) ≡ Ok reply))
+  a_done_call_asks_nothing call =
+      (has_reply call, λ done. a_call_with_a_reply_asks_nothing (behind setting (started setting hash view sought call) exchanges) done.0 done.1)
