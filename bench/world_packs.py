@@ -135,9 +135,23 @@ def middle(count):
     return joined(setup, 4, [(["do link /o/pack/z.pack /d/x"], ["applied"]), *changes, found(7)])
 
 
+def missed(count):
+    """So many packs of one object, all of whose indices one find reads that finds nothing."""
+    setup = [line for pack in range(count) for line in put("pack-%05d" % pack, [pack], 1)]
+    return joined(setup, count, [(["find 0 " + "0" * 39 + "1", "finish 0"], ["applied", "not-found"])])
+
+
+def each_found(count):
+    """So many packs of one object, of which the last in the order of trying is found first: all indices and one pack are read, and then the packs of twenty others."""
+    setup = [line for pack in range(count) for line in put("pack-%05d" % pack, [pack], 1)]
+    return joined(setup, count, [found(count - 1), *[found(number * (count // 20)) for number in range(20)]])
+
+
 CASES = {
     "objects in one pack": (one_pack, (1000, 4000, 16000)),
     "packs": (many_packs, (20, 80, 320)),
+    "indices read by a miss": (missed, (500, 2000, 8000)),
+    "indices read by a find": (each_found, (500, 2000, 8000)),
     "handles": (handles, (2000, 8000, 32000)),
     "replacements": (replaced, (200, 800)),
     "changes behind a link": (behind_link, (2000, 8000, 32000)),
