@@ -31,7 +31,7 @@ fn check(alloc: Global, list: &SharedList<Mark>, want: &str) -> Result<(), Fail>
 // An older copy that changes with the list.
 #[test]
 fn list_beside_an_older_copy(rt: HostRuntime) -> Result<(), Fail> {
-    let mut list = SharedList::empty(rt.alloc(), 200)?;
+    let mut list = SharedList::empty(200);
     put(rt.alloc(), &mut list, 1, &[0, 63, 64])?;
     let older = list.try_clone()?;
     put(rt.alloc(), &mut list, 2, &[63, 127, 199, 200])?;

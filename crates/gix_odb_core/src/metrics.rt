@@ -13,7 +13,7 @@ impl Shape {
         requires countable { IsCountable self.now }
         ensures metrics { result ≡ metrics_of self.now refreshes }
     {
-        let listed = listed_tally(&self.slots, self.list.value().as_slice());
+        let listed = listed_tally(&self.slots, self.list.as_slice());
         let disposable = disposable_tally(&self.slots);
         Metrics {
             num_handles: self.handles.len(),

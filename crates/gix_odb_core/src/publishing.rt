@@ -9,7 +9,7 @@ ghost use Rattle.gix_odb_core.specs.Steps.{publishing, settled_as, with_list, wi
 ghost use Rattle.gix_odb_core.specs.Turn.{publish_turn, stands};
 ghost use Rattle.gix_odb_events.specs.PackId.{most_slots};
 
-use crate::shape::{Shape, Shelf, listed};
+use crate::shape::{Shape, Shelf};
 use crate::turn::{Told, Turn};
 use gix_odb_events::{Listing, ListingRow, PlaceList, Refusal, Slot, SlotList};
 use gix_odb_slots::Matched;
@@ -36,7 +36,7 @@ fn shared_with_list(
     ensures slots { IfOk result (λ shared. shared.0 ≡ after) }
     ensures list { IfOk result (λ shared. shared.1 ≡ list_after rows.now after) }
 {
-    let list = listed(alloc, list_after(alloc, rows, after.as_slice())?)?;
+    let list = PlaceList::new(alloc, list_after(alloc, rows, after.as_slice())?)?;
     let slots = SlotList::from_vec(alloc, after.into_vec())?;
     Ok((slots, list))
 }
@@ -46,7 +46,7 @@ impl Shape {
     fn is_confirmed(&self, list: &[u16], news: usize) -> bool
         ensures confirmed { result ≡ (self.now.read && same_list list.now self.now.list && news == 0) }
     {
-        self.read && list == self.list.value().as_slice() && news == 0
+        self.read && list == self.list.as_slice() && news == 0
     }
 
     /// Whether a listing leaves the slots and the list as they are.
@@ -118,7 +118,7 @@ impl Shape {
         ensures turn { result ≡ publish_turn self.now rows.now (settled_as self.now rows.now slots list renewed) }
         ensures leaves { IfSome result.shelf (λ shelf. shelf.slots ≡ slots) }
     {
-        let confirmed = self.is_confirmed(list.value().as_slice(), news);
+        let confirmed = self.is_confirmed(list.as_slice(), news);
         if self.would_overflow(confirmed, renewed) {
             return Turn::quiet(Told::Refused(Refusal::GenerationOverflow));
         }
@@ -199,7 +199,7 @@ impl Shape {
     {
         let stable = self.handles.is_any_stable();
         let matched = Matched::new(alloc, listing.rows.as_slice(), slots)?;
-        let free = free_places(alloc, stable, &matched, self.list.value().as_slice())?;
+        let free = free_places(alloc, stable, &matched, self.list.as_slice())?;
         let news = count_new(&matched);
         if free.len() < news {
             let needed = news - free.len();

@@ -6,10 +6,10 @@ ghost use Rattle.gix_odb_events.specs.Shown.{shown_indices, shown_kept, shown_to
 use crate::Shared;
 use crate::handles::HandleTable;
 use gix_odb_events::{
-    KeptList, ListedPlaces, ListedSlots, LoadedList, PlaceList, SlotIndexMarker, SlotList,
-    Snapshot, TodoList, View,
+    KeptList, ListedSlots, LoadedList, PlaceList, SlotIndexMarker, SlotList, Snapshot, TodoList,
+    View,
 };
-use odb_base::{NoMemory, Sequence};
+use odb_base::NoMemory;
 use std::alloc::Global;
 
 /// The slots of a core, its list, its counters and its handles.
@@ -45,23 +45,17 @@ pub(crate) struct Shelf {
 
 impl Shelf {
     /// The slots, the list and the counters of a core that was just made.
-    pub(crate) fn opening(
-        alloc: Global,
-        slots: u16,
-        generation: u32,
-        state_id: u64,
-    ) -> Result<Shelf, NoMemory>
-        ensures opening { IfOk result (λ shelf. shelf ≡ record { slots = replicate slots None; list = []; read = false; list_no = 0; generation = generation; state_id = state_id }) }
+    pub(crate) fn opening(slots: u16, generation: u32, state_id: u64) -> Shelf
+        ensures opening { result ≡ record { slots = replicate slots None; list = []; read = false; list_no = 0; generation = generation; state_id = state_id } }
     {
-        let list = listed(alloc, Sequence::new(alloc))?;
-        Ok(Shelf {
-            slots: SlotList::empty(alloc, slots as usize)?,
-            list,
+        Shelf {
+            slots: SlotList::empty(slots as usize),
+            list: PlaceList::empty(),
             read: false,
             list_no: 0,
             generation,
             state_id,
-        })
+        }
     }
 }
 
@@ -117,14 +111,6 @@ impl Shape {
             state_id: self.state_id,
         })
     }
-}
-
-/// The numbers of listed slots, as the slots and the views of a core share them.
-pub(crate) fn listed(alloc: Global, places: Sequence<u16>) -> Result<PlaceList, NoMemory>
-    ensures list { IfOk result (λ list. list ≡ places) }
-{
-    let places = ListedPlaces::new(alloc, places)?;
-    Shared::new(alloc, places)
 }
 
 /// What slots and a list show, handed over with an entry.

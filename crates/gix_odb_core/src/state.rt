@@ -108,7 +108,7 @@ impl State {
         ensures entries { IfOk result (λ state. state.journal.entries.items ≡ []) }
         ensures kept { IfOk result IsKept }
     {
-        let shelf = Shelf::opening(alloc, slots, generation, state_id)?;
+        let shelf = Shelf::opening(slots, generation, state_id);
         let view = shelf.view(alloc, 0)?;
         Ok(State {
             shape: Shape::without_handles(alloc, folders, shelf),
@@ -126,8 +126,8 @@ impl State {
         requires kept { IsKept self.now }
         ensures report { IfOk result (λ report. report ≡ report_of self.now.shape self.now.journal.entries.items) }
     {
-        let list = self.shape.list.value();
-        let listed = report_listed(alloc, &self.shape.slots, list.as_slice())?;
+        let list = self.shape.list.as_slice();
+        let listed = report_listed(alloc, &self.shape.slots, list)?;
         let passed_over = reported(alloc, self.passed.as_slice())?;
         let report = Report {
             metrics: self.shape.metrics(self.refreshes),

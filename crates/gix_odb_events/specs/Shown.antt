@@ -22,20 +22,17 @@ shown_slot place None = None
 shown_slot place (Some filled) =
     option_map (λ index. record { slot = place; path = index_path filled.index; index = index; packs = filled.packs }) (loaded_index filled.index)
 
--- what is still to be loaded of a slot
+-- an index that is still to be loaded, where none of its bytes are at hand
 abbrev pub todo_of : ℕ → Option LoadedIndex → Filled → Option Todo
 todo_of place None filled = Some (record { slot = place; path = index_path filled.index })
 todo_of place (Some index) filled = None
 
--- whether its bytes are at hand. No public clause cites this
-abbrev pub is_index_loaded : Option LoadedIndex → Bool
-is_index_loaded None = false
-is_index_loaded (Some index) = true
-
+-- what is still to be loaded of a slot
 abbrev pub unloaded_slot : ℕ → Slot → Option Todo
 unloaded_slot place None = None
 unloaded_slot place (Some filled) = todo_of place (loaded_index filled.index) filled
 
+-- whether a slot is listed
 abbrev pub is_listed : List ℕ → ℕ → Bool
 is_listed list place = list_any (nat_eq place) list
 

@@ -39,6 +39,6 @@ pub use on_disk_file::{FileState, OnDiskFile};
 pub use pack_file::{PackFile, PackFileList, new_packs, packs_beside};
 pub use pack_id::{IndexId, PackId};
 pub use pack_place::pack_path;
-pub use places::{ListedPlaces, PlaceList};
+pub use places::PlaceList;
 pub use slot::{Filled, IndexFile, Slot, SlotList};
 pub use view::{SlotIndexMarker, Snapshot, View};

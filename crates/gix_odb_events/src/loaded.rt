@@ -1,16 +1,16 @@
 //! Indices that are loaded, and those that are still to be: what is told of one, and the lists of them.
-ghost use Rattle.std.specs.Prelude.{◌≡◌, ◌==◌, [], Contains, IfOk, OnOk, Some, drop};
+ghost use Rattle.std.specs.Prelude.{◌≡◌, ◌==◌, [], Contains, IfOk, OnErr, OnOk, Some, drop};
 ghost use Rattle.std.specs.List.{find};
 ghost use Rattle.gix_odb_events.specs.Shown.{first_of, shown_indices, shown_kept, shown_todo};
 
 use crate::Shared;
 use crate::pack_file::PackFileList;
-use crate::places::{ListedPlaces, PlaceList};
+use crate::places::PlaceList;
 use crate::shown::{first_shown, first_unloaded, shown_at};
 use crate::slot::SlotList;
 use gix_multi_index as multi_index;
 use gix_pack_files::index;
-use odb_base::{NoMemory, PathText, Sequence};
+use odb_base::{NoMemory, PathText};
 use std::alloc::Global;
 use std::marker::Model;
 
@@ -50,9 +50,8 @@ impl ListedSlots {
         ensures slots { IfOk result (λ none. none.slots ≡ []) }
         ensures list { IfOk result (λ none. none.list ≡ []) }
     {
-        let list = ListedPlaces::new(alloc, Sequence::new(alloc))?;
-        let list = Shared::new(alloc, list)?;
-        let slots = SlotList::empty(alloc, 0)?;
+        let slots = SlotList::empty(0);
+        let list = PlaceList::empty();
         Shared::new(alloc, ListedSlots { slots, list })
     }
 }
@@ -100,13 +99,13 @@ impl LoadedList {
         })
     }
 
-    /// The index of a slot, if it is among these: there is one at most.
+    /// The index of a slot, if it is among these. Where there are several of one slot, they are equal.
     pub fn in_slot(&self, place: u16) -> Result<Option<SnapshotIndex>, NoMemory>
         ensures first { IfOk result (λ found. found ≡ find (λ index. index.slot == place) self.now) }
         ensures only { IfOk result (λ found. (index : SnapshotIndex) → Contains self.now index → index.slot ≡ place → found ≡ Some index) }
     {
         let of = self.of.value();
-        if !of.list.value().has(place) {
+        if !of.list.has(place) {
             return Ok(None);
         }
         shown_at(&of.slots, place)
@@ -146,13 +145,13 @@ impl KeptList {
         KeptList::of(&self.of)
     }
 
-    /// The index of a slot, if it is among these: there is one at most.
+    /// The index of a slot, if it is among these. Where there are several of one slot, they are equal.
     pub fn in_slot(&self, place: u16) -> Result<Option<SnapshotIndex>, NoMemory>
         ensures first { IfOk result (λ found. found ≡ find (λ index. index.slot == place) self.now) }
         ensures only { IfOk result (λ found. (index : SnapshotIndex) → Contains self.now index → index.slot ≡ place → found ≡ Some index) }
     {
         let of = self.of.value();
-        let listed = of.list.value().has(place);
+        let listed = of.list.has(place);
         if listed {
             return Ok(None);
         }
@@ -203,12 +202,12 @@ impl TodoList {
         })
     }
 
-    /// What is left of it behind its end: nothing.
+    /// Its end, where nothing is left.
     pub fn end(&self) -> Result<TodoRest, NoMemory>
         ensures none { IfOk result (λ rest. rest ≡ []) }
     {
         let of = self.of.try_clone()?;
-        let next = of.value().list.value().as_slice().len();
+        let next = of.value().list.as_slice().len();
         Ok(TodoRest { of, next })
     }
 }
@@ -233,13 +232,14 @@ impl Model for LoadedRest {
 }
 
 impl LoadedRest {
-    /// Takes the first, if one is left.
+    /// Takes the first, if one is left. Want of memory takes none.
     pub fn pop(&mut self) -> Result<Option<SnapshotIndex>, NoMemory>
         ensures first { IfOk result (λ first. first ≡ first_of self.old) }
         ensures rest { OnOk result (self.new ≡ drop 1 self.old) }
+        ensures kept { OnErr result (self.new ≡ self.old) }
     {
         let of = self.of.value();
-        let (first, gone) = first_shown(&of.slots, &of.list.value().as_slice()[self.next..])?;
+        let (first, gone) = first_shown(&of.slots, &of.list.as_slice()[self.next..])?;
         self.next += gone;
         Ok(first)
     }
@@ -265,13 +265,14 @@ impl Model for TodoRest {
 }
 
 impl TodoRest {
-    /// Takes the first, if one is left.
+    /// Takes the first, if one is left. Want of memory takes none.
     pub fn pop(&mut self) -> Result<Option<Todo>, NoMemory>
         ensures first { IfOk result (λ first. first ≡ first_of self.old) }
         ensures rest { OnOk result (self.new ≡ drop 1 self.old) }
+        ensures kept { OnErr result (self.new ≡ self.old) }
     {
         let of = self.of.value();
-        let (first, gone) = first_unloaded(&of.slots, &of.list.value().as_slice()[self.next..])?;
+        let (first, gone) = first_unloaded(&of.slots, &of.list.as_slice()[self.next..])?;
         self.next += gone;
         Ok(first)
     }

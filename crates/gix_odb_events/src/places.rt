@@ -1,5 +1,5 @@
 //! The numbers of listed slots, and which slots these are.
-ghost use Rattle.std.specs.Prelude.{◌≡◌, ◌<◌, ◌≤◌, ◌||◌, ℕ, All, IfOk, false, get_or, length, nat_eq};
+ghost use Rattle.std.specs.Prelude.{◌≡◌, ◌<◌, ◌≤◌, ◌||◌, ℕ, All, IfOk, false, get_or, length, nat_eq, []};
 ghost use Rattle.gix_odb_events.specs.Places.{IsMarked};
 ghost use Rattle.gix_odb_events.specs.Shown.{is_listed};
 
@@ -8,17 +8,13 @@ use odb_base::{NoMemory, Sequence};
 use std::alloc::Global;
 use std::marker::Model;
 
-/// The numbers of the listed slots, in the order of the list, which contracts see as that list. Whether a slot is among them is
-/// told without going through it.
+/// The numbers of listed slots, with marks that tell which these are.
 #[derive(Drop)]
-pub struct ListedPlaces {
+struct ListedPlaces {
     places: Sequence<u16>,
     /// For each number up to the greatest, whether it is listed.
     marks: Vec<bool>,
 }
-
-/// The same with several owners.
-pub type PlaceList = Shared<ListedPlaces>;
 
 impl Model for ListedPlaces {
     ghost use Rattle.std.specs.Prelude.{List, ℕ};
@@ -33,7 +29,7 @@ impl Model for ListedPlaces {
 
 impl ListedPlaces {
     /// A list of numbers, in its order.
-    pub fn new(alloc: Global, places: Sequence<u16>) -> Result<ListedPlaces, NoMemory>
+    fn new(alloc: Global, places: Sequence<u16>) -> Result<ListedPlaces, NoMemory>
         ensures places { IfOk result (λ listed. listed ≡ places) }
     {
         let marks = marks_of(alloc, places.as_slice())?;
@@ -41,19 +37,88 @@ impl ListedPlaces {
     }
 
     /// The list.
-    pub fn as_slice(&self) -> &[u16]
+    fn as_slice(&self) -> &[u16]
         ensures places { result.now ≡ self.now }
     {
         self.places.as_slice()
     }
 
     /// Whether a slot is listed.
-    pub fn has(&self, place: u16) -> bool
+    fn has(&self, place: u16) -> bool
         ensures has { result ≡ is_listed self.now place }
     {
         match self.marks.get(place as usize) {
             Some(marked) => *marked,
             None => false,
+        }
+    }
+}
+
+/// The numbers of the listed slots, in the order of the list, which contracts see as that list. A copy shares them. Whether a
+/// slot is among them is told without going through them.
+#[derive(Drop)]
+pub struct PlaceList {
+    /// None where no slot is listed, so that such a list takes no memory.
+    listed: Option<Shared<ListedPlaces>>,
+}
+
+impl Model for PlaceList {
+    ghost use Rattle.std.specs.Prelude.{[], List, unwrap_or, ℕ};
+
+    ghost Value = { List ℕ };
+
+    ghost view = { λ list. unwrap_or list.listed [] };
+}
+
+impl PlaceList {
+    /// No slot is listed. It takes no memory.
+    pub fn empty() -> PlaceList
+        ensures empty { result ≡ [] }
+    {
+        PlaceList { listed: None }
+    }
+
+    /// A list of numbers, in its order.
+    pub fn new(alloc: Global, places: Sequence<u16>) -> Result<PlaceList, NoMemory>
+        ensures places { IfOk result (λ list. list ≡ places) }
+    {
+        if places.len() == 0 {
+            return Ok(PlaceList::empty());
+        }
+        let listed = ListedPlaces::new(alloc, places)?;
+        Ok(PlaceList {
+            listed: Some(Shared::new(alloc, listed)?),
+        })
+    }
+
+    /// A copy, which shares the list.
+    pub fn try_clone(&self) -> Result<PlaceList, NoMemory>
+        ensures copy { IfOk result (λ copy. copy ≡ self.now) }
+    {
+        let listed = match &self.listed {
+            None => None,
+            Some(listed) => Some(listed.try_clone()?),
+        };
+        Ok(PlaceList { listed })
+    }
+
+    /// The list.
+    pub fn as_slice(&self) -> &[u16]
+        ensures places { result.now ≡ self.now }
+    {
+        match &self.listed {
+            None => &[],
+            Some(listed) => listed.value().as_slice(),
+        }
+    }
+
+    /// Whether a slot is listed.
+    pub fn has(&self, place: u16) -> bool
+        ensures has { result ≡ is_listed self.now place }
+    {
+        match &self.listed {
+            None => false,
+            Some(listed) => listed.value().has(place),
         }
     }
 }

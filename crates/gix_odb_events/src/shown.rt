@@ -1,10 +1,10 @@
 //! What is shown of slots: the index of each, where its bytes are at hand, and else that it is still to be loaded.
 ghost use Rattle.std.specs.Prelude.{◌≡◌, ◌≤◌, IfOk, Some, drop, length};
-ghost use Rattle.gix_odb_events.specs.Shown.{first_of, is_index_loaded, loaded_index, shown_indices, shown_slot, shown_todo, unloaded_slot};
+ghost use Rattle.gix_odb_events.specs.Shown.{first_of, loaded_index, shown_indices, shown_slot, shown_todo, unloaded_slot};
 ghost use Rattle.gix_odb_events.specs.Slots.{slot_at};
 
 use crate::loaded::{LoadedIndex, SnapshotIndex, Todo};
-use crate::slot::{Filled, IndexFile, Slot, SlotList};
+use crate::slot::{Filled, IndexFile, SlotList};
 use odb_base::NoMemory;
 
 /// The index of a slot, where its bytes are at hand.
@@ -40,31 +40,11 @@ fn shown_filled(place: u16, filled: &Filled) -> Result<Option<SnapshotIndex>, No
     }))
 }
 
-/// What a snapshot has of a slot.
-fn shown_slot(place: u16, slot: &Slot) -> Result<Option<SnapshotIndex>, NoMemory>
-    ensures shown { IfOk result (λ shown. shown ≡ shown_slot place slot.now) }
-{
-    match slot {
-        None => Ok(None),
-        Some(filled) => shown_filled(place, filled.value()),
-    }
-}
-
-/// Whether the bytes of the index of a slot are at hand.
-fn is_loaded(index: &IndexFile) -> bool
-    ensures loaded { result ≡ is_index_loaded (loaded_index index.now) }
-{
-    match index {
-        IndexFile::Single(file) => file.loaded().is_some(),
-        IndexFile::Multi(file) => file.loaded().is_some(),
-    }
-}
-
 /// What is still to be loaded of what a slot holds.
 fn unloaded_filled(place: u16, filled: &Filled) -> Result<Option<Todo>, NoMemory>
     ensures unloaded { IfOk result (λ unloaded. unloaded ≡ unloaded_slot place (Some filled.now)) }
 {
-    if is_loaded(&filled.index) {
+    if filled.index.is_loaded() {
         return Ok(None);
     }
     Ok(Some(Todo {
@@ -73,23 +53,13 @@ fn unloaded_filled(place: u16, filled: &Filled) -> Result<Option<Todo>, NoMemory
     }))
 }
 
-/// What is still to be loaded of a slot.
-fn unloaded_slot(place: u16, slot: &Slot) -> Result<Option<Todo>, NoMemory>
-    ensures unloaded { IfOk result (λ unloaded. unloaded ≡ unloaded_slot place slot.now) }
-{
-    match slot {
-        None => Ok(None),
-        Some(filled) => unloaded_filled(place, filled.value()),
-    }
-}
-
 /// What a snapshot has of the slot at a place. Beyond the slots there is nothing.
 pub(crate) fn shown_at(slots: &SlotList, place: u16) -> Result<Option<SnapshotIndex>, NoMemory>
     ensures shown { IfOk result (λ shown. shown ≡ shown_slot place (slot_at slots.now place)) }
 {
     match slots.get(place as usize) {
         None => Ok(None),
-        Some(slot) => shown_slot(place, slot),
+        Some(filled) => shown_filled(place, filled.value()),
     }
 }
 
@@ -99,7 +69,7 @@ fn unloaded_at(slots: &SlotList, place: u16) -> Result<Option<Todo>, NoMemory>
 {
     match slots.get(place as usize) {
         None => Ok(None),
-        Some(slot) => unloaded_slot(place, slot),
+        Some(filled) => unloaded_filled(place, filled.value()),
     }
 }
 

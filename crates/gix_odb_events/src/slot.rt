@@ -203,6 +203,7 @@ fn new_index(
     }
 }
 
+/// The packs, each put back.
 fn packs_put_back(alloc: Global, packs: &PackFileList) -> Result<PackFileList, NoMemory>
     ensures put_back { IfOk result (λ copies. copies ≡ map (with_state put_back) packs.now) }
 {
@@ -213,6 +214,7 @@ fn packs_put_back(alloc: Global, packs: &PackFileList) -> Result<PackFileList, N
     Ok(copies)
 }
 
+/// The packs, each trashed.
 fn packs_trashed(alloc: Global, packs: &PackFileList) -> Result<PackFileList, NoMemory>
     ensures trashed { IfOk result (λ copies. copies ≡ map (with_state trashed) packs.now) }
 {

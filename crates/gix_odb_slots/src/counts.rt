@@ -56,8 +56,8 @@ impl Tally {
         ensures tally { result ≡ with_slot self (slot_at slots.now place) }
     {
         match slots.get(place as usize) {
-            Some(Some(filled)) => self.with_filled(filled.value()),
-            _ => self,
+            Some(filled) => self.with_filled(filled.value()),
+            None => self,
         }
     }
 
@@ -67,8 +67,8 @@ impl Tally {
         ensures tally { result ≡ with_slot self (disposable_slot (slot_at slots.now place)) }
     {
         match slots.get(place) {
-            Some(Some(filled)) => self.with_filled_if_disposable(filled.value()),
-            _ => self,
+            Some(filled) => self.with_filled_if_disposable(filled.value()),
+            None => self,
         }
     }
 
@@ -123,7 +123,7 @@ pub fn disposable_tally(slots: &SlotList) -> Tally
 fn is_empty(slots: &SlotList, place: usize) -> bool
     ensures empty { result ≡ is_none (slot_at slots.now place) }
 {
-    !matches!(slots.get(place), Some(Some(_)))
+    slots.get(place).is_none()
 }
 
 /// How many slots are empty.

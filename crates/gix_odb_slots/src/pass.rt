@@ -38,12 +38,12 @@ pub fn slot_turns_missing(path: &PathText, slots: &SlotList, place: usize) -> bo
     ensures missing { result ≡ slot_turns_missing path.now (slot_at slots.now place) }
 {
     match slots.get(place) {
-        Some(Some(filled)) => {
+        Some(filled) => {
             let filled = filled.value();
             index_turns_missing(path, &filled.index)
                 || is_any_turning_missing(path, filled.packs.value().as_slice())
         }
-        _ => false,
+        None => false,
     }
 }
 
@@ -107,10 +107,10 @@ pub fn slot_passed(
     ensures slot { IfOk result (λ slot. slot ≡ slot_passed path.now (slot_at slots.now place)) }
 {
     match slots.get(place) {
-        Some(Some(filled)) => {
+        Some(filled) => {
             let passed = filled_passed(alloc, path, filled.value())?;
             Ok(Some(Shared::new(alloc, passed)?))
         }
-        _ => Ok(None),
+        None => Ok(None),
     }
 }

@@ -66,8 +66,8 @@ pub fn slot_with_index(
     ensures filled { IfOk result (λ stored. stored ≡ slot_with_index path.now read.now (slot_at slots.now place)) }
 {
     match slots.get(place) {
-        Some(Some(filled)) => filled_with_index(path, read, filled.value()),
-        _ => Ok(None),
+        Some(filled) => filled_with_index(path, read, filled.value()),
+        None => Ok(None),
     }
 }
 
@@ -160,7 +160,7 @@ pub fn slot_with_pack(
     ensures filled { IfOk result (λ stored. stored ≡ slot_with_pack path.now read.now (slot_at slots.now place)) }
 {
     match slots.get(place) {
-        Some(Some(filled)) => filled_with_pack(alloc, path, read, filled.value()),
-        _ => Ok(None),
+        Some(filled) => filled_with_pack(alloc, path, read, filled.value()),
+        None => Ok(None),
     }
 }

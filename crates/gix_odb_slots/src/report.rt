@@ -24,8 +24,8 @@ fn listed_at(slots: &SlotList, place: u16) -> Result<Option<Listed>, NoMemory>
     ensures listed { IfOk result (λ listed. listed ≡ option_map listed_of (slot_at slots.now place)) }
 {
     match slots.get(place as usize) {
-        Some(Some(filled)) => Ok(Some(filled.value().listed()?)),
-        _ => Ok(None),
+        Some(filled) => Ok(Some(filled.value().listed()?)),
+        None => Ok(None),
     }
 }
 

@@ -1,8 +1,8 @@
 -- Lists in blocks: the item at a place, another item in its place, and blocks that are filled one after another.
-use Rattle.std.proofs.Common.{◌≡◌, ◌∙◌, ap, arith, refl, sym, ℕ, zero, suc, ◌+◌, ◌-◌, ◌*◌, ◌/◌, ◌%◌, ◌<◌, ◌≤◌, Option, Some, None, List, [], ◌∷◌, ◌++◌, length, set, replicate, append-nil, length-append, length-set}
+use Rattle.std.proofs.Common.{◌≡◌, ◌∙◌, ap, arith, refl, sym, ℕ, zero, suc, ◌+◌, ◌-◌, ◌*◌, ◌/◌, ◌%◌, ◌<◌, ◌≤◌, Option, Some, None, List, [], ◌∷◌, ◌++◌, length, set, append-nil, length-append, length-set}
 use Rattle.std.specs.List.{All, slice_get}
 use Rattle.std.proofs.Math.Nat.{mul-le-mul_right}
-use Rattle.std.proofs.lemmas.List.{length-replicate, set-append_left, set-append_right}
+use Rattle.std.proofs.lemmas.List.{set-append_left, set-append_right}
 use Rattle.std.proofs.lemmas.List.Concat.{flat_map-append}
 use Rattle.std.proofs.lemmas.List.Elements.{All-tail}
 use Rattle.std.proofs.lemmas.Nat.{div-add-mod', mod_below}
@@ -101,6 +101,3 @@ AreFilled-push w (c ∷ d ∷ bs) last full most =
 
 pub joined-push : {X : Type 0} (bs : List (List X)) (last : List X) → joined (bs ++ last ∷ []) ≡ joined bs ++ last
 joined-push bs last = flat_map-append (λ block. block) bs (last ∷ []) ∙ ap (λ items. joined bs ++ items) (append-nil last)
-
-pub length_empty_places : {X : Type 0} (places : List (Option X)) (n : ℕ) → places ≡ replicate n None → length places ≡ n
-length_empty_places places n e = ap length e ∙ length-replicate n None

@@ -3,7 +3,7 @@
 //! A copy of either takes one further owner, whatever its size, and contracts see owners of one value as equal. A list with
 //! another item at one place shares all but one of its blocks with the list before.
 //! ```rust
-//! let before = SharedList::empty(alloc, 200)?;
+//! let before = SharedList::empty(200);
 //! let after = before.with(alloc, 63, Some(Shared::new(alloc, value)?))?;
 //! ```
 #![tactic(auto)]

@@ -1,6 +1,7 @@
 //! Lists of places whose copies share what they have in common.
-ghost use Rattle.std.specs.Prelude.{◌≡◌, ◌/◌, IfOk, None, OnOk, ◌++◌, length, replicate, slice_get, slice_set};
+ghost use Rattle.std.specs.Prelude.{◌≡◌, ◌/◌, IfOk, None, OnOk, ◌++◌, length, replicate, slice_get, slice_set, unwrap_or};
 ghost use Rattle.std.specs.Option.{option_copied};
+ghost use Rattle.odb_shared.specs.Blocks.{AreFilled, joined};
 
 use crate::Shared;
 use crate::filling::Filling;
@@ -22,29 +23,40 @@ pub(crate) type Blocks<T> = Sequence<Shared<Block<T>>>;
 
 /// A list of places, each empty or with a value, whose copies share what they have in common.
 ///
-/// The places stand in blocks, all full but perhaps the last. A copy takes one further owner. A list with another item at one
-/// place has a block of its own there, and shares the others.
+/// The places stand in blocks, all full but perhaps the last. A list whose places are all empty may have none, and takes no
+/// memory beside itself then. A copy takes one further owner. A list with another item at one place has a block of its own
+/// there, and shares the others.
 #[derive(Drop)]
 pub struct SharedList<T> {
-    blocks: Shared<Blocks<T>>,
+    blocks: Option<Shared<Blocks<T>>>,
     len: usize,
 }
 
 impl<T> Model for SharedList<T> {
-    ghost use Rattle.std.specs.Prelude.{◌≡◌, List, Option, length};
+    ghost use Rattle.std.specs.Prelude.{List, Option};
     ghost use Rattle.std.specs.Coded.{coded_list, coded_option};
-    ghost use Rattle.odb_shared.specs.Blocks.{AreFilled, joined};
+    ghost use Rattle.odb_shared.specs.Blocks.{HasPlaces, places_in};
 
     ghost Value = { List (Option T) };
 
     ghost coded = { coded_list (coded_option T.code) };
 
-    ghost view = { λ list. joined list.blocks };
+    ghost view = { λ list. places_in list.len list.blocks };
 
-    ghost invariant = { λ list. AreFilled 64 list.blocks × (list.len ≡ length (joined list.blocks)) };
+    ghost invariant = { λ list. HasPlaces 64 list.len list.blocks };
 }
 
 impl<T> SharedList<T> {
+    /// So many empty places. It takes no memory.
+    pub fn empty(count: usize) -> SharedList<T>
+        ensures items { result ≡ replicate count None }
+    {
+        SharedList {
+            blocks: None,
+            len: count,
+        }
+    }
+
     /// How many places there are.
     pub fn len(&self) -> usize
         ensures len { result ≡ length self.now }
@@ -52,13 +64,13 @@ impl<T> SharedList<T> {
         self.len
     }
 
-    /// The place under a number, counted from 0, if there is one.
-    pub fn get(&self, place: usize) -> Option<&Option<Shared<T>>>
-        ensures item { option_copied result ≡ slice_get self.now place }
+    /// The value at a place, counted from 0. There is none where the place is empty, or behind the end.
+    pub fn get(&self, place: usize) -> Option<&Shared<T>>
+        ensures value { option_copied result ≡ unwrap_or (slice_get self.now place) None }
     {
-        match block_at(&self.blocks, place) {
+        match &self.blocks {
             None => None,
-            Some(block) => block.get(place % WIDTH),
+            Some(blocks) => value_at(blocks, place),
         }
     }
 
@@ -66,7 +78,10 @@ impl<T> SharedList<T> {
     pub fn try_clone(&self) -> Result<SharedList<T>, NoMemory>
         ensures copy { IfOk result (λ copy. copy ≡ self.now) }
     {
-        let blocks = self.blocks.try_clone()?;
+        let blocks = match &self.blocks {
+            None => None,
+            Some(blocks) => Some(blocks.try_clone()?),
+        };
         Ok(SharedList {
             blocks,
             len: self.len,
@@ -75,18 +90,6 @@ impl<T> SharedList<T> {
 }
 
 impl<T: Drop> SharedList<T> {
-    /// So many empty places.
-    pub fn empty(alloc: Global, count: usize) -> Result<SharedList<T>, NoMemory>
-        ensures items { IfOk result (λ list. list ≡ replicate count None) }
-    {
-        let mut filling = Filling::new(alloc);
-        for _ in 0..count {
-            filling.push(alloc, None)?;
-        }
-        let blocks = filling.finish(alloc)?;
-        Ok(SharedList { blocks, len: count })
-    }
-
     /// The items of a vector.
     pub fn from_vec(alloc: Global, items: Vec<Option<Shared<T>>>) -> Result<SharedList<T>, NoMemory>
         ensures items { IfOk result (λ list. list ≡ items.items) }
@@ -97,7 +100,10 @@ impl<T: Drop> SharedList<T> {
             filling.push(alloc, item)?;
         }
         let blocks = filling.finish(alloc)?;
-        Ok(SharedList { blocks, len })
+        Ok(SharedList {
+            blocks: Some(blocks),
+            len,
+        })
     }
 
     /// The same list, with another item at one place. Beyond the list nothing changes.
@@ -109,16 +115,22 @@ impl<T: Drop> SharedList<T> {
     ) -> Result<SharedList<T>, NoMemory>
         ensures items { IfOk result (λ list. list ≡ slice_set self.now place item) }
     {
-        match block_at(&self.blocks, place) {
-            None => self.try_clone(),
-            Some(block) => {
-                let block = block_with(alloc, block, place % WIDTH, item)?;
-                let blocks = blocks_with(alloc, &self.blocks, place / WIDTH, block)?;
-                Ok(SharedList {
-                    blocks,
-                    len: self.len,
-                })
-            }
+        let blocks = self.own_blocks(alloc)?;
+        let blocks = with_item(alloc, &blocks, place, item)?;
+        Ok(SharedList {
+            blocks: Some(blocks),
+            len: self.len,
+        })
+    }
+
+    /// Its blocks. Those of a list without any are made.
+    fn own_blocks(&self, alloc: Global) -> Result<Shared<Blocks<T>>, NoMemory>
+        ensures filled { IfOk result (AreFilled 64) }
+        ensures places { IfOk result (λ blocks. joined blocks ≡ self.now) }
+    {
+        match &self.blocks {
+            None => empty_blocks(alloc, self.len),
+            Some(blocks) => blocks.try_clone(),
         }
     }
 
@@ -126,11 +138,89 @@ impl<T: Drop> SharedList<T> {
     pub fn to_vec(&self, alloc: Global) -> Result<Vec<Option<Shared<T>>>, NoMemory>
         ensures items { IfOk result (λ items. items.items ≡ self.now) }
     {
-        let mut items = Vec::with_capacity(alloc, self.len)?;
-        for block in self.blocks.value().as_slice() {
-            append(&mut items, block.value())?;
+        match &self.blocks {
+            None => empty_places(alloc, self.len),
+            Some(blocks) => places_of(alloc, blocks.value(), self.len),
         }
-        Ok(items)
+    }
+}
+
+/// So many empty places.
+fn empty_places<T: Drop>(alloc: Global, count: usize) -> Result<Vec<Place<T>>, NoMemory>
+    ensures items { IfOk result (λ items. items.items ≡ replicate count None) }
+{
+    let mut items = Vec::with_capacity(alloc, count)?;
+    for _ in 0..count {
+        items.push(None)?;
+    }
+    Ok(items)
+}
+
+/// Blocks of so many empty places.
+fn empty_blocks<T: Drop>(alloc: Global, count: usize) -> Result<Shared<Blocks<T>>, NoMemory>
+    ensures filled { IfOk result (AreFilled 64) }
+    ensures places { IfOk result (λ blocks. joined blocks ≡ replicate count None) }
+{
+    let mut filling = Filling::new(alloc);
+    for _ in 0..count {
+        filling.push(alloc, None)?;
+    }
+    filling.finish(alloc)
+}
+
+/// The places of blocks, of which there are so many in all.
+fn places_of<T: Drop>(
+    alloc: Global,
+    blocks: &Blocks<T>,
+    count: usize,
+) -> Result<Vec<Place<T>>, NoMemory>
+    ensures items { IfOk result (λ items. items.items ≡ joined blocks.now) }
+{
+    let mut items = Vec::with_capacity(alloc, count)?;
+    for block in blocks.as_slice() {
+        append(&mut items, block.value())?;
+    }
+    Ok(items)
+}
+
+/// Blocks with another item at one of their places. Behind the last nothing changes.
+fn with_item<T: Drop>(
+    alloc: Global,
+    blocks: &Shared<Blocks<T>>,
+    place: usize,
+    item: Place<T>,
+) -> Result<Shared<Blocks<T>>, NoMemory>
+    requires filled { AreFilled 64 blocks.now }
+    ensures filled { IfOk result (AreFilled 64) }
+    ensures places { IfOk result (λ changed. joined changed ≡ slice_set (joined blocks.now) place item) }
+{
+    match block_at(blocks, place) {
+        None => blocks.try_clone(),
+        Some(block) => {
+            let block = block_with(alloc, block, place % WIDTH, item)?;
+            blocks_with(alloc, blocks, place / WIDTH, block)
+        }
+    }
+}
+
+/// The value at a place of blocks, if there is one.
+fn value_at<T>(blocks: &Shared<Blocks<T>>, place: usize) -> Option<&Shared<T>>
+    requires filled { AreFilled 64 blocks.now }
+    ensures value { option_copied result ≡ unwrap_or (slice_get (joined blocks.now) place) None }
+{
+    match block_at(blocks, place) {
+        None => None,
+        Some(block) => value_in(block, place % WIDTH),
+    }
+}
+
+/// The value at a place of a block, if there is one.
+fn value_in<T>(block: &Block<T>, place: usize) -> Option<&Shared<T>>
+    ensures value { option_copied result ≡ unwrap_or (slice_get block.now place) None }
+{
+    match block.get(place) {
+        Some(Some(value)) => Some(value),
+        _ => None,
     }
 }
 

@@ -7,7 +7,7 @@ use Rattle.gix_odb_core.proofs.shape.Shape.metrics.Goals as goal
 pub listed_tally-listed-requires : goal.listed_tally-listed-requires
 listed_tally-listed-requires c = record {
   packs = c.requires.countable.packs;
-  short = subst (λ (l : List ℕ). length l ≤ 32767) (sym (c.as_slice.ensures.places ∙ c.value.ensures.value)) c.requires.countable.short;
+  short = subst (λ (l : List ℕ). length l ≤ 32767) (sym c.as_slice.ensures.places) c.requires.countable.short;
 }
 
 pub returns : goal.returns
@@ -15,6 +15,6 @@ returns c = record {
   metrics =
       metrics_from c.args.self.now c.len.result c.args.refreshes c.count_unused.result c.listed_tally-listed.result c.disposable_tally-disposable.result c.len.ensures.len
       c.count_unused.ensures.unused
-      (c.listed_tally-listed.ensures.tally ∙ ap (λ (l : List ℕ). tally_of (listed_in c.args.self.now.slots l)) (c.as_slice.ensures.places ∙ c.value.ensures.value))
+      (c.listed_tally-listed.ensures.tally ∙ ap (λ (l : List ℕ). tally_of (listed_in c.args.self.now.slots l)) c.as_slice.ensures.places)
       c.disposable_tally-disposable.ensures.tally;
 }

@@ -8,7 +8,7 @@ pub returns-clause-turn : goal.returns-clause-turn
 returns-clause-turn c =
     let rows = c.in_ok-matched.ensures.rows ∙ c.as_slice.ensures.value in
     let slots = c.in_ok-matched.ensures.slots ∙ c.requires.slots in
-    let list = c.as_slice-2.ensures.places ∙ c.value.ensures.value in
+    let list = c.as_slice-2.ensures.places in
     let stable = c.is_any_stable-stable.ensures.stable in
     let count = rw (slots, rows) at c.count_new-news.ensures.count in
     let free = rw (stable, rows, slots, list) at c.in_ok-free.ensures.free in

@@ -1,5 +1,5 @@
 use Rattle.std.proofs.Common.{◌≡◌, None, replicate}
-use Rattle.odb_shared.proofs.shared_list.SharedList.empty.Given as goal
+use Rattle.odb_shared.proofs.shared_list.empty_blocks.Given as goal
 
 -- so many empty places as were counted
 abbrev pub invariant-loop : goal.invariant-loop

@@ -1,6 +1,6 @@
 use Rattle.std.proofs.Common.{◌≡◌, take}
 use Rattle.odb_shared.specs.Blocks.{joined}
-use Rattle.odb_shared.proofs.shared_list.SharedList.to_vec.Given as goal
+use Rattle.odb_shared.proofs.shared_list.places_of.Given as goal
 
 -- the places of the blocks so far
 abbrev pub invariant-loop-block : goal.invariant-loop-block
