@@ -1,6 +1,6 @@
 //! The registered handles of a core.
 ghost use Rattle.std.specs.Prelude.{◌≡◌, ◌+◌, ◌^◌, ◌<◌, [], OnOk, OnErr, is_some, length, if◌then◌else◌};
-ghost use Rattle.gix_odb_core.specs.Handles.{is_any_stable, registered, with_seat, without_seat};
+ghost use Rattle.gix_odb_core.specs.Handles.{is_any_stable, registered, stable_at, with_seat, without_seat};
 
 use odb_base::NoMemory;
 use std::alloc::Global;
@@ -11,6 +11,8 @@ use std::marker::Model;
 #[derive(Drop)]
 pub struct HandleTable {
     seats: BTreeMap<u32, bool>,
+    /// How many of them are stable, so that no publish goes through the handles.
+    stable: usize,
 }
 
 impl Model for HandleTable {
@@ -18,7 +20,21 @@ impl Model for HandleTable {
 
     ghost Value = { List (ℕ × Bool) };
 
+    ghost use Rattle.gix_odb_core.specs.Handles.{stable_count};
+
     ghost view = { λ table. table.seats.entries };
+
+    ghost invariant = { λ table. table.stable ≡ stable_count table.seats.entries };
+}
+
+/// How many stable handles there are at a seat where this was registered.
+fn stable_at(handle: Option<bool>) -> usize
+    ensures count { result ≡ stable_at handle }
+{
+    match handle {
+        Some(true) => 1,
+        _ => 0,
+    }
 }
 
 impl HandleTable {
@@ -28,6 +44,7 @@ impl HandleTable {
     {
         HandleTable {
             seats: BTreeMap::new(alloc),
+            stable: 0,
         }
     }
 
@@ -52,7 +69,12 @@ impl HandleTable {
         ensures len { OnOk result (length self.new ≡ length self.old + (if is_some (registered self.old seat) then 0 else 1)) }
         ensures kept { OnErr result (self.new ≡ self.old) }
     {
-        self.seats.insert(seat, stable)?;
+        // There are no more stable handles than handles, so that the count stays small.
+        let handles = self.seats.len();
+        prove!(self.stable <= handles);
+        let before = self.seats.insert(seat, stable)?;
+        self.stable -= stable_at(before);
+        self.stable += stable_at(Some(stable));
         Ok(())
     }
 
@@ -61,18 +83,14 @@ impl HandleTable {
         ensures removed { self.new ≡ without_seat self.old seat }
         ensures len { length self.new + (if is_some (registered self.old seat) then 1 else 0) ≡ length self.old }
     {
-        self.seats.remove(&seat);
+        let removed = self.seats.remove(&seat);
+        self.stable -= stable_at(removed);
     }
 
     /// Whether a handle is stable.
     pub(crate) fn is_any_stable(&self) -> bool
         ensures stable { result ≡ is_any_stable self.now }
     {
-        for (_, stable) in &self.seats {
-            if *stable {
-                return true;
-            }
-        }
-        false
+        self.stable > 0
     }
 }
