@@ -4,5 +4,6 @@ pub mod LongestFirst
 pub mod Goal
 pub mod Spot
 pub mod Search
+pub mod AbsentPacks
 pub mod TryOrder
 pub mod InSlot

@@ -15,6 +15,7 @@
 //! ```
 #![tactic(auto)]
 
+mod absent;
 mod folders;
 mod goal;
 mod lister;
@@ -24,10 +25,11 @@ mod search;
 mod spot;
 mod trier;
 
+pub use absent::AbsentPacks;
 pub use folders::pack_folder;
 pub use gix_odb_events::{Answer, PartAsk};
 pub use goal::{Error, Found, Goal, Wanted};
 pub use lister::{EntryList, ListHead, ListStage, ListStep, Lister};
 pub use rest::Rest;
-pub use search::{AbsentFile, AbsentList, Notes, WantedPack};
+pub use search::{AbsentFile, Notes, WantedPack};
 pub use trier::{Ahead, IndexPlace, Stage, Tried, Trier};

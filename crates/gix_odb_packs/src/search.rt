@@ -1,11 +1,12 @@
 //! The search for an object in indices that are loaded.
-ghost use Rattle.std.specs.Prelude.{◌≡◌, [], false, true, IfOk, OnOk};
-ghost use Rattle.gix_odb_packs.specs.Search.{given_or_not, in_pack, place_in, rest_behind, search, tried, was_absent, with_absent};
+ghost use Rattle.std.specs.Prelude.{◌≡◌, [], false, true, IfOk, OnErr, OnOk};
+ghost use Rattle.gix_odb_packs.specs.Search.{given_or_not, in_pack, place_in, rest_behind, search, tried, with_absent};
 
+use crate::absent::AbsentPacks;
 use crate::goal::{Error, Found, Goal, Wanted};
 use crate::spot::{Spot, spot_in};
 use gix_odb_events::{LoadedIndex, LoadedRest, PackFile, SnapshotIndex};
-use odb_base::{NoMemory, PathText, Sequence};
+use odb_base::{NoMemory, PathText};
 use std::alloc::Global;
 
 /// A pack that was absent when it was read.
@@ -15,16 +16,13 @@ pub struct AbsentFile {
     pub path: PathText,
 }
 
-/// Packs that were absent.
-pub type AbsentList = Sequence<AbsentFile>;
-
 /// What is remembered of the files that were tried.
 #[derive(Drop)]
 pub struct Notes {
     /// Whether the read of an index failed.
     pub failed: bool,
     /// The packs that were absent since the last listing: they are not read again before the next one.
-    pub absent: AbsentList,
+    pub absent: AbsentPacks,
 }
 
 /// A pack that has to be read, since an index says that the object stands in it.
@@ -50,18 +48,6 @@ pub(crate) enum Sought {
     Wants(WantedPack),
 }
 
-/// Whether a pack was absent.
-fn was_absent(absent: &[AbsentFile], slot: u16, path: &PathText) -> bool
-    ensures absent { result ≡ was_absent absent.now slot path.now }
-{
-    for file in absent {
-        if file.slot == slot && file.path == *path {
-            return true;
-        }
-    }
-    false
-}
-
 impl Notes {
     /// Nothing was tried.
     pub fn new(alloc: Global) -> Notes
@@ -69,7 +55,7 @@ impl Notes {
     {
         Notes {
             failed: false,
-            absent: AbsentList::new(alloc),
+            absent: AbsentPacks::new(alloc),
         }
     }
 
@@ -90,16 +76,21 @@ impl Notes {
     {
         Notes {
             failed: self.failed,
-            absent: AbsentList::new(alloc),
+            absent: AbsentPacks::new(alloc),
         }
     }
 
     /// Notes that a pack was absent. Want of memory leaves the notes.
-    pub(crate) fn note_absent(&mut self, slot: u16, path: PathText) -> Result<(), NoMemory>
+    pub(crate) fn note_absent(
+        &mut self,
+        alloc: Global,
+        slot: u16,
+        path: PathText,
+    ) -> Result<(), NoMemory>
         ensures noted { OnOk result (self.new ≡ with_absent self.old slot path) }
+        ensures kept { OnErr result (self.new ≡ self.old) }
     {
-        self.absent.push(AbsentFile { slot, path })?;
-        Ok(())
+        self.absent.push(alloc, slot, path)
     }
 }
 
@@ -138,7 +129,7 @@ impl Goal {
         if let Some(file) = pack.loaded() {
             return Ok(given_or_not(self.given_by(alloc, file.value(), spot.offset)?));
         }
-        if was_absent(notes.absent.as_slice(), index.slot, pack.path()) {
+        if notes.absent.has(index.slot, pack.path()) {
             return Ok(Sought::Nowhere);
         }
         Ok(Sought::Wants(WantedPack {

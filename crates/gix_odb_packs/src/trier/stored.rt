@@ -249,6 +249,6 @@ pub(super) fn pack_passed(
 ) -> Result<Tried, NoMemory>
     ensures passed { IfOk result (λ tried. tried ≡ pack_passed goal ahead pack) }
 {
-    ahead.notes.note_absent(pack.slot, pack.path)?;
+    ahead.notes.note_absent(alloc, pack.slot, pack.path)?;
     seek(alloc, goal, ahead)
 }
