@@ -283,13 +283,15 @@ module _ (kept : Kept) (before after : Tree) (fits : Fits kept before) (files : 
       (ap (λ (k : Kept). with_files k.contents files) (sym view) ∙ sym is))
       (notes_after kept before after files fits r ways)
 
-  pub keep_fits : (IsSecond kept after → ⊥) → IsTree after → (stale : List (Path × Path)) → AreStale before stale → (mid : Ways) → Forgets was stale mid → (found : NewWays) → Learns mid found ways
+  pub keep_fits : (IsSecond kept after → ⊥) → IsTree after → (stale : List (Path × Path)) → AreStale before stale → (mid : Ways) → Forgets was stale mid → (found : NewWays) (learnt : Ways) → Learns mid found learnt
+      → (left : List (Path × Path)) → AreStale after left → Forgets learnt left ways
       → ((folder : Path) → set.contains kept.folders folder ≡ true → (old new : Ways) → Knows old before folder → Learns old found new → Knows new after folder)
       → contents ≡ with_files own files → Fits told after
-  keep_fits first_only is_tree stale are_stale mid forgets found learns knows is = fits_after kept before after told fits first_only (keep_notes is)
+  keep_fits first_only is_tree stale are_stale mid forgets found learnt learns left are_left leaves knows is = fits_after kept before after told fits first_only (keep_notes is)
       (λ folder among.
-      knows folder among mid ways
-      (forgotten_knows kept.ways mid stale before folder (subst (λ (w : Ways). Forgets w stale mid) (ap (λ (k : Kept). k.ways) view) forgets) are_stale (fits.knows folder among)) learns) is_tree
+      forgotten_knows learnt ways left after folder leaves are_left
+      (knows folder among mid learnt
+      (forgotten_knows kept.ways mid stale before folder (subst (λ (w : Ways). Forgets w stale mid) (ap (λ (k : Kept). k.ways) view) forgets) are_stale (fits.knows folder among)) learns)) is_tree
 
 module _ (kept : Kept) (tree : Tree) (fits : Fits kept tree) (folder : Path) (old : BTreeSet Path) (own : Contents) (was : Ways)
     (view : ◌≡◌ {A = Kept} (record { folders = set.from_list old.keys; contents = own; ways = was }) kept) where

@@ -1,13 +1,13 @@
 -- Where a path comes in the tree after a change, told by the tree before.
 use Rattle.std.proofs.Common.{◌≡◌, ◌≢◌, inl, inr, ℕ, true, false, cond, List, [], ◌∷◌, ◌++◌, length, drop, append-nil, append_assoc, arith, Option, Some, None, refl, sym, ap, ◌∙◌, subst}
 use lib.Pointwise.{pointwise_decides}
-use Rattle.std.proofs.lemmas.Bool.{false≢true, false_from_ne_true}
+use Rattle.std.proofs.lemmas.Bool.{and_parts, false≢true, false_from_ne_true}
 use Rattle.std.specs.Cmp.Lexicographic.{bytes_decides}
 use Rattle.odb_base.specs.Path.{Path}
 use Rattle.odb_base.specs.PathLaws.{goes_beyond}
 use Rattle.odb_nodes.specs.Tree.{IsTree, Tree, node_at}
 use Rattle.odb_nodes.specs.Tree.Follow.{Pass, Reached, Onward, Missing, Blocked, at_last, beyond, ending, file_of, pass, past}
-use Rattle.odb_nodes.specs.Tree.Change.{changed, is_possible_in, link_node, link_over, put_node, put_over, with_moved}
+use Rattle.odb_nodes.specs.Tree.Change.{changed, is_possible_in, lies_in_directory, link_node, link_over, put_node, put_over, with_moved}
 use Rattle.odb_nodes.specs.Tree.Write.{changed_by}
 use Rattle.odb_nodes.specs.declared.change.Change.{Change}
 use Rattle.odb_nodes.specs.declared.change.Change.TheVariants.{PutFile, MakeDir, PutLink, Rename, Append, Remove, SetTime}
@@ -15,15 +15,16 @@ use Rattle.odb_nodes.specs.declared.node.Content.{Content}
 use Rattle.odb_nodes.specs.declared.node.Content.TheVariants.{File, Dir, Link}
 use Rattle.odb_nodes.specs.declared.node.Node.{Node}
 use Rattle.odb_nodes.proofs.TreeLemmas.{node_at-put, other_path}
-use Rattle.odb_nodes.proofs.TreeLemmas.Change.{made-put_file, made-put_link, split_last}
+use Rattle.odb_nodes.proofs.TreeLemmas.Change.{lies_in-push, made-put_file, made-put_link, split_last}
 use Rattle.odb_nodes.proofs.TreeLemmas.Changed.{IsTree-changed, made-rename}
 use Rattle.odb_nodes.proofs.TreeLemmas.Follow.{IsDir-from, pass_blocked, pass_from, pass_past, pass_to_other}
 use Rattle.odb_nodes.proofs.TreeLemmas.Moved.{begins, begins-append, begins-more, begins-own, moved_away, moved_below, moved_other, moved_target}
 use Rattle.odb_nodes.proofs.TreeLemmas.MovedTree.{CanMove, goes_on, nothing_below, shorter_front}
+use Rattle.odb_nodes.proofs.TreeLemmas.Possible.{below_root-remove}
 use Rattle.odb_nodes.proofs.MovedNumbersLemmas.{can_rename}
 use Rattle.odb_nodes.proofs.WayLaws.{link_leads_on}
-use Rattle.odb_nodes.proofs.WriteLaws.{untouched}
-use Rattle.gix_odb_shown.specs.Sight.{CanSee, GoesAs, IsArrival, IsPut, IsSight, arrival_of, file_arrival, is_place, link_arrival, moved_arrival}
+use Rattle.odb_nodes.proofs.WriteLaws.{removed_away, untouched}
+use Rattle.gix_odb_shown.specs.Sight.{CanSee, GoesAs, IsArrival, IsPut, IsSight, arrival_of, file_arrival, gives_ways, is_place, leads_anew, link_arrival, moved_arrival, removed_arrival}
 use Rattle.gix_odb_shown.specs.declared.sight.Arrival.TheVariants.{Like, LedTo, AtFile, Nowhere}
 use Rattle.gix_odb_shown.proofs.WholeLemmas.{same_pass}
 
@@ -261,7 +262,55 @@ module _ (t : Tree) (is_tree : IsTree t) (from to : Path) (possible : is_possibl
             ] refl
       ] refl
 
+-- ---- something is removed
+
+lies_removed : (t : Tree) (place : Path) → is_possible_in t (Remove place) ≡ true → lies_in_directory t place ≡ true
+unfolding is_possible_in
+lies_removed t place possible = let parts = and_parts _ _ possible in (and_parts _ _ parts.0).0
+
+module _ (t : Tree) (is_tree : IsTree t) (place : Path) (possible : is_possible_in t (Remove place) ≡ true) (path : Path) where
+  abbrev removal : Change
+  removal = Remove place
+
+  abbrev emptied : Tree
+  emptied = changed t removal
+
+  is_emptied : IsTree emptied
+  is_emptied = IsTree-changed t removal is_tree possible
+
+  emptied_others : (q : Path) → q ≢ place → node_at emptied q ≡ node_at t q
+  emptied_others q apart = untouched t removal q (other_path q place apart)
+
+  behind_removed : begins path place ≡ true → pass emptied true [] path ≡ Missing
+  behind_removed is =
+      let s = split_last place (below_root-remove t place possible) in
+      let stays : node_at emptied s.front ≡ node_at t s.front =
+      emptied_others s.front (λ same. false≢true (sym (shorter_front s.front s.name) ∙ ap (begins s.front) (sym s.is ∙ sym same) ∙ begins-own s.front)) in
+      let d = IsDir-from t s.front (sym (lies_in-push t s.front s.name) ∙ ap (lies_in_directory t) (sym s.is) ∙ lies_removed t place possible) in
+      let whole : path ≡ s.front ++ s.name ∷ drop (length place) path =
+      goes_beyond path place is ∙ ap (λ (p : Path). p ++ drop (length place) path) s.is ∙ append_assoc s.front (s.name ∷ []) (drop (length place) path) in
+      pass_past emptied is_emptied true path s.front d.node
+      (record { name = s.name; names = drop (length place) path; whole = whole; lacks = ap (node_at emptied) (sym s.is) ∙ removed_away t is_tree place }) (stays ∙ d.at)
+      ∙ ap (λ (c : Content). past c (s.name ∷ drop (length place) path) Missing) d.content
+
+  removed_so : IsArrival t emptied (Some removal) path (removed_arrival place path)
+  removed_so =
+      elim (begins path place) as (λ b. begins path place ≡ b → IsArrival t emptied (Some removal) path (cond b Nowhere (Like path))) [
+        | true ↦ λ is. inl (behind_removed is)
+        | false ↦ λ apart. apart_goes t emptied place path emptied_others apart
+      ] refl
+
 -- ---- the law
+
+-- a change that may give ways may lead paths elsewhere
+pub giving_leads : (change : Change) → gives_ways change ≡ true → leads_anew change ≡ true
+giving_leads (PutFile place time bytes) gives = refl
+giving_leads (MakeDir place dev) gives = absurd (false≢true gives)
+giving_leads (PutLink place target) gives = refl
+giving_leads (Rename from to) gives = refl
+giving_leads (Append place bytes) gives = absurd (false≢true gives)
+giving_leads (Remove place) gives = refl
+giving_leads (SetTime place time) gives = absurd (false≢true gives)
 
 change_so : (t : Tree) (change : Change) → IsTree t → CanSee t (Some change) → (path : Path) → IsArrival t (changed t change) (Some change) path (arrival_of (Some change) path)
 change_so t (PutFile place time bytes) is_tree sees path = file_so t is_tree place time bytes sees.0 path
@@ -270,7 +319,7 @@ change_so t (PutLink place target) is_tree sees path = link_so t is_tree place t
 change_so t (Rename from to) is_tree sees path =
     subst (λ (u : Tree). IsArrival t u (Some (Rename from to)) path (moved_arrival from to path)) (sym (made-rename t from to)) (moved_so t is_tree from to sees.0 path)
 change_so t (Append place bytes) is_tree sees path = absurd (false≢true sees.1)
-change_so t (Remove place) is_tree sees path = absurd (false≢true sees.1)
+change_so t (Remove place) is_tree sees path = removed_so t is_tree place sees.0 path
 change_so t (SetTime place time) is_tree sees path = absurd (false≢true sees.1)
 
 -- A path comes in the tree after the change where its arrival says.

@@ -5,7 +5,8 @@ use Rattle.std.specs.Ordering.{eq_by_cmp}
 use Rattle.std.proofs.lemmas.Bool.{and_parts, false≢true}
 use Rattle.odb_base.specs.Path.{Path, last_name, parent_of, path_cmp}
 use Rattle.odb_nodes.specs.Tree.{Tree}
-use Rattle.odb_nodes.specs.Tree.Way.{on_way}
+use Rattle.odb_nodes.specs.Tree.Follow.{most_links}
+use Rattle.odb_nodes.specs.Tree.Way.{is_front_of_one, on_way, ways_within}
 use Rattle.odb_nodes.proofs.TreeLemmas.{same_path}
 use Rattle.odb_nodes.proofs.TreeLemmas.Moved.{begins-append, begins-own}
 use Rattle.gix_odb_shown.specs.Led.{is_pair}
@@ -30,6 +31,15 @@ stale_next t pairs new place path apart is stale q p one way =
         | inr none ↦ absurd none
       ]
     ]
+
+-- a place that none of the ways of a path begins with isn't on its way
+way_apart : (t : Tree) (path place : Path) (ways : List Path) → ways ≡ ways_within most_links t true path → is_front_of_one ways place ≡ false → on_way t true path place ≡ false
+unfolding on_way
+way_apart t path place ways are apart = ap (λ (all : List Path). is_front_of_one all place) (sym are) ∙ apart
+
+pub left_next : (path place : Path) (ways : List Path) → is_front_of_one ways place ≡ false → (pairs new : List (Path × Path)) → new ≡ pairs ++ (place, path) ∷ [] → (t : Tree)
+    → ways ≡ ways_within most_links t true path → AreStale t pairs → AreStale t new
+left_next path place ways apart pairs new is t are = stale_next t pairs new place path (way_apart t path place ways are apart) is
 
 -- ---- what is known without it
 

@@ -4,7 +4,7 @@ use Rattle.std.specs.List.{starts_with}
 use Rattle.std.proofs.lemmas.Bool.{false≢true}
 use Rattle.odb_base.specs.Path.{Name, Path, last_name, parent_of, same_name}
 use Rattle.odb_base.specs.PathLaws.{goes_beyond, parent_of-nothing, parent_of-push, parent_of-some}
-use Rattle.odb_nodes.specs.Tree.{Tree, node_at}
+use Rattle.odb_nodes.specs.Tree.{IsTree, Tree, node_at}
 use Rattle.odb_nodes.specs.Tree.Change.{changed, with_moved}
 use Rattle.odb_nodes.specs.Tree.Follow.{Pass, Reached, Onward, Missing, Blocked, Place, LinkLoop, WrongKind, arrives, file_of, followed, most_links, pass}
 use Rattle.odb_nodes.specs.Tree.Write.{changed_by}
@@ -18,7 +18,7 @@ use Rattle.odb_nodes.proofs.TreeLemmas.{cases_path, other_path}
 use Rattle.odb_nodes.proofs.TreeLemmas.Changed.{made-rename}
 use Rattle.odb_nodes.proofs.TreeLemmas.Follow.{followed_reached}
 use Rattle.odb_nodes.proofs.TreeLemmas.Moved.{begins, begins-append, at_after_move, moved_below}
-use Rattle.odb_nodes.proofs.WriteLaws.{untouched}
+use Rattle.odb_nodes.proofs.WriteLaws.{removed_away, untouched}
 use Rattle.gix_odb_shown.specs.Files.{listed, listed_paths, paths_like}
 use Rattle.gix_odb_shown.specs.Sight.{AreWatchedIn, CanSee, GoesAs, HasName, IsArrival, IsLast, IsPut, IsSight, arrival_of, is_place, moved, named_path, place_put, put_path, watched_path}
 use Rattle.gix_odb_shown.specs.Watched.{is_some_kind, watched_kind}
@@ -94,6 +94,12 @@ module _ (t : Tree) (last like : Path) (name : Name) (node : Node) where
     | inr apart ↦ inl (stays_there (PutLink place target) same (untouched t (PutLink place target) own (other_path own place apart)) at)
   ]
 
+  removed_there : IsTree t → (place : Path) → last ≡ like → node_at (changed t (Remove place)) own ≡ Some node → IsThere t (Some (Remove place)) last like name node
+  removed_there is_tree place same at = elim (cases_path own place) [
+    | inl gone ↦ let none : None ≡ Some node = sym (removed_away t is_tree place) ∙ ap (node_at (changed t (Remove place))) (sym gone) ∙ at in absurd (cc)
+    | inr apart ↦ inl (stays_there (Remove place) same (untouched t (Remove place) own (other_path own place apart)) at)
+  ]
+
   module _ (from to : Path) where
     -- a path behind the target in a directory that isn't is the target
     target_is : begins last to ≡ false → (rest : Path) → own ≡ to ++ rest → (front : Option Path) → parent_of rest ≡ front → to ≡ own
@@ -127,24 +133,28 @@ module _ (t : Tree) (last like : Path) (name : Name) (node : Node) where
     rename_by false true outside source is at = absurd (cc)
     rename_by false false outside source is at = move_there outside (ap (liked last) is) at
 
-  there_by : (change : Option Change) → CanSee t change → arrival_of change last ≡ Like like → node_at (changed_by t change) own ≡ Some node → IsThere t change last like name node
-  there_by None can is at = inl (ap (λ (p : Path). node_at t (p ++ name ∷ [])) (sym (ap (liked last) is)) ∙ at)
-  there_by (Some (PutFile place time bytes)) can is at = file_there place time bytes (file_like (is_place place last) (starts_with same_name last place) is) at
+  there_by : IsTree t → (change : Option Change) → CanSee t change → arrival_of change last ≡ Like like → node_at (changed_by t change) own ≡ Some node → IsThere t change last like name node
+  there_by is_tree None can is at = inl (ap (λ (p : Path). node_at t (p ++ name ∷ [])) (sym (ap (liked last) is)) ∙ at)
+  there_by is_tree (Some (PutFile place time bytes)) can is at = file_there place time bytes (file_like (is_place place last) (starts_with same_name last place) is) at
     where
       file_like : (b c : Bool) → (if b then AtFile else (if c then Nowhere else Like last)) ≡ Like like → last ≡ like
       file_like true c is = absurd (cc)
       file_like false true is = absurd (cc)
       file_like false false is = ap (liked last) is
-  there_by (Some (PutLink place target)) can is at = link_there place target (link_like (starts_with same_name last place) is) at
+  there_by is_tree (Some (PutLink place target)) can is at = link_there place target (link_like (starts_with same_name last place) is) at
     where
       link_like : (b : Bool) → (if b then LedTo (moved place target last) else Like last) ≡ Like like → last ≡ like
       link_like true is = absurd (cc)
       link_like false is = ap (liked last) is
-  there_by (Some (Rename from to)) can is at = rename_by from to (begins last to) (begins last from) refl refl is (ap (λ (v : Tree). node_at v own) (sym (made-rename t from to)) ∙ at)
-  there_by (Some (MakeDir place dev)) can is at = absurd (false≢true can.1)
-  there_by (Some (Append place bytes)) can is at = absurd (false≢true can.1)
-  there_by (Some (Remove place)) can is at = absurd (false≢true can.1)
-  there_by (Some (SetTime place time)) can is at = absurd (false≢true can.1)
+  there_by is_tree (Some (Rename from to)) can is at = rename_by from to (begins last to) (begins last from) refl refl is (ap (λ (v : Tree). node_at v own) (sym (made-rename t from to)) ∙ at)
+  there_by is_tree (Some (MakeDir place dev)) can is at = absurd (false≢true can.1)
+  there_by is_tree (Some (Append place bytes)) can is at = absurd (false≢true can.1)
+  there_by is_tree (Some (Remove place)) can is at = removed_there is_tree place (removed_like (starts_with same_name last place) is) at
+    where
+      removed_like : (b : Bool) → (if b then Nowhere else Like last) ≡ Like like → last ≡ like
+      removed_like true is = absurd (cc)
+      removed_like false is = ap (liked last) is
+  there_by is_tree (Some (SetTime place time)) can is at = absurd (false≢true can.1)
 
 -- ---- the paths that are found
 
@@ -241,7 +251,7 @@ module _ (t : Tree) (change : Option Change) (is_sight : IsSight t change) (dire
     watched_by : (a : Arrival) → arrival_of change last ≡ a → IsArrival t u change last a → AreWatchedIn u directory (paths_by t change directory a)
     watched_by (Like like) is goes = record {
       whole = λ name kind watched h.
-          let r = reached_last name h in found_by name kind watched like r goes (there_by t last like name r.node change is_sight.can is r.stands);
+          let r = reached_last name h in found_by name kind watched like r goes (there_by t last like name r.node is_sight.is_tree change is_sight.can is r.stands);
       only = only_like like;
     }
     watched_by (LedTo onward) is goes = nothing_watched u directory (λ name h. led_lacks name onward goes (reached_last name h))

@@ -18,7 +18,8 @@ pub record IsFound (folders : Folders) (before after : Tree) (found : Found) : T
   pub reveals : Reveals folders before after found.files.items
   pub knows : (folder : Path) → set.contains folders folder ≡ true → (old new : Ways) → Knows old before folder → Learns old found.ways new → Knows new after folder
 
--- And with it, what may be forgotten of the ways in the tree before.
+-- And with it, what may be forgotten of the ways in the tree before, and what of those in the tree after it.
 pub record IsRevealed (folders : Folders) (before after : Tree) (revealed : Revealed) : Type 0 where
   pub found : IsFound folders before after revealed.found
   pub stale : AreStale before revealed.stale.items
+  pub left : AreStale after revealed.left.items

@@ -27,10 +27,20 @@ gives_ways (Append path bytes) = false
 gives_ways (Remove path) = false
 gives_ways (SetTime path time) = false
 
--- a change, if there is one, is possible in a tree and may give ways
+-- whether a change may lead paths elsewhere: it may give them other ways, or take some of theirs
+abbrev pub leads_anew : Change → Bool
+leads_anew (PutFile path time bytes) = true
+leads_anew (MakeDir path dev) = false
+leads_anew (PutLink path target) = true
+leads_anew (Rename from to) = true
+leads_anew (Append path bytes) = false
+leads_anew (Remove path) = true
+leads_anew (SetTime path time) = false
+
+-- a change, if there is one, is possible in a tree and may lead paths elsewhere
 abbrev pub CanSee : Tree → Option Change → Type 0
 CanSee tree None = Unit {0}
-CanSee tree (Some change) = (is_possible_in tree change ≡ true) × (gives_ways change ≡ true)
+CanSee tree (Some change) = (is_possible_in tree change ≡ true) × (leads_anew change ≡ true)
 
 pub record IsSight (tree : Tree) (change : Option Change) : Type 0 where
   pub is_tree : IsTree tree
@@ -55,7 +65,10 @@ link_arrival place target path = if starts_with same_name path place then LedTo 
 abbrev pub moved_arrival : (from to path : Path) → Arrival
 moved_arrival from to path = if starts_with same_name path to then Like (moved to from path) else (if starts_with same_name path from then Nowhere else Like path)
 
--- where a path comes after a change that may give ways, or after none
+abbrev pub removed_arrival : (place path : Path) → Arrival
+removed_arrival place path = if starts_with same_name path place then Nowhere else Like path
+
+-- where a path comes after a change that may lead paths elsewhere, or after none
 abbrev pub arrival_of : Option Change → Path → Arrival
 arrival_of None path = Like path
 arrival_of (Some (PutFile place time bytes)) path = file_arrival place path
@@ -63,7 +76,7 @@ arrival_of (Some (MakeDir place dev)) path = Like path
 arrival_of (Some (PutLink place target)) path = link_arrival place target path
 arrival_of (Some (Rename from to)) path = moved_arrival from to path
 arrival_of (Some (Append place bytes)) path = Like path
-arrival_of (Some (Remove place)) path = Like path
+arrival_of (Some (Remove place)) path = removed_arrival place path
 arrival_of (Some (SetTime place time)) path = Like path
 
 -- the file that a change puts
@@ -99,7 +112,7 @@ IsArrival before after change path (LedTo onward) = pass after true [] path ≡ 
 IsArrival before after change path AtFile = IsPut after change path
 IsArrival before after change path Nowhere = (pass after true [] path ≡ Missing) ⊎ (pass after true [] path ≡ Blocked)
 
--- where a change that may give ways puts something
+-- where a change that may lead paths elsewhere puts something
 abbrev pub place_put : Option Change → Option Path
 place_put None = None
 place_put (Some (PutFile place time bytes)) = Some place

@@ -232,7 +232,7 @@ fn add_fronts(
     }
 }
 
-fn add_pair(
+pub(crate) fn add_pair(
     alloc: Global,
     place: &PathText,
     folder: &PathText,

@@ -10,6 +10,8 @@ pub struct Revealed {
     pub(crate) found: Found,
     /// Places with the paths of links that are kept there and don't lead over them any more.
     pub(crate) stale: Vec<(PathText, PathText)>,
+    /// Places with the paths of links that don't lead over them any more after the change.
+    pub(crate) left: Vec<(PathText, PathText)>,
 }
 
 /// What is found out of a change.

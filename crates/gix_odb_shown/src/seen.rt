@@ -163,7 +163,7 @@ fn is_link(alloc: Global, tree: &Tree, path: &PathText) -> Result<bool, NoMemory
 }
 
 /// The kind of what stands at a path, if something does. A link there isn't followed.
-fn kind_at(alloc: Global, tree: &Tree, path: &PathText) -> Result<Option<Kind>, NoMemory>
+pub(crate) fn kind_at(alloc: Global, tree: &Tree, path: &PathText) -> Result<Option<Kind>, NoMemory>
     ensures kind { IfOk result (λ kind. kind ≡ kind_found (looked tree.now path.now false)) }
 {
     match tree.look(alloc, path, false) {

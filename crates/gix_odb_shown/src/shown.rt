@@ -20,7 +20,7 @@ use crate::revealed::{Found, Revealed};
 use crate::seen::seen_in;
 use crate::shown_file::{ShownFile, files_in, files_of_all};
 use crate::sight::Sight;
-use crate::stale::stale_at;
+use crate::stale::{left_by, stale_at};
 use crate::touched::touched_by;
 use crate::ways::Ways;
 use odb_base::{NoMemory, PathText};
@@ -112,24 +112,32 @@ impl Shown {
         requires possible { is_possible_in tree.now change.now ≡ true }
         ensures revealed { IfOk result (IsRevealed self.now.folders tree.now (changed tree.now change.now)) }
     {
-        let found = self.found(alloc, tree, change)?;
+        let touched = touched_by(alloc, &self.ways, &self.folders, tree, change)?;
+        let found = self.found(alloc, tree, &touched, change)?;
         let stale = stale_at(alloc, tree, &self.ways, change)?;
-        Ok(Revealed { found, stale })
+        let left = left_by(alloc, tree, &touched, &self.ways, change)?;
+        Ok(Revealed { found, stale, left })
     }
 
     /// What is found out of a change: by its place, or else by what the folders that it touches show after it.
-    fn found(&self, alloc: Global, tree: &Tree, change: &Change) -> Result<Found, NoMemory>
+    fn found(
+        &self,
+        alloc: Global,
+        tree: &Tree,
+        touched: &BTreeSet<PathText>,
+        change: &Change,
+    ) -> Result<Found, NoMemory>
         requires fits { Fits self.now tree.now }
         requires possible { is_possible_in tree.now change.now ≡ true }
+        requires touched { (folder : Path) → is_in touched.now.keys folder ≡ (set.contains self.now.folders folder && list_any (is_touched self.now.ways folder) (places_of tree.now change.now)) }
         ensures found { IfOk result (IsFound self.now.folders tree.now (changed tree.now change.now)) }
     {
-        let touched = touched_by(alloc, &self.ways, &self.folders, tree, change)?;
-        match self.seen(alloc, tree, &touched, change)? {
+        match self.seen(alloc, tree, touched, change)? {
             Some(files) => Ok(Found {
                 files,
                 ways: no_ways(alloc),
             }),
-            None => self.found_anew(alloc, tree, &touched, change),
+            None => self.found_anew(alloc, tree, touched, change),
         }
     }
 
@@ -167,10 +175,11 @@ impl Shown {
         ensures notes { OnOk result ((before after : TreeValue) → Fits self.old before → IsRevealed self.old.folders before after revealed → Notes self.old self.old.folders after self.new) }
         ensures fits { OnOk result ((before after : TreeValue) → Fits self.old before → IsRevealed self.old.folders before after revealed → (IsSecond self.old after → ⊥) → Fits self.new after) }
     {
-        let Revealed { found, stale } = revealed;
+        let Revealed { found, stale, left } = revealed;
         let Found { files, ways } = found;
         self.ways.forget(stale)?;
         self.ways.learn(ways)?;
+        self.ways.forget(left)?;
         self.contents.keep_all(files)
     }
 

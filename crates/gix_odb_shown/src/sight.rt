@@ -13,7 +13,7 @@ ghost use Rattle.odb_nodes.specs.Tree.Follow.{followed, followed_within, most_li
 ghost use Rattle.odb_nodes.specs.Tree.Way.{ways_within};
 ghost use Rattle.odb_tree.specs.PassCalls.{onward_of};
 ghost use Rattle.gix_odb_shown.specs.Files.{listed_paths, paths_like};
-ghost use Rattle.gix_odb_shown.specs.Sight.{AreWatchedIn, IsLast, arrival_of, file_arrival, file_put, gives_ways, link_arrival, moved, moved_arrival, place_put, put_path};
+ghost use Rattle.gix_odb_shown.specs.Sight.{AreWatchedIn, IsLast, arrival_of, file_arrival, file_put, leads_anew, link_arrival, moved, moved_arrival, place_put, put_path, removed_arrival};
 
 use crate::shown_file::{joined, listed};
 use crate::towards::{behind, behind_directory};
@@ -27,7 +27,7 @@ use std::marker::Model;
 /// The most links that are followed on the way of a path.
 const MAX_LINKS: u8 = 40;
 
-/// A tree as it is, or as it will be after a change that may give paths other ways.
+/// A tree as it is, or as it will be after a change that may lead paths elsewhere.
 #[derive(Drop)]
 pub(crate) struct Sight<'a> {
     tree: &'a Tree,
@@ -75,7 +75,7 @@ impl<'a> Sight<'a> {
     pub(crate) fn after(tree: &'a Tree, change: &'a Change) -> Sight<'a>
         requires is_tree { IsTree tree.now }
         requires possible { is_possible_in tree.now change.now ≡ true }
-        requires gives_ways { gives_ways change.now ≡ true }
+        requires leads_anew { leads_anew change.now ≡ true }
         ensures after { result ≡ changed tree.now change.now }
     {
         Sight {
@@ -201,7 +201,7 @@ impl<'a> Sight<'a> {
     }
 }
 
-/// Where a path comes after a change that may give ways, or after none.
+/// Where a path comes after a change that may lead paths elsewhere, or after none.
 fn arrival_after(
     alloc: Global,
     change: Option<&Change>,
@@ -219,6 +219,7 @@ fn arrival_after(
             },
         ) => link_arrival(alloc, place, target, like),
         Some(Change::Rename { from, to }) => moved_arrival(alloc, from, to, like),
+        Some(Change::Remove { path: place }) => Ok(removed_arrival(place, like)),
         _ => Ok(Arrival::Like(like)),
     }
 }
@@ -264,6 +265,15 @@ fn moved_arrival(
         return Ok(Arrival::Nowhere);
     }
     Ok(Arrival::Like(path))
+}
+
+fn removed_arrival(place: &PathText, path: PathText) -> Arrival
+    ensures arrival { result ≡ removed_arrival place.now path }
+{
+    if path.starts_with(place) {
+        return Arrival::Nowhere;
+    }
+    Arrival::Like(path)
 }
 
 /// What lies behind one path, behind another.

@@ -2,6 +2,7 @@ use Rattle.std.proofs.Common.{ap}
 use Rattle.odb_nodes.proofs.TreeLemmas.Changed.{IsTree-changed}
 use Rattle.gix_odb_shown.specs.Kept.{Kept}
 use Rattle.gix_odb_shown.proofs.JudgedLemmas.{rerouted_found, tree_answer}
+use Rattle.gix_odb_shown.proofs.SightLemmas.{giving_leads}
 use Rattle.gix_odb_shown.proofs.shown.Shown.found_anew.Goals as goal
 
 -- what is seen is a tree, and the change is possible in it
@@ -9,7 +10,7 @@ pub after-after-requires : goal.after-after-requires
 after-after-requires c = record {
   is_tree = c.requires.fits.is_tree;
   possible = c.requires.possible;
-  gives_ways = c.requires.gives_ways;
+  leads_anew = giving_leads c.args.change.now c.requires.gives_ways;
 }
 
 pub returns-in-Some : goal.returns-in-Some

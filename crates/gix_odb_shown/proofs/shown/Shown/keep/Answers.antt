@@ -8,7 +8,7 @@ returns-clause-notes c =
     on_ok_weaker c.keep_all.result
     (λ kept before after fits is.
     keep_notes c.args.self.now before after fits c.args.revealed.found.files.items is.found.reveals (set.from_list c.self.inside.folders.keys) c.self.inside.contents c.keep_all.new.self
-    c.self.inside.ways c.learn.new.self c.self.view_is kept)
+    c.self.inside.ways c.forget-2.new.self c.self.view_is kept)
     c.keep_all.ensures.kept
 
 pub returns-clause-fits : goal.returns-clause-fits
@@ -16,6 +16,6 @@ returns-clause-fits c =
     on_ok_weaker c.keep_all.result
     (λ kept before after fits is first.
     keep_fits c.args.self.now before after fits c.args.revealed.found.files.items is.found.reveals (set.from_list c.self.inside.folders.keys) c.self.inside.contents c.keep_all.new.self
-    c.self.inside.ways c.learn.new.self c.self.view_is first is.found.is_tree c.args.revealed.stale.items is.stale c.forget.new.self c.in_ok-forget.ensures.forgets
-    c.args.revealed.found.ways c.in_ok-learn.ensures.learns is.found.knows kept)
+    c.self.inside.ways c.forget-2.new.self c.self.view_is first is.found.is_tree c.args.revealed.stale.items is.stale c.forget.new.self c.in_ok-forget.ensures.forgets
+    c.args.revealed.found.ways c.learn.new.self c.in_ok-learn.ensures.learns c.args.revealed.left.items is.left c.in_ok-forget-2.ensures.forgets is.found.knows kept)
     c.keep_all.ensures.kept
