@@ -10,6 +10,7 @@ pub enum Ask {
     Disk(DiskAsk),
     /// It waits for the answer of the store's core to an event.
     Core(Event),
+    /// It is done, and this is its reply.
     Done(Reply),
 }
 
@@ -20,5 +21,6 @@ pub enum OpenAsk {
     Disk(DiskAsk),
     /// It waits until a core is made for the store, with so many slots, and its handle is registered there.
     Register { slots: u16 },
+    /// It is done, and this is its reply.
     Done(Reply),
 }

@@ -29,6 +29,7 @@ pub use gix_odb_calls::{
     Call, CallError, IdPairs, Options, PathList, Query, Reply, Slots, StoreParts, copy_of_pairs,
     copy_of_paths, find, init, load_index, write,
 };
+pub use gix_odb_events::Answer;
 pub use gix_odb_looks::LookUp;
 pub use gix_odb_refresh::Refresh;
 pub use handle_state::HandleState;

@@ -45,7 +45,8 @@ impl OpenState {
     /// The handle on a store of these folders, the objects directory first, and the opening that is to register it, which asks
     /// for nothing yet.
     ///
-    /// It tests none of the conditions of opening, and asks for none: whoever has lists to test does so before.
+    /// The conditions of opening (folders that differ, ids of the hash, few changes) are neither tested nor required here. A
+    /// caller that was handed them tests them first.
     pub fn start(
         alloc: Global,
         path: &PathText,

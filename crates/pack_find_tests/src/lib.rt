@@ -1,9 +1,12 @@
-//! What no clause of `gix_odb_packs` says: that packs are found, by which calls and events, and what ends the way there.
+//! What no clause of `gix_odb_packs` says: that packs are found, by which calls and events, and what ends the way there; and
+//! what openings and calls of `gix_odb` ask for.
 //!
 //! Each test is a table of rows in words, played on a disk in memory and on a core. A row changes the disk, or asks a
 //! question, and has behind a bar what is to come of it; `table` says which words there are.
 #![tactic(auto)]
 
+#[cfg(test)]
+mod asks;
 #[cfg(test)]
 mod disks;
 #[cfg(test)]
@@ -16,6 +19,10 @@ mod happening;
 mod listed_rows;
 #[cfg(test)]
 mod listing;
+#[cfg(test)]
+mod opening_rows;
+#[cfg(test)]
+mod openings;
 #[cfg(test)]
 mod shown;
 #[cfg(test)]

@@ -21,7 +21,14 @@ pub fn put_ask(text: &mut Text, ask: &DiskAsk) {
             put_named(text, if *follow { "look!" } else { "look" }, path);
         }
         DiskAsk::Read { path } => put_named(text, "read", path),
-        _ => text.next("another call"),
+        DiskAsk::MakeDir { path } => put_named(text, "make", path),
+        DiskAsk::NewFile { path } => put_named(text, "new", path),
+        DiskAsk::Append { path, .. } => put_named(text, "append", path),
+        DiskAsk::Rename { from, to } => {
+            put_named(text, "rename", from);
+            text.path(" ", to);
+        }
+        DiskAsk::Remove { path } => put_named(text, "remove", path),
     }
 }
 
@@ -42,17 +49,20 @@ fn put_pass(text: &mut Text, slot: u16, why: PassWhy) {
     text.put(word_of_why(why));
 }
 
-fn put_slot(text: &mut Text, word: &str, slot: u64) {
+/// Puts a word with a number behind a text.
+pub fn put_numbered(text: &mut Text, word: &str, slot: u64) {
     text.next(word);
     text.marked(" ", slot);
 }
 
-/// Puts an event of the core behind a text, with its slot.
+/// Puts an event of the core behind a text, with its slot where it has one.
 pub fn put_event(text: &mut Text, event: &Event) {
     match event {
-        Event::PutIndex { slot, .. } => put_slot(text, "put-index", u64::from(*slot)),
-        Event::PutPack { pack, .. } => put_slot(text, "put-pack", pack.index as u64),
+        Event::PutIndex { slot, .. } => put_numbered(text, "put-index", u64::from(*slot)),
+        Event::PutPack { pack, .. } => put_numbered(text, "put-pack", pack.index as u64),
         Event::PassOver { slot, why, .. } => put_pass(text, *slot, *why),
+        Event::Look => text.next("view"),
+        Event::Publish(_) => text.next("publish"),
         _ => text.next("another event"),
     }
 }
@@ -105,13 +115,15 @@ fn put_kind(text: &mut Text, word: &str, kind: gix_object::Kind, size: u64) {
     text.marked(" ", size);
 }
 
+fn put_object(text: &mut Text, kind: gix_object::Kind, bytes: &[u8]) {
+    put_kind(text, "found", kind, bytes.len() as u64);
+    text.put(" ");
+    text.put(str::from_utf8(bytes).unwrap_or("no text"));
+}
+
 fn put_found(text: &mut Text, found: &Found) {
     match found {
-        Found::Object { kind, bytes } => {
-            put_kind(text, "found", *kind, bytes.len() as u64);
-            text.put(" ");
-            text.put(str::from_utf8(bytes.as_slice()).unwrap_or("no text"));
-        }
+        Found::Object { kind, bytes } => put_object(text, *kind, bytes.as_slice()),
         Found::Header { kind, size } => put_kind(text, "header", *kind, *size),
         Found::Presence => text.next("present"),
     }
@@ -134,9 +146,9 @@ fn put_error(text: &mut Text, error: Error) {
     match error {
         Error::LoadPack => text.next("load-pack"),
         Error::Pack => text.next("pack"),
-        Error::EntryType { code } => put_slot(text, "entry-type", u64::from(code)),
+        Error::EntryType { code } => put_numbered(text, "entry-type", u64::from(code)),
         Error::DeltaEntry => text.next("delta-entry"),
-        Error::OutOfMemory { size } => put_slot(text, "out-of-memory", size),
+        Error::OutOfMemory { size } => put_numbered(text, "out-of-memory", size),
     }
 }
 

@@ -3,10 +3,13 @@
 //! `list FOLDER ..` lists folders, the objects directory first, and tells the calls and the rows; `order FOLDER ..` tells
 //! the rows in the order in which they are tried; `publish FOLDER ..` publishes them, and tells what is to be loaded.
 //! `find WORD`, `header WORD` and `has WORD` seek an id, or the blob of a word, `find WORD LIMIT` within a limit, and tell the calls,
-//! the events and the end. Any other row is a change of the disk.
+//! the events and the end. `opening FOLDER` opens a store and tells its calls, the slots with which its handle is registered,
+//! and its reply; `opening FOLDER PERCENT MINIMUM` with so many slots in a hundred of its indices, and a number at least. Any
+//! other row is a change of the disk.
 use crate::disks::change;
 use crate::happening::happen;
 use crate::listing::{publish, put_list, put_order};
+use crate::openings::put_opening;
 use crate::text::Text;
 use crate::trying::put_tried;
 use crate::words::{compare, cut, halves};
@@ -27,6 +30,7 @@ fn put_told(
         "list" => put_list(alloc, disk, rest, text),
         "order" => put_order(alloc, disk, rest, text),
         "publish" => publish(alloc, disk, core, rest, text),
+        "opening" => put_opening(alloc, disk, rest, text),
         "find" | "header" | "has" => Ok(put_tried(alloc, disk, core, verb, rest, text)?),
         _ => change(alloc, disk, verb, rest),
     }

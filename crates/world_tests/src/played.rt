@@ -14,7 +14,7 @@ pub(crate) fn outcome_shown(alloc: Global, outcome: &Outcome) -> Result<String, 
     }
 }
 
-pub(crate) fn reply_shown(alloc: Global, reply: &Reply) -> Result<String, AllocError> {
+fn reply_shown(alloc: Global, reply: &Reply) -> Result<String, AllocError> {
     match reply {
         Reply::Opened { slots } => format!(in alloc; "{slots} slots"),
         Reply::Found { kind, bytes } => found_shown(alloc, *kind, bytes.as_slice()),

@@ -29,7 +29,7 @@ pub(crate) fn compare(text: &str, found: &str, want: &str) -> Result<(), Fail> {
     Err(Fail::new(format_args!("{text}: {found} in place of {want}")))
 }
 
-pub(crate) fn id_of(text: &str) -> Result<ObjectId, Fail> {
+fn id_of(text: &str) -> Result<ObjectId, Fail> {
     let digits = match text {
         "E" => "e69de29bb2d1d6434b8b29ae775ad8c2e48c5391",
         "H" => "b6fc4c620b67d95f953a5c1c1230aaab5db5a1b0",

@@ -1,0 +1,25 @@
+//! Rows of openings, each driven by what it asks for.
+use crate::listed_rows::ONE;
+use crate::table::{Opening, check};
+use std::test::Fail;
+
+// There is one index, for which three slots are three hundred in a hundred.
+const OPENINGS: &[&str] = &[
+    "opening /o | look! /o; open /o/pack; next; next; next; close; look /o/pack/a.idx; look! /o/pack/a.pack; register 32; opened 32",
+    "opening /o 300 1 | look! /o; open /o/pack; next; next; next; close; look /o/pack/a.idx; look! /o/pack/a.pack; register 3; opened 3",
+    "opening /absent | look! /absent; refused",
+];
+
+/// The tables, and above them the mistakes that they would show.
+const TABLES: &[(Opening, &[&str], &[&str])] = &[
+    // An opening that counts other slots than the indices, or is done before its handle is registered.
+    ((&[], 0), ONE, OPENINGS),
+];
+
+#[test]
+fn openings(rt: HostRuntime) -> Result<(), Fail> {
+    for (opening, disk, rows) in TABLES {
+        check(rt.alloc(), *opening, disk, rows)?;
+    }
+    Ok(())
+}
