@@ -128,6 +128,13 @@ def taken_away(count):
     return joined(["put /t 1 68", *put("pack-a", range(10), 1)], 4, [*changes, found(7)])
 
 
+def refused(count):
+    """So many links of new names to one place that other programs put into the pack directory of an open store and take away, and then as many changes of the place that are refused, since a link that stays there would show a second content; and then one find."""
+    gone = [(["do link /o/pack/pack-%d.idx /t" % it, "do remove /o/pack/pack-%d.idx" % it], ["applied"] * 2) for it in range(count)]
+    changes = [(["do put /t 1 69"], ["misuse two-contents"])] * count
+    return joined(["put /t 1 68", "link /o/pack/pack-z.idx /t", *put("pack-a", range(10), 1)], 4, [*gone, *changes, found(7)])
+
+
 def middle(count):
     """So many packs, and a link beside them whose way goes over another link, which is put over so many times; and then one find."""
     setup = ["mkdir /e", "put /e/x 1 68", "mkdir /f", "put /f/x 1 68", *put("pack-a", range(10), 1), *["put /o/pack/note-%d.pack 1 68" % it for it in range(count)]]
@@ -162,6 +169,7 @@ CASES = {
     "indices linked in": (linked_in, (2000, 8000)),
     "pack links swapped": (swapped, (2000, 8000)),
     "links put and taken away": (taken_away, (2000, 8000)),
+    "refused changes behind links": (refused, (2000, 8000)),
     "a way changed in its middle": (middle, (2000, 8000)),
 }
 
