@@ -1,7 +1,7 @@
 //! Links that are kept at places over which they don't lead any more, as they once did.
 //!
-//! A watched path that a change at a link leads elsewhere is dropped with the change, at the places that it leaves. A link
-//! that comes to be kept so all the same is dropped where a change is made at such a place, so that it is asked once in vain.
+//! A watched path that a change leads elsewhere is dropped with the change, at the places that it leaves. A link that comes
+//! to be kept so all the same is asked at each change of such a place, and dropped with the first that is made.
 ghost use Rattle.std.specs.Prelude.{◌≡◌, true, IfOk, OnOk};
 ghost use Rattle.odb_nodes.specs.Tree.{IsTree, Tree as TreeValue};
 ghost use Rattle.odb_nodes.specs.Tree.Change.{changed, is_possible_in};
@@ -15,6 +15,7 @@ use crate::seen::kind_at;
 use crate::sight::Sight;
 use crate::touched::places_of;
 use crate::towards::{leads_over, paths_over};
+use crate::watched::pack_directory;
 use crate::ways::Ways;
 use odb_base::{NoMemory, PathText};
 use odb_nodes::{Change, Kind};
@@ -113,6 +114,7 @@ fn left_at(
     ways: &Ways,
     places: Vec<PathText>,
 ) -> Result<Vec<(PathText, PathText)>, NoMemory>
+    requires is_tree { IsTree tree.now }
     ensures left { IfOk result (λ left. AreStale after.now left.items) }
 {
     let mut left = Vec::new(alloc);
@@ -132,16 +134,37 @@ fn add_left_at(
     place: &PathText,
     left: &mut Vec<(PathText, PathText)>,
 ) -> Result<(), NoMemory>
+    requires is_tree { IsTree tree.now }
     ensures added { OnOk result (AreStale after.now left.old.items → AreStale after.now left.new.items) }
 {
     match kind_at(alloc, tree, place)? {
         None => Ok(()),
         Some(Kind::File) => Ok(()),
         Some(Kind::Link | Kind::Dir) => {
-            let paths = paths_over(alloc, tree, folders, ways, place)?;
+            let mut paths = paths_over(alloc, tree, folders, ways, place)?;
+            let passed = ways.passed_at(alloc, place, folders)?;
+            add_watched_in(alloc, tree, &passed, &mut paths)?;
             add_left_of_all(alloc, tree, after, paths, left)
         }
     }
+}
+
+/// Adds the watched paths in the pack directories of these folders.
+fn add_watched_in(
+    alloc: Global,
+    tree: &Tree,
+    folders: &BTreeSet<PathText>,
+    paths: &mut Vec<PathText>,
+) -> Result<(), NoMemory>
+    requires is_tree { IsTree tree.now }
+{
+    let now = Sight::now(tree);
+    for folder in folders {
+        let directory = pack_directory(alloc, folder)?;
+        let mut more = now.watched_paths(alloc, &directory)?;
+        paths.append(&mut more)?;
+    }
+    Ok(())
 }
 
 fn add_left_of_all(

@@ -69,9 +69,22 @@ impl Ways {
     ) -> Result<bool, NoMemory>
         ensures passed { IfOk result (λ passed. passed ≡ false → IsNotPassed self.now folders.now.keys place.now) }
     {
+        let found = self.passed_at(alloc, place, folders)?;
+        Ok(!found.is_empty())
+    }
+
+    /// Those of these folders of whose pack directories a way goes over a place.
+    pub(crate) fn passed_at(
+        &self,
+        alloc: Global,
+        place: &PathText,
+        folders: &BTreeSet<PathText>,
+    ) -> Result<BTreeSet<PathText>, NoMemory>
+        ensures passed { IfOk result (λ found. (folder : Path) → is_in found.keys folder ≡ (is_in folders.now.keys folder && has self.now.passed place.now folder)) }
+    {
         let mut found = BTreeSet::new(alloc);
         self.passed.add_to(alloc, place, folders, &mut found)?;
-        Ok(!found.is_empty())
+        Ok(found)
     }
 
     /// Adds the watched folders that a change at a place may touch.
