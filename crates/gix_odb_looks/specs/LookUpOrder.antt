@@ -2,99 +2,58 @@
 -- of packs until the list that was tried is the newest one. Multi-pack indices, handles that never refresh their list, and the
 -- locations of objects are left out.
 pub mod Replies
-pub mod Parts
-use Rattle.std.specs.Prelude.{ℕ, ◌+◌, ◌==◌, Bool, min, Option, Some, None, Result, Ok, Err, if◌then◌else◌}
-use Rattle.odb_base.specs.Path.{Path}
-use Rattle.odb_asks.specs.declared.ask.DiskAsk.{DiskAsk}
-use Rattle.odb_asks.specs.declared.ask.DiskAnswer.{DiskAnswer}
-use Rattle.gix_odb_loose.specs.LooseOrder.{disk_ask_of}
-use Rattle.gix_odb_loose.specs.LooseOrder as loose_order
-use Rattle.gix_odb_loose.specs.declared.call.LooseCall.{LooseCall}
+pub mod Store
+pub mod Listing
+pub mod Loose
+pub mod Trying
+pub mod Checking
+pub mod Looking
+pub mod Publishing
+use Rattle.std.specs.Prelude.{ℕ, true, false, [], Option, Some, None, if◌then◌else◌, Result, Ok, Err}
+use Rattle.gix_hash.specs.declared.object_id.ObjectId.{ObjectId}
+use Rattle.gix_odb_calls.specs.declared.call.Reply.{Reply}
+use Rattle.gix_odb_calls.specs.declared.query.Query.{Query}
 use Rattle.gix_odb_events.specs.Answers.{view_in}
-use Rattle.gix_odb_events.specs.View.{last_state}
-use Rattle.gix_odb_events.specs.declared.event.Effect.{Effect}
-use Rattle.gix_odb_events.specs.declared.event.Effect.TheVariants as effects
-use Rattle.gix_odb_events.specs.declared.event.Event.TheVariants as events
-use Rattle.gix_odb_events.specs.declared.view.View.{View}
-use Rattle.gix_odb_events.specs.declared.listing.Listing.{Listing}
-use Rattle.gix_odb_packs.specs.ListOrder as lists
-use Rattle.gix_odb_packs.specs.LongestFirst.{longest_first}
-use Rattle.gix_odb_packs.specs.TryOrder as tries
 use Rattle.gix_odb_events.specs.declared.answer.Answer.{Answer}
 use Rattle.gix_odb_events.specs.declared.answer.Answer.TheVariants as told
 use Rattle.gix_odb_events.specs.declared.answer.PartAsk.{PartAsk}
 use Rattle.gix_odb_events.specs.declared.answer.PartAsk.TheVariants as asks
-use Rattle.gix_odb_packs.specs.declared.lister.ListStep.{ListStep}
-use Rattle.gix_odb_packs.specs.declared.lister.ListStep.TheVariants as listed
-use Rattle.gix_odb_packs.specs.declared.lister.Lister.{Lister}
-use Rattle.gix_odb_packs.specs.declared.search.Notes.{Notes}
-use Rattle.gix_odb_packs.specs.declared.trier.Tried.{Tried}
+use Rattle.gix_odb_events.specs.declared.event.Event.TheVariants as events
+use Rattle.gix_odb_events.specs.declared.view.View.{View}
 use Rattle.gix_odb_looks.specs.LoadIndex.{of_refusal}
-use Rattle.gix_odb_calls.specs.declared.call.Reply.{Reply}
-use Rattle.gix_odb_calls.specs.declared.load_index.Error.TheVariants as load_errors
 use Rattle.gix_odb_looks.specs.declared.look_up.LookHead.{LookHead}
 use Rattle.gix_odb_looks.specs.declared.look_up.LookStage.{LookStage}
 use Rattle.gix_odb_looks.specs.declared.look_up.LookStage.TheVariants as stages
 use Rattle.gix_odb_looks.specs.declared.look_up.LookUp.{LookUp}
 use Rattle.gix_odb_looks.specs.declared.look_up.Part.TheVariants as parts
-use Rattle.gix_odb_looks.specs.declared.look_up.Purpose.{Purpose}
 use Rattle.gix_odb_looks.specs.declared.look_up.Purpose.TheVariants as purposes
-use Rattle.gix_odb_packs.specs.declared.trier.Trier.{Trier}
+use Rattle.gix_odb_loose.specs.LooseOrder.{disk_ask_of}
+use Rattle.gix_odb_packs.specs.ListOrder as lists
+use Rattle.gix_odb_packs.specs.TryOrder as tries
+use Rattle.gix_odb_packs.specs.declared.search.Notes.{Notes}
+use Rattle.odb_asks.specs.declared.ask.DiskAsk.{DiskAsk}
+use Rattle.odb_base.specs.Path.{Path}
 pub use Rattle.gix_odb_looks.specs.LookUpOrder.Replies.{load_refused, find_error, reply_found, not_found, ended}
-pub use Rattle.gix_odb_looks.specs.LookUpOrder.Parts.{Setting, setting_of, wanted_by, goal_of, loose_from, listing_from, after_list, after_loose, by_tried, try_view}
-pub use Rattle.gix_odb_looks.specs.LookUpOrder.Parts.{without_notes, new_head, started, at_folder, by_verdict, by_reply, by_call, is_unsettled, unsettled, counted}
+pub use Rattle.gix_odb_looks.specs.LookUpOrder.Store.{Setting, setting_of}
+pub use Rattle.gix_odb_looks.specs.LookUpOrder.Listing.{listing_from, lister_fed, by_listed}
+pub use Rattle.gix_odb_looks.specs.LookUpOrder.Loose.{loose_from, after_loose, at_folder, by_verdict, by_reply, by_call, loose_fed}
+pub use Rattle.gix_odb_looks.specs.LookUpOrder.Trying.{wanted_by, goal_of, after_list, by_tried, try_view, trier_fed}
+pub use Rattle.gix_odb_looks.specs.LookUpOrder.Checking.{is_unsettled, unsettled, counted, by_check}
+pub use Rattle.gix_odb_looks.specs.LookUpOrder.Looking.{view_shown, by_first, by_look}
+pub use Rattle.gix_odb_looks.specs.LookUpOrder.Publishing.{with_own, by_published}
 
--- ---- the core's answers
+abbrev pub without_notes : Notes
+without_notes = record { failed = false; absent = [] }
 
--- the first look at the core: its list is tried where it has one, else the folders of packs are listed
-abbrev pub by_first : Setting → LookHead → (loose : Bool) → View → Notes → LookStage
-by_first setting head loose view notes =
-    if view.read then try_view setting head (parts.List view.list_no loose) view view.todo notes else listing_from setting view.list_no notes
+abbrev pub new_head : Query → ObjectId → LookHead
+new_head query id = record { query = query; id = id; begun = None; own = 0 }
 
--- the list that was tried is the newest, and the look-up ends; or it is counted, and the folders are listed again
-abbrev pub by_check : Setting → LookHead → (list_no : ℕ) → View → Notes → LookStage
-by_check setting head list_no view notes =
-    if view.list_no == list_no then ended head.query notes else counted setting head view.list_no (listing_from setting view.list_no notes)
-
-abbrev pub by_look : Setting → LookHead → Purpose → Notes → Option View → LookStage
-by_look setting head purpose notes None = stages.Looking purpose notes
-by_look setting head (purposes.First loose) notes (Some view) = by_first setting head loose view notes
-by_look setting head (purposes.Check list_no) notes (Some view) = by_check setting head list_no view notes
-by_look setting head purposes.Again notes (Some view) = listing_from setting view.list_no notes
-
--- one list more is the call's own
-abbrev pub with_own : LookHead → LookHead
-with_own head = record head { own = min (head.own + 1) last_state }
-
--- what a publish comes to: the list is tried; or another one was published since the look before the listing, which is counted
-abbrev pub by_published : Setting → LookHead → Listing → Notes → Effect → LookUp
-by_published setting head listing notes (effects.Published view) = record {
-  head = with_own head;
-  stage = try_view setting (with_own head) (parts.Published view.list_no) view view.todo notes;
+-- a snapshot that is of a list that was read is tried first, without the indices that it doesn't have loaded
+abbrev pub started : Setting → View → Query → ObjectId → LookUp
+started setting view query id = record {
+  head = new_head query id;
+  stage = if view.read then try_view setting (new_head query id) parts.Snapshot view [] without_notes else stages.Looking (purposes.First true) without_notes;
 }
-by_published setting head listing notes (effects.Unchanged view) = record { head = head; stage = try_view setting head (parts.Published view.list_no) view view.todo notes }
-by_published setting head listing notes (effects.Outdated list_no) = record { head = head; stage = counted setting head list_no (stages.Looking purposes.Again notes) }
-by_published setting head listing notes effect = record { head = head; stage = stages.Publishing listing notes }
-
-abbrev pub by_listed : (base : ℕ) → Notes → ListStep → LookStage
-by_listed base notes (listed.More lister) = stages.Listing lister base notes
-by_listed base notes (listed.Rows rows) = stages.Publishing (record { base = base; rows = longest_first rows }) notes
-by_listed base notes listed.Broken = stages.Done (load_refused load_errors.Io)
-
--- ---- asks and answers
-
-abbrev pub trier_fed : Trier → Answer → Tried
-trier_fed = tries.fed
-
-abbrev pub lister_fed : Setting → Lister → DiskAnswer → ListStep
-lister_fed setting lister answer = lists.fed setting.folders lister answer
-
-abbrev pub loose_fed : LooseCall → DiskAnswer → LooseCall
-loose_fed = loose_order.fed
-
--- the view that an event hands over which wasn't refused
-abbrev pub view_shown : Effect → Option View
-view_shown effect = view_in (Ok effect)
 
 abbrev pub loose_ask : Option DiskAsk → Option PartAsk
 loose_ask None = None

@@ -1,6 +1,6 @@
 //! The order of work of a look-up: the handle's snapshot, the loose folders, the list of the store's core, and listings of
 //! the folders of packs.
-ghost use Rattle.std.specs.Prelude.{◌≡◌, IfOk, [], None, Some};
+ghost use Rattle.std.specs.Prelude.{◌≡◌, IfOk, None, Some};
 ghost use Rattle.std.specs.Option.{option_copied, option_map};
 ghost use Rattle.std.specs.Result.{result_ok};
 ghost use Rattle.gix_odb_looks.specs.LookUpOrder.{setting_of};
@@ -8,7 +8,13 @@ ghost use Rattle.gix_odb_loose.specs.LooseOrder.{disk_ask_of};
 ghost use Rattle.gix_odb_looks.specs.LookUpOrder as order;
 
 mod answered;
-mod parts;
+mod checking;
+mod listing;
+mod looking;
+mod loose;
+mod publishing;
+mod replies;
+mod trying;
 
 use gix_hash::ObjectId;
 use gix_odb_calls::{Query, Reply, StoreParts};
@@ -111,6 +117,13 @@ pub enum LookStage {
     Done(Reply),
 }
 
+/// A look-up at a stage.
+fn at(head: LookHead, stage: LookStage) -> LookUp
+    ensures at { result ≡ order.at head stage }
+{
+    LookUp { head, stage }
+}
+
 impl LookHead {
     /// The first view that a look-up is handed tells where it began.
     fn seen(self, answer: &Answer) -> LookHead
@@ -165,7 +178,7 @@ impl LookUp {
         };
         let notes = Notes::new(alloc);
         let stage = if snapshot.read {
-            parts::try_snapshot(alloc, setting, head, snapshot, notes)?
+            trying::try_snapshot(alloc, setting, head, snapshot, notes)?
         } else {
             let purpose = Purpose::First { loose: true };
             LookStage::Looking { purpose, notes }

@@ -1,0 +1,69 @@
+//! What a look-up replies.
+ghost use Rattle.std.specs.Prelude.{◌≡◌, IfOk};
+ghost use Rattle.gix_odb_looks.specs.LoadIndex.{of_refusal};
+ghost use Rattle.gix_odb_looks.specs.LookUpOrder as order;
+
+use super::LookStage;
+use crate::load_index::of_refusal;
+use gix_odb_calls::{CallError, Query, Reply, find, load_index};
+use gix_odb_events::Refusal;
+use gix_odb_packs::{self as packs, Found, Notes};
+use odb_base::NoMemory;
+
+pub(super) fn load_refused(error: load_index::Error) -> Reply
+    ensures refused { result ≡ order.load_refused error }
+{
+    Reply::Refused(CallError::Find(find::Error::LoadIndex(error)))
+}
+
+pub(super) fn find_error(error: packs::Error) -> find::Error
+    ensures error { result ≡ order.find_error error }
+{
+    match error {
+        packs::Error::LoadPack => find::Error::LoadPack,
+        packs::Error::Pack => find::Error::Pack,
+        packs::Error::EntryType { code } => find::Error::EntryType { code },
+        packs::Error::DeltaEntry => find::Error::DeltaEntry,
+        packs::Error::OutOfMemory { size } => find::Error::OutOfMemory { size },
+    }
+}
+
+pub(super) fn reply_found(found: Found) -> Reply
+    ensures reply { result ≡ order.reply_found found }
+{
+    match found {
+        Found::Object { kind, bytes } => Reply::Found { kind, bytes },
+        Found::Header { kind, size } => Reply::Header(find::Header::Packed { kind, size }),
+        Found::Presence => Reply::Tested(true),
+    }
+}
+
+fn not_found(query: Query) -> Reply
+    ensures reply { result ≡ order.not_found query }
+{
+    match query {
+        Query::Test(_) => Reply::Tested(false),
+        _ => Reply::NotFound,
+    }
+}
+
+/// The end where nothing was found. A file that could not be read, or a folder that could not be looked into, is told.
+pub(super) fn ended(query: Query, notes: &Notes) -> LookStage
+    ensures ended { result ≡ order.ended query notes.now }
+{
+    if notes.failed {
+        LookStage::Done(load_refused(load_index::Error::Io))
+    } else {
+        LookStage::Done(not_found(query))
+    }
+}
+
+/// The end of a look-up whose event was refused. Want of memory is handed on.
+pub(super) fn refused(refusal: Refusal) -> Result<LookStage, NoMemory>
+    ensures refused { IfOk result (λ stage. stage ≡ LookStage.Done (order.load_refused (of_refusal refusal))) }
+{
+    match refusal {
+        Refusal::NoMemory => Err(NoMemory),
+        refusal => Ok(LookStage::Done(load_refused(of_refusal(refusal)))),
+    }
+}
