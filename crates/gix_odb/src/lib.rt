@@ -1,18 +1,17 @@
 //! A store over several folders: what it holds, and the calls on a handle of it.
 //!
 //! A call is a machine: it names one call of the disk or one event of the store's core at a time, takes the answer, and
-//! comes to a reply. The order of
-//! work is in `specs/{OpenOrder,CallOrder}.antt`, of a query in `gix_odb_looks`, of what stands in front of a write in
-//! `gix_odb_refresh`; what a store holds, and for how long, in `specs/{Contents,Moments,Held}.antt`. Who drives the machines, over which disk, is the matter of the crates above.
+//! comes to a reply. The order of work is in `specs/{OpenOrder,CallOrder}.antt`, of a query in `gix_odb_looks`, of what
+//! stands in front of a write in `gix_odb_refresh`; what a store holds, and for how long, in
+//! `specs/{Contents,Moments,Held}.antt`. Who drives the machines, over which disk, is the matter of the crates above.
 //! ```rust
 //! let mut state = CallState::start(alloc, &handle, &Call::Find(id))?;
 //! let reply = loop {
-//!     let answer = match state.ask(alloc)? {
-//!         Ask::Disk(ask) => ..,              // the answer of the disk
-//!         Ask::Core(event) => ..,            // and that of the core
+//!     state = match state.ask(alloc)? {
+//!         Ask::Disk(ask) => state.feed(alloc, &handle, ..)?,    // with the answer of the disk
+//!         Ask::Core(event) => state.feed(alloc, &handle, ..)?,  // or with that of the core
 //!         Ask::Done(reply) => break reply,
 //!     };
-//!     state = state.feed(alloc, &handle, answer)?;
 //! };
 //! ```
 #![tactic(auto)]

@@ -73,9 +73,9 @@ pub fn judged_work(
 ) -> Result<Result<Judged, Why>, NoMemory>
     requires fits { Fits shown.now (tree_of disk.now.state) }
     ensures why { IfOk result (λ judged. IsFirstReason None (ShowsSecondBy shown.now (tree_of disk.now.state) (change_asked disk.now (asks_on handle.now work.now))) (result_err judged)) }
-    ensures asked { IfOk result (λ judged. IfOk judged (λ j. j.ask ≡ ask_on handle.now work.now)) }
-    ensures change { IfOk result (λ judged. IfOk judged (λ j. j.change ≡ change_asked disk.now (part_asked j.ask))) }
-    ensures tells { IfOk result (λ judged. IfOk judged (λ j. TellsChange shown.now.folders (tree_of disk.now.state) (change_asked disk.now (asks_on handle.now work.now)) j.revealed)) }
+    ensures asked { IfOk result (λ judged. IfOk judged (λ told. told.ask ≡ ask_on handle.now work.now)) }
+    ensures change { IfOk result (λ judged. IfOk judged (λ told. told.change ≡ change_asked disk.now (part_asked told.ask))) }
+    ensures tells { IfOk result (λ judged. IfOk judged (λ told. TellsChange shown.now.folders (tree_of disk.now.state) (change_asked disk.now (asks_on handle.now work.now)) told.revealed)) }
 {
     let ask = work.ask(alloc, handle)?;
     judged_ask(alloc, disk, shown, ask)
@@ -90,9 +90,9 @@ fn judged_ask(
 ) -> Result<Result<Judged, Why>, NoMemory>
     requires fits { Fits shown.now (tree_of disk.now.state) }
     ensures why { IfOk result (λ judged. IsFirstReason None (ShowsSecondBy shown.now (tree_of disk.now.state) (change_asked disk.now (part_asked ask))) (result_err judged)) }
-    ensures asked { IfOk result (λ judged. IfOk judged (λ j. j.ask ≡ ask)) }
-    ensures change { IfOk result (λ judged. IfOk judged (λ j. j.change ≡ change_asked disk.now (part_asked j.ask))) }
-    ensures tells { IfOk result (λ judged. IfOk judged (λ j. TellsChange shown.now.folders (tree_of disk.now.state) (change_asked disk.now (part_asked ask)) j.revealed)) }
+    ensures asked { IfOk result (λ judged. IfOk judged (λ told. told.ask ≡ ask)) }
+    ensures change { IfOk result (λ judged. IfOk judged (λ told. told.change ≡ change_asked disk.now (part_asked told.ask))) }
+    ensures tells { IfOk result (λ judged. IfOk judged (λ told. TellsChange shown.now.folders (tree_of disk.now.state) (change_asked disk.now (part_asked ask)) told.revealed)) }
 {
     match judged_part(alloc, disk, shown, &ask) {
         Ok(Ok((change, revealed))) => Ok(Ok(Judged {
@@ -121,8 +121,8 @@ fn judged_part(
 ) -> Result<Result<(ChangeMade, Option<Revealed>), Why>, NoMemory>
     requires fits { Fits shown.now (tree_of disk.now.state) }
     ensures why { IfOk result (λ judged. IsFirstReason None (ShowsSecondBy shown.now (tree_of disk.now.state) (change_asked disk.now (part_asked ask.now))) (result_err judged)) }
-    ensures change { IfOk result (λ judged. IfOk judged (λ j. j.0 ≡ change_asked disk.now (part_asked ask.now))) }
-    ensures tells { IfOk result (λ judged. IfOk judged (λ j. TellsChange shown.now.folders (tree_of disk.now.state) (change_asked disk.now (part_asked ask.now)) j.1)) }
+    ensures change { IfOk result (λ judged. IfOk judged (λ told. told.0 ≡ change_asked disk.now (part_asked ask.now))) }
+    ensures tells { IfOk result (λ judged. IfOk judged (λ told. TellsChange shown.now.folders (tree_of disk.now.state) (change_asked disk.now (part_asked ask.now)) told.1)) }
 {
     match ask {
         Some(PartAsk::Disk(ask)) => judged_call(alloc, disk, shown, ask),
@@ -139,8 +139,8 @@ fn judged_call(
 ) -> Result<Result<(ChangeMade, Option<Revealed>), Why>, NoMemory>
     requires fits { Fits shown.now (tree_of disk.now.state) }
     ensures why { IfOk result (λ judged. IsFirstReason None (ShowsSecondBy shown.now (tree_of disk.now.state) (change_by disk.now ask.now)) (result_err judged)) }
-    ensures change { IfOk result (λ judged. IfOk judged (λ j. j.0 ≡ change_by disk.now ask.now)) }
-    ensures tells { IfOk result (λ judged. IfOk judged (λ j. TellsChange shown.now.folders (tree_of disk.now.state) (change_by disk.now ask.now) j.1)) }
+    ensures change { IfOk result (λ judged. IfOk judged (λ told. told.0 ≡ change_by disk.now ask.now)) }
+    ensures tells { IfOk result (λ judged. IfOk judged (λ told. TellsChange shown.now.folders (tree_of disk.now.state) (change_by disk.now ask.now) told.1)) }
 {
     // The proof takes from this call that the disk shows a tree, in which the change of a call is possible.
     let tree = disk.tree();
@@ -165,8 +165,8 @@ fn judged_boxed(
     requires fits { Fits shown.now tree.now }
     requires possible { is_possible_in tree.now change ≡ true }
     ensures why { IfOk result (λ judged. IsFirstReason None (ShowsSecondBy shown.now tree.now (Some change)) (result_err judged)) }
-    ensures change { IfOk result (λ judged. IfOk judged (λ j. j.0 ≡ Some change)) }
-    ensures tells { IfOk result (λ judged. IfOk judged (λ j. TellsChange shown.now.folders tree.now (Some change) j.1)) }
+    ensures change { IfOk result (λ judged. IfOk judged (λ told. told.0 ≡ Some change)) }
+    ensures tells { IfOk result (λ judged. IfOk judged (λ told. TellsChange shown.now.folders tree.now (Some change) told.1)) }
 {
     match judged_change(alloc, shown, tree, change.get()) {
         Ok(Ok(revealed)) => Ok(Ok((Some(change), revealed))),

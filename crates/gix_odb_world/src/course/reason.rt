@@ -108,9 +108,9 @@ impl Course {
     pub(super) fn judged(&self, alloc: Global, number: u32) -> Result<Result<Judged, Why>, NoMemory>
         requires fits { Fits self.now.shown (tree_of self.now.disk.state) }
         ensures why { IfOk result (λ judged. IsReasonNow self.now (Step.Turn number) (result_err judged)) }
-        ensures asked { IfOk result (λ judged. IfOk judged (λ j. j.ask ≡ ask_by_handle (handle_at self.now number))) }
-        ensures change { IfOk result (λ judged. IfOk judged (λ j. j.change ≡ change_asked self.now.disk (part_asked j.ask))) }
-        ensures tells { IfOk result (λ judged. IfOk judged (λ j. TellsChange self.now.shown.folders (tree_of self.now.disk.state) (would_change_now self.now (Step.Turn number)) j.revealed)) }
+        ensures asked { IfOk result (λ judged. IfOk judged (λ told. told.ask ≡ ask_by_handle (handle_at self.now number))) }
+        ensures change { IfOk result (λ judged. IfOk judged (λ told. told.change ≡ change_asked self.now.disk (part_asked told.ask))) }
+        ensures tells { IfOk result (λ judged. IfOk judged (λ told. TellsChange self.now.shown.folders (tree_of self.now.disk.state) (would_change_now self.now (Step.Turn number)) told.revealed)) }
     {
         match self.handles.get(&number) {
             None => Ok(Err(Why::NoHandle)),
