@@ -4,12 +4,10 @@ mod ReadLists
 mod Calls
 mod PackedStream
 mod Fairness
-use Rattle.std.proofs.Common.{◌≡◌, ◌⊎◌, inl, inr, ℕ, zero, suc, ◌+◌, ◌<◌, ◌≤◌, true, false, List, [], ◌∷◌, ◌++◌, length, take, drop, Contains, Option, Some, None, Result, Ok, Err, refl, sym, ap, ◌∙◌, subst, append-nil, arith}
+mod Lists
+use Rattle.std.proofs.Common.{◌≡◌, ◌⊎◌, inl, inr, ℕ, zero, suc, ◌+◌, ◌<◌, ◌≤◌, true, false, List, [], ◌∷◌, ◌++◌, length, take, Contains, Option, Some, None, Result, Ok, Err, refl, sym, ap, ◌∙◌, subst, append-nil, arith}
 use Rattle.std.specs.Prelude.{slice_get}
-use Rattle.std.specs.List.{filter_map}
 use Rattle.std.proofs.lemmas.Bool.{cases_lt, false_from_ne_true}
-use Rattle.std.proofs.lemmas.List.{drop-append-le}
-use Rattle.std.proofs.lemmas.List.Elements.{filter_map-append}
 use Rattle.std.proofs.lemmas.Option.{same_Some}
 use Rattle.odb_base.specs.Path.{Name, Path}
 use Rattle.odb_asks.specs.Ask.{answer_now, fails_now}
@@ -54,10 +52,10 @@ use Rattle.gix_odb_runs.specs.Run.{Fails, FailedSince, Stand, did_of_asked, disk
 use Rattle.gix_odb_world.specs.Running.PackedStill.{LiesIndexed}
 use Rattle.gix_odb_world.specs.Running.Query.{looking}
 use Rattle.gix_odb_world.specs.Status.{Working, status_of}
-use Rattle.gix_odb_world.specs.Told.{call_of, exchange_in, exchange_of, look_begun, told_since, view_then}
+use Rattle.gix_odb_world.specs.Told.{call_of, exchange_of, look_begun, told_since, view_then}
 use Rattle.gix_odb_world.proofs.HistoryLemmas.{cores_after-push}
 use Rattle.gix_odb_world.proofs.PackedStill.Contents.{lies_indexed}
-use Rattle.gix_odb_world.proofs.RunSteps.Fronts.{event_or_end, front_of_front, length_take, none_beyond, take_next, take_suc, there_in_front}
+use Rattle.gix_odb_world.proofs.RunSteps.Fronts.{event_or_end, length_take, none_beyond, take_next, take_suc, there_in_front}
 use Rattle.gix_odb_world.proofs.ToldLemmas.{asked-push, behind-push, told_none, told_turn}
 use Rattle.gix_odb_run_laws.specs.Moved.{HadPublished, HasMoved}
 use Rattle.gix_odb_run_laws.specs.Turn.{IsQueryTurn}
@@ -68,37 +66,7 @@ use Rattle.gix_odb_run_laws.proofs.MovedLaws.Calls.{call_before}
 use Rattle.gix_odb_run_laws.proofs.MovedLaws.Fairness.{fair_to, goes_on}
 use Rattle.gix_odb_run_laws.proofs.MovedLaws.LooseSound.{sound_file_is_had}
 use Rattle.gix_odb_run_laws.proofs.MovedLaws.ReadLists.{cores_read, view_read}
-
--- ---- lists of exchanges
-
-split : (n : ℕ) (xs : List Event) → take n xs ++ drop n xs ≡ xs
-split zero xs = refl
-split (suc n) [] = refl
-split (suc n) (x ∷ xs) = ap (λ (es : List Event). x ∷ es) (split n xs)
-
-asked_first : (setting : Setting) (look : LookUp) (xs ys : List Exchange) → AreAsked setting look (xs ++ ys) → AreAsked setting look xs
-asked_first setting look [] ys asked = tt
-asked_first setting look (x ∷ xs) ys asked = (asked.0, asked_first setting (fed setting look x.answer) xs ys asked.1)
-
-length_front : (n : ℕ) (xs : List Event) → n ≤ length xs → length (take n xs) ≡ n
-length_front zero xs within = refl
-length_front (suc n) [] within = absurd (omega (arith, within))
-length_front (suc n) (x ∷ xs) within = let rest = length_front n xs (omega (arith, within)) in omega (arith, rest)
-
--- what was told up to a moment comes before what was told later
-told_first_part : (events : List Event) (handle begun early late : ℕ) → begun ≤ early → early ≤ late → late ≤ length events
-    → (rest : List Exchange) × (told_since (take late events) handle begun ≡ told_since (take early events) handle begun ++ rest)
-unfolding told_since
-told_first_part events handle begun early late since up within =
-    let whole : List Event = take late events in
-    let front : take early whole ≡ take early events = front_of_front events early late up in
-    let long : length (take early events) ≡ early = length_front early events (omega (arith, up, within)) in
-    let parts_of : whole ≡ take early events ++ drop early whole = sym (split early whole) ∙ ap (λ (es : List Event). es ++ drop early whole) front in (
-      filter_map (exchange_in handle) (drop early whole),
-      ap (λ (es : List Event). filter_map (exchange_in handle) (drop begun es)) parts_of
-          ∙ ap (filter_map (exchange_in handle)) (drop-append-le begun (take early events) (drop early whole) (omega (arith, since, long)))
-          ∙ filter_map-append (exchange_in handle) (drop begun (take early events)) (drop early whole),
-    )
+use Rattle.gix_odb_run_laws.proofs.MovedLaws.Lists.{asked_first, told_first_part}
 
 -- ---- the last turn
 
