@@ -6,7 +6,8 @@ use odb_base::{ByteList, NoMemory};
 use std::alloc::Global;
 use std::test::Fail;
 
-fn bytes_of(alloc: Global, word: &str) -> Result<ByteList, NoMemory> {
+/// The bytes of the blob of a word.
+pub fn bytes_of(alloc: Global, word: &str) -> Result<ByteList, NoMemory> {
     let mut bytes = ByteList::from_slice(alloc, word.as_bytes())?;
     bytes.push(b'\n')?;
     Ok(bytes)

@@ -1,12 +1,14 @@
 //! What no clause of `gix_odb_packs` says: that packs are found, by which calls and events, and what ends the way there; and
-//! what openings and calls of `gix_odb` ask for.
+//! openings and calls of `gix_odb`, driven to their replies.
 //!
 //! Each test is a table of rows in words, played on a disk in memory and on a core. A row changes the disk, or asks a
 //! question, and has behind a bar what is to come of it; `table` says which words there are.
 #![tactic(auto)]
 
 #[cfg(test)]
-mod asks;
+mod call_rows;
+#[cfg(test)]
+mod calls;
 #[cfg(test)]
 mod disks;
 #[cfg(test)]

@@ -7,7 +7,7 @@ use std::test::Fail;
 const OPENINGS: &[&str] = &[
     "opening /o | look! /o; open /o/pack; next; next; next; close; look /o/pack/a.idx; look! /o/pack/a.pack; register 32; opened 32",
     "opening /o 300 1 | look! /o; open /o/pack; next; next; next; close; look /o/pack/a.idx; look! /o/pack/a.pack; register 3; opened 3",
-    "opening /absent | look! /absent; refused",
+    "opening /absent | look! /absent; refused: the objects directory is not a directory",
 ];
 
 /// The tables, and above them the mistakes that they would show.

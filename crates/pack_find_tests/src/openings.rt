@@ -1,15 +1,51 @@
 //! Openings are driven by what they ask for.
-use crate::asks::put_reply;
-use crate::shown::{put_ask, put_numbered};
+use crate::shown::{put_ask, put_numbered, put_reply};
 use crate::text::Text;
 use crate::words::cut;
 use gix_hash::Kind;
 use gix_odb::{HandleState, OpenAsk, OpenState, Options, PathList, Slots};
 use odb_base::{NoMemory, PathText};
-use odb_disk::MemDisk;
+use odb_disk::{DiskAnswer, DiskAsk, MemDisk};
 use std::alloc::Global;
 use std::collections::BTreeMap;
 use std::test::Fail;
+
+/// What an opening is told in a turn.
+#[derive(Drop)]
+enum Turn {
+    Answered(DiskAnswer),
+    Registered,
+}
+
+fn disk_answer(alloc: Global, disk: &mut MemDisk, ask: DiskAsk, text: &mut Text) -> Turn {
+    put_ask(text, &ask);
+    let answer = ask.carry_out(alloc, disk);
+    drop(ask);
+    Turn::Answered(answer)
+}
+
+/// What an opening is told that it asks for, unless it is done.
+fn answered(
+    alloc: Global,
+    disk: &mut MemDisk,
+    handle: &HandleState,
+    state: &OpenState,
+    text: &mut Text,
+) -> Result<Option<Turn>, NoMemory> {
+    match state.ask(alloc, handle)? {
+        OpenAsk::Disk(ask) => Ok(Some(disk_answer(alloc, disk, ask, text))),
+        OpenAsk::Register { slots } => {
+            put_numbered(text, "register", u64::from(slots));
+            Ok(Some(Turn::Registered))
+        }
+        OpenAsk::Done(reply) => {
+            let told = put_reply(alloc, text, &reply);
+            drop(reply);
+            told?;
+            Ok(None)
+        }
+    }
+}
 
 fn opening_step(
     alloc: Global,
@@ -18,19 +54,16 @@ fn opening_step(
     state: OpenState,
     text: &mut Text,
 ) -> Result<Option<OpenState>, NoMemory> {
-    match state.ask(alloc, handle)? {
-        OpenAsk::Disk(ask) => {
-            put_ask(text, &ask);
-            let answer = ask.carry_out(alloc, disk);
-            Ok(Some(state.feed(alloc, handle, answer)?))
-        }
-        OpenAsk::Register { slots } => {
-            put_numbered(text, "register", u64::from(slots));
-            Ok(Some(state.registered()))
-        }
-        OpenAsk::Done(reply) => {
-            put_reply(text, &reply);
+    match answered(alloc, disk, handle, &state, text) {
+        Ok(Some(Turn::Answered(answer))) => Ok(Some(state.feed(alloc, handle, answer)?)),
+        Ok(Some(Turn::Registered)) => Ok(Some(state.registered())),
+        Ok(None) => {
+            drop(state);
             Ok(None)
+        }
+        Err(no_memory) => {
+            drop(state);
+            Err(no_memory)
         }
     }
 }
@@ -42,13 +75,14 @@ fn finish_opening(
     state: OpenState,
     text: &mut Text,
 ) -> Result<(), NoMemory> {
-    let mut next = Some(state);
+    let mut state = state;
     for _ in 0..100 {
-        match next {
-            Some(state) => next = opening_step(alloc, disk, handle, state, text)?,
+        match opening_step(alloc, disk, handle, state, text)? {
+            Some(next) => state = next,
             None => return Ok(()),
         }
     }
+    drop(state);
     text.next("no end");
     Ok(())
 }

@@ -1,9 +1,12 @@
 //! Calls, events and ends as words.
 use crate::text::Text;
+use gix_odb::Reply;
+use gix_odb::find::Header;
 use gix_odb_core::{Event, ListingRow, PassWhy, Refusal, Todo, TodoRest};
 use gix_odb_packs::{Error, Found, Notes, Tried};
 use odb_base::{NoMemory, PathText};
 use odb_disk::DiskAsk;
+use std::alloc::Global;
 use std::str;
 
 fn put_named(text: &mut Text, word: &str, path: &PathText) {
@@ -161,4 +164,28 @@ pub fn put_end(text: &mut Text, tried: &Tried) {
         Tried::Bad(error) => put_error(text, *error),
         Tried::Broken(refusal) => put_refusal(text, *refusal),
     }
+}
+
+fn put_header(text: &mut Text, header: Header) {
+    match header {
+        Header::Loose { kind, size } => put_kind(text, "header loose", kind, size),
+        Header::Packed { kind, size } => put_kind(text, "header packed", kind, size),
+    }
+}
+
+/// Puts the reply of a call or of an opening behind a text.
+pub fn put_reply(alloc: Global, text: &mut Text, reply: &Reply) -> Result<(), NoMemory> {
+    match reply {
+        Reply::Opened { slots } => put_numbered(text, "opened", u64::from(*slots)),
+        Reply::Found { kind, bytes } => put_object(text, *kind, bytes.as_slice()),
+        Reply::Header(header) => put_header(text, *header),
+        Reply::Tested(there) => text.next(if *there { "present" } else { "absent" }),
+        Reply::NotFound => text.next("not found"),
+        Reply::Wrote(id) => {
+            text.next("wrote ");
+            text.put(id.to_hex(alloc)?.as_str());
+        }
+        Reply::Refused(error) => text.refusal(error),
+    }
+    Ok(())
 }

@@ -4,8 +4,10 @@
 //! the rows in the order in which they are tried; `publish FOLDER ..` publishes them, and tells what is to be loaded.
 //! `find WORD`, `header WORD` and `has WORD` seek an id, or the blob of a word, `find WORD LIMIT` within a limit, and tell the calls,
 //! the events and the end. `opening FOLDER` opens a store and tells its calls, the slots with which its handle is registered,
-//! and its reply; `opening FOLDER PERCENT MINIMUM` with so many slots in a hundred of its indices, and a number at least. Any
-//! other row is a change of the disk.
+//! and its reply; `opening FOLDER PERCENT MINIMUM` with so many slots in a hundred of its indices, and a number at least.
+//! `call find WORD`, `call header WORD`, `call has WORD` and `call write WORD` make a call on a new handle on `/o`, and tell
+//! the calls, the events and the reply. Any other row is a change of the disk.
+use crate::calls::put_call;
 use crate::disks::change;
 use crate::happening::happen;
 use crate::listing::{publish, put_list, put_order};
@@ -30,6 +32,7 @@ fn put_told(
         "list" => put_list(alloc, disk, rest, text),
         "order" => put_order(alloc, disk, rest, text),
         "publish" => publish(alloc, disk, core, rest, text),
+        "call" => put_call(alloc, disk, core, rest, text),
         "opening" => put_opening(alloc, disk, rest, text),
         "find" | "header" | "has" => Ok(put_tried(alloc, disk, core, verb, rest, text)?),
         _ => change(alloc, disk, verb, rest),

@@ -1,4 +1,5 @@
 //! Texts that are put together.
+use gix_odb::CallError;
 use gix_odb_packs::Error;
 use odb_base::PathText;
 use std::alloc::Global;
@@ -57,6 +58,14 @@ impl Text {
 
     /// Adds the text of an error.
     pub fn error(&mut self, error: Error) {
+        if write!(self.text, "{error}").is_err() {
+            self.is_cut = true;
+        }
+    }
+
+    /// Adds the refusal of a call with the text of its error.
+    pub fn refusal(&mut self, error: &CallError) {
+        self.next("refused: ");
         if write!(self.text, "{error}").is_err() {
             self.is_cut = true;
         }
