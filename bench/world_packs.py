@@ -135,6 +135,15 @@ def refused(count):
     return joined(["put /t 1 68", "link /o/pack/pack-z.idx /t", *put("pack-a", range(10), 1)], 4, [*gone, *changes, found(7)])
 
 
+def moved_away(count):
+    """So many links to one place in the pack directory of an open store, which other programs then move away, and as many changes of the place that are refused, since a link in the directory after it would show a second content; and then one find."""
+    links = ["link /o/pack/pack-%d.idx /t" % it for it in range(count)]
+    there = [*put("pack-a", range(10), 1, "do "), "do link /o/pack/pack-z.idx /t"]
+    moved = (["do rename /o/pack /old", "do mkdir /o/pack", *there], ["applied"] * (2 + len(there)))
+    changes = [(["do put /t 1 69"], ["misuse two-contents"])] * count
+    return joined(["put /t 1 68", *links], 4, [moved, *changes, found(7)])
+
+
 def middle(count):
     """So many packs, and a link beside them whose way goes over another link, which is put over so many times; and then one find."""
     setup = ["mkdir /e", "put /e/x 1 68", "mkdir /f", "put /f/x 1 68", *put("pack-a", range(10), 1), *["put /o/pack/note-%d.pack 1 68" % it for it in range(count)]]
@@ -170,6 +179,7 @@ CASES = {
     "pack links swapped": (swapped, (2000, 8000)),
     "links put and taken away": (taken_away, (2000, 8000)),
     "refused changes behind links": (refused, (2000, 8000)),
+    "refused changes behind a moved directory": (moved_away, (2000, 8000)),
     "a way changed in its middle": (middle, (2000, 8000)),
 }
 
