@@ -136,7 +136,7 @@ def refused(count):
 
 
 def moved_away(count):
-    """So many links to one place in the pack directory of an open store, which other programs then move away, and as many changes of the place that are refused, since a link in the directory after it would show a second content; and then one find."""
+    """So many links to one place in the pack directory of an open store, which other programs then move away, and as many changes of the place that are refused, since a link in the directory that is made in its place would show a second content; and then one find."""
     links = ["link /o/pack/pack-%d.idx /t" % it for it in range(count)]
     there = [*put("pack-a", range(10), 1, "do "), "do link /o/pack/pack-z.idx /t"]
     moved = (["do rename /o/pack /old", "do mkdir /o/pack", *there], ["applied"] * (2 + len(there)))
