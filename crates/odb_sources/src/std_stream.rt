@@ -2,6 +2,7 @@
 ghost use Rattle.std.specs.Prelude.{◌≡◌, ◌≤◌, length, None, IfOk, OnOk};
 ghost use Rattle.std.specs.Io.KnownBytes.{ReadConsumes, WriteAppends};
 ghost use Rattle.odb_base.specs.Faults.{HasCause, Rose};
+ghost use Rattle.odb_sources.specs.Retry.{is_retried};
 
 use crate::{Failed, Sink, Source};
 use std::io::{ErrorKind, Read, Write};
@@ -9,6 +10,13 @@ use std::io::{ErrorKind, Read, Write};
 /// How often a read or a write is tried that is interrupted each time. One that is interrupted still fails, so that none
 /// goes on for ever.
 const TRIES: u32 = 1_000_000;
+
+/// Whether a read or a write is tried again that failed so: only where it was interrupted.
+fn is_retried(kind: ErrorKind) -> bool
+    ensures retried { result ≡ is_retried kind }
+{
+    kind == ErrorKind::Interrupted
+}
 
 /// A source over a reader of std. It doesn't tell its bytes; where the reader does, a read gives them in order, and
 /// nothing only at their end.
@@ -56,7 +64,7 @@ impl<R: Read> Source for StdSource<R> {
         for _ in 0..TRIES {
             match self.inner.read(out) {
                 Ok(count) => return Ok(count),
-                Err(e) if e.kind() == ErrorKind::Interrupted => {}
+                Err(e) if is_retried(e.kind()) => {}
                 Err(_) => break,
             }
         }
@@ -121,7 +129,7 @@ impl<W: Write> Sink for StdSink<W> {
             match self.inner.write(bytes) {
                 Ok(0) if !bytes.is_empty() => return Err(self.fault()),
                 Ok(count) => return Ok(count),
-                Err(e) if e.kind() == ErrorKind::Interrupted => {}
+                Err(e) if is_retried(e.kind()) => {}
                 Err(_) => return Err(self.fault()),
             }
         }
