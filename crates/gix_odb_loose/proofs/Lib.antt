@@ -7,6 +7,7 @@ pub mod ReplyLaws
 pub mod AsksLeftLemmas
 pub mod StillAskLaws
 pub mod NameLaws
+mod AskedLemmas
 mod RunLemmas
 pub mod RoomLemmas
 mod WriteOrderLemmas

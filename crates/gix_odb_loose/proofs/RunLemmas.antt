@@ -18,6 +18,7 @@ use Rattle.gix_odb_loose.specs.Store.{store_limit}
 use Rattle.gix_odb_loose.specs.LooseFile.{Reading, LeadsToFile, HoldsObject, HoldsHeader}
 use Rattle.gix_odb_loose.specs.Causes.{FindCause, HeaderCause, TestCause}
 use Rattle.gix_odb_loose.specs.Answers.{ComesTo, AnswersRead, GaveIn, path_in, Finds, TellsHeader, FindRefused, HeaderRefused, TestRefused}
+use Rattle.gix_odb_loose.specs.Asked.{object_result}
 use Rattle.gix_odb_loose.specs.LooseOrder.Answered.{tested_by, found_by, header_by}
 use Rattle.gix_odb_loose.proofs.LooseOrderLaws.Read.{found_by-Err, found_by-Err_untold, header_by-Err, header_by-Err_untold, found_by-AnswersRead, header_by-AnswersRead}
 use Rattle.gix_odb_loose.proofs.LooseOrderLaws.Look.{tested_by-Err, tested_by-Ok}
@@ -95,12 +96,7 @@ risen_answers : {A : Type 0} (read : Reading) (Holds : List ℕ → A → Type 0
 risen_answers read Holds Failed Rises f result h =
     record { found = h.found; finds = λ x g. weaker Failed Rises f result (Some x) (h.finds x g); none = h.none; misses = λ e. weaker Failed Rises f result None (h.misses e) }
 
--- found objects as pairs, and back
-abbrev pub object_result : Result (Option (Kind × List ℕ)) Error → Result (Option Object) Error
-object_result (Ok (Some x)) = Ok (Some (record { kind = x.0; bytes = x.1 }))
-object_result (Ok None) = Ok None
-object_result (Err error) = Err error
-
+-- found objects as pairs
 abbrev pair_result : Result (Option Object) Error → Result (Option (Kind × List ℕ)) Error
 pair_result (Ok (Some object)) = Ok (Some (object.kind, object.bytes))
 pair_result (Ok None) = Ok None

@@ -16,3 +16,4 @@ pub mod WriteRuns
 pub mod StreamJobs
 pub mod LooseOrder
 pub mod Replies
+pub mod Asked

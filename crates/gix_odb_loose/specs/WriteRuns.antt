@@ -8,6 +8,9 @@ use Rattle.odb_nodes.specs.Tree.{State}
 use Rattle.gix_hash.specs.declared.kind.Kind.{Kind as HashKind}
 use Rattle.gix_hash.specs.declared.object_id.ObjectId.{ObjectId}
 use Rattle.gix_object.specs.declared.kind.Kind.{Kind}
+use Rattle.odb_asks.specs.declared.ask.DiskAsk.{DiskAsk}
+use Rattle.odb_asks.specs.declared.ask.DiskAnswer.{DiskAnswer}
+use Rattle.gix_odb_loose.specs.Asked.{AreAllCalls}
 use Rattle.gix_odb_loose.specs.Causes.{WriteCause}
 use Rattle.gix_odb_loose.specs.Exchanges.{Exchange, left_by, AreGiven, RenamedNothing}
 use Rattle.gix_odb_loose.specs.Store.{store_path, store_hash}
@@ -88,18 +91,27 @@ HasNotFailed (Streamed left before now) = now ≡ before
 abbrev pub streamed : {S : Type 0} → (left : S → Option (List ℕ)) (faults : S → ℕ) (before now : S) → Content
 streamed left faults before now = Streamed (left before) (faults before) (faults now)
 
--- the state of a disk before a write and after, where it tells that, and its counts of faults
-pub record DiskSeen : Type 0 where
+-- the state of a disk before a write and after, where it tells that, and its counts of faults; and which exchanges are all
+-- calls that were made of it in between
+pub record DiskSeen : Type 1 where
   pub state : Option State
   pub state_now : Option State
   pub faults : ℕ
   pub faults_now : ℕ
+  pub AreCalls : List Exchange → Type 0
 
-abbrev pub disk_seen : {D : Type 0} → (state : D → Option State) (faults : D → ℕ) (before now : D) → DiskSeen
-disk_seen state faults before now = record { state = state before; state_now = state now; faults = faults before; faults_now = faults now }
+abbrev pub disk_seen : {D : Type 0} → (state : D → Option State) (faults : D → ℕ) (answered : D → DiskAsk → DiskAnswer → D → Type 0) (before now : D) → DiskSeen
+disk_seen state faults answered before now =
+    record {
+      state = state before;
+      state_now = state now;
+      faults = faults before;
+      faults_now = faults now;
+      AreCalls = λ exchanges. AreAllCalls answered exchanges before now;
+    }
 
 -- a write that was made: what it was given, what it left of the disk, and what it answered
-pub record Write : Type 0 where
+pub record Write : Type 1 where
   pub head : WriteHead
   pub hash : HashKind
   -- the id that the object is known to have
@@ -118,8 +130,9 @@ GetsName w id = NamedFrom w.head w.hash w.known (bytes_told w.content) id
 
 -- What a write does to its disk, and why it ends so.
 pub record WriteRuns (w : Write) : Type 0 where
-  -- the calls of the disk that it made, and what they were answered and left
+  -- the calls of the disk that it made, all of them, and what they were answered and left
   pub exchanges : List Exchange
+  pub made : w.disk.AreCalls exchanges
   pub given : AreGiven w.disk.state exchanges
   pub left : w.disk.state_now ≡ left_by w.disk.state exchanges
   -- each is one of the write's own

@@ -8,6 +8,8 @@ ghost use Rattle.gix_hash.specs.ObjectId.{kind_of};
 ghost use Rattle.gix_object.specs.Data.{found_of};
 ghost use Rattle.gix_odb_loose.specs.Store.{store_path, store_hash, store_limit};
 ghost use Rattle.gix_odb_loose.specs.LooseFile.{LeadsToFile};
+ghost use Rattle.odb_asks.specs.declared.ask.DiskAsk.TheVariants as asks;
+ghost use Rattle.gix_odb_loose.specs.Asked.{FindAsks, HeaderAsks, TestAsks};
 ghost use Rattle.gix_odb_loose.specs.Answers.{path_in, put_in, Finds, TellsHeader, FindRefused, HeaderRefused, TestRefused};
 
 use crate::{call, find, paths, reply};
@@ -127,6 +129,7 @@ impl Store {
         ensures kept { D.state disk.new ≡ D.state disk.old }
         ensures later { D.faults disk.old ≤ D.faults disk.new }
         ensures streams { D.streams disk.new ≡ D.streams disk.old }
+        ensures asked { TestAsks D.answered self.now id.now disk.old disk.new result }
     {
         let path = self.object_path(alloc, id)?;
         let answer = look(alloc, disk, &path)?;
@@ -156,6 +159,7 @@ impl Store {
         ensures kept { D.state disk.new ≡ D.state disk.old }
         ensures later { D.faults disk.old ≤ D.faults disk.new }
         ensures streams { D.streams disk.new ≡ D.streams disk.old }
+        ensures asked { FindAsks D.answered self.now id.now disk.old disk.new (found_of result) }
     {
         match self.find_into(alloc, disk, id, out) {
             Ok(Some(kind)) => Ok(Some(Data {
@@ -186,6 +190,7 @@ impl Store {
         ensures kept { D.state disk.new ≡ D.state disk.old }
         ensures later { D.faults disk.old ≤ D.faults disk.new }
         ensures streams { D.streams disk.new ≡ D.streams disk.old }
+        ensures asked { FindAsks D.answered self.now id.now disk.old disk.new (put_in result out.new.items) }
     {
         out.clear();
         let path = self.object_path(alloc, id)?;
@@ -219,6 +224,7 @@ impl Store {
         ensures kept { D.state disk.new ≡ D.state disk.old }
         ensures later { D.faults disk.old ≤ D.faults disk.new }
         ensures streams { D.streams disk.new ≡ D.streams disk.old }
+        ensures asked { HeaderAsks D.answered self.now id.now disk.old disk.new result }
     {
         let path = self.object_path(alloc, id)?;
         let answer = read(alloc, disk, &path)?;
@@ -234,6 +240,8 @@ fn look<D: Disk>(alloc: Global, disk: &mut D, path: &PathText) -> Result<DiskAns
     ensures kept { D.state disk.new ≡ D.state disk.old }
     ensures later { D.faults disk.old ≤ D.faults disk.new }
     ensures streams { D.streams disk.new ≡ D.streams disk.old }
+    ensures asked { IfOk result (λ given. D.answered disk.old (asks.Look path.now true) given disk.new) }
+    ensures unasked { OnErr result (disk.new ≡ disk.old) }
 {
     let ask = call::look_at(alloc, path)?;
     let answer = ask.carry_out(alloc, disk);
@@ -248,6 +256,8 @@ fn read<D: Disk>(alloc: Global, disk: &mut D, path: &PathText) -> Result<DiskAns
     ensures kept { D.state disk.new ≡ D.state disk.old }
     ensures later { D.faults disk.old ≤ D.faults disk.new }
     ensures streams { D.streams disk.new ≡ D.streams disk.old }
+    ensures asked { IfOk result (λ given. D.answered disk.old (asks.Read path.now) given disk.new) }
+    ensures unasked { OnErr result (disk.new ≡ disk.old) }
 {
     let ask = call::read_of(alloc, path)?;
     let answer = ask.carry_out(alloc, disk);

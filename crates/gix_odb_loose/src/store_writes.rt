@@ -3,10 +3,11 @@ ghost use Rattle.std.specs.Prelude.{◌≡◌, ◌≤◌, Option, Some, None, le
 ghost use Rattle.gix_hash.specs.ObjectId.{kind_of};
 ghost use Rattle.gix_object.specs.Id.{object_id};
 ghost use Rattle.gix_object.specs.Stream.{stream_of, IsDrawn, IsWhole};
+ghost use Rattle.gix_odb_loose.specs.Asked.{AreAllCalls};
 ghost use Rattle.gix_odb_loose.specs.Store.{store_hash};
 ghost use Rattle.gix_odb_loose.specs.StreamJobs.Progress.{Begun, write_made};
 ghost use Rattle.gix_odb_loose.specs.StreamJobs.AtStage.{IsNew};
-ghost use Rattle.gix_odb_loose.specs.StreamJobs.{IsSomeUnderway, IsToldBy, IsUnderway};
+ghost use Rattle.gix_odb_loose.specs.StreamJobs.{IsSomeUnderway, IsToldBy, IsUnderway, Since};
 ghost use Rattle.gix_odb_loose.specs.WriteRuns.{WriteRuns, AtHand, disk_seen, streamed, write_head, write_into};
 ghost use Rattle.gix_odb_loose.specs.WriteStreams.{IsAtEnd, TakesFrom};
 
@@ -34,7 +35,7 @@ impl Store {
         from: &[u8],
     ) -> Result<ObjectId, write::Error>
         ensures run { WriteRuns (write_into self.now kind (length from.now) None (AtHand from.now)
-            (disk_seen D.state D.faults disk.old disk.new) result) }
+            (disk_seen D.state D.faults D.answered disk.old disk.new) result) }
         ensures id { IfOk result (λ id. id ≡ object_id (store_hash self.now) kind from.now) }
         ensures kind { IfOk result (λ id. kind_of id ≡ store_hash self.now) }
         ensures later { D.faults disk.old ≤ D.faults disk.new }
@@ -55,7 +56,7 @@ impl Store {
     ) -> Result<ObjectId, write::Error>
         requires hash { kind_of id ≡ store_hash self.now }
         ensures run { WriteRuns (write_into self.now kind (length from.now) (Some id) (AtHand from.now)
-            (disk_seen D.state D.faults disk.old disk.new) result) }
+            (disk_seen D.state D.faults D.answered disk.old disk.new) result) }
         ensures id { IfOk result (λ answered. answered ≡ id) }
         ensures later { D.faults disk.old ≤ D.faults disk.new }
         ensures streams { D.streams disk.new ≡ D.streams disk.old }
@@ -77,7 +78,7 @@ impl Store {
         from: &mut S,
     ) -> Result<ObjectId, write::Error>
         ensures run { WriteRuns (write_into self.now kind size None (streamed S.left S.faults from.old from.new)
-            (disk_seen D.state D.faults disk.old disk.new) result) }
+            (disk_seen D.state D.faults D.answered disk.old disk.new) result) }
         ensures from { IsDrawn (stream_of (S.left from.old) (S.faults from.old) (S.left from.new) (S.faults from.new)) }
         ensures few { TakesFrom size (S.left from.old) (S.left from.new) (S.faults from.old) (S.faults from.new) }
         ensures whole { IfOk result (λ _. IsWhole size (S.left from.old) (S.left from.new)) }
@@ -102,7 +103,7 @@ impl Store {
     ) -> Result<ObjectId, write::Error>
         requires hash { kind_of id ≡ store_hash self.now }
         ensures run { WriteRuns (write_into self.now kind size (Some id) (streamed S.left S.faults from.old from.new)
-            (disk_seen D.state D.faults disk.old disk.new) result) }
+            (disk_seen D.state D.faults D.answered disk.old disk.new) result) }
         ensures from { IsDrawn (stream_of (S.left from.old) (S.faults from.old) (S.left from.new) (S.faults from.new)) }
         ensures few { TakesFrom size (S.left from.old) (S.left from.new) (S.faults from.old) (S.faults from.new) }
         ensures whole { IfOk result (λ _. IsWhole size (S.left from.old) (S.left from.new)) }
@@ -122,7 +123,7 @@ impl Store {
         object: &O,
     ) -> Result<ObjectId, write::Error>
         ensures run { WriteRuns (write_into self.now (O.kind object.now) (length (O.bytes object.now)) None (AtHand (O.bytes object.now))
-            (disk_seen D.state D.faults disk.old disk.new) result) }
+            (disk_seen D.state D.faults D.answered disk.old disk.new) result) }
         ensures id { IfOk result (λ id. id ≡ object_id (store_hash self.now) (O.kind object.now) (O.bytes object.now)) }
         ensures kind { IfOk result (λ id. kind_of id ≡ store_hash self.now) }
         ensures later { D.faults disk.old ≤ D.faults disk.new }
@@ -146,7 +147,7 @@ impl Store {
         from: &mut S,
     ) -> Result<ObjectId, write::Error>
         ensures run { WriteRuns (write_into self.now kind size known (streamed S.left S.faults from.old from.new)
-            (disk_seen D.state D.faults disk.old disk.new) result) }
+            (disk_seen D.state D.faults D.answered disk.old disk.new) result) }
         ensures taken { TakesFrom size (S.left from.old) (S.left from.new) (S.faults from.old) (S.faults from.new) }
         ensures ended { IfOk result (λ _. IsAtEnd (S.left from.new)) }
         ensures later { D.faults disk.old ≤ D.faults disk.new }
@@ -184,12 +185,14 @@ fn answered<D: Disk, S: Source>(
     from: &mut S,
     job: &mut StreamJob,
 ) -> Result<ObjectId, write::Error>
-    requires underway { IsSomeUnderway (D.state disk.old) (D.faults disk.old) (S.left from.old) (S.faults from.old) job.old }
-    ensures run { (w : Begun) →
-        IsUnderway w (D.state disk.old) (D.faults disk.old) (S.left from.old) (S.faults from.old) job.old →
-        WriteRuns (write_made w (D.state disk.new) (D.faults disk.new) (S.faults from.new) result) }
-    ensures taken { (w : Begun) →
-        IsUnderway w (D.state disk.old) (D.faults disk.old) (S.left from.old) (S.faults from.old) job.old →
+    requires underway { IsSomeUnderway D.answered disk.old (D.state disk.old) (D.faults disk.old) (S.left from.old) (S.faults from.old) job.old }
+    ensures run { (w : Begun) (first : D) →
+        Since D.answered first disk.old (λ past.
+        IsUnderway w (D.state disk.old) (D.faults disk.old) past (S.left from.old) (S.faults from.old) job.old) →
+        WriteRuns (write_made w (λ exchanges. AreAllCalls D.answered exchanges first disk.new) (D.state disk.new) (D.faults disk.new) (S.faults from.new) result) }
+    ensures taken { (w : Begun) (first : D) →
+        Since D.answered first disk.old (λ past.
+        IsUnderway w (D.state disk.old) (D.faults disk.old) past (S.left from.old) (S.faults from.old) job.old) →
         TakesFrom w.head.size w.left (S.left from.new) w.source_faults (S.faults from.new) }
     ensures ended { IfOk result (λ _. IsAtEnd (S.left from.new)) }
     ensures later { D.faults disk.old ≤ D.faults disk.new }

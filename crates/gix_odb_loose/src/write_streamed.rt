@@ -12,7 +12,8 @@ ghost use Rattle.gix_odb_loose.specs.WriteNames.{Names};
 ghost use Rattle.gix_odb_loose.specs.StreamJobs.Progress.{Begun};
 ghost use Rattle.gix_odb_loose.specs.StreamJobs.AtStage.{calls_left};
 ghost use Rattle.gix_odb_loose.specs.StreamJobs.Standing.{StandsBefore, WaitsAt, IsEnded, IsBrokenOff};
-ghost use Rattle.gix_odb_loose.specs.StreamJobs.{IsUnderway, IsSomeUnderway, AnsweredTo, AsksTo, GoesOn, TurnsTo, RunsTo, IsBroken};
+ghost use Rattle.gix_odb_loose.specs.Exchanges.{Exchange};
+ghost use Rattle.gix_odb_loose.specs.StreamJobs.{Since, IsUnderway, IsSomeUnderway, AnsweredTo, AsksTo, GoesOn, TurnsTo, RunsTo, IsBroken};
 
 use crate::fetch::{Fetched, next_piece};
 use crate::naming::Naming;
@@ -76,11 +77,14 @@ impl StreamJob {
         disk: &mut D,
         from: &mut S,
     ) -> Result<Option<Result<ObjectId, Refusal>>, NoMemory>
-        ensures turned { (w : Begun) →
-            IsUnderway w (D.state disk.old) (D.faults disk.old) (S.left from.old) (S.faults from.old) self.old →
-            TurnsTo w (D.state disk.new) (D.faults disk.new) (S.left from.new) (S.faults from.new) self.new result }
-        ensures fewer { (w : Begun) →
-            IsUnderway w (D.state disk.old) (D.faults disk.old) (S.left from.old) (S.faults from.old) self.old →
+        ensures turned { (w : Begun) (first : D) →
+            Since D.answered first disk.old (λ past.
+            IsUnderway w (D.state disk.old) (D.faults disk.old) past (S.left from.old) (S.faults from.old) self.old) →
+            Since D.answered first disk.new (λ past.
+            TurnsTo w (D.state disk.new) (D.faults disk.new) past (S.left from.new) (S.faults from.new) self.new result) }
+        ensures fewer { (w : Begun) (first : D) →
+            Since D.answered first disk.old (λ past.
+            IsUnderway w (D.state disk.old) (D.faults disk.old) past (S.left from.old) (S.faults from.old) self.old) →
             IfOk result (λ end. end ≡ None → calls_left self.new (WriteAsk.Disk self.new.stage) < calls_left self.old (WriteAsk.Disk self.old.stage)) }
         ensures head { self.new.head ≡ self.old.head }
         ensures later { D.faults disk.old ≤ D.faults disk.new }
@@ -98,10 +102,12 @@ impl StreamJob {
         disk: &mut D,
         from: &mut S,
     ) -> Result<Result<ObjectId, Refusal>, NoMemory>
-        requires underway { IsSomeUnderway (D.state disk.old) (D.faults disk.old) (S.left from.old) (S.faults from.old) self.old }
-        ensures ran { (w : Begun) →
-            IsUnderway w (D.state disk.old) (D.faults disk.old) (S.left from.old) (S.faults from.old) self.old →
-            RunsTo w (D.state disk.new) (D.faults disk.new) (S.left from.new) (S.faults from.new) result }
+        requires underway { IsSomeUnderway D.answered disk.old (D.state disk.old) (D.faults disk.old) (S.left from.old) (S.faults from.old) self.old }
+        ensures ran { (w : Begun) (first : D) →
+            Since D.answered first disk.old (λ past.
+            IsUnderway w (D.state disk.old) (D.faults disk.old) past (S.left from.old) (S.faults from.old) self.old) →
+            Since D.answered first disk.new (λ past.
+            RunsTo w (D.state disk.new) (D.faults disk.new) past (S.left from.new) (S.faults from.new) result) }
         ensures head { self.new.head ≡ self.old.head }
         ensures later { D.faults disk.old ≤ D.faults disk.new }
         ensures streams { D.streams disk.new ≡ D.streams disk.old }
@@ -120,12 +126,12 @@ impl StreamJob {
 
     /// Asks to remove the temporary file of a write that memory ran out of, where one was made.
     pub fn clear<D: Disk>(&self, alloc: Global, disk: &mut D)
-        ensures cleared { (w : Begun) (rest : Option (List ℕ)) (source_now : ℕ) →
-            IsBroken w (D.state disk.old) (D.faults disk.old) rest source_now self.now →
-            IsBrokenOff w (D.state disk.new) (D.faults disk.new) rest source_now }
+        ensures cleared { (w : Begun) (first : D) (rest : Option (List ℕ)) (source_now : ℕ) →
+            Since D.answered first disk.old (λ past. IsBroken w (D.state disk.old) (D.faults disk.old) past rest source_now self.now) →
+            Since D.answered first disk.new (λ past. IsBrokenOff w (D.state disk.new) (D.faults disk.new) past rest source_now) }
         ensures later { D.faults disk.old ≤ D.faults disk.new }
-        ensures streams { (w : Begun) (rest : Option (List ℕ)) (source_now : ℕ) →
-            IsBroken w (D.state disk.old) (D.faults disk.old) rest source_now self.now →
+        ensures streams { (w : Begun) (past : List Exchange) (rest : Option (List ℕ)) (source_now : ℕ) →
+            IsBroken w (D.state disk.old) (D.faults disk.old) past rest source_now self.now →
             D.streams disk.new ≡ D.streams disk.old }
     {
         if self.stage.number_made().is_some() {
@@ -135,11 +141,11 @@ impl StreamJob {
 
     // The call of the disk of its stage: what the answer leads to.
     fn asked<D: Disk>(&mut self, alloc: Global, disk: &mut D) -> Result<WriteAsk, NoMemory>
-        ensures asks { (w : Begun) (rest : Option (List ℕ)) (source_now : ℕ) →
-            IsUnderway w (D.state disk.old) (D.faults disk.old) rest source_now self.old →
-            AsksTo w (D.state disk.new) (D.faults disk.new) rest source_now self.new result }
-        ensures fewer { (w : Begun) (rest : Option (List ℕ)) (source_now : ℕ) →
-            IsUnderway w (D.state disk.old) (D.faults disk.old) rest source_now self.old →
+        ensures asks { (w : Begun) (first : D) (rest : Option (List ℕ)) (source_now : ℕ) →
+            Since D.answered first disk.old (λ past. IsUnderway w (D.state disk.old) (D.faults disk.old) past rest source_now self.old) →
+            Since D.answered first disk.new (λ past. AsksTo w (D.state disk.new) (D.faults disk.new) past rest source_now self.new result) }
+        ensures fewer { (w : Begun) (past : List Exchange) (rest : Option (List ℕ)) (source_now : ℕ) →
+            IsUnderway w (D.state disk.old) (D.faults disk.old) past rest source_now self.old →
             IfOk result (λ wanted. calls_left self.new wanted < calls_left self.old (WriteAsk.Disk self.old.stage)) }
         ensures head { self.new.head ≡ self.old.head }
         ensures later { D.faults disk.old ≤ D.faults disk.new }
@@ -173,11 +179,11 @@ impl StreamJob {
         from: &mut S,
         wanted: WriteAsk,
     ) -> Result<Option<Result<ObjectId, Refusal>>, NoMemory>
-        ensures goes_on { (w : Begun) (state : Option State) (now : ℕ) →
-            AnsweredTo w state now (S.left from.old) (S.faults from.old) self.old wanted →
-            TurnsTo w state now (S.left from.new) (S.faults from.new) self.new result }
-        ensures fewer { (w : Begun) (state : Option State) (now : ℕ) →
-            AnsweredTo w state now (S.left from.old) (S.faults from.old) self.old wanted →
+        ensures goes_on { (w : Begun) (state : Option State) (now : ℕ) (past : List Exchange) →
+            AnsweredTo w state now past (S.left from.old) (S.faults from.old) self.old wanted →
+            TurnsTo w state now past (S.left from.new) (S.faults from.new) self.new result }
+        ensures fewer { (w : Begun) (state : Option State) (now : ℕ) (past : List Exchange) →
+            AnsweredTo w state now past (S.left from.old) (S.faults from.old) self.old wanted →
             IfOk result (λ end. end ≡ None → calls_left self.new (WriteAsk.Disk self.new.stage) ≤ calls_left self.old wanted) }
         ensures head { self.new.head ≡ self.old.head }
     {
@@ -196,8 +202,8 @@ impl StreamJob {
 
     // Stands at a stage that an answer led to. The removal of a file that is to be made is made ready.
     fn stand(&mut self, alloc: Global, stage: WriteStage) -> Result<(), NoMemory>
-        ensures goes_on { (w : Begun) (state : Option State) (now : ℕ) (rest : Option (List ℕ)) (source_now : ℕ) →
-            StandsBefore w state now rest source_now self.old stage → GoesOn w state now rest source_now self.new result }
+        ensures goes_on { (w : Begun) (state : Option State) (now : ℕ) (past : List Exchange) (rest : Option (List ℕ)) (source_now : ℕ) →
+            StandsBefore w state now past rest source_now self.old stage → GoesOn w state now past rest source_now self.new result }
         ensures same { OnOk result (calls_left self.new (WriteAsk.Disk self.new.stage) ≡ calls_left self.old (WriteAsk.Disk stage)) }
         ensures head { self.new.head ≡ self.old.head }
     {
@@ -220,11 +226,11 @@ impl StreamJob {
         number: u64,
         written: u64,
     ) -> Result<(), NoMemory>
-        ensures goes_on { (w : Begun) (state : Option State) (now : ℕ) →
-            WaitsAt w state now (S.left from.old) (S.faults from.old) self.old number written →
-            GoesOn w state now (S.left from.new) (S.faults from.new) self.new result }
-        ensures fewer { (w : Begun) (state : Option State) (now : ℕ) →
-            WaitsAt w state now (S.left from.old) (S.faults from.old) self.old number written →
+        ensures goes_on { (w : Begun) (state : Option State) (now : ℕ) (past : List Exchange) →
+            WaitsAt w state now past (S.left from.old) (S.faults from.old) self.old number written →
+            GoesOn w state now past (S.left from.new) (S.faults from.new) self.new result }
+        ensures fewer { (w : Begun) (state : Option State) (now : ℕ) (past : List Exchange) →
+            WaitsAt w state now past (S.left from.old) (S.faults from.old) self.old number written →
             OnOk result (calls_left self.new (WriteAsk.Disk self.new.stage) ≤ calls_left self.old (WriteAsk.Data number written)) }
         ensures head { self.new.head ≡ self.old.head }
     {

@@ -1,3 +1,4 @@
 mod ObjectLemmas
+mod ReadLemmas
 mod WrittenLemmas
 mod ConditionLemmas

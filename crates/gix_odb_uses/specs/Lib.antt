@@ -1,3 +1,4 @@
 pub mod Objects
+pub mod Reads
 pub mod Written
 pub mod Conditions

@@ -3,10 +3,11 @@ ghost use Rattle.std.specs.Prelude.{◌≡◌, ◌≤◌, ◌++◌, ◌∷◌, [
 ghost use Rattle.std.specs.List.{AllZip};
 ghost use Rattle.odb_base.specs.Faults.{Rose};
 ghost use Rattle.gix_hash.specs.ObjectId.{kind_of};
-ghost use Rattle.gix_odb_loose.specs.Answers.{HeaderRefused};
+ghost use Rattle.gix_odb_loose.specs.Answers.{HeaderRefused, path_in};
 ghost use Rattle.gix_odb_loose.specs.Store.{store_hash};
 ghost use Rattle.gix_odb_uses.specs.Objects.{IsKindAt, IsRefusedAmong};
 ghost use Rattle.gix_odb_uses.specs.Conditions.{IsIn, TellsFound, condition_by};
+ghost use Rattle.gix_odb_uses.specs.Reads.{MayRead, MayReadEach};
 
 use gix_hash::ObjectId;
 use gix_object::{Kind, compute_hash};
@@ -30,6 +31,7 @@ pub fn kinds_of<D: Disk>(
     ensures kept { D.state disk.new ≡ D.state disk.old }
     ensures later { D.faults disk.old ≤ D.faults disk.new }
     ensures streams { D.streams disk.new ≡ D.streams disk.old }
+    ensures asked { MayReadEach D.answered store.now ids.now disk.old disk.new }
 {
     let mut kinds = Vec::new(alloc);
     for id in ids {
@@ -53,6 +55,7 @@ fn kind_at<D: Disk>(
     ensures kept { D.state disk.new ≡ D.state disk.old }
     ensures later { D.faults disk.old ≤ D.faults disk.new }
     ensures streams { D.streams disk.new ≡ D.streams disk.old }
+    ensures asked { MayRead D.answered (path_in store.now id.now) disk.old disk.new }
 {
     match store.try_header(alloc, disk, id)? {
         Some((_, kind)) => Ok(Some(kind)),
@@ -94,6 +97,7 @@ pub fn condition_of<D: Disk>(
     ensures kept { D.state disk.new ≡ D.state disk.old }
     ensures later { D.faults disk.old ≤ D.faults disk.new }
     ensures streams { D.streams disk.new ≡ D.streams disk.old }
+    ensures asked { MayRead D.answered (path_in store.now id.now) disk.old disk.new }
 {
     let mut bytes = Vec::new(alloc);
     match store.find_into(alloc, disk, id, &mut bytes) {

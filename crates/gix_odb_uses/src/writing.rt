@@ -7,7 +7,7 @@ ghost use Rattle.gix_odb_loose.specs.Store.{store_hash};
 ghost use Rattle.gix_odb_loose.specs.WriteRuns.{WriteRuns, disk_seen, streamed, write_into};
 ghost use Rattle.gix_odb_loose.specs.WriteStreams.{TakesFrom};
 ghost use Rattle.gix_odb_uses.specs.Objects.{IsHeld};
-ghost use Rattle.gix_odb_uses.specs.Written.{CanBeRead, IsCopied, IsRefusedCopy, IsRefusedKeep, IsWrite, TellsLength, blob_id};
+ghost use Rattle.gix_odb_uses.specs.Written.{CanBeRead, IsCopied, IsRefusedCopy, IsRefusedKeep, IsWrite, TellsLength, blob_id, copied_on, kept_on};
 
 use crate::Error;
 use gix_hash::ObjectId;
@@ -27,9 +27,9 @@ pub fn keep<D: Disk>(
     ensures id { IfOk result (λ id. id ≡ blob_id store.now bytes.now) }
     ensures held { IfSome (D.state disk.new) (λ s. IfOk result (λ id. IsHeld store.now id s Kind.Blob bytes.now)) }
     ensures written { IfOk result (λ id. IsWrite store.now Kind.Blob bytes.now None
-        (disk_seen D.state D.faults disk.old disk.new) (Ok id)) }
+        (kept_on D.state D.faults D.answered store.now bytes.now disk.old disk.new) (Ok id)) }
     ensures refused { IfErr result (IsRefusedKeep store.now bytes.now
-        (disk_seen D.state D.faults disk.old disk.new)) }
+        (kept_on D.state D.faults D.answered store.now bytes.now disk.old disk.new)) }
     ensures later { D.faults disk.old ≤ D.faults disk.new }
     ensures streams { D.streams disk.new ≡ D.streams disk.old }
 {
@@ -64,11 +64,11 @@ pub fn copy<D: Disk>(
     requires hash { kind_of id.now ≡ store_hash from.now }
     requires same { store_hash to.now ≡ store_hash from.now }
     ensures copied { IfOk result (IsCopied from.now to.now id.now
-        (disk_seen D.state D.faults disk.old disk.new)) }
+        (copied_on D.state D.faults D.answered from.now id.now disk.old disk.new)) }
     ensures read_back { IfSome (D.state disk.old)
         (λ s. IfOk result (CanBeRead from.now to.now id.now s (D.state disk.new))) }
     ensures refused { IfErr result (IsRefusedCopy from.now to.now id.now
-        (disk_seen D.state D.faults disk.old disk.new)) }
+        (copied_on D.state D.faults D.answered from.now id.now disk.old disk.new)) }
     ensures later { D.faults disk.old ≤ D.faults disk.new }
     ensures streams { D.streams disk.new ≡ D.streams disk.old }
 {
@@ -98,7 +98,7 @@ pub fn put<D: Disk, S: Source>(
     ensures spared { IfOk result (λ _. S.faults from.new ≡ S.faults from.old) }
     ensures run { WriteRuns (write_into store.now Kind.Blob size None
         (streamed S.left S.faults from.old from.new)
-        (disk_seen D.state D.faults disk.old disk.new) result) }
+        (disk_seen D.state D.faults D.answered disk.old disk.new) result) }
     ensures length { IfErr result (TellsLength size (S.left from.old)) }
     ensures few { TakesFrom size (S.left from.old) (S.left from.new) (S.faults from.old) (S.faults from.new) }
     ensures later { D.faults disk.old ≤ D.faults disk.new }

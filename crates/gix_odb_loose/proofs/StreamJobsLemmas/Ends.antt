@@ -11,7 +11,7 @@ use Rattle.odb_asks.specs.declared.ask.DiskAnswer.{DiskAnswer}
 use Rattle.odb_asks.specs.declared.ask.DiskAnswer.TheVariants as answers
 use Rattle.odb_nodes.specs.declared.disk_error.DiskError.TheVariants as disk_errors
 use Rattle.gix_hash.specs.declared.object_id.ObjectId.{ObjectId}
-use Rattle.gix_odb_loose.specs.Exchanges.{exchanged, left_by, AreGiven}
+use Rattle.gix_odb_loose.specs.Exchanges.{Exchange, exchanged, left_by, AreGiven}
 use Rattle.gix_odb_loose.specs.WriteHistory.Refused.{IsFailedRead}
 use Rattle.gix_odb_loose.specs.WriteHistory.{IsRemovedAfter}
 use Rattle.gix_odb_loose.specs.WriteHistory.WentWell.{tried}
@@ -34,26 +34,25 @@ use Rattle.gix_odb_loose.proofs.StreamJobsLemmas.Turn.{did_next}
 
 -- ---- what a turn comes to
 
-pub turns_broken : {E : Type 0} (w : Begun) (state : Option State) (now : ℕ) (rest : Option (List ℕ)) (source_now : ℕ) (job : StreamJob) (result : Result (Option (Result ObjectId Refusal)) E)
-    → IsErr result → IsBroken w state now rest source_now job
-    → TurnsTo w state now rest source_now job result
-turns_broken w state now rest source_now job (Ok x) err broken = absurd (cc err)
-turns_broken w state now rest source_now job (Err error) err broken = broken
+pub turns_broken : {E : Type 0} (w : Begun) (state : Option State) (now : ℕ) (past : List Exchange) (rest : Option (List ℕ)) (source_now : ℕ) (job : StreamJob) (result : Result (Option (Result ObjectId Refusal)) E)
+    → IsErr result → IsBroken w state now past rest source_now job
+    → TurnsTo w state now past rest source_now job result
+turns_broken w state now past rest source_now job (Ok x) err broken = absurd (cc err)
+turns_broken w state now past rest source_now job (Err error) err broken = broken
 
-pub asks_broken : {E : Type 0} (w : Begun) (state : Option State) (now : ℕ) (rest : Option (List ℕ)) (source_now : ℕ) (job : StreamJob) (result : Result WriteAsk E) → IsErr result
-    → IsBroken w state now rest source_now job
-    → AsksTo w state now rest source_now job result
-asks_broken w state now rest source_now job (Ok x) err broken = absurd (cc err)
-asks_broken w state now rest source_now job (Err error) err broken = broken
+pub asks_broken : {E : Type 0} (w : Begun) (state : Option State) (now : ℕ) (past : List Exchange) (rest : Option (List ℕ)) (source_now : ℕ) (job : StreamJob) (result : Result WriteAsk E) → IsErr result
+    → IsBroken w state now past rest source_now job
+    → AsksTo w state now past rest source_now job result
+asks_broken w state now past rest source_now job (Ok x) err broken = absurd (cc err)
+asks_broken w state now past rest source_now job (Err error) err broken = broken
 
 -- memory ran out before the next ask
-pub broken_first : (w : Begun) (state : Option State) (now : ℕ) (rest : Option (List ℕ)) (source_now : ℕ) (job fed : StreamJob) → fed ≡ record job { piece = [] }
-    → IsUnderway w state now rest source_now job
-    → IsBroken w state now rest source_now fed
-broken_first w state now rest source_now job fed same at =
-    subst (λ (s : WriteStage). BreaksAt w state now rest source_now fed s) (sym (ap (λ (j : StreamJob). j.stage) same))
+pub broken_first : (w : Begun) (state : Option State) (now : ℕ) (past : List Exchange) (rest : Option (List ℕ)) (source_now : ℕ) (job fed : StreamJob) → fed ≡ record job { piece = [] }
+    → IsUnderway w state now past rest source_now job
+    → IsBroken w state now past rest source_now fed
+broken_first w state now past rest source_now job fed same at =
+    subst (λ (s : WriteStage). BreaksAt w state now past rest source_now fed s) (sym (ap (λ (j : StreamJob). j.stage) same))
     (record {
-      past = at.past;
       appended = at.appended;
       all = at.all;
       did = at.did;
@@ -61,10 +60,10 @@ broken_first w state now rest source_now job fed same at =
       removal = ready job.stage (ap (λ (j : StreamJob). j.removal) same ∙ at.removal);
       history = at.history;
       spared = lost;
-      follows = λ bytes told. cuts_at w bytes (SourceFailed w source_now) job.stage at.past (at.follows bytes told);
+      follows = λ bytes told. cuts_at w bytes (SourceFailed w source_now) job.stage past (at.follows bytes told);
     })
   where
-    lost : IsSpared w source_now ⊎ LostAt w job.stage at.past
+    lost : IsSpared w source_now ⊎ LostAt w job.stage past
     lost = elim at.spared [ inl spared ↦ inl spared | inr failed ↦ inr (record { number = failed.number; appended = failed.appended; filled = failed.filled; made = ap number_made failed.is }) ]
 
     ready : (stage : WriteStage) → fed.removal ≡ removal_at w stage → IsReady w fed.removal stage
@@ -77,18 +76,17 @@ broken_first w state now rest source_now job fed same at =
 
 -- ---- where memory ran out
 
-module _ (w : Begun) (state : Option State) (now : ℕ) (rest : Option (List ℕ)) (source_now : ℕ) (job : StreamJob) where
+module _ (w : Begun) (state : Option State) (now : ℕ) (past : List Exchange) (rest : Option (List ℕ)) (source_now : ℕ) (job : StreamJob) where
   -- no file was made
-  pub clear_unmade : (stage : WriteStage) → is_some (number_made stage) ≡ false → BreaksAt w state now rest source_now job stage → IsBrokenOff w state now rest source_now
+  pub clear_unmade : (stage : WriteStage) → is_some (number_made stage) ≡ false → BreaksAt w state now past rest source_now job stage → IsBrokenOff w state now past rest source_now
   clear_unmade (stages.Making number) e at =
       record {
-        past = at.past;
         all = at.all;
         did = at.did;
-        run = record { stage = stages.Making number; appended = at.appended; before = at.past; history = at.history; removed = refl };
+        run = record { stage = stages.Making number; appended = at.appended; before = past; history = at.history; removed = refl };
         took = at.took;
         spared = elim at.spared [ inl spared ↦ inl spared | inr lost ↦ absurd (let none = lost.made in cc none) ];
-        follows = λ bytes told. cut_off w bytes (stages.Making number) at.past at.past (at.follows bytes told) refl;
+        follows = λ bytes told. cut_off w bytes (stages.Making number) past past (at.follows bytes told) refl;
       }
   clear_unmade (stages.Heading number) e at = absurd (cc e)
   clear_unmade (stages.Filling number written) e at = absurd (cc e)
@@ -99,44 +97,43 @@ module _ (w : Begun) (state : Option State) (now : ℕ) (rest : Option (List ℕ
   module _ (new : Option State) (later : ℕ) (answer : DiskAnswer) (given : IfSome state (λ s. AnswersAsk answer (answer_of (tree_of s) job.removal)))
       (left : new ≡ state_told_after state job.removal answer) (more : now ≤ later)
       (cause : answer ≡ answers.Refused disk_errors.Failed → Rose now later) (tree : IfSome state (λ s. IsTree (tree_of s))) where
-    removed : (number : ℕ) (stage : WriteStage) → job.removal ≡ asks.Remove (temp_path w.head.objects number) → number_made stage ≡ Some number → BreaksAt w state now rest source_now job stage
-        → IsBrokenOff w new later rest source_now
+    removed : (number : ℕ) (stage : WriteStage) → job.removal ≡ asks.Remove (temp_path w.head.objects number) → number_made stage ≡ Some number → BreaksAt w state now past rest source_now job stage
+        → IsBrokenOff w new later (past ++ exchanged job.removal answer ∷ []) rest source_now
     removed number stage ready made at =
         record {
-          past = at.past ++ exchanged job.removal answer ∷ [];
           all = at.all;
-          did = did_next w state new now later job.removal answer given left more cause tree at.past at.did;
+          did = did_next w state new now later job.removal answer given left more cause tree past at.did;
           run =
               record {
                 stage = stage;
                 appended = at.appended;
-                before = at.past;
+                before = past;
                 history = at.history;
                 removed = removal_asked;
               };
           took = at.took;
           spared = elim at.spared [ inl spared ↦ inl spared | inr lost ↦ inr (failed lost) ];
-          follows = λ bytes told. cut_off w bytes stage at.past (at.past ++ exchanged job.removal answer ∷ []) (at.follows bytes told) removal_asked;
+          follows = λ bytes told. cut_off w bytes stage past (past ++ exchanged job.removal answer ∷ []) (at.follows bytes told) removal_asked;
         }
       where
-        failed : LostAt w stage at.past → IsFailedRead w.head (at.past ++ exchanged job.removal answer ∷ [])
+        failed : LostAt w stage past → IsFailedRead w.head (past ++ exchanged job.removal answer ∷ [])
         failed lost =
             let same : number ≡ lost.number = let both = sym made ∙ lost.made in cc both in
             record {
               number = lost.number;
               appended = lost.appended;
-              before = at.past;
+              before = past;
               answer = answer;
               filled = lost.filled;
-              removed = ap (λ (a : DiskAsk). at.past ++ exchanged a answer ∷ []) (ready ∙ ap (λ (n : ℕ). asks.Remove (temp_path w.head.objects n)) same);
+              removed = ap (λ (a : DiskAsk). past ++ exchanged a answer ∷ []) (ready ∙ ap (λ (n : ℕ). asks.Remove (temp_path w.head.objects n)) same);
             }
 
-        removal_asked : IsRemovedAfter w.head (number_made stage) at.past (at.past ++ exchanged job.removal answer ∷ [])
+        removal_asked : IsRemovedAfter w.head (number_made stage) past (past ++ exchanged job.removal answer ∷ [])
         removal_asked =
-            subst (λ (n : Option ℕ). IsRemovedAfter w.head n at.past (at.past ++ exchanged job.removal answer ∷ [])) (sym made) (answer, ap (λ (a : DiskAsk). at.past ++ exchanged a answer ∷ []) ready)
+            subst (λ (n : Option ℕ). IsRemovedAfter w.head n past (past ++ exchanged job.removal answer ∷ [])) (sym made) (answer, ap (λ (a : DiskAsk). past ++ exchanged a answer ∷ []) ready)
 
     -- the file that was made was asked to be removed
-    pub clear_removed : (stage : WriteStage) → is_some (number_made stage) ≡ true → BreaksAt w state now rest source_now job stage → IsBrokenOff w new later rest source_now
+    pub clear_removed : (stage : WriteStage) → is_some (number_made stage) ≡ true → BreaksAt w state now past rest source_now job stage → IsBrokenOff w new later (past ++ exchanged job.removal answer ∷ []) rest source_now
     clear_removed (stages.Making number) e at = absurd (cc e)
     clear_removed (stages.Heading number) e at = removed number (stages.Heading number) at.removal refl at
     clear_removed (stages.Filling number written) e at = removed number (stages.Filling number written) at.removal refl at
@@ -148,12 +145,11 @@ module _ (w : Begun) (state : Option State) (now : ℕ) (rest : Option (List ℕ
 
 pub stands_first : (w : Begun) (job : StreamJob) → job.head ≡ w.head → job.stage ≡ stages.Making 0 → job.has_ended ≡ false → Names w.known w.hash w.head [] job.naming
     → job.removal ≡ asks.Remove (temp_path w.head.objects 0)
-    → IsUnderway w w.state w.faults w.left w.source_faults job
+    → IsUnderway w w.state w.faults [] w.left w.source_faults job
 unfolding tried AreGiven left_by
 stands_first w job head stage ended named removal =
-    subst (λ (s : WriteStage). StandsAt w w.state w.faults w.left w.source_faults job s) (sym stage)
+    subst (λ (s : WriteStage). StandsAt w w.state w.faults [] w.left w.source_faults job s) (sym stage)
     (record {
-      past = [];
       appended = [];
       all = [];
       did = record { given = tt; left = refl; failed = λ k d l. absurd (omega (arith, l)); later = omega arith; tree = inl refl };
@@ -168,23 +164,23 @@ stands_first w job head stage ended named removal =
 
 -- ---- what a turn came to, by its result
 
-module _ {E : Type 0} (w : Begun) (state : Option State) (now : ℕ) (rest : Option (List ℕ)) (source_now : ℕ) (job : StreamJob) (result : Result (Option (Result ObjectId Refusal)) E)
-    (turned : TurnsTo w state now rest source_now job result) where
-  pub came_on : result ≡ Ok None → IsUnderway w state now rest source_now job
-  came_on e = subst (λ (r : Result (Option (Result ObjectId Refusal)) E). TurnsTo w state now rest source_now job r) e turned
+module _ {E : Type 0} (w : Begun) (state : Option State) (now : ℕ) (past : List Exchange) (rest : Option (List ℕ)) (source_now : ℕ) (job : StreamJob) (result : Result (Option (Result ObjectId Refusal)) E)
+    (turned : TurnsTo w state now past rest source_now job result) where
+  pub came_on : result ≡ Ok None → IsUnderway w state now past rest source_now job
+  came_on e = subst (λ (r : Result (Option (Result ObjectId Refusal)) E). TurnsTo w state now past rest source_now job r) e turned
 
-  pub came_to : (end : Result ObjectId Refusal) → result ≡ Ok (Some end) → IsAtItsEnd w state now rest source_now end
-  came_to end e = subst (λ (r : Result (Option (Result ObjectId Refusal)) E). TurnsTo w state now rest source_now job r) e turned
+  pub came_to : (end : Result ObjectId Refusal) → result ≡ Ok (Some end) → IsAtItsEnd w state now past rest source_now end
+  came_to end e = subst (λ (r : Result (Option (Result ObjectId Refusal)) E). TurnsTo w state now past rest source_now job r) e turned
 
-  pub came_to_want : (error : E) → result ≡ Err error → IsBroken w state now rest source_now job
-  came_to_want error e = subst (λ (r : Result (Option (Result ObjectId Refusal)) E). TurnsTo w state now rest source_now job r) e turned
+  pub came_to_want : (error : E) → result ≡ Err error → IsBroken w state now past rest source_now job
+  came_to_want error e = subst (λ (r : Result (Option (Result ObjectId Refusal)) E). TurnsTo w state now past rest source_now job r) e turned
 
 -- ---- what all turns came to, by their result
 
-module _ {E : Type 0} (w : Begun) (state : Option State) (now : ℕ) (rest : Option (List ℕ)) (source_now : ℕ) (result : Result (Result ObjectId Refusal) E)
-    (ran : RunsTo w state now rest source_now result) where
-  pub ran_to : (end : Result ObjectId Refusal) → result ≡ Ok end → IsAtItsEnd w state now rest source_now end
-  ran_to end e = subst (RunsTo w state now rest source_now) e ran
+module _ {E : Type 0} (w : Begun) (state : Option State) (now : ℕ) (past : List Exchange) (rest : Option (List ℕ)) (source_now : ℕ) (result : Result (Result ObjectId Refusal) E)
+    (ran : RunsTo w state now past rest source_now result) where
+  pub ran_to : (end : Result ObjectId Refusal) → result ≡ Ok end → IsAtItsEnd w state now past rest source_now end
+  ran_to end e = subst (RunsTo w state now past rest source_now) e ran
 
-  pub ran_off : (error : E) → result ≡ Err error → IsBrokenOff w state now rest source_now
-  ran_off error e = subst (RunsTo w state now rest source_now) e ran
+  pub ran_off : (error : E) → result ≡ Err error → IsBrokenOff w state now past rest source_now
+  ran_off error e = subst (RunsTo w state now past rest source_now) e ran

@@ -7,6 +7,7 @@ use Rattle.odb_nodes.specs.Tree.{State}
 use Rattle.odb_asks.specs.declared.ask.DiskAsk.{DiskAsk}
 use Rattle.gix_hash.specs.declared.kind.Kind.{Kind as HashKind}
 use Rattle.gix_hash.specs.declared.object_id.ObjectId.{ObjectId}
+use Rattle.gix_odb_loose.specs.Exchanges.{Exchange}
 use Rattle.gix_odb_loose.specs.WriteNames.{Names}
 use Rattle.gix_odb_loose.specs.WriteOrder.{number_made, source_failed}
 use Rattle.gix_odb_loose.specs.WritePieces.{room_behind}
@@ -24,32 +25,32 @@ use Rattle.gix_odb_loose.proofs.StreamJobsLemmas.ReadsOn.{stands_ended, breaks_l
 
 -- ---- where data are asked for
 
-module _ (w : Begun) (state : Option State) (now : ℕ) (rest : Option (List ℕ)) (source_now : ℕ) (job : StreamJob) (number written : ℕ)
-    (waits : WaitsAt w state now rest source_now job number written) where
+module _ (w : Begun) (state : Option State) (now : ℕ) (past : List Exchange) (rest : Option (List ℕ)) (source_now : ℕ) (job : StreamJob) (number written : ℕ)
+    (waits : WaitsAt w state now past rest source_now job number written) where
   abbrev size_is : job.head.size ≡ w.head.size
   size_is = ap (λ (h : WriteHead). h.size) waits.head
 
   -- the source is at its end
   pub on_end : job.has_ended ≡ true → (new : StreamJob) → new.head ≡ job.head → new.removal ≡ job.removal → IsEnded number written job.head.size job.naming new.stage
-      → IsUnderway w state now rest source_now new
+      → IsUnderway w state now past rest source_now new
   on_end last new head removal ended =
-      stands_ended w state now rest source_now job number written waits (waits.holds.0.ended last) new head removal
+      stands_ended w state now past rest source_now job number written waits (waits.holds.0.ended last) new head removal
       (ended w.known w.hash w.head waits.all waits.holds.0.named)
 
   module _ (most : ℕ) (room : most ≡ room_behind job.head.size written) (last : Option (List ℕ)) (later : ℕ) where
     abbrev room_is : most ≡ room_behind w.head.size written
     room_is = room ∙ ap (λ (n : ℕ). room_behind n written) size_is
 
-    pub on_lost : Loses most rest last source_now later → (new : StreamJob) → new.removal ≡ job.removal → new.stage ≡ stages.Filling number written → IsBroken w state now last later new
+    pub on_lost : Loses most rest last source_now later → (new : StreamJob) → new.removal ≡ job.removal → new.stage ≡ stages.Filling number written → IsBroken w state now past last later new
     on_lost loses new removal is =
-        subst (λ (s : WriteStage). BreaksAt w state now last later new s) (sym is)
-        (breaks_lost w state now rest source_now job number written waits last later (subst (λ (n : ℕ). Loses n rest last source_now later) room_is loses) new removal)
+        subst (λ (s : WriteStage). BreaksAt w state now past last later new s) (sym is)
+        (breaks_lost w state now past rest source_now job number written waits last later (subst (λ (n : ℕ). Loses n rest last source_now later) room_is loses) new removal)
 
     pub on_failed : Rose source_now later → Loses most rest last source_now later → (new : StreamJob) → new.head ≡ job.head → new.removal ≡ job.removal → new.stage ≡ source_failed number
-        → IsUnderway w state now last later new
+        → IsUnderway w state now past last later new
     on_failed rose loses new head removal is =
-        subst (λ (s : WriteStage). StandsAt w state now last later new s) (sym is)
-        (stands_failed w state now rest source_now job number written waits last later (subst (λ (n : ℕ). Loses n rest last source_now later) room_is loses) rose new head removal)
+        subst (λ (s : WriteStage). StandsAt w state now past last later new s) (sym is)
+        (stands_failed w state now past rest source_now job number written waits last later (subst (λ (n : ℕ). Loses n rest last source_now later) room_is loses) rose new head removal)
 
     module _ (piece : List ℕ) (takes : Takes most rest last source_now later piece) (taken : StreamJob) (head : taken.head ≡ job.head) (removal : taken.removal ≡ job.removal)
         (is : taken.piece ≡ piece)
@@ -65,35 +66,34 @@ module _ (w : Begun) (state : Option State) (now : ℕ) (rest : Option (List ℕ
       abbrev names : Names w.known w.hash w.head (waits.all ++ piece) taken.naming
       names = named w.known w.hash w.head waits.all waits.holds.0.named
 
-      pub on_piece : taken.piece ≢ [] → taken.stage ≡ stages.Filling number written → IsUnderway w state now last later taken
+      pub on_piece : taken.piece ≢ [] → taken.stage ≡ stages.Filling number written → IsUnderway w state now past last later taken
       on_piece some at =
-          subst (λ (s : WriteStage). StandsAt w state now last later taken s) (sym at)
-          (stands_piece w state now rest source_now job number written waits last later piece takes_room taken head removal is ended_is names open' some)
+          subst (λ (s : WriteStage). StandsAt w state now past last later taken s) (sym at)
+          (stands_piece w state now past rest source_now job number written waits last later piece takes_room taken head removal is ended_is names open' some)
 
       pub on_nothing : taken.piece ≡ [] → (new : StreamJob) → new.head ≡ taken.head → new.removal ≡ taken.removal → IsEnded number written taken.head.size taken.naming new.stage
-          → IsUnderway w state now last later new
+          → IsUnderway w state now past last later new
       unfolding fed_nothing
       on_nothing none new head' removal' ended' =
-          let waits' = fed_nothing w state now rest source_now job number written waits last later piece takes_room taken head removal is ended_is names open' none in
-          let at_end = at_end_nothing w state now rest source_now job number written waits last later piece takes_room taken head removal is ended_is names open' none in
-          stands_ended w state now last later taken number written waits' at_end new head' removal'
+          let waits' = fed_nothing w state now past rest source_now job number written waits last later piece takes_room taken head removal is ended_is names open' none in
+          let at_end = at_end_nothing w state now past rest source_now job number written waits last later piece takes_room taken head removal is ended_is names open' none in
+          stands_ended w state now past last later taken number written waits' at_end new head' removal'
           (ended' w.known w.hash w.head waits'.all names)
 
-pub goes_on_broken : {E : Type 0} (w : Begun) (state : Option State) (now : ℕ) (rest : Option (List ℕ)) (source_now : ℕ) (job : StreamJob) (result : Result (Unit {0}) E) → IsErr result
-    → IsBroken w state now rest source_now job → GoesOn w state now rest source_now job result
-goes_on_broken w state now rest source_now job (Ok x) err broken = absurd (cc err)
-goes_on_broken w state now rest source_now job (Err error) err broken = broken
+pub goes_on_broken : {E : Type 0} (w : Begun) (state : Option State) (now : ℕ) (past : List Exchange) (rest : Option (List ℕ)) (source_now : ℕ) (job : StreamJob) (result : Result (Unit {0}) E) → IsErr result
+    → IsBroken w state now past rest source_now job → GoesOn w state now past rest source_now job result
+goes_on_broken w state now past rest source_now job (Ok x) err broken = absurd (cc err)
+goes_on_broken w state now past rest source_now job (Err error) err broken = broken
 
 -- ---- where an answer led
 
 -- memory ran out for it
-pub before_broken : (w : Begun) (state : Option State) (now : ℕ) (rest : Option (List ℕ)) (source_now : ℕ) (job new : StreamJob) (stage : WriteStage) → new.removal ≡ job.removal → new.stage ≡ stage
-    → StandsBefore w state now rest source_now job stage
-    → IsBroken w state now rest source_now new
-before_broken w state now rest source_now job new stage same is led =
-    subst (λ (s : WriteStage). BreaksAt w state now rest source_now new s) (sym is)
+pub before_broken : (w : Begun) (state : Option State) (now : ℕ) (past : List Exchange) (rest : Option (List ℕ)) (source_now : ℕ) (job new : StreamJob) (stage : WriteStage) → new.removal ≡ job.removal → new.stage ≡ stage
+    → StandsBefore w state now past rest source_now job stage
+    → IsBroken w state now past rest source_now new
+before_broken w state now past rest source_now job new stage same is led =
+    subst (λ (s : WriteStage). BreaksAt w state now past rest source_now new s) (sym is)
     (record {
-      past = led.past;
       appended = led.appended;
       all = led.all;
       did = led.did;
@@ -101,5 +101,5 @@ before_broken w state now rest source_now job new stage same is led =
       removal = subst (λ (r : DiskAsk). IsReady w r stage) (sym same) led.removal;
       history = led.history;
       spared = elim led.spared [ inl spared ↦ inl spared | inr failed ↦ inr (record { number = failed.number; appended = failed.appended; filled = failed.filled; made = ap number_made failed.is }) ];
-      follows = λ bytes told. cuts_at w bytes (SourceFailed w source_now) stage led.past (led.follows bytes told);
+      follows = λ bytes told. cuts_at w bytes (SourceFailed w source_now) stage past (led.follows bytes told);
     })

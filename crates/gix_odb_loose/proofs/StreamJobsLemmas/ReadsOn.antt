@@ -9,6 +9,7 @@ use Rattle.gix_hash.specs.declared.kind.Kind.{Kind as HashKind}
 use Rattle.gix_hash.specs.declared.object_id.ObjectId.{ObjectId}
 use Rattle.gix_odb_loose.specs.WriteAsks.{IsAlong}
 use Rattle.gix_odb_loose.proofs.WriteHistoryLaws.{IsHistory-ended}
+use Rattle.gix_odb_loose.specs.Exchanges.{Exchange}
 use Rattle.gix_odb_loose.specs.WriteNames.{name_for, Names}
 use Rattle.gix_odb_loose.specs.WriteOrder.{ended_with, source_failed}
 use Rattle.gix_odb_loose.specs.WritePieces.{room_behind}
@@ -56,7 +57,7 @@ module _ (w : Begun) (state : Option State) (now : ℕ) where
         later = omega (arith, took.later, on);
       }
 
-  module _ (rest : Option (List ℕ)) (source_now : ℕ) (job : StreamJob) (number written : ℕ) (fed : WaitsAt w state now rest source_now job number written) where
+  module _ (past : List Exchange) (rest : Option (List ℕ)) (source_now : ℕ) (job : StreamJob) (number written : ℕ) (fed : WaitsAt w state now past rest source_now job number written) where
     all_appended : fed.all ≡ fed.appended
     all_appended = fed.holds.0.is ∙ append-nil fed.appended
 
@@ -74,44 +75,43 @@ module _ (w : Begun) (state : Option State) (now : ℕ) where
       whole : IfSome w.left (λ bytes. bytes ≡ fed.all)
       whole = Draws-end w.left rest fed.all fed.took.drawn at_end
 
-      ended_history : WentTo w source_now fed.appended (ended_with w.head.size id number written) fed.past
+      ended_history : WentTo w source_now fed.appended (ended_with w.head.size id number written) past
       ended_history =
-          IsHistory-ended w.head (NamedBy w) (SourceFailed w source_now) (OtherLength w.left w.head.size) number written id fed.appended fed.past
+          IsHistory-ended w.head (NamedBy w) (SourceFailed w source_now) (OtherLength w.left w.head.size) number written id fed.appended past
           (named_from w.left w.known w.hash w.head fed.all whole)
           (counts_from w.left w.head.size written fed.all whole so_far fed.holds.0.within) fed.history
 
-      ended_follows : (bytes : List ℕ) → w.left ≡ Some bytes → IsAlong (at_hand w bytes) (Stage (ended_with w.head.size id number written)) fed.past
-      ended_follows bytes is = follows_end w bytes number written fed.past fed.all (subst (λ (left : Option (List ℕ)). IfSome left (λ bytes. bytes ≡ fed.all)) is whole) so_far (fed.follows bytes is)
+      ended_follows : (bytes : List ℕ) → w.left ≡ Some bytes → IsAlong (at_hand w bytes) (Stage (ended_with w.head.size id number written)) past
+      ended_follows bytes is = follows_end w bytes number written past fed.all (subst (λ (left : Option (List ℕ)). IfSome left (λ bytes. bytes ≡ fed.all)) is whole) so_far (fed.follows bytes is)
 
       -- where the length of the data leads
       abbrev stage_by : (same : Bool) → WriteStage
       stage_by same = if same then stages.Foldering number id else stages.Removing number (refusals.SizeMismatch written)
 
       stands_by : (same : Bool) → (written == w.head.size) ≡ same → new.removal ≡ removal_at w (stage_by same) → Holds w rest fed.appended fed.all new (stage_by same)
-          → StandsAt w state now rest source_now new (stage_by same)
+          → StandsAt w state now past rest source_now new (stage_by same)
       stands_by same e ready holds =
           record {
-            past = fed.past;
             appended = fed.appended;
             all = fed.all;
             did = fed.did;
             took = fed.took;
             head = head ∙ fed.head;
             removal = ready;
-            history = subst (λ (b : Bool). WentTo w source_now fed.appended (stage_by b) fed.past) e ended_history;
+            history = subst (λ (b : Bool). WentTo w source_now fed.appended (stage_by b) past) e ended_history;
             holds = holds;
             spared = inl fed.spared;
-            follows = λ bytes told. inl (subst (λ (b : Bool). IsAlong (at_hand w bytes) (Stage (stage_by b)) fed.past) e (ended_follows bytes told));
+            follows = λ bytes told. inl (subst (λ (b : Bool). IsAlong (at_hand w bytes) (Stage (stage_by b)) past) e (ended_follows bytes told));
           }
 
-      by_length : (same : Bool) → (written == w.head.size) ≡ same → StandsAt w state now rest source_now new (stage_by same)
+      by_length : (same : Bool) → (written == w.head.size) ≡ same → StandsAt w state now past rest source_now new (stage_by same)
       by_length true e = stands_by true e (removal ∙ fed.removal) (at_end, all_appended, ap (name_for w.known w.hash w.head) all_appended)
       by_length false e = stands_by false e (removal ∙ fed.removal) tt
 
-      pub stands_ended : new.stage ≡ ended_with job.head.size id number written → IsUnderway w state now rest source_now new
+      pub stands_ended : new.stage ≡ ended_with job.head.size id number written → IsUnderway w state now past rest source_now new
       stands_ended is =
           let size : job.head.size ≡ w.head.size = ap (λ (h : WriteHead). h.size) fed.head in
-          subst (λ (s : WriteStage). StandsAt w state now rest source_now new s) (sym (is ∙ ap (λ (n : ℕ). ended_with n id number written) size)) (by_length (written == w.head.size) refl)
+          subst (λ (s : WriteStage). StandsAt w state now past rest source_now new s) (sym (is ∙ ap (λ (n : ℕ). ended_with n id number written) size)) (by_length (written == w.head.size) refl)
 
     -- bytes are lost
     module _ (last : Option (List ℕ)) (later : ℕ) (loses : Loses (room_behind w.head.size written) rest last source_now later) where
@@ -119,10 +119,9 @@ module _ (w : Begun) (state : Option State) (now : ℕ) where
       took_lost = took_more rest last source_now later fed.all loses.lost fed.took loses.drawn (few_more loses.lost loses.few) loses.later
 
       -- for want of memory
-      pub breaks_lost : (new : StreamJob) → new.removal ≡ job.removal → BreaksAt w state now last later new (stages.Filling number written)
+      pub breaks_lost : (new : StreamJob) → new.removal ≡ job.removal → BreaksAt w state now past last later new (stages.Filling number written)
       breaks_lost new removal =
           record {
-            past = fed.past;
             appended = fed.appended;
             all = fed.all ++ loses.lost;
             did = fed.did;
@@ -130,14 +129,13 @@ module _ (w : Begun) (state : Option State) (now : ℕ) where
             removal = removal ∙ fed.removal;
             history = fed.history;
             spared = inr (record { number = number; appended = fed.appended; filled = fed.history.1; made = refl });
-            follows = λ bytes is. cuts_fed w bytes number written fed.past (fed.follows bytes is);
+            follows = λ bytes is. cuts_fed w bytes number written past (fed.follows bytes is);
           }
 
       -- by a failure of the source
-      pub stands_failed : Rose source_now later → (new : StreamJob) → new.head ≡ job.head → new.removal ≡ job.removal → StandsAt w state now last later new (source_failed number)
+      pub stands_failed : Rose source_now later → (new : StreamJob) → new.head ≡ job.head → new.removal ≡ job.removal → StandsAt w state now past last later new (source_failed number)
       stands_failed rose new head removal =
           record {
-            past = fed.past;
             appended = fed.appended;
             all = fed.all ++ loses.lost;
             did = fed.did;
@@ -149,7 +147,7 @@ module _ (w : Begun) (state : Option State) (now : ℕ) where
             spared = inr (record { number = number; appended = fed.appended; filled = fed.history.1; is = refl });
             follows =
                 λ bytes is.
-                let cuts = cuts_fed w bytes number written fed.past (fed.follows bytes is) in
+                let cuts = cuts_fed w bytes number written past (fed.follows bytes is) in
                 inr (record { number = number; failed = grind (arith, rose, fed.took.later); is = refl; cuts = record { reached = cuts.reached; made = cuts.made; along = cuts.along } });
           }
 
@@ -184,10 +182,9 @@ module _ (w : Begun) (state : Option State) (now : ℕ) where
           let one = some_bytes piece (λ e. some (is ∙ e)) in
           omega (arith, all, one, so_far, length-append fed.all piece)
 
-      pub stands_piece : new.piece ≢ [] → StandsAt w state now last later new (stages.Filling number written)
+      pub stands_piece : new.piece ≢ [] → StandsAt w state now past last later new (stages.Filling number written)
       stands_piece some =
           record {
-            past = fed.past;
             appended = fed.appended;
             all = fed.all ++ piece;
             did = fed.did;
@@ -197,13 +194,12 @@ module _ (w : Begun) (state : Option State) (now : ℕ) where
             history = fed.history;
             holds = (has_piece, next some);
             spared = inl (takes.same ∙ fed.spared);
-            follows = λ bytes told. inl (follows_piece w bytes number written fed.past (more_left bytes told some) (fed.follows bytes told));
+            follows = λ bytes told. inl (follows_piece w bytes number written past (more_left bytes told some) (fed.follows bytes told));
           }
 
-      unfoldable pub fed_nothing : new.piece ≡ [] → WaitsAt w state now last later new number written
+      unfoldable pub fed_nothing : new.piece ≡ [] → WaitsAt w state now past last later new number written
       fed_nothing none =
           record {
-            past = fed.past;
             appended = fed.appended;
             all = fed.all ++ piece;
             did = fed.did;

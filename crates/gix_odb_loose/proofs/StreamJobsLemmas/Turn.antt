@@ -60,19 +60,19 @@ module _ (w : Begun) (state new : Option State) (now later : ℕ) (ask : DiskAsk
 
 -- ---- a whole turn
 
-module _ (w : Begun) (state new : Option State) (now later : ℕ) (rest : Option (List ℕ)) (source_now : ℕ) (job fed : StreamJob) (stage : WriteStage) (ask : DiskAsk) (answer : DiskAnswer)
+module _ (w : Begun) (state new : Option State) (now later : ℕ) (past : List Exchange) (rest : Option (List ℕ)) (source_now : ℕ) (job fed : StreamJob) (stage : WriteStage) (ask : DiskAsk) (answer : DiskAnswer)
     (given : IfSome state (λ s. AnswersAsk answer (answer_of (tree_of s) ask))) (left : new ≡ state_told_after state ask answer) (more : now ≤ later)
     (cause : answer ≡ answers.Refused disk_errors.Failed → Rose now later) (tree : IfSome state (λ s. IsTree (tree_of s)))
     (removal : fed.removal ≡ job.removal) (naming : fed.naming ≡ job.naming) (ended : fed.has_ended ≡ job.has_ended) (head : fed.head ≡ job.head) (none : fed.piece ≡ [])
-    (at : StandsAt w state now rest source_now job stage) where
+    (at : StandsAt w state now past rest source_now job stage) where
   abbrev past' : List Exchange
-  past' = at.past ++ exchanged ask answer ∷ []
+  past' = past ++ exchanged ask answer ∷ []
 
   did' : Did w new later past'
-  did' = did_next w state new now later ask answer given left more cause tree at.past at.did
+  did' = did_next w state new now later ask answer given left more cause tree past at.did
 
   -- a piece that is to be appended is the next of the data
-  is_next : (stage : WriteStage) (bytes : List ℕ) → w.left ≡ Some bytes → WentTo w source_now at.appended stage at.past → Holds w rest at.appended at.all job stage → IsNextOf w bytes stage job.piece
+  is_next : (stage : WriteStage) (bytes : List ℕ) → w.left ≡ Some bytes → WentTo w source_now at.appended stage past → Holds w rest at.appended at.all job stage → IsNextOf w bytes stage job.piece
   is_next (stages.Making number) bytes told history holds = tt
   is_next (stages.Heading number) bytes told history holds = tt
   is_next (stages.Filling number written) bytes told history holds =
@@ -87,8 +87,8 @@ module _ (w : Begun) (state new : Option State) (now later : ℕ) (rest : Option
 
   followed : ask ≡ write_ask w.head job.piece stage → Followed (next_write w.head.size (length job.piece) stage answer)
   followed is = λ bytes told.
-      subst (λ (a : DiskAsk). FollowsTo w bytes (SourceFailed w source_now) (next_write w.head.size (length job.piece) stage answer) (at.past ++ exchanged a answer ∷ [])) (sym is)
-      (follows_next w bytes (SourceFailed w source_now) stage job.piece at.past answer (is_next stage bytes told at.history at.holds) (at.follows bytes told))
+      subst (λ (a : DiskAsk). FollowsTo w bytes (SourceFailed w source_now) (next_write w.head.size (length job.piece) stage answer) (past ++ exchanged a answer ∷ [])) (sym is)
+      (follows_next w bytes (SourceFailed w source_now) stage job.piece past answer (is_next stage bytes told at.history at.holds) (at.follows bytes told))
 
   -- where the source failed, the removal came next, and ended the write
   abbrev SparedTo : WriteAsk → Type 0
@@ -101,7 +101,7 @@ module _ (w : Begun) (state new : Option State) (now later : ℕ) (rest : Option
   spared_to (wants.Data number written) spared = spared
   spared_to (wants.Done end) spared = inl spared
 
-  failed_to : ask ≡ write_ask w.head job.piece stage → FailedAt w stage at.past → SparedTo (next_write w.head.size (length job.piece) stage answer)
+  failed_to : ask ≡ write_ask w.head job.piece stage → FailedAt w stage past → SparedTo (next_write w.head.size (length job.piece) stage answer)
   failed_to is failed =
       subst (λ (s : WriteStage). SparedTo (next_write w.head.size (length job.piece) s answer)) (sym failed.is)
       (inr (
@@ -109,10 +109,10 @@ module _ (w : Begun) (state new : Option State) (now later : ℕ) (rest : Option
         record {
           number = failed.number;
           appended = failed.appended;
-          before = at.past;
+          before = past;
           answer = answer;
           filled = failed.filled;
-          removed = ap (λ (a : DiskAsk). at.past ++ exchanged a answer ∷ []) (is ∙ ap (write_ask w.head job.piece) failed.is);
+          removed = ap (λ (a : DiskAsk). past ++ exchanged a answer ∷ []) (is ∙ ap (write_ask w.head job.piece) failed.is);
         },
       ))
 
@@ -121,10 +121,9 @@ module _ (w : Begun) (state new : Option State) (now later : ℕ) (rest : Option
 
   answered_by : (appended : List ℕ) (wanted : WriteAsk) → WentToWanted w source_now appended wanted past' → Kept w rest job fed removal naming ended appended at.all wanted → Followed wanted
       → SparedTo wanted
-      → AnsweredTo w new later rest source_now fed wanted
+      → AnsweredTo w new later past' rest source_now fed wanted
   answered_by appended (wants.Disk onward) history kept follows spared =
       record {
-        past = past';
         appended = appended;
         all = at.all;
         did = did';
@@ -138,7 +137,6 @@ module _ (w : Begun) (state new : Option State) (now later : ℕ) (rest : Option
       }
   answered_by appended (wants.Data number written) history kept follows spared =
       record {
-        past = past';
         appended = appended;
         all = at.all;
         did = did';
@@ -152,25 +150,25 @@ module _ (w : Begun) (state new : Option State) (now later : ℕ) (rest : Option
         follows = follows;
       }
   answered_by appended (wants.Done (Ok id)) history kept follows spared =
-      (head ∙ at.head, record { past = past'; appended = appended; all = at.all; did = did'; took = at.took; ends = (history, kept); spared = spared; follows = follows })
+      (head ∙ at.head, record { appended = appended; all = at.all; did = did'; took = at.took; ends = (history, kept); spared = spared; follows = follows })
   answered_by appended (wants.Done (Err refusal)) history kept follows spared =
-      (head ∙ at.head, record { past = past'; appended = appended; all = at.all; did = did'; took = at.took; ends = history; spared = spared; follows = follows })
+      (head ∙ at.head, record { appended = appended; all = at.all; did = did'; took = at.took; ends = history; spared = spared; follows = follows })
 
-  pub answered_to : ask ≡ write_ask w.head job.piece stage → AnsweredTo w new later rest source_now fed (next_write w.head.size (length job.piece) stage answer)
+  pub answered_to : ask ≡ write_ask w.head job.piece stage → AnsweredTo w new later past' rest source_now fed (next_write w.head.size (length job.piece) stage answer)
   answered_to is =
       answered_by (data_after stage job.piece answer at.appended) (next_write w.head.size (length job.piece) stage answer)
       (subst (λ (a : DiskAsk). WentToWanted w source_now (data_after stage job.piece answer at.appended) (next_write w.head.size (length job.piece) stage answer)
-      (at.past ++ exchanged a answer ∷ [])) (sym is)
-      (IsHistory-next w.head (NamedBy w) (SourceFailed w source_now) (OtherLength w.left w.head.size) stage at.appended job.piece at.past answer
-      (counts w rest job fed removal naming ended source_now at.appended at.all at.past stage at.history at.holds at.took)
-      (next_piece w rest job fed removal naming ended source_now at.appended at.all at.past stage at.holds) at.history))
-      (kept w rest job fed removal naming ended source_now at.appended at.all at.past stage answer at.history at.holds at.removal) (followed is) (spared_next is)
+      (past ++ exchanged a answer ∷ [])) (sym is)
+      (IsHistory-next w.head (NamedBy w) (SourceFailed w source_now) (OtherLength w.left w.head.size) stage at.appended job.piece past answer
+      (counts w rest job fed removal naming ended source_now at.appended at.all past stage at.history at.holds at.took)
+      (next_piece w rest job fed removal naming ended source_now at.appended at.all past stage at.holds) at.history))
+      (kept w rest job fed removal naming ended source_now at.appended at.all past stage answer at.history at.holds at.removal) (followed is) (spared_next is)
 
 -- ---- a turn as the code has it
 
-module _ (w : Begun) (state new : Option State) (now later : ℕ) (rest : Option (List ℕ)) (source_now : ℕ) (job fed : StreamJob) (stage : WriteStage) (ask : DiskAsk) (answer : DiskAnswer) (len : ℕ)
+module _ (w : Begun) (state new : Option State) (now later : ℕ) (past : List Exchange) (rest : Option (List ℕ)) (source_now : ℕ) (job fed : StreamJob) (stage : WriteStage) (ask : DiskAsk) (answer : DiskAnswer) (len : ℕ)
     (wanted : WriteAsk)
-    (at : StandsAt w state now rest source_now job stage) (len_is : len ≡ length job.piece) (asked : ask ≡ write_ask job.head job.piece stage) (same : fed ≡ record job { piece = [] })
+    (at : StandsAt w state now past rest source_now job stage) (len_is : len ≡ length job.piece) (asked : ask ≡ write_ask job.head job.piece stage) (same : fed ≡ record job { piece = [] })
     (is : wanted ≡ next_write fed.head.size len stage answer) where
   head_is : fed.head ≡ job.head
   head_is = ap (λ (j : StreamJob). j.head) same
@@ -180,9 +178,9 @@ module _ (w : Begun) (state new : Option State) (now later : ℕ) (rest : Option
 
   pub turn_answered : IfSome state (λ s. AnswersAsk answer (answer_of (tree_of s) ask)) → new ≡ state_told_after state ask answer → now ≤ later
       → (answer ≡ answers.Refused disk_errors.Failed → Rose now later) → IfSome state (λ s. IsTree (tree_of s))
-      → AnsweredTo w new later rest source_now fed wanted
+      → AnsweredTo w new later (past ++ exchanged ask answer ∷ []) rest source_now fed wanted
   turn_answered given left more cause tree =
-      subst (λ (a : WriteAsk). AnsweredTo w new later rest source_now fed a) (sym wanted_is)
-      (answered_to w state new now later rest source_now job fed stage ask answer given left more cause tree (ap (λ (j : StreamJob). j.removal) same)
+      subst (λ (a : WriteAsk). AnsweredTo w new later (past ++ exchanged ask answer ∷ []) rest source_now fed a) (sym wanted_is)
+      (answered_to w state new now later past rest source_now job fed stage ask answer given left more cause tree (ap (λ (j : StreamJob). j.removal) same)
       (ap (λ (j : StreamJob). j.naming) same) (ap (λ (j : StreamJob). j.has_ended) same) head_is
       (ap (λ (j : StreamJob). j.piece) same) at (asked ∙ ap (λ (h : WriteHead). write_ask h job.piece stage) at.head))

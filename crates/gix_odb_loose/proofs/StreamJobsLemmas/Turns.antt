@@ -5,6 +5,7 @@ use Rattle.odb_nodes.specs.Tree.{State}
 use Rattle.odb_asks.specs.declared.ask.DiskAnswer.{DiskAnswer}
 use Rattle.odb_asks.specs.declared.ask.DiskAnswer.TheVariants as answers
 use Rattle.gix_hash.specs.declared.object_id.ObjectId.{ObjectId}
+use Rattle.gix_odb_loose.specs.Exchanges.{Exchange}
 use Rattle.gix_odb_loose.specs.StreamJobs.AtStage.{calls_left, most_of, written_at}
 use Rattle.gix_odb_loose.specs.StreamJobs.Progress.{Begun}
 use Rattle.gix_odb_loose.specs.StreamJobs.Standing.{StandsAt}
@@ -101,8 +102,8 @@ module _ (job fed : StreamJob) (head : fed.head ≡ job.head) (ended : fed.has_e
   by_end number written len answer len_is some full true last = less_ended number written len last len_is some answer
   by_end number written len answer len_is some full false open' = less_open (stages.Filling number written) len answer open' (whole_fewer number written len (full open'))
 
-  module _ (w : Begun) (state : Option State) (now : ℕ) (rest : Option (List ℕ)) (source_now : ℕ) (len : ℕ) (len_is : len ≡ length job.piece) (answer : DiskAnswer) where
-    turn_less : (stage : WriteStage) → StandsAt w state now rest source_now job stage → calls_left fed (next_write size len stage answer) < calls_left job (wants.Disk stage)
+  module _ (w : Begun) (state : Option State) (now : ℕ) (past : List Exchange) (rest : Option (List ℕ)) (source_now : ℕ) (len : ℕ) (len_is : len ≡ length job.piece) (answer : DiskAnswer) where
+    turn_less : (stage : WriteStage) → StandsAt w state now past rest source_now job stage → calls_left fed (next_write size len stage answer) < calls_left job (wants.Disk stage)
     turn_less (stages.Making number) at = less_open (stages.Making number) len answer at.holds.1 tt
     turn_less (stages.Heading number) at = less_open (stages.Heading number) len answer at.holds.1 tt
     turn_less (stages.Filling number written) at =
@@ -113,13 +114,13 @@ module _ (job fed : StreamJob) (head : fed.head ≡ job.head) (ended : fed.has_e
     turn_less (stages.Removing number refusal) at = settled_less (stages.Removing number refusal) len answer 1 (λ n. refl) tt
 
 -- as the code has it
-pub turn_fewer : (w : Begun) (state : Option State) (now : ℕ) (rest : Option (List ℕ)) (source_now : ℕ) (job fed : StreamJob) (stage : WriteStage) (answer : DiskAnswer) (len : ℕ) (wanted : WriteAsk)
-    → StandsAt w state now rest source_now job stage
+pub turn_fewer : (w : Begun) (state : Option State) (now : ℕ) (past : List Exchange) (rest : Option (List ℕ)) (source_now : ℕ) (job fed : StreamJob) (stage : WriteStage) (answer : DiskAnswer) (len : ℕ) (wanted : WriteAsk)
+    → StandsAt w state now past rest source_now job stage
     → len ≡ length job.piece → fed ≡ record job { piece = [] } → wanted ≡ next_write fed.head.size len stage answer → calls_left fed wanted < calls_left job (wants.Disk stage)
-turn_fewer w state now rest source_now job fed stage answer len wanted at len_is same is =
+turn_fewer w state now past rest source_now job fed stage answer len wanted at len_is same is =
     let head : fed.head ≡ job.head = ap (λ (j : StreamJob). j.head) same in
     subst (λ (a : WriteAsk). calls_left fed a < calls_left job (wants.Disk stage)) (sym (is ∙ ap (λ (h : WriteHead). next_write h.size len stage answer) head))
-    (turn_less job fed head (ap (λ (j : StreamJob). j.has_ended) same) (ap (λ (j : StreamJob). j.piece) same) w state now rest source_now len len_is answer stage at)
+    (turn_less job fed head (ap (λ (j : StreamJob). j.has_ended) same) (ap (λ (j : StreamJob). j.piece) same) w state now past rest source_now len len_is answer stage at)
 
 -- ---- the reading of data
 

@@ -22,7 +22,7 @@ abbrev pub begun_on : {S D : Type 0} → Store → Kind → ℕ → Option Objec
 begun_on store kind size known left failures source state faults disk = begun_in store kind size known (left source) (failures source) (state disk) (faults disk)
 
 -- a new job is underway, and has asked nothing
-pub new_underway : (w : Begun) (job : StreamJob) → IsNew w.head w.hash w.known job → IsUnderway w w.state w.faults w.left w.source_faults job
+pub new_underway : (w : Begun) (job : StreamJob) → IsNew w.head w.hash w.known job → IsUnderway w w.state w.faults [] w.left w.source_faults job
 new_underway w job new = stands_first w job new.about new.stage new.has_ended new.naming new.removal
 
 -- a job that was made so is new

@@ -3,7 +3,6 @@ use Rattle.std.specs.Prelude.{◌≡◌, ⊤, ℕ, List, [], ◌++◌, length, d
 use Rattle.std.proofs.Common.{inl, inr, sym, ap, ◌∙◌, subst, arith}
 use Rattle.std.proofs.Math.Seq.{drop-append_seam}
 use Rattle.odb_base.specs.Faults.{Rose}
-use Rattle.odb_nodes.specs.Tree.{State}
 use Rattle.gix_hash.specs.Hash.{hash_of}
 use Rattle.gix_hash.specs.ObjectId.{kind_of}
 use Rattle.gix_hash.specs.declared.kind.Kind.{Kind as HashKind}
@@ -20,7 +19,7 @@ use Rattle.gix_odb_loose.specs.WriteAsks.{write_of, RunsAlong}
 use Rattle.gix_odb_loose.specs.WriteHistory.Refused.{DoneIn}
 use Rattle.gix_odb_loose.specs.WriteHistory.{IsStopped, IsHistory}
 use Rattle.gix_odb_loose.specs.WriteRuns.RefusedAsks.{Refuses, FoundThere}
-use Rattle.gix_odb_loose.specs.WriteRuns.{IsRefusedWrite, NamedFrom, Content, AtHand, Streamed, bytes_told, HasNotFailed, Write, WriteRuns, write_head}
+use Rattle.gix_odb_loose.specs.WriteRuns.{IsRefusedWrite, NamedFrom, Content, AtHand, Streamed, bytes_told, DiskSeen, HasNotFailed, Write, WriteRuns, write_head}
 use Rattle.gix_odb_loose.specs.WriteStreams.{Draws, IsAtEnd, OtherLength, TakesFrom}
 use Rattle.gix_odb_loose.specs.declared.store.Store.{Store}
 use Rattle.gix_odb_loose.specs.declared.write.Error.{Error}
@@ -80,13 +79,12 @@ module _ (head : WriteHead) (Named : ObjectId → Type 0) (Counted : ℕ → Typ
       ]
 
 -- a write by what it was given and left
-abbrev pub write_by : WriteHead → HashKind → Option ObjectId → Content → (state new : Option State) (before now : ℕ) → Result ObjectId Error → Write
-write_by head hash known content state new before now result =
-    record { head = head; hash = hash; known = known; content = content; disk = record { state = state; state_now = new; faults = before; faults_now = now }; answer = result }
+abbrev pub write_by : WriteHead → HashKind → Option ObjectId → Content → DiskSeen → Result ObjectId Error → Write
+write_by head hash known content disk result = record { head = head; hash = hash; known = known; content = content; disk = disk; answer = result }
 
-module _ (head : WriteHead) (hash : HashKind) (content : Content) (state new : Option State) (before now : ℕ) (result : Result ObjectId Error) where
+module _ (head : WriteHead) (hash : HashKind) (content : Content) (disk : DiskSeen) (result : Result ObjectId Error) where
   abbrev Runs : Option ObjectId → Type 0
-  Runs known = WriteRuns (write_by head hash known content state new before now result)
+  Runs known = WriteRuns (write_by head hash known content disk result)
 
   module _ (run : Runs None) where
     by_data : (id : ObjectId) → result ≡ Ok id → (bytes : List ℕ) × (id ≡ object_id hash head.kind bytes) × IfSome (bytes_told content) (λ all. all ≡ bytes)
@@ -139,17 +137,18 @@ module _ (head : WriteHead) (hash : HashKind) (content : Content) (state new : O
       ])
 
 -- a source of bytes that never fails is as good as these bytes at hand
-module _ (head : WriteHead) (hash : HashKind) (known : Option ObjectId) (lent bytes : List ℕ) (state new : Option State) (before now : ℕ) (result : Result ObjectId Error) where
+module _ (head : WriteHead) (hash : HashKind) (known : Option ObjectId) (lent bytes : List ℕ) (disk : DiskSeen) (result : Result ObjectId Error) where
   unfailing : Rose 0 0 → ⊥
   unfailing rose = absurd (omega (arith, rose))
 
   unfailing_asks : (job : WriteJob) (past : List Exchange) → RunsAlong job (Rose 0 0) past result → RunsAlong job ⊥ past result
   unfailing_asks job past h = elim h [ inl ended ↦ inl ended | inr cut ↦ inr (cut.0, elim cut.1 [ inl failed ↦ absurd (unfailing failed.0) | inr no_memory ↦ inr no_memory ]) ]
 
-  unfailing_runs : WriteRuns (write_by head hash known (Streamed (Some lent) 0 0) state new before now result) → WriteRuns (write_by head hash known (AtHand lent) state new before now result)
+  unfailing_runs : WriteRuns (write_by head hash known (Streamed (Some lent) 0 0) disk result) → WriteRuns (write_by head hash known (AtHand lent) disk result)
   unfailing_runs run =
       record {
         exchanges = run.exchanges;
+        made = run.made;
         given = run.given;
         left = run.left;
         own = run.own;
@@ -162,24 +161,24 @@ module _ (head : WriteHead) (hash : HashKind) (known : Option ObjectId) (lent by
         untouched = run.untouched;
         refused =
             λ error is.
-            WriteCause-wider head (Refuses state (Rose before now) run.exchanges) (Refuses state (Rose before now) run.exchanges) (FoundThere run.exchanges) (FoundThere run.exchanges)
+            WriteCause-wider head (Refuses disk.state (Rose disk.faults disk.faults_now) run.exchanges) (Refuses disk.state (Rose disk.faults disk.faults_now) run.exchanges) (FoundThere run.exchanges) (FoundThere run.exchanges)
             (DoneIn run.exchanges) (DoneIn run.exchanges) (λ ask m r. r) (λ ask t. t) (λ ask d. d)
             (Rose 0 0) ⊥ unfailing (NamedFrom head hash known (Some lent)) (NamedFrom head hash known (Some lent)) (λ id n. n) ⊤ ⊤ (λ m. m) (OtherLength (Some lent) head.size)
             (OtherLength (Some lent) head.size) (λ n k. k) error (run.refused error is);
       }
 
-  pub runs_at_hand : lent ≡ bytes → WriteRuns (write_by head hash known (Streamed (Some lent) 0 0) state new before now result)
-      → WriteRuns (write_by head hash known (AtHand bytes) state new before now result)
-  runs_at_hand same run = subst (λ (xs : List ℕ). WriteRuns (write_by head hash known (AtHand xs) state new before now result)) same (unfailing_runs run)
+  pub runs_at_hand : lent ≡ bytes → WriteRuns (write_by head hash known (Streamed (Some lent) 0 0) disk result)
+      → WriteRuns (write_by head hash known (AtHand bytes) disk result)
+  runs_at_hand same run = subst (λ (xs : List ℕ). WriteRuns (write_by head hash known (AtHand xs) disk result)) same (unfailing_runs run)
 
 -- an object's own kind and data
-pub runs_of_object : (store : Store) (hash : HashKind) (known : Option ObjectId) (kind own : Kind) (bytes held : List ℕ) (state new : Option State) (before now : ℕ) (result : Result ObjectId Error)
+pub runs_of_object : (store : Store) (hash : HashKind) (known : Option ObjectId) (kind own : Kind) (bytes held : List ℕ) (disk : DiskSeen) (result : Result ObjectId Error)
     → kind ≡ own → bytes ≡ held
-    → WriteRuns (write_by (write_head store kind (length bytes)) hash known (AtHand bytes) state new before now result)
-    → WriteRuns (write_by (write_head store own (length held)) hash known (AtHand held) state new before now result)
-runs_of_object store hash known kind own bytes held state new before now result kind_is held_is run =
-    subst (λ (xs : List ℕ). WriteRuns (write_by (write_head store own (length xs)) hash known (AtHand xs) state new before now result)) held_is
-    (subst (λ (k : Kind). WriteRuns (write_by (write_head store k (length bytes)) hash known (AtHand bytes) state new before now result)) kind_is run)
+    → WriteRuns (write_by (write_head store kind (length bytes)) hash known (AtHand bytes) disk result)
+    → WriteRuns (write_by (write_head store own (length held)) hash known (AtHand held) disk result)
+runs_of_object store hash known kind own bytes held disk result kind_is held_is run =
+    subst (λ (xs : List ℕ). WriteRuns (write_by (write_head store own (length xs)) hash known (AtHand xs) disk result)) held_is
+    (subst (λ (k : Kind). WriteRuns (write_by (write_head store k (length bytes)) hash known (AtHand bytes) disk result)) kind_is run)
 
 -- what is taken from the front
 pub drawn_from : (size faults now : ℕ) (left rest : Option (List ℕ)) → TakesFrom size left rest faults now → IsDrawn (stream_of left faults rest now)

@@ -58,70 +58,72 @@ reads_back (Some s) new head number id bytes past moved given left tree =
       | inr is ↦ subst (ReadsBack head number id bytes (left_by (Some s) moved.before)) (sym left) (moved_reads_back head number id bytes s is past moved given)
     ]
 
-module _ (w : Begun) (state : Option State) (now : ℕ) (rest : Option (List ℕ)) (source_now : ℕ) where
+module _ (AreCalls : List Exchange → Type 0) (w : Begun) (state : Option State) (now : ℕ) (past : List Exchange) (rest : Option (List ℕ)) (source_now : ℕ) (made : AreCalls past) where
   abbrev Runs : Result ObjectId Error → Type 0
-  Runs result = WriteRuns (write_made w state now source_now result)
+  Runs result = WriteRuns (write_made w AreCalls state now source_now result)
 
-  abbrev Refused : List Exchange → Error → Type 0
-  Refused past error =
+  abbrev Refused : Error → Type 0
+  Refused error =
       WriteCause w.head (NamedBy w) (Refuses w.state (Rose w.faults now) past) (FoundThere past) (DoneIn past) (Rose w.source_faults source_now) ⊤ (OtherLength w.left w.head.size) error
 
-  abbrev Stopped : List Exchange → Error → Type 0
-  Stopped past error = IsRefusedWrite w.head (NamedBy w) (SourceFailed w source_now) (OtherLength w.left w.head.size) past error
+  abbrev Stopped : Error → Type 0
+  Stopped error = IsRefusedWrite w.head (NamedBy w) (SourceFailed w source_now) (OtherLength w.left w.head.size) past error
 
   -- the cause, as the disk told it
-  cause_told : (past : List Exchange) (error : Error) → Did w state now past → HasCauseIn w.head (NamedBy w) (SourceFailed w source_now) (OtherLength w.left w.head.size) past error
-      → Refused past error
-  cause_told past error did h =
+  cause_told : (error : Error) → Did w state now past → HasCauseIn w.head (NamedBy w) (SourceFailed w source_now) (OtherLength w.left w.head.size) past error
+      → Refused error
+  cause_told error did h =
       WriteCause-wider w.head (RefusedIn past) (Refuses w.state (Rose w.faults now) past) (TakenIn past) (FoundThere past) (DoneIn past) (DoneIn past)
       (refuses_in w.state w.faults now past did.given did.failed) (λ ask t. t) (λ ask d. d) (Rose w.source_faults source_now)
       (Rose w.source_faults source_now) (λ f. f) (NamedBy w) (NamedBy w) (λ id n. n) (WantedIn past) ⊤ (λ m. tt) (OtherLength w.left w.head.size) (OtherLength w.left w.head.size) (λ n k. k) error h
 
   -- what a refused write shows
-  record Shows (past : List Exchange) (error : Error) : Type 0 where
+  record Shows (error : Error) : Type 0 where
     own : AreOwn w.head (NamedBy w) past
-    stopped : Stopped past error
+    stopped : Stopped error
     unnamed : RenamedNothing past
     cleared : LeavesNothing w.head past
     untouched : (at : Path) → error ≡ errors.Io messages.CreateTempFile at → left_by w.state past ≡ w.state
-    cause : Refused past error
+    cause : Refused error
 
   -- what it asked, where the source tells its data
-  abbrev Asked : List Exchange → Result ObjectId Error → Type 0
-  Asked past result = (bytes : List ℕ) → w.left ≡ Some bytes → RunsAlong (at_hand w bytes) (SourceFailed w source_now) past result
+  abbrev Asked : Result ObjectId Error → Type 0
+  Asked result = (bytes : List ℕ) → w.left ≡ Some bytes → RunsAlong (at_hand w bytes) (SourceFailed w source_now) past result
 
-  abbrev SparedBy : List Exchange → Result ObjectId Error → Type 0
-  SparedBy past result = IsSpared w source_now ⊎ IsStoppedBySource w.head past result
+  abbrev SparedBy : Result ObjectId Error → Type 0
+  SparedBy result = IsSpared w source_now ⊎ IsStoppedBySource w.head past result
 
-  runs_refused : (past : List Exchange) (error : Error) (result : Result ObjectId Error) → result ≡ Err error → Did w state now past → Shows past error → Asked past result → SparedBy past result
+  runs_refused : (error : Error) (result : Result ObjectId Error) → result ≡ Err error → Did w state now past → Shows error → Asked result → SparedBy result
       → Runs result
-  runs_refused past error result is did shows asked spared =
+  runs_refused error result is did shows asked spared =
       record {
         exchanges = past;
+        made = made;
         given = did.given;
         left = did.left;
         own = shows.own;
         asks = asked;
         spared = spared;
         wrote = λ id e. absurd (let both : Ok id ≡ Err error = sym e ∙ is in cc both);
-        stopped = λ other e. let same : error ≡ other = cc (sym is ∙ e) in subst (Stopped past) same shows.stopped;
+        stopped = λ other e. let same : error ≡ other = cc (sym is ∙ e) in subst Stopped same shows.stopped;
         unnamed = λ other e. shows.unnamed;
         cleared = λ other e. shows.cleared;
         untouched = λ at e. did.left ∙ shows.untouched at (let same : error ≡ errors.Io messages.CreateTempFile at = cc (sym is ∙ e) in same);
-        refused = λ other e. let same : error ≡ other = cc (sym is ∙ e) in subst (Refused past) same shows.cause;
+        refused = λ other e. let same : error ≡ other = cc (sym is ∙ e) in subst Refused same shows.cause;
       }
 
   -- a write that got its name
-  pub runs_wrote : (id : ObjectId) → IsAtItsEnd w state now rest source_now (Ok id) → (result : Result ObjectId Error) → result ≡ Ok id → Runs result
+  pub runs_wrote : (id : ObjectId) → IsAtItsEnd w state now past rest source_now (Ok id) → (result : Result ObjectId Error) → result ≡ Ok id → Runs result
   runs_wrote id at result is =
       record {
-        exchanges = at.past;
+        exchanges = past;
+        made = made;
         given = at.did.given;
         left = at.did.left;
-        own = moved_own w.head (NamedBy w) at.ends.0.2.0 id at.appended at.past at.ends.0.1 at.ends.0.2.1;
-        asks = λ bytes told. runs_end w bytes (SourceFailed w source_now) (Ok id) at.past result (inl is) (at.follows bytes told);
+        own = moved_own w.head (NamedBy w) at.ends.0.2.0 id at.appended past at.ends.0.1 at.ends.0.2.1;
+        asks = λ bytes told. runs_end w bytes (SourceFailed w source_now) (Ok id) past result (inl is) (at.follows bytes told);
         spared = elim at.spared [ inl spared ↦ inl spared | inr failed ↦ absurd (let both = failed.0 in cc both) ];
-        wrote = λ other e. let same : id ≡ other = cc (sym is ∙ e) in subst (λ (i : ObjectId). Writes w.head w.hash w.known w.left w.state state at.past i) same writes;
+        wrote = λ other e. let same : id ≡ other = cc (sym is ∙ e) in subst (λ (i : ObjectId). Writes w.head w.hash w.known w.left w.state state past i) same writes;
         stopped = λ error e. absurd (let both : Err error ≡ Ok id = sym e ∙ is in cc both);
         unnamed = λ error e. absurd (let both : Err error ≡ Ok id = sym e ∙ is in cc both);
         cleared = λ error e. absurd (let both : Err error ≡ Ok id = sym e ∙ is in cc both);
@@ -129,55 +131,55 @@ module _ (w : Begun) (state : Option State) (now : ℕ) (rest : Option (List ℕ
         refused = λ error e. absurd (let both : Err error ≡ Ok id = sym e ∙ is in cc both);
       }
     where
-      writes : Writes w.head w.hash w.known w.left w.state state at.past id
+      writes : Writes w.head w.hash w.known w.left w.state state past id
       writes =
           record {
             bytes = at.appended;
             number = at.ends.0.2.0;
-            below = moved_below w.head at.ends.0.2.0 id at.appended at.past at.ends.0.2.1;
+            below = moved_below w.head at.ends.0.2.0 id at.appended past at.ends.0.2.1;
             moved = at.ends.0.2.1;
             size = at.ends.0.0;
             name = at.ends.1.2;
             whole = subst (λ (xs : List ℕ). IfSome w.left (λ all. all ≡ xs)) at.ends.1.1 (Draws-end w.left rest at.all at.took.drawn at.ends.1.0);
-            read_back = reads_back w.state state w.head at.ends.0.2.0 id at.appended at.past at.ends.0.2.1 at.did.given at.did.left at.did.tree;
+            read_back = reads_back w.state state w.head at.ends.0.2.0 id at.appended past at.ends.0.2.1 at.did.given at.did.left at.did.tree;
           }
 
   -- a write that was refused, or had no memory to tell why
-  module _ (refusal : Refusal) (at : IsAtItsEnd w state now rest source_now (Err refusal)) where
-    abbrev run : IsRefusedRun w.head (NamedBy w) (SourceFailed w source_now) (OtherLength w.left w.head.size) refusal at.past
+  module _ (refusal : Refusal) (at : IsAtItsEnd w state now past rest source_now (Err refusal)) where
+    abbrev run : IsRefusedRun w.head (NamedBy w) (SourceFailed w source_now) (OtherLength w.left w.head.size) refusal past
     run = at.ends
 
     spared_by : (result : Result ObjectId Error) → (refusal ≡ refusals.Io messages.StreamData → (result ≡ Err (errors.Io messages.StreamData w.head.objects)) ⊎ (result ≡ Err errors.NoMemory))
-        → SparedBy at.past result
+        → SparedBy result
     spared_by result told = elim at.spared [ inl spared ↦ inl spared | inr failed ↦ inr (failed.1, told (let both = failed.0 in cc both)) ]
 
-    shown : (error : Error) → (error ≡ error_from w.head refusal) ⊎ (error ≡ errors.NoMemory) → ((path : Path) → error ≡ errors.Io messages.CreateTempFile path → left_by w.state at.past ≡ w.state)
-        → Refused at.past error → Shows at.past error
+    shown : (error : Error) → (error ≡ error_from w.head refusal) ⊎ (error ≡ errors.NoMemory) → ((path : Path) → error ≡ errors.Io messages.CreateTempFile path → left_by w.state past ≡ w.state)
+        → Refused error → Shows error
     shown error is untouched cause =
         record {
-          own = refused_own w.head (NamedBy w) (SourceFailed w source_now) (OtherLength w.left w.head.size) refusal at.past run;
+          own = refused_own w.head (NamedBy w) (SourceFailed w source_now) (OtherLength w.left w.head.size) refusal past run;
           stopped = inl (refusal, run, is);
-          unnamed = refused_unnamed w.head (NamedBy w) (SourceFailed w source_now) (OtherLength w.left w.head.size) refusal at.past run;
-          cleared = refused_cleared w.head (NamedBy w) (SourceFailed w source_now) (OtherLength w.left w.head.size) refusal at.past run;
+          unnamed = refused_unnamed w.head (NamedBy w) (SourceFailed w source_now) (OtherLength w.left w.head.size) refusal past run;
+          cleared = refused_cleared w.head (NamedBy w) (SourceFailed w source_now) (OtherLength w.left w.head.size) refusal past run;
           untouched = untouched;
           cause = cause;
         }
 
     pub runs_ended : (result : Result ObjectId Error) → result ≡ Err (error_from w.head refusal) → Runs result
     runs_ended result is =
-        runs_refused at.past (error_from w.head refusal) result is at.did
-        (shown (error_from w.head refusal) (inl refl) (λ path e. unmade_left w.head (NamedBy w) (SourceFailed w source_now) (OtherLength w.left w.head.size) w.state refusal path at.past e run)
-        (cause_told at.past (error_from w.head refusal) at.did (refused_cause w.head (NamedBy w) (SourceFailed w source_now) (OtherLength w.left w.head.size) refusal at.past run)))
-        (λ bytes told. runs_end w bytes (SourceFailed w source_now) (Err refusal) at.past result (inl is) (at.follows bytes told))
+        runs_refused (error_from w.head refusal) result is at.did
+        (shown (error_from w.head refusal) (inl refl) (λ path e. unmade_left w.head (NamedBy w) (SourceFailed w source_now) (OtherLength w.left w.head.size) w.state refusal path past e run)
+        (cause_told (error_from w.head refusal) at.did (refused_cause w.head (NamedBy w) (SourceFailed w source_now) (OtherLength w.left w.head.size) refusal past run)))
+        (λ bytes told. runs_end w bytes (SourceFailed w source_now) (Err refusal) past result (inl is) (at.follows bytes told))
         (spared_by result (λ same. inl (is ∙ ap (λ (r : Refusal). Err (error_from w.head r)) same)))
 
     pub runs_untold : (result : Result ObjectId Error) → result ≡ Err errors.NoMemory → Runs result
     runs_untold result is =
-        runs_refused at.past errors.NoMemory result is at.did (shown errors.NoMemory (inr refl) (λ path e. absurd (cc e)) tt)
-        (λ bytes told. runs_end w bytes (SourceFailed w source_now) (Err refusal) at.past result (inr is) (at.follows bytes told)) (spared_by result (λ same. inr is))
+        runs_refused errors.NoMemory result is at.did (shown errors.NoMemory (inr refl) (λ path e. absurd (cc e)) tt)
+        (λ bytes told. runs_end w bytes (SourceFailed w source_now) (Err refusal) past result (inr is) (at.follows bytes told)) (spared_by result (λ same. inr is))
 
-  shown_broken : (past : List Exchange) → BrokeOff w source_now past → Shows past errors.NoMemory
-  shown_broken past run =
+  shown_broken : BrokeOff w source_now past → Shows errors.NoMemory
+  shown_broken run =
       record {
         own = broken_own w.head (NamedBy w) (SourceFailed w source_now) (OtherLength w.left w.head.size) past run;
         stopped = inr (run, refl);
@@ -187,34 +189,38 @@ module _ (w : Begun) (state : Option State) (now : ℕ) (rest : Option (List ℕ
         cause = tt;
       }
 
-  pub runs_broken : IsBrokenOff w state now rest source_now → (result : Result ObjectId Error) → result ≡ Err errors.NoMemory → Runs result
-  runs_broken off result is = runs_refused off.past errors.NoMemory result is off.did (shown_broken off.past off.run) (λ bytes told. inr (off.follows bytes told, inr is))
+  pub runs_broken : IsBrokenOff w state now past rest source_now → (result : Result ObjectId Error) → result ≡ Err errors.NoMemory → Runs result
+  runs_broken off result is = runs_refused errors.NoMemory result is off.did (shown_broken off.run) (λ bytes told. inr (off.follows bytes told, inr is))
       (elim off.spared [ inl spared ↦ inl spared | inr failed ↦ inr (failed, inr is) ])
 
   -- by its end, as it is told
-  pub runs_told : (end : Result ObjectId Refusal) → IsAtItsEnd w state now rest source_now end → (result : Result ObjectId Error) → IsToldBy w.head end result → Runs result
+  pub runs_told : (end : Result ObjectId Refusal) → IsAtItsEnd w state now past rest source_now end → (result : Result ObjectId Error) → IsToldBy w.head end result → Runs result
   runs_told (Ok id) at result told = runs_wrote id at result told
   runs_told (Err refusal) at result told = elim told [ inl is ↦ runs_ended refusal at result is | inr is ↦ runs_untold refusal at result is ]
 
-  pub ended_told : (end : Result ObjectId Refusal) → IsAtItsEnd w state now rest source_now end → (result : Result ObjectId Error) → IsToldBy w.head end result → IfOk result (λ _. IsAtEnd rest)
-  ended_told (Ok id) at result told = subst (λ (r : Result ObjectId Error). IfOk r (λ _. IsAtEnd rest)) (sym told) at.ends.1.0
-  ended_told (Err refusal) at result told =
-      elim told [
-        | inl is ↦ subst (λ (r : Result ObjectId Error). IfOk r (λ _. IsAtEnd rest)) (sym is) tt
-        | inr is ↦ subst (λ (r : Result ObjectId Error). IfOk r (λ _. IsAtEnd rest)) (sym is) tt
-      ]
+-- and its source is at the end then, where the object was written
+pub ended_told : (w : Begun) (state : Option State) (now : ℕ) (past : List Exchange) (rest : Option (List ℕ)) (source_now : ℕ) (end : Result ObjectId Refusal)
+    → IsAtItsEnd w state now past rest source_now end → (result : Result ObjectId Error) → IsToldBy w.head end result → IfOk result (λ _. IsAtEnd rest)
+ended_told w state now past rest source_now (Ok id) at result told = subst (λ (r : Result ObjectId Error). IfOk r (λ _. IsAtEnd rest)) (sym told) at.ends.1.0
+ended_told w state now past rest source_now (Err refusal) at result told =
+    elim told [
+      | inl is ↦ subst (λ (r : Result ObjectId Error). IfOk r (λ _. IsAtEnd rest)) (sym is) tt
+      | inr is ↦ subst (λ (r : Result ObjectId Error). IfOk r (λ _. IsAtEnd rest)) (sym is) tt
+    ]
 
 -- what it took
 pub took_from : (w : Begun) (rest : Option (List ℕ)) (source_now : ℕ) (all : List ℕ) → Took w rest source_now all → TakesFrom w.head.size w.left rest w.source_faults source_now
 took_from w rest source_now all took = record { all = all; drawn = took.drawn; few = took.few; later = took.later }
 
 -- a write that didn't begin
-pub runs_nothing : (w : Begun) (result : Result ObjectId Error) → result ≡ Err errors.NoMemory → Runs w w.state w.faults w.left w.source_faults result
+pub runs_nothing : (AreCalls : List Exchange → Type 0) (w : Begun) (made : AreCalls []) (result : Result ObjectId Error) → result ≡ Err errors.NoMemory
+    → Runs AreCalls w w.state w.faults [] w.left w.source_faults made result
 unfolding AreGiven left_by tried
-runs_nothing w result is =
-    runs_refused w w.state w.faults w.left w.source_faults [] errors.NoMemory result is
+runs_nothing AreCalls w made result is =
+    runs_refused AreCalls w w.state w.faults [] w.left w.source_faults made errors.NoMemory result is
     (record { given = tt; left = refl; failed = λ k d l. absurd (omega (arith, l)); later = omega arith; tree = inl refl })
-    (shown_broken w w.state w.faults w.left w.source_faults [] (record { stage = stages.Making 0; appended = []; before = []; history = (omega arith, refl, refl); removed = refl }))
+    (shown_broken AreCalls w w.state w.faults [] w.left w.source_faults made
+    (record { stage = stages.Making 0; appended = []; before = []; history = (omega arith, refl, refl); removed = refl }))
     (λ bytes told. inr (record { stage = stages.Making 0; before = []; along = IsAlong-start (at_hand w bytes); removed = refl }, inr is)) (inl refl)
 
 -- a call that was refused for want of memory

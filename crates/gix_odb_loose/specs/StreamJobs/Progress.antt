@@ -78,15 +78,15 @@ pub record Took (w : Begun) (rest : Option (List ℕ)) (now : ℕ) (all : List �
   pub few : length all ≤ w.head.size + 1
   pub later : w.source_faults ≤ now
 
--- a write as it was made, by what it left and answered
-abbrev pub write_made : Begun → Option State → (now source_now : ℕ) → Result ObjectId Error → Write
-write_made w state now source_now result =
+-- a write as it was made, by what it left and answered, and by which exchanges are all its calls
+abbrev pub write_made : Begun → (AreCalls : List Exchange → Type 0) → Option State → (now source_now : ℕ) → Result ObjectId Error → Write
+write_made w AreCalls state now source_now result =
     record {
       head = w.head;
       hash = w.hash;
       known = w.known;
       content = Streamed w.left w.source_faults source_now;
-      disk = record { state = w.state; state_now = state; faults = w.faults; faults_now = now };
+      disk = record { state = w.state; state_now = state; faults = w.faults; faults_now = now; AreCalls = AreCalls };
       answer = result;
     }
 

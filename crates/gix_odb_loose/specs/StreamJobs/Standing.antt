@@ -25,8 +25,7 @@ use Rattle.gix_odb_loose.specs.StreamJobs.AtStage.{removal_at, Named, Holds, Hol
 use Rattle.gix_odb_loose.specs.StreamJobs.SameAsks.{at_hand, CutsAt, FollowsAt, FollowsToEnd}
 
 -- a write that stands at a stage, whose removal is as it is to be there
-pub record Stands (Ready : DiskAsk → Type 0) (w : Begun) (state : Option State) (now : ℕ) (rest : Option (List ℕ)) (source_now : ℕ) (job : StreamJob) (stage : WriteStage) : Type 0 where
-  pub past : List Exchange
+pub record Stands (Ready : DiskAsk → Type 0) (w : Begun) (state : Option State) (now : ℕ) (past : List Exchange) (rest : Option (List ℕ)) (source_now : ℕ) (job : StreamJob) (stage : WriteStage) : Type 0 where
   pub appended : List ℕ
   pub all : List ℕ
   pub did : Did w state now past
@@ -39,16 +38,15 @@ pub record Stands (Ready : DiskAsk → Type 0) (w : Begun) (state : Option State
   pub follows : (bytes : List ℕ) → w.left ≡ Some bytes → FollowsAt (at_hand w bytes) (SourceFailed w source_now) stage past
 
 -- it asks the disk next
-abbrev pub StandsAt : Begun → Option State → ℕ → Option (List ℕ) → ℕ → StreamJob → WriteStage → Type 0
-StandsAt w state now rest source_now job stage = Stands (λ removal. removal ≡ removal_at w stage) w state now rest source_now job stage
+abbrev pub StandsAt : Begun → Option State → ℕ → List Exchange → Option (List ℕ) → ℕ → StreamJob → WriteStage → Type 0
+StandsAt w state now past rest source_now job stage = Stands (λ removal. removal ≡ removal_at w stage) w state now past rest source_now job stage
 
 -- it was put before a stage by an answer: its removal is ready, but where the next temporary name is to be tried
-abbrev pub StandsBefore : Begun → Option State → ℕ → Option (List ℕ) → ℕ → StreamJob → WriteStage → Type 0
-StandsBefore w state now rest source_now job stage = Stands (λ removal. IsReady w removal stage) w state now rest source_now job stage
+abbrev pub StandsBefore : Begun → Option State → ℕ → List Exchange → Option (List ℕ) → ℕ → StreamJob → WriteStage → Type 0
+StandsBefore w state now past rest source_now job stage = Stands (λ removal. IsReady w removal stage) w state now past rest source_now job stage
 
 -- a write that asks for data behind so many bytes
-pub record WaitsAt (w : Begun) (state : Option State) (now : ℕ) (rest : Option (List ℕ)) (source_now : ℕ) (job : StreamJob) (number written : ℕ) : Type 0 where
-  pub past : List Exchange
+pub record WaitsAt (w : Begun) (state : Option State) (now : ℕ) (past : List Exchange) (rest : Option (List ℕ)) (source_now : ℕ) (job : StreamJob) (number written : ℕ) : Type 0 where
   pub appended : List ℕ
   pub all : List ℕ
   pub did : Did w state now past
@@ -62,8 +60,7 @@ pub record WaitsAt (w : Begun) (state : Option State) (now : ℕ) (rest : Option
   pub follows : (bytes : List ℕ) → w.left ≡ Some bytes → IsAlong (at_hand w bytes) (Stage (supplied_with (at_hand w bytes) number written)) past
 
 -- a write that memory ran out of between two turns: its removal is ready, where it made its file
-pub record BreaksAt (w : Begun) (state : Option State) (now : ℕ) (rest : Option (List ℕ)) (source_now : ℕ) (job : StreamJob) (stage : WriteStage) : Type 0 where
-  pub past : List Exchange
+pub record BreaksAt (w : Begun) (state : Option State) (now : ℕ) (past : List Exchange) (rest : Option (List ℕ)) (source_now : ℕ) (job : StreamJob) (stage : WriteStage) : Type 0 where
   pub appended : List ℕ
   pub all : List ℕ
   pub did : Did w state now past
@@ -85,8 +82,7 @@ EndsWith w rest source_now appended all past (Ok id) =
     WentToEnd w source_now appended (Ok id) past × Named w rest appended all id
 EndsWith w rest source_now appended all past (Err refusal) = WentToEnd w source_now appended (Err refusal) past
 
-pub record IsAtItsEnd (w : Begun) (state : Option State) (now : ℕ) (rest : Option (List ℕ)) (source_now : ℕ) (end : Result ObjectId Refusal) : Type 0 where
-  pub past : List Exchange
+pub record IsAtItsEnd (w : Begun) (state : Option State) (now : ℕ) (past : List Exchange) (rest : Option (List ℕ)) (source_now : ℕ) (end : Result ObjectId Refusal) : Type 0 where
   pub appended : List ℕ
   pub all : List ℕ
   pub did : Did w state now past
@@ -96,8 +92,7 @@ pub record IsAtItsEnd (w : Begun) (state : Option State) (now : ℕ) (rest : Opt
   pub follows : (bytes : List ℕ) → w.left ≡ Some bytes → FollowsToEnd (at_hand w bytes) (SourceFailed w source_now) end past
 
 -- a write that memory ran out of, and that has asked to remove the temporary file that it made
-pub record IsBrokenOff (w : Begun) (state : Option State) (now : ℕ) (rest : Option (List ℕ)) (source_now : ℕ) : Type 0 where
-  pub past : List Exchange
+pub record IsBrokenOff (w : Begun) (state : Option State) (now : ℕ) (past : List Exchange) (rest : Option (List ℕ)) (source_now : ℕ) : Type 0 where
   pub all : List ℕ
   pub did : Did w state now past
   pub run : BrokeOff w source_now past

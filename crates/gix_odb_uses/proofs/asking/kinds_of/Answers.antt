@@ -1,9 +1,10 @@
-use Rattle.std.proofs.Common.{arith, sym, ◌∙◌, rules}
+use Rattle.std.proofs.Common.{◌+◌, arith, sym, ◌∙◌, rules}
 use Rattle.std.proofs.lemmas.List.Elements.{Contains-get_or}
 use Rattle.odb_base.specs.Faults.{Rose}
 use Rattle.gix_odb_loose.specs.declared.find.Error.TheVariants.{NoMemory}
 use Rattle.gix_odb_uses.specs.Objects.{IsKindAt}
 use Rattle.gix_odb_uses.proofs.ObjectLemmas.{at_told, header_refused, if_err_made, if_told, kinds_more, rose_between, some_among}
+use Rattle.gix_odb_uses.proofs.ReadLemmas.{reads_front, reads_more}
 use Rattle.gix_odb_uses.proofs.asking.kinds_of.Goals as goal
 
 -- one id more has its kind
@@ -18,6 +19,7 @@ loop-id-preserved g c =
       kept = c.kind_at.ensures.kept ∙ c.loop-id.invariant.kept;
       later = search rules;
       streams = c.kind_at.ensures.streams ∙ c.loop-id.invariant.streams;
+      asked = reads_more g.D.Disk.answered c.args.store.now c.args.ids.now c.loop-id.id-index _ _ _ _ c.loop-id-test.true c.loop-id.invariant.asked c.kind_at.ensures.asked;
     }
 
 -- the look for the header of this id was refused
@@ -41,3 +43,17 @@ pub returns-in_err-add-clause-refused : goal.returns-in_err-add-clause-refused
 returns-in_err-add-clause-refused g c =
     let some = some_among c.args.ids.now c.loop-id.id-index c.loop-id-test.true in
     if_err_made c.from_residual-in_err-add.result NoMemory _ c.from_residual-in_err-add.ensures.1 (some.0, some.1, tt)
+
+-- the paths of the ids so far were read, and of this one
+pub returns-in_err-kind-clause-asked : goal.returns-in_err-kind-clause-asked
+returns-in_err-kind-clause-asked g c =
+    reads_front g.D.Disk.answered c.args.store.now (c.loop-id.id-index + 1) c.args.ids.now _ _
+    (reads_more g.D.Disk.answered c.args.store.now c.args.ids.now c.loop-id.id-index _ _ _ _ c.loop-id-test.true c.loop-id.invariant.asked c.kind_at.ensures.asked)
+
+pub returns-in_err-add-clause-asked : goal.returns-in_err-add-clause-asked
+returns-in_err-add-clause-asked g c =
+    reads_front g.D.Disk.answered c.args.store.now (c.loop-id.id-index + 1) c.args.ids.now _ _
+    (reads_more g.D.Disk.answered c.args.store.now c.args.ids.now c.loop-id.id-index _ _ _ _ c.loop-id-test.true c.loop-id.invariant.asked c.kind_at.ensures.asked)
+
+pub returns-clause-asked : goal.returns-clause-asked
+returns-clause-asked g c = reads_front g.D.Disk.answered c.args.store.now c.loop-id.id-index c.args.ids.now _ _ c.loop-id.invariant.asked

@@ -7,13 +7,13 @@ pub returns-clause-from : goal.returns-clause-from
 returns-clause-from g c = drawn_from c.args.size _ _ _ _ c.run_write.ensures.taken
 
 pub returns-clause-whole : goal.returns-clause-whole
-returns-clause-whole g c = wrote_whole (write_head c.args.self.now c.args.kind c.args.size) _ _ _ _ _ _ _ None _ _ _ c.run_write.ensures.run c.run_write.ensures.taken c.run_write.ensures.ended
+returns-clause-whole g c = wrote_whole (write_head c.args.self.now c.args.kind c.args.size) _ _ _ _ None _ _ _ c.run_write.ensures.run c.run_write.ensures.taken c.run_write.ensures.ended
 
 pub returns-clause-id : goal.returns-clause-id
-returns-clause-id g c = wrote_id (write_head c.args.self.now c.args.kind c.args.size) _ _ _ _ _ _ _ c.run_write.ensures.run
+returns-clause-id g c = wrote_id (write_head c.args.self.now c.args.kind c.args.size) _ _ _ _ c.run_write.ensures.run
 
 pub returns-clause-kind : goal.returns-clause-kind
-returns-clause-kind g c = wrote_kind (write_head c.args.self.now c.args.kind c.args.size) _ _ _ _ _ _ _ c.run_write.ensures.run
+returns-clause-kind g c = wrote_kind (write_head c.args.self.now c.args.kind c.args.size) _ _ _ _ c.run_write.ensures.run
 
 pub returns-clause-spared : goal.returns-clause-spared
-returns-clause-spared g c = wrote_spared (write_head c.args.self.now c.args.kind c.args.size) _ _ _ _ _ _ _ None c.run_write.ensures.run
+returns-clause-spared g c = wrote_spared (write_head c.args.self.now c.args.kind c.args.size) _ _ _ _ None c.run_write.ensures.run

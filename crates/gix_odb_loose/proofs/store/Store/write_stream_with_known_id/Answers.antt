@@ -8,10 +8,10 @@ returns-clause-from g c = drawn_from c.args.size _ _ _ _ c.run_write.ensures.tak
 
 pub returns-clause-whole : goal.returns-clause-whole
 returns-clause-whole g c =
-    wrote_whole (write_head c.args.self.now c.args.kind c.args.size) _ _ _ _ _ _ _ (Some c.args.id) _ _ _ c.run_write.ensures.run c.run_write.ensures.taken c.run_write.ensures.ended
+    wrote_whole (write_head c.args.self.now c.args.kind c.args.size) _ _ _ _ (Some c.args.id) _ _ _ c.run_write.ensures.run c.run_write.ensures.taken c.run_write.ensures.ended
 
 pub returns-clause-id : goal.returns-clause-id
-returns-clause-id g c = wrote_known (write_head c.args.self.now c.args.kind c.args.size) _ _ _ _ _ _ _ c.args.id c.run_write.ensures.run
+returns-clause-id g c = wrote_known (write_head c.args.self.now c.args.kind c.args.size) _ _ _ _ c.args.id c.run_write.ensures.run
 
 pub returns-clause-spared : goal.returns-clause-spared
-returns-clause-spared g c = wrote_spared (write_head c.args.self.now c.args.kind c.args.size) _ _ _ _ _ _ _ (Some c.args.id) c.run_write.ensures.run
+returns-clause-spared g c = wrote_spared (write_head c.args.self.now c.args.kind c.args.size) _ _ _ _ (Some c.args.id) c.run_write.ensures.run
