@@ -22,6 +22,8 @@ mod real_folders;
 #[cfg(test)]
 mod real_links;
 #[cfg(test)]
+mod real_numbers;
+#[cfg(test)]
 mod sources;
 #[cfg(test)]
 mod streams;

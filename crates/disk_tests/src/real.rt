@@ -21,6 +21,11 @@ pub(crate) fn here(rt: &HostRuntime) -> Result<String, Fail> {
     Ok(folder.as_str().to_string(rt.alloc())?)
 }
 
+pub(crate) fn path_here(rt: &HostRuntime) -> Result<PathText, Fail> {
+    let folder = here(rt)?;
+    Ok(PathText::parse(rt.alloc(), folder.as_str())?)
+}
+
 /// What a call in a folder gives. A name that begins with a slash stands elsewhere.
 fn told<D: Disk>(alloc: Global, disk: &mut D, folder: &str, text: &str) -> Result<String, Fail> {
     let (verb, names) = cut(text);
@@ -39,6 +44,12 @@ fn paths_of(alloc: Global, folder: &str, verb: &str, names: &str) -> Result<Stri
         _ if names.starts_with('/') => names.to_string(alloc),
         _ => format!(in alloc; "{folder}/{names}"),
     }
+}
+
+/// The path of a name in a folder. One that begins with a slash stands elsewhere.
+pub(crate) fn path_of(alloc: Global, folder: &str, name: &str) -> Result<PathText, Fail> {
+    let text = paths_of(alloc, folder, "look", name)?;
+    Ok(PathText::parse(alloc, text.as_str())?)
 }
 
 fn ends_of(alloc: Global, folder: &str, names: &str) -> Result<String, AllocError> {

@@ -39,7 +39,7 @@ const READS: &str = "\
     list none|Absent";
 
 // Catches a call on another kind than it needs, a link that is followed where it mustn't be or isn't where it must,
-// something that is made over another, and an append that forgets what was there.
+// something that is made over another or counts as made, and an append that forgets what was there or writes over it.
 const WRITES: &str = "\
     mkdir m|done\n\
     mkdir m|Exists\n\
@@ -72,6 +72,7 @@ const WRITES: &str = "\
     append n one |done\n\
     append n|done\n\
     append n two|done\n\
+    new n|Exists\n\
     read n|one two";
 
 // Catches a directory that is moved, or moved over, as the system would, and a link that is followed.
@@ -86,11 +87,16 @@ const RENAMES: &str = "\
     rename g d/x|done\n\
     look d/x|Link 0";
 
-// Catches a failure that isn't counted, and a device that is opened.
-const DEVICES: &str = "\
+// Catches a failure that isn't counted, a device that is opened, and a read or a write of an open file that the system
+// refuses and that is told as done. Of the two files of `/proc`, one has no first byte, and one takes only numbers.
+const FAILURES: &str = "\
     follow /dev/null|Failed\n\
     read /dev/null|Failed\n\
-    append /dev/null abc|Failed";
+    append /dev/null abc|Failed\n\
+    follow /proc/self/mem|File 0\n\
+    read /proc/self/mem|Failed\n\
+    follow /proc/self/oom_score_adj|File 0\n\
+    append /proc/self/oom_score_adj abc|Failed";
 
 // Catches what the lines above the tables say.
 #[test]
@@ -99,5 +105,5 @@ fn calls(rt: HostRuntime) -> Result<(), Fail> {
         enter_folder(&rt, "out/calls")?;
         check_here(&rt, rows, 0)?;
     }
-    check_here(&rt, DEVICES, 3)
+    check_here(&rt, FAILURES, 5)
 }

@@ -72,6 +72,43 @@ fn links(rt: HostRuntime) -> Result<(), Fail> {
     check_here(&rt, LISTS, 0)
 }
 
+const WRITES: &str = "\
+    new to_none|Exists\n\
+    mkdir to_none|Exists\n\
+    append to_none x|Absent\n\
+    follow to_none|Absent\n\
+    append to_file de|done\n\
+    look to_file|Link 0\n\
+    read d/f|abcde\n\
+    append to_dir x|WrongKind\n\
+    append itself x|LinkLoop\n\
+    append to_device x|Failed\n\
+    rename to_dir moved|done\n\
+    look moved|Link 0\n\
+    follow moved|Dir 0\n\
+    rename to_file moved|done\n\
+    read moved|abcde\n\
+    look d|Dir 0";
+
+const REMOVALS: &str = "\
+    remove moved|done\n\
+    read d/f|abcde\n\
+    remove d/up|done\n\
+    remove to_none|done\n\
+    remove itself|done\n\
+    remove to_device|done\n\
+    list|d Dir, end; end; Absent\n\
+    list d|f File, end; end; Absent";
+
+// Catches an append that makes a file or puts one in place of a link, something that is made where a link leads, and a
+// link that is moved or removed with what it leads to, or not at all.
+#[test]
+fn changes_of_links(rt: HostRuntime) -> Result<(), Fail> {
+    enter_links(&rt, "out/changes_of_links")?;
+    check_here(&rt, WRITES, 1)?;
+    check_here(&rt, REMOVALS, 0)
+}
+
 const PIPES: &str = "\
     look d/pipe|Link 0\n\
     follow d/pipe|Failed\n\

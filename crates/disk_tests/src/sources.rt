@@ -106,19 +106,24 @@ fn a_plain_sink_in_memory(rt: HostRuntime) -> Result<(), Fail> {
     count(sink.faults(), 0)
 }
 
-/// A reader and a writer that is interrupted at its first call, serves the second, and then fails.
+/// A reader and a writer that fails so at its first call, serves the second, and then fails.
 #[derive(Drop)]
 struct Shaky {
+    first: ErrorKind,
     calls: u8,
 }
 
 impl Shaky {
+    fn new(first: ErrorKind) -> Shaky {
+        Shaky { first, calls: 0 }
+    }
+
     fn serve(&mut self, len: usize) -> io::Result<usize>
         ensures within { IfOk result (λ n. n ≤ len) }
     {
         self.calls = self.calls.saturating_add(1);
         match self.calls {
-            1 => Err(io::Error::from(ErrorKind::Interrupted)),
+            1 => Err(io::Error::from(self.first)),
             2 => Ok(len.min(3)),
             _ => Err(io::Error::from(ErrorKind::BrokenPipe)),
         }
@@ -197,14 +202,32 @@ fn check_slice(alloc: Global) -> Result<(), Fail> {
     compare_bytes(source.into_inner(), b"")
 }
 
+fn check_shaky_reader(
+    alloc: Global,
+    first: ErrorKind,
+    lines: &str,
+    faults: u64,
+) -> Result<(), Fail> {
+    check_reader(alloc, Shaky::new(first), lines, faults)
+}
+
 // Catches a read that gives more than the reader did, an interrupted one that is told as a failure, a failure that is
 // told as the end, and a read that is tried for ever.
 #[test]
 fn readers_of_std(rt: HostRuntime) -> Result<(), Fail> {
     check_slice(rt.alloc())?;
-    check_reader(rt.alloc(), Shaky { calls: 0 }, "3 ....", 0)?;
-    check_reader(rt.alloc(), Shaky { calls: 0 }, "3 ....\nfailed", 1)?;
+    check_shaky_reader(rt.alloc(), ErrorKind::Interrupted, "3 ....", 0)?;
+    check_shaky_reader(rt.alloc(), ErrorKind::Interrupted, "3 ....\nfailed", 1)?;
     check_reader(rt.alloc(), Stuck, "failed", 1)
+}
+
+// Catches a read that is tried again though it wasn't interrupted, a failure that is counted twice, and one after which
+// no read is served.
+#[test]
+fn readers_that_fail_once(rt: HostRuntime) -> Result<(), Fail> {
+    check_shaky_reader(rt.alloc(), ErrorKind::BrokenPipe, "failed\n3 ....", 1)?;
+    check_shaky_reader(rt.alloc(), ErrorKind::WouldBlock, "failed\n3 ....", 1)?;
+    check_shaky_reader(rt.alloc(), ErrorKind::UnexpectedEof, "failed\n3 ....", 1)
 }
 
 /// What a list that grows takes, and what it then holds.
@@ -215,11 +238,29 @@ fn check_list(alloc: Global) -> Result<(), Fail> {
     compare_bytes(sink.into_inner().as_slice(), b"abcd")
 }
 
+fn check_shaky_writer(
+    alloc: Global,
+    first: ErrorKind,
+    rows: &str,
+    faults: u64,
+) -> Result<(), Fail> {
+    check_writer(alloc, Shaky::new(first), rows, faults)
+}
+
 // Catches a write that loses bytes, an interrupted one that is told as a failure, and a writer that takes nothing
 // where that is told as done.
 #[test]
 fn writers_of_std(rt: HostRuntime) -> Result<(), Fail> {
     check_list(rt.alloc())?;
-    check_writer(rt.alloc(), Shaky { calls: 0 }, "abcd|3\nd|failed", 1)?;
+    check_shaky_writer(rt.alloc(), ErrorKind::Interrupted, "abcd|3\nd|failed", 1)?;
     check_writer(rt.alloc(), Full, "|0\na|failed", 1)
+}
+
+// Catches a write that is tried again though it wasn't interrupted, a failure that is counted twice, and one after which
+// no write is served.
+#[test]
+fn writers_that_fail_once(rt: HostRuntime) -> Result<(), Fail> {
+    check_shaky_writer(rt.alloc(), ErrorKind::BrokenPipe, "abcd|failed\nabcd|3", 1)?;
+    check_shaky_writer(rt.alloc(), ErrorKind::WouldBlock, "abcd|failed\nabcd|3", 1)?;
+    check_shaky_writer(rt.alloc(), ErrorKind::WriteZero, "abcd|failed\nabcd|3", 1)
 }

@@ -5,7 +5,8 @@ use Rattle.std.specs.declared.io.ErrorKind.{ErrorKind}
 use Rattle.std.specs.declared.io.ErrorKind.TheVariants.{NotFound, NotADirectory, IsADirectory, FilesystemLoop, AlreadyExists, DirectoryNotEmpty}
 use Rattle.std.specs.declared.fs.FileType.{FileType}
 use Rattle.std.specs.declared.fs.Metadata.{Metadata}
-use Rattle.std.specs.Fs.{file_type, metadata_len}
+use Rattle.std.specs.declared.fs.OpenOptions.{OpenOptions}
+use Rattle.std.specs.Fs.{file_type, metadata_len, new_options, with_append}
 use Rattle.odb_base.specs.Path.{Name, is_name}
 use Rattle.odb_nodes.specs.declared.entry.Entry.{Entry}
 use Rattle.odb_nodes.specs.declared.meta.Kind.{Kind}
@@ -61,6 +62,10 @@ pub record MetaOf (metadata : Metadata) (told : Result Meta DiskError) : Type 0 
   pub ino : ℕ
   pub time : ℕ
   pub is : told ≡ meta_from (kind_of (file_type metadata)) dev ino (metadata_len metadata) time
+
+-- how a file is opened to be appended to: each write goes to its end, and nothing is made or cut off
+abbrev pub append_options : OpenOptions
+append_options = with_append new_options true
 
 -- whether a call that needs a file goes on, by what its path leads to
 abbrev pub only_file : Kind → Result (Unit {0}) DiskError

@@ -20,13 +20,33 @@ pub(crate) fn told_of(found: io::Result<Metadata>) -> Result<Meta, DiskError>
     }
 }
 
-/// What a call of the system answers that tells nothing but its error.
-pub(crate) fn answered(made: io::Result<()>) -> Result<(), DiskError>
-    ensures answered { result ≡ result_map_both (λ u. u) (λ e. refusal_of (error_kind e)) made }
+/// What a call of the system answers: what it gives, or the refusal that its error is.
+pub(crate) fn answered<T>(made: io::Result<T>) -> Result<T, DiskError>
+    ensures answered { result ≡ result_map_both (λ given. given) (λ e. refusal_of (error_kind e)) made }
 {
     match made {
-        Ok(()) => Ok(()),
+        Ok(given) => Ok(given),
         Err(e) => Err(refusal_of(e.kind())),
+    }
+}
+
+/// What a call of the system answers that makes a file. The file is closed.
+pub(crate) fn created<F: Drop>(made: io::Result<F>) -> Result<(), DiskError>
+    ensures created { result ≡ result_map_both (λ _. tt) (λ e. refusal_of (error_kind e)) made }
+{
+    match made {
+        Ok(_) => Ok(()),
+        Err(e) => Err(refusal_of(e.kind())),
+    }
+}
+
+/// What a write of all bytes of an append answers. Each error of it is a fault, since the file was opened.
+pub(crate) fn appended(written: io::Result<()>) -> Result<(), DiskError>
+    ensures appended { result ≡ result_map_both (λ done. done) (λ _. DiskError.Failed) written }
+{
+    match written {
+        Ok(()) => Ok(()),
+        Err(_) => Err(DiskError::Failed),
     }
 }
 
@@ -63,16 +83,17 @@ pub(crate) fn replaceable(seen: Result<Meta, DiskError>) -> Result<(), DiskError
     }
 }
 
-/// What was read of a file of at most `longest` bytes.
+/// What a read of a file of at most `longest` bytes answers: what was read, and the time that a look at the file told.
 pub(crate) fn within(
     read: Result<Vec<u8>, ReadError>,
     longest: usize,
-) -> Result<ByteList, DiskError>
-    ensures ok { IfOk read (λ bytes. result ≡ (if nat_le (length bytes.items) longest then Ok bytes.items else Err DiskError.Failed)) }
+    meta: Meta,
+) -> Result<(ByteList, u64), DiskError>
+    ensures ok { IfOk read (λ bytes. result ≡ (if nat_le (length bytes.items) longest then Ok (bytes.items, meta.time) else Err DiskError.Failed)) }
     ensures err { IfErr read (λ e. result ≡ Err (read_refusal e)) }
 {
     match read {
-        Ok(bytes) if bytes.len() <= longest => Ok(ByteList::from_vec(bytes)),
+        Ok(bytes) if bytes.len() <= longest => Ok((ByteList::from_vec(bytes), meta.time)),
         Ok(_) | Err(ReadError::Failed) => Err(DiskError::Failed),
         Err(ReadError::NoMemory) => Err(DiskError::NoMemory),
     }

@@ -1,10 +1,12 @@
 //! Calls of the system that a real disk makes, each with its refusal.
-ghost use Rattle.std.specs.Prelude.{◌≡◌, ◌≢◌, ◌≤◌, length, IfOk, IfErr};
+ghost use Rattle.std.specs.Prelude.{◌≡◌, ◌≢◌, ◌≤◌, length, IfOk, IfErr, OnOk};
+ghost use Rattle.std.specs.Io.KnownBytes.{Appends};
+ghost use Rattle.odb_host.specs.HostDisk.{append_options};
 
 use crate::host_answers::{
-    answered, no_directory, only_file, refusal_of, replaceable, told_of, within,
+    answered, appended, created, no_directory, only_file, replaceable, told_of, within,
 };
-use odb_disk::{ByteList, DiskError, Failed, Kind, Meta, StdSink, StdSource, read_file, write_all};
+use odb_disk::{ByteList, DiskError, Kind, Meta, StdSource, read_file};
 use std::alloc::Global;
 use std::fs::{self, File, OpenFile, OpenOptions};
 use std::io::Write;
@@ -23,32 +25,32 @@ pub(crate) fn look_at<R: Files>(rt: &R, path: &str, follow: bool) -> Result<Meta
 
 /// Makes an empty file where nothing stands.
 pub(crate) fn new_file_at<R: Files>(rt: &R, path: &str) -> Result<(), DiskError> {
-    match File::create_new(rt, path) {
-        Ok(_) => Ok(()),
-        Err(e) => Err(refusal_of(e.kind())),
-    }
+    created(File::create_new(rt, path))
 }
 
 /// Adds bytes at the end of a file, links followed. What is no file is never opened, since that may wait for
 /// ever.
 pub(crate) fn append_at<R: Files>(rt: &R, path: &str, bytes: &[u8]) -> Result<(), DiskError> {
     need_file(rt, path)?;
-    let mut options = OpenOptions::new();
-    options.append(true);
-    match options.open(rt, path) {
-        Ok(file) => append_to(file, bytes),
-        Err(e) => Err(refusal_of(e.kind())),
-    }
+    let mut file = answered(append_options().open(rt, path))?;
+    append_to(&mut file, bytes)
 }
 
-/// Adds bytes at the end of an open file.
-fn append_to<W: Write + Drop>(file: W, bytes: &[u8]) -> Result<(), DiskError>
+/// How a file is opened to be appended to.
+fn append_options() -> OpenOptions
+    ensures options { result ≡ append_options }
+{
+    let mut options = OpenOptions::new();
+    options.append(true);
+    options
+}
+
+/// Adds bytes at the end of an open file. After a failure it may have a front of them.
+fn append_to<W: Write>(file: &mut W, bytes: &[u8]) -> Result<(), DiskError>
+    ensures added { OnOk result (Appends (W.contents file.old) (W.contents file.new) bytes.now) }
     ensures failed { IfErr result (λ e. e ≡ DiskError.Failed) }
 {
-    match write_all(&mut StdSink::new(file), bytes) {
-        Ok(()) => Ok(()),
-        Err(Failed) => Err(DiskError::Failed),
-    }
+    appended(file.write_all(bytes))
 }
 
 /// Whether a path leads to a file, links followed.
@@ -80,25 +82,22 @@ pub(crate) fn read_at<R: Files>(
 ) -> Result<(ByteList, u64), DiskError>
     ensures short { IfOk result (λ file. length file.0 ≤ longest) }
 {
-    let (file, time) = open_at(rt, path)?;
+    let (file, meta) = open_at(rt, path)?;
     let read = read_file(alloc, &mut StdSource::new(file), longest);
-    Ok((within(read, longest)?, time))
+    within(read, longest, meta)
 }
 
-/// Opens a file for reading, links followed, and tells its time. What is no file is never opened, since that may wait
+/// Opens a file for reading, links followed, and looks at it. What is no file is never opened, since that may wait
 /// for ever.
-fn open_at<R: Files>(rt: &R, path: &str) -> Result<(R::File, u64), DiskError> {
+fn open_at<R: Files>(rt: &R, path: &str) -> Result<(R::File, Meta), DiskError> {
     need_file(rt, path)?;
-    match fs::open(rt, path) {
-        Ok(file) => with_time(file),
-        Err(e) => Err(refusal_of(e.kind())),
-    }
+    with_meta(answered(fs::open(rt, path))?)
 }
 
-/// An open file and its time.
-fn with_time<F: OpenFile + Drop>(file: F) -> Result<(F, u64), DiskError>
+/// An open file, and what a look at it tells.
+fn with_meta<F: OpenFile + Drop>(file: F) -> Result<(F, Meta), DiskError>
     ensures file { IfOk result (λ opened. opened.0 ≡ file) }
 {
-    let time = told_of(file.metadata())?.time;
-    Ok((file, time))
+    let meta = told_of(file.metadata())?;
+    Ok((file, meta))
 }
