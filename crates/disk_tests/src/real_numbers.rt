@@ -10,8 +10,8 @@ use std::os::unix::fs::{MetadataExt, symlink};
 use std::test::Fail;
 use std::time::{Duration, UNIX_EPOCH};
 
-/// The time that the file is given: nanoseconds since 1970, in September 2001. So the file was changed then, its name
-/// and its numbers are new.
+/// The time that the bytes of the file are given: nanoseconds since 1970, in September 2001. Its other times are those of
+/// the test.
 const TIME: u64 = 1_000_000_000_123_456_789;
 
 fn set_time(rt: &HostRuntime, name: &str) -> Result<(), Fail> {
