@@ -44,7 +44,8 @@ with `#` say nothing. See docs/SCRIPT.md for the whole language.
   write H KIND DATA          begins to write an object
   stream H KIND SIZE DATA    the same, of data that are said to have SIZE bytes
   writeas H KIND HEX DATA    the same, under an id that is known
-  turn H                     lets H make one call of the disk, or register
+  turn H                     lets H make one call of the disk, or one event of
+                             its store's core
   finish H                   turns H until its call has ended
   do mkdir PATH              another program makes a directory
   do put PATH TIME CONTENT   another program puts a file
