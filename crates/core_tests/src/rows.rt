@@ -65,10 +65,11 @@ const GARBAGE: &[&str] = &[
     "pass 0 0 /a.pack bad | seen #8 2 0.4 [] [0:/a.idx=2 /a.pack~2] [1:/b.idx]",
     "publish 0 2 /b.idx /a.idx | published #9 3 0.5 [0:/a.idx=2 /a.pack=2] [] [1:/b.idx]",
     "publish 0 3 /b.idx | published #10 4 0.6 [] [0:/a.idx=2 /a.pack~2] [1:/b.idx]",
+    "publish 0 4 /b.idx | unchanged #11 4 0.6 [] [0:/a.idx=2 /a.pack~2] [1:/b.idx]",
     "remove 0 | removed",
-    "look 1 | seen #12 4 0.6 [] [0:/a.idx=2 /a.pack~2] [1:/b.idx]",
-    "publish 1 4 /b.idx | unchanged #13 4 0.6 [] [] [1:/b.idx]",
-    "now | #13 4 0.6 [] [] [1:/b.idx] 0 5 0 1 0 1 2 0 0 1",
+    "look 1 | seen #13 4 0.6 [] [0:/a.idx=2 /a.pack~2] [1:/b.idx]",
+    "publish 1 4 /b.idx | unchanged #14 4 0.6 [] [] [1:/b.idx]",
+    "now | #14 4 0.6 [] [] [1:/b.idx] 0 6 0 1 0 1 2 0 0 1",
 ];
 
 // The slot of an unread index is kept while a handle is stable, its pack may still come, and it isn't shown.

@@ -4,7 +4,7 @@ use Rattle.std.proofs.Common.{List, [], ◌∷◌, length, map, take, refl, sym,
 use Rattle.std.specs.List.{list_any, zip}
 use Rattle.std.proofs.lemmas.Bool.{and_parts, eqb-true, le-ltb}
 use Rattle.gix_odb_slots.proofs.SlotsAfterLemmas.{length-slots_after}
-use Rattle.gix_odb_slots.proofs.StandsLemmas.{slots_after-same, taken-none}
+use Rattle.gix_odb_slots.proofs.StandsLemmas.{slots_after-changes, slots_after-same, taken-none}
 use Rattle.gix_odb_core.specs.Handles.{is_any_stable}
 use Rattle.gix_odb_slots.specs.Publish.{free_places, is_unsettled, list_after, new_rows, settled, slots_after, taken, with_taken}
 use Rattle.gix_odb_events.specs.Slots.{slot_at, Slot}
@@ -93,15 +93,18 @@ first true b h = absurd cc
 first false b h = (refl, h)
 
 module _ (shape : Shape) (rows : List ListingRow) where
+  none_new-if : (list : List ℕ) → is_confirmed shape rows list ≡ true → length (new_rows shape.slots rows) ≡ 0
+  none_new-if list confirmed = eqb-true (length (new_rows shape.slots rows)) 0 (and_parts _ _ confirmed).1
+
   module _ (stays : stands shape rows ≡ true) where
-    settled_is : list_any (is_unsettled rows) shape.slots ≡ false
-    settled_is = (first (list_any (is_unsettled rows) shape.slots) (is_confirmed shape rows (list_after rows shape.slots)) stays).0
+    settled_is : list_any (is_unsettled (is_any_stable shape.handles) rows) shape.slots ≡ false
+    settled_is = (first (list_any (is_unsettled (is_any_stable shape.handles) rows) shape.slots) (is_confirmed shape rows (list_after rows shape.slots)) stays).0
 
     confirmed_is : is_confirmed shape rows (list_after rows shape.slots) ≡ true
-    confirmed_is = (first (list_any (is_unsettled rows) shape.slots) (is_confirmed shape rows (list_after rows shape.slots)) stays).1
+    confirmed_is = (first (list_any (is_unsettled (is_any_stable shape.handles) rows) shape.slots) (is_confirmed shape rows (list_after rows shape.slots)) stays).1
 
     none_new : length (new_rows shape.slots rows) ≡ 0
-    none_new = eqb-true (length (new_rows shape.slots rows)) 0 (and_parts _ _ confirmed_is).1
+    none_new = none_new-if (list_after rows shape.slots) confirmed_is
 
     -- the slots are the same
     pub slots-stand : slots_after (is_any_stable shape.handles) rows shape.slots shape.list ≡ shape.slots
@@ -117,3 +120,22 @@ module _ (shape : Shape) (rows : List ListingRow) where
         ∙ ap (λ (b : Bool). publish_turn shape rows (cond (would_overflow shape b false) Overflows (cond b (Unchanged (record shape { slots = shape.slots }))
         (Published (with_list shape shape.slots (list_after rows shape.slots) false))))) confirmed_is
         ∙ ap (λ (b : Bool). cond b (quiet told.Unchanged) (changes_to (shelf_of shape) told.Unchanged)) stays
+
+  -- and a listing that confirms the list in another way leaves other slots
+  pub slots-move : stands shape rows ≡ false
+      → let after = slots_after (is_any_stable shape.handles) rows shape.slots shape.list in is_confirmed shape rows (list_after rows after) ≡ true → after ≢ shape.slots
+  slots-move changes confirmed same =
+      by (list_any (is_unsettled (is_any_stable shape.handles) rows) shape.slots) refl
+    where
+      after : List Slot
+      after = slots_after (is_any_stable shape.handles) rows shape.slots shape.list
+
+      still : is_confirmed shape rows (list_after rows shape.slots) ≡ true
+      still = ap (λ (slots : List Slot). is_confirmed shape rows (list_after rows slots)) (sym same) ∙ confirmed
+
+      by : (b : Bool) → list_any (is_unsettled (is_any_stable shape.handles) rows) shape.slots ≡ b → ⊥
+      by true moves = slots_after-changes (is_any_stable shape.handles) rows shape.slots shape.list (none_new-if (list_after rows after) confirmed) moves same
+      by false stay =
+          let stood : stands shape rows ≡ true = ap (λ (b : Bool). not b && is_confirmed shape rows (list_after rows shape.slots)) stay ∙ still in
+          let no : false ≡ true = sym changes ∙ stood in
+          absurd cc

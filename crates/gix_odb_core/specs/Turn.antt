@@ -2,7 +2,7 @@
 use Rattle.std.specs.Prelude.{ℕ, ◌+◌, Bool, ◌&&◌, ◌==◌, true, false, not, List, length, Option, Some, None, Ok, Err, slice_set, if◌then◌else◌}
 use Rattle.std.specs.List.{list_any}
 use Rattle.odb_base.specs.Path.{Path}
-use Rattle.gix_odb_core.specs.Handles.{Handles, with_seat, without_seat}
+use Rattle.gix_odb_core.specs.Handles.{Handles, is_any_stable, with_seat, without_seat}
 use Rattle.gix_odb_slots.specs.Publish.{is_unsettled, list_after}
 use Rattle.gix_odb_events.specs.Slots.{slot_at}
 use Rattle.gix_odb_core.specs.Replay.{report_of}
@@ -64,9 +64,9 @@ pass_turn shape slot path =
     then changes_to (record (shelf_of shape) { slots = slice_set shape.slots slot (slot_passed path (slot_at shape.slots slot)) }) told.Seen
     else quiet told.Seen
 
--- whether a listing leaves the slots and the list as they are: it finds no work at a slot, and confirms the list
+-- whether a listing leaves the slots and the list as they are: it has no work at a slot, and confirms the list
 abbrev pub stands : Shape → List ListingRow → Bool
-stands shape rows = not (list_any (is_unsettled rows) shape.slots) && is_confirmed shape rows (list_after rows shape.slots)
+stands shape rows = not (list_any (is_unsettled (is_any_stable shape.handles) rows) shape.slots) && is_confirmed shape rows (list_after rows shape.slots)
 
 abbrev pub publish_turn : Shape → List ListingRow → Publishing → Turn
 publish_turn shape rows Outdated = quiet (told.Outdated shape.list_no)

@@ -14,8 +14,9 @@ use crate::turn::{Told, Turn};
 use gix_odb_events::{Listing, ListingRow, PlaceList, Refusal, Slot, SlotList};
 use gix_odb_slots::Matched;
 use gix_odb_slots::publish::{
-    count_new, free_places, is_any_unsettled, list_after, list_as_is, slots_after, takes_over,
+    count_new, free_places, list_after, list_as_is, slots_after, takes_over,
 };
+use gix_odb_slots::unsettled::is_any_unsettled;
 use odb_base::{NoMemory, Sequence};
 use std::alloc::Global;
 
@@ -50,13 +51,20 @@ impl Shape {
     }
 
     /// Whether a listing leaves the slots and the list as they are.
-    fn stands(&self, alloc: Global, matched: &Matched, news: usize) -> Result<bool, NoMemory>
+    fn stands(
+        &self,
+        alloc: Global,
+        stable: bool,
+        matched: &Matched,
+        news: usize,
+    ) -> Result<bool, NoMemory>
         requires few { length self.now.slots ≤ most_slots }
         requires slots { matched.now.slots.now ≡ self.now.slots }
+        requires stable { stable ≡ any_stable self.now.handles }
         requires news { length (new_rows self.now.slots matched.now.rows.now) ≡ news }
         ensures stands { IfOk result (λ same. same ≡ stands self.now matched.now.rows.now) }
     {
-        if news > 0 || is_any_unsettled(matched) {
+        if news > 0 || is_any_unsettled(stable, matched) {
             return Ok(false);
         }
         let list = list_as_is(alloc, matched)?;
@@ -156,7 +164,7 @@ impl Shape {
         ensures turn { IfOk result (λ turn. turn ≡ publish_turn self.now matched.now.rows.now (with_room self.now matched.now.rows.now)) }
         ensures few_packs { IfOk result (λ turn. IfSome turn.shelf (λ shelf. All HasFewPacks shelf.slots)) }
     {
-        if self.stands(alloc, matched, news)? {
+        if self.stands(alloc, stable, matched, news)? {
             return Ok(Turn::quiet(Told::Unchanged));
         }
         let renewed = takes_over(matched.slots, free, news);

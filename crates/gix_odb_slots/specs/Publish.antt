@@ -2,8 +2,13 @@
 use Rattle.std.specs.Prelude.{ℕ, ◌+◌, ◌-◌, Bool, true, false, ◌&&◌, ◌||◌, not, List, [], ◌∷◌, ◌++◌, length, map, filter, Some, None, max, nat_eq, slice_set, if◌then◌else◌}
 use Rattle.std.specs.List.{list_any, filter_map, position, range_with_len, zip}
 use lib.Pointwise.{pointwise}
+use Rattle.gix_odb_events.specs.OnDiskFile.{is_disposable, is_loaded}
 use Rattle.gix_odb_events.specs.Slots.{Slot, has_disposable, holds, slot_at, new_filled, filled_put_back, filled_trashed}
 use Rattle.gix_odb_events.specs.declared.listing.ListingRow.{ListingRow}
+use Rattle.gix_odb_events.specs.declared.on_disk_file.FileState.{FileState}
+use Rattle.gix_odb_events.specs.declared.slot.Filled.{Filled}
+use Rattle.gix_odb_events.specs.declared.slot.IndexFile.{IndexFile}
+use Rattle.gix_odb_events.specs.declared.slot.IndexFile.TheVariants.{Single, Multi}
 
 -- ---- rows and slots
 
@@ -17,11 +22,6 @@ new_rows slots rows = filter (is_new slots) rows
 -- whether a row keeps what a slot holds
 abbrev pub is_kept : List ListingRow → Slot → Bool
 is_kept rows slot = list_any (λ row. holds row slot) rows
-
--- whether a listing finds work at a slot: no row keeps what it holds, or one of its files is garbage or missing
-abbrev pub is_unsettled : List ListingRow → Slot → Bool
-is_unsettled rows None = false
-is_unsettled rows (Some filled) = not (is_kept rows (Some filled)) || has_disposable filled
 
 -- whether a slot is free: it is empty, or no handle is stable and no row keeps it
 abbrev pub is_free : Bool → List ListingRow → Slot → Bool
@@ -55,6 +55,24 @@ abbrev pub settled : Bool → List ListingRow → Slot → Slot
 settled stable rows None = None
 settled stable rows (Some filled) =
     if is_kept rows (Some filled) then Some (filled_put_back filled) else (if stable then Some (filled_trashed filled) else None)
+
+-- whether a file changes where its slot is trashed: it is loaded, and isn't garbage yet
+abbrev pub is_trashable : {A : Type 0} → FileState A → Bool
+is_trashable state = is_loaded state && not (is_disposable state)
+
+abbrev pub is_index_trashable : IndexFile → Bool
+is_index_trashable (Single file) = is_trashable file.state
+is_index_trashable (Multi file) = is_trashable file.state
+
+-- whether a file of a slot changes where the slot is trashed
+abbrev pub has_trashable : Filled → Bool
+has_trashable filled = is_index_trashable filled.index || list_any (λ pack. is_trashable pack.state) filled.packs
+
+-- whether a listing has work at a slot, which is not left as it is: a kept one has a file that is garbage or missing; another one is let go, or
+-- while a handle is stable has a file that becomes garbage
+abbrev pub is_unsettled : Bool → List ListingRow → Slot → Bool
+is_unsettled stable rows None = false
+is_unsettled stable rows (Some filled) = if is_kept rows (Some filled) then has_disposable filled else (not stable || has_trashable filled)
 
 -- each taken slot holds its row
 abbrev pub with_taken : List (ℕ × ListingRow) → List Slot → List Slot

@@ -18,5 +18,6 @@ pub mod pass;
 pub mod publish;
 pub mod put;
 pub mod report;
+pub mod unsettled;
 
 pub use matched::Matched;

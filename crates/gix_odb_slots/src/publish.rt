@@ -6,7 +6,7 @@ ghost use Rattle.std.specs.Prelude.{◌≡◌, ◌≤◌, ◌<◌, ◌-◌, ◌+
 ghost use Rattle.std.specs.Option.{ForSome, option_to_list};
 ghost use Rattle.std.specs.List.{filter_map, list_any, range_with_len, zip};
 ghost use Rattle.gix_odb_events.specs.Slots.{HasFewPacks, slot_at};
-ghost use Rattle.gix_odb_slots.specs.Publish.{free_places, is_free, is_unsettled, list_after, new_rows, place_after, settled, slots_after, taken, with_taken};
+ghost use Rattle.gix_odb_slots.specs.Publish.{free_places, is_free, list_after, new_rows, place_after, settled, slots_after, taken, with_taken};
 ghost use Rattle.gix_odb_events.specs.PackId.{most_slots};
 
 use crate::Matched;
@@ -14,29 +14,6 @@ use crate::index_key::places_of_rows;
 use gix_odb_events::{Filled, ListingRow, Shared, Slot};
 use odb_base::{NoMemory, Sequence};
 use std::alloc::Global;
-
-/// Whether a listing finds work at a slot: no row keeps what it holds, or one of its files is garbage or missing.
-fn is_unsettled(matched: &Matched, place: usize) -> bool
-    requires within { place < length matched.now.slots.now }
-    ensures unsettled { result ≡ is_unsettled matched.now.rows.now (slot_at matched.now.slots.now place) }
-{
-    match matched.slot(place) {
-        None => false,
-        Some(filled) => !matched.is_kept(place) || filled.value().has_disposable(),
-    }
-}
-
-/// Whether a listing finds work at one of the slots. Where it does not and no row is new, the slots stay as they are.
-pub fn is_any_unsettled(matched: &Matched) -> bool
-    ensures unsettled { result ≡ list_any (is_unsettled matched.now.rows.now) matched.now.slots.now }
-{
-    for place in 0..matched.slots.len() {
-        if is_unsettled(matched, place) {
-            return true;
-        }
-    }
-    false
-}
 
 /// Whether a slot is free: it is empty, or no handle is stable and no row keeps it.
 fn is_free(stable: bool, matched: &Matched, place: usize) -> bool
