@@ -14,6 +14,7 @@ pub mod GarbageLaws
 pub mod SnapshotLaws
 pub mod StableSnapshotLaws
 pub mod HandleLaws
+pub mod RefusalLaws
 mod StableCountLemmas
 mod OpenedLemmas
 pub mod HandleLemmas

@@ -8,6 +8,8 @@ use Rattle.gix_odb_core.specs.Steps.{is_confirmed, takes_over, would_overflow}
 use Rattle.gix_odb_events.specs.View.{last_state}
 use Rattle.gix_odb_events.specs.declared.event.Event.{Event}
 use Rattle.gix_odb_events.specs.declared.event.Event.TheVariants as event
+use Rattle.gix_odb_events.specs.declared.event.Refusal.{Refusal}
+use Rattle.gix_odb_events.specs.declared.event.Refusal.TheVariants as refusals
 use Rattle.gix_odb_events.specs.declared.listing.Listing.{Listing}
 use Rattle.gix_odb_events.specs.declared.listing.ListingRow.{ListingRow}
 use Rattle.gix_odb_core.specs.declared.shape.Shape.{Shape}
@@ -49,3 +51,9 @@ pub record IsShortBy (shape : Shape) (listing : Listing) (slots missing : ℕ) :
 abbrev pub HasTooFewSlots : Shape → Event → (current needed : ℕ) → Type 0
 HasTooFewSlots shape (event.Publish listing) current needed = IsShortBy shape listing current needed
 HasTooFewSlots shape other current needed = ⊥
+
+-- why a shape refuses an event so. Want of memory has no cause in it
+abbrev pub RefusalCause : Shape → Event → Refusal → Type 0
+RefusalCause shape happens (refusals.InsufficientSlots current needed) = HasTooFewSlots shape happens current needed
+RefusalCause shape happens refusals.GenerationOverflow = StandsAtLast shape happens
+RefusalCause shape happens refusals.NoMemory = ⊥
