@@ -18,6 +18,7 @@ use Rattle.gix_odb_runs.specs.declared.record.Run.{Run}
 use Rattle.gix_odb_world.specs.AtWork.{MakeCall, Modes, OpenStore, Running, Store, Task}
 use Rattle.gix_odb_world.specs.Headline.{IsRun, Law}
 use Rattle.gix_odb_world.specs.Promise.{OpeningPromise, Promise, QueryPromise}
+use Rattle.gix_odb_world.specs.Refused.{RefusedSince}
 use Rattle.gix_odb_world.specs.Told.{told_since}
 use Rattle.gix_odb_world.specs.Written.{PromiseOfWrite}
 use Rattle.gix_odb_world.proofs.RunSteps.Fronts.{take_next}
@@ -35,7 +36,7 @@ module _ (first : Volume) (events : List Event) (handle : ℕ) (store : Store) (
   own_opening reply promise none = absurd promise
 
   own_find : (id : ObjectId) (reply : Reply)
-      → QueryPromise (tree_at first events) (FailedSince events handle begun) (told_since events handle begun) store modes begun (length events) (Find id) reply
+      → QueryPromise (tree_at first events) (FailedSince events handle begun) (RefusedSince events handle modes.core begun) (told_since events handle begun) store modes begun (length events) (Find id) reply
       → NoQueryCause first events handle store modes begun (Find id) → IsOwnOfCall (calls.Find id) reply
   own_find id (replies.Found kind bytes) promise none = tt
   own_find id replies.NotFound promise none = tt
@@ -43,7 +44,7 @@ module _ (first : Volume) (events : List Event) (handle : ℕ) (store : Store) (
   own_find id reply promise none = absurd promise
 
   own_header : (id : ObjectId) (reply : Reply)
-      → QueryPromise (tree_at first events) (FailedSince events handle begun) (told_since events handle begun) store modes begun (length events) (Header id) reply
+      → QueryPromise (tree_at first events) (FailedSince events handle begun) (RefusedSince events handle modes.core begun) (told_since events handle begun) store modes begun (length events) (Header id) reply
       → NoQueryCause first events handle store modes begun (Header id) → IsOwnOfCall (calls.Header id) reply
   own_header id (replies.Header header) promise none = tt
   own_header id replies.NotFound promise none = tt
@@ -51,14 +52,14 @@ module _ (first : Volume) (events : List Event) (handle : ℕ) (store : Store) (
   own_header id reply promise none = absurd promise
 
   own_test : (id : ObjectId) (reply : Reply)
-      → QueryPromise (tree_at first events) (FailedSince events handle begun) (told_since events handle begun) store modes begun (length events) (Test id) reply
+      → QueryPromise (tree_at first events) (FailedSince events handle begun) (RefusedSince events handle modes.core begun) (told_since events handle begun) store modes begun (length events) (Test id) reply
       → NoQueryCause first events handle store modes begun (Test id) → IsOwnOfCall (calls.Test id) reply
   own_test id (replies.Tested there) promise none = tt
   own_test id (replies.Refused (call_errors.Find error)) promise none = absurd (none error promise)
   own_test id reply promise none = absurd promise
 
   own_write : (call : Call) (w : ToWrite) → ((id : ObjectId) → IsOwnOfCall call (replies.Wrote id)) → (reply : Reply)
-      → PromiseOfWrite first events handle store modes begun w reply → NoWriteCause first events handle store begun w → IsOwnOfCall call reply
+      → PromiseOfWrite first events handle store modes begun w reply → NoWriteCause first events handle store modes begun w → IsOwnOfCall call reply
   own_write call w names (replies.Wrote id) promise none = names id
   own_write call w names (replies.Refused (call_errors.Write (write_errors.LooseWrite error))) promise none = absurd (none.written error promise.cause)
   own_write call w names (replies.Refused (call_errors.Write (write_errors.LoadIndex error))) promise none = absurd (none.listed error promise.cause)

@@ -18,6 +18,7 @@ use Rattle.gix_odb_runs.specs.Run.{FailedSince, tree_at}
 use Rattle.gix_odb_runs.specs.Writing.{CauseOfWrite, ToWrite, to_write}
 use Rattle.gix_odb_world.specs.AtWork.{MakeCall, Modes, OpenStore, Store, Task, setting_in}
 use Rattle.gix_odb_world.specs.Causes.{FindCause, OpeningCause}
+use Rattle.gix_odb_world.specs.Refused.{LoadCause, RefusedSince}
 use Rattle.gix_odb_world.specs.Told.{told_since}
 
 -- ---- own answers
@@ -43,13 +44,13 @@ IsOwnAnswer (MakeCall call) reply = IsOwnOfCall call reply
 -- what the events of a run show of a handle's query since the event that has a number is the cause of no error
 abbrev pub NoQueryCause : Volume → List Event → (handle : ℕ) → Store → Modes → (begun : ℕ) → Query → Type 0
 NoQueryCause first events handle store modes begun query =
-    (error : finding.Error) → ¬ (FindCause (tree_at first events) (FailedSince events handle begun) (told_since events handle begun) store begun (length events)
-    query (sought store.parts modes.ignoring query) error)
+    (error : finding.Error) → ¬ (FindCause (tree_at first events) (FailedSince events handle begun) (RefusedSince events handle modes.core begun) (told_since events handle begun) store
+    begun (length events) query (sought store.parts modes.ignoring query) error)
 
 -- the same of a write: of no error of the loose objects, and of none of the listing in front of it
-pub record NoWriteCause (first : Volume) (events : List Event) (handle : ℕ) (store : Store) (begun : ℕ) (w : ToWrite) : Type 0 where
+pub record NoWriteCause (first : Volume) (events : List Event) (handle : ℕ) (store : Store) (modes : Modes) (begun : ℕ) (w : ToWrite) : Type 0 where
   pub written : (error : loose_write.Error) → ¬ (CauseOfWrite first events handle begun w error)
-  pub listed : (error : load.Error) → ¬ (IsCaused (setting_in store) (told_since events handle begun) error)
+  pub listed : (error : load.Error) → ¬ (LoadCause (RefusedSince events handle modes.core begun) (IsCaused (setting_in store) (told_since events handle begun) error) error)
 
 -- the same of an opening
 abbrev pub NoOpeningCause : Volume → List Event → (handle : ℕ) → Store → (begun : ℕ) → Type 0
@@ -63,4 +64,4 @@ NoCause first events handle store modes begun (MakeCall (calls.Find id)) = NoQue
 NoCause first events handle store modes begun (MakeCall (calls.Header id)) = NoQueryCause first events handle store modes begun (Header id)
 NoCause first events handle store modes begun (MakeCall (calls.Test id)) = NoQueryCause first events handle store modes begun (Test id)
 NoCause first events handle store modes begun (MakeCall (calls.Write kind size bytes known)) =
-    NoWriteCause first events handle store begun (to_write store.parts.objects store.hash kind size bytes known)
+    NoWriteCause first events handle store modes begun (to_write store.parts.objects store.hash kind size bytes known)

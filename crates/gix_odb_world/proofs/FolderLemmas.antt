@@ -34,6 +34,7 @@ use Rattle.gix_odb_world.specs.Causes.{GaveSometime, LooseCause}
 use Rattle.gix_odb.specs.Contents.{LooseFile, folder_list, of_loose}
 use Rattle.gix_odb_calls.specs.Verdict.{job_of}
 use Rattle.gix_odb_world.specs.Status.{Store}
+use Rattle.gix_odb_events.specs.declared.event.Refusal.{Refusal}
 use Rattle.gix_odb_looks.specs.Exchange.{Exchange}
 use Rattle.gix_odb.specs.Held.{Held}
 use Rattle.gix_odb_world.specs.Promise.{Keeps, claim_of}
@@ -48,10 +49,10 @@ ask_found limit (Test asked) id folder = (asks.Look (loose_path folder id) true,
 
 -- What the verdict on a folder's reply says: an answer that was held or an error with its cause, a miss by a call of the disk that
 -- didn't fail, or an error with its cause that is noted.
-abbrev pub VerdictSays : (ℕ → Tree) → Type 0 → (told : List Exchange) → Store → ℕ → ℕ → Query → ObjectId → Path → (fails : Bool) → Verdict → Type 0
-VerdictSays trees Failed told store begun now call id folder fails (verdicts.Ends reply) = Keeps trees Failed told store begun now call id (claim_of call reply)
-VerdictSays trees Failed told store begun now call id folder fails verdicts.Misses = (fails ≡ false) × (¬ (LeadsToFile (trees now) (loose_path folder id)))
-VerdictSays trees Failed told store begun now call id folder fails (verdicts.Notes error) = LooseCause trees Failed store begun now call id error
+abbrev pub VerdictSays : (ℕ → Tree) → Type 0 → (Refused : Refusal → Type 0) → (told : List Exchange) → Store → ℕ → ℕ → Query → ObjectId → Path → (fails : Bool) → Verdict → Type 0
+VerdictSays trees Failed Refused told store begun now call id folder fails (verdicts.Ends reply) = Keeps trees Failed Refused told store begun now call id (claim_of call reply)
+VerdictSays trees Failed Refused told store begun now call id folder fails verdicts.Misses = (fails ≡ false) × (¬ (LeadsToFile (trees now) (loose_path folder id)))
+VerdictSays trees Failed Refused told store begun now call id folder fails (verdicts.Notes error) = LooseCause trees Failed store begun now call id error
 
 -- the answer to a call of the disk: that it failed, or what the tree tells
 abbrev given_by : (fails : Bool) → (told : DiskAnswer) → DiskAnswer
@@ -70,7 +71,7 @@ sound_header : (at : Path) (fails : Bool) (told : DiskAnswer) → header_by at (
 sound_header at true told e = absurd (cc e)
 sound_header at false told e = refl
 
-module _ (trees : ℕ → Tree) (Failed : Type 0) (told : List Exchange) (store : Store) (begun now : ℕ) (later : begun ≤ now) (disk : Volume) (shown : trees now ≡ tree_of disk.state)
+module _ (trees : ℕ → Tree) (Failed : Type 0) (Refused : Refusal → Type 0) (told : List Exchange) (store : Store) (begun now : ℕ) (later : begun ≤ now) (disk : Volume) (shown : trees now ≡ tree_of disk.state)
     (fails : next_fails disk ≡ true → Failed) (id : ObjectId) (folder : Path) (among : Contains (folder_list store.parts) folder) where
   abbrev at : Path
   at = loose_path folder id
@@ -79,7 +80,7 @@ module _ (trees : ℕ → Tree) (Failed : Type 0) (told : List Exchange) (store 
   SaysNow call reply = Says at store.parts.limit (job_of call id) (tree_of disk.state) (next_fails disk ≡ true) ⊥ reply
 
   abbrev SaysBy : Query → LooseReply → Type 0
-  SaysBy call reply = VerdictSays trees Failed told store begun now call id folder (next_fails disk) (verdict_on call reply)
+  SaysBy call reply = VerdictSays trees Failed Refused told store begun now call id folder (next_fails disk) (verdict_on call reply)
 
   -- what a read of the path gives now
   abbrev IsRead : Reading → Type 0

@@ -53,6 +53,7 @@ pub mod ToldLemmas
 mod ToldWell
 mod AnsweredLemmas
 mod FrontLemmas
+mod RefusedLemmas
 mod LookPromise
 pub mod Stock
 mod ToldLists

@@ -29,6 +29,7 @@ use Rattle.gix_odb_world.specs.Told.{look_begun, told_since}
 use Rattle.gix_odb_world.specs.WorkOrder.{calling_result, fed_after, result_in}
 use Rattle.gix_odb_world.proofs.HistoryLemmas.{failed_before}
 use Rattle.gix_odb_world.proofs.MachineLaws.{KeepsLaws, KeepsTurnLaws, writes_nothing}
+use Rattle.gix_odb_world.proofs.RefusedLemmas.{refused_later}
 use Rattle.gix_odb_world.proofs.SettingLemmas.{setting_same}
 use Rattle.gix_odb_world.proofs.ToldLemmas.{told_kept, view_kept}
 use Rattle.gix_odb_world.proofs.ToldWell.{told_well_later}
@@ -79,6 +80,7 @@ looking_kept first events e handle running look other knows =
       turns = knows.turns ∙ ap length (sym told_is);
       well = told_well_later first events e handle running.store running.modes running.begun told_is
           (failed_before events e handle running.begun (λ turn failed. absurd (other turn))) knows.since knows.well;
+      refused = refused_later events e handle running.modes.core running.begun told_is knows.refused;
     }
 
 -- ---- its laws

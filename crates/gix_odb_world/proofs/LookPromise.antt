@@ -6,6 +6,8 @@ use Rattle.odb_asks.specs.Ask.{answer_now}
 use Rattle.odb_asks.specs.MemDisk.{Volume, next_fails}
 use Rattle.gix_hash.specs.ObjectId.{kind_of}
 use Rattle.gix_hash.specs.declared.object_id.ObjectId.{ObjectId}
+use Rattle.gix_odb_events.specs.declared.event.Refusal.{Refusal}
+use Rattle.gix_odb_events.specs.declared.event.Refusal.TheVariants as refusals
 use Rattle.gix_odb_events.specs.declared.view.View.{View}
 use Rattle.gix_odb_loose.proofs.CauseLaws.{Cause-wider}
 use Rattle.gix_odb_loose.specs.LooseFile.{LeadsToFile, loose_path}
@@ -19,6 +21,7 @@ use Rattle.gix_odb_calls.specs.declared.call.Reply.TheVariants as replies
 use Rattle.gix_odb_calls.specs.declared.find.Error as finding
 use Rattle.gix_odb_calls.specs.declared.find.Error.TheVariants as errors
 use Rattle.gix_odb_calls.specs.declared.find.Header.TheVariants as headers
+use Rattle.gix_odb_calls.specs.declared.load_index.Error.TheVariants as load_errors
 use Rattle.gix_odb_calls.specs.declared.query.Query.{Query}
 use Rattle.gix_odb_calls.specs.declared.query.Query.TheVariants.{Find, Header, Test}
 use Rattle.gix_odb_calls.specs.declared.verdict.Verdict.{Verdict}
@@ -43,12 +46,15 @@ use Rattle.gix_odb_world.specs.Causes.{FindCause, GaveSometime, LooseCause, Some
 use Rattle.gix_odb_runs.specs.Event.{Event}
 use Rattle.gix_odb_world.specs.Promise.{Claim, Keeps, QueryPromise, claim_of}
 use Rattle.gix_odb_runs.specs.Run.{FailedSince, tree_at}
+use Rattle.gix_odb_world.specs.Refused.{RefusedSince}
 use Rattle.gix_odb_world.specs.Running.PackedStill.{IndicesShowOne, IsPackedStill}
+use Rattle.gix_odb_world.specs.Running.Refused.{AreRefused}
 use Rattle.gix_odb_world.specs.Running.Query.{IsFit, IsGiven, IsToldWell}
 use Rattle.gix_odb_world.specs.Told.{look_begun, look_now, told_since, view_then}
 use Rattle.gix_odb_runs.proofs.FailedLemmas.{fails_now-still}
 use Rattle.gix_odb_world.proofs.FolderLemmas.{VerdictSays, ask_found, folder_says}
 use Rattle.gix_odb_world.proofs.PackedStill.Contents.{lies_indexed}
+use Rattle.gix_odb_world.proofs.RefusedLemmas.{never_for_memory, since_told}
 
 -- what was so at some moment was so until later
 sometime_later : (begun moment now : ℕ) → moment ≤ now → (P : ℕ → Type 0) → Sometime begun moment P → Sometime begun now P
@@ -57,7 +63,8 @@ sometime_later begun moment now to P was =
 
 module _ (first : Volume) (events : List Event) (handle : ℕ) (store : Store) (modes : Modes) (begun : ℕ) (query : Query) (fits : IsFit store modes query)
     (asked : AreAsked (setting_in store) (look_begun events handle store modes begun query) (told_since events handle begun))
-    (well : IsToldWell first events handle store modes begun) (rule : IndicesShowOne (tree_at first events) store (length events)) where
+    (well : IsToldWell first events handle store modes begun) (refusing : AreRefused events handle modes.core begun)
+    (rule : IndicesShowOne (tree_at first events) store (length events)) where
   abbrev trees : ℕ → Tree
   trees = tree_at first events
 
@@ -66,6 +73,9 @@ module _ (first : Volume) (events : List Event) (handle : ℕ) (store : Store) (
 
   abbrev Failed : Type 0
   Failed = FailedSince events handle begun
+
+  abbrev Refused : Refusal → Type 0
+  Refused refusal = RefusedSince events handle modes.core begun refusal
 
   abbrev told : List Exchange
   told = told_since events handle begun
@@ -86,7 +96,7 @@ module _ (first : Volume) (events : List Event) (handle : ℕ) (store : Store) (
   look = look_now events handle store modes begun query
 
   abbrev Says : Claim → Type 0
-  Says claim = Keeps trees Failed told store begun now query id claim
+  Says claim = Keeps trees Failed Refused told store begun now query id claim
 
   abbrev IsHeld : Answer → Type 0
   IsHeld answer = Held trees store.parts store.opened begun now query id answer
@@ -125,9 +135,9 @@ module _ (first : Volume) (events : List Event) (handle : ℕ) (store : Store) (
     fails : next_fails given.disk ≡ true → Failed
     fails is = given.failed (fails_now-still given.disk has.ask (call_asks_still (asking store.parts.limit query id folder) has.ask has.asked) ∙ is)
 
-    said : VerdictSays trees Failed told store begun given.moment query id folder (next_fails given.disk) verdict
+    said : VerdictSays trees Failed Refused told store begun given.moment query id folder (next_fails given.disk) verdict
     said =
-        let says = folder_says trees Failed told store begun given.moment given.from given.disk given.shown fails id folder among query in
+        let says = folder_says trees Failed Refused told store begun given.moment given.from given.disk given.shown fails id folder among query in
         let own = ask_found store.parts.limit query id folder in
         let same_ask : own.0 ≡ has.ask = cc (own.1, has.asked) in
         let same_reply : Some says.0 ≡ Some has.reply =
@@ -135,14 +145,14 @@ module _ (first : Volume) (events : List Event) (handle : ℕ) (store : Store) (
         ∙ (ap (λ a. reply_of (loose_fed (asking store.parts.limit query id folder) (answer_now given.disk a))) same_ask
         ∙ (ap (λ a. reply_of (loose_fed (asking store.parts.limit query id folder) a)) (sym given.is) ∙ has.replied)) in
         let same : says.0 ≡ has.reply = cc same_reply in
-        subst (VerdictSays trees Failed told store begun given.moment query id folder (next_fails given.disk)) (ap (verdict_on query) same ∙ has.is) says.2
+        subst (VerdictSays trees Failed Refused told store begun given.moment query id folder (next_fails given.disk)) (ap (verdict_on query) same ∙ has.is) says.2
 
   -- what a folder's loose objects said of a reply, and so of a claim
   claim_later : (moment : ℕ) → moment ≤ now → (reply : Reply) → IsAnswer reply
-      → Keeps trees Failed told store begun moment query id (claim_of query reply) → Says (claim_of query reply)
+      → Keeps trees Failed Refused told store begun moment query id (claim_of query reply) → Says (claim_of query reply)
   claim_later moment to reply answer keeps = by query reply answer keeps
     where
-      by : (call : Query) (reply : Reply) → IsAnswer reply → Keeps trees Failed told store begun moment query id (claim_of call reply) → Says (claim_of call reply)
+      by : (call : Query) (reply : Reply) → IsAnswer reply → Keeps trees Failed Refused told store begun moment query id (claim_of call reply) → Says (claim_of call reply)
       by (Find asked) (replies.Found kind bytes) answer keeps = held_later moment to (Object kind bytes) keeps
       by (Find asked) (replies.Header header) answer keeps = keeps
       by (Find asked) (replies.Tested true) answer keeps = keeps
@@ -257,20 +267,25 @@ module _ (first : Volume) (events : List Event) (handle : ℕ) (store : Store) (
     missed : (¬ Failed) × (¬ (Still trees store.parts begun now query id))
     missed = (none_failed, λ still. none_still still.folder still.among still.place still.always)
 
-  refusal : (error : finding.Error) → result_of look ≡ Ok (replies.Refused (call_errors.Find error)) → FindCause trees Failed told store begun now query id error
+  refusal : (error : finding.Error) → result_of look ≡ Ok (replies.Refused (call_errors.Find error)) → FindCause trees Failed Refused told store begun now query id error
   refusal error is = by error (each_refusal_has_its_cause Shown setting store.hash query id fits.hashed view well.snapshot told asked well.truth modes.slots 0 well.numbered error is)
     where
-      refused_says : (moment : ℕ) (call : Query) (error : loose.Error) → Keeps trees Failed told store begun moment query id (claim_of call (refused error))
+      refused_says : (moment : ℕ) (call : Query) (error : loose.Error) → Keeps trees Failed Refused told store begun moment query id (claim_of call (refused error))
           → LooseCause trees Failed store begun moment query id error
       refused_says moment (Find asked) error caused = caused
       refused_says moment (Header asked) error caused = caused
       refused_says moment (Test asked) error caused = caused
 
-      by : (error : finding.Error) → IsCaused Shown setting store.hash id query told error → FindCause trees Failed told store begun now query id error
+      by : (error : finding.Error) → IsCaused Shown setting store.hash id query told error → FindCause trees Failed Refused told store begun now query id error
       by (errors.Loose error) caused =
           let at = given caused.0 caused.1 (verdicts.Ends (refused error)) caused.2 in
           cause_later at.moment at.to error (refused_says at.moment query error (said caused.0 caused.1 (verdicts.Ends (refused error)) caused.2))
-      by (errors.LoadIndex error) caused = caused
+      by (errors.LoadIndex load_errors.Io) caused = caused
+      by (errors.LoadIndex (load_errors.InsufficientSlots current needed)) caused =
+          since_told events handle modes.core begun refusing (refusals.InsufficientSlots current needed) caused
+      by (errors.LoadIndex load_errors.GenerationOverflow) caused = since_told events handle modes.core begun refusing refusals.GenerationOverflow caused
+      by (errors.LoadIndex (load_errors.Unsettled first_no own last)) caused = caused
+      by (errors.LoadIndex load_errors.NoMemory) caused = never_for_memory events handle modes.core begun refusing caused
       by errors.LoadPack caused = caused
       by errors.Pack caused = caused
       by (errors.EntryType code) caused = caused
@@ -278,7 +293,7 @@ module _ (first : Volume) (events : List Event) (handle : ℕ) (store : Store) (
       by (errors.OutOfMemory size) caused = caused
       by errors.NoMemory caused = caused
 
-  pub query_promise : (reply : Reply) → result_of look ≡ Ok reply → QueryPromise trees Failed told store modes begun now query reply
+  pub query_promise : (reply : Reply) → result_of look ≡ Ok reply → QueryPromise trees Failed Refused told store modes begun now query reply
   query_promise reply is = by query reply refl (replies_are_of_the_query setting view query id told reply is) is
     where
       missing : (reply : Reply) → result_of look ≡ Ok reply → reply ≡ not_found query → (¬ Failed) × (¬ (Still trees store.parts begun now query id))

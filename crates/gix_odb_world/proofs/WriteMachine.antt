@@ -52,6 +52,7 @@ use Rattle.gix_odb_world.proofs.WriteFive.{five_written}
 use Rattle.gix_odb_world.proofs.WriteGoes.{write_comes}
 use Rattle.gix_odb_world.proofs.WriteKept.{stands_push, unchanged_push}
 use Rattle.gix_odb_world.proofs.WriteMachine.Asks.{in_order_write}
+use Rattle.gix_odb_world.proofs.RefusedLemmas.{refused_later}
 use Rattle.gix_odb_world.proofs.WriteMachine.Begun.{write_starts}
 use Rattle.gix_odb_world.proofs.WriteMachine.Front.{front_comes_on_core, front_comes_on_disk, front_happens, front_quiet, front_takes}
 use Rattle.gix_odb_world.proofs.WriteTurn.{ask_at_stage}
@@ -272,6 +273,7 @@ write_kept first events e handle running (InFront refresh call) other knows =
           (subst (AreAsked (setting_in running.store) (refresh_begun events handle running.modes running.begun)) (sym same) knows.asked);
       turns = knows.turns ∙ ap length (sym same);
       well = answered_later first events e handle running.store running.begun same knows.well;
+      refused = refused_later events e handle running.modes.core running.begun same knows.refused;
       unchanged = unchanged_push events e handle running.begun knows.unchanged (λ turn. absurd (other turn));
     }
 write_kept first events e handle running (Own call) other knows =

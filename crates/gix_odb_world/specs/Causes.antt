@@ -21,6 +21,8 @@ use Rattle.gix_odb_looks.specs.Caused.{IsCaused}
 use Rattle.gix_odb.specs.OpenExchanges as openings
 use Rattle.gix_odb.specs.OpenExchanges.{IsNumber}
 use Rattle.gix_odb_looks.specs.Exchange.{Exchange}
+use Rattle.gix_odb_events.specs.declared.event.Refusal.{Refusal as CoreRefusal}
+use Rattle.gix_odb_world.specs.Refused.{LoadCause}
 use Rattle.gix_odb_calls.specs.Verdict.{job_of}
 use Rattle.gix_odb_world.specs.AtWork.{Store, setting_in}
 use Rattle.gix_odb_events.specs.PackId.{most_slots}
@@ -54,9 +56,11 @@ pub record LooseCause (trees : ℕ → Tree) (Failed : Type 0) (store : Store) (
   pub among : Contains (folder_list store.parts) folder
   pub cause : Cause (job_of call id) (loose_path folder id) store.parts.limit (GaveSometime trees begun now (loose_path folder id)) Failed ⊥ error
 
--- What each error of a query says, where `Failed` says that a call of the disk failed in it, and where the handle was told so since it
--- began: an error of the loose objects of a folder was given by what these read; any other one by what was shown since the store was opened,
--- or by what was asked and answered.
-abbrev pub FindCause : (ℕ → Tree) → Type 0 → (told : List Exchange) → Store → ℕ → ℕ → Query → ObjectId → finding.Error → Type 0
-FindCause trees Failed told store begun now call id (find_errors.Loose error) = LooseCause trees Failed store begun now call id error
-FindCause trees Failed told store begun now call id error = IsCaused (WasShownAt trees store.opened now) (setting_in store) store.hash id call told error
+-- What each error of a query says, where `Failed` says that a call of the disk failed in it, `Refused` which refusals of its core it was told
+-- of, and where the handle was told so since it began: an error of the loose objects of a folder was given by what these read; one of the core
+-- by a refusal; any other one by what was shown since the store was opened, or by what was asked and answered.
+abbrev pub FindCause : (ℕ → Tree) → Type 0 → (Refused : CoreRefusal → Type 0) → (told : List Exchange) → Store → ℕ → ℕ → Query → ObjectId → finding.Error → Type 0
+FindCause trees Failed Refused told store begun now call id (find_errors.Loose error) = LooseCause trees Failed store begun now call id error
+FindCause trees Failed Refused told store begun now call id (find_errors.LoadIndex error) =
+    LoadCause Refused (IsCaused (WasShownAt trees store.opened now) (setting_in store) store.hash id call told (find_errors.LoadIndex error)) error
+FindCause trees Failed Refused told store begun now call id error = IsCaused (WasShownAt trees store.opened now) (setting_in store) store.hash id call told error

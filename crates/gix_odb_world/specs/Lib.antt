@@ -11,6 +11,7 @@ pub use Rattle.gix_odb_runs.specs.Run
 pub mod Begun
 pub mod TwoContents
 pub mod Valid
+pub mod Refused
 pub mod Causes
 pub use Rattle.gix_odb_runs.specs.Writing
 pub mod Asks

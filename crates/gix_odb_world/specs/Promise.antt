@@ -14,6 +14,8 @@ use Rattle.gix_odb.specs.Contents.{Answer, Object, HeaderOf, Presence, folder_li
 use Rattle.gix_odb.specs.Held.{Held, Still}
 use Rattle.gix_odb_looks.specs.Exchange.{Exchange}
 use Rattle.gix_odb_runs.specs.Event.{CoreAnswer, Event, OfNewCore}
+use Rattle.gix_odb_events.specs.declared.event.Refusal.{Refusal}
+use Rattle.gix_odb_world.specs.Refused.{RefusedSince}
 use Rattle.gix_odb_world.specs.Told.{told_since}
 use Rattle.gix_odb_world.specs.Status.{Store, Task, OpenStore, MakeCall, Modes, setting_in}
 use Rattle.gix_odb_runs.specs.Run.{tree_at, FailedSince}
@@ -67,11 +69,11 @@ claim_of call reply = Never
 
 -- What a claim says, of the sought id, of a query whose handle was told so since it began. The store was opened at the moment after its open
 -- step.
-abbrev pub Keeps : (ℕ → Tree) → Type 0 → (told : List Exchange) → Store → ℕ → ℕ → Query → ObjectId → Claim → Type 0
-Keeps trees Failed told store begun now call id (Holding answer) = Held trees store.parts store.opened begun now call id answer
-Keeps trees Failed told store begun now call id Missing = Misses trees Failed store begun now call id
-Keeps trees Failed told store begun now call id (Caused error) = FindCause trees Failed told store begun now call id error
-Keeps trees Failed told store begun now call id Never = ⊥
+abbrev pub Keeps : (ℕ → Tree) → Type 0 → (Refused : Refusal → Type 0) → (told : List Exchange) → Store → ℕ → ℕ → Query → ObjectId → Claim → Type 0
+Keeps trees Failed Refused told store begun now call id (Holding answer) = Held trees store.parts store.opened begun now call id answer
+Keeps trees Failed Refused told store begun now call id Missing = Misses trees Failed store begun now call id
+Keeps trees Failed Refused told store begun now call id (Caused error) = FindCause trees Failed Refused told store begun now call id error
+Keeps trees Failed Refused told store begun now call id Never = ⊥
 
 -- What a reply to an opening promises whose handle was told so since it began. A reply that an opening never ends with promises what nothing can
 -- keep.
@@ -81,18 +83,18 @@ OpeningPromise events trees Failed told store begun now (replies.Refused (call_e
 OpeningPromise events trees Failed told store begun now reply = ⊥
 
 -- What the reply to a query promises, of the id that it seeks.
-abbrev pub QueryPromise : (ℕ → Tree) → Type 0 → (told : List Exchange) → Store → (modes : Modes) → ℕ → ℕ → Query → Reply → Type 0
-QueryPromise trees Failed told store modes begun now query reply = Keeps trees Failed told store begun now query (sought store.parts modes.ignoring query) (claim_of query reply)
+abbrev pub QueryPromise : (ℕ → Tree) → Type 0 → (Refused : Refusal → Type 0) → (told : List Exchange) → Store → (modes : Modes) → ℕ → ℕ → Query → Reply → Type 0
+QueryPromise trees Failed Refused told store modes begun now query reply = Keeps trees Failed Refused told store begun now query (sought store.parts modes.ignoring query) (claim_of query reply)
 
 -- What a reply that the last event gives promises, by the task that the handle was begun with.
 abbrev pub Promise : Volume → List Event → (handle : ℕ) → Store → (modes : Modes) → ℕ → Task → Reply → Type 0
 Promise first events handle store modes begun OpenStore reply =
     OpeningPromise events (tree_at first events) (FailedSince events handle begun) (told_since events handle begun) store begun (length events) reply
 Promise first events handle store modes begun (MakeCall (calls.Find id)) reply =
-    QueryPromise (tree_at first events) (FailedSince events handle begun) (told_since events handle begun) store modes begun (length events) (Find id) reply
+    QueryPromise (tree_at first events) (FailedSince events handle begun) (RefusedSince events handle modes.core begun) (told_since events handle begun) store modes begun (length events) (Find id) reply
 Promise first events handle store modes begun (MakeCall (calls.Header id)) reply =
-    QueryPromise (tree_at first events) (FailedSince events handle begun) (told_since events handle begun) store modes begun (length events) (Header id) reply
+    QueryPromise (tree_at first events) (FailedSince events handle begun) (RefusedSince events handle modes.core begun) (told_since events handle begun) store modes begun (length events) (Header id) reply
 Promise first events handle store modes begun (MakeCall (calls.Test id)) reply =
-    QueryPromise (tree_at first events) (FailedSince events handle begun) (told_since events handle begun) store modes begun (length events) (Test id) reply
+    QueryPromise (tree_at first events) (FailedSince events handle begun) (RefusedSince events handle modes.core begun) (told_since events handle begun) store modes begun (length events) (Test id) reply
 Promise first events handle store modes begun (MakeCall (calls.Write kind size bytes known)) reply =
     PromiseOfWrite first events handle store modes begun (to_write store.parts.objects store.hash kind size bytes known) reply

@@ -4,6 +4,7 @@ pub mod Listed
 pub mod Opening
 pub mod PackedStill
 pub mod Query
+pub mod Refused
 pub mod Write
 use Rattle.std.specs.Prelude.{ℕ, ◌≤◌, List, take, length}
 use Rattle.odb_asks.specs.MemDisk.{Volume}

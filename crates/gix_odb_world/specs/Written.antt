@@ -21,6 +21,7 @@ use Rattle.gix_odb_refresh.specs.Refreshed.{IsCaused, WasUnread}
 use Rattle.gix_odb_world.specs.AtWork.{Modes, Store, setting_in}
 use Rattle.gix_odb_runs.specs.Event.{Event}
 use Rattle.gix_odb_runs.specs.Run.{tree_at}
+use Rattle.gix_odb_world.specs.Refused.{LoadCause, RefusedSince}
 use Rattle.gix_odb_world.specs.Told.{told_since, view_then}
 use Rattle.gix_odb_runs.specs.Writing.{AskedAt, CauseOfWrite, ChangedNothing, LeftAlone, TurnsMadeOnly, NoTurnRenamed, ToWrite, name_to_write}
 use Rattle.gix_odb_calls.specs.declared.call.CallError.TheVariants as call_errors
@@ -67,11 +68,11 @@ pub record WasRefused (first : Volume) (events : List Event) (handle begun : ℕ
   pub cause : CauseOfWrite first events handle begun w error
 
 -- A write whose store could not be listed changed nothing. The store was unread, by the snapshot of the handle as the write began and by the
--- core's list, and the error has its cause in what the handle was told since.
+-- core's list, and the error has its cause in what the handle was told since, or in what its core refused.
 pub record WasUnlisted (events : List Event) (handle : ℕ) (store : Store) (modes : Modes) (begun : ℕ) (error : load.Error) : Type 0 where
   pub unchanged : ChangedNothing events handle begun
   pub unread : WasUnread (view_then events handle modes.core begun) (told_since events handle begun)
-  pub cause : IsCaused (setting_in store) (told_since events handle begun) error
+  pub cause : LoadCause (RefusedSince events handle modes.core begun) (IsCaused (setting_in store) (told_since events handle begun) error) error
 
 -- what the reply to a write promises. A write ends with no other reply
 abbrev pub PromiseOfWrite : Volume → List Event → (handle : ℕ) → Store → (modes : Modes) → (begun : ℕ) → ToWrite → Reply → Type 0

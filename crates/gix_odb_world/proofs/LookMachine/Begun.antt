@@ -25,6 +25,7 @@ use Rattle.gix_odb_world.specs.Status.{MakeCall, OpenStore, Store, Task, begun_w
 use Rattle.gix_odb_world.specs.Told.{look_begun, told_since, view_then}
 use Rattle.gix_odb_world.proofs.MachineLaws.{BeginsAs, IsStarted}
 use Rattle.gix_odb_world.proofs.OpenFacts.{same_is}
+use Rattle.gix_odb_world.proofs.RefusedLemmas.{refused_at_first}
 use Rattle.gix_odb_world.proofs.ToldLemmas.{snapshot_seen, told_first}
 use Rattle.gix_odb_world.proofs.ToldWell.{told_well_at_first}
 
@@ -77,6 +78,7 @@ module _ (first : Volume) (events : List Event) (e : Event) (handle : ℕ) (stor
       asked = subst (AreAsked (setting_in store) (look_begun begun_whole handle store modes number query)) (sym nothing_told) tt;
       turns = ap length (sym nothing_told);
       well = told_well_at_first first events e handle store modes (call_of query) start;
+      refused = refused_at_first events e handle modes.core;
     }
 
   pub looking_starts : (task : Task) (look : LookUp) → BeginsAs first begun_whole handle store modes task → begun_with store modes task ≡ Calling (Looking look)

@@ -39,8 +39,10 @@ use Rattle.gix_odb_runs.specs.Event.{CoreEvent, Event, OfCore, OfDisk, OfNothing
 use Rattle.gix_odb_world.specs.Headline.{LeavesDisk, stand_of}
 use Rattle.gix_odb_world.specs.Promise.{Promise, QueryPromise}
 use Rattle.gix_odb_runs.specs.Run.{FailedSince, change_by, disk_after, tree_at}
+use Rattle.gix_odb_world.specs.Refused.{RefusedSince}
 use Rattle.gix_odb_world.specs.Running.PackedStill.{IndicesShowOne}
 use Rattle.gix_odb_world.specs.Running.Query.{IsLooking, IsToldWell, call_of, looking}
+use Rattle.gix_odb_world.specs.Running.Refused.{AreRefused}
 use Rattle.gix_odb_world.specs.Status.{MakeCall, Running, Store}
 use Rattle.gix_odb_world.specs.Told.{look_begun, look_now, told_since, view_then}
 use Rattle.gix_odb_world.proofs.HistoryLemmas.{failed_before}
@@ -49,6 +51,7 @@ use Rattle.gix_odb_world.proofs.MachineLaws.{IsRunning, IsTurnAsking, MachineCom
 use Rattle.gix_odb_world.proofs.PackedStill.Moments.{indices_show_one_later, kept_without_call}
 use Rattle.gix_odb_world.proofs.PackedStill.Rule.{indices_show_one}
 use Rattle.gix_odb_world.proofs.QuietTurn.{shown_now}
+use Rattle.gix_odb_world.proofs.RefusedLemmas.{refused_later, refused_on_core, refused_on_disk}
 use Rattle.gix_odb_world.proofs.ToldLemmas.{asked-push, behind-push, told_none, told_turn, view_kept}
 use Rattle.gix_odb_world.proofs.ToldWell.{no_failure, told_well_later, told_well_on_core, told_well_on_disk}
 use Rattle.gix_odb_runs.proofs.WriteAsk.Quiet.{change_by-quiet}
@@ -157,14 +160,14 @@ module _ (first : Volume) (events : List Event) (handle : ℕ) (running : Runnin
         (same ∙ sym (ap (λ past. tree_of (disk_after first past).state) (take-length events))) (indices_show_one first events handle running ran)
 
     by_query : (call : Query) (reply : Reply)
-        → QueryPromise (tree_at first whole) (FailedSince whole handle running.begun) (told_since whole handle running.begun) store running.modes running.begun (length whole) call reply
+        → QueryPromise (tree_at first whole) (FailedSince whole handle running.begun) (RefusedSince whole handle running.modes.core running.begun) (told_since whole handle running.begun) store running.modes running.begun (length whole) call reply
         → Promise first whole handle store running.modes running.begun (MakeCall (call_of call)) reply
     by_query (Find asked) reply keeps = keeps
     by_query (Header asked) reply keeps = keeps
     by_query (Test asked) reply keeps = keeps
 
     promised : (reply : Reply)
-        → QueryPromise (tree_at first whole) (FailedSince whole handle running.begun) (told_since whole handle running.begun) store running.modes running.begun (length whole) query reply
+        → QueryPromise (tree_at first whole) (FailedSince whole handle running.begun) (RefusedSince whole handle running.modes.core running.begun) (told_since whole handle running.begun) store running.modes running.begun (length whole) query reply
         → Promise first whole handle store running.modes running.begun running.task reply
     promised reply keeps = subst (λ task. Promise first whole handle store running.modes running.begun task reply) (sym knows.task) (by_query query reply keeps)
 
@@ -176,7 +179,8 @@ module _ (first : Volume) (events : List Event) (handle : ℕ) (running : Runnin
     begins_same = ap (λ v. looks.started setting v query id) (sym (view_kept events e handle running.begun knows.since running.modes.core))
 
     module _ (told_now_is : List Exchange) (told_is : told_since whole handle running.begun ≡ told_now_is)
-        (well : IsToldWell first whole handle store running.modes running.begun) (rule : IndicesShowOne (tree_at first whole) store (length whole)) where
+        (well : IsToldWell first whole handle store running.modes running.begun) (refused : AreRefused whole handle running.modes.core running.begun)
+        (rule : IndicesShowOne (tree_at first whole) store (length whole)) where
       -- a reply of the look-up behind what is told then
       replies : (reply : Reply) → AreAsked setting (look_begun events handle store running.modes running.begun query) told_now_is
           → result_of (behind setting (look_begun events handle store running.modes running.begun query) told_now_is) ≡ Ok reply
@@ -186,7 +190,7 @@ module _ (first : Volume) (events : List Event) (handle : ℕ) (running : Runnin
           (query_promise first whole handle store running.modes running.begun query knows.fits
           (subst (λ l. AreAsked setting l (told_since whole handle running.begun)) begins_same
           (subst (AreAsked setting (look_begun events handle store running.modes running.begun query)) (sym told_is) asked))
-          well rule reply
+          well refused rule reply
           (ap (λ l. result_of (behind setting l (told_since whole handle running.begun))) (sym begins_same)
           ∙ (ap (λ xs. result_of (behind setting (look_begun events handle store running.modes running.begun query) xs)) told_is ∙ is)))
 
@@ -201,7 +205,8 @@ module _ (first : Volume) (events : List Event) (handle : ℕ) (running : Runnin
 
     module _ (exchange : Exchange) (asked : ask_of look ≡ Some exchange.ask)
         (told_is : told_since whole handle running.begun ≡ exchanges ++ exchange ∷ [])
-        (well : IsToldWell first whole handle store running.modes running.begun) (rule : IndicesShowOne (tree_at first whole) store (length whole)) where
+        (well : IsToldWell first whole handle store running.modes running.begun) (refused : AreRefused whole handle running.modes.core running.begun)
+        (rule : IndicesShowOne (tree_at first whole) store (length whole)) where
       abbrev fed_now : LookUp
       fed_now = fed setting look exchange.answer
 
@@ -247,6 +252,7 @@ module _ (first : Volume) (events : List Event) (handle : ℕ) (running : Runnin
           failures = well.failures;
           fair = well.fair;
         };
+        refused = refused;
       }
 
       -- and is within its bound where it goes on
@@ -270,7 +276,7 @@ module _ (first : Volume) (events : List Event) (handle : ℕ) (running : Runnin
 
       goes : (view_now : Option View) (result : Result Reply LookUp) → result_of fed_now ≡ result
           → ComesWith view_now result
-      goes view_now (Ok reply) is = replies (exchanges ++ exchange ∷ []) told_is well rule reply all_asked (ap result_of (sym stands_on) ∙ is)
+      goes view_now (Ok reply) is = replies (exchanges ++ exchange ∷ []) told_is well refused rule reply all_asked (ap result_of (sym stands_on) ∙ is)
       goes view_now (Err next) is =
           let same : next ≡ fed_now = left_is fed_now.head fed_now.stage next is in
           subst (λ l. IsLooking first whole handle (record running { modes = record running.modes { view = view_now }; turns = running.turns + 1; work = Calling (Looking l) }) l
@@ -289,12 +295,13 @@ module _ (first : Volume) (events : List Event) (handle : ℕ) (running : Runnin
         let well = told_well_later first events e handle store running.modes running.begun same
         (failed_before events e handle running.begun (λ turn_it failed. no_failure e.entry.did turn.did failed)) knows.since knows.well in
         subst (λ r. MachineComes first events e handle running looking OfNothing r) (sym end.1)
-        (replies exchanges same well (rule_now (kept_without_call first events e (subst LeavesDisk (sym turn.asked) tt) turn.change)) end.0 knows.asked (ap result_of (sym knows.is) ∙ end.1))
+        (replies exchanges same well (refused_later events e handle running.modes.core running.begun same knows.refused) (rule_now (kept_without_call first events e (subst LeavesDisk (sym turn.asked) tt) turn.change)) end.0 knows.asked (ap result_of (sym knows.is) ∙ end.1))
     comes_part (Some (parts.Disk ask)) is turn =
         let answer = answer_now (disk_after first events) ask in
         let exchange : Exchange = record { ask = parts.Disk ask; answer = told.Disk answer } in
         let more = told_turn events e handle running.begun knows.since turn.turn (OfDisk ask answer) turn.asked exchange refl in
         goes exchange is more (told_well_on_disk first events e handle running look knows ran ask is turn)
+        (refused_on_disk events e handle running.modes.core running.begun knows.refused ask answer more)
         (rule_now (shown_now first events e handle running knows.since ask turn (quiet ask is))) running.modes.view (result_of (fed setting look (told.Disk answer))) refl
     comes_part (Some (parts.Core event)) is turn =
         let place = stand_of events handle running in
@@ -302,5 +309,6 @@ module _ (first : Volume) (events : List Event) (handle : ℕ) (running : Runnin
         let exchange : Exchange = record { ask = parts.Core event; answer = told.Core answer } in
         let more = told_turn events e handle running.begun knows.since turn.turn (OfCore place.store place.seat event answer) turn.asked exchange refl in
         goes exchange is more (told_well_on_core first events e handle running look knows ran event is turn)
+        (refused_on_core events e handle running.modes.core running.begun knows.refused knows.since event turn.turn turn.asked more)
         (rule_now (kept_without_call first events e (subst LeavesDisk (sym turn.asked) tt) turn.change)) (or_before (view_in answer) running.modes.view)
         (result_of (fed setting look (told.Core answer))) refl

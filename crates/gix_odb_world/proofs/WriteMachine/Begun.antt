@@ -27,6 +27,7 @@ use Rattle.gix_odb_world.specs.Told.{refresh_begun, refresh_now, told_since, tur
 use Rattle.gix_odb_runs.specs.Writing.{ChangedNothing, ToWrite, to_write}
 use Rattle.gix_odb_world.proofs.AnsweredLemmas.{answered_at_first, none_told}
 use Rattle.gix_odb_world.proofs.MachineLaws.{BeginsAs, IsStarted}
+use Rattle.gix_odb_world.proofs.RefusedLemmas.{refused_at_first}
 use Rattle.gix_odb_world.proofs.ToldLemmas.{snapshot_seen}
 use Rattle.gix_odb_world.proofs.WriteKept.{each_turn_none, stands_at_first}
 
@@ -85,6 +86,7 @@ module _ (first : Volume) (events : List Event) (e : Event) (handle : ℕ) (stor
       asked = subst (AreAsked setting (refresh_begun whole handle modes number)) (sym none) tt;
       turns = ap length (sym none);
       well = answered_at_first first events e handle store;
+      refused = refused_at_first events e handle modes.core;
       unchanged = unchanged;
     }
 

@@ -15,11 +15,13 @@ use Rattle.gix_odb_events.specs.declared.answer.Answer.TheVariants as told
 use Rattle.gix_odb_events.specs.declared.answer.PartAsk.{PartAsk}
 use Rattle.gix_odb_events.specs.declared.answer.PartAsk.TheVariants as parts
 use Rattle.gix_odb_calls.specs.declared.load_index.Error as load
+use Rattle.gix_odb_calls.specs.declared.load_index.Error.TheVariants as load_errors
+use Rattle.gix_odb_events.specs.declared.event.Refusal.TheVariants as refusals
 use Rattle.gix_odb_looks.specs.Exchange.{Exchange}
 use Rattle.gix_odb_looks.specs.LookUpOrder.{Setting}
 use Rattle.gix_odb_looks.proofs.HandedLaws.{IsOwnStream}
 use Rattle.gix_odb_refresh.specs.RefreshOrder as refreshes
-use Rattle.gix_odb_refresh.specs.Refreshed.{AreAsked}
+use Rattle.gix_odb_refresh.specs.Refreshed.{AreAsked, IsCaused}
 use Rattle.gix_odb_refresh.specs.declared.refresh.Refresh.{Refresh}
 use Rattle.gix_odb_refresh.specs.declared.refresh.Refresh.TheVariants as fronts
 use Rattle.gix_odb_refresh.proofs.AskedLemmas.{asked-push}
@@ -35,7 +37,9 @@ use Rattle.gix_odb_runs.specs.Cores.{answer_behind, cores_after, history_at}
 use Rattle.gix_odb_runs.specs.Event.{Asked, CoreAnswer, CoreEvent, Event, OfCore, OfDisk, ToCore, ToDisk}
 use Rattle.gix_odb_world.specs.Promise.{Promise}
 use Rattle.gix_odb_runs.specs.Run.{IsTurnOf, change_by, disk_after, tree_at}
+use Rattle.gix_odb_world.specs.Refused.{LoadCause, RefusedSince}
 use Rattle.gix_odb_world.specs.Running.Answered.{IsAnsweredWell}
+use Rattle.gix_odb_world.specs.Running.Refused.{AreRefused}
 use Rattle.gix_odb_world.specs.Running.Write.{InFront, IsInFront, Own, front_result, own_result, write_at, writing}
 use Rattle.gix_odb_world.specs.Status.{modes_after}
 use Rattle.gix_odb_world.specs.Told.{refresh_begun, refresh_now, told_since, turns_in_front, view_then}
@@ -44,6 +48,7 @@ use Rattle.gix_odb_loose.specs.WriteJobs.{pieces_of}
 use Rattle.gix_odb_world.proofs.AnsweredLemmas.{answered_on_core, answered_on_disk, told_call, told_event}
 use Rattle.gix_odb_world.proofs.FrontLemmas.{begun_same, front_asked, now_more}
 use Rattle.gix_odb_world.proofs.MachineLaws.{HasTurn, IsRunning, IsTurnAsking, MachineComes, quiet_turn}
+use Rattle.gix_odb_world.proofs.RefusedLemmas.{never_for_memory, refused_on_core, refused_on_disk, since_told}
 use Rattle.gix_odb_runs.proofs.WriteAsk.Quiet.{change_by-quiet}
 use Rattle.gix_odb_world.proofs.WriteGoes.{more_laps}
 use Rattle.gix_odb_world.proofs.WriteKept.{stands_at_first, unchanged_push}
@@ -107,7 +112,8 @@ module _ (first : Volume) (events : List Event) (handle : ℕ) (running : Runnin
     -- a turn in which it was told something, and which changed nothing
     module _ (exchange : Exchange) (asked_it : refreshes.ask_of refresh ≡ Some exchange.ask)
         (told_is : told_since whole handle running.begun ≡ exchanges ++ exchange ∷ [])
-        (well : IsAnsweredWell first whole handle store running.begun) (nothing : IsTurnOf handle e → e.entry.change ≡ None) where
+        (well : IsAnsweredWell first whole handle store running.begun) (refused : AreRefused whole handle running.modes.core running.begun)
+        (nothing : IsTurnOf handle e → e.entry.change ≡ None) where
       abbrev next : Refresh
       next = refreshes.fed store.parts.objects store.parts.folders refresh exchange.answer
 
@@ -176,6 +182,7 @@ module _ (first : Volume) (events : List Event) (handle : ℕ) (running : Runnin
             asked = subst (λ n. AreAsked setting (refresh_begun whole handle (record running.modes { core = n }) running.begun) all) (sym core) all_asked;
             turns = sym longer;
             well = record { suited = well.suited; answered = well.answered; within = well.within };
+            refused = subst (λ n. AreRefused whole handle n running.begun) (sym core) refused;
             unchanged = unchanged;
           },
           in_time,
@@ -211,6 +218,16 @@ module _ (first : Volume) (events : List Event) (handle : ℕ) (running : Runnin
               in_time,
             )
 
+        -- what the core refused has its cause in the core
+        caused : (error : load.Error) → IsCaused setting all error
+            → LoadCause (RefusedSince whole handle running.modes.core running.begun) (IsCaused setting all error) error
+        caused load_errors.Io cause = cause
+        caused (load_errors.InsufficientSlots current needed) cause =
+            since_told whole handle running.modes.core running.begun refused (refusals.InsufficientSlots current needed) cause
+        caused load_errors.GenerationOverflow cause = since_told whole handle running.modes.core running.begun refused refusals.GenerationOverflow cause
+        caused (load_errors.Unsettled first_no own last) cause = cause
+        caused load_errors.NoMemory cause = never_for_memory whole handle running.modes.core running.begun refused cause
+
         -- the store can't be listed
         ends : (error : load.Error) → next ≡ fronts.Refused error
             → Promise first whole handle store running.modes running.begun running.task (unlisted error)
@@ -220,7 +237,7 @@ module _ (first : Volume) (events : List Event) (handle : ℕ) (running : Runnin
             (record {
               unchanged = unchanged;
               unread = only_unread_stores_are_refused setting seen all all_asked error (sym stands ∙ same);
-              cause = refused_refreshes_have_causes setting seen all all_asked well.suited error (sym stands ∙ same);
+              cause = caused error (refused_refreshes_have_causes setting seen all all_asked well.suited error (sym stands ∙ same));
             })
 
         goes : (own : Refresh) → next ≡ own → Comes asked own
@@ -242,6 +259,8 @@ module _ (first : Volume) (events : List Event) (handle : ℕ) (running : Runnin
         let exchange : Exchange = record { ask = parts.Disk ask; answer = told.Disk answer } in
         goes exchange is (told_call first events e handle running knows.since knows.well ran ask (own_stream ask is) turn)
         (answered_on_disk first events e handle running knows.since knows.well ran ask (own_stream ask is) turn)
+        (refused_on_disk events e handle running.modes.core running.begun knows.refused ask answer
+        (told_call first events e handle running knows.since knows.well ran ask (own_stream ask is) turn))
         (λ turn_it. turn.change ∙ front_quiet ask is) (OfDisk ask answer) refl refl
         (refreshes.fed store.parts.objects store.parts.folders refresh (told.Disk answer)) refl
 
@@ -254,5 +273,7 @@ module _ (first : Volume) (events : List Event) (handle : ℕ) (running : Runnin
         let exchange : Exchange = record { ask = parts.Core event; answer = told.Core answer } in
         goes exchange is (told_event first events e handle running knows.since knows.well event turn)
         (answered_on_core first events e handle running knows.since knows.well event turn)
+        (refused_on_core events e handle running.modes.core running.begun knows.refused knows.since event turn.turn turn.asked
+        (told_event first events e handle running knows.since knows.well event turn))
         (λ turn_it. turn.change) (OfCore running.modes.core handle event answer) refl refl
         (refreshes.fed store.parts.objects store.parts.folders refresh (told.Core answer)) refl

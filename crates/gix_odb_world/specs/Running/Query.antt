@@ -31,6 +31,7 @@ use Rattle.gix_odb_runs.specs.Event.{Event, part_asked}
 use Rattle.gix_odb_world.specs.Machine.{Machine, by_part}
 use Rattle.gix_odb_runs.specs.Run.{FailedSince, tree_at}
 use Rattle.gix_odb_world.specs.Running.PackedStill.{IsPackedStill}
+use Rattle.gix_odb_world.specs.Running.Refused.{AreRefused}
 pub use Rattle.gix_odb_world.specs.Told.{call_of}
 use Rattle.gix_odb_world.specs.Told.{look_begun, look_now, told_since, view_then}
 
@@ -85,6 +86,7 @@ pub record IsLooking (first : Volume) (events : List Event) (handle : ℕ) (runn
   pub asked : AreAsked (setting_in running.store) (look_begun events handle running.store running.modes running.begun query) (told_since events handle running.begun)
   pub turns : running.turns ≡ length (told_since events handle running.begun)
   pub well : IsToldWell first events handle running.store running.modes running.begun
+  pub refused : AreRefused events handle running.modes.core running.begun
 
 -- ---- its machine
 

@@ -38,6 +38,7 @@ use Rattle.gix_odb_looks.specs.Laps.{turns_of_lap}
 use Rattle.gix_odb_world.specs.Bound.{HasAtMost, bound_of_task}
 use Rattle.gix_odb_runs.specs.Run.{tree_at}
 use Rattle.gix_odb_world.specs.Running.Answered.{IsAnsweredWell}
+use Rattle.gix_odb_world.specs.Running.Refused.{AreRefused}
 use Rattle.gix_odb_world.specs.Told.{refresh_begun, refresh_now, told_since, turns_in_front}
 use Rattle.gix_odb.specs.CallOrder.{result_of_write, unlisted}
 use Rattle.gix_odb_runs.specs.Writing.{AskedAt, AskedSince, ChangedNothing, LeftAlone, TurnsMadeOnly, NoTurnRenamed, ToWrite, call_to_write, head_to_write}
@@ -120,6 +121,7 @@ pub record IsInFront (first : Volume) (events : List Event) (handle : ℕ) (runn
   pub asked : AreAsked (setting_in running.store) (refresh_begun events handle running.modes running.begun) (told_since events handle running.begun)
   pub turns : running.turns ≡ length (told_since events handle running.begun)
   pub well : IsAnsweredWell first events handle running.store running.begun
+  pub refused : AreRefused events handle running.modes.core running.begun
   pub unchanged : ChangedNothing events handle running.begun
 
 -- A write that is the task of its handle: what stood in front of it is ready, and took no more turns than a lap; the other turns are its own.
