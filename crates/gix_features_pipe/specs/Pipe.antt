@@ -85,3 +85,10 @@ HasAtHand before bytes = (after : Reader) × Reads before after [] × (at_hand a
 
 abbrev pub HasFailed : Reader → PipeError → Type 0
 HasFailed before error = (after : Reader) × Reads before after (Failure error ∷ [])
+
+-- all bytes of a piece are lent; or it is this error
+abbrev pub LendsAll : Piece → Bor (List ℕ) → Type 0
+LendsAll piece bytes = bytes.now ≡ bytes_of piece
+
+abbrev pub IsFailure : Piece → PipeError → Type 0
+IsFailure piece error = piece ≡ Failed error

@@ -25,7 +25,7 @@ pub struct Reader {
 }
 
 impl Reader {
-    ghost use Rattle.gix_features_pipe.specs.Pipe.{Byte, Failure, taken, Reads, HasEnded, HeldNone, IsNoted, IsShort, HasAtHand, HasFailed, at_hand, gives_something};
+    ghost use Rattle.gix_features_pipe.specs.Pipe.{Byte, Failure, taken, Reads, HasEnded, HeldNone, IsNoted, IsShort, HasAtHand, HasFailed, LendsAll, IsFailure, at_hand, gives_something};
     ghost use Rattle.gix_features_pipe.specs.declared.pipe.ends.Piece.TheVariants.{Written, Failed};
 
     /// The end of a pipe, with its pass, and what it knows.
@@ -74,10 +74,12 @@ impl Reader {
 
     /// The bytes at hand, once there are some. There are none only at the end.
     ///
-    /// A caller that has to prove what it reads calls `fill` and `front`: of a reader whose bytes were lent nothing is known
-    /// afterwards.
+    /// What was at hand before is lent, or answered, as it is. Of bytes and errors that the call waits for, the clause says only
+    /// that they could come out of some channel, and of a reader whose bytes were lent it says nothing: with an error that owns
+    /// memory in the answer, no clause can name that reader. A caller that has to prove what it reads calls `fill` and `front`.
     pub fn fill_buf<R: Wait>(&mut self, rt: &R) -> Result<&[u8], PipeError>
         ensures at_hand { MatchResult result (HasAtHand self.old) (HasFailed self.old) }
+        ensures there { gives_something self.old.next ≡ true → MatchResult result (LendsAll self.old.next) (IsFailure self.old.next) }
     {
         self.fill(rt)?;
         Ok(self.front())
@@ -99,6 +101,8 @@ impl Reader {
         ensures filled { OnOk result (Reads self.old self.new []) }
         ensures end { OnOk result (at_hand self.new ≡ [] → HasEnded self.new) }
         ensures error { IfErr result (λ error. Reads self.old self.new (Failure error ∷ [])) }
+        ensures there { gives_something self.old.next ≡ true
+            → MatchResult result (λ _. self.new.next ≡ self.old.next) (IsFailure self.old.next) }
         ensures noted { IsNoted self.new }
     {
         self.begin();
@@ -125,6 +129,7 @@ impl Reader {
     fn begin(&mut self)
         ensures nothing { Reads self.old self.new [] }
         ensures none { self.new.has_ended ≡ false }
+        ensures same { self.new.next ≡ self.old.next }
     {
         self.has_ended = false;
     }
@@ -134,6 +139,7 @@ impl Reader {
         ensures nothing { Reads self.old self.new [] }
         ensures there { result ≡ true → gives_something self.new.next ≡ true }
         ensures ended { result ≡ false → HasEnded self.new }
+        ensures same { gives_something self.old.next ≡ true → self.new.next ≡ self.old.next }
         ensures note { result ≡ true → self.new.has_ended ≡ self.old.has_ended }
     {
         'reaching: for _ in rt.forever() {
@@ -184,6 +190,7 @@ impl Reader {
     /// The error that is at hand, if it is one.
     fn failure(&mut self) -> Option<PipeError>
         ensures given { IfSome result (λ error. Reads self.old self.new (Failure error ∷ [])) }
+        ensures is { IfSome result (IsFailure self.old.next) }
         ensures none { IfNone result ((self.new ≡ self.old) × ((error : PipeError) → self.old.next ≡ Failed error → ⊥)) }
         ensures note { self.new.has_ended ≡ self.old.has_ended }
     {
