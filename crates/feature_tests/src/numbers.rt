@@ -1,9 +1,11 @@
 //! Numbers of variable length, numbers of threads, and sizes of chunks.
+ghost use Rattle.std.specs.Prelude.{◌≡◌, IsSome, IsErrOf};
+
 use crate::words::{add, compare, halves};
 use gix_features_parts::decode::{Error, leb64_from_read};
 use gix_features_parts::iter::Chunks;
 use gix_features_parts::parallel::{num_threads, optimize_chunk_size_and_thread_limit};
-use odb_disk::{MemSource, NoMemory};
+use odb_disk::{MemSource, NoMemory, Source};
 use std::alloc::{AllocError, Global};
 use std::test::Fail;
 
@@ -77,6 +79,32 @@ fn failed_read(rt: HostRuntime) -> Result<(), Fail> {
     let mut source = MemSource::with_faults(rt.alloc(), bytes, &[2])?;
     let shown = number_shown(rt.alloc(), &mut source)?;
     compare("a second read that fails", shown.as_str(), "source 1")
+}
+
+/// A number and how many bytes it has, or why there is none.
+type Number = Result<(u64, usize), Error>;
+
+/// The numbers at the front of two sources that have the same bytes left: the law of numbers, as a clause.
+fn read_both<S: Source, T: Source>(one: &mut S, other: &mut T) -> (Number, Number)
+    requires told { IsSome (S.left one.old) }
+    requires alike { T.left other.old ≡ S.left one.old }
+    ensures same { (IsErrOf result.0 Error.Source → ⊥) → (IsErrOf result.1 Error.Source → ⊥) → result.0 ≡ result.1 }
+{
+    let first = leb64_from_read(one);
+    let second = leb64_from_read(other);
+    (first, second)
+}
+
+// Catches a number that is never read, of which no clause speaks.
+#[test]
+fn one_number(rt: HostRuntime) -> Result<(), Fail> {
+    let mut one = MemSource::new(b"\x81\x01".to_vec(rt.alloc())?);
+    let mut other = MemSource::new(b"\x81\x01".to_vec(rt.alloc())?);
+    let (first, second) = read_both(&mut one, &mut other);
+    drop(one);
+    drop(other);
+    assert!(rt; matches!(first, Ok((257, 2))) && matches!(second, Ok((257, 2))));
+    Ok(())
 }
 
 /// A plan: how large chunks are, the limit of threads, and how many there are.

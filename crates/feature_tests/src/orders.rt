@@ -1,4 +1,8 @@
 //! Items that come in any order, and what reduces them.
+ghost use Rattle.std.specs.Prelude.{ℕ, List, Ok, map, IfOk};
+ghost use Rattle.std.specs.Iterator.{AlwaysYields, IsFinite};
+ghost use Rattle.gix_features_parts.specs.InOrderRuns.{ArriveOnce, GivesInTurn, GivesItems};
+
 use crate::words::{add, compare, halves};
 use gix_features_parts::parallel::reduce::{IdentityWithResult, Reduce};
 use gix_features_parts::parallel::{InOrderError, InOrderIter};
@@ -19,6 +23,22 @@ fn item_of(word: &str) -> Result<(usize, char), Broken> {
         },
         _ => Err(Broken),
     }
+}
+
+/// What an iterator in order gives, as long as there is memory for it.
+type Given<T, E> = Vec<Result<T, InOrderError<E>>>;
+
+/// All that is given of items that come by their numbers: the law of items in order, as clauses.
+fn drained<T: Drop, E: Drop, I>(alloc: Global, iter: I) -> Result<Given<T, E>, AllocError>
+where
+    I: Iterator<Item = Result<(usize, T), E>> + Drop,
+    requires can { I.can_next iter }
+    requires finite { IsFinite (I.remaining iter) }
+    ensures in_turn { IfOk result (λ given. GivesInTurn I.next_gives iter given.items) }
+    ensures in_order { IfOk result (λ given. (items : List T) (pairs : List (ℕ × T)) → ArriveOnce items pairs
+        → AlwaysYields I.next_gives (λ a. a) iter (map Ok pairs) → GivesItems items given.items) }
+{
+    InOrderIter::from(alloc, iter).collect(alloc)
 }
 
 fn given_shown(
@@ -44,7 +64,7 @@ fn add_given(
 }
 
 fn order_shown(alloc: Global, all: &mut String, words: &str) -> Result<(), AllocError> {
-    for given in InOrderIter::from(alloc, words.split(' ').map(item_of)) {
+    for given in drained(alloc, words.split(' ').map(item_of))? {
         add_given(alloc, all, given)?;
     }
     Ok(())

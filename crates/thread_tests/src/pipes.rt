@@ -1,6 +1,6 @@
 //! Bytes that go through a pipe.
-ghost use Rattle.std.specs.Prelude.{◌≡◌, ◌++◌, List, map, take, IfSome};
-ghost use Rattle.gix_features_pipe.specs.Pipe.{Item, Byte, items_of, written, AreEnds, IsBegun};
+ghost use Rattle.std.specs.Prelude.{◌≡◌, ◌∷◌, ◌++◌, [], List, map, take, IfSome, IfOk, IfErr};
+ghost use Rattle.gix_features_pipe.specs.Pipe.{Item, Byte, Failure, items_of, written, AreEnds, IsBegun, Reads};
 
 use gix_features_pipe::pipe;
 use gix_features_pipe::pipe::{Gone, PipeError, Reader, Writer};
@@ -169,6 +169,42 @@ fn lends(rt: HostRuntime) -> Result<(), Fail> {
     Ok(())
 }
 
+/// Writes two bytes, none, and two more, each as a piece. It answers whether all are in the pipe.
+fn put_around_none<R: Wait>(rt: &R, alloc: Global, writer: &mut Writer) -> bool {
+    let is_begun = is_put(rt, alloc, writer, b"ab");
+    let is_empty = is_put(rt, alloc, writer, b"");
+    let is_ended = is_put(rt, alloc, writer, b"cd");
+    is_begun && is_empty && is_ended
+}
+
+/// Whether one read gives the bytes around an empty piece.
+fn reads_around_none<R: Wait>(rt: &R, reader: &mut Reader) -> bool {
+    let mut out = [0u8; 4];
+    let count = count_read(rt, reader, &mut out);
+    count == 4 && out == *b"abcd"
+}
+
+/// Whether the bytes before an empty piece are lent, and then those behind it.
+fn lends_around_none<R: Wait>(rt: &R, reader: &mut Reader) -> bool {
+    let first = first_of(reader.fill_buf(rt));
+    reader.consume(2);
+    let last = first_of(reader.fill_buf(rt));
+    first == b'a' && last == b'c'
+}
+
+// Catches an empty piece that is taken for the end, by a read and where bytes are lent.
+#[test]
+fn empty_between(rt: HostRuntime) -> Result<(), Fail> {
+    let alloc: Global = rt.alloc();
+    let (mut writer, mut reader) = pipe::unidirectional(alloc, 3)?;
+    let is_read = put_around_none(&rt, alloc, &mut writer) && reads_around_none(&rt, &mut reader);
+    let is_lent = put_around_none(&rt, alloc, &mut writer) && lends_around_none(&rt, &mut reader);
+    drop(writer);
+    drop(reader);
+    assert!(rt; is_read && is_lent);
+    Ok(())
+}
+
 /// An error of a text, where there is memory for it.
 fn error_of(alloc: Global, text: &[u8]) -> Result<PipeError, NoMemory> {
     Ok(PipeError::Sent(ByteList::from_slice(alloc, text)?))
@@ -302,5 +338,30 @@ fn first_bytes(rt: HostRuntime) -> Result<(), Fail> {
     let mut out = [0u8; 2];
     let count = read_first(&rt, writer, reader, &mut out);
     assert!(rt; is_written && count == Some(2) && out == *b"ab");
+    Ok(())
+}
+
+/// Reads by `fill`, `front` and `consume` what `fill_buf` would lend.
+fn read_lent<R: Wait>(rt: &R, reader: &mut Reader, out: &mut [u8]) -> Result<usize, PipeError>
+    ensures given { IfOk result (λ count. Reads reader.old reader.new (map Byte (take count out.new))) }
+    ensures error { IfErr result (λ error. Reads reader.old reader.new (Failure error ∷ [])) }
+{
+    reader.fill(rt)?;
+    let front = reader.front();
+    let count = front.len().min(out.len());
+    out[..count].copy_from_slice(&front[..count]);
+    reader.consume(count);
+    Ok(count)
+}
+
+// Catches bytes that are never given, of which no clause speaks.
+#[test]
+fn lent_bytes(rt: HostRuntime) -> Result<(), Fail> {
+    let alloc: Global = rt.alloc();
+    let mut reader = left_with(&rt, alloc, b"abc")?;
+    let mut out = [0u8; 2];
+    let count = read_lent(&rt, &mut reader, &mut out).unwrap_or(9);
+    drop(reader);
+    assert!(rt; count == 2 && out == *b"ab");
     Ok(())
 }

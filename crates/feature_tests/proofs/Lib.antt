@@ -1,0 +1,2 @@
+mod NumbersLemmas
+mod OrdersLemmas
