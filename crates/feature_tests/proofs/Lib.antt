@@ -1,2 +1,3 @@
 mod NumbersLemmas
 mod OrdersLemmas
+mod TurnedLemmas

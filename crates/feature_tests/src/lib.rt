@@ -14,4 +14,6 @@ mod numbers;
 #[cfg(test)]
 mod orders;
 #[cfg(test)]
+mod turned;
+#[cfg(test)]
 mod words;

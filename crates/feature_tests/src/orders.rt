@@ -11,7 +11,7 @@ use std::test::Fail;
 
 /// The error of an inner iterator.
 #[derive(Clone, Copy, Debug, Drop)]
-struct Broken;
+pub(crate) struct Broken;
 
 /// A number and the name of an item, as `1b`. Another word is an error.
 fn item_of(word: &str) -> Result<(usize, char), Broken> {
@@ -26,10 +26,13 @@ fn item_of(word: &str) -> Result<(usize, char), Broken> {
 }
 
 /// What an iterator in order gives, as long as there is memory for it.
-type Given<T, E> = Vec<Result<T, InOrderError<E>>>;
+pub(crate) type Given<T, E> = Vec<Result<T, InOrderError<E>>>;
 
 /// All that is given of items that come by their numbers: the law of items in order, as clauses.
-fn drained<T: Drop, E: Drop, I>(alloc: Global, iter: I) -> Result<Given<T, E>, AllocError>
+pub(crate) fn drained<T: Drop, E: Drop, I>(
+    alloc: Global,
+    iter: I,
+) -> Result<Given<T, E>, AllocError>
 where
     I: Iterator<Item = Result<(usize, T), E>> + Drop,
     requires can { I.can_next iter }
