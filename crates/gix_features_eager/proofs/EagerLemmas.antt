@@ -1,5 +1,5 @@
 -- Lemmas on the beginning of a worker, and on what is given of the items that it draws.
-use Rattle.std.proofs.Common.{◌≡◌, true, false, List, [], ◌∷◌, ◌++◌, All, refl, sym, ap, ◌∙◌, subst, arith, append_assoc, Option, Some, None}
+use Rattle.std.proofs.Common.{◌≡◌, true, false, List, [], ◌∷◌, ◌++◌, All, refl, sym, ap, ◌∙◌, subst, arith, append_assoc, Option, Some, None, Ok}
 use Rattle.std.proofs.lemmas.List.{append-nil}
 use Rattle.std.specs.Iterator.{Yields, Drains}
 use Rattle.std.specs.declared.snapshot.Snapshot.{Snapshot}
@@ -16,7 +16,7 @@ use Rattle.gix_features_eager.specs.declared.source.Source.{Source}
 use Rattle.gix_features_eager.specs.declared.source.Source.TheVariants.{Elsewhere, Here, Ended}
 use Rattle.gix_features_eager.specs.declared.choice.EagerIterIf.{EagerIterIf}
 use Rattle.gix_features_eager.specs.declared.choice.EagerIterIf.TheVariants.{OnDemand}
-use Rattle.gix_features_eager.specs.Eager.{CameOf, Came, HasGivenIf}
+use Rattle.gix_features_eager.specs.Eager.{CameOf, Came, DrawsIf}
 
 module _ {I T : Type 0} (steps : I → Option T → I → Type 0) where
   -- ---- a new channel, over which how the iterator is was sent and taken before it became two ends
@@ -117,10 +117,21 @@ module _ {I T : Type 0} (steps : I → Option T → I → Type 0) where
       (ap (λ (l : List T). (items ++ l) ++ chunk) used ∙ ap (λ (l : List T). l ++ chunk) (append-nil items) ∙ ap (λ (l : List T). items ++ l) (sym more)) came
 
   -- a further item of an iterator that is asked as it is needed
-  pub came_on_demand : {H : Type 0} (first at next : I) (eager : EagerIterIf I H T) (items : List T) (x : T) → eager ≡ OnDemand at → steps at (Some x) next
-      → HasGivenIf steps first eager items → Yields steps first (items ++ x ∷ []) next
-  came_on_demand {H = H} first at next eager items x is step was =
-      Yields-append steps first at next items (x ∷ []) (subst (λ (e : EagerIterIf I H T). HasGivenIf steps first e items) is was) (next, step, refl)
+  drawn_here : {H : Type 0} (can : I → Type 0) (at next : I) (x : T) → steps at (Some x) next → can next
+      → DrawsIf {H = H} can steps (OnDemand at) (Some (Ok x)) (OnDemand next)
+  drawn_here can at next x is_step may = record {
+    ready = may;
+    given = λ first items was. Yields-append steps first at next items (x ∷ []) was (next, is_step, refl);
+    over = λ last. let no : false ≡ true = last in absurd cc;
+    stays = λ over. absurd over;
+    want = λ want. let no : false ≡ true = want in absurd cc;
+    choice = refl;
+  }
+
+  pub drawn_on_demand : {H : Type 0} (can : I → Type 0) (at next : I) (eager : EagerIterIf I H T) (x : T) → eager ≡ OnDemand at → steps at (Some x) next → can next
+      → DrawsIf can steps eager (Some (Ok x)) (OnDemand next)
+  drawn_on_demand {H = H} can at next eager x is is_step may =
+      subst (λ (e : EagerIterIf I H T). DrawsIf can steps e (Some (Ok x)) (OnDemand next)) (sym is) (drawn_here can at next x is_step may)
 
 -- what holds of each that was sent holds of the first that is taken
 pub first_taken : {X : Type 0} (P : X → Type 0) (taken : List X) (x : X) → taken ≡ [] → Begins (λ xs. All P xs) (taken ++ x ∷ []) → P x

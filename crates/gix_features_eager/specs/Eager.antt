@@ -1,6 +1,6 @@
 -- What an iterator has given whose items are drawn ahead.
-use Rattle.std.specs.Prelude.{◌≡◌, true, false, Bool, List, [], ◌∷◌, ◌++◌, Option, Some, None, Result, Ok, Err, ⊤}
-use Rattle.std.specs.Iterator.{Yields, Drains}
+use Rattle.std.specs.Prelude.{◌≡◌, true, false, Bool, List, [], ◌∷◌, ◌++◌, Option, Some, None, Result, Ok, Err, IfSome, ⊤}
+use Rattle.std.specs.Iterator.{Count, at_most, Yields, Drains}
 use Rattle.std.specs.Vec.Iter.{into_iter_items}
 use Rattle.odb_base.specs.declared.no_memory.NoMemory.{NoMemory}
 use Rattle.gix_features_eager.specs.declared.source.Source.{Source}
@@ -89,3 +89,30 @@ abbrev pub has_worker : {I T : Type 0} → Source I T → Bool
 has_worker (Elsewhere worker) = true
 has_worker (Here iter) = false
 has_worker Ended = false
+
+-- how many answers an iterator gives at most
+abbrev pub turns_left : {I H T : Type 0} → EagerIter I H T → Count
+turns_left eager = at_most eager.turns
+
+abbrev pub turns_left_if : {I H T : Type 0} → (I → Count) → EagerIterIf I H T → Count
+turns_left_if left (Eager eager) = turns_left eager
+turns_left_if left (OnDemand iter) = left iter
+
+module _ {I H T : Type 0} (can : I → Type 0) (steps : I → Option T → I → Type 0) where
+  -- A call of `next`: it may be called again; its answer follows on what was given; behind the end, and behind want of memory,
+  -- there is nothing more, and it stays so; and there is want of memory only where a worker draws the items.
+  pub record Draws (before : EagerIter I H T) (answer : Option (Result T NoMemory)) (after : EagerIter I H T) : Type 0 where
+    pub ready : IsReady can after
+    pub given : GivesNext steps before answer after
+    pub over : is_last answer ≡ true → IsOver after
+    pub stays : IsOver before → (answer ≡ None) × IsOver after
+    pub want : is_want answer ≡ true → has_worker before.source ≡ true
+
+  -- The same where it was chosen whether items are drawn ahead. It stays as it was chosen.
+  pub record DrawsIf (before : EagerIterIf I H T) (answer : Option (Result T NoMemory)) (after : EagerIterIf I H T) : Type 0 where
+    pub ready : IfSome answer (λ _. IsReadyIf can after)
+    pub given : GivesNextIf steps before answer after
+    pub over : is_last answer ≡ true → is_eager before ≡ true → IsOverIf after
+    pub stays : IsOverIf before → (answer ≡ None) × IsOverIf after
+    pub want : is_want answer ≡ true → is_eager before ≡ true
+    pub choice : is_eager after ≡ is_eager before

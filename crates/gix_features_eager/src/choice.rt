@@ -1,6 +1,6 @@
 //! The items of an iterator, which are drawn ahead where a condition holds.
-ghost use Rattle.std.specs.Prelude.{◌≡◌, ◌<◌, [], true, None, IfOk, IfSome};
-ghost use Rattle.gix_features_eager.specs.Eager.{IsReadyIf, HasGivenIf, GivesNextIf, IsOverIf, is_last, is_want, is_eager};
+ghost use Rattle.std.specs.Prelude.{◌≡◌, ◌<◌, [], IfOk};
+ghost use Rattle.gix_features_eager.specs.Eager.{IsReadyIf, HasGivenIf, DrawsIf, is_eager, turns_left_if};
 
 use crate::iter::EagerIter;
 use odb_base::NoMemory;
@@ -51,22 +51,22 @@ where
     }
 }
 
-impl<I, H> EagerIterIf<I, H>
+impl<I, H> Iterator for EagerIterIf<I, H>
 where
     I: Iterator + Drop,
     I::Item: Drop,
     H: Threads + Wait + Copy,
 {
+    type Item = Result<I::Item, NoMemory>;
+
+    ghost can_next = { IsReadyIf I.can_next };
+
+    ghost next_gives = { DrawsIf I.can_next I.next_gives };
+
+    ghost remaining = { turns_left_if I.remaining };
+
     /// The next item, or want of memory where a worker broke off.
-    pub fn next(&mut self) -> Option<Result<I::Item, NoMemory>>
-        requires ready { IsReadyIf I.can_next self.old }
-        ensures ready { IfSome result (λ _. IsReadyIf I.can_next self.new) }
-        ensures given { GivesNextIf I.next_gives self.old result self.new }
-        ensures over { is_last result ≡ true → is_eager self.old ≡ true → IsOverIf self.new }
-        ensures stays { IsOverIf self.old → (result ≡ None) × IsOverIf self.new }
-        ensures want { is_want result ≡ true → is_eager self.old ≡ true }
-        ensures choice { is_eager self.new ≡ is_eager self.old }
-    {
+    fn next(&mut self) -> Option<Result<I::Item, NoMemory>> {
         match self {
             EagerIterIf::Eager(eager) => eager.next(),
             EagerIterIf::OnDemand(iter) => {

@@ -1,8 +1,8 @@
 //! The items of an iterator, which a worker draws ahead.
-ghost use Rattle.std.specs.Prelude.{◌≡◌, ◌<◌, ◌++◌, [], true, false, List, None, IfOk, OnErr};
+ghost use Rattle.std.specs.Prelude.{◌≡◌, ◌+◌, ◌<◌, ◌++◌, [], true, false, List, None, IfOk, OnErr};
 ghost use Rattle.std.specs.Iterator.{Drains};
 ghost use Rattle.std.specs.Vec.Iter.{into_iter_items};
-ghost use Rattle.gix_features_eager.specs.Eager.{IsReady, HasGiven, GivesNext, IsOver, is_last, is_want, has_worker};
+ghost use Rattle.gix_features_eager.specs.Eager.{IsReady, HasGiven, GivesNext, Draws, IsOver, is_last, is_want, has_worker, turns_left};
 ghost use Rattle.gix_features_eager.specs.declared.source.Source.TheVariants.{Ended};
 
 use crate::source::Source;
@@ -24,6 +24,8 @@ where
     source: Source<I>,
     /// What is at hand of the last chunk that a worker sent.
     at_hand: IntoIter<I::Item>,
+    /// How many more answers there may be: more than any run asks for. It is the measure of a loop over the items.
+    turns: u64,
 }
 
 // The worker is joined.
@@ -36,6 +38,7 @@ where
             rt,
             source,
             at_hand: _,
+            turns: _,
         } = self;
         source.end(&rt);
     }
@@ -67,7 +70,29 @@ where
             rt,
             source,
             at_hand,
+            turns: u64::MAX,
         })
+    }
+}
+
+impl<I, H> Iterator for EagerIter<I, H>
+where
+    I: Iterator + Drop,
+    I::Item: Drop,
+    H: Threads + Wait + Copy,
+{
+    type Item = Result<I::Item, NoMemory>;
+
+    ghost can_next = { IsReady I.can_next };
+
+    ghost next_gives = { Draws I.can_next I.next_gives };
+
+    ghost remaining = { turns_left };
+
+    /// The next item, or want of memory where the worker broke off. After it, and after the last item, there is nothing.
+    fn next(&mut self) -> Option<Result<I::Item, NoMemory>> {
+        self.count_turn();
+        self.draw()
     }
 }
 
@@ -77,14 +102,29 @@ where
     I::Item: Drop,
     H: Threads + Wait + Copy,
 {
-    /// The next item, or want of memory where the worker broke off. After it, and after the last item, there is nothing.
-    pub fn next(&mut self) -> Option<Result<I::Item, NoMemory>>
+    /// Counts an answer. Once as many were given as are counted, which no run comes to, it waits for ever.
+    fn count_turn(&mut self)
+        ensures fewer { self.new.turns < self.old.turns }
+        ensures source { self.new.source ≡ self.old.source }
+        ensures at_hand { self.new.at_hand ≡ self.old.at_hand }
+    {
+        if self.turns == 0 {
+            let rt = self.rt;
+            for _ in rt.forever() {}
+            unreachable!()
+        }
+        self.turns -= 1;
+    }
+
+    /// The next answer.
+    fn draw(&mut self) -> Option<Result<I::Item, NoMemory>>
         requires ready { IsReady I.can_next self.old }
         ensures ready { IsReady I.can_next self.new }
         ensures given { GivesNext I.next_gives self.old result self.new }
         ensures over { is_last result ≡ true → IsOver self.new }
         ensures stays { IsOver self.old → (result ≡ None) × IsOver self.new }
         ensures want { is_want result ≡ true → has_worker self.old.source ≡ true }
+        ensures turns { self.new.turns ≡ self.old.turns }
     {
         let rt = self.rt;
         'drawing: for _ in rt.forever() {
@@ -113,6 +153,7 @@ where
         ensures over { is_last result ≡ true → IsOver self.new }
         ensures stays { IsOver self.old → (result ≡ None) × IsOver self.new }
         ensures want { is_want result ≡ false }
+        ensures turns { self.new.turns ≡ self.old.turns }
     {
         let Source::Here(iter) = &mut self.source else {
             return None;
@@ -137,6 +178,7 @@ where
         ensures goes_on { IfOk result (λ more. more ≡ true → has_worker self.new.source ≡ true) }
         ensures over { IfOk result (λ more. more ≡ false → IsOver self.new) }
         ensures broken { OnErr result (IsOver self.new) }
+        ensures turns { self.new.turns ≡ self.old.turns }
     {
         let rt = self.rt;
         let Source::Elsewhere(worker) = &mut self.source else {
@@ -162,6 +204,7 @@ where
     fn end(&mut self)
         ensures ended { self.new.source ≡ Ended }
         ensures same { self.new.at_hand ≡ self.old.at_hand }
+        ensures turns { self.new.turns ≡ self.old.turns }
     {
         let rt = self.rt;
         mem::replace(&mut self.source, Source::Ended).end(&rt);

@@ -2,8 +2,7 @@
 //!
 //! The worker draws them in chunks, of which so many may be on their way. They come in the iterator's order.
 //! ```rust
-//! let mut paths = EagerIter::new(rt, alloc, paths, 64, 8)?;
-//! while let Some(path) = paths.next() {
+//! for path in EagerIter::new(rt, alloc, paths, 64, 8)? {
 //!     work(path?)?;
 //! }
 //! ```

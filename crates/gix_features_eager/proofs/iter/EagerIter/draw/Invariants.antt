@@ -1,6 +1,6 @@
 use Rattle.std.proofs.Common.{◌≡◌, List}
 use Rattle.gix_features_eager.specs.Eager.{IsReady, HasGiven, IsOver, has_worker}
-use Rattle.gix_features_eager.proofs.iter.EagerIter.next.Given as goal
+use Rattle.gix_features_eager.proofs.iter.EagerIter.draw.Given as goal
 
 -- what was given so far is what was given at the call
 abbrev pub invariant-drawing : goal.invariant-drawing
@@ -9,4 +9,5 @@ invariant-drawing g l = record {
   same : (first : _) (items : List _) → HasGiven g.I.Iterator.next_gives first l.initial.self items → HasGiven g.I.Iterator.next_gives first l.self items;
   over : IsOver l.initial.self → IsOver l.self;
   worker : has_worker l.self.source ≡ has_worker l.initial.self.source;
+  turns : l.self.turns ≡ l.initial.self.turns;
 }

@@ -1,10 +1,10 @@
 -- What is at hand is given first, and each chunk is at hand where nothing was.
 use Rattle.std.proofs.Common.{refl}
 use Rattle.gix_features_eager.proofs.EagerLemmas.{given_next}
-use Rattle.gix_features_eager.proofs.iter.EagerIter.next.Goals as goal
+use Rattle.gix_features_eager.proofs.iter.EagerIter.draw.Goals as goal
 
 pub drawing-init : goal.drawing-init
-drawing-init g c = record { ready = c.requires.ready; same = λ first items was. was; over = λ is_over. is_over; worker = refl }
+drawing-init g c = record { ready = c.requires.ready; same = λ first items was. was; over = λ is_over. is_over; worker = refl; turns = refl }
 
 pub returns-in-Some-next-clause-given : goal.returns-in-Some-next-clause-given
 returns-in-Some-next-clause-given g c first items was =
