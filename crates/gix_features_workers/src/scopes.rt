@@ -6,7 +6,10 @@ use std::thread::{Builder, Threads};
 /// Within a scope threads may borrow what its function borrows.
 pub type Scope<'s, E> = thread::Scope<'s, E>;
 
-/// The results of two functions that are called at once.
+/// The results of two functions that are called at once, the left one in a thread of its own.
+///
+/// Where no thread can be started, the left one is called after the right one has returned. So a pipe between the two may
+/// wait for ever: the right one reads what wasn't written yet, or writes more than the pipe has room for.
 pub fn join<X: Send, Y, A: FnOnce() -> X + Send, Z: FnOnce() -> Y, H: Threads>(
     rt: &H,
     left: A,
