@@ -58,6 +58,27 @@ fn draws_ahead(rt: HostRuntime) -> Result<(), Fail> {
     Ok(())
 }
 
+/// What a loop over numbers that are drawn ahead comes to, where each one is put behind the ones before it as a digit.
+fn digits<H: Threads + Wait + Copy + Send + 'static>(
+    rt: H,
+    alloc: Global,
+    end: u32,
+) -> Result<u32, NoMemory> {
+    let mut digits = 0u32;
+    for number in EagerIter::new(rt, alloc, 1..end, 2, 1)? {
+        digits = digits.wrapping_mul(10).wrapping_add(number?);
+    }
+    Ok(digits)
+}
+
+// Catches an end that a loop doesn't see, and a number that it loses.
+#[test]
+fn loops(rt: HostRuntime) -> Result<(), Fail> {
+    let alloc: Global = rt.alloc();
+    assert!(rt; matches!(digits(rt, alloc, 6), Ok(12_345)));
+    Ok(())
+}
+
 /// Whether the numbers from 1 to 3 are given and then the end.
 fn gives_three<H: Threads + Wait + Copy>(numbers: &mut EagerIterIf<Range<u32>, H>) -> bool
     requires ready { IsReadyIf (λ _. ⊤) numbers.old }

@@ -2,7 +2,11 @@
 #![tactic(auto)]
 
 #[cfg(test)]
+mod ahead;
+#[cfg(test)]
 mod eager;
+#[cfg(test)]
+mod meetings;
 #[cfg(test)]
 mod pipes;
 #[cfg(test)]
@@ -11,5 +15,7 @@ mod scopes;
 mod slices;
 #[cfg(test)]
 mod sums;
+#[cfg(test)]
+mod waiting;
 #[cfg(test)]
 mod workers;

@@ -182,8 +182,9 @@ const ROWS: [Row; 14] = [
 ];
 
 /// Calls whose workers double.
-const DOUBLED: [Row; 4] = [
+const DOUBLED: [Row; 5] = [
     (Call::Plain, None, Ok([2, 4, 6, 0, 0]), 3),
+    (Call::If(true), None, Ok([2, 4, 6, 0, 0]), 3),
     (Call::If(false), None, Ok([2, 4, 6, 0, 0]), 3),
     (Call::Counted, None, Ok([2, 4, 6, 2, 1]), 5),
     (Call::Steps(1), None, Ok([2, 4, 6, 0, 0]), 3),
