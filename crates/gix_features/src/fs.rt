@@ -5,6 +5,7 @@ mod composed;
 mod entry;
 mod order;
 pub mod read_dir;
+pub mod walk_dir;
 mod wrapped;
 
 pub use api::DirEntryApi;

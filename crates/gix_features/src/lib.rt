@@ -1,4 +1,6 @@
-//! What the object database uses of the crate `gix-features` 0.50.
+//! Walks in Git's order and work in parallel, of the crate `gix-features` 0.50.
+//!
+//! The object database uses none of it yet: tests do, and a program that measures the parts which start threads.
 //!
 //! `fs` wraps the walks of the crate `walkdir`: unsorted, or in the order of Git's trees, and with names in Unicode's
 //! form NFC where that is asked for. The other modules are those of `gix_features_parts`: `interrupt` ends work where a flag

@@ -1,13 +1,19 @@
 //! The names under which `gix_features` hands on its other parts. One that is gone is an error here.
 pub use gix_features::cache::Debug;
 pub use gix_features::decode::{Error, leb64_from_read};
+pub use gix_features::fs::walk_dir::{
+    DirEntry, DirEntryIter, Error as WalkError, Parallelism, WalkDir, walkdir_new,
+    walkdir_sorted_new,
+};
 pub use gix_features::interrupt::{
     AtomicFlag, Error as InterruptError, Flag, Iter, IterWithErr, Read as InterruptRead, SetAfter,
     Write as InterruptWrite,
 };
 pub use gix_features::io::pipe::{Gone, PipeError, Reader, Writer, together, unidirectional};
 pub use gix_features::iter::Chunks;
-pub use gix_features::parallel::reduce::{Finalize, IdentityWithResult, Reduce as Reducer};
+pub use gix_features::parallel::reduce::{
+    Finalize, IdentityWithResult, Reduce as Reducer, Stepwise as Steps,
+};
 pub use gix_features::parallel::{
     EagerIter, EagerIterIf, InOrderError, InOrderIter, ParallelError, Reduce, Scope, SequenceId,
     Stepwise, build_thread, in_parallel, in_parallel_if, in_parallel_with_finalize,
