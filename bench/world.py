@@ -97,7 +97,7 @@ def main():
     if words.make:
         return make(words.make, words.objects)
     if not os.access(words.program, os.X_OK):
-        sys.exit("no program at %s: build it with ./gitodb --version" % words.program)
+        sys.exit("no program at %s: build it with ./gitodb --prove" % words.program)
     with tempfile.TemporaryDirectory() as folder:
         # A process of its own makes them: a child's peak counts what this process has at its start.
         subprocess.run([sys.executable, __file__, "--make", folder, "--objects", words.objects], check=True)

@@ -203,7 +203,7 @@ def main():
     if words.make:
         return make(words.make, words.case or parser.error("--make needs --case"))
     if not os.access(words.program, os.X_OK):
-        sys.exit("no program at %s: build it with ./gitodb --version" % words.program)
+        sys.exit("no program at %s: build it with ./gitodb --prove" % words.program)
     missed = []
     for case in [words.case] if words.case else CASES:
         sizes = CASES[case][1]

@@ -1,12 +1,12 @@
 #!/usr/bin/env bash
-# Runs the program that `rt ci`, or ../gitodb, built, and compares what it writes and the status that it ends with:
+# Runs the program that `rt ci`, or ../gitodb --prove, built, and compares what it writes and the status that it ends with:
 # for each `.script` of this folder the `.output` beside it and status 0, for each line of refused.txt and reasons.txt what
 # stands there, and for words, streams and long scripts what stands below.
 set -u -o pipefail
 cd "$(dirname "$0")" || exit 1
 program=${1:-../crates/gitodb/out/gitodb}
 if [ ! -x "$program" ]; then
-    echo "examples: no program at $program: build it with ./gitodb --version" >&2
+    echo "examples: no program at $program: build it with ./gitodb --prove" >&2
     exit 1
 fi
 wrong=0
@@ -127,4 +127,5 @@ fi
 ./check_failing_find.sh "$program" || wrong=1
 ./check_list_walk.sh || wrong=1
 ./check_probe_index.sh || wrong=1
+../tools/try_launchers quick || wrong=1
 exit "$wrong"

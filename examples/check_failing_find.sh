@@ -1,12 +1,12 @@
 #!/usr/bin/env bash
 # One call of the disk fails in a look-up among packs, each call in turn. No look-up is answered by not-found then, and each
 # error is the one of the rows below.
-# The program is the one that `rt ci`, or ../gitodb, built, or the one that is named.
+# The program is the one that `rt ci`, or ../gitodb --prove, built, or the one that is named.
 set -u
 cd "$(dirname "$0")" || exit 1
 program=${1:-../crates/gitodb/out/gitodb}
 if [ ! -x "$program" ]; then
-    echo "examples: no program at $program: build it with ./gitodb --version" >&2
+    echo "examples: no program at $program: build it with ./gitodb --prove" >&2
     exit 1
 fi
 wrong=0

@@ -1,10 +1,10 @@
 #!/usr/bin/env bash
 # Runs list_walk over folders that it makes, and compares the lines, the errors and the status with those that are wanted.
-# The program is the one that `rt ci`, or ../list_walk, built, or the one that is named.
+# The program is the one that `rt ci`, or ../list_walk --prove, built, or the one that is named.
 set -u
 program=$(realpath "${1:-$(dirname "$0")/../crates/list_walk/out/list_walk}")
 if [ ! -x "$program" ]; then
-    echo "examples: no program at $program: build it with ./list_walk --version" >&2
+    echo "examples: no program at $program: build it with ./list_walk --prove" >&2
     exit 1
 fi
 folder=$(mktemp -d) && cd "$folder" || exit 1

@@ -1,11 +1,11 @@
 #!/usr/bin/env bash
 # Runs probe_index, and compares what it writes and the status that it ends with.
-# The program is the one that `rt ci`, or ../probe_index, built, or the one that is named.
+# The program is the one that `rt ci`, or ../probe_index --prove, built, or the one that is named.
 set -u
 here=$(realpath "$(dirname "$0")/../crates/probe_index")
 program=$(realpath "${1:-$here/out/probe_index}")
 if [ ! -x "$program" ]; then
-    echo "examples: no program at $program: build it with ./probe_index --version" >&2
+    echo "examples: no program at $program: build it with ./probe_index --prove" >&2
     exit 1
 fi
 folder=$(mktemp -d) && cd "$folder" || exit 1
