@@ -1,7 +1,7 @@
 #!/usr/bin/env bash
 # Runs the program that `rt ci`, or ../gitodb --prove, built, and compares what it writes and the status that it ends with:
 # for each `.script` of this folder the `.output` beside it and status 0, for each line of refused.txt and reasons.txt what
-# stands there, and for words, streams and long scripts what stands below.
+# stands there, and for words, streams and long scripts what stands below. Then it tries the launchers.
 set -u -o pipefail
 cd "$(dirname "$0")" || exit 1
 program=${1:-../crates/gitodb/out/gitodb}

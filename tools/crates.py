@@ -92,8 +92,8 @@ def note_built(program, made_of):
 
 
 def is_built(uses, program):
-    """Whether a program is built of this very text. Of one that `rt ci` built, which notes no text, the times of the files
-    tell, once; from then on the text counts, also where files are written anew."""
+    """Whether a program is built of this very text. `rt ci` notes no text: what it built is taken where it is newer than all
+    that it was made of, and noted then. From then on the text alone counts, also where files are written anew."""
     if not os.path.isfile(program_of(program)):
         return False
     crates, noted = closure(uses, program), ""

@@ -19,7 +19,7 @@ import subprocess
 import time
 
 from crates import LIST, PARTS, TOP, closure, folder, is_built, is_newer, lines_of, newest, note_built, program_of, text_sum
-from told import NO_KIT, Failed, say
+from report import NO_KIT, Failed, say
 
 # The memory to have free for each crate that is proved beside others, in bytes, by what was seen.
 ROOM = 4_000_000_000

@@ -1,7 +1,7 @@
 """Runs a program that isn't built yet, by `rt try`: unproved, compiled with checks, in about a minute.
 
 The program runs in another folder, so the folders among its words are made absolute. It writes at most 1 MiB, has 60
-seconds, and reads at most 64 MiB: where a run meets such a limit, nothing that it wrote is shown.
+seconds, and reads less than 64 MiB: where a run passes such a limit, nothing that it wrote is shown.
 """
 
 import contextlib
@@ -12,7 +12,7 @@ import subprocess
 import tempfile
 
 from crates import TOP, folder
-from told import NO_KIT, STANDARD_ERROR, Failed, hand_on, say
+from report import NO_KIT, STANDARD_ERROR, Failed, hand_on, say
 
 STANDARD_INPUT, STANDARD_OUTPUT = 0, 1
 # The statuses with which each program says that a stream failed.
@@ -37,7 +37,7 @@ def command(program):
 
 
 def beyond(program, limit):
-    """Why there is no answer where a run meets a limit that unproved runs alone have."""
+    """Why there is no answer where a run passes a limit that only unproved runs have."""
     why = "this is beyond an unproved run, which %s, so no output is shown; %s builds the program, which has no such limit"
     return Failed(why % (limit, command(program)))
 
@@ -71,8 +71,8 @@ def standard_input(program, words):
 
 
 def absolute(name):
-    """A folder by its absolute name, as list_walk understands it: `..` leads up in front of all names alone. A name that it
-    refuses stays, since it is told."""
+    """A folder by its absolute name, as list_walk understands it: `..` leads up only before all names. A name that it
+    refuses stays, since its report has it."""
     if not name or name.startswith("/"):
         return name
     at, is_front = os.getcwd(), True
@@ -121,41 +121,41 @@ def tried(program, words, given):
     how = {"cwd": folder(program), "stdin": given, "stdout": subprocess.PIPE, "stderr": subprocess.PIPE}
     child = subprocess.Popen(["rt", "try", "--", *words], **how)
     try:
-        wrote, told = child.communicate()
+        output, errors = child.communicate()
     finally:
         if child.poll() is None:
             child.terminate()
             child.wait()
-    return wrote, told, child.returncode
+    return output, errors, child.returncode
 
 
-def answer(program, wrote, told, status):
+def answer(program, output, errors, status):
     """What the program itself wrote on its two outputs, and its status."""
-    ended = ENDED.search(told)
+    ended = ENDED.search(errors)
     if ended and int(ended[2]) == status:
-        return wrote, told[: ended.start()], status
-    broken_off = BROKEN_OFF.search(told)
+        return output, errors[: ended.start()], status
+    broken_off = BROKEN_OFF.search(errors)
     if broken_off and b"time limit" in broken_off[1]:
         raise beyond(program, "has %s seconds" % os.environ.get("RT_SECONDS", "60"))
     if broken_off and b"the program wrote more than" in broken_off[1]:
         raise beyond(program, "writes at most 1 MiB")
-    hand_on(STANDARD_ERROR, told)
+    hand_on(STANDARD_ERROR, errors)
     raise Failed("`rt try` ended with status %d, and the program gave no answer" % status)
 
 
 def run(program, words, long):
-    """Runs a program unproved, which its first line on standard error says, hands on what it writes, and returns its status."""
+    """Runs a program unproved, says so in a line on standard error, hands on what it writes, and returns its status."""
     if not shutil.which("rt"):
         raise Failed("the program isn't built of this text, and %s" % NO_KIT)
     notice = "this run isn't proved, and compiles for about a minute; %s (or the gate) proves and builds it once, in %s"
     say(program, notice % (command(program), long))
     with standard_input(program, words) as given:
         words = texts(program, with_folders(words) if program == "list_walk" else words)
-        wrote, told, status = answer(program, *tried(program, words, given))
+        output, errors, status = answer(program, *tried(program, words, given))
     with contextlib.suppress(OSError):
-        hand_on(STANDARD_ERROR, told)
+        hand_on(STANDARD_ERROR, errors)
     try:
-        hand_on(STANDARD_OUTPUT, wrote)
+        hand_on(STANDARD_OUTPUT, output)
     except OSError:
         raise Failed("standard output can't be written", status=UNWRITTEN) from None
     return status

@@ -1,4 +1,4 @@
-"""What the launchers say on standard error, and why a program gives no answer."""
+"""What the launchers report on standard error, and why a program gives no answer."""
 
 import contextlib
 import os
@@ -30,8 +30,8 @@ def say(program, text):
         hand_on(STANDARD_ERROR, os.fsencode("%s: %s\n" % (program, text)))
 
 
-def tell(program, failed):
-    """Says why there is no answer, after the end of the log, and returns the status."""
+def report(program, failed):
+    """Reports why there is no answer, after the end of the log, and returns the status."""
     where = ""
     if failed.log:
         with open(failed.log, "rb") as file, contextlib.suppress(OSError):
