@@ -1,5 +1,5 @@
 //! The items of an iterator, which a worker draws ahead.
-ghost use Rattle.std.specs.Prelude.{◌≡◌, ◌+◌, ◌<◌, ◌++◌, [], true, false, List, None, IfOk, OnErr};
+ghost use Rattle.std.specs.Prelude.{◌≡◌, ◌<◌, ◌++◌, [], true, false, List, None, IfOk, OnErr};
 ghost use Rattle.std.specs.Iterator.{Drains};
 ghost use Rattle.std.specs.Vec.Iter.{into_iter_items};
 ghost use Rattle.gix_features_eager.specs.Eager.{IsReady, HasGiven, GivesNext, Draws, IsOver, is_last, is_want, has_worker, turns_left};

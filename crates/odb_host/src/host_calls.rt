@@ -1,5 +1,6 @@
 //! Calls of the system that a real disk makes, each with its refusal.
 ghost use Rattle.std.specs.Prelude.{◌≡◌, ◌≢◌, ◌≤◌, length, IfOk, IfErr, OnOk};
+ghost use Rattle.std.specs.Result.{result_map_both};
 ghost use Rattle.std.specs.Io.KnownBytes.{Appends};
 ghost use Rattle.odb_host.specs.HostDisk.{append_options};
 
@@ -91,13 +92,17 @@ pub(crate) fn read_at<R: Files>(
 /// for ever.
 fn open_at<R: Files>(rt: &R, path: &str) -> Result<(R::File, Meta), DiskError> {
     need_file(rt, path)?;
-    with_meta(answered(fs::open(rt, path))?)
+    let file = answered(fs::open(rt, path))?;
+    let found = told_of(file.metadata());
+    with_meta(file, found)
 }
 
-/// An open file, and what a look at it tells.
-fn with_meta<F: OpenFile + Drop>(file: F) -> Result<(F, Meta), DiskError>
-    ensures file { IfOk result (λ opened. opened.0 ≡ file) }
+/// An open file, and what a look at it told.
+fn with_meta<F: Drop>(file: F, found: Result<Meta, DiskError>) -> Result<(F, Meta), DiskError>
+    ensures opened { result ≡ result_map_both (λ meta. (file, meta)) (λ e. e) found }
 {
-    let meta = told_of(file.metadata())?;
-    Ok((file, meta))
+    match found {
+        Ok(meta) => Ok((file, meta)),
+        Err(e) => Err(e),
+    }
 }
