@@ -1,9 +1,11 @@
 -- Laws of what calls ask: a call that was started asks for something or has its reply, and says that it is done exactly where it has one.
-use Rattle.std.proofs.Common.{◌≡◌, ◌↔◌, List, [], ◌∷◌, Option, Some, None, Result, Ok, Err, refl, sym, ap, ◌∙◌, subst}
+-- No call has a core made.
+use Rattle.std.proofs.Common.{◌≡◌, ◌↔◌, ℕ, List, [], ◌∷◌, Option, Some, None, Result, Ok, Err, refl, sym, ap, ◌∙◌, subst}
 use Rattle.std.specs.Result.{result_ok}
 use Rattle.gix_hash.specs.declared.kind.Kind.{Kind as HashKind}
 use Rattle.gix_hash.specs.declared.object_id.ObjectId.{ObjectId}
-use Rattle.gix_odb_loose.specs.LooseOrder.{stage_ask, stage_reply}
+use Rattle.odb_asks.specs.declared.ask.DiskAsk.{DiskAsk}
+use Rattle.gix_odb_loose.specs.LooseOrder.{disk_ask_of, stage_ask, stage_reply}
 use Rattle.gix_odb_loose.specs.declared.call.LooseCall.{LooseCall}
 use Rattle.gix_odb_loose.specs.declared.call.Stage as loose
 use Rattle.gix_odb_loose.specs.declared.call.Stage.TheVariants as loose_stages
@@ -13,23 +15,25 @@ use Rattle.gix_odb_calls.specs.declared.call.Reply.{Reply}
 use Rattle.gix_odb_calls.specs.declared.query.Query.{Query}
 use Rattle.gix_odb_calls.specs.declared.query.Query.TheVariants.{Find, Header, Test}
 use Rattle.gix_odb_events.specs.declared.answer.Answer.{Answer}
-use Rattle.gix_odb_events.specs.declared.answer.PartAsk.{PartAsk}
-use Rattle.gix_odb_events.specs.declared.answer.PartAsk.TheVariants as asks
+use Rattle.gix_odb_events.specs.declared.answer.Ask.{Ask}
+use Rattle.gix_odb_events.specs.declared.answer.Ask.TheVariants as asks
 use Rattle.gix_odb_events.specs.declared.view.View.{View}
 use Rattle.gix_odb_looks.proofs.CauseLaws.{a_done_look_up_asks_nothing}
+use Rattle.gix_odb_looks.proofs.HandedLaws.{look_ups_have_no_core_made}
 use Rattle.gix_odb_looks.specs.Exchange as looks_past
 use Rattle.gix_odb_looks.specs.Exchange.{Exchange}
 use Rattle.gix_odb_looks.specs.LookUpOrder as looks
-use Rattle.gix_odb_looks.specs.LookUpOrder.{Setting}
+use Rattle.gix_odb_looks.specs.LookUpOrder.{Setting, loose_ask}
 use Rattle.gix_odb_looks.specs.declared.look_up.LookHead.{LookHead}
 use Rattle.gix_odb_looks.specs.declared.look_up.LookStage.{LookStage}
 use Rattle.gix_odb_looks.specs.declared.look_up.LookStage.TheVariants as look_stages
 use Rattle.gix_odb_looks.specs.declared.look_up.LookUp.{LookUp}
+use Rattle.gix_odb_refresh.proofs.RefreshLaws.{refreshes_have_no_core_made}
 use Rattle.gix_odb_refresh.specs.Asked as any
 use Rattle.gix_odb_refresh.specs.RefreshOrder as refreshes
 use Rattle.gix_odb_refresh.specs.declared.refresh.Refresh.{Refresh}
 use Rattle.gix_odb_refresh.specs.declared.refresh.Refresh.TheVariants as fronts
-use Rattle.gix_odb.specs.CallOrder.{ask_of, asked_by, asked_of, disk_part, fed, fronted, looking_result, replied_by, result_of, started, unlisted, writing, writing_result, wrote_as}
+use Rattle.gix_odb.specs.CallOrder.{ask_of, asked_by, asked_of, fed, fronted, looking_result, replied_by, result_of, started, unlisted, writing, writing_result, wrote_as}
 use Rattle.gix_odb.specs.declared.ask.Ask.TheVariants as own
 use Rattle.gix_odb.specs.declared.call_state.CallState.{CallState}
 use Rattle.gix_odb.specs.declared.call_state.CallState.TheVariants.{Looking, Refreshing, Refused, Writing}
@@ -45,7 +49,7 @@ look_asks_none head (look_stages.Publishing listing notes) reply is = absurd (cc
 look_asks_none head (look_stages.Done other) reply is = refl
 
 write_asks_none : (call : LooseCall) (stage : loose.Stage) (reply : Reply) → writing_result (replied_by call (stage_reply stage)) ≡ Ok reply
-    → disk_part (stage_ask stage) ≡ None
+    → loose_ask (stage_ask stage) ≡ None
 write_asks_none call (loose_stages.Testing path) reply is = absurd (cc is)
 write_asks_none call (loose_stages.Finding path limit) reply is = absurd (cc is)
 write_asks_none call (loose_stages.Heading path) reply is = absurd (cc is)
@@ -58,11 +62,24 @@ a_call_with_a_reply_asks_nothing (Refreshing refresh write) reply is = absurd (c
 a_call_with_a_reply_asks_nothing (Writing call) reply is = write_asks_none call call.stage reply is
 a_call_with_a_reply_asks_nothing (Refused error) reply is = refl
 
+-- ---- a call has no core made
+
+loose_asks_no_core : (ask : Option DiskAsk) (slots folders : ℕ) → ¬ (loose_ask ask ≡ Some (asks.NewCore slots folders))
+loose_asks_no_core None slots folders is = cc is
+loose_asks_no_core (Some ask) slots folders is = cc is
+
+pub calls_have_no_core_made : (state : CallState) (slots folders : ℕ) → ¬ (ask_of state ≡ Some (asks.NewCore slots folders))
+calls_have_no_core_made (Looking look) slots folders is = look_ups_have_no_core_made look slots folders is
+calls_have_no_core_made (Refreshing refresh write) slots folders is = refreshes_have_no_core_made refresh slots folders is
+calls_have_no_core_made (Writing call) slots folders is = loose_asks_no_core (disk_ask_of call) slots folders is
+calls_have_no_core_made (Refused error) slots folders is = cc is
+
 -- ---- it is done
 
-done_by : (ask : Option PartAsk) (result : Result Reply CallState) (reply : Reply) → asked_by ask (result_ok result) ≡ own.Done reply → result ≡ Ok reply
+done_by : (ask : Option Ask) (result : Result Reply CallState) (reply : Reply) → asked_by ask (result_ok result) ≡ own.Done reply → result ≡ Ok reply
 done_by (Some (asks.Disk ask)) result reply is = absurd (cc is)
 done_by (Some (asks.Core event)) result reply is = absurd (cc is)
+done_by (Some (asks.NewCore slots folders)) result reply is = absurd (cc is)
 done_by None (Ok other) reply is = let same : other ≡ reply = cc is in ap Ok same
 done_by None (Err state) reply is = absurd (cc is)
 
@@ -70,7 +87,7 @@ done_by None (Err state) reply is = absurd (cc is)
 pub calls_are_done_with_their_reply : (state : CallState) (reply : Reply) → (asked_of state ≡ own.Done reply) ↔ (result_of state ≡ Ok reply)
 calls_are_done_with_their_reply state reply = (
   done_by (ask_of state) (result_of state) reply,
-  λ is. ap (λ (ask : Option PartAsk). asked_by ask (result_ok (result_of state))) (a_call_with_a_reply_asks_nothing state reply is)
+  λ is. ap (λ (ask : Option Ask). asked_by ask (result_ok (result_of state))) (a_call_with_a_reply_asks_nothing state reply is)
       ∙ ap (λ (result : Result Reply CallState). asked_by None (result_ok result)) is,
 )
 
@@ -113,7 +130,7 @@ behind-look setting look (exchange ∷ exchanges) = behind-look setting (looks.f
 abbrev HasReply : CallState → Type 0
 HasReply state = ask_of state ≡ None → (reply : Reply) × (result_of state ≡ Ok reply)
 
-write_has_reply : (call : LooseCall) (stage : loose.Stage) → disk_part (stage_ask stage) ≡ None
+write_has_reply : (call : LooseCall) (stage : loose.Stage) → loose_ask (stage_ask stage) ≡ None
     → (reply : Reply) × (writing_result (replied_by call (stage_reply stage)) ≡ Ok reply)
 write_has_reply call (loose_stages.Testing path) is = absurd (cc is)
 write_has_reply call (loose_stages.Finding path limit) is = absurd (cc is)

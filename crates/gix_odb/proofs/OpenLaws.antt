@@ -13,8 +13,9 @@ use Rattle.gix_odb_events.specs.PackId.{most_slots}
 use Rattle.gix_odb_packs.specs.ListOrder as lists
 use Rattle.gix_odb_events.specs.declared.answer.Answer.{Answer}
 use Rattle.gix_odb_events.specs.declared.answer.Answer.TheVariants as told
-use Rattle.gix_odb_events.specs.declared.answer.PartAsk.{PartAsk}
-use Rattle.gix_odb_events.specs.declared.answer.PartAsk.TheVariants as asks
+use Rattle.gix_odb_events.specs.declared.answer.Ask.{Ask}
+use Rattle.gix_odb_events.specs.declared.answer.Ask.TheVariants as asks
+use Rattle.gix_odb_events.specs.declared.event.Event.{Event}
 use Rattle.gix_odb_calls.specs.declared.call.CallError.TheVariants as call_errors
 use Rattle.gix_odb_calls.specs.declared.call.Reply.{Reply}
 use Rattle.gix_odb_calls.specs.declared.call.Reply.TheVariants as replies
@@ -30,12 +31,19 @@ use Rattle.gix_odb_looks.proofs.HandedLaws.Streams.{HasNone, IsOpen}
 use Rattle.gix_odb_looks.proofs.OpenLaws.{IsFolderOfPacks, lister_opens_there}
 use Rattle.gix_odb_refresh.specs.Asked.{AreSuited}
 use Rattle.gix_odb_refresh.proofs.RefreshLaws.Known.{told_of}
-use Rattle.gix_odb.specs.OpenOrder.{ask_of, registers}
+use Rattle.gix_odb.specs.OpenOrder.{ask_of}
 use Rattle.gix_odb.specs.OpenExchanges.{AreAsked, IsCaused, IsNumber, asks_of, behind}
 use Rattle.gix_odb.specs.declared.open_state.OpenState.{OpenState}
 use Rattle.gix_odb.specs.declared.open_state.OpenState.TheVariants as opens
-use Rattle.gix_odb.proofs.OpenLaws.Known.{IsExplained, Knows, opening_knows}
+use Rattle.gix_odb.proofs.OpenLaws.Known.{IsExplained, Knows, WasRegistered, opening_knows}
 use Rattle.gix_odb.proofs.OpenLaws.Turns.{turns_taken}
+
+-- an opening asks for no event of a core
+pub openings_ask_no_event : (setting : Setting) (state : OpenState) (event : Event) → ¬ (asks_of setting state ≡ Some (asks.Core event))
+openings_ask_no_event setting opens.Looking event is = cc is
+openings_ask_no_event setting (opens.Listing lister percent minimum) event is = cc is
+openings_ask_no_event setting (opens.Registering number) event is = cc is
+openings_ask_no_event setting (opens.Done reply) event is = cc is
 
 module _ (setting : Setting) (slots : Slots) (exchanges : List Exchange) (asked : AreAsked setting slots opens.Looking exchanges)
     (suited : AreSuited exchanges) where
@@ -59,15 +67,21 @@ module _ (setting : Setting) (slots : Slots) (exchanges : List Exchange) (asked 
   pub refused_openings_have_causes : (error : Error) → state ≡ opens.Done (replies.Refused (call_errors.Open error)) → IsCaused setting slots exchanges error
   refused_openings_have_causes error is = (subst (Knows setting slots exchanges) is knows).1
 
-  -- an opening that is done before its handle was registered was refused
-  pub openings_that_register_none_are_refused : (reply : Reply) → state ≡ opens.Done reply → (error : Error) × (reply ≡ replies.Refused (call_errors.Open error))
-  openings_that_register_none_are_refused reply is = by reply (subst (Knows setting slots exchanges) is knows).1
+  -- one that opened its store had a core made with its number of slots, at which its handle was registered
+  pub opened_stores_have_their_number : (number : ℕ) → state ≡ opens.Done (replies.Opened number)
+      → WasRegistered setting exchanges number × IsNumber setting slots exchanges number × (number ≤ most_slots)
+  opened_stores_have_their_number number is = (subst (Knows setting slots exchanges) is knows).1
+
+  -- an opening that is done without the registration of its handle was refused
+  pub openings_that_register_none_are_refused : ((number : ℕ) → ¬ (WasRegistered setting exchanges number))
+      → (reply : Reply) → state ≡ opens.Done reply → (error : Error) × (reply ≡ replies.Refused (call_errors.Open error))
+  openings_that_register_none_are_refused none reply is = by reply (subst (Knows setting slots exchanges) is knows).1
     where
       by : (own : Reply) → IsExplained setting slots exchanges own → (error : Error) × (own ≡ replies.Refused (call_errors.Open error))
       by (replies.Refused (call_errors.Open error)) here = (error, refl)
       by (replies.Refused (call_errors.Find error)) here = absurd here
       by (replies.Refused (call_errors.Write error)) here = absurd here
-      by (replies.Opened number) here = absurd here
+      by (replies.Opened number) here = absurd (none number here.0)
       by (replies.Found kind bytes) here = absurd here
       by (replies.Header header) here = absurd here
       by (replies.Tested there) here = absurd here
@@ -125,18 +139,19 @@ module _ (setting : Setting) (slots : Slots) (exchanges : List Exchange) (asked 
       by (opens.Done reply) known is = absurd (cc is)
 
   -- and leaves none open when it calls the disk no more
-  pub openings_leave_no_stream_open : asks_of setting state ≡ None → left_open exchanges ≡ None
-  openings_leave_no_stream_open is = by state knows is
+  pub openings_leave_no_stream_open : ((ask : DiskAsk) → ¬ (asks_of setting state ≡ Some (asks.Disk ask))) → left_open exchanges ≡ None
+  openings_leave_no_stream_open none = by state knows none
     where
-      by : (now : OpenState) → Knows setting slots exchanges now → asks_of setting now ≡ None → left_open exchanges ≡ None
-      by opens.Looking known is = absurd (cc is)
-      by (opens.Listing lister percent minimum) known is = absurd (cc is)
-      by (opens.Registering number) known is = known.0
-      by (opens.Done reply) known is = known.0
+      by : (now : OpenState) → Knows setting slots exchanges now → ((ask : DiskAsk) → ¬ (asks_of setting now ≡ Some (asks.Disk ask)))
+          → left_open exchanges ≡ None
+      by opens.Looking known none = absurd (none (disk_asks.Look setting.objects true) refl)
+      by (opens.Listing lister percent minimum) known none = absurd (none (lists.ask_of lister) refl)
+      by (opens.Registering number) known none = known.0
+      by (opens.Done reply) known none = known.0
 
   -- ---- how many turns it takes
 
-  -- with the registration of its handle, no more than a lap of a store without slots has, where no stream gives more entries than so many
+  -- with the registration of its handle, fewer than a lap of a store without slots has, where no stream gives more entries than so many
   pub an_opening_takes_at_most_a_lap : (entries : ℕ) → AreWithin entries None exchanges → AreAnswered exchanges
       → length exchanges + 1 ≤ turns_of_lap 0 (length (folders_of setting)) entries
   an_opening_takes_at_most_a_lap entries within answered =
@@ -145,7 +160,7 @@ module _ (setting : Setting) (slots : Slots) (exchanges : List Exchange) (asked 
       in
       omega (arith, taken)
     where
-      wide : (folders entries : ℕ) → (3 * entries + 3) + (folders - 0) * (3 * entries + 3) + 1 ≤ turns_of_lap 0 (suc folders) entries - 1
+      wide : (folders entries : ℕ) → (3 * entries + 3) + (folders - 0) * (3 * entries + 3) + 2 ≤ turns_of_lap 0 (suc folders) entries - 1
       wide folders entries =
           let whole : folders - 0 ≡ folders = omega arith in
           rw whole (omega arith)

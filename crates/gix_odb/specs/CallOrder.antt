@@ -20,21 +20,21 @@ use Rattle.gix_odb_calls.specs.declared.call.Call.TheVariants as call_kinds
 use Rattle.gix_odb_calls.specs.declared.call.CallError.TheVariants as call_errors
 use Rattle.gix_odb_calls.specs.declared.call.Reply.{Reply}
 use Rattle.gix_odb_calls.specs.declared.call.Reply.TheVariants as replies
-use Rattle.gix_odb.specs.declared.ask.Ask.{Ask}
+use Rattle.gix_odb.specs.declared.ask.Ask as published
 use Rattle.gix_odb.specs.declared.ask.Ask.TheVariants as own
 use Rattle.gix_odb.specs.declared.call_state.CallState.{CallState}
 use Rattle.gix_odb.specs.declared.call_state.CallState.TheVariants.{Looking, Refreshing, Refused, Writing}
 use Rattle.gix_odb_looks.specs.declared.look_up.LookUp.{LookUp}
 use Rattle.gix_odb_looks.specs.LookUpOrder as looks
-use Rattle.gix_odb_looks.specs.LookUpOrder.{Setting}
+use Rattle.gix_odb_looks.specs.LookUpOrder.{Setting, loose_ask}
 use Rattle.gix_odb_refresh.specs.RefreshOrder as refreshes
 use Rattle.gix_odb_refresh.specs.declared.refresh.Refresh.{Refresh}
 use Rattle.gix_odb_refresh.specs.declared.refresh.Refresh.TheVariants as fronts
 use Rattle.gix_odb_events.specs.declared.view.View.{View}
 use Rattle.gix_odb_events.specs.declared.answer.Answer.{Answer}
 use Rattle.gix_odb_events.specs.declared.answer.Answer.TheVariants as told
-use Rattle.gix_odb_events.specs.declared.answer.PartAsk.{PartAsk}
-use Rattle.gix_odb_events.specs.declared.answer.PartAsk.TheVariants as asks
+use Rattle.gix_odb_events.specs.declared.answer.Ask.{Ask}
+use Rattle.gix_odb_events.specs.declared.answer.Ask.TheVariants as asks
 use Rattle.gix_odb_events.specs.declared.event.Event.TheVariants as events
 use Rattle.gix_odb_calls.specs.declared.query.Query.{Query}
 use Rattle.gix_odb_calls.specs.declared.query.Query.TheVariants.{Find, Header, Test}
@@ -98,16 +98,11 @@ started setting hash view sought (call_kinds.Test id) = looking setting view sou
 started setting hash view sought (call_kinds.Write kind size bytes id) =
     fronted (refreshes.started view) (writing setting.objects hash kind size bytes id)
 
--- a call of the disk as what is asked for
-abbrev pub disk_part : Option DiskAsk → Option PartAsk
-disk_part None = None
-disk_part (Some ask) = Some (asks.Disk ask)
-
 -- what is asked for next, if anything is: of the disk, or of the store's core
-abbrev pub ask_of : CallState → Option PartAsk
+abbrev pub ask_of : CallState → Option Ask
 ask_of (Looking look) = looks.ask_of look
 ask_of (Refreshing refresh write) = refreshes.ask_of refresh
-ask_of (Writing call) = disk_part (disk_ask_of call)
+ask_of (Writing call) = loose_ask (disk_ask_of call)
 ask_of (Refused error) = None
 
 abbrev pub looking_result : Result Reply LookUp → Result Reply CallState
@@ -125,15 +120,16 @@ result_of (Refreshing refresh write) = Err (Refreshing refresh write)
 result_of (Writing call) = writing_result (result_of_write call)
 result_of (Refused error) = Ok (unlisted error)
 
--- What a call does next: it waits for what it asks for, or has its reply. One that neither asks nor is done, as no call on its way is,
--- looks at the core.
-abbrev pub asked_by : Option PartAsk → Option Reply → Ask
+-- What a call does next: it waits for what it asks for, or has its reply. One that neither asks nor is done, or has a core made, as no
+-- call on its way does, looks at the core.
+abbrev pub asked_by : Option Ask → Option Reply → published.Ask
 asked_by (Some (asks.Disk ask)) reply = own.Disk ask
 asked_by (Some (asks.Core event)) reply = own.Core event
+asked_by (Some (asks.NewCore slots folders)) reply = own.Core events.Look
 asked_by None (Some reply) = own.Done reply
 asked_by None None = own.Core events.Look
 
-abbrev pub asked_of : CallState → Ask
+abbrev pub asked_of : CallState → published.Ask
 asked_of state = asked_by (ask_of state) (result_ok (result_of state))
 
 -- a write after an answer. One of the core leaves it

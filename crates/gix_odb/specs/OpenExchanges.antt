@@ -12,8 +12,8 @@ use Rattle.gix_odb_events.specs.declared.listing.ListingRow.{ListingRow}
 use Rattle.gix_odb_packs.specs.ListOrder as lists
 use Rattle.gix_odb_events.specs.declared.answer.Answer.{Answer}
 use Rattle.gix_odb_events.specs.declared.answer.Answer.TheVariants as told
-use Rattle.gix_odb_events.specs.declared.answer.PartAsk.{PartAsk}
-use Rattle.gix_odb_events.specs.declared.answer.PartAsk.TheVariants as asks
+use Rattle.gix_odb_events.specs.declared.answer.Ask.{Ask}
+use Rattle.gix_odb_events.specs.declared.answer.Ask.TheVariants as asks
 use Rattle.gix_odb_packs.specs.declared.lister.ListStep.{ListStep}
 use Rattle.gix_odb_packs.specs.declared.lister.ListStep.TheVariants as listed
 use Rattle.gix_odb_calls.specs.declared.init.Error as opening
@@ -25,20 +25,18 @@ use Rattle.gix_odb_looks.specs.Exchange.{Exchange, HasFailed, WasTold}
 use Rattle.gix_odb_looks.specs.LookUpOrder.{Setting}
 use Rattle.gix_odb_refresh.specs.Asked as any
 use Rattle.gix_odb_refresh.specs.Refreshed.{HasBroken}
-use Rattle.gix_odb.specs.CallOrder.{disk_part}
 use Rattle.gix_odb.specs.OpenOrder.{ask_of, fed, slots_for}
 use Rattle.gix_odb.specs.declared.open_state.OpenState.{OpenState}
 
 -- ---- exchanges
 
--- what an opening asks of the disk
-abbrev pub asks_of : Setting → OpenState → Option PartAsk
-asks_of setting state = disk_part (ask_of setting.objects state)
+-- what an opening asks for
+abbrev pub asks_of : Setting → OpenState → Option Ask
+asks_of setting state = ask_of setting.objects setting.folders state
 
--- an answer of the core leaves an opening
+-- an opening after the answer
 abbrev pub fed_by : Setting → Slots → OpenState → Answer → OpenState
-fed_by setting slots state (told.Disk answer) = fed setting.objects setting.folders slots state answer
-fed_by setting slots state (told.Core answer) = state
+fed_by setting slots state answer = fed setting.objects setting.folders slots state answer
 
 abbrev pub behind : Setting → Slots → OpenState → List Exchange → OpenState
 behind setting slots state exchanges = any.behind (asks_of setting) (fed_by setting slots) state exchanges

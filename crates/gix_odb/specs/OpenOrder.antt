@@ -1,15 +1,18 @@
 -- The order of work of an opening: one look at the objects directory; a listing of the folders of packs, where the store is to have as
 -- many slots as its indices ask for; and then a core for the store, at which the handle is registered.
-use Rattle.std.specs.Prelude.{◌≡◌, ℕ, ◌*◌, ◌/◌, max, true, nat_le, List, length, Option, Some, None, Result, Ok, Err, if◌then◌else◌}
+use Rattle.std.specs.Prelude.{◌≡◌, ℕ, ◌*◌, ◌/◌, max, true, nat_le, List, ◌∷◌, length, Option, Some, None, Result, Ok, Err, if◌then◌else◌}
 use Rattle.odb_base.specs.Path.{Path}
-use Rattle.odb_asks.specs.declared.ask.DiskAsk.{DiskAsk}
-use Rattle.odb_asks.specs.declared.ask.DiskAsk.TheVariants as asks
+use Rattle.odb_asks.specs.declared.ask.DiskAsk.TheVariants as disk_asks
 use Rattle.odb_asks.specs.declared.ask.DiskAnswer.{DiskAnswer}
 use Rattle.odb_asks.specs.declared.ask.DiskAnswer.TheVariants as answers
 use Rattle.odb_nodes.specs.declared.disk_error.DiskError.TheVariants as disk_errors
 use Rattle.odb_nodes.specs.declared.meta.Kind.{Kind}
 use Rattle.odb_nodes.specs.declared.meta.Kind.TheVariants as kinds
 use Rattle.gix_odb_events.specs.PackId.{most_slots}
+use Rattle.gix_odb_events.specs.declared.answer.Answer.{Answer}
+use Rattle.gix_odb_events.specs.declared.answer.Answer.TheVariants as told
+use Rattle.gix_odb_events.specs.declared.answer.Ask.{Ask}
+use Rattle.gix_odb_events.specs.declared.answer.Ask.TheVariants as asks
 use Rattle.gix_odb_packs.specs.ListOrder as lists
 use Rattle.gix_odb_packs.specs.declared.lister.ListStep.{ListStep}
 use Rattle.gix_odb_packs.specs.declared.lister.ListStep.TheVariants as listed
@@ -37,29 +40,24 @@ result_of state = Err state
 
 -- ---- asks
 
--- An opening looks at the objects directory, links followed, and lists the folders of packs. Where it registers its handle, it calls no
--- disk.
-abbrev pub ask_of : Path → OpenState → Option DiskAsk
-ask_of objects opens.Looking = Some (asks.Look objects true)
-ask_of objects (opens.Listing lister percent minimum) = Some (lists.ask_of lister)
-ask_of objects (opens.Registering slots) = None
-ask_of objects (opens.Done reply) = None
+-- An opening looks at the objects directory, links followed, and lists the folders of packs. Then it asks for a core for its store, the
+-- objects directory being one of the folders, at which its handle is registered.
+abbrev pub ask_of : (objects : Path) → (folders : List Path) → OpenState → Option Ask
+ask_of objects folders opens.Looking = Some (asks.Disk (disk_asks.Look objects true))
+ask_of objects folders (opens.Listing lister percent minimum) = Some (asks.Disk (lists.ask_of lister))
+ask_of objects folders (opens.Registering slots) = Some (asks.NewCore slots (length (objects ∷ folders)))
+ask_of objects folders (opens.Done reply) = None
 
 -- the path with which the stream was opened that a call of the disk may be on
 abbrev pub opened_in : OpenState → Option Path
 opened_in (opens.Listing lister percent minimum) = Some lister.head.folder
 opened_in state = None
 
--- where it asks for a core, at which its handle is registered: with so many slots
-abbrev pub registers : OpenState → Option ℕ
-registers (opens.Registering slots) = Some slots
-registers state = None
-
 -- what an opening does next: it makes its call of the disk, or has a core made, or has its reply
-abbrev pub IsAskOf : Path → OpenState → OpenAsk → Type 0
-IsAskOf objects state (own.Disk ask) = ask_of objects state ≡ Some ask
-IsAskOf objects state (own.Register slots) = registers state ≡ Some slots
-IsAskOf objects state (own.Done reply) = result_of state ≡ Ok reply
+abbrev pub IsAskOf : (objects : Path) → (folders : List Path) → OpenState → OpenAsk → Type 0
+IsAskOf objects folders state (own.Disk ask) = ask_of objects folders state ≡ Some (asks.Disk ask)
+IsAskOf objects folders state (own.Register slots) = ask_of objects folders state ≡ Some (asks.NewCore slots (length (objects ∷ folders)))
+IsAskOf objects folders state (own.Done reply) = result_of state ≡ Ok reply
 
 -- ---- how many slots
 
@@ -101,14 +99,10 @@ listed_on percent minimum (listed.More lister) = opens.Listing lister percent mi
 listed_on percent minimum (listed.Rows rows) = numbered (slots_for percent minimum (length rows))
 listed_on percent minimum listed.Broken = refused (opening_errors.LoadIndex load_errors.Io)
 
--- an opening after the answer to its call of the disk, in a store of these folders that is to have these slots
-abbrev pub fed : (objects : Path) → (folders : List Path) → Slots → OpenState → DiskAnswer → OpenState
-fed objects folders slots opens.Looking answer = looked objects slots answer
-fed objects folders slots (opens.Listing lister percent minimum) answer = listed_on percent minimum (lists.fed folders lister answer)
-fed objects folders slots (opens.Registering number) answer = opens.Registering number
-fed objects folders slots (opens.Done reply) answer = opens.Done reply
-
--- one whose handle was registered has opened its store
-abbrev pub registered : OpenState → OpenState
-registered (opens.Registering slots) = opens.Done (replies.Opened slots)
-registered state = state
+-- An opening after the answer to what it asked for, in a store of these folders that is to have these slots. One whose handle was
+-- registered has opened its store. An answer of the other kind, of the disk or of the core, leaves it.
+abbrev pub fed : (objects : Path) → (folders : List Path) → Slots → OpenState → Answer → OpenState
+fed objects folders slots opens.Looking (told.Disk answer) = looked objects slots answer
+fed objects folders slots (opens.Listing lister percent minimum) (told.Disk answer) = listed_on percent minimum (lists.fed folders lister answer)
+fed objects folders slots (opens.Registering number) (told.Core answer) = opens.Done (replies.Opened number)
+fed objects folders slots state answer = state

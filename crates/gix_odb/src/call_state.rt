@@ -3,19 +3,20 @@ ghost use Rattle.std.specs.Prelude.{◌≡◌, ◌<◌, ◌^◌, IfOk};
 ghost use Rattle.std.specs.Option.{option_map};
 ghost use Rattle.std.specs.Result.{result_ok};
 ghost use Rattle.gix_odb_loose.specs.LooseOrder.{disk_ask_of};
-ghost use Rattle.gix_odb.specs.CallOrder.{HasSize, IsOfHash, ask_of, asked_of, disk_part, fronted, opened_in, result_of, result_of_write, started, writing, wrote_as};
+ghost use Rattle.gix_odb.specs.CallOrder.{HasSize, IsOfHash, ask_of, asked_of, fronted, opened_in, result_of, result_of_write, started, writing, wrote_as};
 ghost use Rattle.gix_odb.specs.CallOrder as calls;
 ghost use Rattle.gix_odb_looks.specs.LookUpOrder as looks;
+ghost use Rattle.gix_odb_looks.specs.LookUpOrder.{loose_ask};
 ghost use Rattle.gix_odb_refresh.specs.RefreshOrder as refreshes;
 ghost use Rattle.gix_odb.specs.HandleState.{hash_of, setting_at, sought_by, view_at};
 
-use crate::ask::Ask;
+use crate::ask::Ask as CallAsk;
 use crate::handle_state::HandleState;
 use crate::unseen::unseen;
 use gix_hash::ObjectId;
 use gix_object::Kind;
 use gix_odb_calls::{Call, CallError, Query, Reply, load_index, write};
-use gix_odb_events::{Answer, Event, PartAsk, View};
+use gix_odb_events::{Answer, Ask, Event, View};
 use gix_odb_looks::{LookUp, Setting};
 use gix_odb_loose::{LooseAsk, LooseCall, LooseJob, LooseReply};
 use gix_odb_refresh::Refresh;
@@ -72,16 +73,18 @@ impl CallState {
     }
 
     /// What the call does next. A reply is copied: `into_reply` moves it out.
-    pub fn ask(&self, alloc: Global) -> Result<Ask, NoMemory>
+    pub fn ask(&self, alloc: Global) -> Result<CallAsk, NoMemory>
         ensures asked { IfOk result (λ ask. ask ≡ asked_of self.now) }
     {
-        match self.part_ask(alloc)? {
-            Some(PartAsk::Disk(ask)) => Ok(Ask::Disk(ask)),
-            Some(PartAsk::Core(event)) => Ok(Ask::Core(event)),
+        match self.next_ask(alloc)? {
+            Some(Ask::Disk(ask)) => Ok(CallAsk::Disk(ask)),
+            Some(Ask::Core(event)) => Ok(CallAsk::Core(event)),
+            // No call has a core made.
+            Some(Ask::NewCore { .. }) => Ok(CallAsk::Core(Event::Look)),
             None => match self.reply_copy(alloc)? {
-                Some(reply) => Ok(Ask::Done(reply)),
+                Some(reply) => Ok(CallAsk::Done(reply)),
                 // No call comes to such a state.
-                None => Ok(Ask::Core(Event::Look)),
+                None => Ok(CallAsk::Core(Event::Look)),
             },
         }
     }
@@ -103,7 +106,7 @@ impl CallState {
 
     /// What comes next: a call of the disk, or an event of the store's core; there is none where the call is done.
     /// It copies no reply, which `into_reply` gives then.
-    pub fn part_ask(&self, alloc: Global) -> Result<Option<PartAsk>, NoMemory>
+    pub fn next_ask(&self, alloc: Global) -> Result<Option<Ask>, NoMemory>
         ensures asked { IfOk result (λ ask. ask ≡ ask_of self.now) }
     {
         match self {
@@ -174,12 +177,12 @@ impl CallState {
 }
 
 // What a write asks of the disk.
-fn write_ask(alloc: Global, call: &LooseCall) -> Result<Option<PartAsk>, NoMemory>
-    ensures asked { IfOk result (λ ask. ask ≡ disk_part (disk_ask_of call.now)) }
+fn write_ask(alloc: Global, call: &LooseCall) -> Result<Option<Ask>, NoMemory>
+    ensures asked { IfOk result (λ ask. ask ≡ loose_ask (disk_ask_of call.now)) }
 {
     match call.disk_ask(alloc)? {
         None => Ok(None),
-        Some(ask) => Ok(Some(PartAsk::Disk(ask))),
+        Some(ask) => Ok(Some(Ask::Disk(ask))),
     }
 }
 

@@ -1,6 +1,8 @@
 //! The order of work of an opening.
-ghost use Rattle.std.specs.Prelude.{◌≡◌, IfOk, None, false, true};
+ghost use Rattle.std.specs.Prelude.{◌≡◌, ◌∷◌, List, IfOk, None, false, length, true};
 ghost use Rattle.std.specs.Option.{option_map};
+ghost use Rattle.odb_base.specs.Path.{Path};
+ghost use Rattle.gix_odb_events.specs.Answers.{Answer as CoreAnswer};
 ghost use Rattle.gix_odb.specs.HandleState.{folders_of, objects_of, parts_of, slots_of};
 ghost use Rattle.gix_odb.specs.OpenOrder.{IsAskOf, ask_of, opened_in, result_of};
 ghost use Rattle.gix_odb.specs.OpenOrder as order;
@@ -11,6 +13,7 @@ use gix_hash::ObjectId;
 use gix_odb_calls::{
     CallError, Options, PathList, Reply, Slots, StoreParts, copy_of_paths, init, load_index,
 };
+use gix_odb_events::{Answer, Ask};
 use gix_odb_packs::{ListStep, Lister};
 use odb_asks::{DiskAnswer, DiskAsk};
 use odb_base::{NoMemory, PathText};
@@ -75,7 +78,7 @@ impl OpenState {
 
     /// What the opening does next, for the handle that it is to register. A reply is copied: `into_reply` moves it out.
     pub fn ask(&self, alloc: Global, handle: &HandleState) -> Result<OpenAsk, NoMemory>
-        ensures asked { IfOk result (λ ask. IsAskOf (objects_of handle.now) self.now ask) }
+        ensures asked { IfOk result (λ ask. IsAskOf (objects_of handle.now) (folders_of handle.now) self.now ask) }
     {
         match self {
             OpenState::Looking => Ok(OpenAsk::Disk(look_at(alloc, handle)?)),
@@ -85,14 +88,16 @@ impl OpenState {
         }
     }
 
-    /// The call of the disk that comes next, if what comes next is one.
-    pub fn disk_ask(&self, alloc: Global, handle: &HandleState) -> Result<Option<DiskAsk>, NoMemory>
-        ensures asked { IfOk result (λ ask. ask ≡ ask_of (objects_of handle.now) self.now) }
+    /// What comes next, a call of the disk or the core that is to be made; there is none where the opening is done. It copies
+    /// no reply, which `into_reply` gives then.
+    pub fn next_ask(&self, alloc: Global, handle: &HandleState) -> Result<Option<Ask>, NoMemory>
+        ensures asked { IfOk result (λ ask. ask ≡ ask_of (objects_of handle.now) (folders_of handle.now) self.now) }
     {
         match self {
-            OpenState::Looking => Ok(Some(look_at(alloc, handle)?)),
-            OpenState::Listing { lister, .. } => Ok(Some(lister.ask(alloc)?)),
-            OpenState::Registering { .. } | OpenState::Done(_) => Ok(None),
+            OpenState::Looking => Ok(Some(Ask::Disk(look_at(alloc, handle)?))),
+            OpenState::Listing { lister, .. } => Ok(Some(Ask::Disk(lister.ask(alloc)?))),
+            OpenState::Registering { slots } => Ok(Some(core_for(handle, *slots))),
+            OpenState::Done(_) => Ok(None),
         }
     }
 
@@ -106,50 +111,22 @@ impl OpenState {
         }
     }
 
-    /// With how many slots the store's core is to be made, if that is what comes next.
-    pub fn registers(&self) -> Option<u16>
-        ensures registers { result ≡ order.registers self.now }
-    {
-        match self {
-            OpenState::Registering { slots } => Some(*slots),
-            _ => None,
-        }
-    }
-
-    /// The opening after the answer to its call of the disk, for the handle that it is to register.
+    /// The opening after the answer to what it asked for, for the handle that it is to register. An answer of the other kind,
+    /// of the disk or of the core, leaves it.
     pub fn feed(
         self,
         alloc: Global,
         handle: &HandleState,
-        answer: DiskAnswer,
+        answer: Answer,
     ) -> Result<OpenState, NoMemory>
         ensures fed { IfOk result (λ next. next ≡ order.fed (objects_of handle.now) (folders_of handle.now) (slots_of handle.now) self answer) }
     {
-        match self {
-            OpenState::Looking => after_look(alloc, handle.parts(), &answer),
-            OpenState::Listing {
-                lister,
-                percent,
-                minimum,
-            } => {
-                let folders = handle.parts().folders.as_slice();
-                let step = lister.feed(alloc, folders, answer)?;
-                Ok(listed_on(percent, minimum, step))
-            }
-            state => {
+        match answer {
+            Answer::Disk(answer) => by_disk(alloc, handle.parts(), self, answer),
+            Answer::Core(answer) => {
                 drop(answer);
-                Ok(state)
+                Ok(by_core(self))
             }
-        }
-    }
-
-    /// The opening after its handle was registered at the store's core.
-    pub fn registered(self) -> OpenState
-        ensures registered { result ≡ order.registered self }
-    {
-        match self {
-            OpenState::Registering { slots } => OpenState::Done(Reply::Opened { slots }),
-            state => state,
         }
     }
 
@@ -171,6 +148,50 @@ fn look_at(alloc: Global, handle: &HandleState) -> Result<DiskAsk, NoMemory>
         path: handle.parts().objects.try_clone(alloc)?,
         follow: true,
     })
+}
+
+/// The core that a store is to have: the objects directory is one of its folders.
+fn core_for(handle: &HandleState, slots: u16) -> Ask
+    ensures core { result ≡ Ask.NewCore slots (length (objects_of handle.now ∷ folders_of handle.now)) }
+{
+    let folders = handle.parts().folders.as_slice().len() + 1;
+    Ask::NewCore { slots, folders }
+}
+
+/// What comes behind an answer of the disk.
+fn by_disk(
+    alloc: Global,
+    parts: &StoreParts,
+    state: OpenState,
+    answer: DiskAnswer,
+) -> Result<OpenState, NoMemory>
+    ensures fed { IfOk result (λ next. next ≡ order.fed parts.now.objects parts.now.folders parts.now.slots state (Answer.Disk answer)) }
+{
+    match state {
+        OpenState::Looking => after_look(alloc, parts, &answer),
+        OpenState::Listing {
+            lister,
+            percent,
+            minimum,
+        } => {
+            let step = lister.feed(alloc, parts.folders.as_slice(), answer)?;
+            Ok(listed_on(percent, minimum, step))
+        }
+        state => {
+            drop(answer);
+            Ok(state)
+        }
+    }
+}
+
+/// What comes behind an answer of the core: its handle is registered there.
+fn by_core(state: OpenState) -> OpenState
+    ensures fed { (objects : Path) → (folders : List Path) → (slots : Slots) → (answer : CoreAnswer) → result ≡ order.fed objects folders slots state (Answer.Core answer) }
+{
+    match state {
+        OpenState::Registering { slots } => OpenState::Done(Reply::Opened { slots }),
+        state => state,
+    }
 }
 
 fn refused(error: init::Error) -> OpenState

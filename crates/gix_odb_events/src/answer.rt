@@ -1,17 +1,19 @@
-//! What a machine asks for, and what it is answered.
+//! What work asks for, and what it is answered.
 use crate::event::{Effect, Event, Refusal};
 use odb_asks::{DiskAnswer, DiskAsk};
 
-/// What a machine asks for.
+/// What work asks for.
 #[derive(Drop)]
-pub enum PartAsk {
+pub enum Ask {
     /// A call of the disk.
     Disk(DiskAsk),
     /// An event of the store's core.
     Core(Event),
+    /// A core of its own for its store, with so many slots and folders, at which its handle is registered.
+    NewCore { slots: u16, folders: usize },
 }
 
-/// What a machine is answered.
+/// What work is answered.
 #[derive(Drop)]
 pub enum Answer {
     Disk(DiskAnswer),

@@ -5,7 +5,7 @@
 //! at a time. Read `event` first, then `view` and `answer`, and `listing`, `loaded` and `on_disk_file` for what they name;
 //! what a core makes of events stands in `gix_odb_core`.
 //! ```rust
-//! let ask = PartAsk::Core(Event::PassOver { slot, path, why: PassWhy::Absent });
+//! let ask = Ask::Core(Event::PassOver { slot, path, why: PassWhy::Absent });
 //! let answer = Answer::Core(core.apply(alloc, seat, event));
 //! ```
 #![tactic(auto)]
@@ -25,7 +25,7 @@ mod shown;
 mod slot;
 mod view;
 
-pub use answer::{Answer, PartAsk};
+pub use answer::{Answer, Ask};
 pub use event::{Effect, Event, PassWhy, Refusal};
 pub use listed::{Listed, ListedList};
 pub use listing::{Listing, ListingRow, ListingRowList};

@@ -25,7 +25,7 @@ use Rattle.gix_odb_core.proofs.NumberLaws.{entries_lower_no_number}
 use Rattle.gix_odb_core.proofs.ShapeLaws.{journal_comes_to_a_shape, possible_journal_grows}
 use Rattle.gix_odb_core.proofs.SnapshotLaws.{entry_hands_the_view_behind_it}
 use Rattle.gix_odb_events.specs.declared.answer.Answer.TheVariants as told
-use Rattle.gix_odb_events.specs.declared.answer.PartAsk.TheVariants as asks
+use Rattle.gix_odb_events.specs.declared.answer.Ask.TheVariants as asks
 use Rattle.gix_odb_calls.specs.declared.query.Query.{Query}
 use Rattle.gix_odb_calls.specs.declared.verdict.Verdict.{Verdict}
 use Rattle.gix_odb_looks.specs.Exchange.{Exchange, IsAnswerTo}

@@ -21,8 +21,8 @@ use Rattle.gix_odb_packs.specs.ListOrder as lists
 use Rattle.gix_odb_packs.specs.LongestFirst.{longest_first}
 use Rattle.gix_odb_events.specs.declared.answer.Answer.{Answer}
 use Rattle.gix_odb_events.specs.declared.answer.Answer.TheVariants as told
-use Rattle.gix_odb_events.specs.declared.answer.PartAsk.{PartAsk}
-use Rattle.gix_odb_events.specs.declared.answer.PartAsk.TheVariants as asks
+use Rattle.gix_odb_events.specs.declared.answer.Ask.{Ask}
+use Rattle.gix_odb_events.specs.declared.answer.Ask.TheVariants as asks
 use Rattle.gix_odb_packs.specs.declared.lister.ListStep.{ListStep}
 use Rattle.gix_odb_packs.specs.declared.lister.ListStep.TheVariants as steps
 use Rattle.gix_odb_packs.specs.declared.lister.Lister.{Lister}
@@ -128,7 +128,7 @@ module _ (setting : Setting) where
     step_seen (steps.Rows rows) here = (tt, all_longest_first (IsRowSeen Told) rows here)
     step_seen steps.Broken here = tt
 
-    goes_seeing : (stage : LookStage) → Sees stage → (ask : PartAsk) (answer : Answer) → ask_at stage ≡ Some ask → WasTold all ask answer
+    goes_seeing : (stage : LookStage) → Sees stage → (ask : Ask) (answer : Answer) → ask_at stage ≡ Some ask → WasTold all ask answer
         → Goes setting AnyCall OfLister OfRows (Unit {0}) stage answer
     goes_seeing (stages.Trying trier part) here ask answer is was = tt
     goes_seeing (stages.Loose round call) here ask (told.Disk answer) is was = (tt, tt)
@@ -137,7 +137,7 @@ module _ (setting : Setting) where
     goes_seeing (stages.Listing lister base notes) here ask (told.Disk answer) is was =
         step_seen (lister_fed setting lister answer)
         (listing_sees Told setting.folders lister.head here.rows lister.stage here.stage answer
-        (subst (λ (a : PartAsk). WasTold all a (told.Disk answer)) (sym (same_Some _ ask is)) was))
+        (subst (λ (a : Ask). WasTold all a (told.Disk answer)) (sym (same_Some _ ask is)) was))
     goes_seeing (stages.Listing lister base notes) here ask (told.Core answer) is was = here
     goes_seeing (stages.Publishing listing notes) here ask answer is was = here
     goes_seeing (stages.Done reply) here ask answer is was = tt
@@ -173,7 +173,7 @@ module _ (setting : Setting) where
     step_listed coming (steps.Rows rows) here = (tt, ap longest_first here)
     step_listed coming steps.Broken here = tt
 
-    goes_listing : (coming : List Entry) (stage : LookStage) → Lists coming stage → (ask : PartAsk) (answer : Answer) (left : List Entry)
+    goes_listing : (coming : List Entry) (stage : LookStage) → Lists coming stage → (ask : Ask) (answer : Answer) (left : List Entry)
         → ask_at stage ≡ Some ask → IsToldOfTree tree coming ask answer left → Goes setting AnyCall (IsAtLister left) AreAll (Unit {0}) stage answer
     goes_listing coming (stages.Trying trier part) here ask answer left is of = tt
     goes_listing coming (stages.Loose round call) here ask (told.Disk answer) left is of = (tt, tt)
@@ -182,9 +182,9 @@ module _ (setting : Setting) where
     goes_listing coming (stages.Listing lister base notes) here ask (told.Disk answer) left is of =
         step_listed left (lister_fed setting lister answer)
         (listing_lists tree setting.folders total lister.head coming lister.stage here answer left
-        (subst (λ (a : PartAsk). IsToldOfTree tree coming a (told.Disk answer) left) (sym (same_Some _ ask is)) of))
+        (subst (λ (a : Ask). IsToldOfTree tree coming a (told.Disk answer) left) (sym (same_Some _ ask is)) of))
     goes_listing coming (stages.Listing lister base notes) here ask (told.Core answer) left is of =
-        absurd (subst (λ (a : PartAsk). IsToldOfTree tree coming a (told.Core answer) left) (sym (same_Some _ ask is)) of)
+        absurd (subst (λ (a : Ask). IsToldOfTree tree coming a (told.Core answer) left) (sym (same_Some _ ask is)) of)
     goes_listing coming (stages.Publishing listing notes) here ask answer left is of = here
     goes_listing coming (stages.Done reply) here ask answer left is of = tt
 

@@ -20,8 +20,8 @@ use Rattle.gix_odb_packs.specs.TryOrder.{seek}
 use Rattle.gix_odb_packs.specs.TryOrder as tries
 use Rattle.gix_odb_events.specs.declared.answer.Answer.{Answer}
 use Rattle.gix_odb_events.specs.declared.answer.Answer.TheVariants as told
-use Rattle.gix_odb_events.specs.declared.answer.PartAsk.{PartAsk}
-use Rattle.gix_odb_events.specs.declared.answer.PartAsk.TheVariants as asks
+use Rattle.gix_odb_events.specs.declared.answer.Ask.{Ask}
+use Rattle.gix_odb_events.specs.declared.answer.Ask.TheVariants as asks
 use Rattle.gix_odb_packs.specs.declared.search.Notes.{Notes}
 use Rattle.gix_odb_packs.specs.declared.trier.Stage.{Stage}
 use Rattle.gix_odb_packs.specs.declared.trier.Stage.TheVariants as tries_stages
@@ -104,7 +104,7 @@ loose_opens_none (Some own) still path is =
     cc none
 
 -- no stream is open behind an exchange that opens none
-stays_closed : (ask : PartAsk) (answer : Answer) → ((path : Path) → ¬ (ask ≡ asks.Disk (disk_asks.OpenDir path))) → stream_by None ask answer ≡ None
+stays_closed : (ask : Ask) (answer : Answer) → ((path : Path) → ¬ (ask ≡ asks.Disk (disk_asks.OpenDir path))) → stream_by None ask answer ≡ None
 stays_closed (asks.Disk (disk_asks.OpenDir path)) (told.Disk answer) none = absurd (none path refl)
 stays_closed (asks.Disk (disk_asks.OpenDir path)) (told.Core answer) none = refl
 stays_closed (asks.Disk (disk_asks.NextEntry dir)) (told.Disk answer) none = refl
@@ -113,6 +113,7 @@ stays_closed (asks.Disk (disk_asks.CloseDir dir)) (told.Disk answer) none = refl
 stays_closed (asks.Disk (disk_asks.CloseDir dir)) (told.Core answer) none = refl
 stays_closed (asks.Disk ask) answer none = refl
 stays_closed (asks.Core event) answer none = refl
+stays_closed (asks.NewCore slots folders) answer none = refl
 
 module _ (setting : Setting) (query : Query) (id : ObjectId) (folder : Path) (among : Contains (folders_of setting) folder) where
   -- the folder is asked now, or is ahead
@@ -207,14 +208,14 @@ module _ (setting : Setting) (query : Query) (id : ObjectId) (folder : Path) (am
           let reply = folder_replies setting.limit query id coming.asked answer in
           replies_so reply.0 reply.1 (verdict_waits round coming.first ahead (verdict_on query reply.0) (verdict_is_no_miss query reply.0))
 
-      loose_waits : (ask : PartAsk) → loose_ask (disk_ask_of call) ≡ Some ask → IsLooseFair setting query id folder ask (told.Disk answer)
+      loose_waits : (ask : Ask) → loose_ask (disk_ask_of call) ≡ Some ask → IsLooseFair setting query id folder ask (told.Disk answer)
           → IsWaiting (by_reply setting head round (loose_fed call answer) (reply_of (loose_fed call answer)))
       loose_waits ask is fair =
           elim coming.ahead [
             | inl same ↦
                 here_waits
                 (subst (λ (f : Path). HasLoose setting query id f answer) (sym same)
-                (loose_ask_is (λ (a : PartAsk). IsLooseFair setting query id folder a (told.Disk answer) → HasLoose setting query id folder answer) ask
+                (loose_ask_is (λ (a : Ask). IsLooseFair setting query id folder a (told.Disk answer) → HasLoose setting query id folder answer) ask
                 (disk_ask_of call)
                 (λ asked asks_it fair_to_it.
                 fair_to_it (ap (λ (f : Path). disk_ask_of (asking setting.limit query id f)) (sym same) ∙ ap disk_ask_of (sym coming.call_is) ∙ asks_it))
@@ -239,7 +240,7 @@ module _ (setting : Setting) (query : Query) (id : ObjectId) (folder : Path) (am
 
     -- ---- an exchange
 
-    stage_waits : (stage : LookStage) → IsWaiting stage → (ask : PartAsk) (answer : Answer) → ask_at stage ≡ Some ask
+    stage_waits : (stage : LookStage) → IsWaiting stage → (ask : Ask) (answer : Answer) → ask_at stage ≡ Some ask
         → ((view : View) → view_of answer ≡ Some view → view.read ≡ true) → IsLooseFair setting query id folder ask answer
         → IsWaiting (fed_at setting head stage answer).stage
     stage_waits (stages.Trying trier part) waits ask answer is published fair = tried_waits part waits (trier_fed trier answer)
@@ -308,7 +309,7 @@ module _ (setting : Setting) (query : Query) (id : ObjectId) (folder : Path) (am
   none_open look waiting (exchange ∷ before) asked published loose =
       let here = has_first exchange before in
       ap (λ (s : Option Stream). stream_from s before)
-      (stays_closed exchange.ask exchange.answer (λ path is. opens_none look.stage waiting.stage path (asked.0 ∙ ap (λ (a : PartAsk). Some a) is)))
+      (stays_closed exchange.ask exchange.answer (λ path is. opens_none look.stage waiting.stage path (asked.0 ∙ ap (λ (a : Ask). Some a) is)))
       ∙ none_open (fed setting look exchange.answer)
       (look_waits_on look waiting exchange asked.0 (published exchange here) (loose exchange here)) before asked.1
       (λ other is. published other (has_later exchange before other is)) (λ other is. loose other (has_later exchange before other is))

@@ -12,8 +12,8 @@ use Rattle.gix_pack_files.specs.Pack.{is_pack}
 use Rattle.gix_odb_events.specs.declared.pack_id.PackId.{PackId}
 use Rattle.gix_odb_events.specs.declared.event.Event.TheVariants as events
 use Rattle.gix_odb_events.specs.declared.view.View.{View}
-use Rattle.gix_odb_events.specs.declared.answer.PartAsk.{PartAsk}
-use Rattle.gix_odb_events.specs.declared.answer.PartAsk.TheVariants as asks
+use Rattle.gix_odb_events.specs.declared.answer.Ask.{Ask}
+use Rattle.gix_odb_events.specs.declared.answer.Ask.TheVariants as asks
 use Rattle.gix_odb_calls.specs.declared.query.Query.{Query}
 use Rattle.gix_odb_looks.specs.Exchange.{AreAsked, Exchange, behind}
 use Rattle.gix_odb_looks.specs.LookUpOrder.{Setting, ask_of, started}
@@ -42,7 +42,7 @@ module _ (Shown : Path → List ℕ → Type 0) (setting : Setting) (hash : Kind
     true_so_far exchange among =
         subst (AreTrue Shown setting hash) comes.is truth exchange (Contains-append_left so_far (next ∷ comes.rest) exchange among)
 
-    next_is : (ask : PartAsk) → ask_of (behind setting start so_far) ≡ Some ask → next.ask ≡ ask
+    next_is : (ask : Ask) → ask_of (behind setting start so_far) ≡ Some ask → next.ask ≡ ask
     next_is ask is = same_Some next.ask ask (sym within.1 ∙ is)
 
   module _ (path : Path) (bytes : List ℕ) (time : ℕ) (next : Exchange) (comes : ComesNext exchanges (read_of path (answers.File bytes time)) next) where

@@ -26,8 +26,8 @@ use Rattle.gix_odb_packs.specs.PackFolder.{pack_folder}
 use Rattle.gix_odb_packs.specs.TryOrder as tries
 use Rattle.gix_odb_events.specs.declared.answer.Answer.{Answer}
 use Rattle.gix_odb_events.specs.declared.answer.Answer.TheVariants as told
-use Rattle.gix_odb_events.specs.declared.answer.PartAsk.{PartAsk}
-use Rattle.gix_odb_events.specs.declared.answer.PartAsk.TheVariants as asks
+use Rattle.gix_odb_events.specs.declared.answer.Ask.{Ask}
+use Rattle.gix_odb_events.specs.declared.answer.Ask.TheVariants as asks
 use Rattle.gix_odb_packs.specs.declared.goal.Error.TheVariants as errors
 use Rattle.gix_odb_packs.specs.declared.goal.Goal.{Goal}
 use Rattle.gix_odb_packs.specs.declared.lister.ListStage.{ListStage}
@@ -94,14 +94,14 @@ module _ (Shown : Path → List ℕ → Type 0) (setting : Setting) (hash : Kind
     abbrev answer : Answer
     answer = told.Disk (answers.File bytes time)
 
-    abbrev PutsIndex : Option PartAsk → Type 0
+    abbrev PutsIndex : Option Ask → Type 0
     PutsIndex ask = (slot : ℕ) × (ask ≡ Some (asks.Core (events.PutIndex slot path file)))
 
-    abbrev PutsPack : Option PartAsk → Type 0
+    abbrev PutsPack : Option Ask → Type 0
     PutsPack ask = (pack : PackId) × (ask ≡ Some (asks.Core (events.PutPack pack path file)))
 
     module _ (head : LookHead) (part : Part) (goal : Goal) (of_hash : kind_of goal.id ≡ hash) (ahead : Ahead) where
-      abbrev next_by : Stage → Option PartAsk
+      abbrev next_by : Stage → Option Ask
       next_by stage = ask_at (by_tried setting head part (tries.by_answer goal ahead stage answer))
 
       index_tested : (place : IndexPlace) → place.path ≡ path → (b : Bool) → b ≡ true
@@ -184,9 +184,9 @@ module _ (Shown : Path → List ℕ → Type 0) (setting : Setting) (hash : Kind
     abbrev Read : Path → DiskAnswer → Type 0
     Read path own = ReadLast all path own
 
-    abbrev Backed : PartAsk → Type 0
-    Backed (asks.Disk ask) = Unit {0}
+    abbrev Backed : Ask → Type 0
     Backed (asks.Core event) = IsOfLastRead hash all event
+    Backed ask = Unit {0}
 
     trier_backed : (stage : Stage) → IsReadAt Read hash stage → Backed (tries.ask_at stage)
     trier_backed (tries_stages.ReadingIndex place) here = tt
@@ -196,7 +196,7 @@ module _ (Shown : Path → List ℕ → Type 0) (setting : Setting) (hash : Kind
     trier_backed (tries_stages.StoringPack pack own) here = record { time = here.0; last = here.1 }
     trier_backed (tries_stages.PassingPack pack) here = record { answer = answers.Refused disk_errors.Absent; last = here; reason = tt }
 
-    stage_backed : (stage : LookStage) → OfStage (IsRead Read hash) stage → (ask : PartAsk) → ask_at stage ≡ Some ask → Backed ask
+    stage_backed : (stage : LookStage) → OfStage (IsRead Read hash) stage → (ask : Ask) → ask_at stage ≡ Some ask → Backed ask
     stage_backed (stages.Trying trier part) here ask is = same_ask Backed ask (tries.ask_of trier) (trier_backed trier.stage here) is
     stage_backed (stages.Loose round call) here ask is = loose_ask_is Backed ask (disk_ask_of call) (λ own same. tt) is
     stage_backed (stages.Looking purpose notes) here ask is = same_ask Backed ask (asks.Core events.Look) tt is
@@ -210,7 +210,7 @@ module _ (Shown : Path → List ℕ → Type 0) (setting : Setting) (hash : Kind
       goes past (stages.Trying trier part) known is truth =
           let own_ask : tries.ask_of trier ≡ last.ask = same_Some _ last.ask is in
           answer_goes Read hash trier.goal (ap (λ (goal : Goal). kind_of goal.id) known.goal ∙ same) trier.ahead Shown setting trier.stage last.answer
-          (subst (λ (a : PartAsk). IsTrue Shown setting hash a last.answer) (sym own_ask) truth)
+          (subst (λ (a : Ask). IsTrue Shown setting hash a last.answer) (sym own_ask) truth)
           (λ path own reads answered.
           let asked : last.ask ≡ asks.Disk (disk_asks.Read path) = sym own_ask ∙ reads in
           just path own (λ i. record { ask = asked i; answer = answered i }))

@@ -19,8 +19,8 @@ use Rattle.gix_odb_packs.specs.ListOrder.{row_of}
 use Rattle.gix_odb_packs.specs.PackFolder.{is_file, is_index_name, pack_folder}
 use Rattle.gix_odb_events.specs.declared.answer.Answer.{Answer}
 use Rattle.gix_odb_events.specs.declared.answer.Answer.TheVariants as told
-use Rattle.gix_odb_events.specs.declared.answer.PartAsk.{PartAsk}
-use Rattle.gix_odb_events.specs.declared.answer.PartAsk.TheVariants as part_asks
+use Rattle.gix_odb_events.specs.declared.answer.Ask.{Ask}
+use Rattle.gix_odb_events.specs.declared.answer.Ask.TheVariants as part_asks
 use Rattle.gix_odb_looks.specs.Exchange.{Exchange}
 use Rattle.gix_odb_looks.specs.OpenStream.{GivesNext}
 
@@ -80,10 +80,11 @@ IsOfTree tree coming (asks.OpenDir path) answer left = Opens (opened tree path) 
 IsOfTree tree coming (asks.NextEntry dir) answer left = GivesNext coming answer left
 IsOfTree tree coming ask answer left = IsOrFails answer (answer_of tree ask) × (left ≡ coming)
 
--- an event of the core leaves the streams alone
-abbrev pub IsToldOfTree : Tree → (coming : List Entry) → PartAsk → Answer → (left : List Entry) → Type 0
+-- an event of the core leaves the streams alone, and so does a new core
+abbrev pub IsToldOfTree : Tree → (coming : List Entry) → Ask → Answer → (left : List Entry) → Type 0
 IsToldOfTree tree coming (part_asks.Disk ask) (told.Disk answer) left = IsOfTree tree coming ask answer left
 IsToldOfTree tree coming (part_asks.Core event) (told.Core answer) left = left ≡ coming
+IsToldOfTree tree coming (part_asks.NewCore slots folders) (told.Core answer) left = left ≡ coming
 IsToldOfTree tree coming ask answer left = ⊥
 
 -- one tree answers the calls of exchanges

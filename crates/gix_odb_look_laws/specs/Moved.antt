@@ -8,8 +8,8 @@ use Rattle.gix_odb_loose.specs.declared.call.LooseReply.{LooseReply}
 use Rattle.gix_odb_events.specs.declared.view.View.{View}
 use Rattle.gix_odb_events.specs.declared.answer.Answer.{Answer}
 use Rattle.gix_odb_events.specs.declared.answer.Answer.TheVariants as told
-use Rattle.gix_odb_events.specs.declared.answer.PartAsk.{PartAsk}
-use Rattle.gix_odb_events.specs.declared.answer.PartAsk.TheVariants as asks
+use Rattle.gix_odb_events.specs.declared.answer.Ask.{Ask}
+use Rattle.gix_odb_events.specs.declared.answer.Ask.TheVariants as asks
 use Rattle.gix_odb_calls.specs.Verdict.{asking, verdict_on}
 use Rattle.gix_odb_calls.specs.declared.call.Reply.{Reply}
 use Rattle.gix_odb_calls.specs.declared.query.Query.{Query}
@@ -32,7 +32,7 @@ module _ (setting : Setting) (query : Query) (id : ObjectId) (folder : Path) whe
     pub found : IsAnswer told
 
   -- an exchange is fair to the loose object of the folder: where its call is the one by which it is asked for, the answer has it
-  abbrev pub IsLooseFair : PartAsk → Answer → Type 0
+  abbrev pub IsLooseFair : Ask → Answer → Type 0
   IsLooseFair (asks.Disk ask) (told.Disk answer) = disk_ask_of (asking setting.limit query id folder) ≡ Some ask → HasLoose answer
   IsLooseFair ask answer = IsAnswerTo ask answer
 

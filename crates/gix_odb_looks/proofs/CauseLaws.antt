@@ -26,10 +26,10 @@ use Rattle.gix_odb_events.specs.declared.view.View.{View}
 use Rattle.gix_odb_events.specs.declared.listing.Listing.{Listing}
 use Rattle.gix_odb_events.specs.declared.answer.Answer.{Answer}
 use Rattle.gix_odb_events.specs.declared.answer.Answer.TheVariants as told
-use Rattle.gix_odb_events.specs.declared.answer.PartAsk.TheVariants as asks
+use Rattle.gix_odb_events.specs.declared.answer.Ask.TheVariants as asks
 use Rattle.gix_odb_loose.specs.LooseOrder.{disk_ask_of}
 use Rattle.gix_odb_loose.specs.declared.call.LooseCall.{LooseCall}
-use Rattle.gix_odb_events.specs.declared.answer.PartAsk.{PartAsk}
+use Rattle.gix_odb_events.specs.declared.answer.Ask.{Ask}
 use Rattle.gix_odb_packs.specs.declared.lister.ListStage.{ListStage}
 use Rattle.gix_odb_packs.specs.declared.lister.ListStage.TheVariants as list_stages
 use Rattle.gix_odb_packs.specs.declared.search.Notes.{Notes}
@@ -178,7 +178,7 @@ module _ (Shown : Path → List ℕ → Type 0) (setting : Setting) (hash : Kind
     breaks-more (list_stages.Index path left) breaks = tt
     breaks-more (list_stages.Pack row left) breaks = tt
 
-    knows-more : (stage : LookStage) (ask : PartAsk) → ask_at stage ≡ Some ask → KnowsAt Shown setting hash id past head stage
+    knows-more : (stage : LookStage) (ask : Ask) → ask_at stage ≡ Some ask → KnowsAt Shown setting hash id past head stage
         → KnowsAt Shown setting hash id more head_seen stage
     knows-more (stages.Trying trier part) ask asked knows = (noted-more trier.ahead.notes knows.0, showed-more part knows.1)
     knows-more (stages.Loose round call) ask asked knows = (noted-more round.notes knows.0, showed-more round.part knows.1)
@@ -216,16 +216,18 @@ module _ (Shown : Path → List ℕ → Type 0) (setting : Setting) (hash : Kind
       room listing view asks_it is =
           let same : exchange.ask ≡ asks.Core (events.Publish listing) = same_Some _ _ (sym asked ∙ asks_it) in
           own_has_room setting slots number look.head look.stage listing view owned asks_it
-          (subst (λ (a : PartAsk). IsNumbered slots number a (told.Core (Ok (effects.Published view)))) same
+          (subst (λ (a : Ask). IsNumbered slots number a (told.Core (Ok (effects.Published view)))) same
           (subst (IsNumbered slots number exchange.ask) is numbered))
 
   -- numbers never fall
-  number_rises : (slots number : ℕ) (ask : PartAsk) (answer : Answer) → IsTrue Shown setting hash ask answer
+  number_rises : (slots number : ℕ) (ask : Ask) (answer : Answer) → IsTrue Shown setting hash ask answer
       → IsNumbered slots number ask answer → number ≤ number_by number answer
   number_rises slots number (asks.Disk ask) (told.Disk answer) truth numbered = omega arith
   number_rises slots number (asks.Core event) (told.Core answer) truth numbered = numbered.0
   number_rises slots number (asks.Disk ask) (told.Core answer) truth numbered = absurd truth
   number_rises slots number (asks.Core event) (told.Disk answer) truth numbered = absurd truth
+  number_rises slots number (asks.NewCore core_slots folders) (told.Core answer) truth numbered = numbered
+  number_rises slots number (asks.NewCore core_slots folders) (told.Disk answer) truth numbered = absurd truth
 
   -- ---- all exchanges
 

@@ -20,8 +20,8 @@ use Rattle.gix_odb_events.specs.declared.event.Event.TheVariants as events
 use Rattle.gix_odb_events.specs.declared.view.View.{View}
 use Rattle.gix_odb_packs.specs.ListOrder as lists
 use Rattle.gix_odb_packs.specs.TryOrder as tries
-use Rattle.gix_odb_events.specs.declared.answer.PartAsk.TheVariants as asks
-use Rattle.gix_odb_events.specs.declared.answer.PartAsk.{PartAsk}
+use Rattle.gix_odb_events.specs.declared.answer.Ask.TheVariants as asks
+use Rattle.gix_odb_events.specs.declared.answer.Ask.{Ask}
 use Rattle.gix_odb_packs.specs.declared.trier.Stage.TheVariants as tries_stages
 use Rattle.gix_odb_packs.specs.declared.trier.Stage.{Stage}
 use Rattle.gix_odb_calls.specs.declared.call.CallError.TheVariants as call_errors
@@ -51,7 +51,7 @@ module _ (Shown : Path → List ℕ → Type 0) (setting : Setting) (hash : Kind
   look = behind setting (started setting view query id) exchanges
 
   -- a file that a look-up hands to the core was shown at its path, and a listing that it publishes has only rows of indices of the folders
-  pub what_is_handed_was_shown : (ask : PartAsk) → ask_of look ≡ Some ask → IsHandedBy Shown setting hash ask
+  pub what_is_handed_was_shown : (ask : Ask) → ask_of look ≡ Some ask → IsHandedBy Shown setting hash ask
   what_is_handed_was_shown ask is =
       stage_hands Shown setting hash query id exchanges look.stage ask (look_known Shown setting hash query id same view shown exchanges asked truth).stage is
 

@@ -26,8 +26,8 @@ use Rattle.gix_odb_packs.specs.ListOrder as lists
 use Rattle.gix_odb_packs.specs.TryOrder as tries
 use Rattle.gix_odb_events.specs.declared.answer.Answer.{Answer}
 use Rattle.gix_odb_events.specs.declared.answer.Answer.TheVariants as told
-use Rattle.gix_odb_events.specs.declared.answer.PartAsk.{PartAsk}
-use Rattle.gix_odb_events.specs.declared.answer.PartAsk.TheVariants as asks
+use Rattle.gix_odb_events.specs.declared.answer.Ask.{Ask}
+use Rattle.gix_odb_events.specs.declared.answer.Ask.TheVariants as asks
 use Rattle.gix_odb_packs.specs.declared.lister.ListStep.{ListStep}
 use Rattle.gix_odb_packs.specs.declared.lister.ListStep.TheVariants as listed
 use Rattle.gix_odb_packs.specs.declared.trier.Stage.TheVariants as tries_stages
@@ -59,9 +59,10 @@ IsOfLooks (events.PassOver slot path why) = Unit {0}
 IsOfLooks (events.Publish listing) = Unit {0}
 IsOfLooks event = ⊥
 
-abbrev AsksOfLooks : PartAsk → Type 0
+abbrev AsksOfLooks : Ask → Type 0
 AsksOfLooks (asks.Disk ask) = Unit {0}
 AsksOfLooks (asks.Core event) = IsOfLooks event
+AsksOfLooks (asks.NewCore slots folders) = ⊥
 
 trier_asks : (stage : Stage) → AsksOfLooks (tries.ask_at stage)
 trier_asks (tries_stages.ReadingIndex place) = tt
@@ -71,7 +72,7 @@ trier_asks (tries_stages.ReadingPack pack) = tt
 trier_asks (tries_stages.StoringPack pack file) = tt
 trier_asks (tries_stages.PassingPack pack) = tt
 
-stage_asks : (stage : LookStage) (ask : PartAsk) → ask_at stage ≡ Some ask → AsksOfLooks ask
+stage_asks : (stage : LookStage) (ask : Ask) → ask_at stage ≡ Some ask → AsksOfLooks ask
 stage_asks (stages.Trying trier part) ask is = same_ask AsksOfLooks ask (tries.ask_of trier) (trier_asks trier.stage) is
 stage_asks (stages.Loose round call) ask is = loose_ask_is AsksOfLooks ask (disk_ask_of call) (λ own same. tt) is
 stage_asks (stages.Looking purpose notes) ask is = same_ask AsksOfLooks ask (asks.Core events.Look) tt is
@@ -82,6 +83,10 @@ stage_asks (stages.Done reply) ask is = absurd (cc is)
 -- a look-up asks the core to be looked at, to store a file, to pass one over, and to publish a listing
 pub look_ups_ask_these_events_alone : (look : LookUp) (event : Event) → ask_of look ≡ Some (asks.Core event) → IsOfLooks event
 look_ups_ask_these_events_alone look event is = stage_asks look.stage (asks.Core event) is
+
+-- and it has no core made
+pub look_ups_have_no_core_made : (look : LookUp) (slots folders : ℕ) → ¬ (ask_of look ≡ Some (asks.NewCore slots folders))
+look_ups_have_no_core_made look slots folders is = stage_asks look.stage (asks.NewCore slots folders) is
 
 -- ---- the rows of a listing have different paths
 

@@ -14,8 +14,8 @@ use Rattle.gix_hash.specs.declared.kind.Kind.{Kind}
 use Rattle.gix_hash.specs.declared.object_id.ObjectId.{ObjectId}
 use Rattle.gix_odb_events.specs.declared.view.View.{View}
 use Rattle.gix_odb_events.specs.declared.answer.Answer.{Answer}
-use Rattle.gix_odb_events.specs.declared.answer.PartAsk.{PartAsk}
-use Rattle.gix_odb_events.specs.declared.answer.PartAsk.TheVariants as asks
+use Rattle.gix_odb_events.specs.declared.answer.Ask.{Ask}
+use Rattle.gix_odb_events.specs.declared.answer.Ask.TheVariants as asks
 use Rattle.gix_odb_calls.specs.declared.query.Query.{Query}
 use Rattle.gix_odb_calls.specs.declared.verdict.Verdict.{Verdict}
 use Rattle.gix_odb_calls.specs.declared.verdict.Verdict.TheVariants as verdicts
@@ -83,9 +83,10 @@ module _ (setting : Setting) (query : Query) (id : ObjectId) where
       marred_behind (fed setting look exchange.answer) (stays_marred setting query look marred exchange.answer) exchanges
 
   module _ (Shown : Path → List ℕ → Type 0) (hash : Kind) where
-    can_fail : (ask : PartAsk) → IsTrue Shown setting hash ask failed → CanFail ask
+    can_fail : (ask : Ask) → IsTrue Shown setting hash ask failed → CanFail ask
     can_fail (asks.Disk ask) truth = truth.0
     can_fail (asks.Core event) truth = truth
+    can_fail (asks.NewCore slots folders) truth = truth
 
     module _ (all : List Exchange) (truth : AreTrue Shown setting hash all) where
       failure_told : (look : LookUp) → Passes all look → (exchange : Exchange) → Contains all exchange → ask_of look ≡ Some exchange.ask

@@ -10,7 +10,7 @@ use Rattle.std.proofs.Common.{◌≡◌, ℕ, zero, suc, ◌+◌, ◌-◌, ◌*�
 use Rattle.gix_hash.specs.declared.object_id.ObjectId.{ObjectId}
 use Rattle.gix_odb_events.specs.declared.view.View.{View}
 use Rattle.gix_odb_events.specs.declared.answer.Answer.{Answer}
-use Rattle.gix_odb_events.specs.declared.answer.PartAsk.{PartAsk}
+use Rattle.gix_odb_events.specs.declared.answer.Ask.{Ask}
 use Rattle.gix_odb_calls.specs.declared.call.Reply.{Reply}
 use Rattle.gix_odb_calls.specs.declared.query.Query.{Query}
 use Rattle.gix_odb_looks.specs.Exchange.{AreAnswered, AreAsked, Exchange, behind}
@@ -33,18 +33,18 @@ use Rattle.gix_odb_looks.proofs.TurnLaws.PartTurns.{view_left}
 abbrev IsOnAt : LookHead → LookStage → Type 0
 IsOnAt head stage = (reply : Reply) → ¬ (result_at head stage ≡ Ok reply)
 
-asking_is_on : (head : LookHead) (stage : LookStage) (ask : PartAsk) → ask_at stage ≡ Some ask → IsOnAt head stage
+asking_is_on : (head : LookHead) (stage : LookStage) (ask : Ask) → ask_at stage ≡ Some ask → IsOnAt head stage
 asking_is_on head (stages.Done reply) ask asked other is = cc asked
 asking_is_on head stage ask asked reply is = cc is
 
 module _ (bounds : Bounds) where
-  one_turn : (look : LookUp) (before : ℕ) (stream : Option Stream) (turns : ℕ) (ask : PartAsk) (answer : Answer) → ask_of look ≡ Some ask
+  one_turn : (look : LookUp) (before : ℕ) (stream : Option Stream) (turns : ℕ) (ask : Ask) (answer : Answer) → ask_of look ≡ Some ask
       → IsTold bounds.slots bounds.entries before stream (Some ask) answer
       → LookHasLeft bounds look before stream (suc turns)
       → LookHasLeft bounds (fed bounds.setting look answer) (number_by before answer) (stream_by stream ask answer) turns
   one_turn look before stream turns ask answer asked is left =
       subst
-      (λ (asked : Option PartAsk).
+      (λ (asked : Option Ask).
       IsTold bounds.slots bounds.entries before stream asked answer
       → LookHasLeft bounds (fed bounds.setting look answer) (number_by before answer) (stream_behind stream asked answer) turns)
       asked

@@ -19,7 +19,7 @@ use Rattle.gix_odb_events.specs.declared.event.Refusal.TheVariants as refusals
 use Rattle.gix_odb_packs.specs.PackFolder.{pack_folder}
 use Rattle.gix_odb_events.specs.declared.answer.Answer.{Answer}
 use Rattle.gix_odb_events.specs.declared.answer.Answer.TheVariants as told
-use Rattle.gix_odb_events.specs.declared.answer.PartAsk.TheVariants as asks
+use Rattle.gix_odb_events.specs.declared.answer.Ask.TheVariants as asks
 use Rattle.gix_odb_calls.specs.declared.find.Error.{Error}
 use Rattle.gix_odb_calls.specs.declared.find.Error.TheVariants as errors
 use Rattle.gix_odb_calls.specs.declared.load_index.Error as load

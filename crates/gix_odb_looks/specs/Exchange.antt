@@ -14,8 +14,8 @@ use Rattle.gix_odb_events.specs.declared.event.Event.TheVariants as events
 use Rattle.gix_odb_events.specs.declared.view.View.{View}
 use Rattle.gix_odb_events.specs.declared.answer.Answer.{Answer}
 use Rattle.gix_odb_events.specs.declared.answer.Answer.TheVariants as told
-use Rattle.gix_odb_events.specs.declared.answer.PartAsk.{PartAsk}
-use Rattle.gix_odb_events.specs.declared.answer.PartAsk.TheVariants as asks
+use Rattle.gix_odb_events.specs.declared.answer.Ask.{Ask}
+use Rattle.gix_odb_events.specs.declared.answer.Ask.TheVariants as asks
 use Rattle.gix_odb_calls.specs.Verdict.{asking, verdict_on}
 use Rattle.gix_odb_calls.specs.declared.query.Query.{Query}
 use Rattle.gix_odb_calls.specs.declared.verdict.Verdict.{Verdict}
@@ -24,7 +24,7 @@ use Rattle.gix_odb_looks.specs.declared.look_up.LookUp.{LookUp}
 
 -- one ask and its answer
 pub record Exchange : Type 0 where
-  pub ask : PartAsk
+  pub ask : Ask
   pub answer : Answer
 
 -- the look-up behind exchanges
@@ -37,9 +37,9 @@ abbrev pub AreAsked : Setting → LookUp → List Exchange → Type 0
 AreAsked setting look [] = Unit {0}
 AreAsked setting look (exchange ∷ exchanges) = (ask_of look ≡ Some exchange.ask) × AreAsked setting (fed setting look exchange.answer) exchanges
 
--- an answer is of the kind of its ask: calls of the disk are answered by the disk and events by the core, a look by a view and a
--- listing by what it came to, unless the event is refused
-abbrev pub IsAnswerTo : PartAsk → Answer → Type 0
+-- an answer is of the kind of its ask: calls of the disk are answered by the disk, events by the core, and a new core by that core; a look
+-- by a view and a listing by what it came to, unless the event is refused
+abbrev pub IsAnswerTo : Ask → Answer → Type 0
 IsAnswerTo (asks.Disk ask) (told.Disk answer) = Unit {0}
 IsAnswerTo (asks.Core event) (told.Core (Err refusal)) = Unit {0}
 IsAnswerTo (asks.Core events.Look) (told.Core (Ok effect)) = (view : View) × (view_in (Ok effect) ≡ Some view)
@@ -48,6 +48,7 @@ IsAnswerTo (asks.Core (events.Publish listing)) (told.Core (Ok (effects.Unchange
 IsAnswerTo (asks.Core (events.Publish listing)) (told.Core (Ok (effects.Outdated number))) = Unit {0}
 IsAnswerTo (asks.Core (events.Publish listing)) (told.Core (Ok effect)) = ⊥
 IsAnswerTo (asks.Core event) (told.Core (Ok effect)) = Unit {0}
+IsAnswerTo (asks.NewCore slots folders) (told.Core answer) = Unit {0}
 IsAnswerTo ask answer = ⊥
 
 abbrev pub AreAnswered : List Exchange → Type 0
@@ -67,7 +68,7 @@ pub record HasFailed (exchanges : List Exchange) : Type 0 where
   pub failed : exchange.answer ≡ told.Disk (disk_answers.Refused disk_errors.Failed)
 
 -- this was asked and answered so in one of them
-abbrev pub WasTold : List Exchange → PartAsk → Answer → Type 0
+abbrev pub WasTold : List Exchange → Ask → Answer → Type 0
 WasTold exchanges ask answer = Contains exchanges (record { ask = ask; answer = answer })
 
 -- the loose objects of a folder were asked for an object in one of them, and the verdict on what they reply to the answer is this one
@@ -91,7 +92,7 @@ first_number [] = None
 first_number (exchange ∷ exchanges) = number_or (first_number exchanges) (view_of exchange.answer)
 
 -- how many lists were published in them
-abbrev pub is_publish : PartAsk → Answer → ℕ
+abbrev pub is_publish : Ask → Answer → ℕ
 is_publish (asks.Core (events.Publish listing)) (told.Core (Ok (effects.Published view))) = 1
 is_publish ask answer = 0
 

@@ -24,8 +24,8 @@ use Rattle.gix_odb_events.specs.declared.view.View.{View}
 use Rattle.gix_odb_packs.specs.PackFolder.{is_index_name, pack_folder}
 use Rattle.gix_odb_events.specs.declared.answer.Answer.{Answer}
 use Rattle.gix_odb_events.specs.declared.answer.Answer.TheVariants as told
-use Rattle.gix_odb_events.specs.declared.answer.PartAsk.{PartAsk}
-use Rattle.gix_odb_events.specs.declared.answer.PartAsk.TheVariants as asks
+use Rattle.gix_odb_events.specs.declared.answer.Ask.{Ask}
+use Rattle.gix_odb_events.specs.declared.answer.Ask.TheVariants as asks
 use Rattle.gix_odb_looks.specs.Exchange.{Exchange, IsAnswerTo}
 use Rattle.gix_odb_looks.specs.Found.{Gives}
 use Rattle.gix_odb_looks.specs.LookUpOrder.{view_of}
@@ -113,7 +113,7 @@ module _ (hash : Kind) (id : ObjectId) (place : PackedPlace) where
   -- ---- any answer
 
   -- an exchange is fair, as no answer of another kind than its ask is
-  abbrev pub IsFair : List Exchange → PartAsk → Answer → Type 0
+  abbrev pub IsFair : List Exchange → Ask → Answer → Type 0
   IsFair past (asks.Disk ask) (told.Disk answer) = IsDiskFair past ask answer
   IsFair past (asks.Core event) (told.Core answer) = IsCoreFair event answer
   IsFair past ask answer = IsAnswerTo ask answer

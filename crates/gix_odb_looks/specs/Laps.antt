@@ -8,8 +8,8 @@ use Rattle.gix_odb_events.specs.declared.event.Event.TheVariants as events
 use Rattle.gix_odb_events.specs.declared.view.View.{View}
 use Rattle.gix_odb_events.specs.declared.answer.Answer.{Answer}
 use Rattle.gix_odb_events.specs.declared.answer.Answer.TheVariants as told
-use Rattle.gix_odb_events.specs.declared.answer.PartAsk.{PartAsk}
-use Rattle.gix_odb_events.specs.declared.answer.PartAsk.TheVariants as asks
+use Rattle.gix_odb_events.specs.declared.answer.Ask.{Ask}
+use Rattle.gix_odb_events.specs.declared.answer.Ask.TheVariants as asks
 use Rattle.gix_odb_looks.specs.Exchange.{Exchange}
 use Rattle.gix_odb_looks.specs.LookUpOrder.{view_of}
 use Rattle.gix_odb_looks.specs.Stream.{Stream, stream_by}
@@ -48,9 +48,10 @@ Follows before (events.Publish listing) (Ok (effects.Unchanged view)) = view.lis
 Follows before (events.Publish listing) (Ok (effects.Outdated number)) = (number ≢ listing.base) × (number ≤ last_state)
 Follows before event answer = Unit {0}
 
-abbrev pub IsNumbered : (slots before : ℕ) → PartAsk → Answer → Type 0
+abbrev pub IsNumbered : (slots before : ℕ) → Ask → Answer → Type 0
 IsNumbered slots before (asks.Core event) (told.Core answer) =
     (before ≤ number_by before (told.Core answer)) × Follows before event answer × ((view : View) → view_of (told.Core answer) ≡ Some view → HasFew slots view)
+IsNumbered slots before (asks.NewCore core_slots folders) answer = before ≤ number_by before answer
 IsNumbered slots before ask answer = Unit {0}
 
 abbrev pub AreNumbered : (slots before : ℕ) → List Exchange → Type 0

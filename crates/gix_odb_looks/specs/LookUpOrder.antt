@@ -16,8 +16,8 @@ use Rattle.gix_odb_calls.specs.declared.query.Query.{Query}
 use Rattle.gix_odb_events.specs.Answers.{view_in}
 use Rattle.gix_odb_events.specs.declared.answer.Answer.{Answer}
 use Rattle.gix_odb_events.specs.declared.answer.Answer.TheVariants as told
-use Rattle.gix_odb_events.specs.declared.answer.PartAsk.{PartAsk}
-use Rattle.gix_odb_events.specs.declared.answer.PartAsk.TheVariants as asks
+use Rattle.gix_odb_events.specs.declared.answer.Ask.{Ask}
+use Rattle.gix_odb_events.specs.declared.answer.Ask.TheVariants as asks
 use Rattle.gix_odb_events.specs.declared.event.Event.TheVariants as events
 use Rattle.gix_odb_events.specs.declared.view.View.{View}
 use Rattle.gix_odb_looks.specs.LoadIndex.{of_refusal}
@@ -55,11 +55,11 @@ started setting view query id = record {
   stage = if view.read then try_view setting (new_head query id) parts.Snapshot view [] without_notes else stages.Looking (purposes.First true) without_notes;
 }
 
-abbrev pub loose_ask : Option DiskAsk → Option PartAsk
+abbrev pub loose_ask : Option DiskAsk → Option Ask
 loose_ask None = None
 loose_ask (Some ask) = Some (asks.Disk ask)
 
-abbrev pub ask_at : LookStage → Option PartAsk
+abbrev pub ask_at : LookStage → Option Ask
 ask_at (stages.Trying trier part) = Some (tries.ask_of trier)
 ask_at (stages.Loose round call) = loose_ask (disk_ask_of call)
 ask_at (stages.Looking purpose notes) = Some (asks.Core events.Look)
@@ -67,7 +67,7 @@ ask_at (stages.Listing lister base notes) = Some (asks.Disk (lists.ask_of lister
 ask_at (stages.Publishing listing notes) = Some (asks.Core (events.Publish listing))
 ask_at (stages.Done reply) = None
 
-abbrev pub ask_of : LookUp → Option PartAsk
+abbrev pub ask_of : LookUp → Option Ask
 ask_of look = ask_at look.stage
 
 -- the path with which the stream was opened that a call of the disk may be on

@@ -16,8 +16,8 @@ use Rattle.gix_odb_events.specs.declared.event.Event.{Event}
 use Rattle.gix_odb_events.specs.declared.event.Event.TheVariants as events
 use Rattle.gix_odb_events.specs.declared.view.View.{View}
 use Rattle.gix_odb_packs.specs.PackFolder.{is_index_name, pack_folder}
-use Rattle.gix_odb_events.specs.declared.answer.PartAsk.{PartAsk}
-use Rattle.gix_odb_events.specs.declared.answer.PartAsk.TheVariants as asks
+use Rattle.gix_odb_events.specs.declared.answer.Ask.{Ask}
+use Rattle.gix_odb_events.specs.declared.answer.Ask.TheVariants as asks
 use Rattle.gix_odb_looks.specs.LookUpOrder.{Setting}
 
 -- the folders of a store, the objects directory first
@@ -77,6 +77,6 @@ module _ (Shown : Path → List ℕ → Type 0) (setting : Setting) (hash : Kind
   IsHanded (events.Publish listing) = All (IsIndexRow setting) listing.rows
   IsHanded event = Unit {0}
 
-  abbrev pub IsHandedBy : PartAsk → Type 0
-  IsHandedBy (asks.Disk ask) = Unit {0}
+  abbrev pub IsHandedBy : Ask → Type 0
   IsHandedBy (asks.Core event) = IsHanded event
+  IsHandedBy ask = Unit {0}

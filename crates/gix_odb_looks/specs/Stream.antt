@@ -7,8 +7,8 @@ use Rattle.odb_asks.specs.declared.ask.DiskAsk.TheVariants as disk_asks
 use Rattle.odb_nodes.specs.declared.entry.Entry.{Entry}
 use Rattle.gix_odb_events.specs.declared.answer.Answer.{Answer}
 use Rattle.gix_odb_events.specs.declared.answer.Answer.TheVariants as told
-use Rattle.gix_odb_events.specs.declared.answer.PartAsk.{PartAsk}
-use Rattle.gix_odb_events.specs.declared.answer.PartAsk.TheVariants as asks
+use Rattle.gix_odb_events.specs.declared.answer.Ask.{Ask}
+use Rattle.gix_odb_events.specs.declared.answer.Ask.TheVariants as asks
 use Rattle.gix_odb_looks.specs.Exchange.{Exchange}
 
 -- the folder that was opened last, the number of its stream, and the entries that it gave since
@@ -26,7 +26,7 @@ reads (Some stream) (disk_answers.Entry entry) = Some (record stream { entries =
 reads before answer = before
 
 -- the stream behind one exchange more: none where it was closed, or where a folder wasn't opened
-abbrev pub stream_by : Option Stream → PartAsk → Answer → Option Stream
+abbrev pub stream_by : Option Stream → Ask → Answer → Option Stream
 stream_by before (asks.Disk (disk_asks.OpenDir folder)) (told.Disk answer) = opens folder answer
 stream_by before (asks.Disk (disk_asks.NextEntry dir)) (told.Disk answer) = reads before answer
 stream_by before (asks.Disk (disk_asks.CloseDir dir)) (told.Disk answer) = None

@@ -11,8 +11,8 @@ use Rattle.gix_hash.specs.declared.kind.Kind.{Kind}
 use Rattle.gix_odb_events.specs.declared.view.View.{View}
 use Rattle.gix_odb_events.specs.declared.answer.Answer.{Answer}
 use Rattle.gix_odb_events.specs.declared.answer.Answer.TheVariants as told
-use Rattle.gix_odb_events.specs.declared.answer.PartAsk.{PartAsk}
-use Rattle.gix_odb_events.specs.declared.answer.PartAsk.TheVariants as asks
+use Rattle.gix_odb_events.specs.declared.answer.Ask.{Ask}
+use Rattle.gix_odb_events.specs.declared.answer.Ask.TheVariants as asks
 use Rattle.gix_odb_looks.specs.Exchange.{Exchange, IsAnswerTo}
 use Rattle.gix_odb_looks.specs.LookUpOrder.{Setting, view_of}
 use Rattle.gix_odb_looks.specs.Shown.{IsShownView}
@@ -51,9 +51,10 @@ module _ (Shown : Path → List ℕ → Type 0) (setting : Setting) (hash : Kind
   ShowsRead ask answer = Unit {0}
 
   -- an exchange tells the truth, which no answer of another kind than its ask does
-  abbrev pub IsTrue : PartAsk → Answer → Type 0
+  abbrev pub IsTrue : Ask → Answer → Type 0
   IsTrue (asks.Disk ask) (told.Disk answer) = Suits ask answer × ShowsRead ask answer
   IsTrue (asks.Core event) (told.Core answer) = (view : View) → view_of (told.Core answer) ≡ Some view → IsShownView Shown setting hash view
+  IsTrue (asks.NewCore slots folders) (told.Core answer) = (view : View) → view_of (told.Core answer) ≡ Some view → IsShownView Shown setting hash view
   IsTrue ask answer = IsAnswerTo ask answer
 
   abbrev pub AreTrue : List Exchange → Type 0

@@ -18,7 +18,7 @@ mod trying;
 
 use gix_hash::ObjectId;
 use gix_odb_calls::{Query, Reply, StoreParts};
-use gix_odb_events::{Answer, Event, Listing, PartAsk, View};
+use gix_odb_events::{Answer, Ask, Event, Listing, View};
 use gix_odb_loose::LooseCall;
 use gix_odb_packs::{Lister, Notes, Trier};
 use odb_base::{NoMemory, PathText};
@@ -150,12 +150,12 @@ fn view_in(answer: &Answer) -> Option<&View>
 }
 
 /// The call of the disk that a folder's call asks for.
-fn loose_ask(alloc: Global, call: &LooseCall) -> Result<Option<PartAsk>, NoMemory>
+fn loose_ask(alloc: Global, call: &LooseCall) -> Result<Option<Ask>, NoMemory>
     ensures asked { IfOk result (λ ask. ask ≡ order.loose_ask (disk_ask_of call.now)) }
 {
     match call.disk_ask(alloc)? {
         None => Ok(None),
-        Some(ask) => Ok(Some(PartAsk::Disk(ask))),
+        Some(ask) => Ok(Some(Ask::Disk(ask))),
     }
 }
 
@@ -187,17 +187,17 @@ impl LookUp {
     }
 
     /// What comes next: a call of the disk, or an event of the store's core; there is none where the look-up is done.
-    pub fn ask(&self, alloc: Global) -> Result<Option<PartAsk>, NoMemory>
+    pub fn ask(&self, alloc: Global) -> Result<Option<Ask>, NoMemory>
         ensures asked { IfOk result (λ ask. ask ≡ order.ask_of self.now) }
     {
         match &self.stage {
             LookStage::Trying { trier, .. } => Ok(Some(trier.ask(alloc)?)),
             LookStage::Loose { call, .. } => loose_ask(alloc, call),
-            LookStage::Looking { .. } => Ok(Some(PartAsk::Core(Event::Look))),
-            LookStage::Listing { lister, .. } => Ok(Some(PartAsk::Disk(lister.ask(alloc)?))),
+            LookStage::Looking { .. } => Ok(Some(Ask::Core(Event::Look))),
+            LookStage::Listing { lister, .. } => Ok(Some(Ask::Disk(lister.ask(alloc)?))),
             LookStage::Publishing { listing, .. } => {
                 let listing = listing.try_clone(alloc)?;
-                Ok(Some(PartAsk::Core(Event::Publish(listing))))
+                Ok(Some(Ask::Core(Event::Publish(listing))))
             }
             LookStage::Done(_) => Ok(None),
         }

@@ -14,8 +14,8 @@ use Rattle.gix_odb_packs.specs.TryOrder.{ask_at, at, at_search, at_todo, behind_
 use Rattle.gix_odb_packs.specs.TryOrder.{pack_read, search_stored, seek, why_of}
 use Rattle.gix_odb_events.specs.declared.answer.Answer.{Answer}
 use Rattle.gix_odb_events.specs.declared.answer.Answer.TheVariants as told
-use Rattle.gix_odb_events.specs.declared.answer.PartAsk.{PartAsk}
-use Rattle.gix_odb_events.specs.declared.answer.PartAsk.TheVariants as asks
+use Rattle.gix_odb_events.specs.declared.answer.Ask.{Ask}
+use Rattle.gix_odb_events.specs.declared.answer.Ask.TheVariants as asks
 use Rattle.gix_odb_packs.specs.declared.goal.Error.{Error}
 use Rattle.gix_odb_packs.specs.declared.goal.Error.TheVariants as errors
 use Rattle.gix_odb_packs.specs.declared.goal.Found.{Found}
@@ -106,9 +106,9 @@ module _ (goal : Goal) where
   noted_answer ahead noted (try_stages.ReadingPack pack) (told.Core (Err refusal)) = noted
   noted_answer ahead noted stage (told.Core (Err refusal)) = tt
 
-abbrev pub IsDisk : PartAsk → Type 0
+abbrev pub IsDisk : Ask → Type 0
 IsDisk (asks.Disk ask) = Unit {0}
-IsDisk (asks.Core event) = ⊥
+IsDisk ask = ⊥
 
 abbrev pub failed : Answer
 failed = told.Disk (disk_answers.Refused disk_errors.Failed)

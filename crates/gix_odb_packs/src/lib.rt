@@ -27,7 +27,7 @@ mod trier;
 
 pub use absent::AbsentPacks;
 pub use folders::pack_folder;
-pub use gix_odb_events::{Answer, PartAsk};
+pub use gix_odb_events::{Answer, Ask};
 pub use goal::{Error, Found, Goal, Wanted};
 pub use lister::{EntryList, ListHead, ListStage, ListStep, Lister};
 pub use rest::Rest;

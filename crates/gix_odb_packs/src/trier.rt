@@ -9,7 +9,7 @@ mod stored;
 use crate::goal::{Error, Found, Goal};
 use crate::search::{Notes, Sought, WantedPack};
 use gix_odb_events::{
-    Answer, Effect, Event, LoadedRest, PackId, PartAsk, PassWhy, Refusal, Shared, Todo, TodoRest,
+    Answer, Ask, Effect, Event, LoadedRest, PackId, PassWhy, Refusal, Shared, Todo, TodoRest,
 };
 use gix_pack_files::{data, index};
 use odb_asks::{DiskAnswer, DiskAsk};
@@ -87,41 +87,33 @@ pub enum Tried {
 }
 
 /// A copy of a path, as the call of the disk that reads it.
-fn read_of(alloc: Global, path: &PathText) -> Result<PartAsk, NoMemory>
+fn read_of(alloc: Global, path: &PathText) -> Result<Ask, NoMemory>
     ensures asks { IfOk result (λ ask. ask ≡ order.read_of path.now) }
 {
     let path = path.try_clone(alloc)?;
-    Ok(PartAsk::Disk(DiskAsk::Read { path }))
+    Ok(Ask::Disk(DiskAsk::Read { path }))
 }
 
 /// The event that a file of a slot could not be read.
-fn pass_of(alloc: Global, slot: u16, path: &PathText, why: PassWhy) -> Result<PartAsk, NoMemory>
+fn pass_of(alloc: Global, slot: u16, path: &PathText, why: PassWhy) -> Result<Ask, NoMemory>
     ensures asks { IfOk result (λ ask. ask ≡ order.pass_of slot path.now why) }
 {
     let path = path.try_clone(alloc)?;
-    Ok(PartAsk::Core(Event::PassOver { slot, path, why }))
+    Ok(Ask::Core(Event::PassOver { slot, path, why }))
 }
 
 /// The event that an index was read.
-fn put_index(
-    alloc: Global,
-    place: &IndexPlace,
-    file: &Shared<index::File>,
-) -> Result<PartAsk, NoMemory>
+fn put_index(alloc: Global, place: &IndexPlace, file: &Shared<index::File>) -> Result<Ask, NoMemory>
     ensures asks { IfOk result (λ ask. ask ≡ order.put_index place.now file.now) }
 {
     let file = file.try_clone()?;
     let path = place.path.try_clone(alloc)?;
     let slot = place.slot;
-    Ok(PartAsk::Core(Event::PutIndex { slot, path, file }))
+    Ok(Ask::Core(Event::PutIndex { slot, path, file }))
 }
 
 /// The event that a pack was read.
-fn put_pack(
-    alloc: Global,
-    pack: &WantedPack,
-    file: &Shared<data::File>,
-) -> Result<PartAsk, NoMemory>
+fn put_pack(alloc: Global, pack: &WantedPack, file: &Shared<data::File>) -> Result<Ask, NoMemory>
     ensures asks { IfOk result (λ ask. ask ≡ order.put_pack pack.now file.now) }
 {
     let file = file.try_clone()?;
@@ -130,7 +122,7 @@ fn put_pack(
         index: pack.slot as usize,
         multipack_index: pack.place,
     };
-    Ok(PartAsk::Core(Event::PutPack { pack, path, file }))
+    Ok(Ask::Core(Event::PutPack { pack, path, file }))
 }
 
 impl Trier {
@@ -153,7 +145,7 @@ impl Trier {
     }
 
     /// What comes next: a call of the disk, or an event of the store's core.
-    pub fn ask(&self, alloc: Global) -> Result<PartAsk, NoMemory>
+    pub fn ask(&self, alloc: Global) -> Result<Ask, NoMemory>
         ensures asked { IfOk result (λ ask. ask ≡ ask_of self.now) }
     {
         match &self.stage {

@@ -1,13 +1,13 @@
 -- What each exchange of a machine keeps holds behind all of them; and machines behind one exchange more.
 use Rattle.std.proofs.Common.{◌≡◌, ℕ, ◌+◌, List, [], ◌∷◌, ◌++◌, length, Contains, Option, Some, None, refl, sym, ap, subst, append_assoc, append-nil, arith}
 use Rattle.gix_odb_events.specs.declared.answer.Answer.{Answer}
-use Rattle.gix_odb_events.specs.declared.answer.PartAsk.{PartAsk}
+use Rattle.gix_odb_events.specs.declared.answer.Ask.{Ask}
 use Rattle.gix_odb_looks.specs.Exchange.{Exchange}
 use Rattle.gix_odb_looks.proofs.FoundLaws.Lists.{has_first, has_later}
 use Rattle.gix_odb_refresh.specs.Asked.{AreAsked, behind, one_more, turns_of}
 
 -- Here `Holds past machine` is what holds of a machine behind exchanges, and `Meets` what is known of each exchange.
-module _ {Machine : Type 0} (ask_of : Machine → Option PartAsk) (fed : Machine → Answer → Machine) (Holds : List Exchange → Machine → Type 0)
+module _ {Machine : Type 0} (ask_of : Machine → Option Ask) (fed : Machine → Answer → Machine) (Holds : List Exchange → Machine → Type 0)
     (Meets : Exchange → Type 0)
     (kept : (past : List Exchange) (machine : Machine) (exchange : Exchange) → Holds past machine → ask_of machine ≡ Some exchange.ask → Meets exchange
     → Holds (past ++ exchange ∷ []) (fed machine exchange.answer)) where
@@ -28,7 +28,7 @@ module _ {Machine : Type 0} (ask_of : Machine → Option PartAsk) (fed : Machine
 
 -- ---- behind one exchange more
 
-module _ {Machine : Type 0} (ask_of : Machine → Option PartAsk) (fed : Machine → Answer → Machine) where
+module _ {Machine : Type 0} (ask_of : Machine → Option Ask) (fed : Machine → Answer → Machine) where
   pub behind-push : (machine : Machine) (exchanges : List Exchange) (exchange : Exchange)
       → behind ask_of fed machine (exchanges ++ exchange ∷ []) ≡ fed (behind ask_of fed machine exchanges) exchange.answer
   behind-push machine [] exchange = refl
@@ -45,11 +45,11 @@ module _ {Machine : Type 0} (ask_of : Machine → Option PartAsk) (fed : Machine
   turns_of-asked machine (exchange ∷ exchanges) asked =
       let rest = turns_of-asked (fed machine exchange.answer) exchanges asked.1 in
       let here : turns_of ask_of fed machine (exchange ∷ exchanges) ≡ turns_of ask_of fed (fed machine exchange.answer) exchanges + 1 =
-      ap (λ (asks : Option PartAsk). one_more asks (turns_of ask_of fed (fed machine exchange.answer) exchanges)) asked.0 in
+      ap (λ (asks : Option Ask). one_more asks (turns_of ask_of fed (fed machine exchange.answer) exchanges)) asked.0 in
       omega (arith, rest, here)
 
   -- an exchange behind those after which it asks nothing is none
   pub turns_of-ended : (machine : Machine) (exchanges : List Exchange) (exchange : Exchange) → ask_of (behind ask_of fed machine exchanges) ≡ None
       → turns_of ask_of fed machine (exchanges ++ exchange ∷ []) ≡ turns_of ask_of fed machine exchanges
-  turns_of-ended machine [] exchange ended = ap (λ (asks : Option PartAsk). one_more asks 0) ended
+  turns_of-ended machine [] exchange ended = ap (λ (asks : Option Ask). one_more asks 0) ended
   turns_of-ended machine (first ∷ exchanges) exchange ended = ap (one_more (ask_of machine)) (turns_of-ended (fed machine first.answer) exchanges exchange ended)

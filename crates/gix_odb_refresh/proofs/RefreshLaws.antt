@@ -17,7 +17,7 @@ use Rattle.gix_odb_events.specs.declared.event.Event.{Event}
 use Rattle.gix_odb_events.specs.declared.event.Event.TheVariants as events
 use Rattle.gix_odb_events.specs.declared.view.View.{View}
 use Rattle.gix_odb_packs.specs.ListOrder as lists
-use Rattle.gix_odb_events.specs.declared.answer.PartAsk.TheVariants as asks
+use Rattle.gix_odb_events.specs.declared.answer.Ask.TheVariants as asks
 use Rattle.gix_odb_calls.specs.declared.load_index.Error.{Error}
 use Rattle.gix_odb_looks.specs.Exchange.{AreAnswered, Exchange}
 use Rattle.gix_odb_looks.specs.Laps.{AreWithin, turns_of_lap}
@@ -65,6 +65,14 @@ refreshes_ask_events_of_looks_alone (stages.Listing lister base) event is = absu
 refreshes_ask_events_of_looks_alone (stages.Publishing listing) event is = let same : events.Publish listing ≡ event = cc is in subst IsOfLooks same tt
 refreshes_ask_events_of_looks_alone stages.Ready event is = absurd (cc is)
 refreshes_ask_events_of_looks_alone (stages.Refused error) event is = absurd (cc is)
+
+-- and no core is made
+pub refreshes_have_no_core_made : (refresh : Refresh) (slots folders : ℕ) → ¬ (ask_of refresh ≡ Some (asks.NewCore slots folders))
+refreshes_have_no_core_made stages.Looking slots folders is = cc is
+refreshes_have_no_core_made (stages.Listing lister base) slots folders is = cc is
+refreshes_have_no_core_made (stages.Publishing listing) slots folders is = cc is
+refreshes_have_no_core_made stages.Ready slots folders is = cc is
+refreshes_have_no_core_made (stages.Refused error) slots folders is = cc is
 
 -- an ask of the core is of one of these
 abbrev pub HandsOn : (Event → Type 0) → Refresh → Type 0

@@ -4,18 +4,18 @@ use Rattle.odb_asks.specs.declared.ask.DiskAnswer.{DiskAnswer}
 use Rattle.odb_asks.specs.declared.ask.DiskAsk.{DiskAsk}
 use Rattle.gix_odb_events.specs.declared.answer.Answer.{Answer}
 use Rattle.gix_odb_events.specs.declared.answer.Answer.TheVariants as told
-use Rattle.gix_odb_events.specs.declared.answer.PartAsk.{PartAsk}
-use Rattle.gix_odb_events.specs.declared.answer.PartAsk.TheVariants as asks
+use Rattle.gix_odb_events.specs.declared.answer.Ask.{Ask}
+use Rattle.gix_odb_events.specs.declared.answer.Ask.TheVariants as asks
 use Rattle.gix_odb_looks.specs.Exchange.{Exchange, IsAnswerTo}
 use Rattle.gix_odb_looks.specs.True.{Suits}
 
 -- one more than later ones, where something is asked
-abbrev pub one_more : Option PartAsk → (later : ℕ) → ℕ
+abbrev pub one_more : Option Ask → (later : ℕ) → ℕ
 one_more None later = 0
 one_more (Some ask) later = later + 1
 
 -- Here `ask_of machine` is what a machine asks next, if anything, and `fed machine answer` is the machine behind an answer.
-module _ {Machine : Type 0} (ask_of : Machine → Option PartAsk) (fed : Machine → Answer → Machine) where
+module _ {Machine : Type 0} (ask_of : Machine → Option Ask) (fed : Machine → Answer → Machine) where
   -- the machine behind exchanges
   abbrev pub behind : Machine → List Exchange → Machine
   behind machine [] = machine
@@ -32,7 +32,7 @@ module _ {Machine : Type 0} (ask_of : Machine → Option PartAsk) (fed : Machine
   turns_of machine (exchange ∷ exchanges) = one_more (ask_of machine) (turns_of (fed machine exchange.answer) exchanges)
 
 -- an answer is one that its call of the disk has, and of the kind of its ask
-abbrev pub IsSuited : PartAsk → Answer → Type 0
+abbrev pub IsSuited : Ask → Answer → Type 0
 IsSuited (asks.Disk ask) (told.Disk answer) = Suits ask answer
 IsSuited ask answer = IsAnswerTo ask answer
 

@@ -13,8 +13,8 @@ use Rattle.gix_odb_packs.specs.ListOrder as lists
 use Rattle.gix_odb_packs.specs.LongestFirst.{longest_first}
 use Rattle.gix_odb_events.specs.declared.answer.Answer.{Answer}
 use Rattle.gix_odb_events.specs.declared.answer.Answer.TheVariants as told
-use Rattle.gix_odb_events.specs.declared.answer.PartAsk.{PartAsk}
-use Rattle.gix_odb_events.specs.declared.answer.PartAsk.TheVariants as asks
+use Rattle.gix_odb_events.specs.declared.answer.Ask.{Ask}
+use Rattle.gix_odb_events.specs.declared.answer.Ask.TheVariants as asks
 use Rattle.gix_odb_packs.specs.declared.lister.ListStep.{ListStep}
 use Rattle.gix_odb_packs.specs.declared.lister.ListStep.TheVariants as listed
 use Rattle.gix_odb_calls.specs.declared.load_index.Error.TheVariants as load_errors
@@ -28,7 +28,7 @@ started view = if view.read then stages.Ready else stages.Looking
 
 -- ---- asks
 
-abbrev pub ask_of : Refresh → Option PartAsk
+abbrev pub ask_of : Refresh → Option Ask
 ask_of stages.Looking = Some (asks.Core events.Look)
 ask_of (stages.Listing lister base) = Some (asks.Disk (lists.ask_of lister))
 ask_of (stages.Publishing listing) = Some (asks.Core (events.Publish listing))

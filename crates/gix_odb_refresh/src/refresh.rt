@@ -8,7 +8,7 @@ ghost use Rattle.gix_odb_refresh.specs.RefreshOrder.{ask_of, opened_in, started}
 ghost use Rattle.gix_odb_refresh.specs.RefreshOrder as order;
 
 use gix_odb_calls::{StoreParts, load_index};
-use gix_odb_events::{Answer, Effect, Event, Listing, PartAsk, Refusal, View};
+use gix_odb_events::{Answer, Ask, Effect, Event, Listing, Refusal, View};
 use gix_odb_looks::of_refusal;
 use gix_odb_packs::longest_first::longest_first;
 use gix_odb_packs::{ListStep, Lister};
@@ -48,15 +48,15 @@ impl Refresh {
 
     /// What comes next: a call of the disk, or an event of the store's core; there is none where the refresh is ready or
     /// refused.
-    pub fn ask(&self, alloc: Global) -> Result<Option<PartAsk>, NoMemory>
+    pub fn ask(&self, alloc: Global) -> Result<Option<Ask>, NoMemory>
         ensures asked { IfOk result (λ ask. ask ≡ ask_of self.now) }
     {
         match self {
-            Refresh::Looking => Ok(Some(PartAsk::Core(Event::Look))),
-            Refresh::Listing { lister, .. } => Ok(Some(PartAsk::Disk(lister.ask(alloc)?))),
+            Refresh::Looking => Ok(Some(Ask::Core(Event::Look))),
+            Refresh::Listing { lister, .. } => Ok(Some(Ask::Disk(lister.ask(alloc)?))),
             Refresh::Publishing(listing) => {
                 let listing = listing.try_clone(alloc)?;
-                Ok(Some(PartAsk::Core(Event::Publish(listing))))
+                Ok(Some(Ask::Core(Event::Publish(listing))))
             }
             Refresh::Ready | Refresh::Refused(_) => Ok(None),
         }

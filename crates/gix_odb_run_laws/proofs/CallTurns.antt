@@ -13,8 +13,7 @@ use Rattle.gix_odb_core.specs.History.{opened, present}
 use Rattle.gix_odb_loose.specs.LooseOrder.{disk_ask_of}
 use Rattle.gix_odb_packs.specs.LongestFirst.{longest_first}
 use Rattle.gix_odb_events.specs.declared.answer.Answer.TheVariants as told_by
-use Rattle.gix_odb_events.specs.declared.answer.PartAsk.{PartAsk}
-use Rattle.gix_odb_events.specs.declared.answer.PartAsk.TheVariants as parts
+use Rattle.gix_odb_events.specs.declared.answer.Ask.TheVariants as parts
 use Rattle.gix_odb_looks.specs.Exchange.{Exchange, WasTold}
 use Rattle.gix_odb_looks.specs.LookUpOrder as looks
 use Rattle.gix_odb_looks.specs.Shown.{IsIndexRow}
@@ -27,48 +26,30 @@ use Rattle.gix_odb_refresh.specs.RefreshOrder as refreshes
 use Rattle.gix_odb_refresh.proofs.RefreshLaws.{rows_are_of_the_folders}
 use Rattle.gix_odb_look_laws.proofs.RefreshHappenLaws.{what_a_refresh_hands_on_can_happen}
 use Rattle.gix_odb.specs.Contents.{folder_list, sought}
-use Rattle.gix_odb.specs.OpenOrder as openings
+use Rattle.gix_odb.proofs.OpenLaws.{openings_ask_no_event}
 use Rattle.gix_odb.specs.declared.call_state.CallState.TheVariants.{Looking, Refreshing, Refused, Writing}
 use Rattle.gix_odb_runs.specs.declared.record.Run.{Run}
 use Rattle.gix_odb_world.specs.declared.work.Work.{Work}
 use Rattle.gix_odb_world.specs.declared.work.Work.TheVariants.{Calling, Opening}
 use Rattle.gix_odb_world.specs.AtWork.{Running, Store, setting_in}
-use Rattle.gix_odb_runs.specs.Cores.{answer_behind, history_at}
-use Rattle.gix_odb_runs.specs.Event.{Ask, CoreAnswer, CoreEvent, Event, OfCore, ToCore, ToDisk, ToNewCore, part_asked, to_disk}
+use Rattle.gix_odb_runs.specs.Event.{CoreEvent, Event}
+use Rattle.gix_odb_looks.specs.LookUpOrder.{loose_ask}
 use Rattle.gix_odb_world.specs.Headline.{IsRun, Works, stand_of}
 use Rattle.gix_odb_world.specs.Machines.{ask_in}
-use Rattle.gix_odb_runs.specs.Run.{Stand, disk_after, told_now}
+use Rattle.gix_odb_runs.specs.Run.{disk_after}
 use Rattle.gix_odb_world.specs.Running.{Knows, Runs}
-use Rattle.gix_odb_world.specs.Running.Opening.{ask_or}
 use Rattle.gix_odb_world.specs.Status.{Working}
 use Rattle.gix_odb_world.specs.Told.{look_now, refresh_now, told_since, view_then}
 use Rattle.gix_odb_world.proofs.Stock.OneCore.{ShownSince}
 use Rattle.gix_odb_run_laws.specs.Turn.{AsksCore, IsTurnAt}
-use Rattle.gix_odb_run_laws.proofs.QueryTurns.{same_event}
+use Rattle.gix_odb_run_laws.proofs.QueryTurns.{core_asked}
 use Rattle.gix_odb_run_laws.proofs.RefreshListings.{rows_of_a_refresh_are_those_of_the_tree, rows_of_a_refresh_were_seen}
 
 -- ---- what is asked
 
-core_of : (at : Stand) (disk : Volume) (ask : Option Ask) (store seat : ℕ) (event : CoreEvent) (answer : CoreAnswer)
-    → told_now at disk ask ≡ OfCore store seat event answer → ask ≡ Some (ToCore event)
-core_of at disk None store seat event answer is = absurd (cc is)
-core_of at disk (Some (ToDisk ask)) store seat event answer is = absurd (cc is)
-core_of at disk (Some (ToNewCore slots folders)) store seat event answer is = absurd (cc is)
-core_of at disk (Some (ToCore own)) store seat event answer is =
-    ap (λ (x : CoreEvent). Some (ToCore x)) (same_event at.store at.seat store seat own event (answer_behind (history_at at.cores at.store) at.seat own) answer is)
-
-pub part_of : (ask : Option PartAsk) (event : CoreEvent) → part_asked ask ≡ Some (ToCore event) → ask ≡ Some (parts.Core event)
-part_of None event is = absurd (cc is)
-part_of (Some (parts.Disk ask)) event is = absurd (cc is)
-part_of (Some (parts.Core own)) event is = let same : own ≡ event = cc is in ap (λ (x : CoreEvent). Some (parts.Core x)) same
-
-pub no_event : (ask : Option DiskAsk) (event : CoreEvent) → ¬ (to_disk ask ≡ Some (ToCore event))
+pub no_event : (ask : Option DiskAsk) (event : CoreEvent) → ¬ (loose_ask ask ≡ Some (parts.Core event))
 no_event None event is = cc is
 no_event (Some ask) event is = cc is
-
-pub no_opening_event : (store : Store) (slots : Option ℕ) (ask : Option DiskAsk) (event : CoreEvent) → ¬ (ask_or store slots (to_disk ask) ≡ Some (ToCore event))
-no_opening_event store None ask event is = no_event ask event is
-no_opening_event store (Some slots) ask event is = cc is
 
 -- ---- a listing that is handed on
 
@@ -97,20 +78,19 @@ module _ (first : Volume) (events : List Event) (run : Run) (is : IsRun first ev
   runs : Runs first past handle (Working running)
   runs = subst (Runs first past handle) turn.turns.status (is.throughout place handle (let lt = slice_get_within events place e turn.there in omega (arith, lt)))
 
-  asks_it : ask_in running.store running.work ≡ Some (ToCore (events_of.Publish listing))
+  asks_it : ask_in running.store running.work ≡ Some (parts.Core (events_of.Publish listing))
   asks_it =
       works.asks
-      ∙ core_of (stand_of past handle running) (disk_after first past) works.ask publishes.store publishes.seat (events_of.Publish listing) publishes.answer
+      ∙ core_asked (stand_of past handle running) (disk_after first past) works.ask publishes.store publishes.seat (events_of.Publish listing) publishes.answer
       (sym works.told ∙ publishes.asked)
 
-  by : (work : Work) → Knows first past handle running work → ask_in running.store work ≡ Some (ToCore (events_of.Publish listing)) → IsListed running.store told listing
-  by (Opening state) knows asks =
-      absurd (no_opening_event running.store (openings.registers state) (openings.ask_of running.store.parts.objects state) (events_of.Publish listing) asks)
+  by : (work : Work) → Knows first past handle running work → ask_in running.store work ≡ Some (parts.Core (events_of.Publish listing)) → IsListed running.store told listing
+  by (Opening state) knows asks = absurd (openings_ask_no_event (setting_in running.store) state (events_of.Publish listing) asks)
   by (Calling (Looking look)) knows asks =
       let setting = setting_in running.store in
       let id = sought running.store.parts running.modes.ignoring knows.query in
       let here : looks.ask_of (look_now past handle running.store running.modes running.begun knows.query) ≡ Some (parts.Core (events_of.Publish listing)) =
-      ap looks.ask_of (sym knows.is) ∙ part_of (looks.ask_of look) (events_of.Publish listing) asks in
+      ap looks.ask_of (sym knows.is) ∙ asks in
       record {
         different = rows_of_a_listing_have_different_paths setting knows.fits.distinct view knows.query id told knows.asked listing here;
         at =
@@ -122,7 +102,7 @@ module _ (first : Volume) (events : List Event) (run : Run) (is : IsRun first ev
   by (Calling (Refreshing refresh call)) knows asks =
       let setting = setting_in running.store in
       let here : refreshes.ask_of (refresh_now past handle running.store running.modes running.begun) ≡ Some (parts.Core (events_of.Publish listing)) =
-      ap refreshes.ask_of (sym knows.refresh_is) ∙ part_of (refreshes.ask_of refresh) (events_of.Publish listing) asks in
+      ap refreshes.ask_of (sym knows.refresh_is) ∙ asks in
       record {
         different = what_a_refresh_hands_on_can_happen setting view told knows.asked knows.distinct (events_of.Publish listing) here (present (opened 0 0 0 0)) 0;
         at = rows_are_of_the_folders setting view told knows.asked listing here;

@@ -26,8 +26,8 @@ use Rattle.gix_odb_packs.specs.declared.trier.Tried.{Tried}
 use Rattle.gix_odb_packs.specs.declared.trier.Tried.TheVariants as tried
 use Rattle.gix_odb_events.specs.declared.answer.Answer.{Answer}
 use Rattle.gix_odb_events.specs.declared.answer.Answer.TheVariants as told
-use Rattle.gix_odb_events.specs.declared.answer.PartAsk.{PartAsk}
-use Rattle.gix_odb_events.specs.declared.answer.PartAsk.TheVariants as asks
+use Rattle.gix_odb_events.specs.declared.answer.Ask.{Ask}
+use Rattle.gix_odb_events.specs.declared.answer.Ask.TheVariants as asks
 use Rattle.gix_odb_calls.specs.Verdict.{verdict_on}
 use Rattle.gix_odb_calls.specs.declared.call.CallError.TheVariants as call_errors
 use Rattle.gix_odb_calls.specs.declared.find.Error.TheVariants as find_errors
@@ -64,10 +64,10 @@ trying_lists_nothing number (tries_stages.ReadingPack pack) answer = refl
 trying_lists_nothing number (tries_stages.StoringPack pack file) answer = refl
 trying_lists_nothing number (tries_stages.PassingPack pack) answer = refl
 
-loose_lists_nothing : (number : Option ℕ) (call : Option DiskAsk) (ask : PartAsk) (answer : Answer) → loose_ask call ≡ Some ask → number ≡ list_by number ask answer
+loose_lists_nothing : (number : Option ℕ) (call : Option DiskAsk) (ask : Ask) (answer : Answer) → loose_ask call ≡ Some ask → number ≡ list_by number ask answer
 loose_lists_nothing number None ask answer is = absurd (cc is)
 loose_lists_nothing number (Some own) ask answer is =
-    subst (λ (a : PartAsk). number ≡ list_by number a answer) (same_Some (asks.Disk own) ask is) refl
+    subst (λ (a : Ask). number ≡ list_by number a answer) (same_Some (asks.Disk own) ask is) refl
 
 -- ---- the list that was published or confirmed last
 
@@ -210,13 +210,13 @@ module _ (setting : Setting) (query : Query) where
   -- ---- an exchange
 
   -- the look-up ended at this exchange, a look whose view has the list
-  record EndsHere (number : Option ℕ) (ask : PartAsk) (answer : Answer) (next : LookUp) : Type 0 where
+  record EndsHere (number : Option ℕ) (ask : Ask) (answer : Answer) (next : LookUp) : Type 0 where
     asked : ask ≡ asks.Core events.Look
     effect : Effect
     answered : answer ≡ told.Core (Ok effect)
     checked : IsChecked number next.head effect next.stage
 
-  abbrev Goes : Option ℕ → PartAsk → Answer → LookUp → Type 0
+  abbrev Goes : Option ℕ → Ask → Answer → LookUp → Type 0
   Goes number ask answer next = IsLookAt (list_by number ask answer) next ⊎ EndsHere number ask answer next
 
   looked : (number : Option ℕ) (head : LookHead) → head.query ≡ query → (effect : Effect) (stage : LookStage)
@@ -224,10 +224,10 @@ module _ (setting : Setting) (query : Query) where
   looked number head own effect stage (inl at) = inl (record { own = own; stage = at })
   looked number head own effect stage (inr checked) = inr (record { asked = refl; effect = effect; answered = refl; checked = checked })
 
-  goes_at : (number : Option ℕ) (head : LookHead) → head.query ≡ query → (stage : LookStage) → IsAt number stage → (ask : PartAsk) (answer : Answer)
+  goes_at : (number : Option ℕ) (head : LookHead) → head.query ≡ query → (stage : LookStage) → IsAt number stage → (ask : Ask) (answer : Answer)
       → ask_at stage ≡ Some ask → Goes number ask answer (fed_at setting head stage answer)
   goes_at number head own (stages.Trying trier part) at ask answer is =
-      subst (λ (a : PartAsk). Goes number a answer (fed_at setting head (stages.Trying trier part) answer)) (same_Some (tries.ask_of trier) ask is)
+      subst (λ (a : Ask). Goes number a answer (fed_at setting head (stages.Trying trier part) answer)) (same_Some (tries.ask_of trier) ask is)
       (inl
       (record {
         own = own;
@@ -251,7 +251,7 @@ module _ (setting : Setting) (query : Query) where
         stage = subst (λ (n : Option ℕ). PartAt n round.part) (loose_lists_nothing number (disk_ask_of call) ask (told.Core answer) is) at;
       })
   goes_at number head own (stages.Looking purpose notes) at ask answer is =
-      subst (λ (a : PartAsk). Goes number a answer (fed_at setting head (stages.Looking purpose notes) answer)) (same_Some (asks.Core events.Look) ask is) (by answer)
+      subst (λ (a : Ask). Goes number a answer (fed_at setting head (stages.Looking purpose notes) answer)) (same_Some (asks.Core events.Look) ask is) (by answer)
     where
       by : (told_it : Answer) → Goes number (asks.Core events.Look) told_it (fed_at setting head (stages.Looking purpose notes) told_it)
       by (told.Disk own_answer) = inl (record { own = own; stage = at })
@@ -263,7 +263,7 @@ module _ (setting : Setting) (query : Query) where
   goes_at number head own (stages.Listing lister base notes) at ask (told.Core answer) is = inl (record { own = own; stage = tt })
   goes_at number head own (stages.Publishing listing notes) at ask (told.Disk answer) is = inl (record { own = own; stage = tt })
   goes_at number head own (stages.Publishing listing notes) at ask (told.Core (Ok effect)) is =
-      subst (λ (a : PartAsk). Goes number a (told.Core (Ok effect)) (by_published setting head listing notes effect)) (same_Some (asks.Core (events.Publish listing)) ask is)
+      subst (λ (a : Ask). Goes number a (told.Core (Ok effect)) (by_published setting head listing notes effect)) (same_Some (asks.Core (events.Publish listing)) ask is)
       (inl (published_at number head own listing notes effect))
   goes_at number head own (stages.Publishing listing notes) at ask (told.Core (Err refusal)) is = inl (record { own = own; stage = refused_at (of_refusal refusal) })
   goes_at number head own (stages.Done reply) at ask answer is = absurd (cc is)

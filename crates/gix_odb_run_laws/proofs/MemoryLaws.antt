@@ -19,12 +19,14 @@ use Rattle.gix_odb_calls.specs.declared.write.Error.TheVariants as write_errors
 use Rattle.gix_odb_core.specs.History.{History, opened, present}
 use Rattle.gix_odb_core.specs.Replay.{number_behind}
 use Rattle.gix_odb_core.proofs.RefusalLaws.{each_refusal_has_its_cause}
+use Rattle.gix_odb_events.specs.declared.answer.Ask.TheVariants as parts
 use Rattle.gix_odb_events.specs.declared.event.Event.TheVariants as core_events
 use Rattle.gix_odb_events.specs.declared.event.Refusal.TheVariants as refusals
 use Rattle.gix_odb_loose.specs.declared.find.Error.TheVariants as loose_errors
 use Rattle.gix_odb_loose.specs.declared.write.Error.TheVariants as loose_write_errors
 use Rattle.gix_odb_runs.specs.Cores.{answer_behind, cores_after, history_at}
-use Rattle.gix_odb_runs.specs.Event.{Ask, Asked, CoreAnswer, CoreEvent, Event, OfCore, OfDisk, OfNewCore, OfNothing, ToCore, ToDisk, ToNewCore}
+use Rattle.gix_odb_runs.specs.Event.{Asked, CoreAnswer, CoreEvent, Event, OfCore, OfDisk, OfNewCore, OfNothing}
+use Rattle.gix_odb_events.specs.declared.answer.Ask.{Ask}
 use Rattle.gix_odb_runs.specs.Run.{FailedSince, Stand, disk_after, told_now, tree_at}
 use Rattle.gix_odb_runs.specs.Turned.{is_done}
 use Rattle.gix_odb_runs.specs.Writing.{ToWrite, to_write}
@@ -52,9 +54,9 @@ no_core_wants history seat event wants =
 
 told_has_memory : (at : Stand) (disk : Volume) (ask : Option Ask) → ¬ (RanOut (told_now at disk ask))
 told_has_memory at disk None wants = wants
-told_has_memory at disk (Some (ToDisk ask)) wants = never_wants disk ask (sym wants)
-told_has_memory at disk (Some (ToCore event)) wants = no_core_wants (history_at at.cores at.store) at.seat event wants
-told_has_memory at disk (Some (ToNewCore slots folders)) wants = no_core_wants (opened slots folders 0 0) at.seat (core_events.Register false) wants
+told_has_memory at disk (Some (parts.Disk ask)) wants = never_wants disk ask (sym wants)
+told_has_memory at disk (Some (parts.Core event)) wants = no_core_wants (history_at at.cores at.store) at.seat event wants
+told_has_memory at disk (Some (parts.NewCore slots folders)) wants = no_core_wants (opened slots folders 0 0) at.seat (core_events.Register false) wants
 
 close_has_memory : (cores : List History) (handle : ℕ) (status : Status) → ¬ (RanOut (asked_by_close cores handle status))
 close_has_memory cores handle Free wants = wants

@@ -20,8 +20,8 @@ use Rattle.gix_odb_events.specs.Answers.{view_in}
 use Rattle.gix_odb_events.specs.declared.view.View.{View}
 use Rattle.gix_odb_packs.specs.PackFolder.{is_index_name}
 use Rattle.gix_odb_events.specs.declared.answer.Answer.TheVariants as told
-use Rattle.gix_odb_events.specs.declared.answer.PartAsk.{PartAsk}
-use Rattle.gix_odb_events.specs.declared.answer.PartAsk.TheVariants as parts
+use Rattle.gix_odb_events.specs.declared.answer.Ask.{Ask}
+use Rattle.gix_odb_events.specs.declared.answer.Ask.TheVariants as parts
 use Rattle.gix_odb_calls.specs.declared.call.Reply.{Reply}
 use Rattle.gix_odb_calls.specs.declared.query.Query.{Query}
 use Rattle.gix_odb_calls.specs.declared.query.Query.TheVariants.{Find, Header, Test}
@@ -31,6 +31,7 @@ use Rattle.gix_odb_looks.specs.Fair.{AreFair, PackedPlace}
 use Rattle.gix_odb_looks.specs.LookUpOrder.{Setting, ask_of, fed, not_found, result_of, view_of}
 use Rattle.gix_odb_looks.specs.Stream.{stream_in}
 use Rattle.gix_odb_looks.specs.declared.look_up.LookUp.{LookUp}
+use Rattle.gix_odb_looks.proofs.HandedLaws.{look_ups_have_no_core_made}
 use Rattle.gix_odb_look_laws.proofs.CoreLaws.{core_answers_suit_their_events}
 use Rattle.gix_odb.specs.Contents.{folder_list, sought}
 use Rattle.gix_odb.specs.Held.{InLooseFile, InPackFile, LiesAt}
@@ -43,7 +44,7 @@ use Rattle.gix_odb_world.specs.declared.work.Work.TheVariants.{Calling}
 use Rattle.gix_odb_world.specs.AtWork.{MakeCall, Modes, Running, Store, setting_in}
 use Rattle.gix_odb_world.specs.Begun.{BegunAs}
 use Rattle.gix_odb_runs.specs.Cores.{answer_behind, cores_after, history_at}
-use Rattle.gix_odb_runs.specs.Event.{Ask, Asked, CoreAnswer, CoreEvent, Event, OfCore, OfDisk, OfNewCore, OfNothing, ToCore, ToDisk, ToNewCore, answered, part_asked}
+use Rattle.gix_odb_runs.specs.Event.{Asked, CoreAnswer, CoreEvent, Event, OfCore, OfDisk, OfNewCore, OfNothing, answered}
 use Rattle.gix_odb_world.specs.Headline.{FailsAsListed, IsRun, Law, Works, outcome_of, stand_of}
 use Rattle.gix_odb_world.specs.Machine.{placed}
 use Rattle.gix_odb_world.specs.Machines.{fed_in}
@@ -77,9 +78,9 @@ reply_of_result (Err look) reply is = absurd (cc is)
 core_told : (at : Stand) (disk : Volume) (ask : Option Ask) (store seat : ℕ) (event : CoreEvent) (answer : CoreAnswer) → told_now at disk ask ≡ OfCore store seat event answer
     → OfCore at.store at.seat event (answer_behind (history_at at.cores at.store) at.seat event) ≡ OfCore store seat event answer
 core_told at disk None store seat event answer is = absurd (cc is)
-core_told at disk (Some (ToDisk ask)) store seat event answer is = absurd (cc is)
-core_told at disk (Some (ToNewCore slots folders)) store seat event answer is = absurd (cc is)
-core_told at disk (Some (ToCore own)) store seat event answer is =
+core_told at disk (Some (parts.Disk ask)) store seat event answer is = absurd (cc is)
+core_told at disk (Some (parts.NewCore slots folders)) store seat event answer is = absurd (cc is)
+core_told at disk (Some (parts.Core own)) store seat event answer is =
     let same = same_event at.store at.seat store seat own event (answer_behind (history_at at.cores at.store) at.seat own) answer is in
     ap (λ (x : CoreEvent). OfCore at.store at.seat x (answer_behind (history_at at.cores at.store) at.seat x)) (sym same) ∙ is
 
@@ -152,9 +153,9 @@ module _ (first : Volume) (events : List Event) (run : Run) (is : IsRun first ev
         ∙ ap (λ (l : LookUp). result_of (fed setting l x.answer)) (sym at.is) ∙ ends;
   }
 
-  by_ask : (ask : Option PartAsk) → ask_of at.look ≡ ask → Ended
+  by_ask : (ask : Option Ask) → ask_of at.look ≡ ask → Ended
   by_ask None same =
-      let asked : e.asked ≡ OfNothing = at.told ∙ ap (λ (a : Option PartAsk). told_now (stand_of past handle running) (disk_after first past) (part_asked a)) same in
+      let asked : e.asked ≡ OfNothing = at.told ∙ ap (λ (a : Option Ask). told_now (stand_of past handle running) (disk_after first past) a) same in
       let nothing : told_since whole handle begun ≡ told_so_far = told_none past e handle begun begun_early turn.turns.turn OfNothing asked refl in
       record {
         asked = subst (AreAsked setting start) (sym nothing) at.asked;
@@ -164,14 +165,15 @@ module _ (first : Volume) (events : List Event) (run : Run) (is : IsRun first ev
       }
   by_ask (Some (parts.Disk ask)) same =
       let answer : DiskAnswer = answer_now (disk_after first past) ask in
-      let asked : e.asked ≡ OfDisk ask answer = at.told ∙ ap (λ (a : Option PartAsk). told_now (stand_of past handle running) (disk_after first past) (part_asked a)) same in
+      let asked : e.asked ≡ OfDisk ask answer = at.told ∙ ap (λ (a : Option Ask). told_now (stand_of past handle running) (disk_after first past) a) same in
       let x : Exchange = record { ask = parts.Disk ask; answer = told.Disk answer } in
       ended_by x (told_turn past e handle begun begun_early turn.turns.turn (OfDisk ask answer) asked x refl) same
       (reply_of_result (result_of (fed setting at.look (told.Disk answer))) (not_found query) (goes (OfDisk ask answer) asked))
+  by_ask (Some (parts.NewCore slots folders)) same = absurd (look_ups_have_no_core_made at.look slots folders same)
   by_ask (Some (parts.Core event)) same =
       let stands : Stand = stand_of past handle running in
       let answer : CoreAnswer = answer_behind (history_at stands.cores stands.store) stands.seat event in
-      let asked : e.asked ≡ OfCore stands.store stands.seat event answer = at.told ∙ ap (λ (a : Option PartAsk). told_now (stand_of past handle running) (disk_after first past) (part_asked a)) same in
+      let asked : e.asked ≡ OfCore stands.store stands.seat event answer = at.told ∙ ap (λ (a : Option Ask). told_now (stand_of past handle running) (disk_after first past) a) same in
       let x : Exchange = record { ask = parts.Core event; answer = told.Core answer } in
       ended_by x (told_turn past e handle begun begun_early turn.turns.turn (OfCore stands.store stands.seat event answer) asked x refl) same
       (reply_of_result (result_of (fed setting at.look (told.Core answer))) (not_found query) (goes (OfCore stands.store stands.seat event answer) asked))

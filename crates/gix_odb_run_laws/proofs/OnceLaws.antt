@@ -1,7 +1,7 @@
 -- Laws of runs about queries whose object is at hand: they end in their first turn, which does nothing.
 use Rattle.std.proofs.Common.{◌≡◌, ℕ, List, [], ◌∷◌, length, take, Option, None, Result, refl, sym, ap, ◌∙◌, subst, arith}
 use Rattle.odb_asks.specs.MemDisk.{Volume}
-use Rattle.gix_odb_events.specs.declared.answer.PartAsk.{PartAsk}
+use Rattle.gix_odb_events.specs.declared.answer.Ask.{Ask}
 use Rattle.gix_odb_calls.specs.declared.call.Reply.{Reply}
 use Rattle.gix_odb_calls.specs.declared.query.Query.{Query}
 use Rattle.gix_odb_looks.specs.Exchange.{Exchange, behind}
@@ -13,7 +13,7 @@ use Rattle.gix_odb_look_laws.proofs.OnceLaws.{object_at_hand_is_found_at_once}
 use Rattle.gix_odb_runs.specs.declared.record.Run.{Run}
 use Rattle.gix_odb_world.specs.declared.work.Work.{Work}
 use Rattle.gix_odb_world.specs.AtWork.{Running, setting_in}
-use Rattle.gix_odb_runs.specs.Event.{Asked, Event, OfNothing, answered, part_asked}
+use Rattle.gix_odb_runs.specs.Event.{Asked, Event, OfNothing, answered}
 use Rattle.gix_odb_world.specs.Headline.{IsRun, outcome_of, stand_of}
 use Rattle.gix_odb_world.specs.Machine.{placed}
 use Rattle.gix_odb_world.specs.Machines.{ask_in, fed_in}
@@ -46,10 +46,10 @@ module _ (first : Volume) (events : List Event) (place : ℕ) (e : Event) (handl
     silent = ap ask_of begins ∙ done.silent
 
     asks_nothing : e.asked ≡ OfNothing
-    asks_nothing = at.told ∙ ap (λ (a : Option PartAsk). told_now (stand_of past handle running) (disk_after first past) (part_asked a)) silent
+    asks_nothing = at.told ∙ ap (λ (a : Option Ask). told_now (stand_of past handle running) (disk_after first past) a) silent
 
     no_ask : at.works.ask ≡ None
-    no_ask = sym at.works.asks ∙ ap (ask_in running.store) at.work ∙ ap part_asked silent
+    no_ask = sym at.works.asks ∙ ap (ask_in running.store) at.work ∙ silent
 
     ends_unasked : EndsUnasked query e
     ends_unasked = record {

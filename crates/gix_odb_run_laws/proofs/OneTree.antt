@@ -17,7 +17,7 @@ use Rattle.odb_nodes.specs.Tree.Follow.{Absent, LinkLoop, Refusal, WrongKind}
 use Rattle.odb_nodes.specs.declared.disk_error.DiskError.TheVariants as errors
 use Rattle.odb_nodes.specs.declared.entry.Entry.{Entry}
 use Rattle.gix_odb_events.specs.declared.answer.Answer.TheVariants as told
-use Rattle.gix_odb_events.specs.declared.answer.PartAsk.TheVariants as parts
+use Rattle.gix_odb_events.specs.declared.answer.Ask.TheVariants as parts
 use Rattle.gix_odb_looks.specs.Exchange.{Exchange}
 use Rattle.gix_odb_looks.specs.OpenStream.{IsOnStream, IsStreamOf, given_by}
 use Rattle.gix_odb_looks.specs.Stream.{Stream, opens, reads, stream_by, stream_in}
@@ -27,7 +27,8 @@ use Rattle.gix_odb_look_laws.specs.ListedFiles.{AreOfTree, IsOrFails, IsToldOfTr
 use Rattle.gix_odb_runs.specs.declared.record.Run.{Run}
 use Rattle.gix_odb_world.specs.AtWork.{Running}
 use Rattle.gix_odb_runs.specs.Cores.{answer_behind, history_at}
-use Rattle.gix_odb_runs.specs.Event.{Ask, CoreAnswer, Event, OfCore, OfDisk, ToCore, ToDisk, ToNewCore}
+use Rattle.gix_odb_runs.specs.Event.{CoreAnswer, Event, OfCore, OfDisk}
+use Rattle.gix_odb_events.specs.declared.answer.Ask.{Ask}
 use Rattle.gix_odb_world.specs.Headline.{IsRun, Works, stand_of}
 use Rattle.gix_odb_world.specs.Machines.{ask_in}
 use Rattle.gix_odb_runs.specs.Run.{IsTurnOf, Stand, disk_after, told_now, tree_at}
@@ -260,7 +261,7 @@ module _ (tree : Tree) where
         early : was.begun ≤ now
         early = let since = begun_early in let count = long in omega (arith, since, count)
 
-        own_stream : (ask : DiskAsk) → ask_in was.store was.work ≡ Some (ToDisk ask) → HasOwn (disk_after first past) (shown was.begun early stays) (stream_in exchanges) one.left one.stream ask
+        own_stream : (ask : DiskAsk) → ask_in was.store was.work ≡ Some (parts.Disk ask) → HasOwn (disk_after first past) (shown was.begun early stays) (stream_in exchanges) one.left one.stream ask
         own_stream ask asked dir same =
             let own = (asks_own first past handle was was.work runs.1 ask asked).on dir (subst (λ (a : DiskAsk). IsOnStream dir a) (sym same) refl) in
             let stands = streams_stand first past (lawful_front first events now is.lawful) (runs_up_to first events now early_now is.throughout) handle was status own.0 own.1 in
@@ -285,15 +286,15 @@ module _ (tree : Tree) where
 
           by_ask : (ask : Option Ask) → works.ask ≡ ask → IsOneTree (told_since whole handle was.begun)
           by_ask None same = subst IsOneTree (sym (told_none past e handle was.begun begun_early turn e.asked refl (ap exchange_of (works.told ∙ ap (told_now at (disk_after first past)) same)))) one
-          by_ask (Some (ToNewCore slots folders)) same =
+          by_ask (Some (parts.NewCore slots folders)) same =
               subst IsOneTree (sym (told_none past e handle was.begun begun_early turn e.asked refl (ap exchange_of (works.told ∙ ap (told_now at (disk_after first past)) same)))) one
-          by_ask (Some (ToCore event)) same =
+          by_ask (Some (parts.Core event)) same =
               let answer : CoreAnswer = answer_behind (history_at at.cores at.store) at.seat event in
               let x : Exchange = record { ask = parts.Core event; answer = told.Core answer } in
               subst IsOneTree
               (sym (told_turn past e handle was.begun begun_early turn (OfCore at.store at.seat event answer) (works.told ∙ ap (told_now at (disk_after first past)) same) x refl))
               (told_more exchanges one x (record { next = one.left; of = refl; is_left = one.stream }))
-          by_ask (Some (ToDisk ask)) same =
+          by_ask (Some (parts.Disk ask)) same =
               let x : Exchange = record { ask = parts.Disk ask; answer = told.Disk (answer_now (disk_after first past) ask) } in
               subst IsOneTree
               (sym (told_turn past e handle was.begun begun_early turn (OfDisk ask (answer_now (disk_after first past) ask)) (works.told ∙ ap (told_now at (disk_after first past)) same) x refl))

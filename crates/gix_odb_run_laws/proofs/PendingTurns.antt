@@ -6,7 +6,9 @@ use Rattle.odb_nodes.specs.Tree.{Tree, tree_of}
 use Rattle.odb_nodes.specs.Tree.Follow.{listed}
 use Rattle.gix_odb_calls.specs.declared.call.Call.{Call}
 use Rattle.gix_odb.specs.Contents.{StoreData, folder_list}
-use Rattle.gix_odb_runs.specs.Event.{Ask, Asked, Event, ToCore, ToDisk, ToNewCore}
+use Rattle.gix_odb_runs.specs.Event.{Asked, Event}
+use Rattle.gix_odb_events.specs.declared.answer.Ask.{Ask}
+use Rattle.gix_odb_events.specs.declared.answer.Ask.TheVariants as work_asks
 use Rattle.gix_odb_runs.specs.Run.{Stand, disk_after, told_now, tree_at}
 use Rattle.gix_odb_runs.specs.Turned.{is_done}
 use Rattle.gix_odb_world.specs.Asks.{AsksAsTask}
@@ -22,18 +24,18 @@ use Rattle.gix_odb_run_laws.proofs.TurnsAtWork.{IsLeftBy, left_by_turn, turn_at_
 -- ---- what a turn leaves of the bound
 
 -- what is asked leaves the number of slots, unless it is a new core
-slots_kept : (at : Stand) (disk : Volume) (ask : Option Ask) (modes : Modes) → ((slots folders : ℕ) → ¬ (ask ≡ Some (ToNewCore slots folders)))
+slots_kept : (at : Stand) (disk : Volume) (ask : Option Ask) (modes : Modes) → ((slots folders : ℕ) → ¬ (ask ≡ Some (work_asks.NewCore slots folders)))
     → (modes_after (told_now at disk ask) modes).slots ≡ modes.slots
 slots_kept at disk None modes never = refl
-slots_kept at disk (Some (ToDisk ask)) modes never = refl
-slots_kept at disk (Some (ToCore event)) modes never = refl
-slots_kept at disk (Some (ToNewCore slots folders)) modes never = absurd (never slots folders refl)
+slots_kept at disk (Some (work_asks.Disk ask)) modes never = refl
+slots_kept at disk (Some (work_asks.Core event)) modes never = refl
+slots_kept at disk (Some (work_asks.NewCore slots folders)) modes never = absurd (never slots folders refl)
 
 -- a call asks for none
 no_new_core : (first : Volume) (past : List Event) (handle : ℕ) (store : Store) (modes : Modes) (begun turns : ℕ) (task : Task) (ask : Option Ask)
-    → AsksAsTask first past handle store modes begun turns task ask → (call : Call) → task ≡ MakeCall call → (slots folders : ℕ) → ¬ (ask ≡ Some (ToNewCore slots folders))
+    → AsksAsTask first past handle store modes begun turns task ask → (call : Call) → task ≡ MakeCall call → (slots folders : ℕ) → ¬ (ask ≡ Some (work_asks.NewCore slots folders))
 no_new_core first past handle store modes begun turns task ask asks call calls slots folders new =
-    subst (λ (t : Task). AsksAsTask first past handle store modes begun turns t (Some (ToNewCore slots folders))) calls
+    subst (λ (t : Task). AsksAsTask first past handle store modes begun turns t (Some (work_asks.NewCore slots folders))) calls
     (subst (AsksAsTask first past handle store modes begun turns task) new asks)
 
 -- the bound of a call is by the slots, and that of an opening isn't

@@ -6,8 +6,8 @@ use Rattle.odb_asks.specs.MemDisk.{Volume}
 use Rattle.odb_nodes.specs.Tree.{tree_of}
 use Rattle.gix_odb_core.specs.Replay.{snapshot_of}
 use Rattle.gix_hash.specs.declared.object_id.ObjectId.{ObjectId}
-use Rattle.gix_odb_events.specs.declared.answer.PartAsk.{PartAsk}
-use Rattle.gix_odb_events.specs.declared.answer.PartAsk.TheVariants as parts
+use Rattle.gix_odb_events.specs.declared.answer.Ask.{Ask}
+use Rattle.gix_odb_events.specs.declared.answer.Ask.TheVariants as parts
 use Rattle.gix_odb_calls.specs.declared.query.Query.{Query}
 use Rattle.gix_odb_calls.specs.declared.query.Query.TheVariants.{Find, Header, Test}
 use Rattle.gix_odb_looks.specs.Exchange.{AreAsked}
@@ -20,7 +20,7 @@ use Rattle.gix_odb_world.specs.declared.work.Work.{Work}
 use Rattle.gix_odb_world.specs.declared.work.Work.TheVariants.{Calling, Opening}
 use Rattle.gix_odb_world.specs.AtWork.{MakeCall, OpenStore, Running, setting_in}
 use Rattle.gix_odb_runs.specs.Cores.{answer_behind, cores_after, history_at}
-use Rattle.gix_odb_runs.specs.Event.{CoreAnswer, CoreEvent, Event, OfCore, part_asked}
+use Rattle.gix_odb_runs.specs.Event.{CoreAnswer, CoreEvent, Event, OfCore}
 use Rattle.gix_odb_world.specs.Headline.{IsLawful, IsRun, Law, Works, stand_of}
 use Rattle.gix_odb_world.specs.Machines.{ask_in}
 use Rattle.gix_odb_runs.specs.Run.{Stand, disk_after, told_now, tree_at}
@@ -101,7 +101,7 @@ pub record IsLookTurn (first : Volume) (events : List Event) (place : ℕ) (e : 
       (told_since (take place events) handle running.begun)
   pub turns : running.turns ≡ length (told_since (take place events) handle running.begun)
   pub well : IsToldWell first (take place events) handle running.store running.modes running.begun
-  pub told : e.asked ≡ told_now (stand_of (take place events) handle running) (disk_after first (take place events)) (part_asked (ask_of look))
+  pub told : e.asked ≡ told_now (stand_of (take place events) handle running) (disk_after first (take place events)) (ask_of look)
 
 module _ (first : Volume) (events : List Event) (run : Run) (is : IsRun first events run) (place : ℕ) (e : Event) (handle : ℕ) (running : Running) (query : Query)
     (turn : IsQueryTurn events place e handle running query) where
@@ -130,7 +130,7 @@ module _ (first : Volume) (events : List Event) (run : Run) (is : IsRun first ev
   by (Calling (Refused error)) work knows = absurd knows
   by (Calling (Looking look)) work knows =
       let same : knows.query ≡ query = same_query knows.query query (sym knows.task ∙ turn.task) in
-      let asks : works.ask ≡ part_asked (ask_of look) = sym works.asks ∙ ap (ask_in running.store) work in
+      let asks : works.ask ≡ ask_of look = sym works.asks ∙ ap (ask_in running.store) work in
       let since = runs.0 in
       let count = long in
       record {
@@ -160,10 +160,11 @@ module _ (first : Volume) (events : List Event) (run : Run) (is : IsRun first ev
 pub same_event : (store seat other further : ℕ) (one two : CoreEvent) (a b : CoreAnswer) → OfCore store seat one a ≡ OfCore other further two b → one ≡ two
 same_event store seat other further one two a b is = cc is
 
-core_asked : (at : Stand) (disk : Volume) (ask : Option PartAsk) (store seat : ℕ) (event : CoreEvent) (answer : CoreAnswer)
-    → told_now at disk (part_asked ask) ≡ OfCore store seat event answer → ask ≡ Some (parts.Core event)
+pub core_asked : (at : Stand) (disk : Volume) (ask : Option Ask) (store seat : ℕ) (event : CoreEvent) (answer : CoreAnswer)
+    → told_now at disk ask ≡ OfCore store seat event answer → ask ≡ Some (parts.Core event)
 core_asked at disk None store seat event answer is = absurd (cc is)
 core_asked at disk (Some (parts.Disk ask)) store seat event answer is = absurd (cc is)
+core_asked at disk (Some (parts.NewCore slots folders)) store seat event answer is = absurd (cc is)
 core_asked at disk (Some (parts.Core own)) store seat event answer is =
     ap (λ (x : CoreEvent). Some (parts.Core x))
     (same_event at.store at.seat store seat own event (answer_behind (history_at at.cores at.store) at.seat own) answer is)
@@ -184,5 +185,5 @@ module _ (first : Volume) (events : List Event) (place : ℕ) (e : Event) (handl
     store = stands.store;
     seat = stands.seat;
     answer = answer_behind (history_at stands.cores stands.store) stands.seat event;
-    asked = at.told ∙ ap (λ (a : Option PartAsk). told_now stands (disk_after first (take place events)) (part_asked a)) is;
+    asked = at.told ∙ ap (λ (a : Option Ask). told_now stands (disk_after first (take place events)) a) is;
   }

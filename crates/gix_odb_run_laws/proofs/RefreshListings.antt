@@ -16,8 +16,8 @@ use Rattle.gix_odb_packs.specs.ListOrder as lists
 use Rattle.gix_odb_packs.specs.LongestFirst.{longest_first}
 use Rattle.gix_odb_events.specs.declared.answer.Answer.{Answer}
 use Rattle.gix_odb_events.specs.declared.answer.Answer.TheVariants as told
-use Rattle.gix_odb_events.specs.declared.answer.PartAsk.{PartAsk}
-use Rattle.gix_odb_events.specs.declared.answer.PartAsk.TheVariants as parts
+use Rattle.gix_odb_events.specs.declared.answer.Ask.{Ask}
+use Rattle.gix_odb_events.specs.declared.answer.Ask.TheVariants as parts
 use Rattle.gix_odb_packs.specs.declared.lister.ListStep.{ListStep}
 use Rattle.gix_odb_packs.specs.declared.lister.ListStep.TheVariants as steps
 use Rattle.gix_odb_looks.specs.Exchange.{Exchange, WasTold}
@@ -33,7 +33,7 @@ use Rattle.gix_odb_refresh.specs.Refreshed.{AreAsked, behind}
 use Rattle.gix_odb_refresh.specs.declared.refresh.Refresh.{Refresh}
 use Rattle.gix_odb_refresh.specs.declared.refresh.Refresh.TheVariants as stages
 
-same_part : (one other : PartAsk) → ◌≡◌ {A = Option PartAsk} (Some one) (Some other) → one ≡ other
+same_part : (one other : Ask) → ◌≡◌ {A = Option Ask} (Some one) (Some other) → one ≡ other
 same_part one other is = same_Some one other is
 
 -- what holds of the rows of a listing that is at hand holds of those that are handed on
@@ -77,11 +77,11 @@ module _ (setting : Setting) where
     published_seen listing here (effects.Outdated number) = tt
     published_seen listing here effect = here
 
-    fed_seen : (refresh : Refresh) → Sees refresh → (ask : PartAsk) (answer : Answer) → ask_of refresh ≡ Some ask → WasTold all ask answer → Sees (fed_by refresh answer)
+    fed_seen : (refresh : Refresh) → Sees refresh → (ask : Ask) (answer : Answer) → ask_of refresh ≡ Some ask → WasTold all ask answer → Sees (fed_by refresh answer)
     fed_seen (stages.Listing lister base) here ask (told.Disk answer) is was =
         listed_seen base (lists.fed setting.folders lister answer)
         (listing_sees Told setting.folders lister.head here.rows lister.stage here.stage answer
-        (subst (λ (a : PartAsk). WasTold all a (told.Disk answer)) (sym (same_part (parts.Disk (lists.ask_of lister)) ask is)) was))
+        (subst (λ (a : Ask). WasTold all a (told.Disk answer)) (sym (same_part (parts.Disk (lists.ask_of lister)) ask is)) was))
     fed_seen (stages.Listing lister base) here ask (told.Core answer) is was = here
     fed_seen stages.Looking here ask (told.Disk answer) is was = tt
     fed_seen stages.Looking here ask (told.Core (Ok effect)) is was = look_seen (view_shown effect)
@@ -144,14 +144,14 @@ module _ (setting : Setting) where
     published_listed coming listing here (effects.Outdated number) = tt
     published_listed coming listing here effect = here
 
-    fed_listed : (coming : List Entry) (refresh : Refresh) → Lists coming refresh → (ask : PartAsk) (answer : Answer) (left : List Entry) → ask_of refresh ≡ Some ask
+    fed_listed : (coming : List Entry) (refresh : Refresh) → Lists coming refresh → (ask : Ask) (answer : Answer) (left : List Entry) → ask_of refresh ≡ Some ask
         → IsToldOfTree tree coming ask answer left → Lists left (fed_by refresh answer)
     fed_listed coming (stages.Listing lister base) here ask (told.Disk answer) left is of =
         listed_so left base (lists.fed setting.folders lister answer)
         (listing_lists tree setting.folders total lister.head coming lister.stage here answer left
-        (subst (λ (a : PartAsk). IsToldOfTree tree coming a (told.Disk answer) left) (sym (same_part (parts.Disk (lists.ask_of lister)) ask is)) of))
+        (subst (λ (a : Ask). IsToldOfTree tree coming a (told.Disk answer) left) (sym (same_part (parts.Disk (lists.ask_of lister)) ask is)) of))
     fed_listed coming (stages.Listing lister base) here ask (told.Core answer) left is of =
-        absurd (subst (λ (a : PartAsk). IsToldOfTree tree coming a (told.Core answer) left) (sym (same_part (parts.Disk (lists.ask_of lister)) ask is)) of)
+        absurd (subst (λ (a : Ask). IsToldOfTree tree coming a (told.Core answer) left) (sym (same_part (parts.Disk (lists.ask_of lister)) ask is)) of)
     fed_listed coming stages.Looking here ask (told.Disk answer) left is of = tt
     fed_listed coming stages.Looking here ask (told.Core (Ok effect)) left is of = look_listed left (view_shown effect)
     fed_listed coming stages.Looking here ask (told.Core (Err refusal)) left is of = tt

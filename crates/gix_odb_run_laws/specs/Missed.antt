@@ -7,12 +7,12 @@ use Rattle.gix_odb_events.specs.declared.event.Event.TheVariants as events
 use Rattle.gix_odb_events.specs.declared.view.View.{View}
 use Rattle.gix_odb_events.specs.declared.answer.Answer.{Answer}
 use Rattle.gix_odb_events.specs.declared.answer.Answer.TheVariants as told
-use Rattle.gix_odb_events.specs.declared.answer.PartAsk.{PartAsk}
-use Rattle.gix_odb_events.specs.declared.answer.PartAsk.TheVariants as asks
+use Rattle.gix_odb_events.specs.declared.answer.Ask.{Ask}
+use Rattle.gix_odb_events.specs.declared.answer.Ask.TheVariants as asks
 use Rattle.gix_odb_looks.specs.Exchange.{Exchange}
 
 -- the number of the list that the core answered last to a listing that was handed to it, by publishing it or by confirming it
-abbrev pub list_by : (before : Option ℕ) → PartAsk → Answer → Option ℕ
+abbrev pub list_by : (before : Option ℕ) → Ask → Answer → Option ℕ
 list_by before (asks.Core (events.Publish listing)) (told.Core (Ok (effects.Published view))) = Some view.list_no
 list_by before (asks.Core (events.Publish listing)) (told.Core (Ok (effects.Unchanged view))) = Some view.list_no
 list_by before ask answer = before

@@ -16,9 +16,11 @@ use Rattle.gix_odb_runs.specs.declared.record.Did.TheVariants.{Nothing, Disk, Co
 use Rattle.gix_odb_calls.specs.declared.step.Step.TheVariants as steps
 use Rattle.gix_odb_core.specs.History.{History, opened}
 use Rattle.gix_odb_core.specs.Replay.{number_behind}
+use Rattle.gix_odb_events.specs.declared.answer.Ask.{Ask}
+use Rattle.gix_odb_events.specs.declared.answer.Ask.TheVariants as asks
 use Rattle.gix_odb_events.specs.declared.event.Event.TheVariants as core_events
 use Rattle.gix_odb_runs.specs.Cores.{answer_behind, history_at}
-use Rattle.gix_odb_runs.specs.Event.{Ask, Asked, OfNothing, OfDisk, OfCore, OfNewCore, ToCore, ToDisk, ToNewCore, Event}
+use Rattle.gix_odb_runs.specs.Event.{Asked, OfNothing, OfDisk, OfCore, OfNewCore, Event}
 use Rattle.gix_odb_runs.specs.Turned.{is_done}
 
 abbrev pub disk_after_change : Volume → Option Change → Volume
@@ -71,17 +73,17 @@ stand cores store seat = record { cores = cores; store = store; seat = seat }
 -- of a core the one that the event gives behind the core's history. A new core has the next number.
 abbrev pub told_now : Stand → Volume → Option Ask → Asked
 told_now at disk None = OfNothing
-told_now at disk (Some (ToDisk ask)) = OfDisk ask (answer_now disk ask)
-told_now at disk (Some (ToCore event)) = OfCore at.store at.seat event (answer_behind (history_at at.cores at.store) at.seat event)
-told_now at disk (Some (ToNewCore slots folders)) =
+told_now at disk (Some (asks.Disk ask)) = OfDisk ask (answer_now disk ask)
+told_now at disk (Some (asks.Core event)) = OfCore at.store at.seat event (answer_behind (history_at at.cores at.store) at.seat event)
+told_now at disk (Some (asks.NewCore slots folders)) =
     OfNewCore slots folders (length at.cores) at.seat (answer_behind (opened slots folders 0 0) at.seat (core_events.Register false))
 
 -- the record of what was asked so: a call of the disk fails where its number is listed
 abbrev pub did_asked : (opened : Option Path) → Stand → Volume → Option Ask → Did
 did_asked opened at disk None = Nothing
-did_asked opened at disk (Some (ToDisk ask)) = Disk (op_of ask) (path_recorded opened ask) (fails_now disk ask)
-did_asked opened at disk (Some (ToCore event)) = Core at.store (number_behind (history_at at.cores at.store).entries)
-did_asked opened at disk (Some (ToNewCore slots folders)) = Core (length at.cores) (number_behind [])
+did_asked opened at disk (Some (asks.Disk ask)) = Disk (op_of ask) (path_recorded opened ask) (fails_now disk ask)
+did_asked opened at disk (Some (asks.Core event)) = Core at.store (number_behind (history_at at.cores at.store).entries)
+did_asked opened at disk (Some (asks.NewCore slots folders)) = Core (length at.cores) (number_behind [])
 
 -- a record is that of a call of the disk, whatever stream it may be on
 abbrev pub TellsCall : Volume → DiskAsk → Did → Type 0
@@ -90,9 +92,9 @@ TellsCall disk ask did = (opened : Option Path) × (did ≡ Disk (op_of ask) (pa
 -- the change that what was asked so makes: only a call of the disk makes one
 abbrev pub change_asked : Volume → Option Ask → Option Change
 change_asked disk None = None
-change_asked disk (Some (ToDisk ask)) = change_by disk ask
-change_asked disk (Some (ToCore event)) = None
-change_asked disk (Some (ToNewCore slots folders)) = None
+change_asked disk (Some (asks.Disk ask)) = change_by disk ask
+change_asked disk (Some (asks.Core event)) = None
+change_asked disk (Some (asks.NewCore slots folders)) = None
 
 -- the disk after all events
 unfoldable pub disk_after : Volume → List Event → Volume

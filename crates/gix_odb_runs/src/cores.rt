@@ -1,17 +1,17 @@
 //! The cores of a world's stores: how they are made, what clones and closes do to them, and the journals that they leave.
-ghost use Rattle.std.specs.Prelude.{◌≡◌, ◌<◌, ◌≤◌, All, IfOk, IsSome, None, OnOk, Some, false, length, map};
-ghost use Rattle.gix_odb_core.specs.History.{History, present};
+ghost use Rattle.std.specs.Prelude.{◌≡◌, ◌<◌, ◌≤◌, [], All, IfOk, IsSome, None, OnOk, Some, false, length, map};
+ghost use Rattle.gix_odb_core.specs.History.{History, opened, present};
 ghost use Rattle.gix_odb_core.specs.Journal.{entries_of};
 ghost use Rattle.gix_odb_core.specs.Replay.{CanHappen, number_behind};
 ghost use Rattle.gix_odb_events.specs.Answers.{view_in};
 ghost use Rattle.gix_odb_events.specs.PackId.{most_slots};
-ghost use Rattle.gix_odb_runs.specs.Cores.{answer_behind, cores_after_asked, history_at, registered_at};
-ghost use Rattle.gix_odb_runs.specs.Event.{OfCore};
+ghost use Rattle.gix_odb_runs.specs.Cores.{answer_behind, cores_after_asked, entered, history_at, registered_at};
+ghost use Rattle.gix_odb_runs.specs.Event.{OfCore, OfNewCore};
 ghost use Rattle.gix_odb_runs.specs.Held.{IsHeld};
 ghost use Rattle.gix_odb_runs.specs.JournalKept.{IsJournal};
-ghost use Rattle.gix_odb_runs.specs.Made.{MakesCore, joined_answer};
+ghost use Rattle.gix_odb_runs.specs.Made.{first_answer, joined_answer};
 
-use crate::kept_core::{KeptCore, register};
+use crate::kept_core::{KeptCore, answered};
 use crate::record::Did;
 use gix_odb_core::{Core, Journal};
 use gix_odb_events::{Effect, Event, Refusal, View};
@@ -21,20 +21,43 @@ use std::alloc::Global;
 /// The journals of the cores of a run, one for each store that was opened.
 pub type JournalList = Sequence<Journal>;
 
-/// A core for a store with so many slots and folders, at which a handle is registered; and the view that this handed over.
-pub fn core_with(
+/// Makes the core of a store, with so many slots and folders, at which a handle is registered: what that did, and the answer.
+pub fn added(
+    alloc: Global,
+    cores: &mut Vec<KeptCore>,
+    slots: u16,
+    folders: usize,
+    seat: u32,
+) -> Result<EventDone, NoMemory>
+    requires few { slots ≤ most_slots }
+    ensures did { IfOk result (λ added. added.did ≡ Did.Core (length cores.old.items) (number_behind [])) }
+    ensures answer { IfOk result (λ added. added.answer ≡ first_answer slots folders seat) }
+    ensures cores { OnOk result (cores.new.items ≡ cores_after_asked cores.old.items (OfNewCore slots folders (length cores.old.items) seat (first_answer slots folders seat))) }
+{
+    let store = cores.len() as u64;
+    let (core, answer) = core_with(alloc, slots, folders, seat)?;
+    cores.push(core)?;
+    Ok(EventDone {
+        did: Did::Core { store, entry: 1 },
+        answer,
+    })
+}
+
+/// A core with so many slots and folders, at which a handle is registered; and the answer to that.
+fn core_with(
     alloc: Global,
     slots: u16,
     folders: usize,
     seat: u32,
-) -> Result<(KeptCore, View), NoMemory>
+) -> Result<(KeptCore, Result<Effect, Refusal>), NoMemory>
     requires few { slots ≤ most_slots }
-    ensures makes { IfOk result (λ made. MakesCore slots folders seat made.0 made.1) }
+    ensures core { IfOk result (λ made. made.0 ≡ entered (opened slots folders 0 0) seat (Event.Register false) (first_answer slots folders seat)) }
+    ensures answer { IfOk result (λ made. made.1 ≡ first_answer slots folders seat) }
 {
     let core = Core::new(alloc, slots, folders)?;
     let mut core = Box::new(alloc, core)?;
-    match register(alloc, &mut core, seat) {
-        Ok(view) => Ok((KeptCore::held(core), view)),
+    match answered(alloc, &mut core, seat, Event::Register { stable: false }) {
+        Ok(answer) => Ok((KeptCore::held(core), answer)),
         Err(error) => {
             drop(core);
             Err(error)

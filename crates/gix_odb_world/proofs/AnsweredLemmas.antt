@@ -8,7 +8,7 @@ use Rattle.odb_asks.specs.declared.ask.DiskAsk.{DiskAsk}
 use Rattle.odb_asks.specs.declared.ask.DiskAsk.TheVariants as asks
 use Rattle.gix_odb_core.specs.History.{History}
 use Rattle.gix_odb_events.specs.declared.answer.Answer.TheVariants as told
-use Rattle.gix_odb_events.specs.declared.answer.PartAsk.TheVariants as parts
+use Rattle.gix_odb_events.specs.declared.answer.Ask.TheVariants as parts
 use Rattle.gix_odb_looks.specs.Exchange.{AreAnswered, Exchange, IsAnswerTo}
 use Rattle.gix_odb_looks.specs.Laps as laps
 use Rattle.gix_odb_looks.specs.Laps.{AreWithin}
@@ -19,7 +19,7 @@ use Rattle.gix_odb_refresh.specs.Asked.{AreSuited, IsSuited}
 use Rattle.gix_odb_world.specs.AtWork.{Running, Store}
 use Rattle.gix_odb_world.specs.Bound.{HasAtMost}
 use Rattle.gix_odb_runs.specs.Cores.{answer_behind, cores_after, history_at}
-use Rattle.gix_odb_runs.specs.Event.{CoreAnswer, CoreEvent, Event, OfCore, OfDisk, ToCore, ToDisk}
+use Rattle.gix_odb_runs.specs.Event.{CoreAnswer, CoreEvent, Event, OfCore, OfDisk}
 use Rattle.gix_odb_runs.specs.Run.{disk_after, tree_at}
 use Rattle.gix_odb_world.specs.Running.Answered.{IsAnsweredWell}
 use Rattle.gix_odb_world.specs.Told.{told_since}
@@ -88,7 +88,7 @@ module _ (first : Volume) (events : List Event) (e : Event) where
 
     -- a call of the disk, on its own stream if it is on one
     module _ (ran : IsRunning first events handle running) (ask : DiskAsk) (own : (dir : ℕ) → ask ≡ asks.NextEntry dir → IsOwnStream before dir)
-        (turn : IsTurnAsking first events e handle running (Some (ToDisk ask))) where
+        (turn : IsTurnAsking first events e handle running (Some (parts.Disk ask))) where
       abbrev answer : DiskAnswer
       answer = answer_now (disk_after first events) ask
 
@@ -104,7 +104,7 @@ module _ (first : Volume) (events : List Event) (e : Event) where
           (λ entries most. streams_are_short first events e handle running ran ask own entries most (still_short entries most))
 
     -- an event of the core of its store
-    module _ (event : CoreEvent) (turn : IsTurnAsking first events e handle running (Some (ToCore event))) where
+    module _ (event : CoreEvent) (turn : IsTurnAsking first events e handle running (Some (parts.Core event))) where
       abbrev history : History
       history = history_at (cores_after events) running.modes.core
 

@@ -25,8 +25,8 @@ use Rattle.gix_odb_events.specs.declared.listing.ListingRow.{ListingRow}
 use Rattle.gix_odb_packs.specs.ListOrder as lists
 use Rattle.gix_odb_events.specs.declared.answer.Answer.{Answer}
 use Rattle.gix_odb_events.specs.declared.answer.Answer.TheVariants as told
-use Rattle.gix_odb_events.specs.declared.answer.PartAsk.{PartAsk}
-use Rattle.gix_odb_events.specs.declared.answer.PartAsk.TheVariants as asks
+use Rattle.gix_odb_events.specs.declared.answer.Ask.{Ask}
+use Rattle.gix_odb_events.specs.declared.answer.Ask.TheVariants as asks
 use Rattle.gix_odb_packs.specs.declared.lister.ListStep.{ListStep}
 use Rattle.gix_odb_packs.specs.declared.lister.ListStep.TheVariants as listed
 use Rattle.gix_odb_calls.specs.declared.init.Slots.{Slots}
@@ -112,16 +112,17 @@ module _ (setting : Setting) (slots : Slots) where
     pub has : HasCalls setting slots start listing
     pub of_tree : (tree : Tree) → AreOfTree tree [] (look ∷ listing) → AreOfTree tree [] listing
 
-  counted_behind : (ask : PartAsk) (answer : Answer) (listing : List Exchange) → asks.Disk (disk_asks.Look setting.objects true) ≡ ask → IsSuited ask answer
-      → AreAsked setting slots (fed_by setting slots opens.Looking answer) listing → HasCounted (record { ask = ask; answer = answer }) listing
-  counted_behind ask answer listing is suits asked =
-      subst (λ (own : PartAsk). IsSuited own answer → HasCounted (record { ask = own; answer = answer }) listing) is (by answer asked) suits
+  counted_behind : (ask : Ask) (answer : Answer) (listing : List Exchange) → asks.Disk (disk_asks.Look setting.objects true) ≡ ask → IsSuited ask answer
+      → AreAsked setting slots (fed_by setting slots opens.Looking answer) listing → AreSuited listing
+      → HasCounted (record { ask = ask; answer = answer }) listing
+  counted_behind ask answer listing is suits asked suited =
+      subst (λ (own : Ask). IsSuited own answer → HasCounted (record { ask = own; answer = answer }) listing) is (by answer asked) suits
     where
       by : (answer : Answer) → AreAsked setting slots (fed_by setting slots opens.Looking answer) listing
           → IsSuited (asks.Disk (disk_asks.Look setting.objects true)) answer
           → HasCounted (record { ask = asks.Disk (disk_asks.Look setting.objects true); answer = answer }) listing
       by (told.Disk answer) asked suits = record {
-        has = calls_behind_the_look setting slots answer listing asked;
+        has = calls_behind_the_look setting slots answer listing asked suited;
         of_tree = λ tree of. subst (λ (coming : List Entry). AreOfTree tree coming listing) of.1.1 of.2;
       }
       by (told.Core answer) asked suits = absurd suits
@@ -162,6 +163,7 @@ module _ (first : Volume) (events : List Event) (handle : ℕ) (store : Store) (
         (same_Some (asks.Disk (disk_asks.Look setting.objects true)) has.look.ask all_asked.0)
         (suited has.look (subst (λ (xs : List Exchange). Contains xs has.look) (sym has.are) (has_first has.look has.listing)))
         all_asked.1
+        (λ one among. suited one (subst (λ (xs : List Exchange). Contains xs one) (sym has.are) (has_later has.look has.listing one among)))
 
     abbrev calls : List Call
     calls = looks.has.calls

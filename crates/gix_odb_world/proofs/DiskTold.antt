@@ -17,7 +17,7 @@ use Rattle.odb_asks.specs.declared.ask.DiskAsk.{DiskAsk}
 use Rattle.odb_asks.specs.declared.ask.DiskAsk.TheVariants as asks
 use Rattle.gix_hash.specs.declared.kind.Kind.{Kind}
 use Rattle.gix_odb_events.specs.declared.answer.Answer.TheVariants as told
-use Rattle.gix_odb_events.specs.declared.answer.PartAsk.TheVariants as parts
+use Rattle.gix_odb_events.specs.declared.answer.Ask.TheVariants as parts
 use Rattle.gix_odb_looks.specs.LookUpOrder.{Setting}
 use Rattle.gix_odb_looks.specs.True.{IsTrue, Suits}
 use Rattle.gix_odb_runs.specs.Event.{Event}

@@ -22,7 +22,9 @@ use Rattle.gix_odb_calls.specs.declared.step.Step.TheVariants as steps
 use Rattle.gix_odb_world.specs.Asks.{AsksAsTask, MayAskCore}
 use Rattle.gix_odb_runs.specs.Cores.{cores_after, cores_after_asked, entered, history_at}
 use Rattle.gix_odb_runs.specs.Entries.{TellsEachEntry, entries_told, entry_told}
-use Rattle.gix_odb_runs.specs.Event.{Ask, Asked, CoreAnswer, CoreEvent, Event, OfCore, OfDisk, OfNewCore, OfNothing, ToCore, ToDisk, ToNewCore}
+use Rattle.gix_odb_runs.specs.Event.{Asked, CoreAnswer, CoreEvent, Event, OfCore, OfDisk, OfNewCore, OfNothing}
+use Rattle.gix_odb_events.specs.declared.answer.Ask.{Ask}
+use Rattle.gix_odb_events.specs.declared.answer.Ask.TheVariants as parts
 use Rattle.gix_odb_world.specs.Headline.{IsLawful, IsTurn, Law, Suits, asked_applied, asked_by_clone, asked_by_close, stand_of}
 use Rattle.gix_odb_runs.specs.Run.{did_of_asked, disk_after, told_now}
 use Rattle.gix_odb_world.specs.Status.{Free, MakeCall, OpenStore, Resting, Running, Status, Task, Working, status_after, status_of}
@@ -78,9 +80,9 @@ module _ (past : List Event) (e : Event) (before : (handle : ℕ) → Stands pas
         → AsksAsTask first past number running.store running.modes running.begun running.turns running.task ask
         → OfItsCore cores (told_now (stand_of past number running) (disk_after first past) ask)
     of_ask number running stands None order = tt
-    of_ask number running stands (Some (ToDisk ask)) order = tt
-    of_ask number running stands (Some (ToCore event)) order = of_seat number running running.task event order stands
-    of_ask number running stands (Some (ToNewCore slots folders)) order = refl
+    of_ask number running stands (Some (parts.Disk ask)) order = tt
+    of_ask number running stands (Some (parts.Core event)) order = of_seat number running running.task event order stands
+    of_ask number running stands (Some (parts.NewCore slots folders)) order = refl
 
     of_turn : IsTurn e.step → misuse_of e.outcome ≡ None → OfItsCore cores e.asked
     of_turn turn sound =

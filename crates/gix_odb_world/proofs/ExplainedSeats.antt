@@ -1,5 +1,5 @@
 -- Where the handles of a world that some events lead to stand at its cores, by its own table, and what they may ask there.
-use Rattle.std.proofs.Common.{◌≡◌, ℕ, ◌<◌, Bool, true, false, List, length, Option, Some, None, refl, sym, ◌∙◌, subst, arith, inl, inr}
+use Rattle.std.proofs.Common.{◌≡◌, ℕ, ◌+◌, ◌<◌, ◌≤◌, Bool, true, false, List, length, Option, Some, None, refl, sym, ◌∙◌, subst, arith, inl, inr}
 use Rattle.std.specs.Prelude.{IsSome, unwrap_or}
 use Rattle.std.proofs.lemmas.Bool.{cases_lt}
 use Rattle.std.proofs.lemmas.Map.Keys.{IsDistinct-prop}
@@ -11,35 +11,31 @@ use Rattle.gix_odb_core.specs.History.{History, opened, present}
 use Rattle.gix_odb_core.specs.Replay.{CanHappen}
 use Rattle.gix_odb_events.specs.declared.event.Event.TheVariants as core_events
 use Rattle.gix_odb_core.specs.declared.shape.Shape.{Shape}
-use Rattle.gix_odb_events.specs.declared.answer.PartAsk.{PartAsk}
-use Rattle.gix_odb_events.specs.declared.answer.PartAsk.TheVariants as asks
+use Rattle.gix_odb_events.specs.declared.answer.Ask.{Ask}
+use Rattle.gix_odb_events.specs.declared.answer.Ask.TheVariants as asks
 use Rattle.gix_odb_events.specs.PackFiles.{same_path}
+use Rattle.gix_odb_events.specs.PackId.{most_slots}
 use Rattle.gix_odb.specs.declared.handle_state.HandleState.{HandleState}
 use Rattle.gix_odb_world.specs.declared.course.Course.{Course}
 use Rattle.gix_odb_world.specs.declared.handle.Handle.{Handle}
 use Rattle.gix_odb_calls.specs.declared.step.Step.TheVariants as steps
-use Rattle.gix_odb.specs.CallOrder.{disk_part}
-use Rattle.gix_odb.specs.OpenOrder as openings
-use Rattle.odb_asks.specs.declared.ask.DiskAsk.{DiskAsk}
 use Rattle.gix_odb_world.specs.declared.work.Work.{Work}
-use Rattle.gix_odb_world.specs.declared.work.Work.TheVariants.{Opening, Calling}
 use Rattle.gix_odb_runs.specs.Cores.{cores_after, history_at, registered_at}
-use Rattle.gix_odb_runs.specs.Event.{CoreEvent, Event, ToCore}
+use Rattle.gix_odb_runs.specs.Event.{CoreEvent, Event}
 use Rattle.gix_odb_runs.specs.Held.{IsHeld}
 use Rattle.gix_odb_runs.proofs.KeptCoreLemmas.{held_by}
 use Rattle.gix_odb_world.specs.Handle.{IsHandleOf}
 use Rattle.gix_odb_world.specs.Machines.{ask_in}
 use Rattle.gix_odb_world.specs.Running.{Runs}
-use Rattle.gix_odb_world.specs.Asks.{MayAskCore}
+use Rattle.gix_odb_world.specs.Asks.{MayAskCore, MayAskNewCore}
 use Rattle.gix_odb_world.specs.Seats.{HasSeat, HasSeatAt, IsNowhere, IsSeated}
 use Rattle.gix_odb_world.specs.Status.{Free, MakeCall, Modes, OpenStore, Resting, Running, Status, Task, Working, status_of}
 use Rattle.gix_odb_world.specs.Table.{CanHappenAt, why_not_now}
-use Rattle.gix_odb_world.specs.WorkOrder.{ask_on, asks_on, registers_in}
+use Rattle.gix_odb_world.specs.WorkOrder.{ask_on}
 use Rattle.gix_odb_world.specs.Valid.{phase_of, why_not_idle}
 use Rattle.gix_odb_world.specs.World.{HasHistory, IsExplained, Matches, handle_at}
 use Rattle.gix_odb_world.proofs.SeatLemmas.{seats_now}
 use Rattle.gix_odb_world.proofs.SeatLemmas.Applied.{is_free_for_clone}
-use Rattle.gix_odb_world.proofs.CarriedLemmas.{asks_part}
 use Rattle.gix_odb_world.proofs.MachineLaws.{TakesTurn}
 use Rattle.gix_odb_world.proofs.StepLemmas.{why_not-same}
 use Rattle.gix_odb_world.proofs.TurnLaw.Comes.{event_of, turn_of}
@@ -102,11 +98,11 @@ module _ (world : Course) (h : HasHistory world) where
     may_sit running (MakeCall call) has may = sits_at (cores_after events) number running.modes has
 
     happens_at : (running : Running) → status_of events number ≡ Working running → IsHandleOf running.store running.modes state → Some work ≡ Some running.work
-        → asks_on state work ≡ Some (ToCore event) → SitsAt world.cores.items state.core number × ((shape : Shape) (seat : ℕ) → CanHappen shape seat event)
+        → ask_on state work ≡ Some (asks.Core event) → SitsAt world.cores.items state.core number × ((shape : Shape) (seat : ℕ) → CanHappen shape seat event)
     happens_at running status own same asked =
         let at : work ≡ running.work = cc same in
-        let asks_it : ask_in running.store running.work ≡ Some (ToCore event) =
-        subst (λ w. ask_in running.store w ≡ Some (ToCore event)) at (sym (code_asks running.store running.modes state own work) ∙ asked) in
+        let asks_it : ask_in running.store running.work ≡ Some (asks.Core event) =
+        subst (λ w. ask_in running.store w ≡ Some (asks.Core event)) at (sym (code_asks running.store running.modes state own work) ∙ asked) in
         let runs : Runs first events number (Working running) = subst (Runs first events number) status (explains.running number) in
         let has : HasSeat events number (Working running) = subst (HasSeat events number) status (seat number) in
         let may : MayAskCore events number running.store running.modes running.begun running.task event =
@@ -117,30 +113,42 @@ module _ (world : Course) (h : HasHistory world) where
         )
 
     happens : (status : Status) → status_of events number ≡ status → Matches status (Some (record { state = state; work = Some work }))
-        → asks_on state work ≡ Some (ToCore event) → SitsAt world.cores.items state.core number × ((shape : Shape) (seat : ℕ) → CanHappen shape seat event)
+        → ask_on state work ≡ Some (asks.Core event) → SitsAt world.cores.items state.core number × ((shape : Shape) (seat : ℕ) → CanHappen shape seat event)
     happens Free is match asked = absurd match
     happens (Resting store modes) is match asked = absurd (cc match.1)
     happens (Working running) is match asked = happens_at running is match.0 match.1 asked
 
-  can_happen_call : (number : ℕ) (state : HandleState) (work : Work) → handle_at world number ≡ Some (record { state = state; work = Some work })
-      → registers_in work ≡ None → (ask : Option PartAsk) → ask_on state work ≡ ask → CanHappenAt world.cores.items number state ask
-  can_happen_call number state work there other None is = tt
-  can_happen_call number state work there other (Some (asks.Disk ask)) is = tt
-  can_happen_call number state work there other (Some (asks.Core event)) is =
-      let can =
-      happens number state work event (status_of events number) refl (subst (Matches (status_of events number)) there (explains.handles number))
-      (sym (asks_part state work (Some (asks.Core event)) other is)) in
-      (can.0.within, can.1 (present (history_at world.cores.items state.core)) number, can.0.there)
+  -- a core that a handle may ask for has no more slots than a core may have
+  module _ (number : ℕ) (state : HandleState) (work : Work) (slots folders : ℕ) where
+    few_in : (running : Running) (task : Task) → MayAskNewCore events number running.store running.begun task slots folders → slots ≤ most_slots
+    few_in running OpenStore may = may.1
+    few_in running (MakeCall call) may = absurd may
 
-  -- an opening calls the disk, if it calls anything
-  disk_happens : (number : ℕ) (state : HandleState) (ask : Option DiskAsk) → CanHappenAt world.cores.items number state (disk_part ask)
-  disk_happens number state None = tt
-  disk_happens number state (Some ask) = tt
+    few_at : (running : Running) → status_of events number ≡ Working running → IsHandleOf running.store running.modes state → Some work ≡ Some running.work
+        → ask_on state work ≡ Some (asks.NewCore slots folders) → slots ≤ most_slots
+    few_at running status own same asked =
+        let at : work ≡ running.work = cc same in
+        let asks_it : ask_in running.store running.work ≡ Some (asks.NewCore slots folders) =
+        subst (λ w. ask_in running.store w ≡ Some (asks.NewCore slots folders)) at (sym (code_asks running.store running.modes state own work) ∙ asked) in
+        let runs : Runs first events number (Working running) = subst (Runs first events number) status (explains.running number) in
+        few_in running running.task (subst (TakesTurn first events number running running.task) asks_it (turn_of first events number running running.work runs.1))
+
+    few_slots : (status : Status) → status_of events number ≡ status → Matches status (Some (record { state = state; work = Some work }))
+        → ask_on state work ≡ Some (asks.NewCore slots folders) → slots ≤ most_slots
+    few_slots Free is match asked = absurd match
+    few_slots (Resting store modes) is match asked = absurd (cc match.1)
+    few_slots (Working running) is match asked = few_at running is match.0 match.1 asked
 
   can_happen_now : (number : ℕ) (state : HandleState) (work : Work) → handle_at world number ≡ Some (record { state = state; work = Some work })
-      → CanHappenAt world.cores.items number state (ask_on state work)
-  can_happen_now number state (Opening opening) there = disk_happens number state (openings.ask_of state.store.value.objects opening)
-  can_happen_now number state (Calling call) there = can_happen_call number state (Calling call) there refl (ask_on state (Calling call)) refl
+      → (ask : Option Ask) → ask_on state work ≡ ask → CanHappenAt world.cores.items number state ask
+  can_happen_now number state work there None is = tt
+  can_happen_now number state work there (Some (asks.Disk ask)) is = tt
+  can_happen_now number state work there (Some (asks.Core event)) is =
+      let can =
+      happens number state work event (status_of events number) refl (subst (Matches (status_of events number)) there (explains.handles number)) is in
+      (can.0.within, can.1 (present (history_at world.cores.items state.core)) number, can.0.there)
+  can_happen_now number state work there (Some (asks.NewCore slots folders)) is =
+      few_slots number state work slots folders (status_of events number) refl (subst (Matches (status_of events number)) there (explains.handles number)) is
 
 -- ---- the same of a world of which it is known that some events lead there
 
@@ -175,7 +183,7 @@ module _ (world : Course) (explained : IsExplained world) where
   can_known shape number (core_events.PassOver slot path why) can = tt
   can_known shape number (core_events.Publish listing) can = ∥∥₁_elim explained (IsDistinct-prop same_path _) can
 
-  can_known_at : (number : ℕ) (state : HandleState) (ask : Option PartAsk) → (HasHistory world → CanHappenAt world.cores.items number state ask)
+  can_known_at : (number : ℕ) (state : HandleState) (ask : Option Ask) → (HasHistory world → CanHappenAt world.cores.items number state ask)
       → CanHappenAt world.cores.items number state ask
   can_known_at number state None can = tt
   can_known_at number state (Some (asks.Disk ask)) can = tt
@@ -184,10 +192,12 @@ module _ (world : Course) (explained : IsExplained world) where
     can_known (present (history_at world.cores.items state.core)) number event (λ h. (can h).1),
     taken_seat (registered_at world.cores.items state.core number) (known (λ h. (can h).2)),
   )
+  can_known_at number state (Some (asks.NewCore slots folders)) can =
+      let few = below slots (most_slots + 1) (known (λ h. let own : slots ≤ most_slots = can h in omega (arith, own))) in omega (arith, few)
 
   pub turn_can_happen : (number : ℕ) (state : HandleState) (work : Work) → handle_at world number ≡ Some (record { state = state; work = Some work })
       → CanHappenAt world.cores.items number state (ask_on state work)
-  turn_can_happen number state work there = can_known_at number state (ask_on state work) (λ h. can_happen_now world h number state work there)
+  turn_can_happen number state work there = can_known_at number state (ask_on state work) (λ h. can_happen_now world h number state work there (ask_on state work) refl)
 
   pub close_sits : (number : ℕ) (handle : Handle) → why_not_now world (steps.Close number) ≡ None → handle_at world number ≡ Some handle
       → SitsAt world.cores.items handle.state.core number

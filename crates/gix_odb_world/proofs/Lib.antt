@@ -17,7 +17,6 @@ mod StandAlone
 pub mod SeatLemmas
 mod ExplainedLemmas
 mod ExplainedSeats
-mod ExplainedFits
 mod EntryLemmas
 mod NameSteps
 mod RunEnds

@@ -4,7 +4,6 @@ pub mod Turn
 use Rattle.std.proofs.Common.{◌≡◌, ℕ, ◌+◌, List, [], ◌∷◌, ◌++◌, length, Option, None, Some, Ok, Err, Result, refl, sym, ◌∙◌, ap, subst, arith}
 use Rattle.std.proofs.lemmas.List.{length_push}
 use Rattle.odb_asks.specs.MemDisk.{Volume}
-use Rattle.gix_odb_events.specs.declared.answer.Answer.TheVariants as told
 use Rattle.gix_odb_calls.specs.declared.call.Reply.{Reply}
 use Rattle.gix_odb_calls.specs.declared.query.Query.{Query}
 use Rattle.gix_odb_calls.specs.declared.query.Query.TheVariants.{Find, Header, Test}
@@ -19,7 +18,8 @@ use Rattle.gix_odb.specs.declared.handle_state.HandleState.{HandleState}
 use Rattle.gix_odb_world.specs.declared.work.Work.TheVariants.{Calling}
 use Rattle.gix_odb_world.specs.AtWork.{Modes, setting_in}
 use Rattle.gix_odb_world.specs.Bound.{bound_of_call, bound_of_task, bytes_to_write}
-use Rattle.gix_odb_runs.specs.Event.{Answer, Event, FromCore, FromDisk}
+use Rattle.gix_odb_runs.specs.Event.{Event}
+use Rattle.gix_odb_events.specs.declared.answer.Answer.{Answer}
 use Rattle.gix_odb_world.specs.Handle.{IsHandleOf}
 use Rattle.gix_odb_world.specs.Machine.{placed}
 use Rattle.gix_odb_runs.specs.Run.{IsTurnOf}
@@ -34,7 +34,7 @@ use Rattle.gix_odb_world.proofs.SettingLemmas.{setting_same}
 use Rattle.gix_odb_world.proofs.ToldLemmas.{told_kept, view_kept}
 use Rattle.gix_odb_world.proofs.ToldWell.{told_well_later}
 use Rattle.gix_odb_world.proofs.LookMachine.Begun.{looking_starts}
-use Rattle.gix_odb_world.proofs.LookMachine.Turn.{call_asked, comes_part, ends, happens, quiet, takes}
+use Rattle.gix_odb_world.proofs.LookMachine.Turn.{comes_part, ends, happens, quiet, takes}
 
 -- ---- its code
 
@@ -45,12 +45,9 @@ looking_placed (Err look) = refl
 looking_feeds : (store : Store) (modes : Modes) (code : HandleState) → IsHandleOf store modes code → (look : LookUp) (answer : Option Answer)
     → result_in (fed_after code (Calling (Looking look)) answer) ≡ placed looking (looking.feed store look answer)
 looking_feeds store modes code own look None = looking_placed (result_of look)
-looking_feeds store modes code own look (Some (FromDisk answer)) =
-    ap (λ setting. calling_result (looking_result (result_of (fed setting look (told.Disk answer))))) (setting_same store modes code own)
-    ∙ looking_placed (result_of (fed (setting_in store) look (told.Disk answer)))
-looking_feeds store modes code own look (Some (FromCore answer)) =
-    ap (λ setting. calling_result (looking_result (result_of (fed setting look (told.Core answer))))) (setting_same store modes code own)
-    ∙ looking_placed (result_of (fed (setting_in store) look (told.Core answer)))
+looking_feeds store modes code own look (Some answer) =
+    ap (λ setting. calling_result (looking_result (result_of (fed setting look answer)))) (setting_same store modes code own)
+    ∙ looking_placed (result_of (fed (setting_in store) look answer))
 
 -- ---- an event that isn't its turn
 
@@ -115,5 +112,5 @@ looking_laws = record {
   kept = looking_kept;
   turns = looking_turns;
   writes = writes_nothing looking (λ look. refl)
-      (λ first events handle running look ask knows is. quiet first events handle running look knows ask (call_asked (ask_of look) ask is));
+      (λ first events handle running look ask knows is. quiet first events handle running look knows ask is);
 }

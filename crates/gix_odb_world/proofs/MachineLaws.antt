@@ -1,6 +1,6 @@
 -- What a machine has to show, so that a handle may be at it. The laws are no fields of the machine: they speak of statuses and promises,
 -- which are folded by the machines and so stand above them.
-use Rattle.std.proofs.Common.{◌≡◌, ◌⊎◌, ℕ, ◌+◌, ◌<◌, ◌≤◌, List, [], ◌∷◌, ◌++◌, length, Option, Some, None, Result, Ok, Err, refl, sym, ap, ◌∙◌, subst}
+use Rattle.std.proofs.Common.{◌≡◌, ◌⊎◌, ℕ, ◌+◌, ◌<◌, ◌≤◌, List, [], ◌∷◌, ◌++◌, length, Option, Some, None, Result, Ok, Err, refl, sym, ◌∙◌, subst}
 use Rattle.odb_asks.specs.MemDisk.{Volume}
 use Rattle.odb_nodes.specs.Tree.{IsTree, tree_of}
 use Rattle.odb_asks.specs.declared.ask.DiskAsk.{DiskAsk}
@@ -15,7 +15,6 @@ use Rattle.std.specs.List.{IsDistinct}
 use Rattle.gix_odb_calls.specs.declared.call.Reply.{Reply}
 use Rattle.gix_odb_core.specs.Replay.{CanHappen}
 use Rattle.gix_odb_core.specs.declared.shape.Shape.{Shape}
-use Rattle.gix_odb.specs.CallOrder.{disk_part}
 use Rattle.gix_odb.specs.declared.handle_state.HandleState.{HandleState}
 use Rattle.gix_odb_loose.specs.LooseOrder.{disk_ask_of}
 use Rattle.gix_odb_loose.specs.LooseOrder as loose_order
@@ -27,7 +26,12 @@ use Rattle.gix_odb_world.specs.Bound.{HasAtMost, bound_of_task}
 use Rattle.gix_odb_runs.specs.Cores.{cores_after}
 use Rattle.gix_odb_world.specs.Seats.{IsSeated}
 use Rattle.gix_odb_world.specs.Changes.{ChangesInTask}
-use Rattle.gix_odb_runs.specs.Event.{Answer, Ask, Asked, CoreEvent, Event, FromDisk, ToCore, ToDisk, ToNewCore, answered, part_asked, to_disk}
+use Rattle.gix_odb_runs.specs.Event.{Asked, CoreEvent, Event, answered}
+use Rattle.gix_odb_events.specs.declared.answer.Answer.{Answer}
+use Rattle.gix_odb_events.specs.declared.answer.Ask.{Ask}
+use Rattle.gix_odb_events.specs.declared.answer.Ask.TheVariants as work_asks
+use Rattle.gix_odb_events.specs.declared.answer.Answer.TheVariants as given
+use Rattle.gix_odb_looks.specs.LookUpOrder.{loose_ask}
 use Rattle.gix_odb_world.specs.Handle.{IsHandleOf}
 use Rattle.gix_odb_world.specs.Headline.{IsLawful, stand_of}
 use Rattle.gix_odb_world.specs.Machine.{At, Machine, placed}
@@ -38,7 +42,7 @@ use Rattle.gix_odb_world.specs.Running.{Knows, RunsThroughout}
 use Rattle.gix_odb_world.specs.Running.Write.{IsWriting, write_at}
 use Rattle.gix_odb_runs.specs.Writing.{ToWrite}
 use Rattle.gix_odb_world.specs.Status.{MakeCall, OpenStore, Running, Store, Task, Working, begun_with, gone_on, running_from, status_of, Modes}
-use Rattle.gix_odb_world.specs.WorkOrder.{asks_on, fed_after, result_in}
+use Rattle.gix_odb_world.specs.WorkOrder.{ask_on, fed_after, result_in}
 use Rattle.gix_odb_world.proofs.Stock.OneCore.{IsStocked}
 use Rattle.gix_odb_world.proofs.WriteTurn.Common.{IsTurnWith}
 
@@ -50,9 +54,9 @@ pub record HasTurn (first : Volume) (events : List Event) (handle : ℕ) (runnin
 -- what a turn asks for comes in the order of its task, and makes a change that the task may make
 abbrev pub TakesTurn : Volume → List Event → (handle : ℕ) → Running → Task → Option Ask → Type 0
 TakesTurn first events handle running task None = MayEndUnasked events handle running.store running.modes running.begun task
-TakesTurn first events handle running task (Some (ToDisk ask)) = HasTurn first events handle running task ask
-TakesTurn first events handle running task (Some (ToCore event)) = MayAskCore events handle running.store running.modes running.begun task event
-TakesTurn first events handle running task (Some (ToNewCore slots folders)) = MayAskNewCore events handle running.store running.begun task slots folders
+TakesTurn first events handle running task (Some (work_asks.Disk ask)) = HasTurn first events handle running task ask
+TakesTurn first events handle running task (Some (work_asks.Core event)) = MayAskCore events handle running.store running.modes running.begun task event
+TakesTurn first events handle running task (Some (work_asks.NewCore slots folders)) = MayAskNewCore events handle running.store running.begun task slots folders
 
 -- the last event is a turn of the handle that asked so, and made no call of the disk
 pub record IsTurnWithoutCall (first : Volume) (events : List Event) (e : Event) (handle : ℕ) (running : Running) (ask : Option Ask) : Type 0 where
@@ -65,10 +69,10 @@ pub record IsTurnWithoutCall (first : Volume) (events : List Event) (e : Event) 
 -- the last event is a turn of the handle that asked so
 abbrev pub IsTurnAsking : Volume → List Event → Event → (handle : ℕ) → Running → Option Ask → Type 0
 IsTurnAsking first events e handle running None = IsTurnWithoutCall first events e handle running None
-IsTurnAsking first events e handle running (Some (ToDisk ask)) = IsTurnWith first events e handle ask
-IsTurnAsking first events e handle running (Some (ToCore event)) = IsTurnWithoutCall first events e handle running (Some (ToCore event))
-IsTurnAsking first events e handle running (Some (ToNewCore slots folders)) =
-    IsTurnWithoutCall first events e handle running (Some (ToNewCore slots folders))
+IsTurnAsking first events e handle running (Some (work_asks.Disk ask)) = IsTurnWith first events e handle ask
+IsTurnAsking first events e handle running (Some (work_asks.Core event)) = IsTurnWithoutCall first events e handle running (Some (work_asks.Core event))
+IsTurnAsking first events e handle running (Some (work_asks.NewCore slots folders)) =
+    IsTurnWithoutCall first events e handle running (Some (work_asks.NewCore slots folders))
 
 -- what is told of what is asked after some events
 abbrev pub told_after : Volume → List Event → (handle : ℕ) → Running → Option Ask → Asked
@@ -141,14 +145,14 @@ pub record KeepsWriteLaws (m : Machine) : Type 1 where
   -- where it writes nothing, its call of the disk changes nothing
   pub quiet : (first : Volume) (events : List Event) (handle : ℕ) (running : Running) (state : m.State) (ask : DiskAsk)
       → m.Knows first events handle running state
-      → m.writes state ≡ None → m.ask running.store state ≡ Some (ToDisk ask) → change_by (disk_after first events) ask ≡ None
+      → m.writes state ≡ None → m.ask running.store state ≡ Some (work_asks.Disk ask) → change_by (disk_after first events) ask ≡ None
   -- where it writes, it knows what a write does, asks what the write asks, and ends where the write ends
   pub known : (first : Volume) (events : List Event) (handle : ℕ) (running : Running) (state : m.State) (call : LooseCall)
       → m.Knows first events handle running state
       → m.writes state ≡ Some call → IsWriting first events handle running call
-  pub asks : (store : Store) (state : m.State) (call : LooseCall) → m.writes state ≡ Some call → m.ask store state ≡ to_disk (disk_ask_of call)
+  pub asks : (store : Store) (state : m.State) (call : LooseCall) → m.writes state ≡ Some call → m.ask store state ≡ loose_ask (disk_ask_of call)
   pub ends : (store : Store) (state : m.State) (call : LooseCall) (answer : DiskAnswer) (reply : Reply) → m.writes state ≡ Some call
-      → result_of_write (loose_order.fed call answer) ≡ Ok reply → m.feed store state (Some (FromDisk answer)) ≡ Ok reply
+      → result_of_write (loose_order.fed call answer) ≡ Ok reply → m.feed store state (Some (given.Disk answer)) ≡ Ok reply
   -- a state that writes comes after one that does, unless its write has made no file yet
   pub before : (first : Volume) (events : List Event) (handle : ℕ) (running : Running) (state next : m.State) (answer : Option Answer) (call : LooseCall)
       → m.Knows first events handle running state
@@ -165,7 +169,7 @@ pub record KeepsTurnLaws (m : Machine) : Type 1 where
       → m.ask running.store state ≡ None → (reply : Reply) × (m.feed running.store state None ≡ Ok reply)
   -- an event of a core that it asks for can happen there
   pub happens : (first : Volume) (events : List Event) (handle : ℕ) (running : Running) (state : m.State) → m.Knows first events handle running state
-      → (event : CoreEvent) → m.ask running.store state ≡ Some (ToCore event) → (shape : Shape) (seat : ℕ) → CanHappen shape seat event
+      → (event : CoreEvent) → m.ask running.store state ≡ Some (work_asks.Core event) → (shape : Shape) (seat : ℕ) → CanHappen shape seat event
   -- the turn leads to a reply that keeps the promise of the task, or on
   pub comes : (first : Volume) (events : List Event) (e : Event) (handle : ℕ) (running : Running) → running.begun ≤ length events
       → IsRunning first events handle running → (state : m.State) → m.Knows first events handle running state → IsTurnAsking first events e handle running (m.ask running.store state)
@@ -177,7 +181,7 @@ pub record KeepsLaws (m : Machine) : Type 1 where
   pub at_home : (state : m.State) → at (m.work state) ≡ home m state
   -- the code of the work asks and goes on as the machine does
   pub asks : (store : Store) (modes : Modes) (code : HandleState) → IsHandleOf store modes code → (state : m.State)
-      → asks_on code (m.work state) ≡ m.ask store state
+      → ask_on code (m.work state) ≡ m.ask store state
   pub feeds : (store : Store) (modes : Modes) (code : HandleState) → IsHandleOf store modes code → (state : m.State) (answer : Option Answer)
       → result_in (fed_after code (m.work state) answer) ≡ placed m (m.feed store state answer)
   -- where a task begins at a state, that is all that it knows
@@ -196,29 +200,19 @@ pub record KeepsLaws (m : Machine) : Type 1 where
   pub turns : KeepsTurnLaws m
   pub writes : KeepsWriteLaws m
 
--- ---- calls of the disk
+-- ---- a call of the disk
 
--- what is asked of the disk is the same among all that is asked for
-pub of_disk_part : (asked : Option DiskAsk) → part_asked (disk_part asked) ≡ to_disk asked
-of_disk_part None = refl
-of_disk_part (Some ask) = refl
-
--- it is no event of a core
-pub no_event : (asked : Option DiskAsk) (event : CoreEvent) → ¬ (to_disk asked ≡ Some (ToCore event))
+-- a call of the disk is no event of a core
+pub no_event : (asked : Option DiskAsk) (event : CoreEvent) → ¬ (loose_ask asked ≡ Some (work_asks.Core event))
 no_event None event is = cc is
 no_event (Some ask) event is = cc is
-
--- and it is that call
-pub same_ask : (asked : Option DiskAsk) (ask : DiskAsk) → to_disk asked ≡ Some (ToDisk ask) → asked ≡ Some ask
-same_ask None ask is = absurd (cc is)
-same_ask (Some own) ask is = let both : own ≡ ask = cc is in ap Some both
 
 -- ---- machines that make no change
 
 -- one that never writes has only to show that its calls of the disk change nothing
 pub writes_nothing : (m : Machine) → ((state : m.State) → m.writes state ≡ None)
     → ((first : Volume) (events : List Event) (handle : ℕ) (running : Running) (state : m.State) (ask : DiskAsk) → m.Knows first events handle running state
-    → m.ask running.store state ≡ Some (ToDisk ask) → change_by (disk_after first events) ask ≡ None)
+    → m.ask running.store state ≡ Some (work_asks.Disk ask) → change_by (disk_after first events) ask ≡ None)
     → KeepsWriteLaws m
 writes_nothing m none quiet = record {
   quiet = λ first events handle running state ask knows no asks. quiet first events handle running state ask knows asks;

@@ -11,23 +11,25 @@ use Rattle.gix_odb_calls.specs.declared.call.Reply.{Reply}
 use Rattle.gix_odb.specs.Contents.{folder_list}
 use Rattle.gix_odb.specs.OpenExchanges.{AreAsked, behind}
 use Rattle.gix_odb.specs.OpenOrder as openings
-use Rattle.gix_odb.proofs.OpenLaws.{openings_register_few_slots}
+use Rattle.gix_odb.proofs.OpenLaws.{openings_ask_no_event, openings_register_few_slots}
 use Rattle.gix_odb.specs.declared.handle_state.HandleState.{HandleState}
 use Rattle.gix_odb.specs.declared.open_state.OpenState.{OpenState}
 use Rattle.gix_odb.specs.declared.open_state.OpenState.TheVariants as opens
 use Rattle.gix_odb_world.specs.declared.work.Work.TheVariants.{Opening}
 use Rattle.gix_odb_world.specs.Bound.{bound_of_task, turn_bound}
-use Rattle.gix_odb_runs.specs.Event.{Answer, CoreEvent, Event, FromCore, FromDisk, ToCore, ToDisk, ToNewCore, answered}
+use Rattle.gix_odb_runs.specs.Event.{Event, answered}
+use Rattle.gix_odb_events.specs.declared.answer.Answer.{Answer}
+use Rattle.gix_odb_events.specs.declared.answer.Ask.TheVariants as work_asks
 use Rattle.gix_odb_world.specs.Handle.{IsHandleOf}
 use Rattle.gix_odb_world.specs.Machine.{placed}
 use Rattle.gix_odb_runs.specs.Run.{IsTurnOf, change_by, disk_after}
-use Rattle.gix_odb_world.specs.Running.Opening.{HasSeen, IsOpening, opening, opening_ask}
+use Rattle.gix_odb_world.specs.Running.Opening.{HasSeen, IsOpening, opening}
 use Rattle.gix_odb_world.specs.Status.{MakeCall, Modes, OpenStore, Running, Store, Task, begun_with, running_from, setting_in}
 use Rattle.gix_odb_world.specs.Told.{told_since}
-use Rattle.gix_odb_world.specs.WorkOrder.{asks_on, fed_after, opening_result, result_in}
+use Rattle.gix_odb_world.specs.WorkOrder.{ask_on, fed_after, opening_result, result_in}
 use Rattle.gix_odb_world.proofs.AnsweredLemmas.{answered_at_first, answered_later, none_told}
 use Rattle.gix_odb_world.proofs.CountedFiles.OneTurn.{given_as_before, given_at_first}
-use Rattle.gix_odb_world.proofs.MachineLaws.{BeginsAs, IsRunning, IsTurnAsking, KeepsLaws, KeepsTurnLaws, MachineComes, TakesTurn, same_ask, told_after, writes_nothing}
+use Rattle.gix_odb_world.proofs.MachineLaws.{BeginsAs, IsRunning, IsTurnAsking, KeepsLaws, KeepsTurnLaws, MachineComes, TakesTurn, told_after, writes_nothing}
 use Rattle.gix_odb_world.proofs.OpeningMachine.Turn.{listing_comes, look_comes, quiet, registered, shown_before, takes_call}
 use Rattle.gix_odb_world.proofs.ToldLemmas.{told_kept}
 
@@ -38,23 +40,19 @@ opening_placed (Ok reply) = refl
 opening_placed (Err state) = refl
 
 opening_asks : (store : Store) (modes : Modes) (code : HandleState) → IsHandleOf store modes code → (state : OpenState)
-    → asks_on code (Opening state) ≡ opening_ask store state
-opening_asks store modes code own opens.Looking = ap (λ objects. Some (ToDisk (asks.Look objects true))) own.objects
-opening_asks store modes code own (opens.Listing lister percent minimum) = refl
-opening_asks store modes code own (opens.Registering slots) =
-    let folders : length code.store.value.folders + 1 ≡ length (folder_list store.parts) = let same = ap length own.folders in omega (arith, same) in
-    ap (λ n. Some (ToNewCore slots n)) folders
-opening_asks store modes code own (opens.Done reply) = refl
+    → ask_on code (Opening state) ≡ opening.ask store state
+opening_asks store modes code own state =
+    ap (λ objects. openings.ask_of objects code.store.value.folders state) own.objects
+    ∙ ap (λ folders. openings.ask_of store.parts.objects folders state) own.folders
 
 opening_feeds : (store : Store) (modes : Modes) (code : HandleState) → IsHandleOf store modes code → (state : OpenState) (answer : Option Answer)
     → result_in (fed_after code (Opening state) answer) ≡ placed opening (opening.feed store state answer)
 opening_feeds store modes code own state None = opening_placed (openings.result_of state)
-opening_feeds store modes code own state (Some (FromDisk answer)) =
+opening_feeds store modes code own state (Some answer) =
     ap (λ objects. opening_result (openings.result_of (openings.fed objects code.store.value.folders code.store.value.slots state answer))) own.objects
     ∙ (ap (λ folders. opening_result (openings.result_of (openings.fed store.parts.objects folders code.store.value.slots state answer))) own.folders
     ∙ (ap (λ slots. opening_result (openings.result_of (openings.fed store.parts.objects store.parts.folders slots state answer))) own.slots
     ∙ opening_placed (openings.result_of (openings.fed store.parts.objects store.parts.folders store.slots state answer))))
-opening_feeds store modes code own state (Some (FromCore answer)) = opening_placed (openings.result_of (openings.registered state))
 
 -- ---- its beginning
 
@@ -114,46 +112,40 @@ opening_kept first events e handle running state other knows =
 -- ---- its turns
 
 opening_takes : (first : Volume) (events : List Event) (handle : ℕ) (running : Running) (state : OpenState) → IsOpening first events handle running state
-    → TakesTurn first events handle running running.task (opening_ask running.store state)
+    → TakesTurn first events handle running running.task (opening.ask running.store state)
 opening_takes first events handle running opens.Looking knows = takes_call first events handle running opens.Looking knows (asks.Look running.store.parts.objects true) refl
 opening_takes first events handle running (opens.Listing lister percent minimum) knows =
     takes_call first events handle running (opens.Listing lister percent minimum) knows (lists.ask_of lister) refl
 opening_takes first events handle running (opens.Registering slots) knows =
-    subst (λ t. TakesTurn first events handle running t (opening_ask running.store (opens.Registering slots))) (sym knows.task) (
-      ap openings.registers (sym knows.is),
+    subst (λ t. TakesTurn first events handle running t (opening.ask running.store (opens.Registering slots))) (sym knows.task) (
+      ap (openings.ask_of running.store.parts.objects running.store.parts.folders) (sym knows.is),
       openings_register_few_slots (setting_in running.store) running.store.slots (told_since events handle running.begun) knows.asked knows.well.suited slots (sym knows.is),
       refl,
     )
 opening_takes first events handle running (opens.Done reply) knows = absurd knows.seen
 
 opening_ends : (first : Volume) (events : List Event) (handle : ℕ) (running : Running) (state : OpenState) → IsOpening first events handle running state
-    → opening_ask running.store state ≡ None → (reply : Reply) × (opening.feed running.store state None ≡ Ok reply)
+    → opening.ask running.store state ≡ None → (reply : Reply) × (opening.feed running.store state None ≡ Ok reply)
 opening_ends first events handle running opens.Looking knows none = absurd (cc none)
 opening_ends first events handle running (opens.Listing lister percent minimum) knows none = absurd (cc none)
 opening_ends first events handle running (opens.Registering slots) knows none = absurd (cc none)
 opening_ends first events handle running (opens.Done reply) knows none = absurd knows.seen
 
 opening_comes : (first : Volume) (events : List Event) (e : Event) (handle : ℕ) (running : Running) → IsRunning first events handle running
-    → (state : OpenState) → IsOpening first events handle running state → IsTurnAsking first events e handle running (opening_ask running.store state)
-    → MachineComes first events e handle running opening (told_after first events handle running (opening_ask running.store state))
-    (opening.feed running.store state (answered (told_after first events handle running (opening_ask running.store state))))
+    → (state : OpenState) → IsOpening first events handle running state → IsTurnAsking first events e handle running (opening.ask running.store state)
+    → MachineComes first events e handle running opening (told_after first events handle running (opening.ask running.store state))
+    (opening.feed running.store state (answered (told_after first events handle running (opening.ask running.store state))))
 opening_comes first events e handle running ran opens.Looking knows turn = look_comes first events e handle running ran knows turn
 opening_comes first events e handle running ran (opens.Listing lister percent minimum) knows turn =
     listing_comes first events e handle running ran lister percent minimum knows turn
 opening_comes first events e handle running ran (opens.Registering slots) knows turn = registered first events e handle running ran slots knows turn
 opening_comes first events e handle running ran (opens.Done reply) knows turn = absurd knows.seen
 
-asks_no_event : (store : Store) (state : OpenState) (event : CoreEvent) → ¬ (opening_ask store state ≡ Some (ToCore event))
-asks_no_event store opens.Looking event is = cc is
-asks_no_event store (opens.Listing lister percent minimum) event is = cc is
-asks_no_event store (opens.Registering slots) event is = cc is
-asks_no_event store (opens.Done reply) event is = cc is
-
 opening_turns : KeepsTurnLaws opening
 opening_turns = record {
   takes = opening_takes;
   ends = opening_ends;
-  happens = λ first events handle running state knows event is shape seat. absurd (asks_no_event running.store state event is);
+  happens = λ first events handle running state knows event is shape seat. absurd (openings_ask_no_event (setting_in running.store) state event is);
   comes = λ first events e handle running since ran state knows turn. opening_comes first events e handle running ran state knows turn;
 }
 
@@ -166,13 +158,12 @@ opening_bounded store modes task is entries =
 
 -- its call of the disk changes nothing
 opening_quiet : (first : Volume) (events : List Event) (handle : ℕ) (running : Running) (state : OpenState) (ask : DiskAsk)
-    → IsOpening first events handle running state → opening_ask running.store state ≡ Some (ToDisk ask)
+    → IsOpening first events handle running state → opening.ask running.store state ≡ Some (work_asks.Disk ask)
     → change_by (disk_after first events) ask ≡ None
 opening_quiet first events handle running opens.Looking ask knows is =
-    quiet first events handle running opens.Looking knows ask (same_ask (openings.ask_of running.store.parts.objects opens.Looking) ask is)
+    quiet first events handle running opens.Looking knows ask is
 opening_quiet first events handle running (opens.Listing lister percent minimum) ask knows is =
-    quiet first events handle running (opens.Listing lister percent minimum) knows ask
-    (same_ask (openings.ask_of running.store.parts.objects (opens.Listing lister percent minimum)) ask is)
+    quiet first events handle running (opens.Listing lister percent minimum) knows ask is
 opening_quiet first events handle running (opens.Registering slots) ask knows is = absurd (cc is)
 opening_quiet first events handle running (opens.Done reply) ask knows is = absurd (cc is)
 

@@ -40,7 +40,10 @@ use Rattle.gix_odb_world.specs.declared.work.Work.{Work}
 use Rattle.gix_odb_world.specs.declared.work.Work.TheVariants.{Opening}
 use Rattle.gix_odb_world.specs.Asks.{AsksAsTask}
 use Rattle.gix_odb_runs.specs.Cores.{answer_behind, cores_after, history_at, registered_at}
-use Rattle.gix_odb_runs.specs.Event.{Ask, Asked, Event, ToCore, ToDisk, ToNewCore, answered}
+use Rattle.gix_odb_runs.specs.Event.{Asked, Event, answered}
+use Rattle.gix_odb_events.specs.declared.answer.Ask.{Ask}
+use Rattle.gix_odb_events.specs.declared.answer.Answer.TheVariants as work_answers
+use Rattle.gix_odb_events.specs.declared.answer.Ask.TheVariants as work_asks
 use Rattle.gix_odb_world.specs.Headline.{IsLawful, IsTurn, Law, Suits, Turns, Works, stand_of}
 use Rattle.gix_odb_world.specs.Machines.{ask_in, fed_in}
 use Rattle.gix_odb_runs.specs.Run.{disk_after, told_now}
@@ -99,13 +102,13 @@ module _ (past : List Event) (e : Event) where
       carry_ask : (ask : Option Ask) → e.asked ≡ told ask
           → AsksAsTask first past number running.store running.modes running.begun running.turns running.task ask → (handle : ℕ) → handle ≢ number → Carries past e handle
       carry_ask None is order handle apart = carry_nothing past e is handle
-      carry_ask (Some (ToDisk ask)) is order handle apart = carry_by past e _ is handle (λ modes was. was) (λ store was. was)
-      carry_ask (Some (ToCore event)) is order handle apart =
+      carry_ask (Some (work_asks.Disk ask)) is order handle apart = carry_by past e _ is handle (λ modes was. was) (λ store was. was)
+      carry_ask (Some (work_asks.Core event)) is order handle apart =
           let of = asks_of_looks past number running.store running.modes running.begun running.task event order in
           let answer = answer_behind (history_at before_it running.modes.core) number event in
           carry_by past e _ is handle (λ modes was. seated_looked before_it running.modes.core number event answer of handle modes apart was)
           (out_looked before_it running.modes.core number event answer of handle)
-      carry_ask (Some (ToNewCore slots folders)) is order handle apart =
+      carry_ask (Some (work_asks.NewCore slots folders)) is order handle apart =
           let h : History = opened slots folders 0 0 in
           let view : View = view_of (after (present h) number (core_events.Register false)) (number_behind h.entries) in
           carry_by past e _ is handle (λ modes was. seated_more before_it slots folders number handle modes (effects.Seen view) apart was)
@@ -120,14 +123,14 @@ module _ (past : List Event) (e : Event) where
           → IsSeated before_it number running.modes → IsSeated (cores_after now) number (modes_after e.asked running.modes)
       call_kept None call is order seated =
           subst (λ a. IsSeated (cores_after now) number (modes_after a running.modes)) (sym is) (to_now past e _ is number running.modes seated)
-      call_kept (Some (ToDisk ask)) call is order seated =
+      call_kept (Some (work_asks.Disk ask)) call is order seated =
           subst (λ a. IsSeated (cores_after now) number (modes_after a running.modes)) (sym is) (to_now past e _ is number running.modes seated)
-      call_kept (Some (ToCore event)) call is order seated =
+      call_kept (Some (work_asks.Core event)) call is order seated =
           let of = asks_of_looks past number running.store running.modes running.begun (MakeCall call) event order in
           let answer = answer_behind (history_at before_it running.modes.core) number event in
           subst (λ a. IsSeated (cores_after now) number (modes_after a running.modes)) (sym is)
-          (to_now past e _ is number (modes_after (told (Some (ToCore event))) running.modes) (seated_looking before_it number running.modes event answer of seated))
-      call_kept (Some (ToNewCore slots folders)) call is order seated = absurd order
+          (to_now past e _ is number (modes_after (told (Some (work_asks.Core event))) running.modes) (seated_looking before_it number running.modes event answer of seated))
+      call_kept (Some (work_asks.NewCore slots folders)) call is order seated = absurd order
 
       -- ---- an opening
 
@@ -135,7 +138,7 @@ module _ (past : List Event) (e : Event) where
       look = asks.Look running.store.parts.objects true
 
       abbrev new_core : (slots : ℕ) → Ask
-      new_core slots = ToNewCore slots (length (folder_list running.store.parts))
+      new_core slots = work_asks.NewCore slots (length (folder_list running.store.parts))
 
       asked_by : (state : OpenState) (ask : Ask) → running.work ≡ Opening state → ask_in running.store (Opening state) ≡ Some ask → e.asked ≡ told (Some ask)
       asked_by state ask at asks_it = works.told ∙ ap told (sym works.asks ∙ (ap (ask_in running.store) at ∙ asks_it))
@@ -149,22 +152,22 @@ module _ (past : List Event) (e : Event) where
       -- a call of the disk registers nothing, and where an opening registers its handle it ends with that
       out_still : (state : OpenState) → running.work ≡ Opening state → IsOn state → IsNowhere before_it number
           → ((slots : ℕ) → ¬ (fed_in running.store running.work (answered e.asked) ≡ Ok (replies.Opened slots))) → IsNowhere (cores_after now) number
-      out_still opens.Looking at on nowhere other = nowhere_now past e _ (asked_by opens.Looking (ToDisk look) at refl) number nowhere
+      out_still opens.Looking at on nowhere other = nowhere_now past e _ (asked_by opens.Looking (work_asks.Disk look) at refl) number nowhere
       out_still (opens.Listing lister percent minimum) at on nowhere other =
-          nowhere_now past e _ (asked_by (opens.Listing lister percent minimum) (ToDisk (lists.ask_of lister)) at refl) number nowhere
+          nowhere_now past e _ (asked_by (opens.Listing lister percent minimum) (work_asks.Disk (lists.ask_of lister)) at refl) number nowhere
       out_still (opens.Registering slots) at on nowhere other = absurd (other slots (fed_by (opens.Registering slots) (new_core slots) at refl))
       out_still (opens.Done own) at on nowhere other = absurd on
 
       -- an opening that ends with a call of the disk is refused
-      refused_by_call : (state : OpenState) (ask : DiskAsk) → running.work ≡ Opening state → ask_in running.store (Opening state) ≡ Some (ToDisk ask) → IsOn state
+      refused_by_call : (state : OpenState) (ask : DiskAsk) → running.work ≡ Opening state → ask_in running.store (Opening state) ≡ Some (work_asks.Disk ask) → IsOn state
           → (reply : Reply) → e.outcome ≡ outcomes.Reply reply → refuses_opening reply ≡ true
       refused_by_call state ask at asks_it on reply out =
           let given = answer_now (disk_after first past) ask in
-          let fed : fed_in running.store (Opening state) (answered (told (Some (ToDisk ask)))) ≡ Ok reply =
-          sym (fed_by state (ToDisk ask) at asks_it) ∙ reply_of _ reply (sym works.goes ∙ out) in
+          let fed : fed_in running.store (Opening state) (answered (told (Some (work_asks.Disk ask)))) ≡ Ok reply =
+          sym (fed_by state (work_asks.Disk ask) at asks_it) ∙ reply_of _ reply (sym works.goes ∙ out) in
           let parts = running.store.parts in
           answered_refuses parts.objects parts.folders running.store.slots state given reply on
-          (opened_by (openings.fed parts.objects parts.folders running.store.slots state given) reply fed)
+          (opened_by (openings.fed parts.objects parts.folders running.store.slots state (work_answers.Disk given)) reply fed)
 
       -- the turn that registers a handle seats it, and any other turn with which an opening ends refuses it
       opened_seat : (state : OpenState) → running.work ≡ Opening state → IsOn state → IsNowhere before_it number → (reply : Reply) → e.outcome ≡ outcomes.Reply reply

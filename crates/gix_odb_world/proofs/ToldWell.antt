@@ -22,7 +22,7 @@ use Rattle.gix_odb_core.specs.declared.shape.Shape.{Shape}
 use Rattle.gix_odb_events.specs.declared.view.View.{View}
 use Rattle.gix_hash.specs.declared.object_id.ObjectId.{ObjectId}
 use Rattle.gix_odb_events.specs.declared.answer.Answer.TheVariants as told
-use Rattle.gix_odb_events.specs.declared.answer.PartAsk.TheVariants as parts
+use Rattle.gix_odb_events.specs.declared.answer.Ask.TheVariants as parts
 use Rattle.gix_odb_calls.specs.declared.call.Call.{Call}
 use Rattle.gix_odb_looks.specs.Exchange.{AreAnswered, Exchange, HasFailed, IsAnswerTo, WasTold}
 use Rattle.gix_odb_looks.specs.Fair.{AreFair, IsFair, PackedPlace}
@@ -45,7 +45,7 @@ use Rattle.gix_odb_runs.specs.declared.record.Did.TheVariants.{Nothing, Disk, Co
 use Rattle.gix_odb_world.specs.AtWork.{Modes, Running, Store, setting_in}
 use Rattle.gix_odb_world.specs.Bound.{HasAtMost}
 use Rattle.gix_odb_runs.specs.Cores.{answer_behind, cores_after, cores_after_asked, entered, entry_of, history_at}
-use Rattle.gix_odb_runs.specs.Event.{Asked, CoreAnswer, CoreEvent, Event, OfCore, OfDisk, ToCore, ToDisk}
+use Rattle.gix_odb_runs.specs.Event.{Asked, CoreAnswer, CoreEvent, Event, OfCore, OfDisk}
 use Rattle.gix_odb_runs.specs.Run.{Fails, FailedSince, NoCall, disk_after, tree_at}
 use Rattle.gix_odb_world.specs.Seats.{HasSeat, HasSeatAt, IsSeated}
 use Rattle.gix_odb_world.specs.Running.PackedStill.{IsPackedStill}
@@ -284,7 +284,7 @@ module _ (first : Volume) (events : List Event) (e : Event) where
     there : history_at (cores_after events) core ≡ history
     there = ap (λ o. unwrap_or o (opened 0 0 0 0)) stock.there
 
-    module _ (event : CoreEvent) (asked : ask_of look ≡ Some (parts.Core event)) (turn : IsTurnAsking first events e handle running (Some (ToCore event))) where
+    module _ (event : CoreEvent) (asked : ask_of look ≡ Some (parts.Core event)) (turn : IsTurnAsking first events e handle running (Some (parts.Core event))) where
       abbrev answer : CoreAnswer
       answer = answer_behind (history_at (cores_after events) core) handle event
 
@@ -360,7 +360,7 @@ module _ (first : Volume) (events : List Event) (e : Event) where
 
     -- ---- a call of the disk
 
-    module _ (ask : DiskAsk) (asked : ask_of look ≡ Some (parts.Disk ask)) (turn : IsTurnAsking first events e handle running (Some (ToDisk ask))) where
+    module _ (ask : DiskAsk) (asked : ask_of look ≡ Some (parts.Disk ask)) (turn : IsTurnAsking first events e handle running (Some (parts.Disk ask))) where
       abbrev disk : Volume
       disk = disk_after first events
 

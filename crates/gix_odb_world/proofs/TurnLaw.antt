@@ -15,7 +15,8 @@ use Rattle.gix_odb.specs.declared.handle_state.HandleState.{HandleState}
 use Rattle.gix_odb_world.specs.declared.work.Work.{Work}
 use Rattle.gix_odb_world.specs.declared.course.Course.{Course}
 use Rattle.gix_odb_world.specs.Bound.{HasAtMost, bound_of_task}
-use Rattle.gix_odb_runs.specs.Event.{Ask, Asked, OfNothing, Event, answered}
+use Rattle.gix_odb_runs.specs.Event.{Asked, OfNothing, Event, answered}
+use Rattle.gix_odb_events.specs.declared.answer.Ask.{Ask}
 use Rattle.gix_odb_world.specs.Status.{Free, Resting, Running, Status, Task, Working, come_to, modes_after, refuses_opening, replied, status_of, turned}
 use Rattle.gix_odb_world.specs.Handle.{IsHandleOf}
 use Rattle.gix_odb_runs.specs.Run.{Stand, change_asked, did_asked, did_of_asked, disk_after, disk_after_asked, told_now, tree_at}

@@ -19,14 +19,15 @@ use Rattle.gix_odb_core.specs.History.{History}
 use Rattle.gix_odb_events.specs.Answers.{view_in}
 use Rattle.gix_odb_world.specs.declared.turn.Carried.{Carried}
 use Rattle.gix_odb_runs.specs.Cores.{cores_after, cores_after_asked, or_before}
-use Rattle.gix_odb_runs.specs.Event.{Ask, Asked, OfCore, OfDisk, OfNewCore, OfNothing, Event, answered}
+use Rattle.gix_odb_runs.specs.Event.{Asked, OfCore, OfDisk, OfNewCore, OfNothing, Event, answered}
+use Rattle.gix_odb_events.specs.declared.answer.Ask.{Ask}
 use Rattle.gix_odb_world.specs.Machines.{ask_in, fed_in}
 use Rattle.gix_odb_world.specs.Status.{Modes, Running, Store, Status, Free, Resting, Working, modes_after, replied, status_of, turned}
 use Rattle.gix_odb_world.specs.Status as statuses
 use Rattle.gix_odb_world.specs.Handle.{IsHandleOf}
 use Rattle.gix_odb_world.specs.Running.{Runs}
 use Rattle.gix_odb_world.specs.Headline.{outcome_of, stand_of}
-use Rattle.gix_odb_world.specs.WorkOrder.{asks_on, result_in}
+use Rattle.gix_odb_world.specs.WorkOrder.{ask_on, result_in}
 use Rattle.gix_odb_world.specs.World.{Explains, Continues, GoesOn, Matches, handle_at}
 use Rattle.gix_odb_world.specs.Table.{Carries, IsReasonNow, KeepsTurn, SetsHandle, Settles, Notes, TakesTurn, after_turn, change_by_handle, state_after, told_in, would_change_now}
 use Rattle.gix_odb_world.proofs.KnowsLemmas.{runs_set}
@@ -118,11 +119,11 @@ module _ (old took mid new : Course) (disk : Volume) (cores : Vec History Global
       let made : Option Change = change_asked old.disk ask in
       let same_disk : took.disk ≡ old.disk = took_it.takes.disk in
       let same_cores : took.cores.items ≡ cores_after events = ap (λ (c : Vec History Global). c.items) took_it.takes.cores ∙ explains.cores in
-      let asks_it : asks_on state work ≡ ask = code_asks store running.modes state own work ∙ ap (ask_in store) (sym at) in
+      let asks_it : ask_on state work ≡ ask = code_asks store running.modes state own work ∙ ap (ask_in store) (sym at) in
       let told_is : told_in took.cores.items took.disk number state work ≡ told =
       ap (λ cs. told_in cs took.disk number state work) same_cores
       ∙ (ap (λ d. told_in (cores_after events) d number state work) same_disk
-      ∙ (ap (λ c. told_now (stand (cores_after events) c number) old.disk (asks_on state work)) own.core ∙ ap (told_now place old.disk) asks_it)) in
+      ∙ (ap (λ c. told_now (stand (cores_after events) c number) old.disk (ask_on state work)) own.core ∙ ap (told_now place old.disk) asks_it)) in
       let carries : Carries took.disk disk took.cores.items cores.items state work told done =
       subst (λ asked. Carries took.disk disk took.cores.items cores.items state work asked done) told_is took_it.carries in
       let opened : Option Path = opened_in running.work in
@@ -132,9 +133,9 @@ module _ (old took mid new : Course) (disk : Volume) (cores : Vec History Global
       let result_is : result_in done.work ≡ result =
       ap result_in carries.work_is ∙ (code_feeds store running.modes state own work (answered told) ∙ ap (λ w. fed_in store w (answered told)) (sym at)) in
       let change_is : done.change ≡ made =
-      carries.change ∙ (ap (λ d. change_asked d (asks_on state work)) same_disk ∙ ap (change_asked old.disk) asks_it) in
+      carries.change ∙ (ap (λ d. change_asked d (ask_on state work)) same_disk ∙ ap (change_asked old.disk) asks_it) in
       let disk_is : disk ≡ disk_after_asked old.disk told made =
-      carries.disk_is ∙ (ap (λ d. disk_after_asked d told (change_asked d (asks_on state work))) same_disk ∙ ap (λ a. disk_after_asked old.disk told (change_asked old.disk a)) asks_it) in
+      carries.disk_is ∙ (ap (λ d. disk_after_asked d told (change_asked d (ask_on state work))) same_disk ∙ ap (λ a. disk_after_asked old.disk told (change_asked old.disk a)) asks_it) in
       let tree : IsTree (tree_of old.disk.state) = subst (λ (d : Volume). IsTree (tree_of d.state)) same_disk took_it.tree in
       let outcome_is : outcome ≡ outcome_of result = took_it.outcome_is ∙ ap outcome_of result_is in
       let next_own : IsHandleOf store (modes_after told running.modes) done.state =
@@ -211,7 +212,7 @@ pub turned_on : (old took mid new : Course) (disk : Volume) (cores : Vec History
     → SetsHandle (record took { disk = disk; cores = cores; shown = shown }) mid number handle → Notes mid new outcome done.did done.change → Continues old (steps.Turn number) new
 turned_on old took mid new disk cores shown number state work done outcome handle revealed there takes tree carries outcome_is handle_is reason fits tells keeps sets notes first events explains =
     let would : done.change ≡ would_change_now old (steps.Turn number) =
-    carries.change ∙ (ap (λ (d : Volume). change_asked d (asks_on state work)) takes.disk ∙ sym (ap (change_by_handle old.disk) there)) in
+    carries.change ∙ (ap (λ (d : Volume). change_asked d (ask_on state work)) takes.disk ∙ sym (ap (change_by_handle old.disk) there)) in
     by_status old took mid new disk cores shown number state work done outcome handle
     (record {
       there = there;

@@ -22,7 +22,9 @@ use Rattle.gix_odb_calls.specs.declared.step.Outcome.TheVariants as outcomes
 use Rattle.gix_odb_calls.specs.declared.step.Step.{Step}
 use Rattle.gix_odb_calls.specs.declared.step.Step.TheVariants as steps
 use Rattle.gix_odb_calls.specs.declared.step.Why.{Why}
-use Rattle.gix_odb_runs.specs.Event.{Ask, Event, ToCore, ToDisk, ToNewCore}
+use Rattle.gix_odb_runs.specs.Event.{Event}
+use Rattle.gix_odb_events.specs.declared.answer.Ask.{Ask}
+use Rattle.gix_odb_events.specs.declared.answer.Ask.TheVariants as asks
 use Rattle.gix_odb_runs.specs.Run.{Stand, change_asked, change_by, disk_after, disk_after_asked, disk_after_event, told_now, tree_at}
 use Rattle.gix_odb_world.specs.TwoContents.{watched_after, watched_by, watched_from, watched_too}
 use Rattle.gix_odb_world.specs.Watch.{NotesChange, NotesMade, Watches}
@@ -183,13 +185,13 @@ module _ (first : Volume) (events : List Event) (e : Event) where
 pub turn_left : (place : Stand) (disk : Volume) (ask : Option Ask)
     → IsLeft (tree_of disk.state) (tree_of (disk_after_asked disk (told_now place disk ask) (change_asked disk ask)).state) (change_asked disk ask)
 turn_left place disk None = refl
-turn_left place disk (Some (ToDisk ask)) = by (change_by disk ask)
+turn_left place disk (Some (asks.Disk ask)) = by (change_by disk ask)
   where
     by : (change : Option Change) → IsLeft (tree_of disk.state) (tree_of (written disk.state change)) change
     by None = refl
     by (Some change) = tree_of-written disk.state change
-turn_left place disk (Some (ToCore event)) = refl
-turn_left place disk (Some (ToNewCore slots folders)) = refl
+turn_left place disk (Some (asks.Core event)) = refl
+turn_left place disk (Some (asks.NewCore slots folders)) = refl
 
 -- ---- folders that are watched from now on
 

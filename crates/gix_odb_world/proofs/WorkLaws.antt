@@ -10,7 +10,11 @@ use Rattle.gix_odb_loose.specs.LooseOrder.{disk_ask_of}
 use Rattle.gix_odb_loose.specs.LooseOrder as loose_order
 use Rattle.gix_odb_loose.specs.declared.call.LooseCall.{LooseCall}
 use Rattle.gix_odb_world.specs.declared.work.Work.{Work}
-use Rattle.gix_odb_runs.specs.Event.{Answer, Event, FromDisk, ToDisk, to_disk}
+use Rattle.gix_odb_runs.specs.Event.{Event}
+use Rattle.gix_odb_events.specs.declared.answer.Answer.{Answer}
+use Rattle.gix_odb_events.specs.declared.answer.Ask.TheVariants as parts
+use Rattle.gix_odb_events.specs.declared.answer.Answer.TheVariants as told
+use Rattle.gix_odb_looks.specs.LookUpOrder.{loose_ask}
 use Rattle.gix_odb_world.specs.Handle.{IsHandleOf}
 use Rattle.gix_odb_world.specs.Machine.{At, Machine, placed}
 use Rattle.gix_odb_world.specs.Machines.{at, ask_in, fed_in, write_in}
@@ -18,7 +22,7 @@ use Rattle.gix_odb_runs.specs.Run.{change_by, disk_after}
 use Rattle.gix_odb_world.specs.Running.{Knows}
 use Rattle.gix_odb_world.specs.Running.Write.{IsWriting}
 use Rattle.gix_odb_world.specs.Status.{Running, Store, Modes}
-use Rattle.gix_odb_world.specs.WorkOrder.{asks_on, fed_after, result_in}
+use Rattle.gix_odb_world.specs.WorkOrder.{ask_on, fed_after, result_in}
 use Rattle.gix_odb_world.proofs.MachineLaws.{HasNoFile}
 use Rattle.gix_odb_world.proofs.Machines.{laws_at}
 
@@ -26,8 +30,8 @@ use Rattle.gix_odb_world.proofs.Machines.{laws_at}
 
 -- the code of a handle asks what the work names
 pub code_asks : (store : Store) (modes : Modes) (code : HandleState) → IsHandleOf store modes code → (work : Work)
-    → asks_on code work ≡ ask_in store work
-code_asks store modes code own work = ap (asks_on code) (sym (at work).is) ∙ (laws_at work).asks store modes code own (at work).state
+    → ask_on code work ≡ ask_in store work
+code_asks store modes code own work = ap (ask_on code) (sym (at work).is) ∙ (laws_at work).asks store modes code own (at work).state
 
 -- and goes on as the work does
 pub code_feeds : (store : Store) (modes : Modes) (code : HandleState) → IsHandleOf store modes code → (work : Work) (answer : Option Answer)
@@ -39,7 +43,7 @@ code_feeds store modes code own work answer =
 
 module _ (first : Volume) (events : List Event) (handle : ℕ) (running : Running) (work : Work) (knows : Knows first events handle running work) where
   -- work that writes nothing changes nothing
-  pub quiet_unless_writing : (ask : DiskAsk) → write_in work ≡ None → ask_in running.store work ≡ Some (ToDisk ask)
+  pub quiet_unless_writing : (ask : DiskAsk) → write_in work ≡ None → ask_in running.store work ≡ Some (parts.Disk ask)
       → change_by (disk_after first events) ask ≡ None
   quiet_unless_writing ask none is = (laws_at work).writes.quiet first events handle running (at work).state ask knows none is
 
@@ -48,12 +52,12 @@ module _ (first : Volume) (events : List Event) (handle : ℕ) (running : Runnin
   knows_write call is = (laws_at work).writes.known first events handle running (at work).state call knows is
 
 -- it asks what its write asks
-pub asks_as_write : (store : Store) (work : Work) (call : LooseCall) → write_in work ≡ Some call → ask_in store work ≡ to_disk (disk_ask_of call)
+pub asks_as_write : (store : Store) (work : Work) (call : LooseCall) → write_in work ≡ Some call → ask_in store work ≡ loose_ask (disk_ask_of call)
 asks_as_write store work call is = (laws_at work).writes.asks store (at work).state call is
 
 -- it ends where its write ends
 pub ends_as_write : (store : Store) (work : Work) (call : LooseCall) (answer : DiskAnswer) (reply : Reply) → write_in work ≡ Some call
-    → result_of_write (loose_order.fed call answer) ≡ Ok reply → fed_in store work (Some (FromDisk answer)) ≡ Ok reply
+    → result_of_write (loose_order.fed call answer) ≡ Ok reply → fed_in store work (Some (told.Disk answer)) ≡ Ok reply
 ends_as_write store work call answer reply is done = ap (placed (at work).machine) ((laws_at work).writes.ends store (at work).state call answer reply is done)
 
 -- what is left of work is that of its machine at another state

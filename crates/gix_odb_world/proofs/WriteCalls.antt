@@ -3,7 +3,8 @@ use Rattle.std.proofs.Common.{◌≡◌, ℕ, List, Some, sym, ap, ◌∙◌}
 use Rattle.odb_asks.specs.MemDisk.{Volume}
 use Rattle.gix_odb_loose.specs.LooseOrder.{disk_ask_of}
 use Rattle.gix_odb_loose.specs.declared.call.LooseCall.{LooseCall}
-use Rattle.gix_odb_runs.specs.Event.{Event, to_disk}
+use Rattle.gix_odb_runs.specs.Event.{Event}
+use Rattle.gix_odb_looks.specs.LookUpOrder.{loose_ask}
 use Rattle.gix_odb_world.specs.Headline.{Works}
 use Rattle.gix_odb_world.specs.Machines.{write_in}
 use Rattle.gix_odb_world.specs.Running.Write.{IsWriting}
@@ -18,4 +19,4 @@ pub write_calls : (first : Volume) (past : List Event) (handle : ℕ) (running :
     → CallsDisk first past handle running e
 write_calls first past handle running e works call write writes =
     by_call first past handle running e works (ask_at_stage writes.write writes.stage)
-    (sym works.asks ∙ (asks_as_write running.store running.work call write ∙ ap (λ f. to_disk (disk_ask_of f)) writes.is))
+    (sym works.asks ∙ (asks_as_write running.store running.work call write ∙ ap (λ f. loose_ask (disk_ask_of f)) writes.is))

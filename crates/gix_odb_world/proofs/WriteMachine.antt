@@ -14,22 +14,24 @@ use Rattle.gix_odb_loose.specs.LooseOrder.{disk_ask_of}
 use Rattle.gix_odb_loose.specs.declared.call.LooseCall.{LooseCall}
 use Rattle.gix_odb_loose.specs.declared.write_order.WriteStage.TheVariants.{Making}
 use Rattle.gix_odb_events.specs.declared.answer.Answer.TheVariants as told
-use Rattle.gix_odb_events.specs.declared.answer.PartAsk.{PartAsk}
-use Rattle.gix_odb_events.specs.declared.answer.PartAsk.TheVariants as parts
+use Rattle.gix_odb_events.specs.declared.answer.Ask.{Ask}
+use Rattle.gix_odb_events.specs.declared.answer.Ask.TheVariants as parts
 use Rattle.gix_odb_calls.specs.declared.call.Reply.{Reply}
-use Rattle.gix_odb_looks.specs.LookUpOrder.{Setting}
+use Rattle.gix_odb_looks.specs.LookUpOrder.{Setting, loose_ask}
+use Rattle.gix_odb_refresh.proofs.RefreshLaws.{refreshes_have_no_core_made}
 use Rattle.gix_odb_refresh.specs.RefreshOrder as refreshes
 use Rattle.gix_odb_refresh.specs.Refreshed.{AreAsked}
 use Rattle.gix_odb_refresh.specs.declared.refresh.Refresh.{Refresh}
 use Rattle.gix_odb_refresh.specs.declared.refresh.Refresh.TheVariants as fronts
 use Rattle.gix_odb.specs.CallOrder as calls
 use Rattle.gix_odb.specs.Contents.{folder_list}
-use Rattle.gix_odb.specs.CallOrder.{fronted, result_of_write, writing_result}
+use Rattle.gix_odb.specs.CallOrder.{fronted, result_of_write, writing_result, written_on}
 use Rattle.gix_odb.specs.declared.call_state.CallState.TheVariants.{Refused}
 use Rattle.gix_odb.specs.declared.handle_state.HandleState.{HandleState}
 use Rattle.gix_odb_world.specs.AtWork.{Modes, setting_in}
 use Rattle.gix_odb_looks.specs.Laps.{turns_of_lap}
-use Rattle.gix_odb_runs.specs.Event.{Answer, CoreEvent, Event, FromCore, FromDisk, ToCore, ToDisk, answered, part_asked, to_disk}
+use Rattle.gix_odb_runs.specs.Event.{CoreEvent, Event, answered}
+use Rattle.gix_odb_events.specs.declared.answer.Answer.{Answer}
 use Rattle.gix_odb_world.specs.Handle.{IsHandleOf}
 use Rattle.gix_odb_world.specs.Machine.{placed}
 use Rattle.gix_odb_world.specs.Machines.{at}
@@ -39,12 +41,11 @@ use Rattle.gix_odb_world.specs.Running.Write.{write_asks, write_at, write_fed, w
 use Rattle.gix_odb_world.specs.Status.{MakeCall, Running, Store}
 use Rattle.gix_odb_world.specs.Told.{refresh_begun, told_since}
 use Rattle.gix_odb_runs.specs.Writing.{ToWrite, call_to_write}
-use Rattle.gix_odb_world.specs.WorkOrder.{asks_on, calling_result, fed_after, result_in}
+use Rattle.gix_odb_world.specs.WorkOrder.{ask_on, calling_result, fed_after, result_in}
 use Rattle.gix_odb_world.proofs.AnsweredLemmas.{answered_later}
 use Rattle.gix_odb_world.proofs.FrontLemmas.{begun_same, front_same, now_same}
-use Rattle.gix_odb_world.proofs.LookMachine.Turn.{call_asked, event_asked}
 use Rattle.gix_odb_world.proofs.MachineLaws.{HasNoFile, HasTurn, IsRunning, IsTurnAsking, KeepsLaws, KeepsTurnLaws, KeepsWriteLaws, MachineComes, TakesTurn}
-use Rattle.gix_odb_world.proofs.MachineLaws.{home, no_event, of_disk_part, told_after}
+use Rattle.gix_odb_world.proofs.MachineLaws.{home, no_event, told_after}
 use Rattle.gix_odb_world.proofs.SettingLemmas.{setting_same}
 use Rattle.gix_odb_world.proofs.ToldLemmas.{told_kept}
 use Rattle.gix_odb_world.proofs.ToldWell.{most_before}
@@ -71,26 +72,21 @@ front_placed call fronts.Looking = refl
 front_placed call (fronts.Listing lister base) = refl
 front_placed call (fronts.Publishing listing) = refl
 
-write_code_asks : (code : HandleState) (state : WriteState) → asks_on code (work_of state) ≡ write_asks state
+write_code_asks : (code : HandleState) (state : WriteState) → ask_on code (work_of state) ≡ write_asks state
 write_code_asks code (InFront refresh call) = refl
-write_code_asks code (Own call) = of_disk_part (disk_ask_of call)
+write_code_asks code (Own call) = refl
 write_code_asks code (Unlisted error) = refl
 
 write_feeds : (store : Store) (modes : Modes) (code : HandleState) → IsHandleOf store modes code → (state : WriteState) (answer : Option Answer)
     → result_in (fed_after code (work_of state) answer) ≡ placed writing (write_fed store state answer)
 write_feeds store modes code own (InFront refresh call) None = refl
-write_feeds store modes code own (InFront refresh call) (Some (FromDisk answer)) =
-    ap (λ (setting : Setting). calling_result (calls.result_of (fronted (refreshes.fed setting.objects setting.folders refresh (told.Disk answer)) call))) (setting_same store modes code own)
-    ∙ front_placed call (refreshes.fed store.parts.objects store.parts.folders refresh (told.Disk answer))
-write_feeds store modes code own (InFront refresh call) (Some (FromCore answer)) =
-    ap (λ (setting : Setting). calling_result (calls.result_of (fronted (refreshes.fed setting.objects setting.folders refresh (told.Core answer)) call))) (setting_same store modes code own)
-    ∙ front_placed call (refreshes.fed store.parts.objects store.parts.folders refresh (told.Core answer))
+write_feeds store modes code own (InFront refresh call) (Some answer) =
+    ap (λ (setting : Setting). calling_result (calls.result_of (fronted (refreshes.fed setting.objects setting.folders refresh answer) call))) (setting_same store modes code own)
+    ∙ front_placed call (refreshes.fed store.parts.objects store.parts.folders refresh answer)
 write_feeds store modes code own (Own call) None = own_placed (result_of_write call)
-write_feeds store modes code own (Own call) (Some (FromCore answer)) = own_placed (result_of_write call)
-write_feeds store modes code own (Own call) (Some (FromDisk answer)) = own_placed (result_of_write (loose_order.fed call answer))
+write_feeds store modes code own (Own call) (Some answer) = own_placed (result_of_write (written_on call answer))
 write_feeds store modes code own (Unlisted error) None = refl
-write_feeds store modes code own (Unlisted error) (Some (FromDisk answer)) = refl
-write_feeds store modes code own (Unlisted error) (Some (FromCore answer)) = refl
+write_feeds store modes code own (Unlisted error) (Some answer) = refl
 
 -- ---- its own turns
 
@@ -102,10 +98,10 @@ module _ (first : Volume) (events : List Event) (handle : ℕ) (running : Runnin
   own_ask = ask_at_stage own.write own.stage
 
   -- it asks what its stage does
-  own_asks : to_disk (disk_ask_of call) ≡ Some (ToDisk own_ask)
-  own_asks = ap (λ (c : LooseCall). to_disk (disk_ask_of c)) own.is
+  own_asks : loose_ask (disk_ask_of call) ≡ Some (parts.Disk own_ask)
+  own_asks = ap (λ (c : LooseCall). loose_ask (disk_ask_of c)) own.is
 
-  own_takes : TakesTurn first events handle running running.task (to_disk (disk_ask_of call))
+  own_takes : TakesTurn first events handle running running.task (loose_ask (disk_ask_of call))
   own_takes =
       subst (TakesTurn first events handle running running.task) (sym own_asks)
       (subst (λ task. HasTurn first events handle running task own_ask) (sym knows.task)
@@ -114,9 +110,9 @@ module _ (first : Volume) (events : List Event) (handle : ℕ) (running : Runnin
         five = five_written first events handle running call own;
       }))
 
-  own_comes : (e : Event) → IsTurnAsking first events e handle running (to_disk (disk_ask_of call))
-      → MachineComes first events e handle running writing (told_after first events handle running (to_disk (disk_ask_of call)))
-      (writing.feed running.store (Own call) (answered (told_after first events handle running (to_disk (disk_ask_of call)))))
+  own_comes : (e : Event) → IsTurnAsking first events e handle running (loose_ask (disk_ask_of call))
+      → MachineComes first events e handle running writing (told_after first events handle running (loose_ask (disk_ask_of call)))
+      (writing.feed running.store (Own call) (answered (told_after first events handle running (loose_ask (disk_ask_of call)))))
   own_comes e =
       subst (λ a. IsTurnAsking first events e handle running a
       → MachineComes first events e handle running writing (told_after first events handle running a) (writing.feed running.store (Own call) (answered (told_after first events handle running a))))
@@ -128,43 +124,41 @@ write_takes : (first : Volume) (events : List Event) (handle : ℕ) (running : R
     → TakesTurn first events handle running running.task (write_asks state)
 write_takes first events handle running (InFront refresh call) knows = by knows.more.0 knows.more.1
   where
-    by : (ask : PartAsk) → refreshes.ask_of refresh ≡ Some ask → TakesTurn first events handle running running.task (part_asked (refreshes.ask_of refresh))
+    by : (ask : Ask) → refreshes.ask_of refresh ≡ Some ask → TakesTurn first events handle running running.task (refreshes.ask_of refresh)
+    by (parts.NewCore slots folders) is = absurd (refreshes_have_no_core_made refresh slots folders is)
     by (parts.Disk ask) is =
-        subst (λ a. TakesTurn first events handle running running.task (part_asked a)) (sym is) (front_takes first events handle running refresh call knows ask is)
+        subst (TakesTurn first events handle running running.task) (sym is) (front_takes first events handle running refresh call knows ask is)
     by (parts.Core event) is =
-        subst (λ a. TakesTurn first events handle running running.task (part_asked a)) (sym is)
-        (subst (λ task. TakesTurn first events handle running task (Some (ToCore event))) (sym knows.of.task) (ap refreshes.ask_of (sym knows.refresh_is) ∙ is))
+        subst (TakesTurn first events handle running running.task) (sym is)
+        (subst (λ task. TakesTurn first events handle running task (Some (parts.Core event))) (sym knows.of.task) (ap refreshes.ask_of (sym knows.refresh_is) ∙ is))
 write_takes first events handle running (Own call) knows = own_takes first events handle running call knows
 write_takes first events handle running (Unlisted error) knows = absurd knows
 
 write_ends : (first : Volume) (events : List Event) (handle : ℕ) (running : Running) (state : WriteState) → KnowsOfWrite first events handle running state
     → write_asks state ≡ None → (reply : Reply) × (write_fed running.store state None ≡ Ok reply)
-write_ends first events handle running (InFront refresh call) knows none = absurd (never knows.more.0 (ap part_asked (sym knows.more.1) ∙ none))
-  where
-    never : (ask : PartAsk) → ¬ (part_asked (Some ask) ≡ None)
-    never (parts.Disk ask) is = cc is
-    never (parts.Core event) is = cc is
+write_ends first events handle running (InFront refresh call) knows none = let both = sym knows.more.1 ∙ none in absurd (cc both)
 write_ends first events handle running (Own call) knows none = let both = sym (own_asks first events handle running call knows) ∙ none in absurd (cc both)
 write_ends first events handle running (Unlisted error) knows none = absurd knows
 
 write_happens : (first : Volume) (events : List Event) (handle : ℕ) (running : Running) (state : WriteState) → KnowsOfWrite first events handle running state
-    → (event : CoreEvent) → write_asks state ≡ Some (ToCore event) → (shape : Shape) (seat : ℕ) → CanHappen shape seat event
+    → (event : CoreEvent) → write_asks state ≡ Some (parts.Core event) → (shape : Shape) (seat : ℕ) → CanHappen shape seat event
 write_happens first events handle running (InFront refresh call) knows event is shape seat =
-    front_happens first events handle running refresh call knows event (event_asked (refreshes.ask_of refresh) event is) shape seat
+    front_happens first events handle running refresh call knows event is shape seat
 write_happens first events handle running (Own call) knows event is shape seat = absurd (no_event (disk_ask_of call) event is)
 write_happens first events handle running (Unlisted error) knows event is shape seat = absurd knows
 
 -- what a turn of what stands in front comes to, by what it asks for
 module _ (first : Volume) (events : List Event) (e : Event) (handle : ℕ) (running : Running) (refresh : Refresh) (call : LooseCall) where
-  abbrev FrontComes : Option PartAsk → Type 0
+  abbrev FrontComes : Option Ask → Type 0
   FrontComes asked =
-      IsTurnAsking first events e handle running (part_asked asked)
-      → MachineComes first events e handle running writing (told_after first events handle running (part_asked asked))
-      (write_fed running.store (InFront refresh call) (answered (told_after first events handle running (part_asked asked))))
+      IsTurnAsking first events e handle running asked
+      → MachineComes first events e handle running writing (told_after first events handle running asked)
+      (write_fed running.store (InFront refresh call) (answered (told_after first events handle running asked)))
 
-  front_comes : IsRunning first events handle running → IsInFront first events handle running refresh call → (ask : PartAsk)
+  front_comes : IsRunning first events handle running → IsInFront first events handle running refresh call → (ask : Ask)
       → refreshes.ask_of refresh ≡ Some ask → FrontComes (refreshes.ask_of refresh)
   front_comes ran knows (parts.Disk ask) is = subst FrontComes (sym is) (λ turn. front_comes_on_disk first events handle running refresh call knows e ran ask is turn)
+  front_comes ran knows (parts.NewCore slots folders) is = absurd (refreshes_have_no_core_made refresh slots folders is)
   front_comes ran knows (parts.Core event) is = subst FrontComes (sym is) (λ turn. front_comes_on_core first events handle running refresh call knows e event is turn)
 
 write_comes_to : (first : Volume) (events : List Event) (e : Event) (handle : ℕ) (running : Running) → IsRunning first events handle running
@@ -187,9 +181,9 @@ writing_turns = record {
 -- ---- its writes
 
 write_quiet : (first : Volume) (events : List Event) (handle : ℕ) (running : Running) (state : WriteState) (ask : DiskAsk) → KnowsOfWrite first events handle running state
-    → writes_by state ≡ None → write_asks state ≡ Some (ToDisk ask) → change_by (disk_after first events) ask ≡ None
+    → writes_by state ≡ None → write_asks state ≡ Some (parts.Disk ask) → change_by (disk_after first events) ask ≡ None
 write_quiet first events handle running (InFront refresh call) ask knows none is =
-    front_quiet first events handle running refresh call knows ask (call_asked (refreshes.ask_of refresh) ask is)
+    front_quiet first events handle running refresh call knows ask is
 write_quiet first events handle running (Own call) ask knows none is = absurd (cc none)
 write_quiet first events handle running (Unlisted error) ask knows none is = absurd knows
 
@@ -199,14 +193,14 @@ write_known first events handle running (InFront refresh own) call knows is = ab
 write_known first events handle running (Own own) call knows is = let same : own ≡ call = cc is in subst (IsWriting first events handle running) same knows.writing
 write_known first events handle running (Unlisted error) call knows is = absurd knows
 
-write_asks_own : (state : WriteState) (call : LooseCall) → writes_by state ≡ Some call → write_asks state ≡ to_disk (disk_ask_of call)
+write_asks_own : (state : WriteState) (call : LooseCall) → writes_by state ≡ Some call → write_asks state ≡ loose_ask (disk_ask_of call)
 write_asks_own (InFront refresh own) call is = absurd (cc is)
-write_asks_own (Own own) call is = let same : own ≡ call = cc is in ap (λ (c : LooseCall). to_disk (disk_ask_of c)) same
+write_asks_own (Own own) call is = let same : own ≡ call = cc is in ap (λ (c : LooseCall). loose_ask (disk_ask_of c)) same
 write_asks_own (Unlisted error) call is = absurd (cc is)
 
 -- a write that ends has its reply
 write_ends_own : (store : Store) (state : WriteState) (call : LooseCall) (answer : DiskAnswer) (reply : Reply) → writes_by state ≡ Some call
-    → result_of_write (loose_order.fed call answer) ≡ Ok reply → write_fed store state (Some (FromDisk answer)) ≡ Ok reply
+    → result_of_write (loose_order.fed call answer) ≡ Ok reply → write_fed store state (Some (told.Disk answer)) ≡ Ok reply
 write_ends_own store (InFront refresh own) call answer reply is done = absurd (cc is)
 write_ends_own store (Own own) call answer reply is done =
     let same : own ≡ call = cc is in
@@ -235,10 +229,8 @@ write_before : (first : Volume) (events : List Event) (handle : ℕ) (running : 
     → ((own : LooseCall) × (writes_by state ≡ Some own)) ⊎ HasNoFile call
 write_before first events handle running (InFront refresh own) next None call knows goes writes =
     let left : InFront refresh own ≡ next = cc goes in absurd (cc (ap writes_by left ∙ writes))
-write_before first events handle running (InFront refresh own) next (Some (FromDisk answer)) call knows goes writes =
-    inr (own_before first events handle running refresh own knows (refreshes.fed running.store.parts.objects running.store.parts.folders refresh (told.Disk answer)) next call goes writes)
-write_before first events handle running (InFront refresh own) next (Some (FromCore answer)) call knows goes writes =
-    inr (own_before first events handle running refresh own knows (refreshes.fed running.store.parts.objects running.store.parts.folders refresh (told.Core answer)) next call goes writes)
+write_before first events handle running (InFront refresh own) next (Some answer) call knows goes writes =
+    inr (own_before first events handle running refresh own knows (refreshes.fed running.store.parts.objects running.store.parts.folders refresh answer) next call goes writes)
 write_before first events handle running (Own own) next answer call knows goes writes = inl (own, refl)
 write_before first events handle running (Unlisted error) next answer call knows goes writes = absurd knows
 

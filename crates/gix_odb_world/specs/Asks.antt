@@ -12,15 +12,15 @@ use Rattle.gix_odb_calls.specs.declared.call.Call.TheVariants as calls
 use Rattle.gix_odb_calls.specs.declared.query.Query.{Query}
 use Rattle.gix_odb_calls.specs.declared.query.Query.TheVariants.{Find, Header, Test}
 use Rattle.gix_odb_looks.specs.LookUpOrder.{ask_of}
-use Rattle.gix_odb_events.specs.declared.answer.PartAsk.{PartAsk}
-use Rattle.gix_odb_events.specs.declared.answer.PartAsk.TheVariants as parts
+use Rattle.gix_odb_events.specs.declared.answer.Ask.{Ask}
+use Rattle.gix_odb_events.specs.declared.answer.Ask.TheVariants as parts
 use Rattle.gix_odb.specs.Contents.{folder_list}
 use Rattle.gix_odb.specs.OpenOrder as openings
 use Rattle.gix_odb_refresh.specs.RefreshOrder as refreshes
 use Rattle.gix_odb_refresh.specs.declared.refresh.Refresh.TheVariants.{Ready}
 use Rattle.gix_odb_events.specs.PackId.{most_slots}
 use Rattle.gix_odb_world.specs.AtWork.{Modes}
-use Rattle.gix_odb_runs.specs.Event.{Ask, CoreEvent, Event, ToCore, ToDisk, ToNewCore}
+use Rattle.gix_odb_runs.specs.Event.{CoreEvent, Event}
 use Rattle.gix_odb_world.specs.Status.{Store, MakeCall, OpenStore, Task}
 use Rattle.gix_odb_world.specs.Told.{look_now, opening_now, refresh_now, turns_in_front}
 use Rattle.gix_odb_runs.specs.Writing.{DoneSince, ToWrite, name_to_write, to_write}
@@ -31,17 +31,17 @@ pub record AsksBehind (front turns : ℕ) (Asks : (own : ℕ) → Type 0) : Type
   pub turn : turns ≡ front + own
   pub asks : Asks own
 
--- What an opening asks of the disk: what its order of work asks for behind all that its handle was told since it began.
-abbrev pub AsksAsOpening : List Event → (handle : ℕ) → Store → (begun : ℕ) → DiskAsk → Type 0
-AsksAsOpening past handle store begun ask = openings.ask_of store.parts.objects (opening_now past handle store begun) ≡ Some ask
+-- What an opening asks for: what its order of work asks for behind all that its handle was told since it began.
+abbrev pub AsksAsOpening : List Event → (handle : ℕ) → Store → (begun : ℕ) → Ask → Type 0
+AsksAsOpening past handle store begun ask = openings.ask_of store.parts.objects store.parts.folders (opening_now past handle store begun) ≡ Some ask
 
 -- What stands in front of a write asks for: what the order of work of refreshes asks for behind all that the handle was told since the write
 -- began.
-abbrev pub AsksAsRefresh : List Event → (handle : ℕ) → Store → (modes : Modes) → (begun : ℕ) → PartAsk → Type 0
+abbrev pub AsksAsRefresh : List Event → (handle : ℕ) → Store → (modes : Modes) → (begun : ℕ) → Ask → Type 0
 AsksAsRefresh past handle store modes begun ask = refreshes.ask_of (refresh_now past handle store modes begun) ≡ Some ask
 
 -- What a query asks for: what the order of work of look-ups asks for behind all that the handle was told since the query began.
-abbrev pub AsksAsLook : List Event → (handle : ℕ) → Store → (modes : Modes) → (begun : ℕ) → Query → Option PartAsk → Type 0
+abbrev pub AsksAsLook : List Event → (handle : ℕ) → Store → (modes : Modes) → (begun : ℕ) → Query → Option Ask → Type 0
 AsksAsLook past handle store modes begun query ask = ask_of (look_now past handle store modes begun query) ≡ ask
 
 -- the write has made its temporary file with this number
@@ -76,7 +76,7 @@ AsksAsWrite first past handle store modes begun turns w ask =
 -- Which call of the disk a turn makes, where its handle has had so many turns since the step that set its task: an opening looks at the
 -- objects directory and then lists the folders of packs, where it is to count the indices; a query makes the one that its look-up asks for.
 abbrev pub AsksInOrder : Volume → List Event → (handle : ℕ) → Store → (modes : Modes) → (begun turns : ℕ) → Task → DiskAsk → Type 0
-AsksInOrder first past handle store modes begun turns OpenStore ask = AsksAsOpening past handle store begun ask
+AsksInOrder first past handle store modes begun turns OpenStore ask = AsksAsOpening past handle store begun (parts.Disk ask)
 AsksInOrder first past handle store modes begun turns (MakeCall (calls.Find id)) ask = AsksAsLook past handle store modes begun (Find id) (Some (parts.Disk ask))
 AsksInOrder first past handle store modes begun turns (MakeCall (calls.Header id)) ask = AsksAsLook past handle store modes begun (Header id) (Some (parts.Disk ask))
 AsksInOrder first past handle store modes begun turns (MakeCall (calls.Test id)) ask = AsksAsLook past handle store modes begun (Test id) (Some (parts.Disk ask))
@@ -87,7 +87,7 @@ AsksInOrder first past handle store modes begun turns (MakeCall (calls.Write kin
 -- that its handle was told since it began, and for the folders of the store.
 abbrev pub MayAskNewCore : List Event → (handle : ℕ) → Store → (begun : ℕ) → Task → (slots folders : ℕ) → Type 0
 MayAskNewCore past handle store begun OpenStore slots folders =
-    (openings.registers (opening_now past handle store begun) ≡ Some slots) × (slots ≤ most_slots) × (folders ≡ length (folder_list store.parts))
+    AsksAsOpening past handle store begun (parts.NewCore slots folders) × (slots ≤ most_slots) × (folders ≡ length (folder_list store.parts))
 MayAskNewCore past handle store begun (MakeCall call) slots folders = ⊥
 
 -- Whether a task may end in a turn that asks for nothing: a query does whose look-up is done, since the snapshot had all that it took.
@@ -110,6 +110,6 @@ MayAskCore past handle store modes begun (MakeCall (calls.Write kind size bytes 
 -- What a turn asks for, if it asks for anything.
 abbrev pub AsksAsTask : Volume → List Event → (handle : ℕ) → Store → (modes : Modes) → (begun turns : ℕ) → Task → Option Ask → Type 0
 AsksAsTask first past handle store modes begun turns task None = MayEndUnasked past handle store modes begun task
-AsksAsTask first past handle store modes begun turns task (Some (ToDisk ask)) = AsksInOrder first past handle store modes begun turns task ask
-AsksAsTask first past handle store modes begun turns task (Some (ToCore event)) = MayAskCore past handle store modes begun task event
-AsksAsTask first past handle store modes begun turns task (Some (ToNewCore slots folders)) = MayAskNewCore past handle store begun task slots folders
+AsksAsTask first past handle store modes begun turns task (Some (parts.Disk ask)) = AsksInOrder first past handle store modes begun turns task ask
+AsksAsTask first past handle store modes begun turns task (Some (parts.Core event)) = MayAskCore past handle store modes begun task event
+AsksAsTask first past handle store modes begun turns task (Some (parts.NewCore slots folders)) = MayAskNewCore past handle store begun task slots folders

@@ -17,7 +17,9 @@ use Rattle.gix_odb_calls.specs.declared.step.Step.{Step}
 use Rattle.gix_odb_calls.specs.declared.step.Step.TheVariants as steps
 use Rattle.gix_odb_calls.specs.declared.step.Outcome.{Outcome}
 use Rattle.gix_odb_calls.specs.declared.step.Outcome.TheVariants as outcomes
-use Rattle.gix_odb_runs.specs.Event.{Ask, Event, ToCore, ToDisk, ToNewCore}
+use Rattle.gix_odb_runs.specs.Event.{Event}
+use Rattle.gix_odb_events.specs.declared.answer.Ask.{Ask}
+use Rattle.gix_odb_events.specs.declared.answer.Ask.TheVariants as work_asks
 use Rattle.gix_odb_world.specs.Status.{Store, MakeCall, Task}
 use Rattle.gix_odb_runs.specs.Run.{disk_after}
 use Rattle.gix_odb_runs.specs.Writing.{DoneSince, ToWrite, name_to_write, to_write}
@@ -66,6 +68,6 @@ ChangesInTask first past handle store begun task ask (Some change) = ⊥
 -- the same of what a turn asks for, if it asks for anything: only a call of the disk changes the tree
 abbrev pub ChangesAsAsked : Volume → List Event → (handle : ℕ) → Store → (begun : ℕ) → Task → Option Ask → Option Change → Type 0
 ChangesAsAsked first past handle store begun task None change = change ≡ None
-ChangesAsAsked first past handle store begun task (Some (ToDisk ask)) change = ChangesInTask first past handle store begun task ask change
-ChangesAsAsked first past handle store begun task (Some (ToCore event)) change = change ≡ None
-ChangesAsAsked first past handle store begun task (Some (ToNewCore slots folders)) change = change ≡ None
+ChangesAsAsked first past handle store begun task (Some (work_asks.Disk ask)) change = ChangesInTask first past handle store begun task ask change
+ChangesAsAsked first past handle store begun task (Some (work_asks.Core event)) change = change ≡ None
+ChangesAsAsked first past handle store begun task (Some (work_asks.NewCore slots folders)) change = change ≡ None

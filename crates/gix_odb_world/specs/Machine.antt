@@ -1,14 +1,13 @@
 -- A machine: work of one kind that a handle may be at. A public clause needs of it what it asks and where an answer leads it.
-use Rattle.std.specs.Prelude.{◌≡◌, ℕ, List, Option, Some, None, Result, Ok, Err}
+use Rattle.std.specs.Prelude.{◌≡◌, ℕ, List, Option, Result, Ok, Err}
 use Rattle.odb_asks.specs.MemDisk.{Volume}
-use Rattle.odb_asks.specs.declared.ask.DiskAnswer.{DiskAnswer}
-use Rattle.gix_odb_events.specs.declared.answer.Answer as parts
-use Rattle.gix_odb_events.specs.declared.answer.Answer.TheVariants as told
 use Rattle.gix_odb_calls.specs.declared.call.Reply.{Reply}
 use Rattle.gix_odb_loose.specs.declared.call.LooseCall.{LooseCall}
 use Rattle.gix_odb_world.specs.declared.work.Work.{Work}
 use Rattle.gix_odb_world.specs.AtWork.{Modes, Running, Store, Task}
-use Rattle.gix_odb_runs.specs.Event.{Answer, Ask, Event, FromCore, FromDisk}
+use Rattle.gix_odb_runs.specs.Event.{Event}
+use Rattle.gix_odb_events.specs.declared.answer.Answer.{Answer}
+use Rattle.gix_odb_events.specs.declared.answer.Ask.{Ask}
 
 -- A machine has states of its own, each with a place among all work.
 pub record Machine : Type 1 where
@@ -26,18 +25,6 @@ pub record Machine : Type 1 where
   pub bound : Store → Modes → Task → (entries : ℕ) → ℕ
   -- what a handle at a state knows of the events since its task was set, and how its turns are counted
   pub Knows : Volume → List Event → (handle : ℕ) → Running → State → Type 0
-
--- what the answer makes of work that asks the disk alone, by what is made of it without an answer of the disk and with one
-abbrev pub by_answer : {R : Type 0} → (unasked : R) → (DiskAnswer → R) → Option Answer → R
-by_answer unasked fed None = unasked
-by_answer unasked fed (Some (FromDisk answer)) = fed answer
-by_answer unasked fed (Some (FromCore answer)) = unasked
-
--- the same of work that asks the disk or the core of its handle's store
-abbrev pub by_part : {R : Type 0} → (unasked : R) → (parts.Answer → R) → Option Answer → R
-by_part unasked fed None = unasked
-by_part unasked fed (Some (FromDisk answer)) = fed (told.Disk answer)
-by_part unasked fed (Some (FromCore answer)) = fed (told.Core answer)
 
 -- some work is that of a machine at a state
 pub record At (work : Work) : Type 1 where

@@ -7,7 +7,8 @@ use Rattle.gix_odb_loose.specs.declared.call.LooseCall.{LooseCall}
 use Rattle.gix_odb_world.specs.declared.work.Work.{Work}
 use Rattle.gix_odb_world.specs.declared.work.Work.TheVariants.{Opening, Calling}
 use Rattle.gix_odb_world.specs.AtWork.{Store}
-use Rattle.gix_odb_runs.specs.Event.{Answer, Ask}
+use Rattle.gix_odb_events.specs.declared.answer.Answer.{Answer}
+use Rattle.gix_odb_events.specs.declared.answer.Ask.{Ask}
 use Rattle.gix_odb_world.specs.Machine.{At, placed}
 use Rattle.gix_odb_world.specs.Running.Opening.{opening}
 use Rattle.gix_odb_world.specs.Running.Query.{looking}

@@ -22,8 +22,8 @@ use Rattle.gix_odb_core.specs.History.{History, present}
 use Rattle.gix_odb_core.specs.Replay.{CanHappen}
 use Rattle.gix_odb_events.specs.Answers.{view_in}
 use Rattle.gix_odb_events.specs.declared.answer.Answer.TheVariants as told
-use Rattle.gix_odb_events.specs.declared.answer.PartAsk.{PartAsk}
-use Rattle.gix_odb_events.specs.declared.answer.PartAsk.TheVariants as asks
+use Rattle.gix_odb_events.specs.declared.answer.Ask.{Ask}
+use Rattle.gix_odb_events.specs.declared.answer.Ask.TheVariants as asks
 use Rattle.gix_odb_world.specs.declared.turn.Carried.{Carried}
 use Rattle.gix_odb_shown.specs.Kept.{Fits, Kept}
 use Rattle.gix_odb_shown.specs.declared.revealed.Revealed.{Revealed}
@@ -31,16 +31,16 @@ use Rattle.gix_odb_runs.specs.Cores.{answer_behind, cores_after_asked, history_a
 use Rattle.gix_odb_runs.specs.Event.{Asked, CoreAnswer, CoreEvent, OfCore, OfDisk, OfNewCore, OfNothing, answered}
 use Rattle.gix_odb_events.specs.PackId.{most_slots}
 use Rattle.gix_odb_events.specs.declared.view.View.{View}
-use Rattle.gix_odb_runs.specs.Made.{MakesCore}
+use Rattle.gix_odb_runs.specs.Made.{first_answer}
 use Rattle.gix_odb_world.specs.Recorded.{opened_in}
 use Rattle.gix_odb_runs.specs.Run.{change_asked, did_of, did_of_asked, disk_after_asked, stand, told_now}
 use Rattle.gix_odb_world.specs.Status.{after_reply}
-use Rattle.gix_odb_world.specs.WorkOrder.{ask_on, asks_on, fed_after, fed_on, registered_on, result_in}
+use Rattle.gix_odb_world.specs.WorkOrder.{ask_on, fed_after, fed_on, result_in}
 use Rattle.gix_odb_world.specs.declared.course.Course.{Course}
 use Rattle.gix_odb_world.specs.Headline.{outcome_of}
 use Rattle.gix_odb_world.specs.World.{handle_at}
 use Rattle.gix_odb_world.specs.Watch.{NotesMade, ShowsSecondBy, TellsChange}
-use Rattle.gix_odb_world.specs.Valid.{Phase, NoneThere, Idle, Running, is_openable, most_folders, IsFirstReason, why_not_change, why_not_idle, why_not_open, why_not_running, why_not_clone, why_not_start}
+use Rattle.gix_odb_world.specs.Valid.{Phase, NoneThere, Idle, Running, is_openable, IsFirstReason, why_not_change, why_not_idle, why_not_open, why_not_running, why_not_clone, why_not_start}
 
 abbrev pub phase_of_work : HashKind → Option Work → Phase
 phase_of_work hash None = Idle hash
@@ -68,18 +68,18 @@ why_not_now world (steps.Disk change) = why_not_change world.disk change
 -- the change that the turn of a handle would make, by what its code asks for
 abbrev pub change_by_work : Volume → HandleState → Option Work → Option Change
 change_by_work disk state None = None
-change_by_work disk state (Some work) = change_asked disk (asks_on state work)
+change_by_work disk state (Some work) = change_asked disk (ask_on state work)
 
 abbrev pub change_by_handle : Volume → Option Handle → Option Change
 change_by_handle disk None = None
 change_by_handle disk (Some handle) = change_by_work disk handle.state handle.work
 
--- what the work of a handle names next, if it is at work and names one
-abbrev pub ask_by_work : HandleState → Option Work → Option PartAsk
+-- what the work of a handle asks for, if it is at work and asks for anything
+abbrev pub ask_by_work : HandleState → Option Work → Option Ask
 ask_by_work state None = None
 ask_by_work state (Some work) = ask_on state work
 
-abbrev pub ask_by_handle : Option Handle → Option PartAsk
+abbrev pub ask_by_handle : Option Handle → Option Ask
 ask_by_handle None = None
 ask_by_handle (Some handle) = ask_by_work handle.state handle.work
 
@@ -158,38 +158,20 @@ state_after (OfNewCore slots folders store seat answer) state = record state { c
 
 -- what a turn of a handle that has a seat asked so, with the answer
 abbrev pub told_in : List History → Volume → (seat : ℕ) → HandleState → Work → Asked
-told_in cores disk seat state work = told_now (stand cores state.core seat) disk (asks_on state work)
-
--- a core with so many slots can be made for the store of a handle: they are no more than a core may have, and the store has few folders
-pub record FitsCore (slots : ℕ) (state : HandleState) : Type 0 where
-  pub few : slots ≤ most_slots
-  pub folders : length state.store.value.folders ≤ most_folders
-
--- a core with so many slots was added for the store of a handle, and the handle registered there, which handed over a view
-pub record AddsCore (cores cores_then : List History) (slots seat : ℕ) (state : HandleState) (view : View) : Type 0 where
-  pub core : History
-  pub made : MakesCore slots (length state.store.value.folders + 1) seat core view
-  pub cores_are : cores_then ≡ cores ++ core ∷ []
-
--- what a turn comes to that registered its handle at the core of a number
-abbrev pub carried_at : HandleState → Work → (store : ℕ) → View → Carried
-carried_at state work store view = record {
-  did = done.Core store 1;
-  change = None;
-  state = record state { core = store; view = Some view };
-  work = registered_on work;
-}
+told_in cores disk seat state work = told_now (stand cores state.core seat) disk (ask_on state work)
 
 -- what a turn comes to whose work asked for nothing
 abbrev pub carried_unasked : HandleState → Work → Carried
 carried_unasked state work = record { did = done.Nothing; change = None; state = state; work = work }
 
--- an event that work asks for can happen at the core of its handle's store, which is there, and at which the handle is registered
-abbrev pub CanHappenAt : List History → (seat : ℕ) → HandleState → Option PartAsk → Type 0
+-- An event that work asks for can happen at the core of its handle's store, which is there, and at which the handle is registered; and a core may
+-- have as many slots as work asks for.
+abbrev pub CanHappenAt : List History → (seat : ℕ) → HandleState → Option Ask → Type 0
 CanHappenAt cores seat state None = Unit {0}
 CanHappenAt cores seat state (Some (asks.Disk ask)) = Unit {0}
 CanHappenAt cores seat state (Some (asks.Core event)) =
     (state.core < length cores) × CanHappen (present (history_at cores state.core)) seat event × IsSome (registered_at cores state.core seat)
+CanHappenAt cores seat state (Some (asks.NewCore slots folders)) = slots ≤ most_slots
 
 -- what the event of the core of a handle's store answers
 abbrev pub own_answer : List History → (seat : ℕ) → HandleState → CoreEvent → CoreAnswer
@@ -202,13 +184,24 @@ pub record CarriesEvent (cores : List History) (seat : ℕ) (state : HandleState
   pub state_is : done.state ≡ seeing state (view_in (own_answer cores seat state event))
   pub work_is : done.work ≡ fed_on state work (told.Core (own_answer cores seat state event))
 
+-- a core with so many slots and folders is made, at which the handle of a seat is registered
+abbrev pub new_core : List History → (slots folders seat : ℕ) → Asked
+new_core cores slots folders seat = OfNewCore slots folders (length cores) seat (first_answer slots folders seat)
+
+-- what a turn came to whose work had such a core made
+pub record CarriesCore (cores : List History) (slots folders seat : ℕ) (state : HandleState) (work : Work) (done : Carried) : Type 0 where
+  pub did : done.did ≡ did_of_asked (opened_in work) cores (new_core cores slots folders seat)
+  pub change : done.change ≡ None
+  pub state_is : done.state ≡ state_after (new_core cores slots folders seat) state
+  pub work_is : done.work ≡ fed_on state work (told.Core (first_answer slots folders seat))
+
 -- A turn that asked so was carried out, on the disk and on the cores.
 pub record Carries (disk disk_then : Volume) (cores cores_then : List History) (state : HandleState) (work : Work) (asked : Asked) (done : Carried) : Type 0 where
   pub did : done.did ≡ did_of_asked (opened_in work) cores asked
-  pub change : done.change ≡ change_asked disk (asks_on state work)
+  pub change : done.change ≡ change_asked disk (ask_on state work)
   pub state_is : done.state ≡ state_after asked state
   pub work_is : done.work ≡ fed_after state work (answered asked)
-  pub disk_is : disk_then ≡ disk_after_asked disk asked (change_asked disk (asks_on state work))
+  pub disk_is : disk_then ≡ disk_after_asked disk asked (change_asked disk (ask_on state work))
   pub cores_are : cores_then ≡ cores_after_asked cores asked
 
 -- A turn that came to `done` was settled behind what was told of its change: what is kept of watched paths is so by then.

@@ -2,14 +2,14 @@
 ghost use Rattle.std.specs.Prelude.{◌≡◌, ◌≢◌, ◌<◌, ◌^◌, ◌↔◌, ℕ, IsTrue, ◌++◌, ◌∷◌, [], List, IfOk, OnOk, length, None, Some};
 ghost use Rattle.odb_asks.specs.MemDisk.{Volume};
 ghost use Rattle.odb_nodes.specs.Tree.{tree_of};
-ghost use Rattle.gix_odb_runs.specs.Event.{Event, part_asked};
+ghost use Rattle.gix_odb_runs.specs.Event.{Event};
 ghost use Rattle.gix_odb_runs.specs.Run.{change_asked};
 ghost use Rattle.gix_odb_world.specs.Valid.{IsReason};
 ghost use Rattle.gix_odb_world.specs.Headline.{IsRun, outcome_of};
 ghost use Rattle.gix_odb_world.specs.Watch.{TellsChange};
-ghost use Rattle.gix_odb_world.specs.WorkOrder.{ask_on, registers_in, result_in};
+ghost use Rattle.gix_odb_world.specs.WorkOrder.{ask_on, result_in};
 ghost use Rattle.gix_odb_world.specs.World.{Continues, Explains, IsExplained, handle_at};
-ghost use Rattle.gix_odb_world.specs.Table.{CanHappenAt, FitsCore, HasOneMore, IsReasonNow, KeepsTurn, Notes, SetsHandle, Settles, TakesTurn, after_turn, ask_by_handle, would_change_now};
+ghost use Rattle.gix_odb_world.specs.Table.{CanHappenAt, HasOneMore, IsReasonNow, KeepsTurn, Notes, SetsHandle, Settles, TakesTurn, after_turn, ask_by_handle, would_change_now};
 
 use crate::handle::Handle;
 use crate::opening;
@@ -265,7 +265,7 @@ impl Course {
         requires explained { IsExplained self.old }
         requires valid { IsReasonNow self.old (Step.Turn number) None }
         requires asked { judged.ask ≡ ask_by_handle (handle_at self.old number) }
-        requires change { judged.change ≡ change_asked self.old.disk (part_asked judged.ask) }
+        requires change { judged.change ≡ change_asked self.old.disk judged.ask }
         requires tells { TellsChange self.old.shown.folders (tree_of self.old.disk.state) (would_change_now self.old (Step.Turn number)) judged.revealed }
         ensures continues { OnOk result (Continues self.old (Step.Turn number) self.new) }
         ensures noted { OnOk result (HasOneMore self.old self.new) }
@@ -289,8 +289,7 @@ impl Course {
         judged: Judged,
     ) -> Result<(), NoMemory>
         requires asked { judged.ask ≡ ask_on state work }
-        requires change { judged.change ≡ change_asked self.old.disk (part_asked judged.ask) }
-        requires fits { (slots : ℕ) → registers_in work ≡ Some slots → FitsCore slots state }
+        requires change { judged.change ≡ change_asked self.old.disk judged.ask }
         requires can_happen { CanHappenAt self.old.cores.items number state judged.ask }
         requires free { handle_at self.old number ≡ None }
         ensures takes { OnOk result (TakesTurn self.old self.new number state work judged.revealed) }

@@ -1,28 +1,28 @@
-//! A turn of a handle: the one call of the disk or event of a core that its work names, and what the turn comes to.
-ghost use Rattle.std.specs.Prelude.{◌≡◌, ◌<◌, ℕ, length, IfOk, IsSome, OnOk, None, Some};
+//! A turn of a handle: the one thing that its work asks for, of the disk or of the cores, and what the turn comes to.
+ghost use Rattle.std.specs.Prelude.{◌≡◌, ◌<◌, ◌≤◌, length, IfOk, IsSome, OnOk, None, Some};
 ghost use Rattle.std.specs.Option.{option_map};
 ghost use Rattle.odb_asks.specs.Ask.{after_ask, answer_now};
-ghost use Rattle.odb_asks.specs.MemDisk.{Volume};
 ghost use Rattle.gix_odb_core.specs.History.{present};
 ghost use Rattle.gix_odb_core.specs.Replay.{CanHappen};
 ghost use Rattle.gix_odb_events.specs.Answers.{view_in};
+ghost use Rattle.gix_odb_events.specs.PackId.{most_slots};
 ghost use Rattle.gix_odb_events.specs.declared.answer.Answer.TheVariants as told;
 ghost use Rattle.gix_odb_runs.specs.Cores.{answer_behind, cores_after_asked, history_at, registered_at};
-ghost use Rattle.gix_odb_runs.specs.Event.{OfCore, part_asked};
+ghost use Rattle.gix_odb_runs.specs.Event.{OfCore};
 ghost use Rattle.gix_odb_world.specs.Recorded.{opened_in};
 ghost use Rattle.gix_odb_runs.specs.Run.{change_asked};
 ghost use Rattle.gix_odb_world.specs.Status.{after_reply};
 ghost use Rattle.gix_odb_world.specs.Headline.{outcome_of};
-ghost use Rattle.gix_odb_world.specs.WorkOrder.{ask_on, fed_on, registers_in, result_in};
+ghost use Rattle.gix_odb_world.specs.WorkOrder.{ask_on, fed_on, result_in};
 ghost use Rattle.gix_odb_world.specs.Table as tables;
-ghost use Rattle.gix_odb_world.specs.Table.{AddsCore, CanHappenAt, Carries, CarriesEvent, FitsCore, after_turn, carried_at, carried_unasked, did_now, told_in};
+ghost use Rattle.gix_odb_world.specs.Table.{CanHappenAt, Carries, CarriesCore, CarriesEvent, after_turn, carried_unasked, did_now, new_core, told_in};
 
 use crate::handle::Handle;
 use crate::work::Work;
 use gix_odb::HandleState;
 use gix_odb_calls::{CallError, Outcome, Reply};
-use gix_odb_events::{Answer, Effect, Event, PartAsk, Refusal, View};
-use gix_odb_runs::cores::{EventDone, applied, core_with};
+use gix_odb_events::{Answer, Ask, Effect, Event, Refusal, View};
+use gix_odb_runs::cores::{EventDone, added, applied};
 use gix_odb_runs::{ChangeMade, Did, KeptCore};
 use odb_asks::{DiskAnswer, DiskAsk};
 use odb_base::{Boxed, NoMemory};
@@ -47,97 +47,11 @@ pub fn carried_out(
     seat: u32,
     state: HandleState,
     work: Work,
-    ask: Option<PartAsk>,
+    ask: Option<Ask>,
     change: ChangeMade,
 ) -> Result<Carried, NoMemory>
     requires asked { ask ≡ ask_on state work }
-    requires change { change ≡ change_asked disk.old (part_asked ask) }
-    requires fits { (slots : ℕ) → registers_in work ≡ Some slots → FitsCore slots state }
-    requires can_happen { CanHappenAt cores.old.items seat state ask }
-    ensures carried { IfOk result (Carries disk.old disk.new cores.old.items cores.new.items state work (told_in cores.old.items disk.old seat state work)) }
-{
-    match work.registers() {
-        Some(slots) => {
-            drop((ask, change));
-            registered(alloc, cores, slots, seat, state, work)
-        }
-        None => asked(alloc, disk, cores, seat, state, work, ask, change),
-    }
-}
-
-/// Makes a core with so many slots for the store of a handle, and registers the handle there.
-fn registered(
-    alloc: Global,
-    cores: &mut Vec<KeptCore>,
-    slots: u16,
-    seat: u32,
-    state: HandleState,
-    work: Work,
-) -> Result<Carried, NoMemory>
-    requires registers { registers_in work ≡ Some slots }
-    requires fits { FitsCore slots state }
-    ensures carried { IfOk result (λ done. (disk : Volume) → Carries disk disk cores.old.items cores.new.items state work (told_in cores.old.items disk seat state work) done) }
-{
-    let store = cores.len();
-    match added(alloc, cores, slots, seat, &state) {
-        Ok(view) => Ok(at_core(state, work, store, view)),
-        Err(error) => {
-            drop((state, work));
-            Err(error)
-        }
-    }
-}
-
-/// Adds a core with so many slots for the store of a handle, and registers the handle there: the view that this hands over.
-fn added(
-    alloc: Global,
-    cores: &mut Vec<KeptCore>,
-    slots: u16,
-    seat: u32,
-    state: &HandleState,
-) -> Result<View, NoMemory>
-    requires fits { FitsCore slots state.now }
-    ensures added { IfOk result (AddsCore cores.old.items cores.new.items slots seat state.now) }
-{
-    // The objects directory is a folder too.
-    let folders = state.parts().folders.len() + 1;
-    let (core, view) = core_with(alloc, slots, folders, seat)?;
-    cores.push(core)?;
-    Ok(view)
-}
-
-/// A handle after its registration at the core of a number.
-fn at_core(mut state: HandleState, work: Work, store: usize, view: View) -> Carried
-    ensures carried { result ≡ carried_at state work store view }
-{
-    let work = work.registered();
-    state.core = store;
-    state.view = Some(view);
-    Carried {
-        did: Did::Core {
-            store: store as u64,
-            entry: 1,
-        },
-        change: None,
-        state,
-        work,
-    }
-}
-
-/// Carries out what a piece of work asked for: a call of the disk, an event of its handle's core, or nothing.
-fn asked(
-    alloc: Global,
-    disk: &mut MemDisk,
-    cores: &mut Vec<KeptCore>,
-    seat: u32,
-    state: HandleState,
-    work: Work,
-    ask: Option<PartAsk>,
-    change: ChangeMade,
-) -> Result<Carried, NoMemory>
-    requires other { registers_in work ≡ None }
-    requires asked { ask ≡ ask_on state work }
-    requires change { change ≡ change_asked disk.old (part_asked ask) }
+    requires change { change ≡ change_asked disk.old ask }
     requires can_happen { CanHappenAt cores.old.items seat state ask }
     ensures carried { IfOk result (Carries disk.old disk.new cores.old.items cores.new.items state work (told_in cores.old.items disk.old seat state work)) }
 {
@@ -146,10 +60,14 @@ fn asked(
             drop(change);
             Ok(unasked(state, work))
         }
-        Some(PartAsk::Disk(ask)) => on_disk(alloc, disk, state, work, &ask, change),
-        Some(PartAsk::Core(event)) => {
+        Some(Ask::Disk(ask)) => on_disk(alloc, disk, state, work, &ask, change),
+        Some(Ask::Core(event)) => {
             drop(change);
             at_own_core(alloc, cores, seat, state, work, event)
+        }
+        Some(Ask::NewCore { slots, folders }) => {
+            drop(change);
+            at_new_core(alloc, cores, seat, state, work, slots, folders)
         }
     }
 }
@@ -235,6 +153,33 @@ fn at_own_core(
 {
     match applied(alloc, cores, state.core, seat, event) {
         Ok(applied) => answered_by_core(alloc, state, work, applied),
+        Err(error) => {
+            drop((state, work));
+            Err(error)
+        }
+    }
+}
+
+/// Makes the core that a piece of work asks for its handle's store, at which the handle is registered.
+fn at_new_core(
+    alloc: Global,
+    cores: &mut Vec<KeptCore>,
+    seat: u32,
+    mut state: HandleState,
+    work: Work,
+    slots: u16,
+    folders: usize,
+) -> Result<Carried, NoMemory>
+    requires few { slots ≤ most_slots }
+    ensures carried { IfOk result (CarriesCore cores.old.items slots folders seat state work) }
+    ensures cores { OnOk result (cores.new.items ≡ cores_after_asked cores.old.items (new_core cores.old.items slots folders seat)) }
+{
+    let store = cores.len();
+    match added(alloc, cores, slots, folders, seat) {
+        Ok(added) => {
+            state.core = store;
+            answered_by_core(alloc, state, work, added)
+        }
         Err(error) => {
             drop((state, work));
             Err(error)

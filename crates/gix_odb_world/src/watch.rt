@@ -6,16 +6,15 @@ ghost use Rattle.odb_asks.specs.Ask.{change_of_ask};
 ghost use Rattle.odb_nodes.specs.Tree.{Tree as TreeValue, tree_of};
 ghost use Rattle.odb_nodes.specs.Tree.Change.{is_possible_in};
 ghost use Rattle.gix_odb_shown.specs.Kept.{Fits};
-ghost use Rattle.gix_odb_runs.specs.Event.{part_asked};
 ghost use Rattle.gix_odb_runs.specs.Run.{change_asked, change_by};
 ghost use Rattle.gix_odb_world.specs.Valid.{IsFirstReason};
 ghost use Rattle.gix_odb_world.specs.Watch.{NotesMade, ShowsSecondBy, TellsChange, Watches};
-ghost use Rattle.gix_odb_world.specs.WorkOrder.{ask_on, asks_on};
+ghost use Rattle.gix_odb_world.specs.WorkOrder.{ask_on};
 
 use crate::work::Work;
 use gix_odb::HandleState;
 use gix_odb_calls::{PathList, Why};
-use gix_odb_events::PartAsk;
+use gix_odb_events::Ask;
 use gix_odb_runs::{ChangeMade, boxed_change};
 use gix_odb_shown::{Revealed, Shown};
 use odb_asks::DiskAsk;
@@ -26,7 +25,7 @@ use std::alloc::Global;
 /// What was judged of a turn that is valid: what its work asks for, the change that this makes, and what watched paths show by it.
 #[derive(Drop)]
 pub struct Judged {
-    pub ask: Option<PartAsk>,
+    pub ask: Option<Ask>,
     pub change: ChangeMade,
     pub revealed: Option<Revealed>,
 }
@@ -72,10 +71,10 @@ pub fn judged_work(
     work: &Work,
 ) -> Result<Result<Judged, Why>, NoMemory>
     requires fits { Fits shown.now (tree_of disk.now.state) }
-    ensures why { IfOk result (λ judged. IsFirstReason None (ShowsSecondBy shown.now (tree_of disk.now.state) (change_asked disk.now (asks_on handle.now work.now))) (result_err judged)) }
+    ensures why { IfOk result (λ judged. IsFirstReason None (ShowsSecondBy shown.now (tree_of disk.now.state) (change_asked disk.now (ask_on handle.now work.now))) (result_err judged)) }
     ensures asked { IfOk result (λ judged. IfOk judged (λ told. told.ask ≡ ask_on handle.now work.now)) }
-    ensures change { IfOk result (λ judged. IfOk judged (λ told. told.change ≡ change_asked disk.now (part_asked told.ask))) }
-    ensures tells { IfOk result (λ judged. IfOk judged (λ told. TellsChange shown.now.folders (tree_of disk.now.state) (change_asked disk.now (asks_on handle.now work.now)) told.revealed)) }
+    ensures change { IfOk result (λ judged. IfOk judged (λ told. told.change ≡ change_asked disk.now told.ask)) }
+    ensures tells { IfOk result (λ judged. IfOk judged (λ told. TellsChange shown.now.folders (tree_of disk.now.state) (change_asked disk.now (ask_on handle.now work.now)) told.revealed)) }
 {
     let ask = work.ask(alloc, handle)?;
     judged_ask(alloc, disk, shown, ask)
@@ -86,13 +85,13 @@ fn judged_ask(
     alloc: Global,
     disk: &MemDisk,
     shown: &Shown,
-    ask: Option<PartAsk>,
+    ask: Option<Ask>,
 ) -> Result<Result<Judged, Why>, NoMemory>
     requires fits { Fits shown.now (tree_of disk.now.state) }
-    ensures why { IfOk result (λ judged. IsFirstReason None (ShowsSecondBy shown.now (tree_of disk.now.state) (change_asked disk.now (part_asked ask))) (result_err judged)) }
+    ensures why { IfOk result (λ judged. IsFirstReason None (ShowsSecondBy shown.now (tree_of disk.now.state) (change_asked disk.now ask)) (result_err judged)) }
     ensures asked { IfOk result (λ judged. IfOk judged (λ told. told.ask ≡ ask)) }
-    ensures change { IfOk result (λ judged. IfOk judged (λ told. told.change ≡ change_asked disk.now (part_asked told.ask))) }
-    ensures tells { IfOk result (λ judged. IfOk judged (λ told. TellsChange shown.now.folders (tree_of disk.now.state) (change_asked disk.now (part_asked ask)) told.revealed)) }
+    ensures change { IfOk result (λ judged. IfOk judged (λ told. told.change ≡ change_asked disk.now told.ask)) }
+    ensures tells { IfOk result (λ judged. IfOk judged (λ told. TellsChange shown.now.folders (tree_of disk.now.state) (change_asked disk.now ask) told.revealed)) }
 {
     match judged_part(alloc, disk, shown, &ask) {
         Ok(Ok((change, revealed))) => Ok(Ok(Judged {
@@ -117,15 +116,15 @@ fn judged_part(
     alloc: Global,
     disk: &MemDisk,
     shown: &Shown,
-    ask: &Option<PartAsk>,
+    ask: &Option<Ask>,
 ) -> Result<Result<(ChangeMade, Option<Revealed>), Why>, NoMemory>
     requires fits { Fits shown.now (tree_of disk.now.state) }
-    ensures why { IfOk result (λ judged. IsFirstReason None (ShowsSecondBy shown.now (tree_of disk.now.state) (change_asked disk.now (part_asked ask.now))) (result_err judged)) }
-    ensures change { IfOk result (λ judged. IfOk judged (λ told. told.0 ≡ change_asked disk.now (part_asked ask.now))) }
-    ensures tells { IfOk result (λ judged. IfOk judged (λ told. TellsChange shown.now.folders (tree_of disk.now.state) (change_asked disk.now (part_asked ask.now)) told.1)) }
+    ensures why { IfOk result (λ judged. IsFirstReason None (ShowsSecondBy shown.now (tree_of disk.now.state) (change_asked disk.now ask.now)) (result_err judged)) }
+    ensures change { IfOk result (λ judged. IfOk judged (λ told. told.0 ≡ change_asked disk.now ask.now)) }
+    ensures tells { IfOk result (λ judged. IfOk judged (λ told. TellsChange shown.now.folders (tree_of disk.now.state) (change_asked disk.now ask.now) told.1)) }
 {
     match ask {
-        Some(PartAsk::Disk(ask)) => judged_call(alloc, disk, shown, ask),
+        Some(Ask::Disk(ask)) => judged_call(alloc, disk, shown, ask),
         _ => Ok(Ok((None, None))),
     }
 }

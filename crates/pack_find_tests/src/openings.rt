@@ -1,42 +1,43 @@
 //! Openings are driven by what they ask for.
+use crate::happening::happen;
 use crate::shown::{put_ask, put_numbered, put_reply};
 use crate::text::Text;
 use crate::words::cut;
 use gix_hash::Kind;
-use gix_odb::{HandleState, OpenAsk, OpenState, Options, PathList, Slots};
+use gix_odb::{Answer, HandleState, OpenAsk, OpenState, Options, PathList, Slots};
+use gix_odb_core::{Core, Event};
 use odb_base::{NoMemory, PathText};
-use odb_disk::{DiskAnswer, DiskAsk, MemDisk};
+use odb_disk::{DiskAsk, MemDisk};
 use std::alloc::Global;
 use std::collections::BTreeMap;
 use std::test::Fail;
 
-/// What an opening is told in a turn.
-#[derive(Drop)]
-enum Turn {
-    Answered(DiskAnswer),
-    Registered,
-}
-
-fn disk_answer(alloc: Global, disk: &mut MemDisk, ask: DiskAsk, text: &mut Text) -> Turn {
+fn disk_answer(alloc: Global, disk: &mut MemDisk, ask: DiskAsk, text: &mut Text) -> Answer {
     put_ask(text, &ask);
     let answer = ask.carry_out(alloc, disk);
     drop(ask);
-    Turn::Answered(answer)
+    Answer::Disk(answer)
 }
 
-/// What an opening is told that it asks for, unless it is done.
+/// What a core answers at which a handle is registered. No opening looks at how many slots it has.
+fn core_answer(alloc: Global) -> Result<Answer, NoMemory> {
+    let mut core = Core::new(alloc, 1, 1)?;
+    Ok(Answer::Core(happen(alloc, &mut core, Event::Register { stable: false })))
+}
+
+/// What an opening is answered, unless it is done.
 fn answered(
     alloc: Global,
     disk: &mut MemDisk,
     handle: &HandleState,
     state: &OpenState,
     text: &mut Text,
-) -> Result<Option<Turn>, NoMemory> {
+) -> Result<Option<Answer>, NoMemory> {
     match state.ask(alloc, handle)? {
         OpenAsk::Disk(ask) => Ok(Some(disk_answer(alloc, disk, ask, text))),
         OpenAsk::Register { slots } => {
             put_numbered(text, "register", u64::from(slots));
-            Ok(Some(Turn::Registered))
+            Ok(Some(core_answer(alloc)?))
         }
         OpenAsk::Done(reply) => {
             let told = put_reply(alloc, text, &reply);
@@ -55,8 +56,7 @@ fn opening_step(
     text: &mut Text,
 ) -> Result<Option<OpenState>, NoMemory> {
     match answered(alloc, disk, handle, &state, text) {
-        Ok(Some(Turn::Answered(answer))) => Ok(Some(state.feed(alloc, handle, answer)?)),
-        Ok(Some(Turn::Registered)) => Ok(Some(state.registered())),
+        Ok(Some(answer)) => Ok(Some(state.feed(alloc, handle, answer)?)),
         Ok(None) => {
             drop(state);
             Ok(None)

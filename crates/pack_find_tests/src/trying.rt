@@ -4,8 +4,8 @@ use crate::happening::happen;
 use crate::shown::{put_ask, put_end, put_event};
 use crate::text::Text;
 use crate::words::cut;
-use gix_odb_core::{Core, View};
-use gix_odb_packs::{Answer, Goal, Notes, PartAsk, Tried, Trier, Wanted};
+use gix_odb_core::{Core, Refusal, View};
+use gix_odb_packs::{Answer, Ask, Goal, Notes, Tried, Trier, Wanted};
 use odb_base::NoMemory;
 use odb_disk::MemDisk;
 use std::alloc::Global;
@@ -32,18 +32,20 @@ fn carried_out(
     alloc: Global,
     disk: &mut MemDisk,
     core: &mut Core,
-    ask: PartAsk,
+    ask: Ask,
     text: &mut Text,
 ) -> Answer {
     match ask {
-        PartAsk::Disk(ask) => {
+        Ask::Disk(ask) => {
             put_ask(text, &ask);
             Answer::Disk(ask.carry_out(alloc, disk))
         }
-        PartAsk::Core(event) => {
+        Ask::Core(event) => {
             put_event(text, &event);
             Answer::Core(happen(alloc, core, event))
         }
+        // A search has no core made.
+        Ask::NewCore { .. } => Answer::Core(Err(Refusal::NoMemory)),
     }
 }
 

@@ -13,10 +13,12 @@ use Rattle.odb_nodes.specs.declared.meta.Kind.TheVariants as kinds
 use Rattle.odb_nodes.specs.declared.meta.Meta.{Meta}
 use Rattle.gix_odb_events.specs.PackId.{most_slots}
 use Rattle.gix_odb_packs.specs.ListOrder as lists
+use Rattle.gix_odb_events.specs.Answers.{Answer as CoreAnswer}
+use Rattle.gix_odb_events.specs.declared.listing.ListingRow.{ListingRow}
 use Rattle.gix_odb_events.specs.declared.answer.Answer.{Answer}
 use Rattle.gix_odb_events.specs.declared.answer.Answer.TheVariants as told
-use Rattle.gix_odb_events.specs.declared.answer.PartAsk.{PartAsk}
-use Rattle.gix_odb_events.specs.declared.answer.PartAsk.TheVariants as asks
+use Rattle.gix_odb_events.specs.declared.answer.Ask.{Ask}
+use Rattle.gix_odb_events.specs.declared.answer.Ask.TheVariants as asks
 use Rattle.gix_odb_packs.specs.declared.lister.ListStep.{ListStep}
 use Rattle.gix_odb_packs.specs.declared.lister.ListStep.TheVariants as listed
 use Rattle.gix_odb_packs.specs.declared.lister.Lister.{Lister}
@@ -26,8 +28,9 @@ use Rattle.gix_odb_calls.specs.declared.call.Reply.TheVariants as replies
 use Rattle.gix_odb_calls.specs.declared.init.Error.TheVariants as opening_errors
 use Rattle.gix_odb_calls.specs.declared.init.Slots.{Slots}
 use Rattle.gix_odb_calls.specs.declared.init.Slots.TheVariants.{AsNeededByDiskState, Given}
-use Rattle.gix_odb_looks.specs.Exchange.{Exchange}
+use Rattle.gix_odb_looks.specs.Exchange.{Exchange, WasTold}
 use Rattle.gix_odb_looks.specs.LookUpOrder.{Setting}
+use Rattle.gix_odb_looks.specs.Shown.{folders_of}
 use Rattle.gix_odb_looks.proofs.CauseLaws.Folders.{GoesToFolder, IsAtFolder, fed-goes, first_folder}
 use Rattle.gix_odb_looks.proofs.CauseLaws.Listers.{Breaks, ListedTells, fed-tells}
 use Rattle.gix_odb_looks.proofs.HandedLaws.Streams.{HasNone, StreamBehind, StreamOf, Told, listing_streams, told_by}
@@ -46,9 +49,14 @@ list_behind-push : (setting : Setting) (step : ListStep) (past : List Exchange) 
 list_behind-push setting step [] exchange = refl
 list_behind-push setting step (first ∷ past) exchange = list_behind-push setting (list_by setting.folders step first.answer) past exchange
 
--- a reply that tells an error has its cause; an opening tells no other before its handle is registered
+-- a core with so many slots was made for the store, at which the handle was registered
+abbrev pub WasRegistered : Setting → List Exchange → (number : ℕ) → Type 0
+WasRegistered setting past number = (answer : CoreAnswer) × WasTold past (asks.NewCore number (length (folders_of setting))) (told.Core answer)
+
+-- a reply that tells an error has its cause; one that tells a number of slots is that of a handle that was registered at a core with so many
 abbrev pub IsExplained : Setting → Slots → List Exchange → Reply → Type 0
 IsExplained setting slots past (replies.Refused (call_errors.Open error)) = IsCaused setting slots past error
+IsExplained setting slots past (replies.Opened number) = WasRegistered setting past number × IsNumber setting slots past number × (number ≤ most_slots)
 IsExplained setting slots past reply = ⊥
 
 module _ (setting : Setting) (slots : Slots) where
@@ -118,7 +126,7 @@ module _ (setting : Setting) (slots : Slots) where
   -- ---- the listing
 
   module _ (now : Told) (past : List Exchange) where
-    abbrev with_one : PartAsk → Answer → List Exchange
+    abbrev with_one : Ask → Answer → List Exchange
     with_one ask answer = past ++ record { ask = ask; answer = answer } ∷ []
 
     module _ (lister : Lister) (percent minimum : ℕ) (here : Lists now past lister percent minimum) (answer : DiskAnswer)
@@ -159,7 +167,7 @@ module _ (setting : Setting) (slots : Slots) where
 
     -- ---- one exchange more
 
-    abbrev Goes : OpenState → PartAsk → Answer → Type 0
+    abbrev Goes : OpenState → Ask → Answer → Type 0
     Goes state ask answer = IsSuited ask answer → KnowsAt (told_by now ask answer) (with_one ask answer) (fed_by setting slots state answer)
 
     look_goes : HasNone now × (past ≡ []) → (answer : Answer) → Goes opens.Looking (asks.Disk (disk_asks.Look setting.objects true)) answer
@@ -174,13 +182,42 @@ module _ (setting : Setting) (slots : Slots) where
     listing_goes lister percent minimum here (told.Disk answer) suits = lister_goes lister percent minimum here answer suits
     listing_goes lister percent minimum here (told.Core answer) suits = absurd suits
 
-    goes : (state : OpenState) → KnowsAt now past state → (ask : PartAsk) (answer : Answer) → asks_of setting state ≡ Some ask → Goes state ask answer
+    -- ---- the registration
+
+    module _ (number : ℕ) (answer : CoreAnswer) where
+      abbrev registered : Exchange
+      registered = record { ask = asks.NewCore number (length (folders_of setting)); answer = told.Core answer }
+
+      -- a listing that is at its end stays there
+      listed_still : (rows : List ListingRow) → HasListed setting past (listed.Rows rows) → HasListed setting (past ++ registered ∷ []) (listed.Rows rows)
+      listed_still rows has = record {
+        look = has.look;
+        listing = has.listing ++ registered ∷ [];
+        are = ap (λ (all : List Exchange). all ++ registered ∷ []) has.are;
+        comes =
+            list_behind-push setting (listed.More (lists.started setting.objects)) has.listing registered
+            ∙ ap (λ (step : ListStep). list_by setting.folders step (told.Core answer)) has.comes;
+      }
+
+      number_still : (own : Slots) → IsNumber setting own past number → IsNumber setting own (past ++ registered ∷ []) number
+      number_still (Given given) is = is
+      number_still (AsNeededByDiskState percent minimum) (rows, has, same) = (rows, listed_still rows has, same)
+
+    register_goes : (number : ℕ) → KnowsAt now past (opens.Registering number) → (answer : Answer)
+        → Goes (opens.Registering number) (asks.NewCore number (length (folders_of setting))) answer
+    register_goes number (none, is, few) (told.Disk answer) suits = absurd suits
+    register_goes number (none, is, few) (told.Core answer) suits =
+        (none, ((answer, Contains-push past (registered number answer)), number_still number answer slots is, few))
+
+    goes : (state : OpenState) → KnowsAt now past state → (ask : Ask) (answer : Answer) → asks_of setting state ≡ Some ask → Goes state ask answer
     goes opens.Looking known ask answer is =
-        subst (λ (own : PartAsk). Goes opens.Looking own answer) (same_Some (asks.Disk (disk_asks.Look setting.objects true)) ask is) (look_goes known answer)
+        subst (λ (own : Ask). Goes opens.Looking own answer) (same_Some (asks.Disk (disk_asks.Look setting.objects true)) ask is) (look_goes known answer)
     goes (opens.Listing lister percent minimum) known ask answer is =
-        subst (λ (own : PartAsk). Goes (opens.Listing lister percent minimum) own answer) (same_Some (asks.Disk (lists.ask_of lister)) ask is)
+        subst (λ (own : Ask). Goes (opens.Listing lister percent minimum) own answer) (same_Some (asks.Disk (lists.ask_of lister)) ask is)
         (listing_goes lister percent minimum known answer)
-    goes (opens.Registering number) known ask answer is = absurd (cc is)
+    goes (opens.Registering number) known ask answer is =
+        subst (λ (own : Ask). Goes (opens.Registering number) own answer) (same_Some (asks.NewCore number (length (folders_of setting))) ask is)
+        (register_goes number known answer)
     goes (opens.Done reply) known ask answer is = absurd (cc is)
 
   kept : (past : List Exchange) (state : OpenState) (exchange : Exchange) → Knows past state → asks_of setting state ≡ Some exchange.ask

@@ -1,4 +1,4 @@
--- How many turns an opening takes before its handle is registered.
+-- How many turns an opening takes.
 use Rattle.std.proofs.Common.{◌≡◌, ℕ, zero, suc, ◌+◌, ◌-◌, ◌*◌, ◌≤◌, Bool, true, false, nat_le, List, [], ◌∷◌, length, Option, Some, None, refl, subst, arith}
 use Rattle.std.specs.Prelude.{if◌then◌else◌}
 use Rattle.std.proofs.lemmas.Option.{same_Some}
@@ -12,8 +12,8 @@ use Rattle.gix_odb_events.specs.PackId.{most_slots}
 use Rattle.gix_odb_packs.specs.ListOrder as lists
 use Rattle.gix_odb_events.specs.declared.answer.Answer.{Answer}
 use Rattle.gix_odb_events.specs.declared.answer.Answer.TheVariants as told
-use Rattle.gix_odb_events.specs.declared.answer.PartAsk.{PartAsk}
-use Rattle.gix_odb_events.specs.declared.answer.PartAsk.TheVariants as asks
+use Rattle.gix_odb_events.specs.declared.answer.Ask.{Ask}
+use Rattle.gix_odb_events.specs.declared.answer.Ask.TheVariants as asks
 use Rattle.gix_odb_packs.specs.declared.lister.ListStep.{ListStep}
 use Rattle.gix_odb_packs.specs.declared.lister.ListStep.TheVariants as listed
 use Rattle.gix_odb_packs.specs.declared.lister.Lister.{Lister}
@@ -23,6 +23,7 @@ use Rattle.gix_odb_calls.specs.declared.init.Slots.TheVariants.{AsNeededByDiskSt
 use Rattle.gix_odb_looks.specs.Exchange.{AreAnswered, Exchange, IsAnswerTo}
 use Rattle.gix_odb_looks.specs.Laps.{AreWithin, HasAtMost}
 use Rattle.gix_odb_looks.specs.LookUpOrder.{Setting}
+use Rattle.gix_odb_looks.specs.Shown.{folders_of}
 use Rattle.gix_odb_looks.specs.Stream.{Stream, stream_by}
 use Rattle.gix_odb_looks.proofs.TurnLaws.ListerTurns.{IsCounted, ListsFor, fed_lists, folder_turns, further, lister_turns, lister_turns-pos}
 use Rattle.gix_odb_refresh.proofs.RefreshLaws.Turns.{listing_turns}
@@ -35,37 +36,37 @@ module _ (setting : Setting) (slots : Slots) (entries : ℕ) where
   abbrev listing : ℕ
   listing = listing_turns setting.objects setting.folders entries
 
-  -- so many turns are enough, where the stream that is open gave what the listing has: a look and a listing
+  -- so many turns are enough, where the stream that is open gave what the listing has: a look, a listing, and the registration
   abbrev pub HasTurns : Option Stream → OpenState → (turns : ℕ) → Type 0
-  HasTurns stream opens.Looking turns = listing + 1 ≤ turns
+  HasTurns stream opens.Looking turns = listing + 2 ≤ turns
   HasTurns stream (opens.Listing lister percent minimum) turns =
-      IsCounted setting.folders entries stream lister × (lister_turns setting.folders entries lister ≤ turns)
-  HasTurns stream state turns = Unit {0}
+      IsCounted setting.folders entries stream lister × (lister_turns setting.folders entries lister + 1 ≤ turns)
+  HasTurns stream (opens.Registering number) turns = 1 ≤ turns
+  HasTurns stream (opens.Done reply) turns = Unit {0}
 
-  asking_has_turns : (stream : Option Stream) (state : OpenState) (ask : PartAsk) → asks_of setting state ≡ Some ask → ¬ (HasTurns stream state 0)
+  asking_has_turns : (stream : Option Stream) (state : OpenState) (ask : Ask) → asks_of setting state ≡ Some ask → ¬ (HasTurns stream state 0)
   asking_has_turns stream opens.Looking ask is enough = omega arith
-  asking_has_turns stream (opens.Listing lister percent minimum) ask is enough =
-      omega (arith, enough.1, lister_turns-pos setting.folders entries lister)
-  asking_has_turns stream (opens.Registering number) ask is enough = cc is
+  asking_has_turns stream (opens.Listing lister percent minimum) ask is enough = omega (arith, enough.1)
+  asking_has_turns stream (opens.Registering number) ask is enough = omega arith
   asking_has_turns stream (opens.Done reply) ask is enough = cc is
 
   module _ (stream : Option Stream) (turns : ℕ) where
-    abbrev Goes : OpenState → PartAsk → Answer → Type 0
+    abbrev Goes : OpenState → Ask → Answer → Type 0
     Goes state ask answer =
         IsAnswerTo ask answer → HasAtMost entries (stream_by stream ask answer) → HasTurns (stream_by stream ask answer) (fed_by setting slots state answer) turns
 
-    number_goes : (now : Option Stream) (number : ℕ) → HasTurns now (numbered number) turns
-    number_goes now number = by (nat_le number most_slots)
+    number_goes : (now : Option Stream) (number : ℕ) → 1 ≤ turns → HasTurns now (numbered number) turns
+    number_goes now number some = by (nat_le number most_slots)
       where
         by : (few : Bool) → HasTurns now (if few then opens.Registering number else refused (opening_errors.TooManySlots number)) turns
-        by true = tt
+        by true = some
         by false = tt
 
-    begun_goes : (own : Slots) → listing + 1 ≤ suc turns → HasTurns stream (begun setting.objects own) turns
-    begun_goes (Given number) enough = number_goes stream number
+    begun_goes : (own : Slots) → listing + 2 ≤ suc turns → HasTurns stream (begun setting.objects own) turns
+    begun_goes (Given number) enough = number_goes stream number (omega arith)
     begun_goes (AsNeededByDiskState percent minimum) enough = (tt, omega arith)
 
-    looked_goes : (answer : DiskAnswer) → listing + 1 ≤ suc turns → HasTurns stream (looked setting.objects slots answer) turns
+    looked_goes : (answer : DiskAnswer) → listing + 2 ≤ suc turns → HasTurns stream (looked setting.objects slots answer) turns
     looked_goes (answers.Meta meta) enough = by meta.kind
       where
         by : (kind : Kind) → HasTurns stream (shown setting.objects slots kind) turns
@@ -75,30 +76,38 @@ module _ (setting : Setting) (slots : Slots) (entries : ℕ) where
     looked_goes (answers.Refused disk_errors.Failed) enough = tt
     looked_goes answer enough = tt
 
-    listed_goes : (now : Option Stream) (percent minimum : ℕ) (step : ListStep) → ListsFor setting.folders entries turns now step
+    listed_goes : (now : Option Stream) (percent minimum : ℕ) (step : ListStep) → ListsFor setting.folders entries (turns - 1) now step → 1 ≤ turns
         → HasTurns now (listed_on percent minimum step) turns
-    listed_goes now percent minimum (listed.More lister) left = left
-    listed_goes now percent minimum (listed.Rows rows) left = number_goes now (slots_for percent minimum (length rows))
-    listed_goes now percent minimum listed.Broken left = tt
+    listed_goes now percent minimum (listed.More lister) left some = (left.0, omega (arith, left.1, some))
+    listed_goes now percent minimum (listed.Rows rows) left some = number_goes now (slots_for percent minimum (length rows)) some
+    listed_goes now percent minimum listed.Broken left some = tt
 
-    look_goes : listing + 1 ≤ suc turns → (answer : Answer) → Goes opens.Looking (asks.Disk (disk_asks.Look setting.objects true)) answer
+    look_goes : listing + 2 ≤ suc turns → (answer : Answer) → Goes opens.Looking (asks.Disk (disk_asks.Look setting.objects true)) answer
     look_goes enough (told.Disk answer) is fits = looked_goes answer enough
     look_goes enough (told.Core answer) is fits = absurd is
 
     listing_goes : (lister : Lister) (percent minimum : ℕ) → HasTurns stream (opens.Listing lister percent minimum) (suc turns) → (answer : Answer)
         → Goes (opens.Listing lister percent minimum) (asks.Disk (lists.ask_of lister)) answer
     listing_goes lister percent minimum (counted, few) (told.Disk answer) is fits =
+        let some : 1 ≤ turns = omega (arith, few, lister_turns-pos setting.folders entries lister) in
         listed_goes (stream_by stream (asks.Disk (lists.ask_of lister)) (told.Disk answer)) percent minimum (lists.fed setting.folders lister answer)
-        (fed_lists setting.folders entries turns stream lister answer counted fits (omega (arith, few)))
+        (fed_lists setting.folders entries (turns - 1) stream lister answer counted fits (omega (arith, few, some)))
+        some
     listing_goes lister percent minimum left (told.Core answer) is fits = absurd is
 
-    goes : (state : OpenState) → HasTurns stream state (suc turns) → (ask : PartAsk) (answer : Answer) → asks_of setting state ≡ Some ask → Goes state ask answer
+    register_goes : (number : ℕ) (answer : Answer) → Goes (opens.Registering number) (asks.NewCore number (length (folders_of setting))) answer
+    register_goes number (told.Disk answer) is fits = absurd is
+    register_goes number (told.Core answer) is fits = tt
+
+    goes : (state : OpenState) → HasTurns stream state (suc turns) → (ask : Ask) (answer : Answer) → asks_of setting state ≡ Some ask → Goes state ask answer
     goes opens.Looking enough ask answer is =
-        subst (λ (own : PartAsk). Goes opens.Looking own answer) (same_Some (asks.Disk (disk_asks.Look setting.objects true)) ask is) (look_goes enough answer)
+        subst (λ (own : Ask). Goes opens.Looking own answer) (same_Some (asks.Disk (disk_asks.Look setting.objects true)) ask is) (look_goes enough answer)
     goes (opens.Listing lister percent minimum) enough ask answer is =
-        subst (λ (own : PartAsk). Goes (opens.Listing lister percent minimum) own answer) (same_Some (asks.Disk (lists.ask_of lister)) ask is)
+        subst (λ (own : Ask). Goes (opens.Listing lister percent minimum) own answer) (same_Some (asks.Disk (lists.ask_of lister)) ask is)
         (listing_goes lister percent minimum enough answer)
-    goes (opens.Registering number) enough ask answer is = absurd (cc is)
+    goes (opens.Registering number) enough ask answer is =
+        subst (λ (own : Ask). Goes (opens.Registering number) own answer) (same_Some (asks.NewCore number (length (folders_of setting))) ask is)
+        (register_goes number answer)
     goes (opens.Done reply) enough ask answer is = absurd (cc is)
 
   pub turns_taken : (stream : Option Stream) (turns : ℕ) (state : OpenState) (exchanges : List Exchange) → HasTurns stream state turns

@@ -19,8 +19,8 @@ use Rattle.gix_odb_events.specs.declared.event.Refusal.{Refusal}
 use Rattle.gix_odb_events.specs.declared.view.View.{View}
 use Rattle.gix_odb_events.specs.declared.answer.Answer.{Answer}
 use Rattle.gix_odb_events.specs.declared.answer.Answer.TheVariants as told
-use Rattle.gix_odb_events.specs.declared.answer.PartAsk.{PartAsk}
-use Rattle.gix_odb_events.specs.declared.answer.PartAsk.TheVariants as asks
+use Rattle.gix_odb_events.specs.declared.answer.Ask.{Ask}
+use Rattle.gix_odb_events.specs.declared.answer.Ask.TheVariants as asks
 use Rattle.gix_odb_calls.specs.declared.call.Reply.{Reply}
 use Rattle.gix_odb_calls.specs.declared.find.Error.{Error}
 use Rattle.gix_odb_calls.specs.declared.find.Error.TheVariants as errors
@@ -100,11 +100,13 @@ module _ (Shown Wider : Path → List ℕ → Type 0) (wider : (path : Path) (by
   disk-wider (disk_asks.Read path) (disk_answers.File bytes time) is = (is.0, wider path bytes is.1)
   disk-wider ask answer is = (is.0, is.1)
 
-  pub IsTrue-wider : (ask : PartAsk) (answer : Answer) → IsTrue Shown setting hash ask answer → IsTrue Wider setting hash ask answer
+  pub IsTrue-wider : (ask : Ask) (answer : Answer) → IsTrue Shown setting hash ask answer → IsTrue Wider setting hash ask answer
   IsTrue-wider (asks.Disk ask) (told.Disk answer) is = disk-wider ask answer is
   IsTrue-wider (asks.Core event) (told.Core answer) is = λ view shows. IsShownView-wider view (is view shows)
   IsTrue-wider (asks.Disk ask) (told.Core answer) is = absurd is
   IsTrue-wider (asks.Core event) (told.Disk answer) is = absurd is
+  IsTrue-wider (asks.NewCore slots folders) (told.Core answer) is = λ view shows. IsShownView-wider view (is view shows)
+  IsTrue-wider (asks.NewCore slots folders) (told.Disk answer) is = absurd is
 
   pub AreTrue-wider : (exchanges : List Exchange) → AreTrue Shown setting hash exchanges → AreTrue Wider setting hash exchanges
   AreTrue-wider exchanges are = λ exchange among. IsTrue-wider exchange.ask exchange.answer (are exchange among)

@@ -15,7 +15,7 @@ use Rattle.gix_odb_packs.specs.ListOrder.{ask_at, ask_of, at_paths, behind_folde
 use Rattle.gix_odb_packs.specs.ListOrder.{by_pack_kind, fed, fed_at, opened, read, with_row}
 use Rattle.gix_odb_packs.specs.PackFolder.{index_paths}
 use Rattle.gix_odb_events.specs.declared.answer.Answer.TheVariants as told
-use Rattle.gix_odb_events.specs.declared.answer.PartAsk.TheVariants as asks
+use Rattle.gix_odb_events.specs.declared.answer.Ask.TheVariants as asks
 use Rattle.gix_odb_packs.specs.declared.lister.ListHead.{ListHead}
 use Rattle.gix_odb_packs.specs.declared.lister.ListStage.{ListStage}
 use Rattle.gix_odb_packs.specs.declared.lister.ListStage.TheVariants as stages

@@ -22,8 +22,8 @@ use Rattle.gix_odb_packs.specs.declared.trier.Stage.{Stage as TryStage}
 use Rattle.gix_odb_packs.specs.declared.trier.Stage.TheVariants as try_stages
 use Rattle.gix_odb_events.specs.declared.answer.Answer.{Answer}
 use Rattle.gix_odb_events.specs.declared.answer.Answer.TheVariants as told
-use Rattle.gix_odb_events.specs.declared.answer.PartAsk.{PartAsk}
-use Rattle.gix_odb_events.specs.declared.answer.PartAsk.TheVariants as asks
+use Rattle.gix_odb_events.specs.declared.answer.Ask.{Ask}
+use Rattle.gix_odb_events.specs.declared.answer.Ask.TheVariants as asks
 use Rattle.gix_odb_packs.specs.declared.lister.ListStep.{ListStep}
 use Rattle.gix_odb_packs.specs.declared.lister.ListStep.TheVariants as listed
 use Rattle.gix_odb_packs.specs.declared.search.Notes.{Notes}
@@ -221,7 +221,7 @@ module _ (setting : Setting) (slots before : ℕ) (head : LookHead) where
     abbrev now : ℕ
     now = number_by before answer
 
-    pub fed_at-owned : (stage : LookStage) (ask : PartAsk) → ask_at stage ≡ Some ask → IsNumbered slots before ask answer → IsOwned before head.own stage
+    pub fed_at-owned : (stage : LookStage) (ask : Ask) → ask_at stage ≡ Some ask → IsNumbered slots before ask answer → IsOwned before head.own stage
         → IsLookOwned now (fed_at setting head stage answer)
     fed_at-owned stage ask asked numbered is = by stage answer later asked numbered is
       where
@@ -245,7 +245,7 @@ module _ (setting : Setting) (slots before : ℕ) (head : LookHead) where
         by (stages.Publishing listing notes) (told.Disk answer) later asked numbered is = is
         by (stages.Publishing listing notes) (told.Core (Ok effect)) later asked numbered is =
             let own_numbered =
-            subst (λ (a : PartAsk). IsNumbered slots before a (told.Core (Ok effect))) (sym (same_Some (asks.Core (events.Publish listing)) ask asked)) numbered in
+            subst (λ (a : Ask). IsNumbered slots before a (told.Core (Ok effect))) (sym (same_Some (asks.Core (events.Publish listing)) ask asked)) numbered in
             published_owned listing notes effect own_numbered.1 later is
         by (stages.Publishing listing notes) (told.Core (Err refusal)) later asked numbered is = tt
         by (stages.Done reply) answer later asked numbered is = tt

@@ -8,7 +8,7 @@ use Rattle.gix_odb_events.specs.View.{last_state}
 use Rattle.gix_odb_events.specs.declared.view.View.{View}
 use Rattle.gix_odb_events.specs.declared.answer.Answer.{Answer}
 use Rattle.gix_odb_events.specs.declared.answer.Answer.TheVariants as told
-use Rattle.gix_odb_events.specs.declared.answer.PartAsk.{PartAsk}
+use Rattle.gix_odb_events.specs.declared.answer.Ask.{Ask}
 use Rattle.gix_odb_packs.specs.declared.search.Notes.{Notes}
 use Rattle.gix_odb_looks.specs.Exchange.{Exchange, HasFailed, WasTold, first_number, is_publish, number_or, published_in}
 use Rattle.gix_odb_looks.specs.LookUpOrder.{first_of, view_of}
@@ -16,7 +16,7 @@ use Rattle.gix_odb_looks.specs.LookUpOrder.{first_of, view_of}
 pub HasFailed-more : (past more : List Exchange) → HasFailed past → HasFailed (past ++ more)
 HasFailed-more past more is = record { exchange = is.exchange; among = Contains-append_left past more is.exchange is.among; failed = is.failed }
 
-pub HasFailed-from_told : (exchanges : List Exchange) (ask : PartAsk) (answer : Answer) → WasTold exchanges ask answer
+pub HasFailed-from_told : (exchanges : List Exchange) (ask : Ask) (answer : Answer) → WasTold exchanges ask answer
     → answer ≡ told.Disk (answers.Refused disk_errors.Failed)
     → HasFailed exchanges
 HasFailed-from_told exchanges ask answer was is = record { exchange = record { ask = ask; answer = answer }; among = was; failed = is }

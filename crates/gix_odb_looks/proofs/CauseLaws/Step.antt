@@ -20,8 +20,8 @@ use Rattle.gix_odb_packs.specs.TryOrder.{seek}
 use Rattle.gix_odb_packs.specs.TryOrder as tries
 use Rattle.gix_odb_events.specs.declared.answer.Answer.{Answer}
 use Rattle.gix_odb_events.specs.declared.answer.Answer.TheVariants as told
-use Rattle.gix_odb_events.specs.declared.answer.PartAsk.{PartAsk}
-use Rattle.gix_odb_events.specs.declared.answer.PartAsk.TheVariants as asks
+use Rattle.gix_odb_events.specs.declared.answer.Ask.{Ask}
+use Rattle.gix_odb_events.specs.declared.answer.Ask.TheVariants as asks
 use Rattle.gix_odb_packs.specs.declared.lister.ListStep.{ListStep}
 use Rattle.gix_odb_packs.specs.declared.lister.ListStep.TheVariants as listed
 use Rattle.gix_odb_packs.specs.declared.search.Notes.{Notes}
@@ -197,7 +197,7 @@ module _ (Shown : Path → List ℕ → Type 0) (setting : Setting) (hash : Kind
     pub room : (listing : Listing) (view : View) → ask_at stage ≡ Some (asks.Core (events.Publish listing)) → answer ≡ told.Core (Ok (effects.Published view))
         → head.own < last_state
     pub shows : (view : View) → view_of answer ≡ Some view → HasBegun head
-    pub ask : PartAsk
+    pub ask : Ask
     pub asked : ask_at stage ≡ Some ask
     pub was : WasTold exchanges ask answer
     pub last : IsLast exchanges (record { ask = ask; answer = answer })
@@ -208,7 +208,7 @@ module _ (Shown : Path → List ℕ → Type 0) (setting : Setting) (hash : Kind
   Knowing look = Counts exchanges look.head × Knows look.head look.stage
 
   module _ (before : ℕ) (head : LookHead) where
-    module _ (stage : LookStage) (answer : Answer) (t : Answered before head stage answer) (ask : PartAsk) (asked : ask_at stage ≡ Some ask) where
+    module _ (stage : LookStage) (answer : Answer) (t : Answered before head stage answer) (ask : Ask) (asked : ask_at stage ≡ Some ask) where
       same_ask : t.ask ≡ ask
       same_ask = cc (t.asked, asked)
 
@@ -253,7 +253,7 @@ module _ (Shown : Path → List ℕ → Type 0) (setting : Setting) (hash : Kind
               (λ event refusal asked is. record { event = event; told = told_so (tries.ask_of trier) answer event refusal asked is was })),
         )
       where
-        told_so : (ask : PartAsk) (answer : Answer) (event : Event) (refusal : Refusal) → ask ≡ asks.Core event → answer ≡ told.Core (Err refusal)
+        told_so : (ask : Ask) (answer : Answer) (event : Event) (refusal : Refusal) → ask ≡ asks.Core event → answer ≡ told.Core (Err refusal)
             → WasTold exchanges ask answer
             → WasTold exchanges (asks.Core event) (told.Core (Err refusal))
         told_so ask answer event refusal asked is was = subst (λ a. WasTold exchanges a (told.Core (Err refusal))) asked (subst (WasTold exchanges ask) is was)
@@ -340,7 +340,7 @@ module _ (Shown : Path → List ℕ → Type 0) (setting : Setting) (hash : Kind
       abbrev at_publish : LookStage
       at_publish = stages.Publishing listing notes
 
-      abbrev publish : PartAsk
+      abbrev publish : Ask
       publish = asks.Core (events.Publish listing)
 
       counts_so : (answer : Answer) → Answered before head at_publish answer → is_publish publish answer ≡ 0 → Counts exchanges head

@@ -10,8 +10,8 @@ use Rattle.gix_odb_events.specs.declared.event.Event.TheVariants as events
 use Rattle.gix_odb_events.specs.declared.view.View.{View}
 use Rattle.gix_odb_packs.specs.ListOrder as lists
 use Rattle.gix_odb_packs.specs.TryOrder as tries
-use Rattle.gix_odb_events.specs.declared.answer.PartAsk.TheVariants as asks
-use Rattle.gix_odb_events.specs.declared.answer.PartAsk.{PartAsk}
+use Rattle.gix_odb_events.specs.declared.answer.Ask.TheVariants as asks
+use Rattle.gix_odb_events.specs.declared.answer.Ask.{Ask}
 use Rattle.gix_odb_packs.specs.declared.trier.Stage.TheVariants as tries_stages
 use Rattle.gix_odb_packs.specs.declared.trier.Stage.{Stage}
 use Rattle.gix_odb_calls.specs.declared.call.CallError.TheVariants as call_errors
@@ -34,7 +34,7 @@ use Rattle.gix_odb_looks.proofs.FoundLaws.Looking.{begun_known, stage_known}
 pub use Rattle.gix_odb_looks.proofs.FoundLaws.Known.{IsOfPack}
 
 -- a call of the disk hands nothing to the core
-disk_hands : (Shown : Path → List ℕ → Type 0) (setting : Setting) (hash : Kind) (call : Option DiskAsk) (ask : PartAsk) → loose_ask call ≡ Some ask
+disk_hands : (Shown : Path → List ℕ → Type 0) (setting : Setting) (hash : Kind) (call : Option DiskAsk) (ask : Ask) → loose_ask call ≡ Some ask
     → IsHandedBy Shown setting hash ask
 disk_hands Shown setting hash None ask is = absurd (cc is)
 disk_hands Shown setting hash (Some own) ask is = let same : asks.Disk own ≡ ask = cc is in subst (IsHandedBy Shown setting hash) same tt
@@ -67,7 +67,7 @@ module _ (Shown : Path → List ℕ → Type 0) (setting : Setting) (hash : Kind
         (record { query_is = known.head.query_is; id_is = known.head.id_is }) known.stage asked.0 (truth exchange here) here)
 
     -- what a stage hands to the core
-    pub stage_hands : (stage : LookStage) (ask : PartAsk) → Stands stage → ask_at stage ≡ Some ask → IsHandedBy Shown setting hash ask
+    pub stage_hands : (stage : LookStage) (ask : Ask) → Stands stage → ask_at stage ≡ Some ask → IsHandedBy Shown setting hash ask
     stage_hands (stages.Trying trier part) ask here is =
         let same : tries.ask_of trier ≡ ask = cc is in
         subst (IsHandedBy Shown setting hash) same (trier_hands trier.stage here.stage)

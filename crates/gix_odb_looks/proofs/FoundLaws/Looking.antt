@@ -22,8 +22,8 @@ use Rattle.gix_odb_packs.specs.TryOrder as tries
 use Rattle.gix_odb_packs.specs.TryOrder.{seek}
 use Rattle.gix_odb_events.specs.declared.answer.Answer.{Answer}
 use Rattle.gix_odb_events.specs.declared.answer.Answer.TheVariants as told
-use Rattle.gix_odb_events.specs.declared.answer.PartAsk.{PartAsk}
-use Rattle.gix_odb_events.specs.declared.answer.PartAsk.TheVariants as asks
+use Rattle.gix_odb_events.specs.declared.answer.Ask.{Ask}
+use Rattle.gix_odb_events.specs.declared.answer.Ask.TheVariants as asks
 use Rattle.gix_odb_packs.specs.declared.goal.Goal.{Goal}
 use Rattle.gix_odb_packs.specs.declared.lister.ListStep.{ListStep}
 use Rattle.gix_odb_packs.specs.declared.lister.ListStep.TheVariants as listed
@@ -76,7 +76,7 @@ replies_once limit (Find asked) id folder answer = (_, refl)
 replies_once limit (Header asked) id folder answer = (_, refl)
 replies_once limit (Test asked) id folder answer = (_, refl)
 
-same_ask : (call : Option DiskAsk) (ask : PartAsk) (own : DiskAsk) → call ≡ Some own → loose_ask call ≡ Some ask → ask ≡ asks.Disk own
+same_ask : (call : Option DiskAsk) (ask : Ask) (own : DiskAsk) → call ≡ Some own → loose_ask call ≡ Some ask → ask ≡ asks.Disk own
 same_ask None ask own is asked = absurd (cc is)
 same_ask (Some other) ask own is asked = let one : other ≡ own = cc is in let two : asks.Disk other ≡ ask = cc asked in cc (one, two)
 
@@ -169,7 +169,7 @@ module _ (Shown : Path → List ℕ → Type 0) (setting : Setting) (hash : Kind
   verdict_known head round (verdicts.Notes error) folder known among says other =
       next_known head (record round { notes = record round.notes { failed = true } }) (slice_get setting.folders round.next) refl known
 
-  asked_known : (head : LookHead) (round : LooseRound) (folder : Path) (ask : PartAsk) (answer : DiskAnswer) → Heads head → Contains (folders_of setting) folder
+  asked_known : (head : LookHead) (round : LooseRound) (folder : Path) (ask : Ask) (answer : DiskAnswer) → Heads head → Contains (folders_of setting) folder
       → loose_ask (disk_ask_of (asking setting.limit query id folder)) ≡ Some ask
       → WasTold exchanges ask (told.Disk answer)
       → Stands (by_call setting head round (loose_fed (asking setting.limit query id folder) answer))
@@ -183,7 +183,7 @@ module _ (Shown : Path → List ℕ → Type 0) (setting : Setting) (hash : Kind
         ask = own.0;
         asked = own.1;
         answer = answer;
-        told = subst (λ (other : PartAsk). WasTold exchanges other (told.Disk answer)) is was;
+        told = subst (λ (other : Ask). WasTold exchanges other (told.Disk answer)) is was;
         reply = replied.0;
         replied = replied.1;
         is = refl;
@@ -193,7 +193,7 @@ module _ (Shown : Path → List ℕ → Type 0) (setting : Setting) (hash : Kind
       (verdict_known head round (verdict_on head.query replied.0) folder known among
       (subst (HasVerdict setting query id exchanges folder) same says) (loose_ends_other head.query replied.0))
 
-  call_known : (head : LookHead) (round : LooseRound) (call : LooseCall) (ask : PartAsk) (answer : DiskAnswer) → Heads head
+  call_known : (head : LookHead) (round : LooseRound) (call : LooseCall) (ask : Ask) (answer : DiskAnswer) → Heads head
       → KnowsLoose Shown setting hash id exchanges query call
       → loose_ask (disk_ask_of call) ≡ Some ask
       → WasTold exchanges ask (told.Disk answer)
@@ -263,7 +263,7 @@ module _ (Shown : Path → List ℕ → Type 0) (setting : Setting) (hash : Kind
       (subst (λ (goal : Goal). KnowsTried Shown setting hash id exchanges query (tries.by_answer goal trier.ahead trier.stage answer)) (sym here.goal)
       (answer_known Shown setting hash id exchanges query same trier.ahead here.ahead trier.stage answer here.stage truth asked))
 
-  pub stage_known : kind_of id ≡ hash → (head : LookHead) (stage : LookStage) (ask : PartAsk) (answer : Answer) → Heads head → Stands stage
+  pub stage_known : kind_of id ≡ hash → (head : LookHead) (stage : LookStage) (ask : Ask) (answer : Answer) → Heads head → Stands stage
       → ask_at stage ≡ Some ask
       → IsTrue Shown setting hash ask answer
       → WasTold exchanges ask answer
@@ -273,8 +273,8 @@ module _ (Shown : Path → List ℕ → Type 0) (setting : Setting) (hash : Kind
       record {
         head = known;
         stage =
-            trier_known same head trier part answer known here (subst (λ (a : PartAsk). IsTrue Shown setting hash a answer) (sym own) truth)
-            (subst (λ (a : PartAsk). WasTold exchanges a answer) (sym own) asked);
+            trier_known same head trier part answer known here (subst (λ (a : Ask). IsTrue Shown setting hash a answer) (sym own) truth)
+            (subst (λ (a : Ask). WasTold exchanges a answer) (sym own) asked);
       }
   stage_known same head (stages.Loose round call) ask (told.Disk answer) known here asks truth asked =
       record { head = known; stage = call_known head round call ask answer known here asks asked }

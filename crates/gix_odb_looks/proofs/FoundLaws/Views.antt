@@ -16,8 +16,8 @@ use Rattle.gix_odb_events.specs.declared.event.Refusal.{Refusal}
 use Rattle.gix_odb_events.specs.declared.view.View.{View}
 use Rattle.gix_odb_packs.specs.TryOrder.{is_at, or_else, own_index, pack_among, pack_in, pack_or, pack_shown, shown_in, shown_or_own}
 use Rattle.gix_odb_events.specs.declared.answer.Answer.TheVariants as told
-use Rattle.gix_odb_events.specs.declared.answer.PartAsk.{PartAsk}
-use Rattle.gix_odb_events.specs.declared.answer.PartAsk.TheVariants as asks
+use Rattle.gix_odb_events.specs.declared.answer.Ask.{Ask}
+use Rattle.gix_odb_events.specs.declared.answer.Ask.TheVariants as asks
 use Rattle.gix_odb_packs.specs.declared.search.WantedPack.{WantedPack}
 use Rattle.gix_odb_packs.specs.declared.trier.IndexPlace.{IndexPlace}
 use Rattle.gix_odb_looks.specs.LookUpOrder.{Setting}
@@ -27,12 +27,13 @@ use Rattle.gix_odb_looks.proofs.FoundLaws.Lists.{find_passes}
 
 -- an answer of the core that tells the truth hands over only what was shown
 pub views_shown : (Shown : Path → List ℕ → Type 0) (setting : Setting) (hash : Kind)
-    (ask : PartAsk) (answer : Result Effect Refusal) → IsTrue Shown setting hash ask (told.Core answer)
+    (ask : Ask) (answer : Result Effect Refusal) → IsTrue Shown setting hash ask (told.Core answer)
     → (view : View)
     → view_in answer ≡ Some view
     → IsShownView Shown setting hash view
 views_shown Shown setting hash (asks.Disk ask) answer truth = absurd truth
 views_shown Shown setting hash (asks.Core event) answer truth = truth
+views_shown Shown setting hash (asks.NewCore slots folders) answer truth = truth
 
 module _ (Shown : Path → List ℕ → Type 0) (setting : Setting) (hash : Kind) where
   -- ---- an index

@@ -19,8 +19,8 @@ use Rattle.gix_odb_packs.specs.ListOrder as lists
 use Rattle.gix_odb_packs.specs.TryOrder as tries
 use Rattle.gix_odb_events.specs.declared.answer.Answer.{Answer}
 use Rattle.gix_odb_events.specs.declared.answer.Answer.TheVariants as told
-use Rattle.gix_odb_events.specs.declared.answer.PartAsk.{PartAsk}
-use Rattle.gix_odb_events.specs.declared.answer.PartAsk.TheVariants as asks
+use Rattle.gix_odb_events.specs.declared.answer.Ask.{Ask}
+use Rattle.gix_odb_events.specs.declared.answer.Ask.TheVariants as asks
 use Rattle.gix_odb_packs.specs.declared.lister.ListStage.{ListStage}
 use Rattle.gix_odb_packs.specs.declared.lister.ListStage.TheVariants as list_stages
 use Rattle.gix_odb_packs.specs.declared.lister.ListStep.{ListStep}
@@ -44,9 +44,9 @@ use Rattle.gix_odb_looks.proofs.HandedLaws.Streams.{none_stays_open, open_from, 
 
 -- ---- a call of the disk that changes nothing
 
-abbrev pub ChangesNothing : PartAsk → Type 0
+abbrev pub ChangesNothing : Ask → Type 0
 ChangesNothing (asks.Disk ask) = (tree : Tree) → change_of_ask tree ask ≡ None
-ChangesNothing (asks.Core event) = Unit {0}
+ChangesNothing ask = Unit {0}
 
 path_is_read : (path : Path) → ChangesNothing (asks.Disk (disk_asks.Read path))
 unfolding change_of_ask
@@ -66,7 +66,7 @@ lister_reads folder (list_stages.Index path left) tree = refl
 lister_reads folder (list_stages.Pack row left) tree = refl
 
 -- a call that changes nothing and opens no stream
-record IsPlain (ask : PartAsk) : Type 0 where
+record IsPlain (ask : Ask) : Type 0 where
   changes : ChangesNothing ask
   opens : OpensNone ask
 
@@ -127,7 +127,7 @@ module _ (setting : Setting) where
   abbrev pub IsOwn : Told → LookStage → Type 0
   IsOwn now stage = Stands setting OnlyReads (StreamOf now) AnyRows (HasNone now) stage
 
-  pub stage_changes_nothing : (now : Told) (stage : LookStage) → IsOwn now stage → (ask : PartAsk) → ask_at stage ≡ Some ask → ChangesNothing ask
+  pub stage_changes_nothing : (now : Told) (stage : LookStage) → IsOwn now stage → (ask : Ask) → ask_at stage ≡ Some ask → ChangesNothing ask
   stage_changes_nothing now (stages.Trying trier part) own ask is = same_ask ChangesNothing ask (tries.ask_of trier) (trier_plain trier.stage).changes is
   stage_changes_nothing now (stages.Loose round call) own ask is =
       loose_ask_is ChangesNothing ask (disk_ask_of call) (λ asked same. (loose_plain call.stage own.1 asked same).changes) is
@@ -139,14 +139,14 @@ module _ (setting : Setting) where
 
   -- ---- an exchange
 
-  module _ (now : Told) (ask : PartAsk) (answer : Answer) where
+  module _ (now : Told) (ask : Ask) (answer : Answer) where
     abbrev next : Told
     next = told_by now ask answer
 
     abbrev GoesOn : LookStage → Type 0
     GoesOn stage = Goes setting OnlyReads (StreamOf next) AnyRows (HasNone next) stage answer
 
-    none_by : (own : PartAsk) → IsPlain own → HasNone now → Some own ≡ Some ask → HasNone next
+    none_by : (own : Ask) → IsPlain own → HasNone now → Some own ≡ Some ask → HasNone next
     none_by own plain none is = none_stays_open now ask answer (same_ask OpensNone ask own plain.opens is) none
 
     none_by_loose : (call : LooseCall) → OnlyReads call → HasNone now → loose_ask (disk_ask_of call) ≡ Some ask → HasNone next
@@ -161,18 +161,18 @@ module _ (setting : Setting) where
   looking : IsPlain (asks.Core events.Look)
   looking = record { changes = tt; opens = tt }
 
-  goes_on : (now : Told) (stage : LookStage) → IsOwn now stage → (ask : PartAsk) (answer : Answer) → ask_at stage ≡ Some ask → GoesOn now ask answer stage
+  goes_on : (now : Told) (stage : LookStage) → IsOwn now stage → (ask : Ask) (answer : Answer) → ask_at stage ≡ Some ask → GoesOn now ask answer stage
   goes_on now (stages.Trying trier part) own ask answer is = none_by now ask answer (tries.ask_of trier) (trier_plain trier.stage) own is
   goes_on now (stages.Loose round call) own ask (told.Disk answer) is =
       (none_by_loose now ask (told.Disk answer) call own.1 own.0 is, reads_on call.stage answer own.1)
   goes_on now (stages.Loose round call) own ask (told.Core answer) is = (none_by_loose now ask (told.Core answer) call own.1 own.0 is, own.1)
   goes_on now (stages.Looking purpose notes) own ask answer is = none_by now ask answer (asks.Core events.Look) looking own is
   goes_on now (stages.Listing lister base notes) own ask (told.Disk answer) is =
-      subst (λ (a : PartAsk). GoesOn now a (told.Disk answer) (stages.Listing lister base notes)) (same_Some _ ask is)
+      subst (λ (a : Ask). GoesOn now a (told.Disk answer) (stages.Listing lister base notes)) (same_Some _ ask is)
       (step_on (told_by now (asks.Disk (lists.ask_of lister)) (told.Disk answer)) (lister_fed setting lister answer)
       (listing_streams setting.folders lister.head now lister.stage own answer))
   goes_on now (stages.Listing lister base notes) own ask (told.Core answer) is =
-      subst (λ (a : PartAsk). GoesOn now a (told.Core answer) (stages.Listing lister base notes)) (same_Some _ ask is)
+      subst (λ (a : Ask). GoesOn now a (told.Core answer) (stages.Listing lister base notes)) (same_Some _ ask is)
       (core_leaves_streams now lister.head.folder lister.stage answer own)
   goes_on now (stages.Publishing listing notes) own ask answer is =
       (none_by now ask answer (asks.Core (events.Publish listing)) (record { changes = tt; opens = tt }) own.0 is, tt)
@@ -200,7 +200,7 @@ module _ (setting : Setting) where
   -- ---- which stream is asked
 
   -- the stream that a call reads or closes is open, and none is where one is to be opened
-  abbrev pub AsksOwn : Told → PartAsk → Type 0
+  abbrev pub AsksOwn : Told → Ask → Type 0
   AsksOwn now (asks.Disk (disk_asks.OpenDir path)) = HasNone now
   AsksOwn now (asks.Disk (disk_asks.NextEntry dir)) = (folder : Path) × IsOpen now folder dir
   AsksOwn now (asks.Disk (disk_asks.CloseDir dir)) = (folder : Path) × IsOpen now folder dir
@@ -229,7 +229,7 @@ module _ (setting : Setting) where
   lister_own now folder (list_stages.Index path left) own = tt
   lister_own now folder (list_stages.Pack row left) own = tt
 
-  pub stage_asks_own : (now : Told) (stage : LookStage) → IsOwn now stage → (ask : PartAsk) → ask_at stage ≡ Some ask → AsksOwn now ask
+  pub stage_asks_own : (now : Told) (stage : LookStage) → IsOwn now stage → (ask : Ask) → ask_at stage ≡ Some ask → AsksOwn now ask
   stage_asks_own now (stages.Trying trier part) own ask is = same_ask (AsksOwn now) ask (tries.ask_of trier) (trier_own now trier.stage) is
   stage_asks_own now (stages.Loose round call) own ask is =
       loose_ask_is (AsksOwn now) ask (disk_ask_of call) (λ asked same. loose_own now call.stage own.1 asked same) is

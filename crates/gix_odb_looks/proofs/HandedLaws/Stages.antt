@@ -20,8 +20,8 @@ use Rattle.gix_odb_packs.specs.TryOrder.{seek}
 use Rattle.gix_odb_packs.specs.TryOrder as tries
 use Rattle.gix_odb_events.specs.declared.answer.Answer.{Answer}
 use Rattle.gix_odb_events.specs.declared.answer.Answer.TheVariants as told
-use Rattle.gix_odb_events.specs.declared.answer.PartAsk.{PartAsk}
-use Rattle.gix_odb_events.specs.declared.answer.PartAsk.TheVariants as asks
+use Rattle.gix_odb_events.specs.declared.answer.Ask.{Ask}
+use Rattle.gix_odb_events.specs.declared.answer.Ask.TheVariants as asks
 use Rattle.gix_odb_packs.specs.declared.lister.ListStep.{ListStep}
 use Rattle.gix_odb_packs.specs.declared.lister.ListStep.TheVariants as listed
 use Rattle.gix_odb_packs.specs.declared.lister.Lister.{Lister}
@@ -51,8 +51,8 @@ use Rattle.gix_odb_looks.specs.declared.look_up.Purpose.TheVariants as purposes
 -- ---- what a stage asks
 
 -- what holds of each ask that it may have holds of its ask
-module _ (P : PartAsk → Type 0) (ask : PartAsk) where
-  pub same_ask : (own : PartAsk) → P own → Some own ≡ Some ask → P ask
+module _ (P : Ask → Type 0) (ask : Ask) where
+  pub same_ask : (own : Ask) → P own → Some own ≡ Some ask → P ask
   same_ask own here is = subst P (same_Some own ask is) here
 
   pub loose_ask_is : (call : Option DiskAsk) → ((own : DiskAsk) → call ≡ Some own → P (asks.Disk own)) → loose_ask call ≡ Some ask → P ask
@@ -75,7 +75,7 @@ module _ (setting : Setting) (OfCall : LooseCall → Type 0) (OfLister : Lister 
   Steps (listed.Rows rows) = Else × OfRows (longest_first rows)
   Steps listed.Broken = Else
 
-  abbrev OfAsk : PartAsk → Type 0
+  abbrev OfAsk : Ask → Type 0
   OfAsk (asks.Core (events.Publish listing)) = OfRows listing.rows
   OfAsk ask = Unit {0}
 
@@ -87,7 +87,7 @@ module _ (setting : Setting) (OfCall : LooseCall → Type 0) (OfLister : Lister 
   trier_asks_so (tries_stages.StoringPack pack file) = tt
   trier_asks_so (tries_stages.PassingPack pack) = tt
 
-  stage_asks_so : (stage : LookStage) → Stands stage → (ask : PartAsk) → ask_at stage ≡ Some ask → OfAsk ask
+  stage_asks_so : (stage : LookStage) → Stands stage → (ask : Ask) → ask_at stage ≡ Some ask → OfAsk ask
   stage_asks_so (stages.Trying trier part) here ask is = same_ask OfAsk ask (tries.ask_of trier) (trier_asks_so trier.stage) is
   stage_asks_so (stages.Loose round call) here ask is = loose_ask_is OfAsk ask (disk_ask_of call) (λ own same. tt) is
   stage_asks_so (stages.Looking purpose notes) here ask is = same_ask OfAsk ask (asks.Core events.Look) tt is

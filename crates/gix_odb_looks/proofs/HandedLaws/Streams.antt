@@ -14,8 +14,8 @@ use Rattle.gix_odb_packs.specs.ListOrder.{ask_at, at_paths, behind_folder, by_in
 use Rattle.gix_odb_packs.specs.PackFolder.{index_paths}
 use Rattle.gix_odb_events.specs.declared.answer.Answer.{Answer}
 use Rattle.gix_odb_events.specs.declared.answer.Answer.TheVariants as told
-use Rattle.gix_odb_events.specs.declared.answer.PartAsk.{PartAsk}
-use Rattle.gix_odb_events.specs.declared.answer.PartAsk.TheVariants as asks
+use Rattle.gix_odb_events.specs.declared.answer.Ask.{Ask}
+use Rattle.gix_odb_events.specs.declared.answer.Ask.TheVariants as asks
 use Rattle.gix_odb_packs.specs.declared.lister.ListHead.{ListHead}
 use Rattle.gix_odb_packs.specs.declared.lister.ListStage.{ListStage}
 use Rattle.gix_odb_packs.specs.declared.lister.ListStage.TheVariants as stages
@@ -33,7 +33,7 @@ pub record Opened : Type 0 where
   pub dir : ℕ
 
 -- behind one exchange more
-abbrev pub opened_by : Option Opened → PartAsk → Answer → Option Opened
+abbrev pub opened_by : Option Opened → Ask → Answer → Option Opened
 opened_by before (asks.Disk (disk_asks.OpenDir folder)) (told.Disk (answers.Dir dir)) = Some (record { folder = folder; dir = dir })
 opened_by before ask answer = before
 
@@ -45,7 +45,7 @@ opened_from before (exchange ∷ exchanges) = opened_from (opened_by before exch
 abbrev pub opened_last : List Exchange → Option Opened
 opened_last exchanges = opened_from None exchanges
 
-abbrev pub open_by : Option Opened → PartAsk → Answer → Option Opened
+abbrev pub open_by : Option Opened → Ask → Answer → Option Opened
 open_by before (asks.Disk (disk_asks.OpenDir folder)) (told.Disk (answers.Dir dir)) = Some (record { folder = folder; dir = dir })
 open_by before (asks.Disk (disk_asks.CloseDir dir)) (told.Disk answer) = None
 open_by before ask answer = before
@@ -83,7 +83,7 @@ pub record Told : Type 0 where
   pub left : Option Opened
   pub stream : Option Stream
 
-abbrev pub told_by : Told → PartAsk → Answer → Told
+abbrev pub told_by : Told → Ask → Answer → Told
 told_by before ask answer =
     record { last = opened_by before.last ask answer; left = open_by before.left ask answer; stream = stream_by before.stream ask answer }
 
@@ -117,14 +117,14 @@ StreamBehind now ends.Broken = HasNone now
 
 -- ---- a call that opens no stream
 
-abbrev pub OpensNone : PartAsk → Type 0
+abbrev pub OpensNone : Ask → Type 0
 OpensNone (asks.Disk (disk_asks.OpenDir path)) = ⊥
 OpensNone ask = Unit {0}
 
-pub none_stays_open : (before : Told) (ask : PartAsk) (answer : Answer) → OpensNone ask → HasNone before → HasNone (told_by before ask answer)
+pub none_stays_open : (before : Told) (ask : Ask) (answer : Answer) → OpensNone ask → HasNone before → HasNone (told_by before ask answer)
 none_stays_open before ask answer opens none = subst (λ (left : Option Opened). open_by left ask answer ≡ None) (sym none) (by ask answer opens)
   where
-    by : (ask : PartAsk) (answer : Answer) → OpensNone ask → open_by None ask answer ≡ None
+    by : (ask : Ask) (answer : Answer) → OpensNone ask → open_by None ask answer ≡ None
     by (asks.Disk (disk_asks.OpenDir path)) answer opens = absurd opens
     by (asks.Disk (disk_asks.CloseDir dir)) (told.Disk answer) opens = refl
     by (asks.Disk (disk_asks.CloseDir dir)) (told.Core answer) opens = refl

@@ -23,8 +23,8 @@ use Rattle.gix_odb_packs.specs.TryOrder.{seek}
 use Rattle.gix_odb_packs.specs.TryOrder as tries
 use Rattle.gix_odb_events.specs.declared.answer.Answer.{Answer}
 use Rattle.gix_odb_events.specs.declared.answer.Answer.TheVariants as told
-use Rattle.gix_odb_events.specs.declared.answer.PartAsk.{PartAsk}
-use Rattle.gix_odb_events.specs.declared.answer.PartAsk.TheVariants as asks
+use Rattle.gix_odb_events.specs.declared.answer.Ask.{Ask}
+use Rattle.gix_odb_events.specs.declared.answer.Ask.TheVariants as asks
 use Rattle.gix_odb_packs.specs.declared.lister.ListHead.{ListHead}
 use Rattle.gix_odb_packs.specs.declared.lister.ListStage.{ListStage}
 use Rattle.gix_odb_packs.specs.declared.lister.ListStage.TheVariants as list_stages
@@ -69,13 +69,14 @@ IsBreaking (list_stages.Breaking dir) = Unit {0}
 IsBreaking stage = ⊥
 
 -- a call of the disk that may fail
-abbrev pub CanFail : PartAsk → Type 0
+abbrev pub CanFail : Ask → Type 0
 CanFail (asks.Disk ask) = Suits ask (disk_answers.Refused disk_errors.Failed)
-CanFail (asks.Core event) = ⊥
+CanFail ask = ⊥
 
-is_of_disk : (ask : PartAsk) → CanFail ask → IsDisk ask
+is_of_disk : (ask : Ask) → CanFail ask → IsDisk ask
 is_of_disk (asks.Disk ask) can = tt
 is_of_disk (asks.Core event) can = absurd can
+is_of_disk (asks.NewCore slots folders) can = absurd can
 
 -- a verdict that is no plain miss
 abbrev IsNoPlainMiss : Query → Verdict → Type 0
@@ -262,7 +263,7 @@ module _ (setting : Setting) (query : Query) where
   IsAskingAt (stages.Loose round call) = (id : ObjectId) × (asked : Path) × (call ≡ asking setting.limit query id asked)
   IsAskingAt stage = Unit {0}
 
-  failed_stage : (head : LookHead) → head.query ≡ query → (stage : LookStage) → IsAskingAt stage → (ask : PartAsk) → ask_at stage ≡ Some ask → CanFail ask
+  failed_stage : (head : LookHead) → head.query ≡ query → (stage : LookStage) → IsAskingAt stage → (ask : Ask) → ask_at stage ≡ Some ask → CanFail ask
       → IsLookMarred (fed_at setting head stage failed)
   failed_stage head own (stages.Trying trier part) at ask is can =
       record {
@@ -285,6 +286,6 @@ module _ (setting : Setting) (query : Query) where
   failed_stage head own (stages.Done reply) at ask is can = absurd (cc is)
 
   -- a look-up whose call failed is marred
-  pub failure_mars : (look : LookUp) → look.head.query ≡ query → IsAskingAt look.stage → (ask : PartAsk) → ask_at look.stage ≡ Some ask → CanFail ask
+  pub failure_mars : (look : LookUp) → look.head.query ≡ query → IsAskingAt look.stage → (ask : Ask) → ask_at look.stage ≡ Some ask → CanFail ask
       → IsLookMarred (fed setting look failed)
   failure_mars look own at ask is can = failed_stage (seen look.head failed) own look.stage at ask is can

@@ -18,8 +18,8 @@ use Rattle.gix_odb_events.specs.declared.event.Effect.TheVariants as effects
 use Rattle.gix_odb_events.specs.declared.view.View.{View}
 use Rattle.gix_odb_events.specs.declared.answer.Answer.{Answer}
 use Rattle.gix_odb_events.specs.declared.answer.Answer.TheVariants as told
-use Rattle.gix_odb_events.specs.declared.answer.PartAsk.{PartAsk}
-use Rattle.gix_odb_events.specs.declared.answer.PartAsk.TheVariants as asks
+use Rattle.gix_odb_events.specs.declared.answer.Ask.{Ask}
+use Rattle.gix_odb_events.specs.declared.answer.Ask.TheVariants as asks
 use Rattle.gix_odb_packs.specs.TryOrder.{seek}
 use Rattle.gix_odb_packs.specs.declared.lister.ListStep.{ListStep}
 use Rattle.gix_odb_packs.specs.declared.lister.ListStep.TheVariants as listed
@@ -185,7 +185,7 @@ module _ (setting : Setting) (query : Query) (id : ObjectId) (exchanges : List E
     verdict_passes round asked past (verdicts.Notes error) says ends =
         folder_passes (record round { notes = record round.notes { failed = true } }) (λ none. absurd (cc none)) (slice_get setting.folders round.next) refl
 
-    asked_passes : (round : LooseRound) (call : LooseCall) → IsAsking round call → (ask : PartAsk) (answer : DiskAnswer)
+    asked_passes : (round : LooseRound) (call : LooseCall) → IsAsking round call → (ask : Ask) (answer : DiskAnswer)
         → loose_ask (disk_ask_of call) ≡ Some ask → WasTold exchanges ask (told.Disk answer)
         → IsPassing (by_reply setting head round (loose_fed call answer) (reply_of (loose_fed call answer)))
     asked_passes round call asking_it ask answer is was =
@@ -198,7 +198,7 @@ module _ (setting : Setting) (query : Query) (id : ObjectId) (exchanges : List E
           ask = call_of.0;
           asked = call_of.1;
           answer = answer;
-          told = subst (λ (a : PartAsk). WasTold exchanges a (told.Disk answer)) asks_it was;
+          told = subst (λ (a : Ask). WasTold exchanges a (told.Disk answer)) asks_it was;
           reply = reply.0;
           replied = reply.1;
           is = refl;
@@ -271,7 +271,7 @@ module _ (setting : Setting) (query : Query) (id : ObjectId) (exchanges : List E
       record { own = own; stage = counted_passes head own (is_unsettled setting head list_no) list_no (stages.Looking purposes.Again notes) tt }
   published_passes head own listing notes effect = record { own = own; stage = tt }
 
-  stage_passes : (head : LookHead) → IsFor head → (stage : LookStage) → IsPassing stage → (ask : PartAsk) (answer : Answer) → ask_at stage ≡ Some ask
+  stage_passes : (head : LookHead) → IsFor head → (stage : LookStage) → IsPassing stage → (ask : Ask) (answer : Answer) → ask_at stage ≡ Some ask
       → WasTold exchanges ask answer → IsLookPassing (fed_at setting head stage answer)
   stage_passes head own (stages.Trying trier part) passes ask answer is was =
       record { own = own; stage = tried_passes head own part (trier_fed trier answer) }
@@ -293,7 +293,7 @@ module _ (setting : Setting) (query : Query) (id : ObjectId) (exchanges : List E
   stage_passes head own (stages.Done reply) passes ask answer is was = record { own = own; stage = passes }
 
   -- a look-up that passes the folders in order goes on so
-  pub look_passes_on : (look : LookUp) → IsLookPassing look → (ask : PartAsk) (answer : Answer) → ask_at look.stage ≡ Some ask
+  pub look_passes_on : (look : LookUp) → IsLookPassing look → (ask : Ask) (answer : Answer) → ask_at look.stage ≡ Some ask
       → WasTold exchanges ask answer → IsLookPassing (fed setting look answer)
   look_passes_on look passing ask answer is was =
       stage_passes (seen look.head answer) (record { query_is = passing.own.query_is; id_is = passing.own.id_is })

@@ -18,7 +18,7 @@ use Rattle.gix_odb_packs.specs.ListOrder.{ask_at, at_paths, behind_folder, by_in
 use Rattle.gix_odb_packs.specs.ListOrder.{started, with_row}
 use Rattle.gix_odb_packs.specs.PackFolder.{index_paths, pack_folder}
 use Rattle.gix_odb_events.specs.declared.answer.Answer.TheVariants as told
-use Rattle.gix_odb_events.specs.declared.answer.PartAsk.TheVariants as part_asks
+use Rattle.gix_odb_events.specs.declared.answer.Ask.TheVariants as part_asks
 use Rattle.gix_odb_packs.specs.declared.lister.ListHead.{ListHead}
 use Rattle.gix_odb_packs.specs.declared.lister.ListStage.{ListStage}
 use Rattle.gix_odb_packs.specs.declared.lister.ListStage.TheVariants as stages

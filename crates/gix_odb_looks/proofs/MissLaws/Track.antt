@@ -26,8 +26,8 @@ use Rattle.gix_odb_packs.proofs.ReachLaws.{IsAhead, IsNoMiss, IsTracked, seek_go
 use Rattle.gix_odb_packs.proofs.ReachLemmas.{IsPresent, present_at_first}
 use Rattle.gix_odb_events.specs.declared.answer.Answer.{Answer}
 use Rattle.gix_odb_events.specs.declared.answer.Answer.TheVariants as told
-use Rattle.gix_odb_events.specs.declared.answer.PartAsk.{PartAsk}
-use Rattle.gix_odb_events.specs.declared.answer.PartAsk.TheVariants as asks
+use Rattle.gix_odb_events.specs.declared.answer.Ask.{Ask}
+use Rattle.gix_odb_events.specs.declared.answer.Ask.TheVariants as asks
 use Rattle.gix_odb_packs.specs.declared.lister.ListStep.{ListStep}
 use Rattle.gix_odb_packs.specs.declared.lister.ListStep.TheVariants as listed
 use Rattle.gix_odb_packs.specs.declared.search.Notes.{Notes}
@@ -241,12 +241,12 @@ module _ (setting : Setting) (hash : Kind) (query : Query) (id : ObjectId) (of_h
   -- ---- an exchange
 
   -- an answer to what the stage asks
-  stage_goes : (past : List Exchange) (head : LookHead) → IsFor head → (stage : LookStage) → IsOn (stream_in past) stage → (ask : PartAsk) (answer : Answer)
+  stage_goes : (past : List Exchange) (head : LookHead) → IsFor head → (stage : LookStage) → IsOn (stream_in past) stage → (ask : Ask) (answer : Answer)
       → ask_at stage ≡ Some ask → IsFair hash id place past ask answer
       → IsLookOn (stream_by (stream_in past) ask answer) (fed_at setting head stage answer)
   stage_goes past head own (stages.Trying trier part) on ask answer is fair =
       let own_ask = same_Some _ ask is in
-      let fair_there = subst (λ (a : PartAsk). IsFair hash id place past a answer) (sym own_ask) fair in
+      let fair_there = subst (λ (a : Ask). IsFair hash id place past a answer) (sym own_ask) fair in
       record { own = own; stage = tried_goes (stream_by (stream_in past) ask answer) head part (trier_fed trier answer) (by part on fair_there) }
     where
       by : (p : Part) → TriesOn p trier → IsFair hash id place past (tries.ask_of trier) answer
@@ -268,26 +268,26 @@ module _ (setting : Setting) (hash : Kind) (query : Query) (id : ObjectId) (of_h
   stage_goes past head own (stages.Listing lister base notes) on ask (told.Disk answer) is fair =
       let own_ask = same_Some _ ask is in
       let then : LookUp = fed_at setting head (stages.Listing lister base notes) (told.Disk answer) in
-      subst (λ (a : PartAsk). IsLookOn (stream_by (stream_in past) a (told.Disk answer)) then) own_ask
+      subst (λ (a : Ask). IsLookOn (stream_by (stream_in past) a (told.Disk answer)) then) own_ask
       (record {
         own = own;
         stage =
             listed_goes (stream_by (stream_in past) (asks.Disk (lists.ask_of lister)) (told.Disk answer)) head base notes on.0
             (lister_fed setting lister answer)
             (listing_goes hash id place setting.folders past lister.head lister.stage on.1 answer
-            (subst (λ (a : PartAsk). IsFair hash id place past a (told.Disk answer)) (sym own_ask) fair));
+            (subst (λ (a : Ask). IsFair hash id place past a (told.Disk answer)) (sym own_ask) fair));
       })
   stage_goes past head own (stages.Listing lister base notes) on ask (told.Core answer) is fair =
-      absurd (subst (λ (a : PartAsk). IsFair hash id place past a (told.Core answer)) (sym (same_Some _ ask is)) fair)
+      absurd (subst (λ (a : Ask). IsFair hash id place past a (told.Core answer)) (sym (same_Some _ ask is)) fair)
   stage_goes past head own (stages.Publishing listing notes) on ask (told.Disk answer) is fair = record { own = own; stage = on }
   stage_goes past head own (stages.Publishing listing notes) on ask (told.Core (Ok effect)) is fair =
       publish_goes (stream_by (stream_in past) ask (told.Core (Ok effect))) past head own listing notes on.0 on.1 effect
-      (subst (λ (a : PartAsk). IsFair hash id place past a (told.Core (Ok effect))) (sym (same_Some _ ask is)) fair)
+      (subst (λ (a : Ask). IsFair hash id place past a (told.Core (Ok effect))) (sym (same_Some _ ask is)) fair)
   stage_goes past head own (stages.Publishing listing notes) on ask (told.Core (Err refusal)) is fair =
       record { own = own; stage = refused_is_no_miss query (call_errors.Find (find_errors.LoadIndex (of_refusal refusal))) }
   stage_goes past head own (stages.Done reply) on ask answer is fair = absurd (cc is)
 
-  look_on : (past : List Exchange) (look : LookUp) → IsLookOn (stream_in past) look → (ask : PartAsk) (answer : Answer) → ask_at look.stage ≡ Some ask
+  look_on : (past : List Exchange) (look : LookUp) → IsLookOn (stream_in past) look → (ask : Ask) (answer : Answer) → ask_at look.stage ≡ Some ask
       → IsFair hash id place past ask answer → IsLookOn (stream_by (stream_in past) ask answer) (fed setting look answer)
   look_on past look on ask answer is fair =
       stage_goes past (seen look.head answer) (record { query_is = on.own.query_is; id_is = on.own.id_is }) look.stage on.stage ask answer is fair

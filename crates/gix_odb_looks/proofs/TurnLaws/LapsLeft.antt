@@ -6,8 +6,8 @@ use Rattle.gix_odb_events.specs.declared.event.Effect.TheVariants as effects
 use Rattle.gix_odb_events.specs.declared.view.View.{View}
 use Rattle.gix_odb_events.specs.declared.answer.Answer.{Answer}
 use Rattle.gix_odb_events.specs.declared.answer.Answer.TheVariants as told
-use Rattle.gix_odb_events.specs.declared.answer.PartAsk.{PartAsk}
-use Rattle.gix_odb_events.specs.declared.answer.PartAsk.TheVariants as asks
+use Rattle.gix_odb_events.specs.declared.answer.Ask.{Ask}
+use Rattle.gix_odb_events.specs.declared.answer.Ask.TheVariants as asks
 use Rattle.gix_odb_looks.specs.Exchange.{IsAnswerTo}
 use Rattle.gix_odb_looks.specs.Laps.{IsNumbered, number_by}
 use Rattle.gix_odb_looks.specs.LookUpOrder.{first_of, seen, view_of, with_own}
@@ -15,11 +15,13 @@ use Rattle.gix_odb_looks.specs.declared.look_up.LookHead.{LookHead}
 
 -- ---- numbers never fall
 
-pub rises : (slots before : ℕ) (ask : PartAsk) (answer : Answer) → IsAnswerTo ask answer → IsNumbered slots before ask answer → before ≤ number_by before answer
+pub rises : (slots before : ℕ) (ask : Ask) (answer : Answer) → IsAnswerTo ask answer → IsNumbered slots before ask answer → before ≤ number_by before answer
 rises slots before (asks.Disk ask) (told.Disk answer) suits numbered = omega arith
 rises slots before (asks.Disk ask) (told.Core answer) suits numbered = absurd suits
 rises slots before (asks.Core event) (told.Disk answer) suits numbered = absurd suits
 rises slots before (asks.Core event) (told.Core answer) suits numbered = numbered.0
+rises slots before (asks.NewCore core_slots folders) (told.Disk answer) suits numbered = absurd suits
+rises slots before (asks.NewCore core_slots folders) (told.Core answer) suits numbered = numbered
 
 first_below : (before now : ℕ) (begun : Option ℕ) → unwrap_or begun 0 ≤ before → before ≤ now → unwrap_or (first_of begun None) 0 ≤ now
 first_below before now (Some number) below later = omega arith

@@ -17,7 +17,7 @@ use Rattle.gix_odb_events.specs.declared.listing.ListingRow.{ListingRow}
 use Rattle.gix_odb_packs.specs.ListOrder.{ask_at, at_paths, behind_folder, by_index, by_kind, by_pack, by_pack_kind, fed, fed_at, opened, read, with_row}
 use Rattle.gix_odb_packs.specs.PackFolder.{firsts, firsts_without, index_paths, is_index_entry}
 use Rattle.gix_odb_events.specs.declared.answer.Answer.TheVariants as told
-use Rattle.gix_odb_events.specs.declared.answer.PartAsk.TheVariants as asks
+use Rattle.gix_odb_events.specs.declared.answer.Ask.TheVariants as asks
 use Rattle.gix_odb_packs.specs.declared.lister.ListHead.{ListHead}
 use Rattle.gix_odb_packs.specs.declared.lister.ListStage.{ListStage}
 use Rattle.gix_odb_packs.specs.declared.lister.ListStage.TheVariants as stages

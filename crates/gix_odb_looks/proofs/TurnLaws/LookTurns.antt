@@ -9,8 +9,8 @@ use Rattle.gix_odb_packs.specs.ListOrder as lists
 use Rattle.gix_odb_packs.specs.TryOrder as tries
 use Rattle.gix_odb_events.specs.declared.answer.Answer.{Answer}
 use Rattle.gix_odb_events.specs.declared.answer.Answer.TheVariants as told
-use Rattle.gix_odb_events.specs.declared.answer.PartAsk.{PartAsk}
-use Rattle.gix_odb_events.specs.declared.answer.PartAsk.TheVariants as asks
+use Rattle.gix_odb_events.specs.declared.answer.Ask.{Ask}
+use Rattle.gix_odb_events.specs.declared.answer.Ask.TheVariants as asks
 use Rattle.gix_odb_packs.specs.declared.lister.ListStep.{ListStep}
 use Rattle.gix_odb_packs.specs.declared.lister.ListStep.TheVariants as listed
 use Rattle.gix_odb_packs.specs.declared.search.Notes.{Notes}
@@ -29,11 +29,11 @@ use Rattle.gix_odb_looks.proofs.TurnLaws.PartTurns.{call_left, tried_left}
 use Rattle.gix_odb_looks.proofs.TurnLaws.TrierTurns.{fed_tries}
 
 -- what is told of lists, and of streams behind one that is open
-abbrev pub IsTold : (slots entries before : ℕ) (stream : Option Stream) → Option PartAsk → Answer → Type 0
+abbrev pub IsTold : (slots entries before : ℕ) (stream : Option Stream) → Option Ask → Answer → Type 0
 IsTold slots entries before stream None answer = ⊥
 IsTold slots entries before stream (Some ask) answer = IsNumbered slots before ask answer × IsAnswerTo ask answer × HasAtMost entries (stream_by stream ask answer)
 
-abbrev pub stream_behind : Option Stream → Option PartAsk → Answer → Option Stream
+abbrev pub stream_behind : Option Stream → Option Ask → Answer → Option Stream
 stream_behind stream None answer = stream
 stream_behind stream (Some ask) answer = stream_by stream ask answer
 

@@ -15,8 +15,8 @@ use Rattle.gix_odb_events.specs.declared.view.View.{View}
 use Rattle.gix_odb_packs.specs.ListOrder as lists
 use Rattle.gix_odb_events.specs.declared.answer.Answer.{Answer}
 use Rattle.gix_odb_events.specs.declared.answer.Answer.TheVariants as told
-use Rattle.gix_odb_events.specs.declared.answer.PartAsk.{PartAsk}
-use Rattle.gix_odb_events.specs.declared.answer.PartAsk.TheVariants as asks
+use Rattle.gix_odb_events.specs.declared.answer.Ask.{Ask}
+use Rattle.gix_odb_events.specs.declared.answer.Ask.TheVariants as asks
 use Rattle.gix_odb_packs.specs.declared.lister.ListStage.{ListStage}
 use Rattle.gix_odb_packs.specs.declared.lister.ListStage.TheVariants as list_stages
 use Rattle.gix_odb_packs.specs.declared.lister.ListStep.{ListStep}
@@ -68,10 +68,10 @@ module _ (setting : Setting) where
   start_sound past = ((setting.objects, first_folder setting, refl), tt)
 
   module _ (past : List Exchange) where
-    abbrev with_one : PartAsk → Answer → List Exchange
+    abbrev with_one : Ask → Answer → List Exchange
     with_one ask answer = past ++ record { ask = ask; answer = answer } ∷ []
 
-    abbrev Goes : Refresh → PartAsk → Answer → Type 0
+    abbrev Goes : Refresh → Ask → Answer → Type 0
     Goes refresh ask answer = IsSuited ask answer → CausedAt (with_one ask answer) (fed setting.objects setting.folders refresh answer)
 
     shown_goes : (more : List Exchange) (shown : Option View) → CausedAt more (by_look setting.objects shown)
@@ -115,14 +115,14 @@ module _ (setting : Setting) where
         published_goes listing (with_one (asks.Core (events.Publish listing)) (told.Core (Ok effect))) effect
     publish_goes listing (told.Core (Err refusal)) suits = refusal_caused past (events.Publish listing) refusal
 
-    goes : (refresh : Refresh) → CausedAt past refresh → (ask : PartAsk) (answer : Answer) → ask_of refresh ≡ Some ask → Goes refresh ask answer
+    goes : (refresh : Refresh) → CausedAt past refresh → (ask : Ask) (answer : Answer) → ask_of refresh ≡ Some ask → Goes refresh ask answer
     goes stages.Looking sound ask answer is =
-        subst (λ (own : PartAsk). Goes stages.Looking own answer) (same_Some (asks.Core events.Look) ask is) (look_goes answer)
+        subst (λ (own : Ask). Goes stages.Looking own answer) (same_Some (asks.Core events.Look) ask is) (look_goes answer)
     goes (stages.Listing lister base) sound ask answer is =
-        subst (λ (own : PartAsk). Goes (stages.Listing lister base) own answer) (same_Some (asks.Disk (lists.ask_of lister)) ask is)
+        subst (λ (own : Ask). Goes (stages.Listing lister base) own answer) (same_Some (asks.Disk (lists.ask_of lister)) ask is)
         (listing_goes lister base sound answer)
     goes (stages.Publishing listing) sound ask answer is =
-        subst (λ (own : PartAsk). Goes (stages.Publishing listing) own answer) (same_Some (asks.Core (events.Publish listing)) ask is)
+        subst (λ (own : Ask). Goes (stages.Publishing listing) own answer) (same_Some (asks.Core (events.Publish listing)) ask is)
         (publish_goes listing answer)
     goes stages.Ready sound ask answer is = absurd (cc is)
     goes (stages.Refused error) sound ask answer is = absurd (cc is)

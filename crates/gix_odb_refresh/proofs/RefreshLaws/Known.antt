@@ -12,8 +12,8 @@ use Rattle.gix_odb_events.specs.declared.view.View.{View}
 use Rattle.gix_odb_packs.specs.ListOrder as lists
 use Rattle.gix_odb_events.specs.declared.answer.Answer.{Answer}
 use Rattle.gix_odb_events.specs.declared.answer.Answer.TheVariants as told
-use Rattle.gix_odb_events.specs.declared.answer.PartAsk.{PartAsk}
-use Rattle.gix_odb_events.specs.declared.answer.PartAsk.TheVariants as asks
+use Rattle.gix_odb_events.specs.declared.answer.Ask.{Ask}
+use Rattle.gix_odb_events.specs.declared.answer.Ask.TheVariants as asks
 use Rattle.gix_odb_packs.specs.declared.lister.ListStep.{ListStep}
 use Rattle.gix_odb_packs.specs.declared.lister.ListStep.TheVariants as listed
 use Rattle.gix_odb_packs.specs.declared.lister.Lister.{Lister}
@@ -77,10 +77,10 @@ module _ (setting : Setting) where
   -- ---- one exchange more
 
   module _ (now : Told) (past : List Exchange) where
-    abbrev with_one : PartAsk → Answer → List Exchange
+    abbrev with_one : Ask → Answer → List Exchange
     with_one ask answer = past ++ record { ask = ask; answer = answer } ∷ []
 
-    abbrev Goes : Refresh → PartAsk → Answer → Type 0
+    abbrev Goes : Refresh → Ask → Answer → Type 0
     Goes refresh ask answer = KnowsAt (told_by now ask answer) (with_one ask answer) (fed setting.objects setting.folders refresh answer)
 
     -- the core was looked at
@@ -144,14 +144,14 @@ module _ (setting : Setting) where
     publish_goes listing known (told.Core (Ok effect)) = published_goes listing known effect
     publish_goes listing known (told.Core (Err refusal)) = (known.0, inl (ShowedUnread-more past _ known.2))
 
-    goes : (refresh : Refresh) → KnowsAt now past refresh → (ask : PartAsk) (answer : Answer) → ask_of refresh ≡ Some ask → Goes refresh ask answer
+    goes : (refresh : Refresh) → KnowsAt now past refresh → (ask : Ask) (answer : Answer) → ask_of refresh ≡ Some ask → Goes refresh ask answer
     goes stages.Looking known ask answer is =
-        subst (λ (own : PartAsk). Goes stages.Looking own answer) (same_Some (asks.Core events.Look) ask is) (look_goes known answer)
+        subst (λ (own : Ask). Goes stages.Looking own answer) (same_Some (asks.Core events.Look) ask is) (look_goes known answer)
     goes (stages.Listing lister base) known ask answer is =
-        subst (λ (own : PartAsk). Goes (stages.Listing lister base) own answer) (same_Some (asks.Disk (lists.ask_of lister)) ask is)
+        subst (λ (own : Ask). Goes (stages.Listing lister base) own answer) (same_Some (asks.Disk (lists.ask_of lister)) ask is)
         (listing_goes lister base known answer)
     goes (stages.Publishing listing) known ask answer is =
-        subst (λ (own : PartAsk). Goes (stages.Publishing listing) own answer) (same_Some (asks.Core (events.Publish listing)) ask is)
+        subst (λ (own : Ask). Goes (stages.Publishing listing) own answer) (same_Some (asks.Core (events.Publish listing)) ask is)
         (publish_goes listing known answer)
     goes stages.Ready known ask answer is = absurd (cc is)
     goes (stages.Refused error) known ask answer is = absurd (cc is)

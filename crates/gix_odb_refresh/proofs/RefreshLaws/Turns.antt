@@ -12,8 +12,8 @@ use Rattle.gix_odb_events.specs.declared.view.View.{View}
 use Rattle.gix_odb_packs.specs.ListOrder as lists
 use Rattle.gix_odb_events.specs.declared.answer.Answer.{Answer}
 use Rattle.gix_odb_events.specs.declared.answer.Answer.TheVariants as told
-use Rattle.gix_odb_events.specs.declared.answer.PartAsk.{PartAsk}
-use Rattle.gix_odb_events.specs.declared.answer.PartAsk.TheVariants as asks
+use Rattle.gix_odb_events.specs.declared.answer.Ask.{Ask}
+use Rattle.gix_odb_events.specs.declared.answer.Ask.TheVariants as asks
 use Rattle.gix_odb_packs.specs.declared.lister.ListStep.{ListStep}
 use Rattle.gix_odb_packs.specs.declared.lister.ListStep.TheVariants as listed
 use Rattle.gix_odb_packs.specs.declared.lister.Lister.{Lister}
@@ -44,7 +44,7 @@ module _ (objects : Path) (folders : List Path) (entries : ℕ) where
   HasTurns stream (stages.Refused error) turns = Unit {0}
 
   -- one that asks has a turn left
-  asking_has_turns : (stream : Option Stream) (refresh : Refresh) (ask : PartAsk) → ask_of refresh ≡ Some ask → ¬ (HasTurns stream refresh 0)
+  asking_has_turns : (stream : Option Stream) (refresh : Refresh) (ask : Ask) → ask_of refresh ≡ Some ask → ¬ (HasTurns stream refresh 0)
   asking_has_turns stream stages.Looking ask is enough = omega arith
   asking_has_turns stream (stages.Listing lister base) ask is enough = omega (arith, enough.1)
   asking_has_turns stream (stages.Publishing listing) ask is enough = omega arith
@@ -55,7 +55,7 @@ module _ (objects : Path) (folders : List Path) (entries : ℕ) where
 
   module _ (stream : Option Stream) (turns : ℕ) where
     -- what is left behind an answer to an ask
-    abbrev Goes : Refresh → PartAsk → Answer → Type 0
+    abbrev Goes : Refresh → Ask → Answer → Type 0
     Goes refresh ask answer =
         IsAnswerTo ask answer → HasAtMost entries (stream_by stream ask answer) → HasTurns (stream_by stream ask answer) (fed objects folders refresh answer) turns
 
@@ -101,14 +101,14 @@ module _ (objects : Path) (folders : List Path) (entries : ℕ) where
     publish_goes listing (told.Core (Ok effect)) is fits = published_goes listing effect is
     publish_goes listing (told.Core (Err refusal)) is fits = tt
 
-    goes : (refresh : Refresh) → HasTurns stream refresh (suc turns) → (ask : PartAsk) (answer : Answer) → ask_of refresh ≡ Some ask → Goes refresh ask answer
+    goes : (refresh : Refresh) → HasTurns stream refresh (suc turns) → (ask : Ask) (answer : Answer) → ask_of refresh ≡ Some ask → Goes refresh ask answer
     goes stages.Looking enough ask answer is =
-        subst (λ (own : PartAsk). Goes stages.Looking own answer) (same_Some (asks.Core events.Look) ask is) (look_goes enough answer)
+        subst (λ (own : Ask). Goes stages.Looking own answer) (same_Some (asks.Core events.Look) ask is) (look_goes enough answer)
     goes (stages.Listing lister base) enough ask answer is =
-        subst (λ (own : PartAsk). Goes (stages.Listing lister base) own answer) (same_Some (asks.Disk (lists.ask_of lister)) ask is)
+        subst (λ (own : Ask). Goes (stages.Listing lister base) own answer) (same_Some (asks.Disk (lists.ask_of lister)) ask is)
         (listing_goes lister base enough answer)
     goes (stages.Publishing listing) enough ask answer is =
-        subst (λ (own : PartAsk). Goes (stages.Publishing listing) own answer) (same_Some (asks.Core (events.Publish listing)) ask is)
+        subst (λ (own : Ask). Goes (stages.Publishing listing) own answer) (same_Some (asks.Core (events.Publish listing)) ask is)
         (publish_goes listing answer)
     goes stages.Ready enough ask answer is = absurd (cc is)
     goes (stages.Refused error) enough ask answer is = absurd (cc is)

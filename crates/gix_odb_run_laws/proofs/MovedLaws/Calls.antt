@@ -12,7 +12,9 @@ use Rattle.gix_odb_calls.specs.declared.step.Outcome.TheVariants as outcomes
 use Rattle.gix_odb_world.specs.declared.work.Work.{Work}
 use Rattle.gix_odb_world.specs.AtWork.{MakeCall, Modes, Running, Task, modes_after}
 use Rattle.gix_odb_world.specs.Asks.{AsksAsTask}
-use Rattle.gix_odb_runs.specs.Event.{Ask, Event, ToCore, ToDisk, ToNewCore, answered}
+use Rattle.gix_odb_runs.specs.Event.{Event, answered}
+use Rattle.gix_odb_events.specs.declared.answer.Ask.{Ask}
+use Rattle.gix_odb_events.specs.declared.answer.Ask.TheVariants as asks
 use Rattle.gix_odb_world.specs.Headline.{Law, Works, stand_of}
 use Rattle.gix_odb_world.specs.Machines.{fed_in}
 use Rattle.gix_odb_runs.specs.Run.{IsTurnOf, disk_after, told_now}
@@ -131,11 +133,11 @@ module _ (past : List Event) (e : Event) where
 
         by : (ask : Option Ask) → works.ask ≡ ask → (modes_after e.asked was.modes).core ≡ was.modes.core
         by None is = asked None is
-        by (Some (ToDisk ask)) is = asked (Some (ToDisk ask)) is
-        by (Some (ToCore event)) is = asked (Some (ToCore event)) is
-        by (Some (ToNewCore slots folders)) is =
+        by (Some (asks.Disk ask)) is = asked (Some (asks.Disk ask)) is
+        by (Some (asks.Core event)) is = asked (Some (asks.Core event)) is
+        by (Some (asks.NewCore slots folders)) is =
             absurd
-            (subst (λ (t : Task). AsksAsTask first past handle was.store was.modes was.begun was.turns t (Some (ToNewCore slots folders))) (task ∙ calls)
+            (subst (λ (t : Task). AsksAsTask first past handle was.store was.modes was.begun was.turns t (Some (asks.NewCore slots folders))) (task ∙ calls)
             (subst (AsksAsTask first past handle was.store was.modes was.begun was.turns was.task) is works.in_order))
 
     core_before : (at : WasAtCall handle running) → at.was.modes.core ≡ running.modes.core

@@ -13,7 +13,7 @@ use Rattle.gix_odb_core.specs.History.{History, opened}
 use Rattle.gix_odb_loose.specs.LooseOrder.{disk_ask_of}
 use Rattle.gix_odb_packs.specs.PackFolder.{pack_folder}
 use Rattle.gix_odb_events.specs.declared.answer.Answer.TheVariants as told
-use Rattle.gix_odb_events.specs.declared.answer.PartAsk.TheVariants as parts
+use Rattle.gix_odb_events.specs.declared.answer.Ask.TheVariants as parts
 use Rattle.gix_odb_looks.specs.Exchange.{Exchange}
 use Rattle.gix_odb_looks.specs.Fair.{AreFair, IsDiskFair, IsFair, IsIndexSound, PackedPlace, index_at}
 use Rattle.gix_odb_looks.specs.Found.{Gives}
@@ -29,14 +29,15 @@ use Rattle.gix_odb_refresh.specs.RefreshOrder as refreshes
 use Rattle.gix_odb_refresh.proofs.RefreshLaws.{what_a_refresh_hands_on_is_of_the_folders}
 use Rattle.gix_odb.specs.Contents.{folder_list, sought}
 use Rattle.gix_odb.specs.Held.{WasShownAt}
-use Rattle.gix_odb.specs.OpenOrder as openings
+use Rattle.gix_odb.proofs.OpenLaws.{openings_ask_no_event}
 use Rattle.gix_odb.specs.declared.call_state.CallState.TheVariants.{Looking, Refreshing, Refused, Writing}
 use Rattle.gix_odb_runs.specs.declared.record.Run.{Run}
 use Rattle.gix_odb_world.specs.declared.work.Work.{Work}
 use Rattle.gix_odb_world.specs.declared.work.Work.TheVariants.{Calling, Opening}
 use Rattle.gix_odb_world.specs.AtWork.{MakeCall, Running, Store, Task, setting_in}
 use Rattle.gix_odb_runs.specs.Cores.{answer_behind, cores_after, history_at}
-use Rattle.gix_odb_runs.specs.Event.{Ask, CoreAnswer, CoreEvent, Event, OfCore, OfDisk, OfNothing, ToCore, ToDisk, ToNewCore}
+use Rattle.gix_odb_runs.specs.Event.{CoreAnswer, CoreEvent, Event, OfCore, OfDisk, OfNothing}
+use Rattle.gix_odb_events.specs.declared.answer.Ask.{Ask}
 use Rattle.gix_odb_world.specs.Headline.{IsRun, Works, stand_of}
 use Rattle.gix_odb_world.specs.Machines.{ask_in}
 use Rattle.gix_odb_world.specs.Recorded.{opened_in}
@@ -57,7 +58,7 @@ use Rattle.gix_odb_world.proofs.Stock.Snapshots.{is_opened}
 use Rattle.gix_odb_world.proofs.Streams.Apart.{AsksOwn, asks_own}
 use Rattle.gix_odb_world.proofs.Streams.OneEvent.{Goes, LeavesStream, goes}
 use Rattle.gix_odb_world.proofs.ToldLemmas.{told_kept, told_none, told_turn, turn_or_not}
-use Rattle.gix_odb_run_laws.proofs.CallTurns.{no_event, no_opening_event, part_of}
+use Rattle.gix_odb_run_laws.proofs.CallTurns.{no_event}
 use Rattle.gix_odb_run_laws.proofs.QueryTurns.{lawful_front, runs_up_to, tree_in_front}
 use Rattle.gix_odb_run_laws.proofs.MovedLaws.PackedStream.{IsOpenedSince, called_stream, others_leave, stays_open}
 
@@ -166,7 +167,7 @@ module _ (first : Volume) (events : List Event) (run : Run) (is : IsRun first ev
 
         -- ---- a call of the disk
 
-        module _ (ask : DiskAsk) (same_ask : turned.ask ≡ Some (ToDisk ask)) where
+        module _ (ask : DiskAsk) (same_ask : turned.ask ≡ Some (parts.Disk ask)) where
           asks_its : AsksOwn past handle was ask
           asks_its = asks_own first past handle was was.work runs.1 ask (turned.asks ∙ same_ask)
 
@@ -204,7 +205,7 @@ module _ (first : Volume) (events : List Event) (run : Run) (is : IsRun first ev
           called : GoesOn
           called =
               let x : Exchange = record { ask = parts.Disk ask; answer = told.Disk (answer_now disk ask) } in
-              let asked : e.asked ≡ OfDisk ask (answer_now disk ask) = told_so (Some (ToDisk ask)) same_ask in
+              let asked : e.asked ≡ OfDisk ask (answer_now disk ask) = told_so (Some (parts.Disk ask)) same_ask in
               told_one x (told_turn past e handle begun behind_begun turn (OfDisk ask (answer_now disk ask)) asked x refl)
               (calls_are_fair store.hash id place disk lies_now exchanges ask unfailed next_fair)
               (λ stream has.
@@ -214,11 +215,11 @@ module _ (first : Volume) (events : List Event) (run : Run) (is : IsRun first ev
 
         -- ---- an event of the core
 
-        module _ (event : CoreEvent) (same_ask : turned.ask ≡ Some (ToCore event)) where
+        module _ (event : CoreEvent) (same_ask : turned.ask ≡ Some (parts.Core event)) where
           abbrev answer : CoreAnswer
           answer = answer_behind (history_at (cores_after past) was.modes.core) handle event
 
-          asks_it : ask_in was.store was.work ≡ Some (ToCore event)
+          asks_it : ask_in was.store was.work ≡ Some (parts.Core event)
           asks_it = turned.asks ∙ same_ask
 
           ran : IsRunning first past handle was
@@ -238,9 +239,8 @@ module _ (first : Volume) (events : List Event) (run : Run) (is : IsRun first ev
           stock_at task is_task =
               subst (HasStockAt first past was.store was.modes) is_task (subst (HasStock first past) status (stocked first past ran.lawful ran.throughout handle))
 
-          by : (work : Work) → Knows first past handle was work → ask_in was.store work ≡ Some (ToCore event) → IsHandedWell
-          by (Opening state) knows asked =
-              absurd (no_opening_event was.store (openings.registers state) (openings.ask_of was.store.parts.objects state) event asked)
+          by : (work : Work) → Knows first past handle was work → ask_in was.store work ≡ Some (parts.Core event) → IsHandedWell
+          by (Opening state) knows asked = absurd (openings_ask_no_event (setting_in was.store) state event asked)
           by (Calling (Looking look)) knows asked =
               let setting = setting_in was.store in
               let view = view_then past handle was.modes.core was.begun in
@@ -249,14 +249,14 @@ module _ (first : Volume) (events : List Event) (run : Run) (is : IsRun first ev
                 handed =
                     what_is_handed_was_shown (ShownSince first past was.store) setting was.store.hash knows.query (sought was.store.parts was.modes.ignoring knows.query)
                     knows.fits.hashed view knows.well.snapshot (told_since past handle was.begun) knows.asked knows.well.truth (parts.Core event)
-                    (ap looks.ask_of (sym knows.is) ∙ part_of (looks.ask_of look) event asked);
+                    (ap looks.ask_of (sym knows.is) ∙ asked);
               }
           by (Calling (Refreshing refresh call)) knows asked =
               record {
                 stock = stock_at (MakeCall (call_to_write knows.write)) knows.of.task;
                 handed =
                     what_a_refresh_hands_on_is_of_the_folders (setting_in was.store) (view_then past handle was.modes.core was.begun) (told_since past handle was.begun) knows.asked
-                    (ShownSince first past was.store) was.store.hash event (ap refreshes.ask_of (sym knows.refresh_is) ∙ part_of (refreshes.ask_of refresh) event asked);
+                    (ShownSince first past was.store) was.store.hash event (ap refreshes.ask_of (sym knows.refresh_is) ∙ asked);
               }
           by (Calling (Writing call)) knows asked = absurd (no_event (disk_ask_of call) event asked)
           by (Calling (Refused error)) knows asked = absurd knows
@@ -292,7 +292,7 @@ module _ (first : Volume) (events : List Event) (run : Run) (is : IsRun first ev
           entered : GoesOn
           entered =
               let x : Exchange = record { ask = parts.Core event; answer = told.Core answer } in
-              let asked : e.asked ≡ OfCore was.modes.core handle event answer = told_so (Some (ToCore event)) same_ask in
+              let asked : e.asked ≡ OfCore was.modes.core handle event answer = told_so (Some (parts.Core event)) same_ask in
               told_one x (told_turn past e handle begun behind_begun turn (OfCore was.modes.core handle event answer) asked x refl) core_fair
               (λ stream has.
               stays_open first events run is since last now later (let lt = up in omega (arith, lt)) e there stream (subst (LeavesStream stream.dir) (sym asked) tt)
@@ -302,11 +302,11 @@ module _ (first : Volume) (events : List Event) (run : Run) (is : IsRun first ev
         by_ask None same_ask =
             let asked : e.asked ≡ OfNothing = told_so None same_ask in
             silent (told_none past e handle begun behind_begun turn OfNothing asked refl) (λ stream has. subst (LeavesStream stream.dir) (sym asked) tt)
-        by_ask (Some (ToNewCore slots folders)) same_ask =
-            let asked = told_so (Some (ToNewCore slots folders)) same_ask in
+        by_ask (Some (parts.NewCore slots folders)) same_ask =
+            let asked = told_so (Some (parts.NewCore slots folders)) same_ask in
             silent (told_none past e handle begun behind_begun turn e.asked refl (ap exchange_of asked)) (λ stream has. subst (LeavesStream stream.dir) (sym asked) tt)
-        by_ask (Some (ToCore event)) same_ask = entered event same_ask
-        by_ask (Some (ToDisk ask)) same_ask = called ask same_ask
+        by_ask (Some (parts.Core event)) same_ask = entered event same_ask
+        by_ask (Some (parts.Disk ask)) same_ask = called ask same_ask
 
       pub goes_on : GoesOn
       goes_on = elim (turn_or_not handle e) [

@@ -1,5 +1,5 @@
 -- The calls of a listing, among the exchanges of an opening that counts.
-use Rattle.std.proofs.Common.{◌≡◌, ◌⊎◌, inl, inr, ℕ, zero, suc, Bool, true, false, nat_le, List, [], ◌∷◌, Contains, Some, refl, sym, subst, arith}
+use Rattle.std.proofs.Common.{◌≡◌, ◌⊎◌, inl, inr, ℕ, zero, suc, Bool, true, false, nat_le, List, [], ◌∷◌, length, Contains, refl, sym, subst, arith}
 use Rattle.std.specs.Prelude.{if◌then◌else◌}
 use Rattle.std.proofs.lemmas.Option.{same_Some}
 use Rattle.odb_base.specs.Path.{Path}
@@ -15,11 +15,14 @@ use Rattle.gix_odb_events.specs.declared.listing.ListingRow.{ListingRow}
 use Rattle.gix_odb_packs.specs.ListOrder as lists
 use Rattle.gix_odb_events.specs.declared.answer.Answer.{Answer}
 use Rattle.gix_odb_events.specs.declared.answer.Answer.TheVariants as told
-use Rattle.gix_odb_events.specs.declared.answer.PartAsk.{PartAsk}
-use Rattle.gix_odb_events.specs.declared.answer.PartAsk.TheVariants as asks
+use Rattle.gix_odb_events.specs.declared.answer.Ask.{Ask}
+use Rattle.gix_odb_events.specs.declared.answer.Ask.TheVariants as asks
 use Rattle.gix_odb_packs.specs.declared.lister.ListStep.{ListStep}
 use Rattle.gix_odb_packs.specs.declared.lister.ListStep.TheVariants as listed
 use Rattle.gix_odb_packs.specs.declared.lister.Lister.{Lister}
+use Rattle.gix_odb_calls.specs.declared.call.CallError.TheVariants as call_errors
+use Rattle.gix_odb_calls.specs.declared.call.Reply.{Reply}
+use Rattle.gix_odb_calls.specs.declared.call.Reply.TheVariants as replies
 use Rattle.gix_odb_calls.specs.declared.init.Error.TheVariants as opening_errors
 use Rattle.gix_odb_calls.specs.declared.init.Slots.{Slots}
 use Rattle.gix_odb_calls.specs.declared.init.Slots.TheVariants.{AsNeededByDiskState, Given}
@@ -27,8 +30,9 @@ use Rattle.gix_odb_looks.specs.Exchange.{Exchange, WasTold}
 use Rattle.gix_odb_looks.specs.LookUpOrder.{Setting}
 use Rattle.gix_odb_looks.proofs.FoundLaws.Lists.{has_first, has_later}
 use Rattle.gix_odb_look_laws.specs.ListedFiles.{AreOfTree}
+use Rattle.gix_odb_refresh.specs.Asked.{AreSuited, IsSuited}
 use Rattle.gix_odb_look_laws.specs.ListerCalls.{AreCalls, AreCallsOfTree, Call, behind_calls}
-use Rattle.gix_odb.specs.OpenExchanges.{AreAsked, asks_of, fed_by, list_behind}
+use Rattle.gix_odb.specs.OpenExchanges.{AreAsked, fed_by, list_behind, list_by}
 use Rattle.gix_odb.specs.OpenOrder.{begun, listed_on, looked, numbered, refused, shown}
 use Rattle.gix_odb.specs.declared.open_state.OpenState.{OpenState}
 use Rattle.gix_odb.specs.declared.open_state.OpenState.TheVariants as opens
@@ -109,7 +113,7 @@ module _ (setting : Setting) (slots : Slots) where
     pub calls_of_listing : (step : ListStep) (exchanges : List Exchange) → AsksOn step exchanges → HasCalls step exchanges
     calls_of_listing step [] asked = no_calls step [] refl
     calls_of_listing (listed.More lister) (exchange ∷ exchanges) asked =
-        subst (λ (ask : PartAsk). HasCalls (listed.More lister) (record { ask = ask; answer = exchange.answer } ∷ exchanges))
+        subst (λ (ask : Ask). HasCalls (listed.More lister) (record { ask = ask; answer = exchange.answer } ∷ exchanges))
         (same_Some (asks.Disk (lists.ask_of lister)) exchange.ask asked.0)
         (one_call lister exchange.answer exchanges (λ step further. calls_of_listing step exchanges further) asked.1)
     calls_of_listing (listed.Rows rows) (exchange ∷ exchanges) asked = no_calls (listed.Rows rows) (exchange ∷ exchanges) (rows_stay rows (exchange ∷ exchanges))
@@ -117,38 +121,65 @@ module _ (setting : Setting) (slots : Slots) where
 
   -- ---- where the listing begins
 
+  abbrev start : ListStep
+  start = listed.More (lists.started setting.objects)
+
   -- the listing of the folders begins
   abbrev BeginsListing : OpenState → Type 0
   BeginsListing state = (percent : ℕ) × (minimum : ℕ) × (state ≡ opens.Listing (lists.started setting.objects) percent minimum)
 
-  -- an opening that has its number asks the disk for nothing
-  numbered_asks_nothing : (number : ℕ) (ask : PartAsk) → ¬ (asks_of setting (numbered number) ≡ Some ask)
-  numbered_asks_nothing number ask = by (nat_le number most_slots)
+  -- none begins: what an opening asks for from there on leaves a listing where it was
+  abbrev ListsNothing : OpenState → Type 0
+  ListsNothing state = (exchanges : List Exchange) → AreAsked setting slots state exchanges → AreSuited exchanges → list_behind folders start exchanges ≡ start
+
+  done_lists_nothing : (reply : Reply) → ListsNothing (opens.Done reply)
+  done_lists_nothing reply [] asked suited = refl
+  done_lists_nothing reply (exchange ∷ exchanges) asked suited = absurd (cc asked.0)
+
+  registering_lists_nothing : (number : ℕ) → ListsNothing (opens.Registering number)
+  registering_lists_nothing number [] asked suited = refl
+  registering_lists_nothing number (exchange ∷ exchanges) asked suited =
+      by exchange.answer
+      (subst (λ (ask : Ask). IsSuited ask exchange.answer) (sym (same_Some (asks.NewCore number (length (setting.objects ∷ setting.folders))) exchange.ask asked.0))
+      (suited exchange (has_first exchange exchanges)))
+      asked.1
     where
-      by : (few : Bool) → ¬ (asks_of setting (if few then opens.Registering number else refused (opening_errors.TooManySlots number)) ≡ Some ask)
-      by true is = cc is
-      by false is = cc is
+      by : (answer : Answer) → IsSuited (asks.NewCore number (length (setting.objects ∷ setting.folders))) answer
+          → AreAsked setting slots (fed_by setting slots (opens.Registering number) answer) exchanges
+          → list_behind folders (list_by folders start answer) exchanges ≡ start
+      by (told.Disk answer) suits further = absurd suits
+      by (told.Core answer) suits further =
+          done_lists_nothing (replies.Opened number) exchanges further
+          (λ other among. suited other (has_later exchange exchanges other among))
 
-  begun_lists : (own : Slots) (ask : PartAsk) → asks_of setting (begun setting.objects own) ≡ Some ask → BeginsListing (begun setting.objects own)
-  begun_lists (Given number) ask is = absurd (numbered_asks_nothing number ask is)
-  begun_lists (AsNeededByDiskState percent minimum) ask is = (percent, minimum, refl)
+  numbered_lists_nothing : (number : ℕ) → ListsNothing (numbered number)
+  numbered_lists_nothing number = by (nat_le number most_slots)
+    where
+      by : (few : Bool) → ListsNothing (if few then opens.Registering number else refused (opening_errors.TooManySlots number))
+      by true = registering_lists_nothing number
+      by false = done_lists_nothing (replies.Refused (call_errors.Open (opening_errors.TooManySlots number)))
 
-  shown_lists : (kind : Kind) (ask : PartAsk) → asks_of setting (shown setting.objects slots kind) ≡ Some ask → BeginsListing (shown setting.objects slots kind)
-  shown_lists kinds.Dir ask is = begun_lists slots ask is
-  shown_lists kinds.File ask is = absurd (cc is)
-  shown_lists kinds.Link ask is = absurd (cc is)
+  begun_goes : (own : Slots) → BeginsListing (begun setting.objects own) ⊎ ListsNothing (begun setting.objects own)
+  begun_goes (Given number) = inr (numbered_lists_nothing number)
+  begun_goes (AsNeededByDiskState percent minimum) = inl (percent, minimum, refl)
 
-  looked_lists : (answer : DiskAnswer) (ask : PartAsk) → asks_of setting (looked setting.objects slots answer) ≡ Some ask
-      → BeginsListing (looked setting.objects slots answer)
-  looked_lists (answers.Meta meta) ask is = shown_lists meta.kind ask is
-  looked_lists (answers.Refused disk_errors.Failed) ask is = absurd (cc is)
-  looked_lists answer ask is = absurd (cc is)
+  shown_goes : (kind : Kind) → BeginsListing (shown setting.objects slots kind) ⊎ ListsNothing (shown setting.objects slots kind)
+  shown_goes kinds.Dir = begun_goes slots
+  shown_goes kinds.File = inr (done_lists_nothing (replies.Refused (call_errors.Open opening_errors.NotADirectory)))
+  shown_goes kinds.Link = inr (done_lists_nothing (replies.Refused (call_errors.Open opening_errors.NotADirectory)))
 
-  -- behind its look an opening asks for nothing but what the listing of its folders asks for
+  looked_goes : (answer : DiskAnswer) → BeginsListing (looked setting.objects slots answer) ⊎ ListsNothing (looked setting.objects slots answer)
+  looked_goes (answers.Meta meta) = shown_goes meta.kind
+  looked_goes (answers.Refused disk_errors.Failed) = inr (done_lists_nothing (replies.Refused (call_errors.Open opening_errors.Io)))
+  looked_goes answer = inr (done_lists_nothing (replies.Refused (call_errors.Open opening_errors.NotADirectory)))
+
+  -- behind its look an opening calls the disk for nothing but what the listing of its folders asks for
   pub calls_behind_the_look : (answer : DiskAnswer) (exchanges : List Exchange) → AreAsked setting slots (looked setting.objects slots answer) exchanges
-      → HasCalls (listed.More (lists.started setting.objects)) exchanges
-  calls_behind_the_look answer [] asked = no_calls (listed.More (lists.started setting.objects)) [] refl
-  calls_behind_the_look answer (exchange ∷ exchanges) asked =
-      let begins = looked_lists answer exchange.ask asked.0 in
-      calls_of_listing begins.0 begins.1 (listed.More (lists.started setting.objects)) (exchange ∷ exchanges)
-      (subst (λ (state : OpenState). AreAsked setting slots state (exchange ∷ exchanges)) begins.2 asked)
+      → AreSuited exchanges → HasCalls start exchanges
+  calls_behind_the_look answer exchanges asked suited =
+      elim (looked_goes answer) [
+        | inl begins ↦
+            calls_of_listing begins.0 begins.1 start exchanges
+            (subst (λ (state : OpenState). AreAsked setting slots state exchanges) begins.2 asked)
+        | inr nothing ↦ no_calls start exchanges (nothing exchanges asked suited)
+      ]

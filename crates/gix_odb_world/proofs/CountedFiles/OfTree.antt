@@ -10,8 +10,8 @@ use Rattle.odb_nodes.specs.declared.disk_error.DiskError.TheVariants as errors
 use Rattle.odb_nodes.specs.declared.entry.Entry.{Entry}
 use Rattle.gix_odb_events.specs.declared.answer.Answer.{Answer}
 use Rattle.gix_odb_events.specs.declared.answer.Answer.TheVariants as told
-use Rattle.gix_odb_events.specs.declared.answer.PartAsk.{PartAsk}
-use Rattle.gix_odb_events.specs.declared.answer.PartAsk.TheVariants as asks
+use Rattle.gix_odb_events.specs.declared.answer.Ask.{Ask}
+use Rattle.gix_odb_events.specs.declared.answer.Ask.TheVariants as asks
 use Rattle.gix_odb_looks.specs.Exchange.{Exchange}
 use Rattle.gix_odb_looks.specs.OpenStream.{GivesNext}
 use Rattle.gix_odb_looks.specs.Stream.{Stream, reads, stream_by, stream_from}
@@ -66,7 +66,7 @@ module _ (tree : Tree) where
   as_before : (before : Option Stream) (coming left : List Entry) → GivesAll before coming → left ≡ coming → GivesAll before left
   as_before before coming left all same = subst (GivesAll before) (sym same) all
 
-  one_gives : (before : Option Stream) (coming : List Entry) (ask : PartAsk) (answer : Answer) (left : List Entry) → GivesAll before coming
+  one_gives : (before : Option Stream) (coming : List Entry) (ask : Ask) (answer : Answer) (left : List Entry) → GivesAll before coming
       → IsToldOfTree tree coming ask answer left → GivesAll (stream_by before ask answer) left
   one_gives before coming (asks.Disk (disk_asks.OpenDir folder)) (told.Disk answer) left all of = opened_gives folder answer left of
   one_gives before coming (asks.Disk (disk_asks.NextEntry dir)) (told.Disk answer) left all of = one_read_gives before coming left answer all of
@@ -79,8 +79,10 @@ module _ (tree : Tree) where
   one_gives before coming (asks.Disk (disk_asks.Rename from to)) (told.Disk answer) left all of = as_before before coming left all of.1
   one_gives before coming (asks.Disk (disk_asks.Remove path)) (told.Disk answer) left all of = as_before before coming left all of.1
   one_gives before coming (asks.Core event) (told.Core answer) left all of = as_before before coming left all of
+  one_gives before coming (asks.NewCore slots folders) (told.Core answer) left all of = as_before before coming left all of
   one_gives before coming (asks.Disk ask) (told.Core answer) left all of = absurd of
   one_gives before coming (asks.Core event) (told.Disk answer) left all of = absurd of
+  one_gives before coming (asks.NewCore slots folders) (told.Disk answer) left all of = absurd of
 
   -- behind all exchanges it does still
   pub streams_give_all : (before : Option Stream) (coming : List Entry) (exchanges : List Exchange) (left : List Entry) → GivesAll before coming

@@ -16,8 +16,8 @@ use Rattle.odb_nodes.specs.declared.disk_error.DiskError.TheVariants as errors
 use Rattle.odb_nodes.specs.declared.entry.Entry.{Entry}
 use Rattle.gix_odb_events.specs.declared.answer.Answer.{Answer}
 use Rattle.gix_odb_events.specs.declared.answer.Answer.TheVariants as told
-use Rattle.gix_odb_events.specs.declared.answer.PartAsk.{PartAsk}
-use Rattle.gix_odb_events.specs.declared.answer.PartAsk.TheVariants as parts
+use Rattle.gix_odb_events.specs.declared.answer.Ask.{Ask}
+use Rattle.gix_odb_events.specs.declared.answer.Ask.TheVariants as parts
 use Rattle.gix_odb_looks.specs.Exchange.{Exchange, WasTold}
 use Rattle.gix_odb_looks.specs.OpenStream.{GivesNext, IsRead}
 use Rattle.gix_odb_looks.specs.Stream.{Stream}
@@ -156,7 +156,7 @@ module _ (first : Volume) (events : List Event) (e : Event) where
         }
 
     -- what the disk gave, of what was asked and answered
-    abbrev IsGivenPart : PartAsk → Answer → Type 0
+    abbrev IsGivenPart : Ask → Answer → Type 0
     IsGivenPart (parts.Disk asked) (told.Disk answer) = IsGiven first whole handle begun asked answer
     IsGivenPart asked answer = Unit {0}
 

@@ -12,8 +12,8 @@ use Rattle.gix_odb_events.specs.Answers.{view_in}
 use Rattle.gix_odb_core.specs.declared.shape.Shape.{Shape}
 use Rattle.gix_odb_events.specs.declared.view.View.{View}
 use Rattle.gix_odb_events.specs.declared.answer.Answer.TheVariants as told
-use Rattle.gix_odb_events.specs.declared.answer.PartAsk.{PartAsk}
-use Rattle.gix_odb_events.specs.declared.answer.PartAsk.TheVariants as parts
+use Rattle.gix_odb_events.specs.declared.answer.Ask.{Ask}
+use Rattle.gix_odb_events.specs.declared.answer.Ask.TheVariants as parts
 use Rattle.gix_odb_calls.specs.declared.call.Reply.{Reply}
 use Rattle.gix_odb_calls.specs.declared.query.Query.{Query}
 use Rattle.gix_odb_calls.specs.declared.query.Query.TheVariants.{Find, Header, Test}
@@ -25,7 +25,7 @@ use Rattle.gix_odb_looks.specs.declared.look_up.LookStage.{LookStage}
 use Rattle.gix_odb_looks.specs.declared.look_up.LookStage.TheVariants as stages
 use Rattle.gix_odb_looks.specs.declared.look_up.LookUp.{LookUp}
 use Rattle.gix_odb_looks.proofs.CauseLaws.{a_done_look_up_asks_nothing}
-use Rattle.gix_odb_looks.proofs.HandedLaws.{look_ups_change_no_file}
+use Rattle.gix_odb_looks.proofs.HandedLaws.{look_ups_change_no_file, look_ups_have_no_core_made}
 use Rattle.gix_odb_look_laws.proofs.HappenLaws.{what_is_handed_can_happen}
 use Rattle.gix_odb_looks.proofs.TurnLaws.{a_look_up_ends_in_time}
 use Rattle.gix_odb.specs.Contents.{sought}
@@ -35,7 +35,7 @@ use Rattle.gix_odb_world.specs.Asks.{AsksInOrder}
 use Rattle.gix_odb_world.specs.AtWork.{setting_in}
 use Rattle.gix_odb_world.specs.Bound.{HasAtMost, bound_of_call}
 use Rattle.gix_odb_runs.specs.Cores.{answer_behind, history_at, or_before}
-use Rattle.gix_odb_runs.specs.Event.{CoreEvent, Event, OfCore, OfDisk, OfNothing, ToCore, ToDisk, answered, part_asked}
+use Rattle.gix_odb_runs.specs.Event.{CoreEvent, Event, OfCore, OfDisk, OfNothing, answered}
 use Rattle.gix_odb_world.specs.Headline.{LeavesDisk, stand_of}
 use Rattle.gix_odb_world.specs.Promise.{Promise, QueryPromise}
 use Rattle.gix_odb_runs.specs.Run.{FailedSince, change_by, disk_after, tree_at}
@@ -55,21 +55,6 @@ use Rattle.gix_odb_world.proofs.RefusedLemmas.{refused_later, refused_on_core, r
 use Rattle.gix_odb_world.proofs.ToldLemmas.{asked-push, behind-push, told_none, told_turn, view_kept}
 use Rattle.gix_odb_world.proofs.ToldWell.{no_failure, told_well_later, told_well_on_core, told_well_on_disk}
 use Rattle.gix_odb_runs.proofs.WriteAsk.Quiet.{change_by-quiet}
-
-nothing_asked : (asked : Option PartAsk) → part_asked asked ≡ None → asked ≡ None
-nothing_asked None is = refl
-nothing_asked (Some (parts.Disk ask)) is = absurd (cc is)
-nothing_asked (Some (parts.Core event)) is = absurd (cc is)
-
-pub event_asked : (asked : Option PartAsk) (event : CoreEvent) → part_asked asked ≡ Some (ToCore event) → asked ≡ Some (parts.Core event)
-event_asked None event is = absurd (cc is)
-event_asked (Some (parts.Disk ask)) event is = absurd (cc is)
-event_asked (Some (parts.Core own)) event is = let same : own ≡ event = cc is in ap (λ e. Some (parts.Core e)) same
-
-pub call_asked : (asked : Option PartAsk) (ask : DiskAsk) → part_asked asked ≡ Some (ToDisk ask) → asked ≡ Some (parts.Disk ask)
-call_asked None ask is = absurd (cc is)
-call_asked (Some (parts.Disk own)) ask is = let same : own ≡ ask = cc is in ap (λ a. Some (parts.Disk a)) same
-call_asked (Some (parts.Core event)) ask is = absurd (cc is)
 
 -- what is left of a look-up that isn't done is the look-up
 left_is : (head : LookHead) (stage : LookStage) (next : LookUp) → result_at head stage ≡ Err next → next ≡ record { head = head; stage = stage }
@@ -102,7 +87,7 @@ module _ (first : Volume) (events : List Event) (handle : ℕ) (running : Runnin
   abbrev now_at : LookUp
   now_at = look_now events handle store running.modes running.begun query
 
-  module _ (asked : Option PartAsk) (is : ask_of look ≡ asked) where
+  module _ (asked : Option Ask) (is : ask_of look ≡ asked) where
     asked_now : ask_of now_at ≡ asked
     asked_now = ap ask_of (sym knows.is) ∙ is
 
@@ -118,10 +103,11 @@ module _ (first : Volume) (events : List Event) (handle : ℕ) (running : Runnin
   in_order (Header asked) same ask is = subst (λ q. ask_of (look_now events handle store running.modes running.begun q) ≡ Some (parts.Disk ask)) same is
   in_order (Test asked) same ask is = subst (λ q. ask_of (look_now events handle store running.modes running.begun q) ≡ Some (parts.Disk ask)) same is
 
-  takes_part : (call : Query) → query ≡ call → (asked : Option PartAsk) → ask_of look ≡ asked
-      → TakesTurn first events handle running (MakeCall (call_of call)) (part_asked asked)
+  takes_part : (call : Query) → query ≡ call → (asked : Option Ask) → ask_of look ≡ asked
+      → TakesTurn first events handle running (MakeCall (call_of call)) asked
   takes_part call same (Some (parts.Disk ask)) is =
       quiet_turn first events handle running (MakeCall (call_of call)) ask (in_order call same ask (asked_now (Some (parts.Disk ask)) is)) (quiet ask is)
+  takes_part call same (Some (parts.NewCore slots folders)) is = absurd (look_ups_have_no_core_made look slots folders is)
   takes_part (Find asked) same None is = subst (λ q. ask_of (look_now events handle store running.modes running.begun q) ≡ None) same (asked_now None is)
   takes_part (Header asked) same None is = subst (λ q. ask_of (look_now events handle store running.modes running.begun q) ≡ None) same (asked_now None is)
   takes_part (Test asked) same None is = subst (λ q. ask_of (look_now events handle store running.modes running.begun q) ≡ None) same (asked_now None is)
@@ -132,18 +118,18 @@ module _ (first : Volume) (events : List Event) (handle : ℕ) (running : Runnin
   takes_part (Test asked) same (Some (parts.Core event)) is =
       subst (λ q. ask_of (look_now events handle store running.modes running.begun q) ≡ Some (parts.Core event)) same (asked_now (Some (parts.Core event)) is)
 
-  pub takes : TakesTurn first events handle running running.task (part_asked (ask_of look))
-  takes = subst (λ task. TakesTurn first events handle running task (part_asked (ask_of look))) (sym knows.task) (takes_part query refl (ask_of look) refl)
+  pub takes : TakesTurn first events handle running running.task (ask_of look)
+  takes = subst (λ task. TakesTurn first events handle running task (ask_of look)) (sym knows.task) (takes_part query refl (ask_of look) refl)
 
-  pub ends : part_asked (ask_of look) ≡ None → (reply : Reply) × (result_of look ≡ Ok reply)
+  pub ends : ask_of look ≡ None → (reply : Reply) × (result_of look ≡ Ok reply)
   ends none =
-      let done = (a_done_look_up_asks_nothing setting view query id exchanges).0 (asked_now None (nothing_asked (ask_of look) none)) in
+      let done = (a_done_look_up_asks_nothing setting view query id exchanges).0 (asked_now None none) in
       (done.0, ap result_of knows.is ∙ done.1)
 
-  pub happens : (event : CoreEvent) → part_asked (ask_of look) ≡ Some (ToCore event) → (shape : Shape) (seat : ℕ) → CanHappen shape seat event
+  pub happens : (event : CoreEvent) → ask_of look ≡ Some (parts.Core event) → (shape : Shape) (seat : ℕ) → CanHappen shape seat event
   happens event is shape seat =
       what_is_handed_can_happen setting knows.fits.distinct view query id exchanges knows.asked event
-      (asked_now (Some (parts.Core event)) (event_asked (ask_of look) event is)) shape seat
+      (asked_now (Some (parts.Core event)) is) shape seat
 
   -- ---- what its turn comes to
 
@@ -286,11 +272,11 @@ module _ (first : Volume) (events : List Event) (handle : ℕ) (running : Runnin
 
     -- ---- any turn
 
-    pub comes_part : (asked : Option PartAsk) → ask_of look ≡ asked → IsTurnAsking first events e handle running (part_asked asked)
-        → MachineComes first events e handle running looking (told_after first events handle running (part_asked asked))
-        (looking.feed store look (answered (told_after first events handle running (part_asked asked))))
+    pub comes_part : (asked : Option Ask) → ask_of look ≡ asked → IsTurnAsking first events e handle running asked
+        → MachineComes first events e handle running looking (told_after first events handle running asked)
+        (looking.feed store look (answered (told_after first events handle running asked)))
     comes_part None is turn =
-        let end = ends (ap part_asked is) in
+        let end = ends is in
         let same = told_none events e handle running.begun knows.since turn.turn OfNothing turn.asked refl in
         let well = told_well_later first events e handle store running.modes running.begun same
         (failed_before events e handle running.begun (λ turn_it failed. no_failure e.entry.did turn.did failed)) knows.since knows.well in
@@ -303,6 +289,7 @@ module _ (first : Volume) (events : List Event) (handle : ℕ) (running : Runnin
         goes exchange is more (told_well_on_disk first events e handle running look knows ran ask is turn)
         (refused_on_disk events e handle running.modes.core running.begun knows.refused ask answer more)
         (rule_now (shown_now first events e handle running knows.since ask turn (quiet ask is))) running.modes.view (result_of (fed setting look (told.Disk answer))) refl
+    comes_part (Some (parts.NewCore slots folders)) is turn = absurd (look_ups_have_no_core_made look slots folders is)
     comes_part (Some (parts.Core event)) is turn =
         let place = stand_of events handle running in
         let answer = answer_behind (history_at place.cores place.store) place.seat event in

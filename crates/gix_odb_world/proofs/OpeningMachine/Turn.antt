@@ -16,7 +16,7 @@ use Rattle.gix_odb_events.specs.declared.event.Event.TheVariants as core_events
 use Rattle.gix_odb_events.specs.PackFiles.{same_path}
 use Rattle.gix_odb_packs.specs.ListOrder as lists
 use Rattle.gix_odb_events.specs.declared.answer.Answer.TheVariants as told
-use Rattle.gix_odb_events.specs.declared.answer.PartAsk.TheVariants as parts
+use Rattle.gix_odb_events.specs.declared.answer.Ask.TheVariants as parts
 use Rattle.gix_odb_packs.specs.declared.lister.Lister.{Lister}
 use Rattle.gix_odb_calls.specs.declared.call.CallError.TheVariants as call_errors
 use Rattle.gix_odb_calls.specs.declared.call.Reply.{Reply}
@@ -29,7 +29,6 @@ use Rattle.gix_odb_looks.specs.LookUpOrder.{Setting}
 use Rattle.gix_odb_looks.proofs.HandedLaws.{IsOwnStream}
 use Rattle.gix_odb_refresh.specs.Asked.{AreSuited}
 use Rattle.gix_odb_refresh.proofs.AskedLemmas.{asked-push, behind-push}
-use Rattle.gix_odb.specs.CallOrder.{disk_part}
 use Rattle.gix_odb.specs.Contents.{folder_list}
 use Rattle.gix_odb.specs.OpenExchanges.{AreAsked, IsCaused, IsNumber, asks_of, behind, fed_by}
 use Rattle.gix_odb.specs.OpenOrder as openings
@@ -42,7 +41,7 @@ use Rattle.gix_odb_looks.specs.Laps.{turns_of_lap}
 use Rattle.gix_odb_world.specs.Bound.{HasAtMost, laps_without_change}
 use Rattle.gix_odb_world.specs.Causes.{Sometime, ShowsDirectory}
 use Rattle.gix_odb_runs.specs.Cores.{answer_behind, cores_after}
-use Rattle.gix_odb_runs.specs.Event.{Event, OfDisk, ToDisk, ToNewCore}
+use Rattle.gix_odb_runs.specs.Event.{Event, OfDisk}
 use Rattle.gix_odb_world.specs.Promise.{MadeCore, OpeningPromise, Promise}
 use Rattle.gix_odb_runs.specs.Run.{FailedSince, change_by, disk_after, tree_at}
 use Rattle.gix_odb_world.specs.Running.Answered.{IsAnsweredWell}
@@ -98,17 +97,14 @@ module _ (first : Volume) (events : List Event) (handle : ℕ) (running : Runnin
 
   -- ---- what it asks for
 
-  module _ (ask : DiskAsk) (is : openings.ask_of objects state ≡ Some ask) where
-    asks_now : openings.ask_of objects (opening_now events handle store running.begun) ≡ Some ask
-    asks_now = ap (openings.ask_of objects) (sym knows.is) ∙ is
-
-    part_now : asks_of setting (behind setting slots opens.Looking exchanges) ≡ Some (parts.Disk ask)
-    part_now = ap disk_part asks_now
+  module _ (ask : DiskAsk) (is : asks_of setting state ≡ Some (parts.Disk ask)) where
+    asks_now : asks_of setting (opening_now events handle store running.begun) ≡ Some (parts.Disk ask)
+    asks_now = ap (asks_of setting) (sym knows.is) ∙ is
 
     pub quiet : change_by (disk_after first events) ask ≡ None
     quiet =
         change_by-quiet (disk_after first events) ask
-        (openings_change_no_file setting slots exchanges knows.asked knows.well.suited ask part_now (tree_of (disk_after first events).state))
+        (openings_change_no_file setting slots exchanges knows.asked knows.well.suited ask asks_now (tree_of (disk_after first events).state))
 
     pub takes_call : HasTurn first events handle running running.task ask
     takes_call =
@@ -118,7 +114,7 @@ module _ (first : Volume) (events : List Event) (handle : ℕ) (running : Runnin
     -- a stream that it reads on is its own
     own_stream : (dir : ℕ) → ask ≡ asks.NextEntry dir → IsOwnStream exchanges dir
     own_stream dir same =
-        streams_of_openings_are_their_own setting slots exchanges knows.asked knows.well.suited dir (inl (part_now ∙ ap (λ a. Some (parts.Disk a)) same))
+        streams_of_openings_are_their_own setting slots exchanges knows.asked knows.well.suited dir (inl (asks_now ∙ ap (λ a. Some (parts.Disk a)) same))
 
   -- ---- what its turn comes to
 
@@ -145,7 +141,7 @@ module _ (first : Volume) (events : List Event) (handle : ℕ) (running : Runnin
 
     -- ---- a call of the disk
 
-    module _ (ask : DiskAsk) (is : openings.ask_of objects state ≡ Some ask) (turn : IsTurnAsking first events e handle running (Some (ToDisk ask))) where
+    module _ (ask : DiskAsk) (is : asks_of setting state ≡ Some (parts.Disk ask)) (turn : IsTurnAsking first events e handle running (Some (parts.Disk ask))) where
       abbrev answer : DiskAnswer
       answer = answer_now (disk_after first events) ask
 
@@ -153,7 +149,7 @@ module _ (first : Volume) (events : List Event) (handle : ℕ) (running : Runnin
       call = record { ask = parts.Disk ask; answer = told.Disk answer }
 
       abbrev next : OpenState
-      next = openings.fed objects store.parts.folders slots state answer
+      next = openings.fed objects store.parts.folders slots state (told.Disk answer)
 
       told_is : told_since whole handle running.begun ≡ exchanges ++ call ∷ []
       told_is = told_call first events e handle running knows.since knows.well ran ask (own_stream ask is) turn
@@ -167,14 +163,14 @@ module _ (first : Volume) (events : List Event) (handle : ℕ) (running : Runnin
       -- it stands behind what its handle was told by then
       stands : next ≡ opening_now whole handle store running.begun
       stands =
-          ap (λ s. openings.fed objects store.parts.folders slots s answer) knows.is
+          ap (λ s. openings.fed objects store.parts.folders slots s (told.Disk answer)) knows.is
           ∙ (sym (behind-push (asks_of setting) (fed_by setting slots) opens.Looking exchanges call)
           ∙ ap (behind setting slots opens.Looking) (sym told_is))
 
       all_asked : AreAsked setting slots opens.Looking (told_since whole handle running.begun)
       all_asked =
           subst (AreAsked setting slots opens.Looking) (sym told_is)
-          (asked-push (asks_of setting) (fed_by setting slots) opens.Looking exchanges call knows.asked (part_now ask is))
+          (asked-push (asks_of setting) (fed_by setting slots) opens.Looking exchanges call knows.asked (asks_now ask is))
 
       longer : length (told_since whole handle running.begun) ≡ running.turns + 1
       longer = let had = knows.turns in let more = length_push exchanges call in ap length told_is ∙ omega (arith, had, more)
@@ -226,7 +222,7 @@ module _ (first : Volume) (events : List Event) (e : Event) (handle : ℕ) (runn
     abbrev pub look : DiskAsk
     look = asks.Look running.store.parts.objects true
 
-    module _ (turn : IsTurnAsking first events e handle running (Some (ToDisk look))) where
+    module _ (turn : IsTurnAsking first events e handle running (Some (parts.Disk look))) where
       abbrev fails : Bool
       fails = fails_now (disk_after first events) look
 
@@ -248,7 +244,7 @@ module _ (first : Volume) (events : List Event) (e : Event) (handle : ℕ) (runn
 
   -- a turn of the listing
   pub listing_comes : (lister : Lister) (percent minimum : ℕ) → IsOpening first events handle running (opens.Listing lister percent minimum)
-      → IsTurnAsking first events e handle running (Some (ToDisk (lists.ask_of lister)))
+      → IsTurnAsking first events e handle running (Some (parts.Disk (lists.ask_of lister)))
       → MachineComes first events e handle running opening (OfDisk (lists.ask_of lister) (answer_now (disk_after first events) (lists.ask_of lister)))
       (openings.result_of (openings.listed_on percent minimum (lists.fed running.store.parts.folders lister (answer_now (disk_after first events) (lists.ask_of lister)))))
   listing_comes lister percent minimum knows turn =
@@ -260,7 +256,7 @@ module _ (first : Volume) (events : List Event) (e : Event) (handle : ℕ) (runn
 
   -- the turn that registers
   module _ (slots : ℕ) (knows : IsOpening first events handle running (opens.Registering slots))
-      (turn : IsTurnAsking first events e handle running (Some (ToNewCore slots (length (folder_list running.store.parts))))) where
+      (turn : IsTurnAsking first events e handle running (Some (parts.NewCore slots (length (folder_list running.store.parts))))) where
     abbrev folders : ℕ
     folders = length (folder_list running.store.parts)
 

@@ -26,7 +26,9 @@ use Rattle.gix_odb.specs.CallOrder.{result_of_write}
 use Rattle.gix_odb_calls.specs.declared.call.Reply.TheVariants as replies
 use Rattle.gix_odb_runs.specs.declared.record.Did.TheVariants.{Disk}
 use Rattle.gix_odb_calls.specs.declared.step.Outcome.TheVariants as outcomes
-use Rattle.gix_odb_runs.specs.Event.{Event, ToDisk, to_disk}
+use Rattle.gix_odb_runs.specs.Event.{Event}
+use Rattle.gix_odb_events.specs.declared.answer.Ask.TheVariants as work_asks
+use Rattle.gix_odb_looks.specs.LookUpOrder.{loose_ask}
 use Rattle.gix_odb_world.specs.Machines.{write_in}
 use Rattle.gix_odb_world.specs.Status.{IsAtWrite, Running, Working, status_of}
 use Rattle.gix_odb_world.specs.Headline.{outcome_of}
@@ -150,8 +152,8 @@ module _ (run : LawfulRun) where
       → (writes : IsWriting first (take place events) handle running call)
       (works : CallsDisk first (take place events) handle running e) → works.ask ≡ ask_at_stage writes.write writes.stage
   ask_of_write place e handle running call write writes works =
-      let asks_it : Some (ToDisk works.ask) ≡ Some (ToDisk (ask_at_stage writes.write writes.stage)) =
-      sym works.asks ∙ (asks_as_write running.store running.work call write ∙ ap (λ f. to_disk (disk_ask_of f)) writes.is) in
+      let asks_it : Some (work_asks.Disk works.ask) ≡ Some (work_asks.Disk (ask_at_stage writes.write writes.stage)) =
+      sym works.asks ∙ (asks_as_write running.store running.work call write ∙ ap (λ f. loose_ask (disk_ask_of f)) writes.is) in
       cc asks_it
 
   pub moves_of : (place : ℕ) (e : Event) (handle : ℕ) (running : Running) (call : LooseCall) → write_in running.work ≡ Some call

@@ -25,7 +25,8 @@ use Rattle.gix_odb.specs.declared.open_state.OpenState.TheVariants as opens
 use Rattle.gix_odb_calls.specs.declared.step.Outcome.TheVariants as outcomes
 use Rattle.gix_odb_world.specs.declared.work.Work.{Work}
 use Rattle.gix_odb_world.specs.declared.work.Work.TheVariants.{Opening}
-use Rattle.gix_odb_runs.specs.Event.{Answer}
+use Rattle.gix_odb_events.specs.declared.answer.Answer.{Answer}
+use Rattle.gix_odb_events.specs.declared.answer.Answer.TheVariants as told
 use Rattle.gix_odb_world.specs.Headline.{outcome_of}
 use Rattle.gix_odb_world.specs.Machine.{placed}
 use Rattle.gix_odb_world.specs.Machines.{fed_in}
@@ -111,7 +112,7 @@ module _ (reply : Reply) where
   by_listing percent minimum listed.Broken is = by_error (opening_errors.LoadIndex load_errors.Io) is
 
 pub answered_refuses : (objects : Path) (folders : List Path) (slots : Slots) (state : OpenState) (answer : DiskAnswer) (reply : Reply) → IsOn state
-    → fed objects folders slots state answer ≡ opens.Done reply → refuses_opening reply ≡ true
+    → fed objects folders slots state (told.Disk answer) ≡ opens.Done reply → refuses_opening reply ≡ true
 answered_refuses objects folders slots opens.Looking answer reply on is = by_look reply objects slots answer is
 answered_refuses objects folders slots (opens.Listing lister percent minimum) answer reply on is =
     by_listing reply percent minimum (lists.fed folders lister answer) is

@@ -7,8 +7,8 @@ use Rattle.odb_asks.specs.MemDisk.{Volume}
 use Rattle.gix_odb_core.specs.History.{History, opened, present}
 use Rattle.gix_odb_core.specs.Replay.{CanHappen}
 use Rattle.gix_odb_events.specs.declared.event.Event.TheVariants as core_events
-use Rattle.gix_odb_events.specs.declared.answer.PartAsk.{PartAsk}
-use Rattle.gix_odb_events.specs.declared.answer.PartAsk.TheVariants as parts
+use Rattle.gix_odb_events.specs.declared.answer.Ask.{Ask}
+use Rattle.gix_odb_events.specs.declared.answer.Ask.TheVariants as parts
 use Rattle.odb_asks.specs.declared.ask.DiskAsk.{DiskAsk}
 use Rattle.gix_odb_calls.specs.declared.call.Reply.{Reply}
 use Rattle.gix_odb_calls.specs.declared.call.Reply.TheVariants as replies
@@ -33,7 +33,8 @@ use Rattle.gix_odb_world.specs.declared.work.Work.TheVariants.{Opening, Calling}
 use Rattle.gix_odb_world.specs.Asks.{AsksAsTask, MayAskCore, MayAskNewCore}
 use Rattle.gix_odb_world.specs.AtWork.{MakeCall, OpenStore, Running, Store, Task, modes_after, setting_in}
 use Rattle.gix_odb_runs.specs.Cores.{cores_after, history_at}
-use Rattle.gix_odb_runs.specs.Event.{Ask, Asked, CoreAnswer, CoreEvent, Event, OfNewCore, OfNothing, ToCore, ToDisk, ToNewCore, answered, part_asked, to_disk}
+use Rattle.gix_odb_runs.specs.Event.{Asked, CoreAnswer, CoreEvent, Event, OfNewCore, OfNothing, answered}
+use Rattle.gix_odb_looks.specs.LookUpOrder.{loose_ask}
 use Rattle.gix_odb_world.specs.Headline.{IsLawful, IsTurn, Law, Suits, Works, asked_applied, asked_by_clone, asked_by_close, stand_of}
 use Rattle.gix_odb_world.specs.Machines.{ask_in, fed_in}
 use Rattle.gix_odb_world.specs.Promise.{Promise}
@@ -187,12 +188,7 @@ module _ (first : Volume) (past : List Event) (e : Event) (lawful : IsLawful fir
 
     -- what work asks a core for can happen, and is what was read
     module _ (event : CoreEvent) where
-      event_of : (asked : Option PartAsk) → part_asked asked ≡ Some (ToCore event) → asked ≡ Some (parts.Core event)
-      event_of None is = absurd (cc is)
-      event_of (Some (parts.Disk ask)) is = absurd (cc is)
-      event_of (Some (parts.Core own)) is = let same : own ≡ event = cc is in ap (λ x. Some (parts.Core x)) same
-
-      handed_by : (work : Work) → ask_in running.store work ≡ Some (ToCore event) → Knows first past number running work
+      handed_by : (work : Work) → ask_in running.store work ≡ Some (parts.Core event) → Knows first past number running work
           → IsHanded (ShownSince first past running.store) (setting_in running.store) running.store.hash event × CanHappen (present (history_at cores running.modes.core)) number event
       handed_by (Opening opens.Looking) is knows = absurd (cc is)
       handed_by (Opening (opens.Listing lister percent minimum)) is knows = absurd (cc is)
@@ -200,7 +196,7 @@ module _ (first : Volume) (past : List Event) (e : Event) (lawful : IsLawful fir
       handed_by (Opening (opens.Done reply)) is knows = absurd (cc is)
       handed_by (Calling (Refused error)) is knows = absurd (cc is)
       handed_by (Calling (Refreshing refresh call)) is knows =
-          let asked = ap refreshes.ask_of (sym knows.refresh_is) ∙ event_of (refreshes.ask_of refresh) is in
+          let asked = ap refreshes.ask_of (sym knows.refresh_is) ∙ is in
           let setting = setting_in running.store in
           let snapshot = view_then past number running.modes.core running.begun in
           let exchanges = told_since past number running.begun in (
@@ -209,11 +205,11 @@ module _ (first : Volume) (past : List Event) (e : Event) (lawful : IsLawful fir
           )
       handed_by (Calling (Writing call)) is knows = absurd (no_event (disk_ask_of call) is)
         where
-          no_event : (asked : Option DiskAsk) → ¬ (to_disk asked ≡ Some (ToCore event))
+          no_event : (asked : Option DiskAsk) → ¬ (loose_ask asked ≡ Some (parts.Core event))
           no_event None is = cc is
           no_event (Some ask) is = cc is
       handed_by (Calling (Looking look)) is knows =
-          let asked = ap looks.ask_of (sym knows.is) ∙ event_of (looks.ask_of look) is in
+          let asked = ap looks.ask_of (sym knows.is) ∙ is in
           let setting = setting_in running.store in
           let id = sought running.store.parts running.modes.ignoring knows.query in
           let view = view_then past number running.modes.core running.begun in
@@ -264,7 +260,7 @@ module _ (first : Volume) (past : List Event) (e : Event) (lawful : IsLawful fir
       rests : (reply : Reply) → e.outcome ≡ outcomes.Reply reply → refuses_opening reply ≡ false → slice_get stores (modes_after e.asked running.modes).core ≡ Some running.store
       goes : OwnsAt stores running.store (modes_after e.asked running.modes) running.task
 
-    grown_by_new : (slots folders : ℕ) → e.asked ≡ told (Some (ToNewCore slots folders)) → (task : Task) → running.task ≡ task
+    grown_by_new : (slots folders : ℕ) → e.asked ≡ told (Some (parts.NewCore slots folders)) → (task : Task) → running.task ≡ task
         → MayAskNewCore past number running.store running.begun task slots folders → TurnGrows
     grown_by_new slots folders is (MakeCall call) task_is may = absurd may
     grown_by_new slots folders is OpenStore task_is may =
@@ -286,19 +282,19 @@ module _ (first : Volume) (past : List Event) (e : Event) (lawful : IsLawful fir
       rests = rests_by OfNothing is refl (λ slots folders core seat answer same. cc same) running.task refl owned_now;
       goes = goes_by OfNothing is refl running.task owned_now;
     }
-    turn_grows (Some (ToDisk ask)) is asks order = record {
+    turn_grows (Some (parts.Disk ask)) is asks order = record {
       stores = before.stores;
-      grows = grown_same first past e before (told (Some (ToDisk ask))) is refl;
-      rests = rests_by (told (Some (ToDisk ask))) is refl (λ slots folders core seat answer same. cc same) running.task refl owned_now;
-      goes = goes_by (told (Some (ToDisk ask))) is refl running.task owned_now;
+      grows = grown_same first past e before (told (Some (parts.Disk ask))) is refl;
+      rests = rests_by (told (Some (parts.Disk ask))) is refl (λ slots folders core seat answer same. cc same) running.task refl owned_now;
+      goes = goes_by (told (Some (parts.Disk ask))) is refl running.task owned_now;
     }
-    turn_grows (Some (ToCore event)) is asks order =
+    turn_grows (Some (parts.Core event)) is asks order =
         let own = handed_by event running.work asks knows in
         record {
           stores = before.stores;
           grows = grown_core first past e before running.modes.core number event is own.1 (λ store has. one_store store has order own.0);
-          rests = rests_by (told (Some (ToCore event))) is refl (λ slots folders core seat answer same. cc same) running.task refl owned_now;
-          goes = goes_by (told (Some (ToCore event))) is refl running.task owned_now;
+          rests = rests_by (told (Some (parts.Core event))) is refl (λ slots folders core seat answer same. cc same) running.task refl owned_now;
+          goes = goes_by (told (Some (parts.Core event))) is refl running.task owned_now;
         }
       where
         -- the core of the handle is that of its own store alone
@@ -315,7 +311,7 @@ module _ (first : Volume) (past : List Event) (e : Event) (lawful : IsLawful fir
                 → slice_get before.stores running.modes.core ≡ Some running.store
             owned_by OpenStore may owns = absurd may
             owned_by (MakeCall call) may owns = owns
-    turn_grows (Some (ToNewCore slots folders)) is asks order = grown_by_new slots folders is running.task refl order
+    turn_grows (Some (parts.NewCore slots folders)) is asks order = grown_by_new slots folders is running.task refl order
 
     grown : TurnGrows
     grown = turn_grows works.ask works.told works.asks works.in_order

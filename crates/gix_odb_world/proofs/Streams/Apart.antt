@@ -9,8 +9,8 @@ use Rattle.gix_odb_loose.specs.LooseOrder.{disk_ask_of}
 use Rattle.gix_odb_loose.proofs.StillAskLaws.{call_asks_still}
 use Rattle.gix_odb_packs.specs.ListOrder as lists
 use Rattle.gix_odb_packs.specs.PackFolder.{pack_folder}
-use Rattle.gix_odb_events.specs.declared.answer.PartAsk.{PartAsk}
-use Rattle.gix_odb_events.specs.declared.answer.PartAsk.TheVariants as parts
+use Rattle.gix_odb_events.specs.declared.answer.Ask.{Ask}
+use Rattle.gix_odb_events.specs.declared.answer.Ask.TheVariants as parts
 use Rattle.gix_odb_looks.specs.LookUpOrder as looks
 use Rattle.gix_odb_looks.specs.OpenStream.{IsOnStream}
 use Rattle.gix_odb_looks.specs.Stream.{Stream, stream_in}
@@ -26,7 +26,8 @@ use Rattle.gix_odb.specs.declared.open_state.OpenState.TheVariants as opens
 use Rattle.gix_odb_world.specs.declared.work.Work.{Work}
 use Rattle.gix_odb_world.specs.declared.work.Work.TheVariants.{Opening, Calling}
 use Rattle.gix_odb_world.specs.AtWork.{Running, setting_in}
-use Rattle.gix_odb_runs.specs.Event.{Event, ToDisk, part_asked, to_disk}
+use Rattle.gix_odb_runs.specs.Event.{Event}
+use Rattle.gix_odb_looks.specs.LookUpOrder.{loose_ask}
 use Rattle.gix_odb_world.specs.Machines.{ask_in}
 use Rattle.gix_odb_world.specs.Running.{Knows}
 use Rattle.gix_odb_world.specs.Status.{Working, status_of}
@@ -60,17 +61,12 @@ still_asks events handle running ask still = record {
     on_none (asks.Rename from to) still dir is = is
     on_none (asks.Remove path) still dir is = is
 
-call_of_part : (asked : Option PartAsk) (ask : DiskAsk) → part_asked asked ≡ Some (ToDisk ask) → asked ≡ Some (parts.Disk ask)
-call_of_part None ask is = absurd (cc is)
-call_of_part (Some (parts.Disk own)) ask is = let same : own ≡ ask = cc is in ap (λ a. Some (parts.Disk a)) same
-call_of_part (Some (parts.Core event)) ask is = absurd (cc is)
-
-call_of_disk : (asked : Option DiskAsk) (ask : DiskAsk) → to_disk asked ≡ Some (ToDisk ask) → asked ≡ Some ask
+call_of_disk : (asked : Option DiskAsk) (ask : DiskAsk) → loose_ask asked ≡ Some (parts.Disk ask) → asked ≡ Some ask
 call_of_disk None ask is = absurd (cc is)
 call_of_disk (Some own) ask is = let same : own ≡ ask = cc is in ap (λ a. Some a) same
 
 -- a call on a stream is for its next entry, or closes it
-on_stream : (asked : Option PartAsk) (ask : DiskAsk) → asked ≡ Some (parts.Disk ask) → (dir : ℕ) → IsOnStream dir ask
+on_stream : (asked : Option Ask) (ask : DiskAsk) → asked ≡ Some (parts.Disk ask) → (dir : ℕ) → IsOnStream dir ask
     → (asked ≡ Some (parts.Disk (asks.NextEntry dir))) ⊎ (asked ≡ Some (parts.Disk (asks.CloseDir dir)))
 on_stream asked (asks.NextEntry other) is dir same = inl (is ∙ ap (λ n. Some (parts.Disk (asks.NextEntry n))) same)
 on_stream asked (asks.CloseDir other) is dir same = inr (is ∙ ap (λ n. Some (parts.Disk (asks.CloseDir n))) same)
@@ -84,7 +80,7 @@ on_stream asked (asks.Rename from to) is dir never = absurd never
 on_stream asked (asks.Remove path) is dir never = absurd never
 
 pub asks_own : (first : Volume) (events : List Event) (handle : ℕ) (running : Running) (work : Work) → Knows first events handle running work → (ask : DiskAsk)
-    → ask_in running.store work ≡ Some (ToDisk ask) → AsksOwn events handle running ask
+    → ask_in running.store work ≡ Some (parts.Disk ask) → AsksOwn events handle running ask
 asks_own first events handle running (Opening opens.Looking) knows ask is =
     let same : asks.Look running.store.parts.objects true ≡ ask = cc is in still_asks events handle running ask (ap is_of_streams (sym same))
 asks_own first events handle running (Opening (opens.Listing lister percent minimum)) knows ask is =
@@ -109,7 +105,7 @@ asks_own first events handle running (Calling (Refreshing refresh call)) knows a
     let exchanges = told_since events handle running.begun in
     let snapshot = view_then events handle running.modes.core running.begun in
     let asked : refreshes.ask_of (refresh_now events handle running.store running.modes running.begun) ≡ Some (parts.Disk ask) =
-    ap refreshes.ask_of (sym knows.refresh_is) ∙ call_of_part (refreshes.ask_of refresh) ask is in
+    ap refreshes.ask_of (sym knows.refresh_is) ∙ is in
     record {
       opens = λ path same. refreshes_open_folders_of_packs setting snapshot exchanges knows.asked knows.well.suited path (asked ∙ ap (λ a. Some (parts.Disk a)) same);
       on = λ dir on_it.
@@ -121,7 +117,7 @@ asks_own first events handle running (Calling (Writing call)) knows ask is =
     still_asks events handle running ask (call_asks_still call ask (call_of_disk (disk_ask_of call) ask is))
 asks_own first events handle running (Calling (Looking look)) knows ask is =
     let asked : looks.ask_of (look_now events handle running.store running.modes running.begun knows.query) ≡ Some (parts.Disk ask) =
-    ap looks.ask_of (sym knows.is) ∙ call_of_part (looks.ask_of look) ask is in
+    ap looks.ask_of (sym knows.is) ∙ is in
     record {
       opens = λ path same.
           look_ups_open_folders_of_packs (ShownSince first events running.store) (setting_in running.store) running.store.hash knows.query

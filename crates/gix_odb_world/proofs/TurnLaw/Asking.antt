@@ -11,7 +11,9 @@ use Rattle.gix_odb_calls.specs.declared.step.Step.TheVariants as steps
 use Rattle.gix_odb_world.specs.declared.work.Work.{Work}
 use Rattle.gix_odb_world.specs.Asks.{AsksAsTask}
 use Rattle.gix_odb_world.specs.Changes.{ChangesAsAsked}
-use Rattle.gix_odb_runs.specs.Event.{Ask, Asked, OfCore, OfDisk, OfNewCore, OfNothing, ToCore, ToDisk, ToNewCore, Event}
+use Rattle.gix_odb_runs.specs.Event.{Asked, OfCore, OfDisk, OfNewCore, OfNothing, Event}
+use Rattle.gix_odb_events.specs.declared.answer.Ask.{Ask}
+use Rattle.gix_odb_events.specs.declared.answer.Ask.TheVariants as parts
 use Rattle.gix_odb_world.specs.Headline.{FailsAsListed, Suits, outcome_of, stand_of}
 use Rattle.gix_odb_runs.specs.PathRecorded.{path_recorded}
 use Rattle.gix_odb_runs.specs.Run.{IsTurnOf, NoCall, Stand, change_asked, did_asked, did_of_asked, disk_after, told_now}
@@ -31,23 +33,23 @@ suits_turn number (Err work) (OfNewCore slots folders store seat answer) ends = 
 -- what tells nothing was asked for nothing
 pub told_nothing : (at : Stand) (disk : Volume) (ask : Option Ask) → told_now at disk ask ≡ OfNothing → ask ≡ None
 told_nothing at disk None is = refl
-told_nothing at disk (Some (ToDisk ask)) is = absurd (cc is)
-told_nothing at disk (Some (ToCore event)) is = absurd (cc is)
-told_nothing at disk (Some (ToNewCore slots folders)) is = absurd (cc is)
+told_nothing at disk (Some (parts.Disk ask)) is = absurd (cc is)
+told_nothing at disk (Some (parts.Core event)) is = absurd (cc is)
+told_nothing at disk (Some (parts.NewCore slots folders)) is = absurd (cc is)
 
 -- the record says that a call of the disk failed exactly where its number is listed
 pub did_told : (opened : Option Path) (at : Stand) (disk : Volume) (ask : Option Ask)
     → did_of_asked opened at.cores (told_now at disk ask) ≡ did_asked opened at disk ask
 did_told opened at disk None = refl
-did_told opened at disk (Some (ToDisk ask)) = ap (Disk (op_of ask) (path_recorded opened ask)) (has_failed-now disk ask)
-did_told opened at disk (Some (ToCore event)) = refl
-did_told opened at disk (Some (ToNewCore slots folders)) = refl
+did_told opened at disk (Some (parts.Disk ask)) = ap (Disk (op_of ask) (path_recorded opened ask)) (has_failed-now disk ask)
+did_told opened at disk (Some (parts.Core event)) = refl
+did_told opened at disk (Some (parts.NewCore slots folders)) = refl
 
 pub fails_listed : (at : Stand) (disk : Volume) (ask : Option Ask) → FailsAsListed disk (told_now at disk ask)
 fails_listed at disk None = tt
-fails_listed at disk (Some (ToDisk ask)) = has_failed-now disk ask
-fails_listed at disk (Some (ToCore event)) = tt
-fails_listed at disk (Some (ToNewCore slots folders)) = tt
+fails_listed at disk (Some (parts.Disk ask)) = has_failed-now disk ask
+fails_listed at disk (Some (parts.Core event)) = tt
+fails_listed at disk (Some (parts.NewCore slots folders)) = tt
 
 -- a record that tells no call
 no_call : (opened : Option Path) (at : Stand) (disk : Volume) (ask : Option Ask) (did : Did) → did ≡ did_asked opened at disk ask → NoCall (did_asked opened at disk ask)
@@ -61,13 +63,13 @@ pub turn_asking : (first : Volume) (events : List Event) (e : Event) (handle : �
     → IsTurnAsking first events e handle running ask
 turn_asking first events e handle running opened None turn did asked change tree =
     record { turn = turn; did = no_call opened (stand_of events handle running) (disk_after first events) None e.entry.did did tt; asked = asked; change = change; tree = tree }
-turn_asking first events e handle running opened (Some (ToDisk ask)) turn did asked change tree = record { turn = turn; did = (opened, did); asked = asked; change = change; tree = tree }
-turn_asking first events e handle running opened (Some (ToCore event)) turn did asked change tree =
-    record { turn = turn; did = no_call opened (stand_of events handle running) (disk_after first events) (Some (ToCore event)) e.entry.did did tt; asked = asked; change = change; tree = tree }
-turn_asking first events e handle running opened (Some (ToNewCore slots folders)) turn did asked change tree =
+turn_asking first events e handle running opened (Some (parts.Disk ask)) turn did asked change tree = record { turn = turn; did = (opened, did); asked = asked; change = change; tree = tree }
+turn_asking first events e handle running opened (Some (parts.Core event)) turn did asked change tree =
+    record { turn = turn; did = no_call opened (stand_of events handle running) (disk_after first events) (Some (parts.Core event)) e.entry.did did tt; asked = asked; change = change; tree = tree }
+turn_asking first events e handle running opened (Some (parts.NewCore slots folders)) turn did asked change tree =
     record {
       turn = turn;
-      did = no_call opened (stand_of events handle running) (disk_after first events) (Some (ToNewCore slots folders)) e.entry.did did tt;
+      did = no_call opened (stand_of events handle running) (disk_after first events) (Some (parts.NewCore slots folders)) e.entry.did did tt;
       asked = asked;
       change = change;
       tree = tree;
@@ -77,13 +79,13 @@ module _ (first : Volume) (events : List Event) (handle : ℕ) (running : Runnin
   pub order_of : (ask : Option Ask) → TakesTurn first events handle running task ask
       → AsksAsTask first events handle running.store running.modes running.begun running.turns task ask
   order_of None takes = takes
-  order_of (Some (ToDisk ask)) takes = takes.in_order
-  order_of (Some (ToCore event)) takes = takes
-  order_of (Some (ToNewCore slots folders)) takes = takes
+  order_of (Some (parts.Disk ask)) takes = takes.in_order
+  order_of (Some (parts.Core event)) takes = takes
+  order_of (Some (parts.NewCore slots folders)) takes = takes
 
   pub five_of : (ask : Option Ask) → TakesTurn first events handle running task ask
       → ChangesAsAsked first events handle running.store running.begun task ask (change_asked (disk_after first events) ask)
   five_of None takes = refl
-  five_of (Some (ToDisk ask)) takes = takes.five
-  five_of (Some (ToCore event)) takes = refl
-  five_of (Some (ToNewCore slots folders)) takes = refl
+  five_of (Some (parts.Disk ask)) takes = takes.five
+  five_of (Some (parts.Core event)) takes = refl
+  five_of (Some (parts.NewCore slots folders)) takes = refl

@@ -6,7 +6,8 @@ use Rattle.gix_odb_calls.specs.declared.call.Reply.{Reply}
 use Rattle.gix_odb_core.specs.Replay.{CanHappen}
 use Rattle.gix_odb_core.specs.declared.shape.Shape.{Shape}
 use Rattle.gix_odb_world.specs.declared.work.Work.{Work}
-use Rattle.gix_odb_runs.specs.Event.{Asked, CoreEvent, Event, ToCore, answered}
+use Rattle.gix_odb_runs.specs.Event.{Asked, CoreEvent, Event, answered}
+use Rattle.gix_odb_events.specs.declared.answer.Ask.TheVariants as parts
 use Rattle.gix_odb_world.specs.Machine.{At, Machine, placed}
 use Rattle.gix_odb_world.specs.Machines.{at, ask_in, fed_in}
 use Rattle.gix_odb_world.specs.Status.{Running, gone_on}
@@ -24,7 +25,7 @@ module _ (first : Volume) (events : List Event) (handle : ℕ) (running : Runnin
   end_of none = let ends = (laws_at work).turns.ends first events handle running (at work).state knows none in (ends.0, ap (placed (at work).machine) ends.1)
 
   -- an event of a core that it asks for can happen there
-  pub event_of : (event : CoreEvent) → ask_in running.store work ≡ Some (ToCore event) → (shape : Shape) (seat : ℕ) → CanHappen shape seat event
+  pub event_of : (event : CoreEvent) → ask_in running.store work ≡ Some (parts.Core event) → (shape : Shape) (seat : ℕ) → CanHappen shape seat event
   event_of event is shape seat = (laws_at work).turns.happens first events handle running (at work).state knows event is shape seat
 
 -- what a machine comes to, among all work

@@ -12,8 +12,8 @@ use Rattle.gix_odb_events.specs.declared.view.View.{View}
 use Rattle.gix_odb_loose.specs.declared.call.LooseCall.{LooseCall}
 use Rattle.gix_odb_loose.specs.declared.write_order.WriteStage.TheVariants.{Making}
 use Rattle.gix_odb_events.specs.declared.answer.Answer.TheVariants as told
-use Rattle.gix_odb_events.specs.declared.answer.PartAsk.{PartAsk}
-use Rattle.gix_odb_events.specs.declared.answer.PartAsk.TheVariants as parts
+use Rattle.gix_odb_events.specs.declared.answer.Ask.{Ask}
+use Rattle.gix_odb_events.specs.declared.answer.Ask.TheVariants as parts
 use Rattle.gix_odb_calls.specs.declared.load_index.Error as load
 use Rattle.gix_odb_calls.specs.declared.load_index.Error.TheVariants as load_errors
 use Rattle.gix_odb_events.specs.declared.event.Refusal.TheVariants as refusals
@@ -34,7 +34,7 @@ use Rattle.gix_odb_world.specs.AtWork.{MakeCall, Running, Store, setting_in}
 use Rattle.gix_odb_looks.specs.Laps.{turns_of_lap}
 use Rattle.gix_odb_world.specs.Bound.{HasAtMost, bound_of_task, laps_without_change, turns_beside_pieces}
 use Rattle.gix_odb_runs.specs.Cores.{answer_behind, cores_after, history_at}
-use Rattle.gix_odb_runs.specs.Event.{Asked, CoreAnswer, CoreEvent, Event, OfCore, OfDisk, ToCore, ToDisk}
+use Rattle.gix_odb_runs.specs.Event.{Asked, CoreAnswer, CoreEvent, Event, OfCore, OfDisk}
 use Rattle.gix_odb_world.specs.Promise.{Promise}
 use Rattle.gix_odb_runs.specs.Run.{IsTurnOf, change_by, disk_after, tree_at}
 use Rattle.gix_odb_world.specs.Refused.{LoadCause, RefusedSince}
@@ -76,7 +76,7 @@ module _ (first : Volume) (events : List Event) (handle : ℕ) (running : Runnin
 
   -- ---- what it asks for
 
-  module _ (ask : PartAsk) (is : refreshes.ask_of refresh ≡ Some ask) where
+  module _ (ask : Ask) (is : refreshes.ask_of refresh ≡ Some ask) where
     asks_now : refreshes.ask_of (refresh_now events handle store running.modes running.begun) ≡ Some ask
     asks_now = ap refreshes.ask_of (sym knows.refresh_is) ∙ is
 
@@ -167,7 +167,7 @@ module _ (first : Volume) (events : List Event) (handle : ℕ) (running : Runnin
       -- with the modes that the turn left, which have the same core
       module _ (asked : Asked) (core : (modes_after asked running.modes).core ≡ running.modes.core) (slots : (modes_after asked running.modes).slots ≡ running.modes.slots) where
         -- it goes on
-        goes_on : (own : Refresh) → next ≡ own → ((ask : PartAsk) × (refreshes.ask_of own ≡ Some ask))
+        goes_on : (own : Refresh) → next ≡ own → ((ask : Ask) × (refreshes.ask_of own ≡ Some ask))
             → MachineComes first events e handle running writing asked (Err (InFront own call))
         goes_on own same more = (
           record {
@@ -251,7 +251,7 @@ module _ (first : Volume) (events : List Event) (handle : ℕ) (running : Runnin
     -- ---- a call of the disk, and an event of the core of its store
 
     pub front_comes_on_disk : IsRunning first events handle running → (ask : DiskAsk) → refreshes.ask_of refresh ≡ Some (parts.Disk ask)
-        → IsTurnAsking first events e handle running (Some (ToDisk ask))
+        → IsTurnAsking first events e handle running (Some (parts.Disk ask))
         → Comes (OfDisk ask (answer_now (disk_after first events) ask))
         (refreshes.fed store.parts.objects store.parts.folders refresh (told.Disk (answer_now (disk_after first events) ask)))
     front_comes_on_disk ran ask is turn =
@@ -265,7 +265,7 @@ module _ (first : Volume) (events : List Event) (handle : ℕ) (running : Runnin
         (refreshes.fed store.parts.objects store.parts.folders refresh (told.Disk answer)) refl
 
     pub front_comes_on_core : (event : CoreEvent) → refreshes.ask_of refresh ≡ Some (parts.Core event)
-        → IsTurnAsking first events e handle running (Some (ToCore event))
+        → IsTurnAsking first events e handle running (Some (parts.Core event))
         → Comes (OfCore running.modes.core handle event (answer_behind (history_at (cores_after events) running.modes.core) handle event))
         (refreshes.fed store.parts.objects store.parts.folders refresh (told.Core (answer_behind (history_at (cores_after events) running.modes.core) handle event)))
     front_comes_on_core event is turn =

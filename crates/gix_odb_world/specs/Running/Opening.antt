@@ -10,7 +10,8 @@ use Rattle.gix_odb_world.specs.declared.work.Work.TheVariants.{Opening}
 use Rattle.gix_odb_world.specs.AtWork.{OpenStore, Running, Store, setting_in}
 use Rattle.gix_odb_world.specs.Bound.{turn_bound}
 use Rattle.gix_odb_world.specs.Causes.{Sometime, ShowsDirectory}
-use Rattle.gix_odb_runs.specs.Event.{Answer, Ask, Event, FromCore, FromDisk, ToNewCore, to_disk}
+use Rattle.gix_odb_runs.specs.Event.{Event}
+use Rattle.gix_odb_events.specs.declared.answer.Answer.{Answer}
 use Rattle.gix_odb_world.specs.Machine.{Machine}
 use Rattle.gix_odb_runs.specs.Run.{tree_at}
 use Rattle.gix_odb_world.specs.Running.Answered.{IsAnsweredWell}
@@ -36,25 +37,16 @@ pub record IsOpening (first : Volume) (events : List Event) (handle : ℕ) (runn
 
 -- ---- its machine
 
--- it asks for a core with the slots that it came to, and the store's folders
-abbrev pub ask_or : Store → Option ℕ → Option Ask → Option Ask
-ask_or store None asked = asked
-ask_or store (Some slots) asked = Some (ToNewCore slots (length (folder_list store.parts)))
-
-abbrev pub opening_ask : Store → OpenState → Option Ask
-opening_ask store state = ask_or store (openings.registers state) (to_disk (openings.ask_of store.parts.objects state))
-
 abbrev pub opening_fed : Store → OpenState → Option Answer → OpenState
 opening_fed store state None = state
-opening_fed store state (Some (FromDisk answer)) = openings.fed store.parts.objects store.parts.folders store.slots state answer
-opening_fed store state (Some (FromCore answer)) = openings.registered state
+opening_fed store state (Some answer) = openings.fed store.parts.objects store.parts.folders store.slots state answer
 
 -- an opening as a machine: one look, a listing where its indices are to be counted, the registration, and then its reply
 abbrev pub opening : Machine
 opening = record {
   State = OpenState;
   work = λ state. Opening state;
-  ask = opening_ask;
+  ask = λ store state. openings.ask_of store.parts.objects store.parts.folders state;
   feed = λ store state answer. openings.result_of (opening_fed store state answer);
   writes = λ state. None;
   IsFor = λ task state. task ≡ OpenStore;

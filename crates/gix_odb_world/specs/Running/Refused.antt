@@ -1,7 +1,7 @@
 -- What the core of a store refused a handle since its work began. No public clause needs more of it than its name.
 use Rattle.std.specs.Prelude.{ℕ, List, Err}
 use Rattle.gix_odb_events.specs.declared.answer.Answer.TheVariants as told
-use Rattle.gix_odb_events.specs.declared.answer.PartAsk.TheVariants as asks
+use Rattle.gix_odb_events.specs.declared.answer.Ask.TheVariants as asks
 use Rattle.gix_odb_events.specs.declared.event.Refusal.{Refusal}
 use Rattle.gix_odb_looks.specs.Exchange.{WasTold}
 use Rattle.gix_odb_runs.specs.Event.{CoreEvent, Event}

@@ -11,7 +11,6 @@ use Rattle.gix_odb_loose.specs.Exchanges.{Exchange}
 use Rattle.gix_odb_loose.specs.WriteAsks.{IsAlong, write_of}
 use Rattle.gix_odb_loose.specs.WriteOrder.{number_made, temp_path}
 use Rattle.gix_odb_loose.specs.LooseOrder.{disk_ask_of}
-use Rattle.gix_odb_loose.specs.LooseOrder as loose_order
 use Rattle.gix_odb_loose.specs.declared.call.LooseCall.{LooseCall}
 use Rattle.gix_odb_loose.specs.declared.call.Stage.TheVariants as loose_stages
 use Rattle.gix_odb_loose.specs.declared.write_at_hand.Onward.TheVariants.{Stage}
@@ -20,7 +19,7 @@ use Rattle.gix_odb_loose.specs.declared.write_order.WriteStage.{WriteStage}
 use Rattle.gix_odb_loose.specs.declared.write_order.WriteStage.TheVariants as write_stages
 use Rattle.gix_odb_calls.specs.declared.call.Reply.{Reply}
 use Rattle.gix_odb_calls.specs.declared.load_index.Error as load
-use Rattle.gix_odb_events.specs.declared.answer.PartAsk.{PartAsk}
+use Rattle.gix_odb_events.specs.declared.answer.Ask.{Ask}
 use Rattle.gix_odb_events.specs.PackFiles.{same_path}
 use Rattle.gix_odb_refresh.specs.RefreshOrder as refreshes
 use Rattle.gix_odb_refresh.specs.Refreshed.{AreAsked}
@@ -31,8 +30,10 @@ use Rattle.gix_odb.specs.Contents.{folder_list}
 use Rattle.gix_odb.specs.declared.call_state.CallState.TheVariants.{Refreshing, Refused, Writing}
 use Rattle.gix_odb_world.specs.declared.work.Work.{Work}
 use Rattle.gix_odb_world.specs.declared.work.Work.TheVariants.{Calling}
-use Rattle.gix_odb_runs.specs.Event.{Answer, Ask, Event, part_asked, to_disk}
-use Rattle.gix_odb_world.specs.Machine.{Machine, by_answer, by_part}
+use Rattle.gix_odb_runs.specs.Event.{Event}
+use Rattle.gix_odb_events.specs.declared.answer.Answer.{Answer}
+use Rattle.gix_odb_looks.specs.LookUpOrder.{loose_ask}
+use Rattle.gix_odb_world.specs.Machine.{Machine}
 use Rattle.gix_odb_world.specs.AtWork.{MakeCall, Running, Store, setting_in}
 use Rattle.gix_odb_looks.specs.Laps.{turns_of_lap}
 use Rattle.gix_odb_world.specs.Bound.{HasAtMost, bound_of_task}
@@ -40,7 +41,7 @@ use Rattle.gix_odb_runs.specs.Run.{tree_at}
 use Rattle.gix_odb_world.specs.Running.Answered.{IsAnsweredWell}
 use Rattle.gix_odb_world.specs.Running.Refused.{AreRefused}
 use Rattle.gix_odb_world.specs.Told.{refresh_begun, refresh_now, told_since, turns_in_front}
-use Rattle.gix_odb.specs.CallOrder.{result_of_write, unlisted}
+use Rattle.gix_odb.specs.CallOrder.{result_of_write, unlisted, written_on}
 use Rattle.gix_odb_runs.specs.Writing.{AskedAt, AskedSince, ChangedNothing, LeftAlone, TurnsMadeOnly, NoTurnRenamed, ToWrite, call_to_write, head_to_write}
 
 -- a write that has asked nothing
@@ -117,7 +118,7 @@ pub record IsInFront (first : Volume) (events : List Event) (handle : ℕ) (runn
   pub since : running.begun ≤ length events
   pub distinct : IsDistinct same_path (folder_list running.store.parts)
   pub refresh_is : refresh ≡ refresh_now events handle running.store running.modes running.begun
-  pub more : (ask : PartAsk) × (refreshes.ask_of refresh ≡ Some ask)
+  pub more : (ask : Ask) × (refreshes.ask_of refresh ≡ Some ask)
   pub asked : AreAsked (setting_in running.store) (refresh_begun events handle running.modes running.begun) (told_since events handle running.begun)
   pub turns : running.turns ≡ length (told_since events handle running.begun)
   pub well : IsAnsweredWell first events handle running.store running.begun
@@ -148,8 +149,8 @@ work_of (Own call) = Calling (Writing call)
 work_of (Unlisted error) = Calling (Refused error)
 
 abbrev pub write_asks : WriteState → Option Ask
-write_asks (InFront refresh call) = part_asked (refreshes.ask_of refresh)
-write_asks (Own call) = to_disk (disk_ask_of call)
+write_asks (InFront refresh call) = refreshes.ask_of refresh
+write_asks (Own call) = loose_ask (disk_ask_of call)
 write_asks (Unlisted error) = None
 
 abbrev pub own_result : Result Reply LooseCall → Result Reply WriteState
@@ -163,10 +164,10 @@ front_result call (fronts.Refused error) = Ok (unlisted error)
 front_result call refresh = Err (InFront refresh call)
 
 abbrev pub write_fed : Store → WriteState → Option Answer → Result Reply WriteState
-write_fed store (InFront refresh call) answer =
-    by_part (Err (InFront refresh call)) (λ told. front_result call (refreshes.fed store.parts.objects store.parts.folders refresh told)) answer
-write_fed store (Own call) answer =
-    by_answer (own_result (result_of_write call)) (λ told. own_result (result_of_write (loose_order.fed call told))) answer
+write_fed store (InFront refresh call) None = Err (InFront refresh call)
+write_fed store (InFront refresh call) (Some answer) = front_result call (refreshes.fed store.parts.objects store.parts.folders refresh answer)
+write_fed store (Own call) None = own_result (result_of_write call)
+write_fed store (Own call) (Some answer) = own_result (result_of_write (written_on call answer))
 write_fed store (Unlisted error) answer = Ok (unlisted error)
 
 abbrev pub writes_by : WriteState → Option LooseCall

@@ -5,7 +5,6 @@ ghost use Rattle.odb_nodes.specs.Tree.{tree_of};
 ghost use Rattle.odb_nodes.specs.Tree.Change.{changed};
 ghost use Rattle.gix_odb_shown.specs.Kept.{Fits};
 ghost use Rattle.gix_odb_shown.specs.Revealed.{IsRevealed};
-ghost use Rattle.gix_odb_runs.specs.Event.{part_asked};
 ghost use Rattle.gix_odb_runs.specs.Run.{change_asked};
 ghost use Rattle.gix_odb_world.specs.Table.{IsReasonNow, ask_by_handle, phase_of_handle, would_change_now};
 ghost use Rattle.gix_odb_world.specs.Valid as valid;
@@ -109,7 +108,7 @@ impl Course {
         requires fits { Fits self.now.shown (tree_of self.now.disk.state) }
         ensures why { IfOk result (λ judged. IsReasonNow self.now (Step.Turn number) (result_err judged)) }
         ensures asked { IfOk result (λ judged. IfOk judged (λ told. told.ask ≡ ask_by_handle (handle_at self.now number))) }
-        ensures change { IfOk result (λ judged. IfOk judged (λ told. told.change ≡ change_asked self.now.disk (part_asked told.ask))) }
+        ensures change { IfOk result (λ judged. IfOk judged (λ told. told.change ≡ change_asked self.now.disk told.ask)) }
         ensures tells { IfOk result (λ judged. IfOk judged (λ told. TellsChange self.now.shown.folders (tree_of self.now.disk.state) (would_change_now self.now (Step.Turn number)) told.revealed)) }
     {
         match self.handles.get(&number) {

@@ -6,12 +6,10 @@ use Rattle.gix_odb_calls.specs.declared.step.Outcome.TheVariants.{Misuse}
 use Rattle.gix_odb_calls.specs.declared.step.Step.TheVariants as steps
 use Rattle.gix_odb_world.specs.declared.course.Course.{Course}
 use Rattle.gix_odb_runs.specs.declared.record.Did.TheVariants.{Nothing}
-use Rattle.gix_odb_runs.specs.Event.{part_asked}
 use Rattle.gix_odb_runs.specs.Run.{change_asked}
 use Rattle.gix_odb_world.specs.Headline.{outcome_of}
 use Rattle.gix_odb_world.specs.Table.{CanHappenAt, Notes, ask_by_handle}
 use Rattle.gix_odb_world.specs.WorkOrder.{result_in}
-use Rattle.gix_odb_world.proofs.ExplainedFits.{fits_core}
 use Rattle.gix_odb_world.proofs.ExplainedSeats.{turn_can_happen}
 use Rattle.gix_odb_world.proofs.FitsLemmas.{fits_now}
 use Rattle.gix_odb_world.proofs.StepLemmas.{misused}
@@ -44,10 +42,6 @@ returns-in-Ok-clause-noted c =
           ∙ ap (λ outcomes. outcomes ++ outcome_of (result_in turn.done.work) ∷ []) (turn.keeps.settles.sets.outcomes ∙ c.in-Ok.ensures.sets.outcomes),
     )) c.carry_out.ensures.takes
 
--- for a store whose handle is to be registered a core can be made
-pub carry_out-requires-clause-fits : goal.carry_out-requires-clause-fits
-carry_out-requires-clause-fits c = fits_core c.args.self.now c.args.number c.in-Ok.state c.in-Ok.work c.in-Ok.ensures.taken c.requires.explained
-
 -- what was asked is what the work asks for that was taken out
 pub carry_out-requires-clause-asked : goal.carry_out-requires-clause-asked
 carry_out-requires-clause-asked c = c.requires.asked ∙ ap ask_by_handle c.in-Ok.ensures.taken
@@ -55,9 +49,9 @@ carry_out-requires-clause-asked c = c.requires.asked ∙ ap ask_by_handle c.in-O
 -- the change that was told is still the one that it makes
 pub carry_out-requires-clause-change : goal.carry_out-requires-clause-change
 carry_out-requires-clause-change c =
-    subst (λ (disk : Volume). c.args.judged.change ≡ change_asked disk (part_asked c.args.judged.ask)) (sym c.in-Ok.ensures.sets.disk) c.requires.change
+    subst (λ (disk : Volume). c.args.judged.change ≡ change_asked disk c.args.judged.ask) (sym c.in-Ok.ensures.sets.disk) c.requires.change
 
--- and an event of a core that it asks for can happen
+-- and an event of a core that it asks for can happen, or a core that it asks for be made
 pub carry_out-requires-clause-can_happen : goal.carry_out-requires-clause-can_happen
 carry_out-requires-clause-can_happen c =
     subst (λ (cores : Vec History Global). CanHappenAt cores.items c.args.number c.in-Ok.state c.args.judged.ask) (sym c.in-Ok.ensures.sets.cores)

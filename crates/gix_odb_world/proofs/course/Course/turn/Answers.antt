@@ -5,7 +5,6 @@ use Rattle.std.proofs.lemmas.Result.{on_ok_weaker}
 use Rattle.odb_nodes.specs.Tree.{tree_of}
 use Rattle.gix_odb_calls.specs.declared.step.Step.TheVariants as steps
 use Rattle.gix_odb_calls.specs.declared.step.Why.{Why}
-use Rattle.gix_odb_runs.specs.Event.{part_asked}
 use Rattle.gix_odb_runs.specs.Run.{change_asked}
 use Rattle.gix_odb_world.specs.Table.{IsReasonNow, ask_by_handle, would_change_now}
 use Rattle.gix_odb_world.specs.Watch.{TellsChange}
@@ -36,7 +35,7 @@ make_turn-requires-clause-asked c =
 
 pub make_turn-requires-clause-change : goal.make_turn-requires-clause-change
 make_turn-requires-clause-change c =
-    subst (λ (j : Result Judged Why). IfOk j (λ told. told.change ≡ change_asked c.args.self.now.disk (part_asked told.ask))) c.in-Ok.is c.in_ok-judged.ensures.change
+    subst (λ (j : Result Judged Why). IfOk j (λ told. told.change ≡ change_asked c.args.self.now.disk told.ask)) c.in-Ok.is c.in_ok-judged.ensures.change
 
 pub make_turn-requires-clause-tells : goal.make_turn-requires-clause-tells
 make_turn-requires-clause-tells c =
