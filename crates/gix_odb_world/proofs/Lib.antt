@@ -19,6 +19,7 @@ mod ExplainedLemmas
 mod ExplainedSeats
 mod EntryLemmas
 mod NameSteps
+mod RunLaws
 mod RunEnds
 mod KnowsLemmas
 pub mod MachineLaws

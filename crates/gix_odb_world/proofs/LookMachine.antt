@@ -93,7 +93,7 @@ looking_bounded : (store : Store) (modes : Modes) (task : Task) (query : Query) 
 looking_bounded store modes task query is entries =
     subst (λ t. bound_of_call store modes entries None ≡ bound_of_task store modes t entries) (sym is) (ap (bound_of_call store modes entries) (no_bytes query))
 
-looking_turns : KeepsTurnLaws looking
+looking_turns : KeepsTurnLaws looking IsLooking
 looking_turns = record {
   takes = takes;
   ends = ends;
@@ -101,9 +101,10 @@ looking_turns = record {
   comes = λ first events e handle running since ran look knows turn. comes_part first events handle running look knows e ran (ask_of look) refl turn;
 }
 
-pub looking_laws : KeepsLaws looking
+pub looking_laws : KeepsLaws looking IsLooking
 looking_laws = record {
   at_home = λ look. refl;
+  knows = λ first events handle running look knows. knows;
   asks = λ store modes code own look. refl;
   feeds = looking_feeds;
   starts = looking_starts;
@@ -111,6 +112,6 @@ looking_laws = record {
   bounded = λ store modes task look is entries. looking_bounded store modes task is.0 is.1 entries;
   kept = looking_kept;
   turns = looking_turns;
-  writes = writes_nothing looking (λ look. refl)
+  writes = writes_nothing looking IsLooking (λ look. refl)
       (λ first events handle running look ask knows is. quiet first events handle running look knows ask is);
 }

@@ -38,7 +38,7 @@ use Rattle.gix_odb_world.specs.Machine.{At, Machine, placed}
 use Rattle.gix_odb_world.specs.Machines.{at}
 use Rattle.gix_odb_world.specs.Promise.{Promise}
 use Rattle.gix_odb_runs.specs.Run.{IsTurnOf, NoCall, change_by, disk_after, told_now, tree_at}
-use Rattle.gix_odb_world.specs.Running.{Knows, RunsThroughout}
+use Rattle.gix_odb_world.specs.Running.{Knows, KnowsAt, RunsThroughout}
 use Rattle.gix_odb_world.specs.Running.Write.{IsWriting, write_at}
 use Rattle.gix_odb_runs.specs.Writing.{ToWrite}
 use Rattle.gix_odb_world.specs.Status.{MakeCall, OpenStore, Running, Store, Task, Working, begun_with, gone_on, running_from, status_of, Modes}
@@ -119,9 +119,9 @@ module _ (first : Volume) (events : List Event) (e : Event) (handle : ℕ) (runn
       → running.turns + 1 < bound running.store running.modes running.task entries
 
   -- the reply of a turn that asked so keeps its promise, or the machine goes on, knows as much and is within its bound
-  abbrev pub MachineComes : (m : Machine) → Asked → Result Reply m.State → Type 0
-  MachineComes m asked (Ok reply) = Keeps reply
-  MachineComes m asked (Err state) = m.Knows first whole handle (gone_on asked running (m.work state)) state × InTime m.bound
+  abbrev pub MachineComes : (m : Machine) → KnowsAt m → Asked → Result Reply m.State → Type 0
+  MachineComes m Known asked (Ok reply) = Keeps reply
+  MachineComes m Known asked (Err state) = Known first whole handle (gone_on asked running (m.work state)) state × InTime m.bound
 
   -- the same of any work, within the bound of its task
   abbrev pub ComesTo : Asked → Result Reply Work → Type 0
@@ -141,44 +141,46 @@ pub record HasNoFile (call : LooseCall) : Type 0 where
   pub is : call ≡ write_at write (Making number)
 
 -- What a machine has to show of the writes that it may be at. It need not be at one from its task on: another phase may come in front.
-pub record KeepsWriteLaws (m : Machine) : Type 1 where
+pub record KeepsWriteLaws (m : Machine) (Known : KnowsAt m) : Type 1 where
   -- where it writes nothing, its call of the disk changes nothing
   pub quiet : (first : Volume) (events : List Event) (handle : ℕ) (running : Running) (state : m.State) (ask : DiskAsk)
-      → m.Knows first events handle running state
+      → Known first events handle running state
       → m.writes state ≡ None → m.ask running.store state ≡ Some (work_asks.Disk ask) → change_by (disk_after first events) ask ≡ None
   -- where it writes, it knows what a write does, asks what the write asks, and ends where the write ends
   pub known : (first : Volume) (events : List Event) (handle : ℕ) (running : Running) (state : m.State) (call : LooseCall)
-      → m.Knows first events handle running state
+      → Known first events handle running state
       → m.writes state ≡ Some call → IsWriting first events handle running call
   pub asks : (store : Store) (state : m.State) (call : LooseCall) → m.writes state ≡ Some call → m.ask store state ≡ loose_ask (disk_ask_of call)
   pub ends : (store : Store) (state : m.State) (call : LooseCall) (answer : DiskAnswer) (reply : Reply) → m.writes state ≡ Some call
       → result_of_write (loose_order.fed call answer) ≡ Ok reply → m.feed store state (Some (given.Disk answer)) ≡ Ok reply
   -- a state that writes comes after one that does, unless its write has made no file yet
   pub before : (first : Volume) (events : List Event) (handle : ℕ) (running : Running) (state next : m.State) (answer : Option Answer) (call : LooseCall)
-      → m.Knows first events handle running state
+      → Known first events handle running state
       → m.feed running.store state answer ≡ Err next → m.writes next ≡ Some call
       → ((own : LooseCall) × (m.writes state ≡ Some own)) ⊎ HasNoFile call
 
 -- What a machine has to show of its turns.
-pub record KeepsTurnLaws (m : Machine) : Type 1 where
+pub record KeepsTurnLaws (m : Machine) (Known : KnowsAt m) : Type 1 where
   -- what it asks for comes in the order of its task, and makes a change that the task may make
-  pub takes : (first : Volume) (events : List Event) (handle : ℕ) (running : Running) (state : m.State) → m.Knows first events handle running state
+  pub takes : (first : Volume) (events : List Event) (handle : ℕ) (running : Running) (state : m.State) → Known first events handle running state
       → TakesTurn first events handle running running.task (m.ask running.store state)
   -- where it asks for nothing, it has its reply
-  pub ends : (first : Volume) (events : List Event) (handle : ℕ) (running : Running) (state : m.State) → m.Knows first events handle running state
+  pub ends : (first : Volume) (events : List Event) (handle : ℕ) (running : Running) (state : m.State) → Known first events handle running state
       → m.ask running.store state ≡ None → (reply : Reply) × (m.feed running.store state None ≡ Ok reply)
   -- an event of a core that it asks for can happen there
-  pub happens : (first : Volume) (events : List Event) (handle : ℕ) (running : Running) (state : m.State) → m.Knows first events handle running state
+  pub happens : (first : Volume) (events : List Event) (handle : ℕ) (running : Running) (state : m.State) → Known first events handle running state
       → (event : CoreEvent) → m.ask running.store state ≡ Some (work_asks.Core event) → (shape : Shape) (seat : ℕ) → CanHappen shape seat event
   -- the turn leads to a reply that keeps the promise of the task, or on
   pub comes : (first : Volume) (events : List Event) (e : Event) (handle : ℕ) (running : Running) → running.begun ≤ length events
-      → IsRunning first events handle running → (state : m.State) → m.Knows first events handle running state → IsTurnAsking first events e handle running (m.ask running.store state)
-      → MachineComes first events e handle running m (told_after first events handle running (m.ask running.store state))
+      → IsRunning first events handle running → (state : m.State) → Known first events handle running state → IsTurnAsking first events e handle running (m.ask running.store state)
+      → MachineComes first events e handle running m Known (told_after first events handle running (m.ask running.store state))
       (m.feed running.store state (answered (told_after first events handle running (m.ask running.store state))))
 
-pub record KeepsLaws (m : Machine) : Type 1 where
-  -- the work of a state is of this machine, at this state
+pub record KeepsLaws (m : Machine) (Known : KnowsAt m) : Type 1 where
+  -- the work of a state is of this machine, at this state, and knows what is known there
   pub at_home : (state : m.State) → at (m.work state) ≡ home m state
+  pub knows : (first : Volume) (events : List Event) (handle : ℕ) (running : Running) (state : m.State) → Known first events handle running state
+      → Knows first events handle running (m.work state)
   -- the code of the work asks and goes on as the machine does
   pub asks : (store : Store) (modes : Modes) (code : HandleState) → IsHandleOf store modes code → (state : m.State)
       → ask_on code (m.work state) ≡ m.ask store state
@@ -188,17 +190,17 @@ pub record KeepsLaws (m : Machine) : Type 1 where
   pub starts : (first : Volume) (events : List Event) (e : Event) (handle : ℕ) (store : Store) (modes : Modes) (task : Task) (state : m.State)
       → BeginsAs first (events ++ e ∷ []) handle store modes task
       → begun_with store modes task ≡ m.work state
-      → m.Knows first (events ++ e ∷ []) handle (running_from (length events + 1) task store modes) state
+      → Known first (events ++ e ∷ []) handle (running_from (length events + 1) task store modes) state
   -- the task of a state is one that it may be at, and has the machine's bound
-  pub tasked : (first : Volume) (events : List Event) (handle : ℕ) (running : Running) (state : m.State) → m.Knows first events handle running state
+  pub tasked : (first : Volume) (events : List Event) (handle : ℕ) (running : Running) (state : m.State) → Known first events handle running state
       → m.IsFor running.task state
   pub bounded : (store : Store) (modes : Modes) (task : Task) (state : m.State) → m.IsFor task state → (entries : ℕ)
       → m.bound store modes task entries ≡ bound_of_task store modes task entries
   -- an event that isn't its turn leaves what it knows
   pub kept : (first : Volume) (events : List Event) (e : Event) (handle : ℕ) (running : Running) (state : m.State) → ¬ (IsTurnOf handle e)
-      → m.Knows first events handle running state → m.Knows first (events ++ e ∷ []) handle running state
-  pub turns : KeepsTurnLaws m
-  pub writes : KeepsWriteLaws m
+      → Known first events handle running state → Known first (events ++ e ∷ []) handle running state
+  pub turns : KeepsTurnLaws m Known
+  pub writes : KeepsWriteLaws m Known
 
 -- ---- a call of the disk
 
@@ -210,11 +212,11 @@ no_event (Some ask) event is = cc is
 -- ---- machines that make no change
 
 -- one that never writes has only to show that its calls of the disk change nothing
-pub writes_nothing : (m : Machine) → ((state : m.State) → m.writes state ≡ None)
-    → ((first : Volume) (events : List Event) (handle : ℕ) (running : Running) (state : m.State) (ask : DiskAsk) → m.Knows first events handle running state
+pub writes_nothing : (m : Machine) (Known : KnowsAt m) → ((state : m.State) → m.writes state ≡ None)
+    → ((first : Volume) (events : List Event) (handle : ℕ) (running : Running) (state : m.State) (ask : DiskAsk) → Known first events handle running state
     → m.ask running.store state ≡ Some (work_asks.Disk ask) → change_by (disk_after first events) ask ≡ None)
-    → KeepsWriteLaws m
-writes_nothing m none quiet = record {
+    → KeepsWriteLaws m Known
+writes_nothing m Known none quiet = record {
   quiet = λ first events handle running state ask knows no asks. quiet first events handle running state ask knows asks;
   known = λ first events handle running state call knows is. absurd (none_written state call is);
   asks = λ store state call is. absurd (none_written state call is);

@@ -133,7 +133,7 @@ opening_ends first events handle running (opens.Done reply) knows none = absurd 
 
 opening_comes : (first : Volume) (events : List Event) (e : Event) (handle : ℕ) (running : Running) → IsRunning first events handle running
     → (state : OpenState) → IsOpening first events handle running state → IsTurnAsking first events e handle running (opening.ask running.store state)
-    → MachineComes first events e handle running opening (told_after first events handle running (opening.ask running.store state))
+    → MachineComes first events e handle running opening IsOpening (told_after first events handle running (opening.ask running.store state))
     (opening.feed running.store state (answered (told_after first events handle running (opening.ask running.store state))))
 opening_comes first events e handle running ran opens.Looking knows turn = look_comes first events e handle running ran knows turn
 opening_comes first events e handle running ran (opens.Listing lister percent minimum) knows turn =
@@ -141,7 +141,7 @@ opening_comes first events e handle running ran (opens.Listing lister percent mi
 opening_comes first events e handle running ran (opens.Registering slots) knows turn = registered first events e handle running ran slots knows turn
 opening_comes first events e handle running ran (opens.Done reply) knows turn = absurd knows.seen
 
-opening_turns : KeepsTurnLaws opening
+opening_turns : KeepsTurnLaws opening IsOpening
 opening_turns = record {
   takes = opening_takes;
   ends = opening_ends;
@@ -167,9 +167,10 @@ opening_quiet first events handle running (opens.Listing lister percent minimum)
 opening_quiet first events handle running (opens.Registering slots) ask knows is = absurd (cc is)
 opening_quiet first events handle running (opens.Done reply) ask knows is = absurd (cc is)
 
-pub opening_laws : KeepsLaws opening
+pub opening_laws : KeepsLaws opening IsOpening
 opening_laws = record {
   at_home = λ state. refl;
+  knows = λ first events handle running state knows. knows;
   asks = opening_asks;
   feeds = opening_feeds;
   starts = opening_starts;
@@ -177,5 +178,5 @@ opening_laws = record {
   bounded = λ store modes task state is entries. opening_bounded store modes task is entries;
   kept = opening_kept;
   turns = opening_turns;
-  writes = writes_nothing opening (λ state. refl) opening_quiet;
+  writes = writes_nothing opening IsOpening (λ state. refl) opening_quiet;
 }

@@ -11,9 +11,7 @@ use Rattle.gix_odb_calls.specs.declared.line.Line.{Line}
 use Rattle.gix_odb_calls.specs.declared.line.Line.TheVariants.{One, Finish}
 use Rattle.gix_odb_world.specs.declared.course.Course.{Course}
 use Rattle.gix_odb_runs.specs.Event.{Event}
-use Rattle.gix_odb_runs.specs.declared.record.Run.{Run}
-use Rattle.gix_odb_world.specs.Headline.{IsRun}
-use Rattle.gix_odb_world.specs.Play.{IsPlayed, Made, StandsFor, Plays, made_of}
+use Rattle.gix_odb_world.specs.Play.{Made, StandsFor, Plays, made_of}
 use Rattle.gix_odb_world.specs.Played.{Makes, MakesOne, PlaysTurns, PlaysLine, HasPlayed}
 use Rattle.gix_odb_world.specs.Table.{HasOneMore}
 use Rattle.gix_odb_world.specs.World.{Continues, Explains, IsRunOf}
@@ -171,16 +169,4 @@ has_played_more first old new line lines index last at within is at_is own playe
       plays = subst (λ ls. Plays 0 ls (made_of after new.outcomes) (last ++ at ∷ [])) (sym seen)
           (subst (λ ms. Plays 0 (take index lines ++ line ∷ []) ms (last ++ at ∷ [])) (sym made)
           (plays_more 0 (take index lines) line (made_of before old.outcomes) own.own last at place played.plays own.stands));
-    }
-
--- the lines so far are played by the run that the world comes to
-pub is_played : (first : Volume) (lines : List Line) (last : List ℕ) (world : Course) (run : Run) → HasPlayed first lines last world
-    → ((events : List Event) → Explains first events world → IsRun first events run) → IsPlayed first lines run last
-is_played first lines last world run played ends =
-    let is_run : IsRun first played.run.events run = ends played.run.events played.run.explains in
-    let same : world.outcomes ≡ run.outcomes = sym played.run.explains.outcomes ∙ is_run.outcomes_are in
-    record {
-      steps = played.steps;
-      headline = record { events = played.run.events; steps_are = played.run.steps_are; is_run = is_run };
-      plays = subst (λ o. Plays 0 lines (made_of played.steps o) last) same played.plays;
     }

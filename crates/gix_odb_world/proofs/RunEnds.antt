@@ -1,5 +1,5 @@
 -- The run that a world comes to.
-use Rattle.std.proofs.Common.{◌≡◌, ◌≤◌, List, length, map, ap, ◌∙◌, subst}
+use Rattle.std.proofs.Common.{◌≡◌, ℕ, ◌≤◌, List, length, map, sym, ap, ◌∙◌, subst}
 use Rattle.std.specs.List.{All}
 use Rattle.gix_odb_core.specs.History.{History}
 use Rattle.gix_odb_core.specs.Journal.{entries_of}
@@ -12,13 +12,18 @@ use Rattle.gix_odb_runs.specs.Event.{Event}
 use Rattle.gix_odb_world.specs.Headline.{Headline, IsRun}
 use Rattle.gix_odb_runs.specs.JournalKept.{IsJournal}
 use Rattle.gix_odb_runs.specs.declared.record.Run.{Run}
+use Rattle.gix_odb_calls.specs.declared.line.Line.{Line}
 use Rattle.gix_odb_calls.specs.declared.step.Step.{Step}
+use Rattle.gix_odb_world.specs.Play.{IsPlayed, Plays, made_of}
+use Rattle.gix_odb_world.specs.Played.{HasPlayed}
 use Rattle.gix_odb_world.specs.Seats.{HasSeatThroughout}
 use Rattle.gix_odb_world.specs.World.{Explains, IsRunOf}
 use Rattle.gix_odb_world.proofs.EntryLemmas.{each_entry_told}
 use Rattle.gix_odb_world.proofs.NameSteps.{names_stay_whole}
 use Rattle.gix_odb_world.proofs.LawfulRun.{LawfulRun}
 use Rattle.gix_odb_world.proofs.OneContent.{one_content_shown}
+use Rattle.gix_odb_world.proofs.RunLaws.{keeps_run_laws}
+use Rattle.gix_odb_world.proofs.RunLaws.FinishLaws.{lines_are_finished_in_time}
 use Rattle.gix_odb_world.proofs.SeatLemmas.{registers_own_throughout, seats_throughout}
 use Rattle.gix_odb_world.proofs.SeatLemmas.Snapshots.{snapshots_never_fall}
 use Rattle.gix_odb_world.proofs.StandAlone.{writes_stand_alone}
@@ -45,10 +50,9 @@ is_run world journals entries each few first events explains =
       registers_own = registers_own_throughout first events explains.lawful;
       snapshots = snapshots_never_fall events each_here seats;
       contents = one_content_shown lawful_run;
-      start = explains.start;
-      throughout = explains.throughout;
       alone = writes_stand_alone lawful_run;
       names = names_stay_whole lawful_run;
+      laws = keeps_run_laws first events (record { start = explains.start; lawful = explains.lawful; throughout = explains.throughout });
     }
 
 -- the run of some steps that were all made
@@ -57,3 +61,18 @@ pub headline_of : (first : Volume) (made : List Step) (steps : List Step) (world
     → Headline first steps run
 headline_of first made steps world run all own is =
     record { events = own.events; steps_are = own.steps_are ∙ all; is_run = is first own.events own.explains }
+
+-- the lines are played by the run that the world comes to, and those that finish what a handle is at end in time
+pub is_played : (first : Volume) (lines : List Line) (last : List ℕ) (world : Course) (run : Run) → HasPlayed first lines last world
+    → ((events : List Event) → Explains first events world → IsRun first events run) → IsPlayed first lines run last
+is_played first lines last world run played ends =
+    let events : List Event = played.run.events in
+    let is_run : IsRun first events run = ends events played.run.explains in
+    let same : world.outcomes ≡ run.outcomes = sym played.run.explains.outcomes ∙ is_run.outcomes_are in
+    let plays : Plays 0 lines (made_of played.steps run.outcomes) last = subst (λ o. Plays 0 lines (made_of played.steps o) last) same played.plays in
+    record {
+      steps = played.steps;
+      headline = record { events = events; steps_are = played.run.steps_are; is_run = is_run };
+      plays = plays;
+      in_time = lines_are_finished_in_time first events is_run.lawful played.steps played.run.steps_are run.outcomes is_run.outcomes_are lines last plays;
+    }

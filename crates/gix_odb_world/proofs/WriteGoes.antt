@@ -33,7 +33,7 @@ use Rattle.gix_odb_runs.specs.Event.{Event, OfDisk}
 use Rattle.gix_odb_world.specs.Status.{MakeCall, Running, gone_on}
 use Rattle.gix_odb_world.specs.Promise.{Promise}
 use Rattle.gix_odb_runs.specs.Run.{disk_after, tree_at}
-use Rattle.gix_odb_world.specs.Running.Write.{IsAtOwnWrite, IsWriting, own_result, writing}
+use Rattle.gix_odb_world.specs.Running.Write.{IsAtOwnWrite, IsWriting, KnowsOfWrite, own_result, writing}
 use Rattle.gix_odb_world.specs.Told.{refresh_now, told_since, turns_in_front}
 use Rattle.gix_odb_runs.specs.Writing.{ToWrite, call_to_write, head_to_write, to_write}
 use Rattle.gix_odb_world.specs.Written.{PromiseOfWrite}
@@ -166,7 +166,7 @@ module _ (first : Volume) (events : List Event) (e : Event) (handle : ℕ) (runn
         (subst (λ objects. PromiseOfWrite first whole handle running.store running.modes running.begun (to_write objects own.write.hash own.write.kind own.write.size own.write.bytes own.write.known) reply) own.into p))
 
     comes_to : (result : Result Reply LooseCall) → WriteComes call own result
-        → laws.MachineComes first events e handle running writing (OfDisk ask (answer_now (disk_after first events) ask)) (own_result result)
+        → laws.MachineComes first events e handle running writing KnowsOfWrite (OfDisk ask (answer_now (disk_after first events) ask)) (own_result result)
     comes_to (Ok reply) p = keeps reply p
     comes_to (Err next) on =
         let had = at.turns in
@@ -186,6 +186,6 @@ module _ (first : Volume) (events : List Event) (e : Event) (handle : ℕ) (runn
           in_time on.few,
         )
 
-    pub write_comes : laws.MachineComes first events e handle running writing (OfDisk ask (answer_now (disk_after first events) ask))
+    pub write_comes : laws.MachineComes first events e handle running writing KnowsOfWrite (OfDisk ask (answer_now (disk_after first events) ask))
         (own_result (result_of_write (loose_order.fed call (answer_now (disk_after first events) ask))))
     write_comes = comes_to (result_of_write (loose_order.fed call (answer_now (disk_after first events) ask))) (write_goes call own is)

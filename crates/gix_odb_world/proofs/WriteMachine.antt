@@ -36,6 +36,7 @@ use Rattle.gix_odb_world.specs.Handle.{IsHandleOf}
 use Rattle.gix_odb_world.specs.Machine.{placed}
 use Rattle.gix_odb_world.specs.Machines.{at}
 use Rattle.gix_odb_runs.specs.Run.{IsTurnOf, change_by, disk_after}
+use Rattle.gix_odb_world.specs.Running.{Knows}
 use Rattle.gix_odb_world.specs.Running.Write.{InFront, IsAtOwnWrite, IsInFront, IsWriting, KnowsOfWrite, Own, Unlisted, WriteState, front_result, own_result, work_of}
 use Rattle.gix_odb_world.specs.Running.Write.{write_asks, write_at, write_fed, writes_by, writing}
 use Rattle.gix_odb_world.specs.Status.{MakeCall, Running, Store}
@@ -111,11 +112,11 @@ module _ (first : Volume) (events : List Event) (handle : ℕ) (running : Runnin
       }))
 
   own_comes : (e : Event) → IsTurnAsking first events e handle running (loose_ask (disk_ask_of call))
-      → MachineComes first events e handle running writing (told_after first events handle running (loose_ask (disk_ask_of call)))
+      → MachineComes first events e handle running writing KnowsOfWrite (told_after first events handle running (loose_ask (disk_ask_of call)))
       (writing.feed running.store (Own call) (answered (told_after first events handle running (loose_ask (disk_ask_of call)))))
   own_comes e =
       subst (λ a. IsTurnAsking first events e handle running a
-      → MachineComes first events e handle running writing (told_after first events handle running a) (writing.feed running.store (Own call) (answered (told_after first events handle running a))))
+      → MachineComes first events e handle running writing KnowsOfWrite (told_after first events handle running a) (writing.feed running.store (Own call) (answered (told_after first events handle running a))))
       (sym own_asks) (λ turn. write_comes first events e handle running knows.since call knows turn)
 
 -- ---- its turns
@@ -152,7 +153,7 @@ module _ (first : Volume) (events : List Event) (e : Event) (handle : ℕ) (runn
   abbrev FrontComes : Option Ask → Type 0
   FrontComes asked =
       IsTurnAsking first events e handle running asked
-      → MachineComes first events e handle running writing (told_after first events handle running asked)
+      → MachineComes first events e handle running writing KnowsOfWrite (told_after first events handle running asked)
       (write_fed running.store (InFront refresh call) (answered (told_after first events handle running asked)))
 
   front_comes : IsRunning first events handle running → IsInFront first events handle running refresh call → (ask : Ask)
@@ -163,14 +164,14 @@ module _ (first : Volume) (events : List Event) (e : Event) (handle : ℕ) (runn
 
 write_comes_to : (first : Volume) (events : List Event) (e : Event) (handle : ℕ) (running : Running) → IsRunning first events handle running
     → (state : WriteState) → KnowsOfWrite first events handle running state → IsTurnAsking first events e handle running (write_asks state)
-    → MachineComes first events e handle running writing (told_after first events handle running (write_asks state))
+    → MachineComes first events e handle running writing KnowsOfWrite (told_after first events handle running (write_asks state))
     (write_fed running.store state (answered (told_after first events handle running (write_asks state))))
 write_comes_to first events e handle running ran (InFront refresh call) knows =
     front_comes first events e handle running refresh call ran knows knows.more.0 knows.more.1
 write_comes_to first events e handle running ran (Own call) knows = own_comes first events handle running call knows e
 write_comes_to first events e handle running ran (Unlisted error) knows = absurd knows
 
-writing_turns : KeepsTurnLaws writing
+writing_turns : KeepsTurnLaws writing KnowsOfWrite
 writing_turns = record {
   takes = write_takes;
   ends = write_ends;
@@ -234,7 +235,7 @@ write_before first events handle running (InFront refresh own) next (Some answer
 write_before first events handle running (Own own) next answer call knows goes writes = inl (own, refl)
 write_before first events handle running (Unlisted error) next answer call knows goes writes = absurd knows
 
-writing_writes : KeepsWriteLaws writing
+writing_writes : KeepsWriteLaws writing KnowsOfWrite
 writing_writes = record {
   quiet = write_quiet;
   known = write_known;
@@ -309,9 +310,16 @@ write_at_home (InFront refresh call) = refl
 write_at_home (Own call) = refl
 write_at_home (Unlisted error) = refl
 
-pub writing_laws : KeepsLaws writing
+write_knows : (first : Volume) (events : List Event) (handle : ℕ) (running : Running) (state : WriteState) → KnowsOfWrite first events handle running state
+    → Knows first events handle running (work_of state)
+write_knows first events handle running (InFront refresh call) knows = knows
+write_knows first events handle running (Own call) knows = knows
+write_knows first events handle running (Unlisted error) knows = knows
+
+pub writing_laws : KeepsLaws writing KnowsOfWrite
 writing_laws = record {
   at_home = write_at_home;
+  knows = write_knows;
   asks = λ store modes code own state. write_code_asks code state;
   feeds = write_feeds;
   starts = write_starts;

@@ -6,7 +6,6 @@ use Rattle.std.specs.Prelude.{◌≡◌, false, ℕ, All, ◌+◌, ◌<◌, List
 use Rattle.odb_base.specs.Path.{Path}
 use Rattle.odb_asks.specs.Ask.{fails_now}
 use Rattle.odb_asks.specs.MemDisk.{Volume}
-use Rattle.odb_nodes.specs.Tree.{IsTree, tree_of}
 use Rattle.gix_odb_runs.specs.JournalKept.{IsJournal}
 use Rattle.gix_odb_core.specs.History.{History}
 use Rattle.gix_odb_core.specs.Journal.{entries_of}
@@ -24,10 +23,11 @@ use Rattle.gix_odb_events.specs.declared.answer.Ask.{Ask}
 use Rattle.gix_odb_runs.specs.Cores.{answer_behind, cores_after, history_at}
 use Rattle.gix_odb_runs.specs.Entries.{TellsEachEntry}
 use Rattle.gix_odb_world.specs.Recorded.{opened_in}
-use Rattle.gix_odb_world.specs.Running.{RunsThroughout}
+use Rattle.gix_odb_world.specs.RunLaws.{KeepsRunLaws}
 use Rattle.gix_odb_world.specs.Seats.{HasSeatThroughout, RegistersOwnThroughout, SnapshotsNeverFall}
-use Rattle.gix_odb_world.specs.Status.{Resting, Running, Status, Task, Working, status_of}
-use Rattle.gix_odb_runs.specs.Run.{IsTurnOf, Stand, change_asked, did_asked, did_of_asked, disk_after, has_failed, stand, told_now, tree_at}
+use Rattle.gix_odb_world.specs.Status.{Resting, Running, Status, Task, status_of}
+pub use Rattle.gix_odb_world.specs.Status.{Turns}
+use Rattle.gix_odb_runs.specs.Run.{Stand, change_asked, did_asked, did_of_asked, disk_after, has_failed, stand, told_now, tree_at}
 use Rattle.gix_odb_world.specs.Begun.{BegunAs, HoldsStore, IsTaskOf, NoneSince, turns_since}
 use Rattle.gix_odb_world.specs.Changes.{ChangesAs, ChangesAsAsked}
 use Rattle.gix_odb_world.specs.Undisturbed.{WritesStandAlone}
@@ -95,11 +95,6 @@ asked_applied past step = OfNothing
 -- only a turn asks for something else
 abbrev pub AsksAsApplied : List Event → Event → Type 0
 AsksAsApplied past e = e.outcome ≡ outcomes.Applied → e.asked ≡ asked_applied past e.step
-
--- the handle that the event turns, which isn't misused, and what it was at
-pub record Turns (past : List Event) (e : Event) (handle : ℕ) (running : Running) : Type 0 where
-  pub turn : IsTurnOf handle e
-  pub status : status_of past handle ≡ Working running
 
 -- the outcome of a turn that left its work so
 abbrev pub outcome_of : Result Reply Work → Outcome
@@ -183,13 +178,11 @@ pub record IsRun (first : Volume) (events : List Event) (run : Run) : Type 0 whe
   pub snapshots : SnapshotsNeverFall events
   -- from the first open step on that names a folder, no path of an index or of a pack there shows two contents
   pub contents : ShowOneContent first events
-  -- it began with a tree, and after each of the events each handle at work stood behind all that it was told since its task was set, which was
-  -- true of the run. Further laws of look-ups rest on that
-  pub start : IsTree (tree_of first.state)
-  pub throughout : RunsThroughout first events
   -- where the run is undisturbed, no write touches the temporary file of another, and a name that a write made stays whole
   pub alone : WritesStandAlone first events
   pub names : NamesStayWhole first events
+  -- what finds, listings and the core's events come to, when a task ends, and that nothing tells want of memory
+  pub laws : KeepsRunLaws first events
 
 -- The theorem about a run of steps from a disk.
 pub record Headline (first : Volume) (steps : List Step) (run : Run) : Type 0 where

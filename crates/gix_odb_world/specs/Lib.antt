@@ -24,6 +24,7 @@ pub mod Promise
 pub mod Changes
 pub mod Seats
 pub use Rattle.gix_odb_runs.specs.Entries
+pub mod RunLaws
 pub mod Headline
 pub mod Play
 pub mod Machine

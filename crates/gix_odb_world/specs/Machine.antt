@@ -1,11 +1,9 @@
 -- A machine: work of one kind that a handle may be at. A public clause needs of it what it asks and where an answer leads it.
-use Rattle.std.specs.Prelude.{◌≡◌, ℕ, List, Option, Result, Ok, Err}
-use Rattle.odb_asks.specs.MemDisk.{Volume}
+use Rattle.std.specs.Prelude.{◌≡◌, ℕ, Option, Result, Ok, Err}
 use Rattle.gix_odb_calls.specs.declared.call.Reply.{Reply}
 use Rattle.gix_odb_loose.specs.declared.call.LooseCall.{LooseCall}
 use Rattle.gix_odb_world.specs.declared.work.Work.{Work}
-use Rattle.gix_odb_world.specs.AtWork.{Modes, Running, Store, Task}
-use Rattle.gix_odb_runs.specs.Event.{Event}
+use Rattle.gix_odb_world.specs.AtWork.{Modes, Store, Task}
 use Rattle.gix_odb_events.specs.declared.answer.Answer.{Answer}
 use Rattle.gix_odb_events.specs.declared.answer.Ask.{Ask}
 
@@ -23,8 +21,6 @@ pub record Machine : Type 1 where
   pub IsFor : Task → State → Type 0
   -- the most turns of a task of a handle in a store in which no folder that a call may list has more entries than so many
   pub bound : Store → Modes → Task → (entries : ℕ) → ℕ
-  -- what a handle at a state knows of the events since its task was set, and how its turns are counted
-  pub Knows : Volume → List Event → (handle : ℕ) → Running → State → Type 0
 
 -- some work is that of a machine at a state
 pub record At (work : Work) : Type 1 where

@@ -1,5 +1,8 @@
 -- Which machine each kind of work is of, and what it asks and comes to. A further machine has one line here. A status keeps the code's
 -- `Work`, and a function by its cases computes to a machine and its state; a sum of machines would need that function beside it.
+pub mod Openings
+pub mod Queries
+pub mod Writes
 use Rattle.std.specs.Prelude.{Option, Result, refl}
 use Rattle.gix_odb_calls.specs.declared.call.Reply.{Reply}
 use Rattle.gix_odb.specs.declared.call_state.CallState.TheVariants.{Looking, Refreshing, Refused, Writing}
@@ -10,9 +13,9 @@ use Rattle.gix_odb_world.specs.AtWork.{Store}
 use Rattle.gix_odb_events.specs.declared.answer.Answer.{Answer}
 use Rattle.gix_odb_events.specs.declared.answer.Ask.{Ask}
 use Rattle.gix_odb_world.specs.Machine.{At, placed}
-use Rattle.gix_odb_world.specs.Running.Opening.{opening}
-use Rattle.gix_odb_world.specs.Running.Query.{looking}
-use Rattle.gix_odb_world.specs.Running.Write.{InFront, Own, Unlisted, writing}
+use Rattle.gix_odb_world.specs.Machines.Openings.{opening}
+use Rattle.gix_odb_world.specs.Machines.Queries.{looking}
+use Rattle.gix_odb_world.specs.Machines.Writes.{InFront, Own, Unlisted, writing}
 
 -- the machine that each work is of, and at which state
 abbrev pub at : (work : Work) → At work

@@ -1,4 +1,4 @@
--- What a handle at work knows since its task was set. Of the public clauses `IsRun` names it, for the laws that rest on runs.
+-- What a handle at work knows since its task was set. No public clause needs more of it than its name.
 pub mod Answered
 pub mod Listed
 pub mod Opening
@@ -8,14 +8,32 @@ pub mod Refused
 pub mod Write
 use Rattle.std.specs.Prelude.{ℕ, ◌≤◌, List, take, length}
 use Rattle.odb_asks.specs.MemDisk.{Volume}
+use Rattle.gix_odb.specs.declared.call_state.CallState.TheVariants as calls
 use Rattle.gix_odb_world.specs.declared.work.Work.{Work}
+use Rattle.gix_odb_world.specs.declared.work.Work.TheVariants as works
 use Rattle.gix_odb_runs.specs.Event.{Event}
+use Rattle.gix_odb_world.specs.Machine.{Machine}
 use Rattle.gix_odb_world.specs.Machines.{at}
+use Rattle.gix_odb_world.specs.Running.Opening.{IsOpening}
+use Rattle.gix_odb_world.specs.Running.Query.{IsLooking}
+use Rattle.gix_odb_world.specs.Running.Write.{KnowsOfWrite}
 use Rattle.gix_odb_world.specs.Status.{Running, Status, Working, status_of}
+
+-- what a handle at a state of a machine knows of the events since its task was set, and how its turns are counted
+abbrev pub KnowsAt : Machine → Type 1
+KnowsAt m = Volume → List Event → (handle : ℕ) → Running → m.State → Type 0
+
+-- What it knows at the machine of each work. A further machine has one line here.
+abbrev pub known_at : (work : Work) → KnowsAt (at work).machine
+known_at (works.Opening state) = IsOpening
+known_at (works.Calling (calls.Looking state)) = IsLooking
+known_at (works.Calling (calls.Refreshing refresh call)) = KnowsOfWrite
+known_at (works.Calling (calls.Writing call)) = KnowsOfWrite
+known_at (works.Calling (calls.Refused error)) = KnowsOfWrite
 
 -- what work knows that a handle is at
 abbrev pub Knows : Volume → List Event → (handle : ℕ) → Running → Work → Type 0
-Knows first events handle running work = (at work).machine.Knows first events handle running (at work).state
+Knows first events handle running work = known_at work first events handle running (at work).state
 
 -- A handle at work began in one of the events, and knows what its work knows.
 abbrev pub Runs : Volume → List Event → ℕ → Status → Type 0

@@ -21,6 +21,7 @@ use Rattle.gix_odb_calls.specs.declared.step.Outcome.TheVariants as outcomes
 use Rattle.gix_odb_world.specs.declared.work.Work.{Work}
 use Rattle.gix_odb_world.specs.declared.work.Work.TheVariants.{Opening, Calling}
 use Rattle.gix_odb_runs.specs.Event.{Asked, Event, answered}
+use Rattle.gix_odb_runs.specs.Run.{IsTurnOf}
 
 -- what a handle does: nothing, since no handle has the number; rest; or work
 pub data Status : Type 0 where
@@ -137,3 +138,8 @@ statuses_from number table (e ∷ events) = statuses_from (number + 1) (status_a
 -- what a handle does after all events of a run, which are numbered from 1
 abbrev pub status_of : List Event → ℕ → Status
 status_of events = statuses_from 1 (λ handle. Free) events
+
+-- the handle that an event turns, which isn't misused, and what it was at after those before it
+pub record Turns (past : List Event) (e : Event) (handle : ℕ) (running : Running) : Type 0 where
+  pub turn : IsTurnOf handle e
+  pub status : status_of past handle ≡ Working running

@@ -273,14 +273,14 @@ module _ (first : Volume) (events : List Event) (handle : ℕ) (running : Runnin
     -- ---- any turn
 
     pub comes_part : (asked : Option Ask) → ask_of look ≡ asked → IsTurnAsking first events e handle running asked
-        → MachineComes first events e handle running looking (told_after first events handle running asked)
+        → MachineComes first events e handle running looking IsLooking (told_after first events handle running asked)
         (looking.feed store look (answered (told_after first events handle running asked)))
     comes_part None is turn =
         let end = ends is in
         let same = told_none events e handle running.begun knows.since turn.turn OfNothing turn.asked refl in
         let well = told_well_later first events e handle store running.modes running.begun same
         (failed_before events e handle running.begun (λ turn_it failed. no_failure e.entry.did turn.did failed)) knows.since knows.well in
-        subst (λ r. MachineComes first events e handle running looking OfNothing r) (sym end.1)
+        subst (λ r. MachineComes first events e handle running looking IsLooking OfNothing r) (sym end.1)
         (replies exchanges same well (refused_later events e handle running.modes.core running.begun same knows.refused) (rule_now (kept_without_call first events e (subst LeavesDisk (sym turn.asked) tt) turn.change)) end.0 knows.asked (ap result_of (sym knows.is) ∙ end.1))
     comes_part (Some (parts.Disk ask)) is turn =
         let answer = answer_now (disk_after first events) ask in

@@ -198,7 +198,7 @@ module _ (first : Volume) (events : List Event) (handle : ℕ) (running : Runnin
       refused (opening_errors.LoadIndex error) same looks = caused (opening_errors.LoadIndex error) same
       refused opening_errors.NoMemory same looks = absurd looks
 
-      goes : (own : OpenState) → next ≡ own → LooksNow own → MachineComes first events e handle running opening (OfDisk ask answer) (openings.result_of own)
+      goes : (own : OpenState) → next ≡ own → LooksNow own → MachineComes first events e handle running opening IsOpening (OfDisk ask answer) (openings.result_of own)
       goes opens.Looking same looks = absurd looks
       goes (opens.Listing lister percent minimum) same looks = (
         record { task = knows.task; since = now_is; is = sym same ∙ stands; asked = all_asked; turns = sym longer; well = record { suited = well.suited; answered = well.answered; within = well.within }; given = record { given = gives.given; of_tree = gives.of_tree }; seen = looks },
@@ -211,7 +211,7 @@ module _ (first : Volume) (events : List Event) (handle : ℕ) (running : Runnin
       goes (opens.Done (replies.Refused (call_errors.Open error))) same looks = keeps (replies.Refused (call_errors.Open error)) (refused error same looks)
       goes (opens.Done reply) same looks = absurd looks
 
-      pub comes_to : LooksNow next → MachineComes first events e handle running opening (OfDisk ask answer) (openings.result_of next)
+      pub comes_to : LooksNow next → MachineComes first events e handle running opening IsOpening (OfDisk ask answer) (openings.result_of next)
       comes_to looks = goes next refl looks
 
 -- ---- its turns
@@ -238,14 +238,14 @@ module _ (first : Volume) (events : List Event) (e : Event) (handle : ℕ) (runn
           (look_keeps (tree_at first (events ++ e ∷ [])) (FailedSince (events ++ e ∷ []) handle running.begun) running.store running.begun (length (events ++ e ∷ []))
           (now_is first events handle running opens.Looking knows e ran) fails (failed_now first events e handle running knows.since look turn))
 
-      pub look_comes : MachineComes first events e handle running opening (OfDisk look (answer_now (disk_after first events) look))
+      pub look_comes : MachineComes first events e handle running opening IsOpening (OfDisk look (answer_now (disk_after first events) look))
           (openings.result_of (openings.looked running.store.parts.objects running.store.slots (answer_now (disk_after first events) look)))
       look_comes = comes_to first events handle running opens.Looking knows e ran look refl turn look_shows
 
   -- a turn of the listing
   pub listing_comes : (lister : Lister) (percent minimum : ℕ) → IsOpening first events handle running (opens.Listing lister percent minimum)
       → IsTurnAsking first events e handle running (Some (parts.Disk (lists.ask_of lister)))
-      → MachineComes first events e handle running opening (OfDisk (lists.ask_of lister) (answer_now (disk_after first events) (lists.ask_of lister)))
+      → MachineComes first events e handle running opening IsOpening (OfDisk (lists.ask_of lister) (answer_now (disk_after first events) (lists.ask_of lister)))
       (openings.result_of (openings.listed_on percent minimum (lists.fed running.store.parts.folders lister (answer_now (disk_after first events) (lists.ask_of lister)))))
   listing_comes lister percent minimum knows turn =
       comes_to first events handle running (opens.Listing lister percent minimum) knows e ran (lists.ask_of lister) refl turn

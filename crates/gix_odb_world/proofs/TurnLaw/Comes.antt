@@ -1,6 +1,6 @@
 -- What a turn of any work comes to: its reply keeps its promise, or the work goes on and knows as much. All of it is what the laws of
 -- its machine say.
-use Rattle.std.proofs.Common.{◌≡◌, ℕ, ◌+◌, ◌<◌, ◌≤◌, List, [], ◌∷◌, ◌++◌, length, None, Some, Ok, Err, Result, sym, ap, subst}
+use Rattle.std.proofs.Common.{◌≡◌, ℕ, ◌+◌, ◌<◌, ◌≤◌, List, [], ◌∷◌, ◌++◌, length, None, Some, Ok, Err, Result, ap, subst}
 use Rattle.odb_asks.specs.MemDisk.{Volume}
 use Rattle.gix_odb_calls.specs.declared.call.Reply.{Reply}
 use Rattle.gix_odb_core.specs.Replay.{CanHappen}
@@ -8,10 +8,10 @@ use Rattle.gix_odb_core.specs.declared.shape.Shape.{Shape}
 use Rattle.gix_odb_world.specs.declared.work.Work.{Work}
 use Rattle.gix_odb_runs.specs.Event.{Asked, CoreEvent, Event, answered}
 use Rattle.gix_odb_events.specs.declared.answer.Ask.TheVariants as parts
-use Rattle.gix_odb_world.specs.Machine.{At, Machine, placed}
+use Rattle.gix_odb_world.specs.Machine.{Machine, placed}
 use Rattle.gix_odb_world.specs.Machines.{at, ask_in, fed_in}
 use Rattle.gix_odb_world.specs.Status.{Running, gone_on}
-use Rattle.gix_odb_world.specs.Running.{Knows}
+use Rattle.gix_odb_world.specs.Running.{Knows, KnowsAt, known_at}
 use Rattle.gix_odb_world.proofs.MachineLaws.{ComesTo, IsRunning, IsTurnAsking, KeepsLaws, MachineComes, TakesTurn, told_after}
 use Rattle.gix_odb_world.proofs.Machines.{laws_at}
 
@@ -29,13 +29,13 @@ module _ (first : Volume) (events : List Event) (handle : ℕ) (running : Runnin
   event_of event is shape seat = (laws_at work).turns.happens first events handle running (at work).state knows event is shape seat
 
 -- what a machine comes to, among all work
-placed_comes : (first : Volume) (events : List Event) (e : Event) (handle : ℕ) (running : Running) (m : Machine) → KeepsLaws m
+placed_comes : (first : Volume) (events : List Event) (e : Event) (handle : ℕ) (running : Running) (m : Machine) (Known : KnowsAt m) → KeepsLaws m Known
     → (asked : Asked) (result : Result Reply m.State)
-    → MachineComes first events e handle running m asked result → ComesTo first events e handle running asked (placed m result)
-placed_comes first events e handle running m laws asked (Ok reply) comes = comes
-placed_comes first events e handle running m laws asked (Err state) comes =
+    → MachineComes first events e handle running m Known asked result → ComesTo first events e handle running asked (placed m result)
+placed_comes first events e handle running m Known laws asked (Ok reply) comes = comes
+placed_comes first events e handle running m Known laws asked (Err state) comes =
     let task_is = laws.tasked first (events ++ e ∷ []) handle (gone_on asked running (m.work state)) state comes.0 in (
-      subst (λ (a : At (m.work state)). a.machine.Knows first (events ++ e ∷ []) handle (gone_on asked running (m.work state)) a.state) (sym (laws.at_home state)) comes.0,
+      laws.knows first (events ++ e ∷ []) handle (gone_on asked running (m.work state)) state comes.0,
       λ entries most. subst (λ bound. running.turns + 1 < bound) (laws.bounded running.store running.modes running.task state task_is entries) (comes.1 entries most),
     )
 
@@ -46,7 +46,7 @@ pub come_of : (first : Volume) (events : List Event) (e : Event) (handle : ℕ) 
     → ComesTo first events e handle running (told_after first events handle running (ask_in running.store work))
     (fed_in running.store work (answered (told_after first events handle running (ask_in running.store work))))
 come_of first events e handle running since ran work knows is =
-    placed_comes first events e handle running (at work).machine (laws_at work)
+    placed_comes first events e handle running (at work).machine (known_at work) (laws_at work)
     (told_after first events handle running (ask_in running.store work))
     ((at work).machine.feed running.store (at work).state (answered (told_after first events handle running (ask_in running.store work))))
     ((laws_at work).turns.comes first events e handle running since ran (at work).state knows is)

@@ -40,7 +40,7 @@ use Rattle.gix_odb_runs.specs.Run.{IsTurnOf, change_by, disk_after, tree_at}
 use Rattle.gix_odb_world.specs.Refused.{LoadCause, RefusedSince}
 use Rattle.gix_odb_world.specs.Running.Answered.{IsAnsweredWell}
 use Rattle.gix_odb_world.specs.Running.Refused.{AreRefused}
-use Rattle.gix_odb_world.specs.Running.Write.{InFront, IsInFront, Own, front_result, own_result, write_at, writing}
+use Rattle.gix_odb_world.specs.Running.Write.{InFront, IsInFront, KnowsOfWrite, Own, front_result, own_result, write_at, writing}
 use Rattle.gix_odb_world.specs.Status.{modes_after}
 use Rattle.gix_odb_world.specs.Told.{refresh_begun, refresh_now, told_since, turns_in_front, view_then}
 use Rattle.gix_odb_runs.specs.Writing.{ChangedNothing, call_to_write}
@@ -107,7 +107,7 @@ module _ (first : Volume) (events : List Event) (handle : ℕ) (running : Runnin
     whole = events ++ e ∷ []
 
     abbrev Comes : Asked → Refresh → Type 0
-    Comes asked next = MachineComes first events e handle running writing asked (front_result call next)
+    Comes asked next = MachineComes first events e handle running writing KnowsOfWrite asked (front_result call next)
 
     -- a turn in which it was told something, and which changed nothing
     module _ (exchange : Exchange) (asked_it : refreshes.ask_of refresh ≡ Some exchange.ask)
@@ -168,7 +168,7 @@ module _ (first : Volume) (events : List Event) (handle : ℕ) (running : Runnin
       module _ (asked : Asked) (core : (modes_after asked running.modes).core ≡ running.modes.core) (slots : (modes_after asked running.modes).slots ≡ running.modes.slots) where
         -- it goes on
         goes_on : (own : Refresh) → next ≡ own → ((ask : Ask) × (refreshes.ask_of own ≡ Some ask))
-            → MachineComes first events e handle running writing asked (Err (InFront own call))
+            → MachineComes first events e handle running writing KnowsOfWrite asked (Err (InFront own call))
         goes_on own same more = (
           record {
             write = knows.write;
@@ -189,7 +189,7 @@ module _ (first : Volume) (events : List Event) (handle : ℕ) (running : Runnin
         )
 
         -- the write begins
-        ready : next ≡ fronts.Ready → MachineComes first events e handle running writing asked (Err (Own (write_at knows.write (Making 0))))
+        ready : next ≡ fronts.Ready → MachineComes first events e handle running writing KnowsOfWrite asked (Err (Own (write_at knows.write (Making 0))))
         ready same =
             let front : turns_in_front whole handle store running.modes running.begun ≡ length all = front_asked whole handle store running.modes running.begun all_asked in
             let long = longer in
@@ -245,7 +245,7 @@ module _ (first : Volume) (events : List Event) (handle : ℕ) (running : Runnin
         goes (fronts.Listing lister base) same = goes_on (fronts.Listing lister base) same (_, refl)
         goes (fronts.Publishing listing) same = goes_on (fronts.Publishing listing) same (_, refl)
         goes fronts.Ready same =
-            subst (λ (c : LooseCall). MachineComes first events e handle running writing asked (own_result (result_of_write c))) (sym knows.is) (ready same)
+            subst (λ (c : LooseCall). MachineComes first events e handle running writing KnowsOfWrite asked (own_result (result_of_write c))) (sym knows.is) (ready same)
         goes (fronts.Refused error) same = ends error same
 
     -- ---- a call of the disk, and an event of the core of its store

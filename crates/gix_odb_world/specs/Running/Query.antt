@@ -1,5 +1,5 @@
--- What a query knows since it began, and its machine, of which a public clause needs what it asks and where an answer leads it.
-use Rattle.std.specs.Prelude.{◌≡◌, ℕ, ◌<◌, ◌≤◌, true, List, [], ◌∷◌, length, Option, Some, None, Result}
+-- What a query knows since it began. No public clause cites this.
+use Rattle.std.specs.Prelude.{◌≡◌, ℕ, ◌<◌, ◌≤◌, true, List, [], ◌∷◌, length, None}
 use Rattle.std.specs.List.{IsDistinct}
 use Rattle.odb_asks.specs.Ask.{answer_now, fails_now}
 use Rattle.odb_asks.specs.MemDisk.{Volume}
@@ -10,27 +10,22 @@ use Rattle.gix_hash.specs.ObjectId.{kind_of}
 use Rattle.gix_hash.specs.declared.object_id.ObjectId.{ObjectId}
 use Rattle.gix_odb_calls.specs.declared.query.Query.{Query}
 use Rattle.gix_odb_core.specs.History.{present}
-use Rattle.gix_odb_calls.specs.declared.call.Reply.{Reply}
-use Rattle.gix_odb_events.specs.declared.answer.Answer.{Answer}
 use Rattle.gix_odb_events.specs.declared.answer.Answer.TheVariants as told
 use Rattle.gix_odb_events.specs.declared.answer.Ask.TheVariants as asks
 use Rattle.gix_odb_events.specs.PackFiles.{same_path}
 use Rattle.gix_odb_looks.specs.Exchange.{AreAnswered, AreAsked, Exchange, HasFailed, WasTold}
 use Rattle.gix_odb_looks.specs.Fair.{AreFair, PackedPlace}
 use Rattle.gix_odb_looks.specs.Laps.{AreNumbered, AreWithin, number_by}
-use Rattle.gix_odb_looks.specs.LookUpOrder as looks
 use Rattle.gix_odb_looks.specs.Shown.{IsShownView}
 use Rattle.gix_odb_looks.specs.True.{AreTrue}
 use Rattle.gix_odb_looks.specs.declared.look_up.LookUp.{LookUp}
 use Rattle.gix_odb.specs.Contents.{folder_list, sought}
 use Rattle.gix_odb.specs.Held.{WasShownAt}
-use Rattle.gix_odb.specs.declared.call_state.CallState.TheVariants.{Looking}
-use Rattle.gix_odb_world.specs.declared.work.Work.TheVariants.{Calling}
 use Rattle.gix_odb_world.specs.AtWork.{MakeCall, Modes, Running, Store, setting_in}
-use Rattle.gix_odb_world.specs.Bound.{HasAtMost, bound_of_call}
+use Rattle.gix_odb_world.specs.Bound.{HasAtMost}
 use Rattle.gix_odb_runs.specs.Cores.{cores_after, history_at}
 use Rattle.gix_odb_runs.specs.Event.{Event}
-use Rattle.gix_odb_world.specs.Machine.{Machine}
+pub use Rattle.gix_odb_world.specs.Machines.Queries.{looking}
 use Rattle.gix_odb_runs.specs.Run.{FailedSince, tree_at}
 use Rattle.gix_odb_world.specs.Running.PackedStill.{IsPackedStill}
 use Rattle.gix_odb_world.specs.Running.Refused.{AreRefused}
@@ -89,22 +84,3 @@ pub record IsLooking (first : Volume) (events : List Event) (handle : ℕ) (runn
   pub turns : running.turns ≡ length (told_since events handle running.begun)
   pub well : IsToldWell first events handle running.store running.modes running.begun
   pub refused : AreRefused events handle running.modes.core running.begun
-
--- ---- its machine
-
-abbrev pub look_fed : Store → LookUp → Option Answer → Result Reply LookUp
-look_fed store look None = looks.result_of look
-look_fed store look (Some answer) = looks.result_of (looks.fed (setting_in store) look answer)
-
--- a query as a machine
-abbrev pub looking : Machine
-looking = record {
-  State = LookUp;
-  work = λ look. Calling (Looking look);
-  ask = λ store look. (looks.ask_of look);
-  feed = look_fed;
-  writes = λ look. None;
-  IsFor = λ task look. (query : Query) × (task ≡ MakeCall (call_of query));
-  bound = λ store modes task entries. bound_of_call store modes entries None;
-  Knows = λ first events handle running look. IsLooking first events handle running look;
-}

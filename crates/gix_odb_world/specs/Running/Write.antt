@@ -1,5 +1,5 @@
--- What a write has seen and done since it began, and its machine, of which a public clause needs what it asks and where an answer leads it.
-use Rattle.std.specs.Prelude.{◌+◌, ◌<◌, ◌^◌, [], ◌++◌, ◌≡◌, ℕ, ◌≤◌, List, length, take, Contains, Option, Some, None, Result, Ok, Err}
+-- What a write has seen and done since it began. No public clause cites this.
+use Rattle.std.specs.Prelude.{◌+◌, ◌<◌, ◌^◌, [], ◌++◌, ◌≡◌, ℕ, ◌≤◌, List, length, take, Contains, Option, Some, None}
 use Rattle.std.specs.List.{IsDistinct}
 use Rattle.odb_base.specs.Path.{Path}
 use Rattle.odb_asks.specs.MemDisk.{Volume}
@@ -10,38 +10,28 @@ use Rattle.gix_object.specs.Loose.{header_of}
 use Rattle.gix_odb_loose.specs.Exchanges.{Exchange}
 use Rattle.gix_odb_loose.specs.WriteAsks.{IsAlong, write_of}
 use Rattle.gix_odb_loose.specs.WriteOrder.{number_made, temp_path}
-use Rattle.gix_odb_loose.specs.LooseOrder.{disk_ask_of}
 use Rattle.gix_odb_loose.specs.declared.call.LooseCall.{LooseCall}
 use Rattle.gix_odb_loose.specs.declared.call.Stage.TheVariants as loose_stages
 use Rattle.gix_odb_loose.specs.declared.write_at_hand.Onward.TheVariants.{Stage}
 use Rattle.gix_odb_loose.specs.declared.write_at_hand.WriteJob.{WriteJob}
 use Rattle.gix_odb_loose.specs.declared.write_order.WriteStage.{WriteStage}
 use Rattle.gix_odb_loose.specs.declared.write_order.WriteStage.TheVariants as write_stages
-use Rattle.gix_odb_calls.specs.declared.call.Reply.{Reply}
-use Rattle.gix_odb_calls.specs.declared.load_index.Error as load
 use Rattle.gix_odb_events.specs.declared.answer.Ask.{Ask}
 use Rattle.gix_odb_events.specs.PackFiles.{same_path}
 use Rattle.gix_odb_refresh.specs.RefreshOrder as refreshes
 use Rattle.gix_odb_refresh.specs.Refreshed.{AreAsked}
 use Rattle.gix_odb_refresh.specs.declared.refresh.Refresh.{Refresh}
-use Rattle.gix_odb_refresh.specs.declared.refresh.Refresh.TheVariants as fronts
 use Rattle.gix_odb_refresh.specs.declared.refresh.Refresh.TheVariants.{Ready}
 use Rattle.gix_odb.specs.Contents.{folder_list}
-use Rattle.gix_odb.specs.declared.call_state.CallState.TheVariants.{Refreshing, Refused, Writing}
-use Rattle.gix_odb_world.specs.declared.work.Work.{Work}
-use Rattle.gix_odb_world.specs.declared.work.Work.TheVariants.{Calling}
 use Rattle.gix_odb_runs.specs.Event.{Event}
-use Rattle.gix_odb_events.specs.declared.answer.Answer.{Answer}
-use Rattle.gix_odb_looks.specs.LookUpOrder.{loose_ask}
-use Rattle.gix_odb_world.specs.Machine.{Machine}
-use Rattle.gix_odb_world.specs.AtWork.{MakeCall, Running, Store, setting_in}
+pub use Rattle.gix_odb_world.specs.Machines.Writes.{InFront, Own, Unlisted, WriteState, front_result, own_result, work_of, write_asks, write_fed, writes_by, writing}
+use Rattle.gix_odb_world.specs.AtWork.{MakeCall, Running, setting_in}
 use Rattle.gix_odb_looks.specs.Laps.{turns_of_lap}
-use Rattle.gix_odb_world.specs.Bound.{HasAtMost, bound_of_task}
+use Rattle.gix_odb_world.specs.Bound.{HasAtMost}
 use Rattle.gix_odb_runs.specs.Run.{tree_at}
 use Rattle.gix_odb_world.specs.Running.Answered.{IsAnsweredWell}
 use Rattle.gix_odb_world.specs.Running.Refused.{AreRefused}
 use Rattle.gix_odb_world.specs.Told.{refresh_begun, refresh_now, told_since, turns_in_front}
-use Rattle.gix_odb.specs.CallOrder.{result_of_write, unlisted, written_on}
 use Rattle.gix_odb_runs.specs.Writing.{AskedAt, AskedSince, ChangedNothing, LeftAlone, TurnsMadeOnly, NoTurnRenamed, ToWrite, call_to_write, head_to_write}
 
 -- a write that has asked nothing
@@ -135,61 +125,10 @@ pub record IsAtOwnWrite (first : Volume) (events : List Event) (handle : ℕ) (r
   pub short : (entries : ℕ) → HasAtMost (tree_at first events) running.store.parts running.begun (length events) entries
       → turns_in_front events handle running.store running.modes running.begun ≤ turns_of_lap running.modes.slots (length (folder_list running.store.parts)) entries
 
--- ---- its machine
+-- ---- at any of its states
 
--- a write on its way: behind what stands in front of it, at its own turns, or not to be made, since its store could not be listed
-pub data WriteState : Type 0 where
-  InFront : (refresh : Refresh) (call : LooseCall) → WriteState
-  Own : (call : LooseCall) → WriteState
-  Unlisted : (error : load.Error) → WriteState
-
-abbrev pub work_of : WriteState → Work
-work_of (InFront refresh call) = Calling (Refreshing refresh call)
-work_of (Own call) = Calling (Writing call)
-work_of (Unlisted error) = Calling (Refused error)
-
-abbrev pub write_asks : WriteState → Option Ask
-write_asks (InFront refresh call) = refreshes.ask_of refresh
-write_asks (Own call) = loose_ask (disk_ask_of call)
-write_asks (Unlisted error) = None
-
-abbrev pub own_result : Result Reply LooseCall → Result Reply WriteState
-own_result (Ok reply) = Ok reply
-own_result (Err call) = Err (Own call)
-
--- what a write comes to by what stands in front of it then
-abbrev pub front_result : LooseCall → Refresh → Result Reply WriteState
-front_result call Ready = own_result (result_of_write call)
-front_result call (fronts.Refused error) = Ok (unlisted error)
-front_result call refresh = Err (InFront refresh call)
-
-abbrev pub write_fed : Store → WriteState → Option Answer → Result Reply WriteState
-write_fed store (InFront refresh call) None = Err (InFront refresh call)
-write_fed store (InFront refresh call) (Some answer) = front_result call (refreshes.fed store.parts.objects store.parts.folders refresh answer)
-write_fed store (Own call) None = own_result (result_of_write call)
-write_fed store (Own call) (Some answer) = own_result (result_of_write (written_on call answer))
-write_fed store (Unlisted error) answer = Ok (unlisted error)
-
-abbrev pub writes_by : WriteState → Option LooseCall
-writes_by (InFront refresh call) = None
-writes_by (Own call) = Some call
-writes_by (Unlisted error) = None
-
--- what it knows. No write is left that is not to be made
+-- what a write knows at any of its states. No write is left that is not to be made
 abbrev pub KnowsOfWrite : Volume → List Event → (handle : ℕ) → Running → WriteState → Type 0
 KnowsOfWrite first events handle running (InFront refresh call) = IsInFront first events handle running refresh call
 KnowsOfWrite first events handle running (Own call) = IsAtOwnWrite first events handle running call
 KnowsOfWrite first events handle running (Unlisted error) = ⊥
-
--- a write as a machine: the list of its store is read first, where it was not
-abbrev pub writing : Machine
-writing = record {
-  State = WriteState;
-  work = work_of;
-  ask = λ store state. write_asks state;
-  feed = write_fed;
-  writes = writes_by;
-  IsFor = λ task state. (w : ToWrite) × (task ≡ MakeCall (call_to_write w));
-  bound = λ store modes task entries. bound_of_task store modes task entries;
-  Knows = KnowsOfWrite;
-}

@@ -1,7 +1,8 @@
 use Rattle.std.proofs.Common.{take, refl, subst, arith}
 use Rattle.std.proofs.lemmas.List.{take_all}
 use Rattle.gix_odb_world.specs.Played.{HasPlayed}
-use Rattle.gix_odb_world.proofs.PlayLemmas.{has_played_none, has_played_more, is_played}
+use Rattle.gix_odb_world.proofs.PlayLemmas.{has_played_none, has_played_more}
+use Rattle.gix_odb_world.proofs.RunEnds.{is_played}
 use Rattle.gix_odb_world.proofs.world.World.play.Goals as goal
 
 pub loop-line-init : goal.loop-line-init

@@ -10,14 +10,13 @@ use Rattle.gix_odb_events.specs.declared.answer.Answer.TheVariants as told
 use Rattle.gix_odb_events.specs.declared.answer.Ask.TheVariants as parts
 use Rattle.gix_odb_packs.proofs.ReachLemmas.{first_or_later, none_in}
 use Rattle.gix_odb_looks.specs.Exchange.{Exchange, WasTold}
-use Rattle.gix_odb_runs.specs.declared.record.Run.{Run}
 use Rattle.gix_odb_runs.specs.Event.{Event}
-use Rattle.gix_odb_world.specs.Headline.{IsRun}
 use Rattle.gix_odb_runs.specs.Run.{IsTurnOf, disk_after}
 use Rattle.gix_odb_world.specs.Told.{exchange_in, exchange_of, told_since}
 use Rattle.gix_odb_runs.specs.Turned.{is_turn_of}
 use Rattle.gix_odb_world.proofs.RunSteps.Fronts.{there_in_whole}
-use Rattle.gix_odb_run_laws.proofs.JustRead.{answered_then, asked_of, is_turn, nth_drop}
+use Rattle.gix_odb_world.proofs.RunLaws.JustRead.{answered_then, asked_of, is_turn, nth_drop}
+use Rattle.gix_odb_world.proofs.RunLaws.KnownRun.{IsKnownRun}
 
 -- ---- lists
 
@@ -91,7 +90,7 @@ pub record WasAnswered (first : Volume) (events : List Event) (begun now : ℕ) 
   pub before : moment < now
   pub answered : answer_now (disk_after first (take moment events)) ask ≡ answer
 
-module _ (first : Volume) (events : List Event) (run : Run) (is : IsRun first events run) (place handle begun : ℕ) (ask : DiskAsk) (answer : DiskAnswer) where
+module _ (first : Volume) (events : List Event) (is : IsKnownRun first events) (place handle begun : ℕ) (ask : DiskAsk) (answer : DiskAnswer) where
   pub told_then : WasTold (told_since (take place events) handle begun) (parts.Disk ask) (told.Disk answer) → WasAnswered first events begun place ask answer
   told_then among =
       let by = told_by_turn events begun place handle (record { ask = parts.Disk ask; answer = told.Disk answer }) among in
@@ -99,5 +98,5 @@ module _ (first : Volume) (events : List Event) (run : Run) (is : IsRun first ev
         moment = by.place;
         from = by.from;
         before = by.before;
-        answered = answered_then first events run is by.place by.event by.there ask answer (asked_of by.event.asked ask answer by.gave);
+        answered = answered_then first events is by.place by.event by.there ask answer (asked_of by.event.asked ask answer by.gave);
       }

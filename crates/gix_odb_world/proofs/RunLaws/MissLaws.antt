@@ -5,24 +5,23 @@ use Rattle.gix_odb_calls.specs.declared.query.Query.{Query}
 use Rattle.gix_odb_calls.specs.declared.step.Outcome.TheVariants as outcomes
 use Rattle.gix_odb_looks.specs.LookUpOrder.{not_found}
 use Rattle.gix_odb.specs.Contents.{sought}
-use Rattle.gix_odb_runs.specs.declared.record.Run.{Run}
 use Rattle.gix_odb_runs.specs.Event.{Event}
 use Rattle.gix_odb_world.specs.AtWork.{Running, setting_in}
-use Rattle.gix_odb_world.specs.Headline.{IsRun}
 use Rattle.gix_odb_world.specs.Told.{told_since, view_then}
 use Rattle.gix_odb_world.proofs.RunSteps.Fronts.{take_next}
-use Rattle.gix_odb_run_laws.specs.Missed.{EndAtLastList}
-use Rattle.gix_odb_run_laws.specs.Turn.{IsQueryTurn}
-use Rattle.gix_odb_run_laws.proofs.ListChecks.{misses_end_at_the_last_list}
-use Rattle.gix_odb_run_laws.proofs.MovedLaws.{ended}
+use Rattle.gix_odb_world.specs.RunLaws.Missed.{EndAtLastList}
+use Rattle.gix_odb_world.specs.RunLaws.Turn.{IsQueryTurn}
+use Rattle.gix_odb_world.proofs.RunLaws.KnownRun.{IsKnownRun}
+use Rattle.gix_odb_world.proofs.RunLaws.ListChecks.{misses_end_at_the_last_list}
+use Rattle.gix_odb_world.proofs.RunLaws.MovedLaws.{ended}
 
 -- Where a query is answered that nothing is there, what its handle was last told since it began is the answer of a look at the core. The list of the
 -- view that this look gave is the one that the core published or confirmed last for the query.
-pub query_that_misses_ends_at_its_last_list : (first : Volume) (events : List Event) (run : Run) → IsRun first events run
+pub query_that_misses_ends_at_its_last_list : (first : Volume) (events : List Event) → IsKnownRun first events
     → (place : ℕ) (e : Event) (handle : ℕ) (running : Running) (query : Query) → IsQueryTurn events place e handle running query
     → e.outcome ≡ outcomes.Reply (not_found query) → EndAtLastList (told_since (take (place + 1) events) handle running.begun)
-query_that_misses_ends_at_its_last_list first events run is place e handle running query turn missing =
-    let end = ended first events run is place e handle running query turn missing in
+query_that_misses_ends_at_its_last_list first events is place e handle running query turn missing =
+    let end = ended first events is place e handle running query turn missing in
     subst (λ (es : List Event). EndAtLastList (told_since es handle running.begun)) (sym (take_next events place e turn.there))
     (misses_end_at_the_last_list (setting_in running.store) query (sought running.store.parts running.modes.ignoring query)
     (view_then (take place events) handle running.modes.core running.begun) _ end.asked end.misses)

@@ -15,13 +15,12 @@ use Rattle.gix_odb_looks.specs.LookUpOrder.{ask_of}
 use Rattle.gix_odb_looks.specs.declared.look_up.LookUp.{LookUp}
 use Rattle.gix_odb.specs.HandleState.{unseen}
 use Rattle.gix_odb.specs.declared.call_state.CallState.TheVariants.{Looking, Refreshing, Refused, Writing}
-use Rattle.gix_odb_runs.specs.declared.record.Run.{Run}
 use Rattle.gix_odb_world.specs.declared.work.Work.{Work}
 use Rattle.gix_odb_world.specs.declared.work.Work.TheVariants.{Calling, Opening}
 use Rattle.gix_odb_world.specs.AtWork.{MakeCall, OpenStore, Running, setting_in}
 use Rattle.gix_odb_runs.specs.Cores.{answer_behind, cores_after, history_at}
 use Rattle.gix_odb_runs.specs.Event.{CoreAnswer, CoreEvent, Event, OfCore}
-use Rattle.gix_odb_world.specs.Headline.{IsLawful, IsRun, Law, Works, stand_of}
+use Rattle.gix_odb_world.specs.Headline.{IsLawful, Law, Works, stand_of}
 use Rattle.gix_odb_world.specs.Machines.{ask_in}
 use Rattle.gix_odb_runs.specs.Run.{Stand, disk_after, told_now, tree_at}
 use Rattle.gix_odb_world.specs.Running.{Knows, Runs, RunsThroughout}
@@ -30,7 +29,8 @@ use Rattle.gix_odb_world.specs.Status.{Working, status_of}
 use Rattle.gix_odb_world.specs.Told.{call_of, look_begun, look_now, told_since, view_then}
 use Rattle.gix_odb_runs.specs.Writing.{ToWrite, call_to_write}
 use Rattle.gix_odb_world.proofs.RunSteps.Fronts.{front_of_front, length_take, there_in_whole}
-use Rattle.gix_odb_run_laws.specs.Turn.{AsksCore, IsQueryTurn}
+use Rattle.gix_odb_world.specs.RunLaws.Turn.{AsksCore, IsQueryTurn}
+use Rattle.gix_odb_world.proofs.RunLaws.KnownRun.{IsKnownRun}
 
 -- ---- calls of queries
 
@@ -103,7 +103,7 @@ pub record IsLookTurn (first : Volume) (events : List Event) (place : ℕ) (e : 
   pub well : IsToldWell first (take place events) handle running.store running.modes running.begun
   pub told : e.asked ≡ told_now (stand_of (take place events) handle running) (disk_after first (take place events)) (ask_of look)
 
-module _ (first : Volume) (events : List Event) (run : Run) (is : IsRun first events run) (place : ℕ) (e : Event) (handle : ℕ) (running : Running) (query : Query)
+module _ (first : Volume) (events : List Event) (is : IsKnownRun first events) (place : ℕ) (e : Event) (handle : ℕ) (running : Running) (query : Query)
     (turn : IsQueryTurn events place e handle running query) where
   abbrev past : List Event
   past = take place events

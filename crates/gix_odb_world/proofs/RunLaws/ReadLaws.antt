@@ -21,19 +21,18 @@ use Rattle.gix_odb.specs.Contents.{ShowsFile, sought}
 use Rattle.gix_odb.specs.Held.{WasShownAt}
 use Rattle.gix_odb_look_laws.specs.JustRead.{GotLast, IsOfLastRead, IsPackPath, MissedLast, read_of}
 use Rattle.gix_odb_look_laws.proofs.ReadLaws.{index_that_was_read_is_stored_next, pack_that_was_read_is_stored_next, what_is_stored_or_passed_over_was_just_read}
-use Rattle.gix_odb_runs.specs.declared.record.Run.{Run}
 use Rattle.gix_odb_world.specs.AtWork.{Running, setting_in}
 use Rattle.gix_odb_runs.specs.Event.{CoreEvent, Event}
-use Rattle.gix_odb_world.specs.Headline.{IsRun}
 use Rattle.gix_odb_runs.specs.Run.{disk_after, tree_at}
 use Rattle.gix_odb_world.specs.Told.{exchange_of, told_since, view_then}
 use Rattle.gix_odb_world.proofs.DiskTold.{read_is}
-use Rattle.gix_odb_run_laws.specs.Stored.{IsAsRead, IsBacked, IsMissing}
-use Rattle.gix_odb_run_laws.specs.Turn.{AsksCore, IsQueryTurn, IsTurnBefore, Reads}
-use Rattle.gix_odb_run_laws.proofs.JustRead.{answered_then, just_read, told_before_next}
-use Rattle.gix_odb_run_laws.proofs.QueryTurns.{IsLookTurn, asks_look, look_asks, look_turn}
+use Rattle.gix_odb_world.specs.RunLaws.Stored.{IsAsRead, IsBacked, IsMissing}
+use Rattle.gix_odb_world.specs.RunLaws.Turn.{AsksCore, IsQueryTurn, IsTurnBefore, Reads}
+use Rattle.gix_odb_world.proofs.RunLaws.JustRead.{answered_then, just_read, told_before_next}
+use Rattle.gix_odb_world.proofs.RunLaws.KnownRun.{IsKnownRun}
+use Rattle.gix_odb_world.proofs.RunLaws.QueryTurns.{IsLookTurn, asks_look, look_asks, look_turn}
 
-module _ (first : Volume) (events : List Event) (run : Run) (is : IsRun first events run) where
+module _ (first : Volume) (events : List Event) (is : IsKnownRun first events) where
   abbrev trees : ℕ → Tree
   trees moment = tree_at first events moment
 
@@ -41,7 +40,7 @@ module _ (first : Volume) (events : List Event) (run : Run) (is : IsRun first ev
   shown_then : (place : ℕ) (e : Event) (path : Path) (bytes : List ℕ) (time : ℕ) → slice_get events place ≡ Some e → Reads e path (answers.File bytes time)
       → ShowsFile (tree_at first events place) path bytes
   shown_then place e path bytes time there reads =
-      (time, read_is (disk_after first (take place events)) path bytes time (answered_then first events run is place e there (asks.Read path) (answers.File bytes time) reads))
+      (time, read_is (disk_after first (take place events)) path bytes time (answered_then first events is place e there (asks.Read path) (answers.File bytes time) reads))
 
   module _ (place : ℕ) (e : Event) (handle : ℕ) (running : Running) (query : Query) (turn : IsQueryTurn events place e handle running query) where
     abbrev past : List Event
@@ -66,7 +65,7 @@ module _ (first : Volume) (events : List Event) (run : Run) (is : IsRun first ev
     Shown path bytes = WasShownAt (tree_at first past) running.store.opened (length past) path bytes
 
     at : IsLookTurn first events place e handle running query
-    at = look_turn first events run is place e handle running query turn
+    at = look_turn first events is place e handle running query turn
 
     -- ---- what was read is stored
 

@@ -12,19 +12,19 @@ use Rattle.gix_odb_calls.specs.declared.step.Step.TheVariants as steps
 use Rattle.gix_odb_calls.specs.declared.step.Outcome.{Outcome}
 use Rattle.gix_odb_calls.specs.declared.step.Outcome.TheVariants as outcomes
 use Rattle.gix_odb_runs.specs.Event.{Event}
-use Rattle.gix_odb_runs.specs.declared.record.Run.{Run}
-use Rattle.gix_odb_world.specs.Headline.{Headline, IsLawful, IsRun}
+use Rattle.gix_odb_world.specs.Headline.{IsLawful}
 use Rattle.gix_odb_world.specs.Play.{Made, Plays, StandsFor, made_of}
 use Rattle.gix_odb_world.proofs.HistoryLemmas.{slice_get-last}
 use Rattle.gix_odb_world.proofs.PlayLemmas.{some_made}
-use Rattle.gix_odb_run_laws.specs.Pending.{AreInTime, AreLinesInTime, ArePending, FinishesInTime, IsLineInTime, IsPendingTurn}
-use Rattle.gix_odb_run_laws.proofs.PendingTurns.{in_time}
+use Rattle.gix_odb_world.specs.RunLaws.Pending.{AreInTime, AreLinesInTime, ArePending, FinishesInTime, IsLineInTime, IsPendingTurn}
+use Rattle.gix_odb_world.proofs.RunLaws.KnownRun.{IsKnownRun}
+use Rattle.gix_odb_world.proofs.RunLaws.PendingTurns.{in_time}
 
 -- Turns of one handle that are all pending, one after another in a run, are fewer than the bound of the task that the handle is at, with those that it took
 -- for the task before.
-pub pending_turns_are_fewer_than_the_bound : (first : Volume) (events : List Event) (run : Run) → IsRun first events run → (handle from count : ℕ) → 0 < count
+pub pending_turns_are_fewer_than_the_bound : (first : Volume) (events : List Event) → IsKnownRun first events → (handle from count : ℕ) → 0 < count
     → ArePending events handle from count → AreInTime first events handle from count
-pending_turns_are_fewer_than_the_bound first events run is handle from count some pending = in_time first events is.lawful handle from count pending some
+pending_turns_are_fewer_than_the_bound first events is handle from count some pending = in_time first events is.lawful handle from count pending some
 
 -- ---- lists
 
@@ -154,12 +154,12 @@ all_made events made is i m there =
 
 -- Each line of a script that is played and finishes what a handle is at ends in time: the pending turns for which it stands are fewer than the bound
 -- of the handle's task.
-pub lines_are_finished_in_time : (first : Volume) (made : List Step) (run : Run) (headline : Headline first made run) (lines : List Line) (last : List ℕ)
-    → Plays 0 lines (made_of made run.outcomes) last → AreLinesInTime first headline.events 0 lines last
-lines_are_finished_in_time first made run headline lines last plays =
-    let events : List Event = headline.events in
-    let is : made_of made run.outcomes ≡ map made_in events =
-    ap (λ (s : List Step). made_of s run.outcomes) (sym headline.steps_are)
-    ∙ ap (made_of (map (λ (e : Event). e.step) events)) (sym headline.is_run.outcomes_are)
+pub lines_are_finished_in_time : (first : Volume) (events : List Event) → IsLawful first events → (made : List Step) → map (λ (e : Event). e.step) events ≡ made
+    → (came : List Outcome) → map (λ (e : Event). e.outcome) events ≡ came → (lines : List Line) (last : List ℕ)
+    → Plays 0 lines (made_of made came) last → AreLinesInTime first events 0 lines last
+lines_are_finished_in_time first events lawful made steps came ends lines last plays =
+    let is : made_of made came ≡ map made_in events =
+    ap (λ (s : List Step). made_of s came) (sym steps)
+    ∙ ap (made_of (map (λ (e : Event). e.step) events)) (sym ends)
     ∙ made_of_events events in
-    lines_in_time first events headline.is_run.lawful 0 lines (made_of made run.outcomes) last plays (all_made events (made_of made run.outcomes) is)
+    lines_in_time first events lawful 0 lines (made_of made came) last plays (all_made events (made_of made came) is)

@@ -38,14 +38,13 @@ use Rattle.gix_odb.specs.Held.{InLooseFile, InPackFile, LiesAt}
 use Rattle.gix_odb.specs.declared.call_state.CallState.TheVariants.{Looking}
 use Rattle.gix_odb_look_laws.specs.Moved.{AreLooseFair, ArePublished, HasLoose, IsLooseFair}
 use Rattle.gix_odb_look_laws.proofs.MovedLaws.{no_stream_is_open_before_the_loose_folder_is_asked, objects_that_move_into_packs_are_not_missed}
-use Rattle.gix_odb_runs.specs.declared.record.Run.{Run}
 use Rattle.gix_odb_world.specs.declared.work.Work.{Work}
 use Rattle.gix_odb_world.specs.declared.work.Work.TheVariants.{Calling}
 use Rattle.gix_odb_world.specs.AtWork.{MakeCall, Modes, Running, Store, setting_in}
 use Rattle.gix_odb_world.specs.Begun.{BegunAs}
 use Rattle.gix_odb_runs.specs.Cores.{answer_behind, cores_after, history_at}
 use Rattle.gix_odb_runs.specs.Event.{Asked, CoreAnswer, CoreEvent, Event, OfCore, OfDisk, OfNewCore, OfNothing, answered}
-use Rattle.gix_odb_world.specs.Headline.{FailsAsListed, IsRun, Law, Works, outcome_of, stand_of}
+use Rattle.gix_odb_world.specs.Headline.{FailsAsListed, Law, Works, outcome_of, stand_of}
 use Rattle.gix_odb_world.specs.Machine.{placed}
 use Rattle.gix_odb_world.specs.Machines.{fed_in}
 use Rattle.gix_odb_world.specs.Promise.{Promise}
@@ -58,16 +57,17 @@ use Rattle.gix_odb_world.proofs.HistoryLemmas.{cores_after-push}
 use Rattle.gix_odb_world.proofs.PackedStill.Contents.{lies_indexed}
 use Rattle.gix_odb_world.proofs.RunSteps.Fronts.{event_or_end, length_take, none_beyond, take_next, take_suc, there_in_front}
 use Rattle.gix_odb_world.proofs.ToldLemmas.{asked-push, behind-push, told_none, told_turn}
-use Rattle.gix_odb_run_laws.specs.Moved.{HadPublished, HasMoved}
-use Rattle.gix_odb_run_laws.specs.Turn.{IsQueryTurn}
-use Rattle.gix_odb_run_laws.proofs.JustRead.{answered_then}
-use Rattle.gix_odb_run_laws.proofs.QueryTurns.{IsLookTurn, look_turn, same_event}
-use Rattle.gix_odb_run_laws.proofs.ToldThen.{ToldBy, told_by_turn}
-use Rattle.gix_odb_run_laws.proofs.MovedLaws.Calls.{call_before}
-use Rattle.gix_odb_run_laws.proofs.MovedLaws.Fairness.{fair_to, goes_on}
-use Rattle.gix_odb_run_laws.proofs.MovedLaws.LooseSound.{sound_file_is_had}
-use Rattle.gix_odb_run_laws.proofs.MovedLaws.ReadLists.{cores_read, view_read}
-use Rattle.gix_odb_run_laws.proofs.MovedLaws.Lists.{asked_first, told_first_part}
+use Rattle.gix_odb_world.specs.RunLaws.Moved.{HadPublished, HasMoved}
+use Rattle.gix_odb_world.specs.RunLaws.Turn.{IsQueryTurn}
+use Rattle.gix_odb_world.proofs.RunLaws.JustRead.{answered_then}
+use Rattle.gix_odb_world.proofs.RunLaws.KnownRun.{IsKnownRun}
+use Rattle.gix_odb_world.proofs.RunLaws.QueryTurns.{IsLookTurn, look_turn, same_event}
+use Rattle.gix_odb_world.proofs.RunLaws.ToldThen.{ToldBy, told_by_turn}
+use Rattle.gix_odb_world.proofs.RunLaws.MovedLaws.Calls.{call_before}
+use Rattle.gix_odb_world.proofs.RunLaws.MovedLaws.Fairness.{fair_to, goes_on}
+use Rattle.gix_odb_world.proofs.RunLaws.MovedLaws.LooseSound.{sound_file_is_had}
+use Rattle.gix_odb_world.proofs.RunLaws.MovedLaws.ReadLists.{cores_read, view_read}
+use Rattle.gix_odb_world.proofs.RunLaws.MovedLaws.Lists.{asked_first, told_first_part}
 
 -- ---- the last turn
 
@@ -93,10 +93,10 @@ no_failure first whole handle store modes begun (Find id) promise = promise.no_f
 no_failure first whole handle store modes begun (Header id) promise = promise.no_failure
 no_failure first whole handle store modes begun (Test id) promise = promise.no_failure
 
-module _ (first : Volume) (events : List Event) (run : Run) (is : IsRun first events run) (place : ℕ) (e : Event) (handle : ℕ) (running : Running) (query : Query)
+module _ (first : Volume) (events : List Event) (is : IsKnownRun first events) (place : ℕ) (e : Event) (handle : ℕ) (running : Running) (query : Query)
     (turn : IsQueryTurn events place e handle running query) (missing : e.outcome ≡ outcomes.Reply (not_found query)) where
   at : IsLookTurn first events place e handle running query
-  at = look_turn first events run is place e handle running query turn
+  at = look_turn first events is place e handle running query turn
 
   abbrev past : List Event
   past = take place events
@@ -316,7 +316,7 @@ module _ (first : Volume) (events : List Event) (run : Run) (is : IsRun first ev
             subst IsGood (same_Some (record { ask = parts.Disk ask; answer = told.Disk answer }) x gives) (
               (λ v none. let wrong : None ≡ Some v = none in absurd (cc wrong)),
               (λ asks_it.
-                  subst (HasLoose setting query id folder) (answered_then first events run is by.place by.event by.there ask answer same)
+                  subst (HasLoose setting query id folder) (answered_then first events is by.place by.event by.there ask answer same)
                   (sound_file_is_had store.parts setting refl query id folder (disk_after first (take by.place events))
                   (loose by.place by.from (let lt = by.before in omega (arith, lt))) ask asks_it (call_works ask answer same))),
             )
@@ -365,9 +365,9 @@ module _ (first : Volume) (events : List Event) (run : Run) (is : IsRun first ev
             let until : place + 1 ≤ length events = (let lt = at.within in omega (arith, lt)) in
             let works : ¬ (FailedSince (take (place + 1) events) handle begun) = subst (λ (es : List Event). ¬ (FailedSince es handle begun)) (sym front) unfailed in
             let opened_early : store.opened ≤ begun = at.well.opened in
-            let holds = fair_to first events run is handle begun store id packed_place among moment (place + 1) since opened_early until lies works closed place (omega (arith, earlier)) (omega arith) in
+            let holds = fair_to first events is handle begun store id packed_place among moment (place + 1) since opened_early until lies works closed place (omega (arith, earlier)) (omega arith) in
             let on =
-            goes_on first events run is handle begun store id packed_place among moment (place + 1) since opened_early until lies works place (omega (arith, earlier)) (omega arith) e
+            goes_on first events is handle begun store id packed_place among moment (place + 1) since opened_early until lies works place (omega (arith, earlier)) (omega arith) e
             turn.there holds running turn.turns.status refl refl in
             record { rest = on.behind; all = on.told_is; fair = on.fair }
         parts_by (inr last) =
@@ -389,11 +389,11 @@ module _ (first : Volume) (events : List Event) (run : Run) (is : IsRun first ev
 
 -- A query isn't answered that nothing is there, in a store whose list was read before, while its object moves from a loose file of a folder into a
 -- pack there.
-pub object_that_moves_into_a_pack_is_not_missed : (first : Volume) (events : List Event) (run : Run) → IsRun first events run
+pub object_that_moves_into_a_pack_is_not_missed : (first : Volume) (events : List Event) → IsKnownRun first events
     → (place : ℕ) (e : Event) (handle : ℕ) (running : Running) (query : Query) → IsQueryTurn events place e handle running query
     → HadPublished events running.modes.core running.begun
     → HasMoved (tree_at first events) running.store.parts running.begun (place + 1) query (sought running.store.parts running.modes.ignoring query)
     → ¬ (e.outcome ≡ outcomes.Reply (not_found query))
-object_that_moves_into_a_pack_is_not_missed first events run is place e handle running query turn published moved missing =
-    not_missing first events run is place e handle running query turn missing published moved.folder moved.moment moved.from moved.to moved.loose moved.among moved.name
+object_that_moves_into_a_pack_is_not_missed first events is place e handle running query turn published moved missing =
+    not_missing first events is place e handle running query turn missing published moved.folder moved.moment moved.from moved.to moved.loose moved.among moved.name
     (moved.packed moved.moment (omega arith) moved.to).named moved.offset moved.packed

@@ -14,16 +14,16 @@ use Rattle.gix_odb_calls.specs.declared.write.Error.TheVariants as write_errors
 use Rattle.gix_odb_runs.specs.Event.{Event}
 use Rattle.gix_odb_runs.specs.Run.{FailedSince, tree_at}
 use Rattle.gix_odb_runs.specs.Writing.{ToWrite, to_write}
-use Rattle.gix_odb_runs.specs.declared.record.Run.{Run}
 use Rattle.gix_odb_world.specs.AtWork.{MakeCall, Modes, OpenStore, Running, Store, Task}
-use Rattle.gix_odb_world.specs.Headline.{IsRun, Law}
+use Rattle.gix_odb_world.specs.Headline.{Law}
 use Rattle.gix_odb_world.specs.Promise.{OpeningPromise, Promise, QueryPromise}
 use Rattle.gix_odb_world.specs.Refused.{RefusedSince}
 use Rattle.gix_odb_world.specs.Told.{told_since}
 use Rattle.gix_odb_world.specs.Written.{PromiseOfWrite}
 use Rattle.gix_odb_world.proofs.RunSteps.Fronts.{take_next}
-use Rattle.gix_odb_run_laws.specs.OwnAnswer.{IsOwnAnswer, IsOwnOfCall, NoCause, NoOpeningCause, NoQueryCause, NoWriteCause}
-use Rattle.gix_odb_run_laws.specs.Turn.{IsTurnAt}
+use Rattle.gix_odb_world.specs.RunLaws.OwnAnswer.{IsOwnAnswer, IsOwnOfCall, NoCause, NoOpeningCause, NoQueryCause, NoWriteCause}
+use Rattle.gix_odb_world.specs.RunLaws.Turn.{IsTurnAt}
+use Rattle.gix_odb_world.proofs.RunLaws.KnownRun.{IsKnownRun}
 
 -- ---- by the promise of a reply
 
@@ -75,12 +75,12 @@ module _ (first : Volume) (events : List Event) (handle : ℕ) (store : Store) (
       own_write (calls.Write kind size bytes known) (to_write store.parts.objects store.hash kind size bytes known) (λ id. tt) reply promise none
 
 -- Where a turn ends a task, and the run up to it shows no cause of an error for the task, the reply is an answer of its own and no refusal.
-pub without_a_cause_the_answer_is_its_own : (first : Volume) (events : List Event) (run : Run) → IsRun first events run
+pub without_a_cause_the_answer_is_its_own : (first : Volume) (events : List Event) → IsKnownRun first events
     → (place : ℕ) (e : Event) (handle : ℕ) (running : Running) → IsTurnAt events place e handle running
     → (reply : Reply) → e.outcome ≡ outcomes.Reply reply
     → NoCause first (take (place + 1) events) handle running.store running.modes running.begun running.task
     → IsOwnAnswer running.task reply
-without_a_cause_the_answer_is_its_own first events run is place e handle running turn reply ends none =
+without_a_cause_the_answer_is_its_own first events is place e handle running turn reply ends none =
     let past : List Event = take place events in
     let law : Law first past e = is.lawful place e turn.there in
     let begins = (law.worked handle running turn.turns).begins in

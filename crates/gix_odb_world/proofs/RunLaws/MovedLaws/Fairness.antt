@@ -31,14 +31,13 @@ use Rattle.gix_odb.specs.Contents.{folder_list, sought}
 use Rattle.gix_odb.specs.Held.{WasShownAt}
 use Rattle.gix_odb.proofs.OpenLaws.{openings_ask_no_event}
 use Rattle.gix_odb.specs.declared.call_state.CallState.TheVariants.{Looking, Refreshing, Refused, Writing}
-use Rattle.gix_odb_runs.specs.declared.record.Run.{Run}
 use Rattle.gix_odb_world.specs.declared.work.Work.{Work}
 use Rattle.gix_odb_world.specs.declared.work.Work.TheVariants.{Calling, Opening}
 use Rattle.gix_odb_world.specs.AtWork.{MakeCall, Running, Store, Task, setting_in}
 use Rattle.gix_odb_runs.specs.Cores.{answer_behind, cores_after, history_at}
 use Rattle.gix_odb_runs.specs.Event.{CoreAnswer, CoreEvent, Event, OfCore, OfDisk, OfNothing}
 use Rattle.gix_odb_events.specs.declared.answer.Ask.{Ask}
-use Rattle.gix_odb_world.specs.Headline.{IsRun, Works, stand_of}
+use Rattle.gix_odb_world.specs.Headline.{Works, stand_of}
 use Rattle.gix_odb_world.specs.Machines.{ask_in}
 use Rattle.gix_odb_world.specs.Recorded.{opened_in}
 use Rattle.gix_odb_runs.specs.Run.{Fails, FailedSince, IsTurnOf, Stand, did_asked, disk_after, told_now, tree_at}
@@ -58,11 +57,12 @@ use Rattle.gix_odb_world.proofs.Stock.Snapshots.{is_opened}
 use Rattle.gix_odb_world.proofs.Streams.Apart.{AsksOwn, asks_own}
 use Rattle.gix_odb_world.proofs.Streams.OneEvent.{Goes, LeavesStream, goes}
 use Rattle.gix_odb_world.proofs.ToldLemmas.{told_kept, told_none, told_turn, turn_or_not}
-use Rattle.gix_odb_run_laws.proofs.CallTurns.{no_event}
-use Rattle.gix_odb_run_laws.proofs.QueryTurns.{lawful_front, runs_up_to, tree_in_front}
-use Rattle.gix_odb_run_laws.proofs.MovedLaws.PackedStream.{IsOpenedSince, called_stream, others_leave, stays_open}
+use Rattle.gix_odb_world.proofs.RunLaws.CallTurns.{no_event}
+use Rattle.gix_odb_world.proofs.RunLaws.KnownRun.{IsKnownRun}
+use Rattle.gix_odb_world.proofs.RunLaws.QueryTurns.{lawful_front, runs_up_to, tree_in_front}
+use Rattle.gix_odb_world.proofs.RunLaws.MovedLaws.PackedStream.{IsOpenedSince, called_stream, others_leave, stays_open}
 
-module _ (first : Volume) (events : List Event) (run : Run) (is : IsRun first events run) (handle begun : ℕ) (store : Store) (id : ObjectId) (place : PackedPlace)
+module _ (first : Volume) (events : List Event) (is : IsKnownRun first events) (handle begun : ℕ) (store : Store) (id : ObjectId) (place : PackedPlace)
     (among : Contains (folder_list store.parts) place.folder) (since last : ℕ) (started : begun ≤ since) (early : store.opened ≤ begun) (until : last ≤ length events)
     (lies : (moment : ℕ) → since ≤ moment → moment ≤ last → LiesIndexed (tree_at first events moment) store.hash id place)
     (works : ¬ (FailedSince (take last events) handle begun)) where
@@ -140,7 +140,7 @@ module _ (first : Volume) (events : List Event) (run : Run) (is : IsRun first ev
         fair = one.fair;
         stream = λ stream has.
             let old : stream_in exchanges ≡ Some stream = sym (ap stream_in nothing) ∙ has in
-            stays_open first events run is since last now later (let lt = up in omega (arith, lt)) e there stream (leaves stream old) (one.stream stream old);
+            stays_open first events is since last now later (let lt = up in omega (arith, lt)) e there stream (leaves stream old) (one.stream stream old);
       }
 
       -- an exchange was told
@@ -209,7 +209,7 @@ module _ (first : Volume) (events : List Event) (run : Run) (is : IsRun first ev
               told_one x (told_turn past e handle begun behind_begun turn (OfDisk ask (answer_now disk ask)) asked x refl)
               (calls_are_fair store.hash id place disk lies_now exchanges ask unfailed next_fair)
               (λ stream has.
-              called_stream first events run is since last now later (let lt = up in omega (arith, lt)) e there handle was status ask asks_its asked
+              called_stream first events is since last now later (let lt = up in omega (arith, lt)) e there handle was status ask asks_its asked
               (λ s old. one.stream s (sym (ap (λ n. stream_in (told_since past handle n)) same) ∙ old)) stream
               (ap (λ n. stream_by (stream_in (told_since past handle n)) (parts.Disk ask) (told.Disk (answer_now disk ask))) same ∙ sym (stream_in-push exchanges x) ∙ has))
 
@@ -295,7 +295,7 @@ module _ (first : Volume) (events : List Event) (run : Run) (is : IsRun first ev
               let asked : e.asked ≡ OfCore was.modes.core handle event answer = told_so (Some (parts.Core event)) same_ask in
               told_one x (told_turn past e handle begun behind_begun turn (OfCore was.modes.core handle event answer) asked x refl) core_fair
               (λ stream has.
-              stays_open first events run is since last now later (let lt = up in omega (arith, lt)) e there stream (subst (LeavesStream stream.dir) (sym asked) tt)
+              stays_open first events is since last now later (let lt = up in omega (arith, lt)) e there stream (subst (LeavesStream stream.dir) (sym asked) tt)
               (one.stream stream (sym (stream_in-push exchanges x) ∙ has)))
 
         by_ask : (ask : Option Ask) → turned.ask ≡ ask → GoesOn
@@ -314,7 +314,7 @@ module _ (first : Volume) (events : List Event) (run : Run) (is : IsRun first ev
         | inr other ↦
             silent (told_kept past e handle begun behind_begun other)
             (λ stream has.
-            others_leave first events run is since last now later (let lt = up in omega (arith, lt)) e there handle was status other stream
+            others_leave first events is since last now later (let lt = up in omega (arith, lt)) e there handle was status other stream
             (ap (λ n. stream_in (told_since past handle n)) same ∙ has))
       ]
 

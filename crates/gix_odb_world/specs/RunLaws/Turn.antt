@@ -6,8 +6,8 @@ use Rattle.odb_asks.specs.declared.ask.DiskAsk.TheVariants as asks
 use Rattle.gix_odb_calls.specs.declared.query.Query.{Query}
 use Rattle.gix_odb_world.specs.AtWork.{MakeCall, Running}
 use Rattle.gix_odb_runs.specs.Event.{CoreAnswer, CoreEvent, Event, OfCore, OfDisk}
-use Rattle.gix_odb_world.specs.Headline.{Turns}
 use Rattle.gix_odb_runs.specs.Run.{IsTurnOf}
+use Rattle.gix_odb_world.specs.Status.{Turns}
 use Rattle.gix_odb_world.specs.Told.{call_of}
 
 -- the event at a place of a run is a turn of a handle, and this is what the handle was at

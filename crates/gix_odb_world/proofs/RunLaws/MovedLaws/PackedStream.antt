@@ -17,10 +17,9 @@ use Rattle.gix_odb_looks.specs.OpenStream.{IsOnStream, IsStreamOf, given_by}
 use Rattle.gix_odb_looks.specs.Stream.{Stream, opens, reads, stream_by, stream_in}
 use Rattle.gix_odb_looks.proofs.StreamLaws.Directories.{stream_of_a_directory_begins, stream_of_a_directory_goes_on, stream_of_a_directory_is_kept_by_another_state}
 use Rattle.gix_odb_looks.proofs.StreamLaws.Exchanges.{reads-given}
-use Rattle.gix_odb_runs.specs.declared.record.Run.{Run}
 use Rattle.gix_odb_world.specs.AtWork.{Running}
 use Rattle.gix_odb_runs.specs.Event.{Asked, Event, OfCore, OfDisk, OfNewCore, OfNothing}
-use Rattle.gix_odb_world.specs.Headline.{IsRun, LeavesDisk}
+use Rattle.gix_odb_world.specs.Headline.{LeavesDisk}
 use Rattle.gix_odb_runs.specs.Run.{IsTurnOf, disk_after, disk_after_asked, tree_at}
 use Rattle.gix_odb_world.specs.Running.{Runs}
 use Rattle.gix_odb_world.specs.Status.{Working, status_of}
@@ -30,7 +29,8 @@ use Rattle.gix_odb_world.proofs.RunSteps.{IsTurned, Kind, Made, Quiet, Turned, k
 use Rattle.gix_odb_world.proofs.Streams.{are_open}
 use Rattle.gix_odb_world.proofs.Streams.Apart.{AreOpen, AsksOwn, asks_own}
 use Rattle.gix_odb_world.proofs.Streams.OneEvent.{LeavesStream, kept_stream}
-use Rattle.gix_odb_run_laws.proofs.QueryTurns.{lawful_front, runs_up_to}
+use Rattle.gix_odb_world.proofs.RunLaws.KnownRun.{IsKnownRun}
+use Rattle.gix_odb_world.proofs.RunLaws.QueryTurns.{lawful_front, runs_up_to}
 
 -- what leaves the disk is on no stream
 pub leaves_stream : (dir : ℕ) (asked : Asked) → LeavesDisk asked → LeavesStream dir asked
@@ -51,7 +51,7 @@ pub record IsOpenedSince (first : Volume) (events : List Event) (since last : �
   pub coming : List Entry
   pub is : IsStreamOf (tree_at first events moment) stream.folder disk stream.dir stream.entries coming
 
-module _ (first : Volume) (events : List Event) (run : Run) (is : IsRun first events run) (since last now : ℕ) (later : since ≤ now) (before : now ≤ last) (e : Event)
+module _ (first : Volume) (events : List Event) (is : IsKnownRun first events) (since last now : ℕ) (later : since ≤ now) (before : now ≤ last) (e : Event)
     (there : slice_get events now ≡ Some e) where
   abbrev past : List Event
   past = take now events

@@ -24,12 +24,11 @@ use Rattle.gix_odb_looks.specs.Stream.{Stream, opens, reads, stream_by, stream_i
 use Rattle.gix_odb_looks.proofs.StreamLaws.Directories.{stream_of_a_directory_goes_on}
 use Rattle.gix_odb_looks.proofs.StreamLaws.Exchanges.{reads-given, stream_in-push}
 use Rattle.gix_odb_look_laws.specs.ListedFiles.{AreOfTree, IsOrFails, IsToldOfTree, Opens}
-use Rattle.gix_odb_runs.specs.declared.record.Run.{Run}
 use Rattle.gix_odb_world.specs.AtWork.{Running}
 use Rattle.gix_odb_runs.specs.Cores.{answer_behind, history_at}
 use Rattle.gix_odb_runs.specs.Event.{CoreAnswer, Event, OfCore, OfDisk}
 use Rattle.gix_odb_events.specs.declared.answer.Ask.{Ask}
-use Rattle.gix_odb_world.specs.Headline.{IsRun, Works, stand_of}
+use Rattle.gix_odb_world.specs.Headline.{Works, stand_of}
 use Rattle.gix_odb_world.specs.Machines.{ask_in}
 use Rattle.gix_odb_runs.specs.Run.{IsTurnOf, Stand, disk_after, told_now, tree_at}
 use Rattle.gix_odb_world.specs.Running.{Runs}
@@ -40,7 +39,8 @@ use Rattle.gix_odb_world.proofs.Streams.{streams_stand}
 use Rattle.gix_odb_world.proofs.Streams.Apart.{asks_own}
 use Rattle.gix_odb_world.proofs.Streams.OneEvent.{Goes, goes}
 use Rattle.gix_odb_world.proofs.ToldLemmas.{told_first, told_kept, told_none, told_turn, turn_or_not}
-use Rattle.gix_odb_run_laws.proofs.QueryTurns.{lawful_front, runs_up_to, tree_in_front}
+use Rattle.gix_odb_world.proofs.RunLaws.KnownRun.{IsKnownRun}
+use Rattle.gix_odb_world.proofs.RunLaws.QueryTurns.{lawful_front, runs_up_to, tree_in_front}
 
 -- ---- lists
 
@@ -215,7 +215,7 @@ module _ (tree : Tree) where
 
   -- ---- along a run
 
-  module _ (first : Volume) (events : List Event) (run : Run) (is : IsRun first events run) where
+  module _ (first : Volume) (events : List Event) (is : IsKnownRun first events) where
     -- the run shows the tree from the start of the task of a handle on
     abbrev pub Stays : (begun now : ℕ) → Type 0
     Stays begun now = (moment : ℕ) → begun ≤ moment → moment ≤ now → tree_at first events moment ≡ tree

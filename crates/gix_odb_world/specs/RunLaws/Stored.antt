@@ -11,7 +11,7 @@ use Rattle.gix_odb_events.specs.declared.event.PassWhy.{PassWhy}
 use Rattle.gix_odb.specs.Contents.{ShowsFile}
 use Rattle.gix_odb_look_laws.specs.JustRead.{IsWhy}
 use Rattle.gix_odb_runs.specs.Event.{Event}
-use Rattle.gix_odb_run_laws.specs.Turn.{IsTurnBefore, Reads}
+use Rattle.gix_odb_world.specs.RunLaws.Turn.{IsTurnBefore, Reads}
 
 -- In the turn before a place a call read a path, and was answered so.
 pub record WasJustRead (run : List Event) (handle begun next : ℕ) (path : Path) (answer : DiskAnswer) : Type 0 where

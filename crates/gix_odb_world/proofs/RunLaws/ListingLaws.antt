@@ -23,17 +23,16 @@ use Rattle.gix_odb.specs.Contents.{folder_list}
 use Rattle.gix_odb.specs.Moments.{Sometime}
 use Rattle.gix_odb_look_laws.specs.ListedFiles.{listed_in}
 use Rattle.gix_odb_look_laws.specs.ListerCalls.{IsRowSeen}
-use Rattle.gix_odb_runs.specs.declared.record.Run.{Run}
 use Rattle.gix_odb_world.specs.AtWork.{Running, setting_in}
 use Rattle.gix_odb_runs.specs.Event.{Event}
-use Rattle.gix_odb_world.specs.Headline.{IsRun}
 use Rattle.gix_odb_runs.specs.Run.{disk_after, tree_at}
 use Rattle.gix_odb_world.specs.Told.{told_since}
-use Rattle.gix_odb_run_laws.specs.Listed.{AreRowsShown, IsRowShown, StoodStill}
-use Rattle.gix_odb_run_laws.specs.Turn.{AsksCore, IsTurnAt}
-use Rattle.gix_odb_run_laws.proofs.CallTurns.{IsListed, listed_by_turn}
-use Rattle.gix_odb_run_laws.proofs.OneTree.{one_tree, to_some}
-use Rattle.gix_odb_run_laws.proofs.ToldThen.{told_then}
+use Rattle.gix_odb_world.specs.RunLaws.Listed.{AreRowsShown, IsRowShown, StoodStill}
+use Rattle.gix_odb_world.specs.RunLaws.Turn.{AsksCore, IsTurnAt}
+use Rattle.gix_odb_world.proofs.RunLaws.CallTurns.{IsListed, listed_by_turn}
+use Rattle.gix_odb_world.proofs.RunLaws.KnownRun.{IsKnownRun}
+use Rattle.gix_odb_world.proofs.RunLaws.OneTree.{one_tree, to_some}
+use Rattle.gix_odb_world.proofs.RunLaws.ToldThen.{told_then}
 
 -- ---- a look at a path
 
@@ -47,7 +46,7 @@ look_is : (disk : Volume) (path : Path) (follow : Bool) (meta : Meta) → answer
 unfolding answer_of
 look_is disk path follow meta is = look_so (fails_now disk (asks.Look path follow)) (looked (tree_of disk.state) path follow) meta is
 
-module _ (first : Volume) (events : List Event) (run : Run) (is : IsRun first events run) where
+module _ (first : Volume) (events : List Event) (is : IsKnownRun first events) where
   abbrev trees : ℕ → Tree
   trees moment = tree_at first events moment
 
@@ -59,7 +58,7 @@ module _ (first : Volume) (events : List Event) (run : Run) (is : IsRun first ev
     looked_then : (path : Path) (follow : Bool) (meta : Meta) → WasTold told (parts.Disk (asks.Look path follow)) (told_by.Disk (answers.Meta meta))
         → Sometime begun place (λ moment. looked (trees moment) path follow ≡ Ok meta)
     looked_then path follow meta was =
-        let given = told_then first events run is place handle begun (asks.Look path follow) (answers.Meta meta) was in
+        let given = told_then first events is place handle begun (asks.Look path follow) (answers.Meta meta) was in
         let before = given.before in
         record {
           moment = given.moment;
@@ -90,7 +89,7 @@ module _ (first : Volume) (events : List Event) (run : Run) (is : IsRun first ev
     exchanges = told_since (take place events) handle running.begun
 
     listed : IsListed running.store exchanges listing
-    listed = listed_by_turn first events run is place e handle running turn listing publishes
+    listed = listed_by_turn first events is place e handle running turn listing publishes
 
     -- The rows of a listing that a call hands to the core, a query or a write, have different paths. The path of each is an index path in the pack
     -- directory of one of the folders of the handle's store, and no row is of a multi-pack index. The index of each was itself a file at a moment of
@@ -109,5 +108,5 @@ module _ (first : Volume) (events : List Event) (run : Run) (is : IsRun first ev
         → listing.rows ≡ longest_first (listed_in (trees running.begun) (folder_list running.store.parts))
     rows_that_a_turn_publishes_are_those_of_the_tree stood =
         let tree : Tree = trees running.begun in
-        let one = one_tree tree first events run is place handle running turn.turns.status stood in
+        let one = one_tree tree first events is place handle running turn.turns.status stood in
         listed.of_tree tree (to_some tree [] exchanges one.left one.are)

@@ -14,20 +14,20 @@ use Rattle.gix_odb_events.specs.declared.answer.Ask.TheVariants as parts
 use Rattle.gix_odb_calls.specs.declared.query.Query.{Query}
 use Rattle.gix_odb_looks.specs.Exchange.{Exchange, IsLast}
 use Rattle.gix_odb_look_laws.specs.JustRead.{read_of}
-use Rattle.gix_odb_runs.specs.declared.record.Run.{Run}
 use Rattle.gix_odb_world.specs.AtWork.{Running}
 use Rattle.gix_odb_runs.specs.Event.{Asked, CoreEvent, Event, OfCore, OfDisk, OfNewCore, OfNothing}
-use Rattle.gix_odb_world.specs.Headline.{IsRun, LeavesDisk}
+use Rattle.gix_odb_world.specs.Headline.{LeavesDisk}
 use Rattle.gix_odb_runs.specs.Run.{IsTurnOf, disk_after}
 use Rattle.gix_odb_world.specs.Told.{exchange_of, told_since}
 use Rattle.gix_odb_runs.specs.Turned.{is_turn_of}
 use Rattle.gix_odb_world.proofs.RunSteps.{Kind, Made, Quiet, Turned, kind_of}
 use Rattle.gix_odb_world.proofs.RunSteps.Fronts.{event_or_end, length_take, none_beyond, take_suc, there_in_front, there_in_whole}
 use Rattle.gix_odb_world.proofs.ToldLemmas.{not_turned, told_kept, told_turn, turn_or_not, turned_by}
-use Rattle.gix_odb_run_laws.specs.Stored.{WasJustRead}
-use Rattle.gix_odb_run_laws.specs.Turn.{IsTurnBefore}
-use Rattle.gix_odb_run_laws.proofs.LastTold.{LastTold, last_told}
-use Rattle.gix_odb_run_laws.proofs.QueryTurns.{IsLookTurn}
+use Rattle.gix_odb_world.specs.RunLaws.Stored.{WasJustRead}
+use Rattle.gix_odb_world.specs.RunLaws.Turn.{IsTurnBefore}
+use Rattle.gix_odb_world.proofs.RunLaws.KnownRun.{IsKnownRun}
+use Rattle.gix_odb_world.proofs.RunLaws.LastTold.{LastTold, last_told}
+use Rattle.gix_odb_world.proofs.RunLaws.QueryTurns.{IsLookTurn}
 
 -- ---- what was told up to the next turn
 
@@ -160,7 +160,7 @@ module _ (first : Volume) (events : List Event) (next : ℕ) (e : Event) (handle
 same_call : (one other : DiskAsk) (given answer : DiskAnswer) → OfDisk one given ≡ OfDisk other answer → (one ≡ other) × (given ≡ answer)
 same_call one other given answer is = (cc is, cc is)
 
-module _ (first : Volume) (events : List Event) (run : Run) (is : IsRun first events run) (place : ℕ) (e : Event) (there : slice_get events place ≡ Some e)
+module _ (first : Volume) (events : List Event) (is : IsKnownRun first events) (place : ℕ) (e : Event) (there : slice_get events place ≡ Some e)
     (ask : DiskAsk) (answer : DiskAnswer) (asked : e.asked ≡ OfDisk ask answer) where
   abbrev before : List Event
   before = take place events

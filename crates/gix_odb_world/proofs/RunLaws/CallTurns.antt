@@ -28,22 +28,22 @@ use Rattle.gix_odb_look_laws.proofs.RefreshHappenLaws.{what_a_refresh_hands_on_c
 use Rattle.gix_odb.specs.Contents.{folder_list, sought}
 use Rattle.gix_odb.proofs.OpenLaws.{openings_ask_no_event}
 use Rattle.gix_odb.specs.declared.call_state.CallState.TheVariants.{Looking, Refreshing, Refused, Writing}
-use Rattle.gix_odb_runs.specs.declared.record.Run.{Run}
 use Rattle.gix_odb_world.specs.declared.work.Work.{Work}
 use Rattle.gix_odb_world.specs.declared.work.Work.TheVariants.{Calling, Opening}
 use Rattle.gix_odb_world.specs.AtWork.{Running, Store, setting_in}
 use Rattle.gix_odb_runs.specs.Event.{CoreEvent, Event}
 use Rattle.gix_odb_looks.specs.LookUpOrder.{loose_ask}
-use Rattle.gix_odb_world.specs.Headline.{IsRun, Works, stand_of}
+use Rattle.gix_odb_world.specs.Headline.{Works, stand_of}
 use Rattle.gix_odb_world.specs.Machines.{ask_in}
 use Rattle.gix_odb_runs.specs.Run.{disk_after}
 use Rattle.gix_odb_world.specs.Running.{Knows, Runs}
 use Rattle.gix_odb_world.specs.Status.{Working}
 use Rattle.gix_odb_world.specs.Told.{look_now, refresh_now, told_since, view_then}
 use Rattle.gix_odb_world.proofs.Stock.OneCore.{ShownSince}
-use Rattle.gix_odb_run_laws.specs.Turn.{AsksCore, IsTurnAt}
-use Rattle.gix_odb_run_laws.proofs.QueryTurns.{core_asked}
-use Rattle.gix_odb_run_laws.proofs.RefreshListings.{rows_of_a_refresh_are_those_of_the_tree, rows_of_a_refresh_were_seen}
+use Rattle.gix_odb_world.specs.RunLaws.Turn.{AsksCore, IsTurnAt}
+use Rattle.gix_odb_world.proofs.RunLaws.KnownRun.{IsKnownRun}
+use Rattle.gix_odb_world.proofs.RunLaws.QueryTurns.{core_asked}
+use Rattle.gix_odb_world.proofs.RunLaws.RefreshListings.{rows_of_a_refresh_are_those_of_the_tree, rows_of_a_refresh_were_seen}
 
 -- ---- what is asked
 
@@ -61,7 +61,7 @@ pub record IsListed (store : Store) (told : List Exchange) (listing : Listing) :
   pub seen : All (IsRowSeen (λ ask answer. WasTold told (parts.Disk ask) (told_by.Disk answer))) listing.rows
   pub of_tree : (tree : Tree) → AreOfTree tree [] told → listing.rows ≡ longest_first (listed_in tree (folder_list store.parts))
 
-module _ (first : Volume) (events : List Event) (run : Run) (is : IsRun first events run) (place : ℕ) (e : Event) (handle : ℕ) (running : Running)
+module _ (first : Volume) (events : List Event) (is : IsKnownRun first events) (place : ℕ) (e : Event) (handle : ℕ) (running : Running)
     (turn : IsTurnAt events place e handle running) (listing : Listing) (publishes : AsksCore e (events_of.Publish listing)) where
   abbrev past : List Event
   past = take place events

@@ -14,51 +14,53 @@ use Rattle.gix_odb_calls.specs.declared.query.Query.TheVariants.{Find}
 use Rattle.gix_odb_calls.specs.declared.step.Outcome.TheVariants as outcomes
 use Rattle.gix_odb.specs.Contents.{Contents, InIndex, InPack, LooseFile, Object, sought}
 use Rattle.gix_odb.specs.Held.{Held, WasShown, WasShownAt}
-use Rattle.gix_odb_runs.specs.declared.record.Run.{Run}
 use Rattle.gix_odb_world.specs.AtWork.{MakeCall, Running}
 use Rattle.gix_odb_world.specs.Begun.{BegunAs}
 use Rattle.gix_odb_runs.specs.Event.{Event}
-use Rattle.gix_odb_world.specs.Headline.{IsRun}
 use Rattle.gix_odb_runs.specs.Run.{tree_at}
 use Rattle.gix_odb_world.specs.Told.{call_of}
 use Rattle.gix_odb_world.proofs.RunSteps.Fronts.{take_next}
-use Rattle.gix_odb_run_laws.specs.Hashed.{ObjectsHash}
-use Rattle.gix_odb_run_laws.specs.Turn.{IsQueryTurn}
-use Rattle.gix_odb_run_laws.proofs.QueryTurns.{IsLookTurn, look_turn, tree_in_front}
+use Rattle.gix_odb_world.specs.RunLaws.Hashed.{ObjectsHash}
+use Rattle.gix_odb_world.specs.RunLaws.Turn.{IsQueryTurn}
+use Rattle.gix_odb_world.proofs.RunLaws.KnownRun.{IsKnownRun}
+use Rattle.gix_odb_world.proofs.RunLaws.QueryTurns.{IsLookTurn, look_turn, tree_in_front}
 
 -- what was shown up to a moment of the front of a run was shown in the run
 module _ (first : Volume) (events : List Event) (place : ℕ) (within : place ≤ length events) where
-  shown_in_run : (from now : ℕ) → now ≤ place → (path : Path) (bytes : List ℕ) → WasShownAt (tree_at first (take place events)) from now path bytes
-      → WasShownAt (tree_at first events) 0 (length events) path bytes
-  shown_in_run from now early path bytes was =
+  shown_in_run : (opened from now : ℕ) → opened ≤ from → now ≤ place → (path : Path) (bytes : List ℕ) → WasShownAt (tree_at first (take place events)) from now path bytes
+      → WasShownAt (tree_at first events) opened (length events) path bytes
+  shown_in_run opened from now later early path bytes was =
+      let since = was.from in
       let to = was.to in
       let last = within in
       record {
         moment = was.moment;
-        from = omega arith;
+        from = omega (arith, later, since);
         to = omega (arith, to, early, last);
         was =
             subst (λ (tree : Tree). (time : ℕ) × (read_of tree path ≡ Ok (bytes, time)))
             (tree_in_front first events place was.moment (omega (arith, to, early))) was.was;
       }
 
-  contents_in_run : (opened begun now : ℕ) → now ≤ place → (folder : Path) (id : ObjectId) (contents : Contents)
+  -- where a call began after its store was opened, that has been so since the store was opened
+  contents_in_run : (opened begun now : ℕ) → opened ≤ begun → now ≤ place → (folder : Path) (id : ObjectId) (contents : Contents)
       → WasShown (tree_at first (take place events)) opened begun now folder id contents
-      → WasShown (tree_at first events) 0 0 (length events) folder id contents
-  contents_in_run opened begun now early folder id (LooseFile bytes) was = shown_in_run begun now early _ bytes was
-  contents_in_run opened begun now early folder id (InIndex name index offset) was = (was.0, shown_in_run opened now early _ index was.1)
-  contents_in_run opened begun now early folder id (InPack name index pack offset) was =
-      (was.0, shown_in_run opened now early _ index was.1, shown_in_run opened now early _ pack was.2)
+      → WasShown (tree_at first events) opened opened (length events) folder id contents
+  contents_in_run opened begun now later early folder id (LooseFile bytes) was = shown_in_run opened begun now later early _ bytes was
+  contents_in_run opened begun now later early folder id (InIndex name index offset) was =
+      (was.0, shown_in_run opened opened now (omega arith) early _ index was.1)
+  contents_in_run opened begun now later early folder id (InPack name index pack offset) was =
+      (was.0, shown_in_run opened opened now (omega arith) early _ index was.1, shown_in_run opened opened now (omega arith) early _ pack was.2)
 
--- Where each object in the files of a store, as the states of a run show them, has data that hash to its id, what a find finds has data that hash to
+-- Where each object in the files of a store, as the run shows them since the store was opened, has data that hash to its id, what a find finds has data that hash to
 -- the id that it seeks.
-pub found_data_hash_to_the_sought_id : (first : Volume) (events : List Event) (run : Run) → IsRun first events run
+pub found_data_hash_to_the_sought_id : (first : Volume) (events : List Event) → IsKnownRun first events
     → (place : ℕ) (e : Event) (handle : ℕ) (running : Running) (asked : ObjectId) → IsQueryTurn events place e handle running (Find asked)
     → (kind : Kind) (bytes : List ℕ) → e.outcome ≡ outcomes.Reply (replies.Found kind bytes)
-    → ObjectsHash (tree_at first events) (length events) running.store.parts
+    → ObjectsHash (tree_at first events) (length events) running.store
     → object_id running.store.hash kind bytes ≡ sought running.store.parts running.modes.ignoring (Find asked)
-found_data_hash_to_the_sought_id first events run is place e handle running asked turn kind bytes ends hashed =
-    let at : IsLookTurn first events place e handle running (Find asked) = look_turn first events run is place e handle running (Find asked) turn in
+found_data_hash_to_the_sought_id first events is place e handle running asked turn kind bytes ends hashed =
+    let at : IsLookTurn first events place e handle running (Find asked) = look_turn first events is place e handle running (Find asked) turn in
     let id : ObjectId = sought running.store.parts running.modes.ignoring (Find asked) in
     let past : List Event = take place events in
     let began : BegunAs past handle running.begun running.store (MakeCall (call_of (Find asked))) =
@@ -74,5 +76,6 @@ found_data_hash_to_the_sought_id first events run is place e handle running aske
     let early : length (past ++ e ∷ []) ≤ place + 1 = omega (arith, count, long) in
     ap (λ (hash : HashKind). object_id hash kind bytes) (sym at.fits.hashed)
     ∙ hashed asked id own.folder own.among own.contents
-    (contents_in_run first events (place + 1) (omega (arith, within)) running.store.opened running.begun (length (past ++ e ∷ [])) early own.folder id own.contents own.shown)
+    (contents_in_run first events (place + 1) (omega (arith, within)) running.store.opened running.begun (length (past ++ e ∷ [])) at.well.opened early own.folder id own.contents
+    own.shown)
     kind bytes own.holds

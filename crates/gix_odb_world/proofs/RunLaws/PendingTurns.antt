@@ -18,8 +18,8 @@ use Rattle.gix_odb_world.specs.Headline.{IsLawful, Law, Turns, Works, stand_of}
 use Rattle.gix_odb_world.specs.Status.{Working, gone_on, status_of}
 use Rattle.gix_odb_world.specs.Valid.{misuse_of}
 use Rattle.gix_odb_world.proofs.RunSteps.Fronts.{front_of_front, length_take, take_next}
-use Rattle.gix_odb_run_laws.specs.Pending.{AreInTime, ArePending, IsPendingTurn}
-use Rattle.gix_odb_run_laws.proofs.TurnsAtWork.{IsLeftBy, left_by_turn, turn_at_work}
+use Rattle.gix_odb_world.specs.RunLaws.Pending.{AreInTime, ArePending, IsPendingTurn}
+use Rattle.gix_odb_world.proofs.RunLaws.TurnsAtWork.{IsLeftBy, left_by_turn, turn_at_work}
 
 -- ---- what a turn leaves of the bound
 

@@ -10,20 +10,20 @@ use Rattle.gix_odb_looks.specs.declared.look_up.LookUp.{LookUp}
 use Rattle.gix_odb.specs.Contents.{sought}
 use Rattle.gix_odb_look_laws.specs.AtHand.{IsAtHand, IsDone}
 use Rattle.gix_odb_look_laws.proofs.OnceLaws.{object_at_hand_is_found_at_once}
-use Rattle.gix_odb_runs.specs.declared.record.Run.{Run}
 use Rattle.gix_odb_world.specs.declared.work.Work.{Work}
 use Rattle.gix_odb_world.specs.AtWork.{Running, setting_in}
 use Rattle.gix_odb_runs.specs.Event.{Asked, Event, OfNothing, answered}
-use Rattle.gix_odb_world.specs.Headline.{IsRun, outcome_of, stand_of}
+use Rattle.gix_odb_world.specs.Headline.{outcome_of, stand_of}
 use Rattle.gix_odb_world.specs.Machine.{placed}
 use Rattle.gix_odb_world.specs.Machines.{ask_in, fed_in}
 use Rattle.gix_odb_world.specs.Recorded.{opened_in}
 use Rattle.gix_odb_runs.specs.Run.{did_asked, disk_after, told_now}
 use Rattle.gix_odb_world.specs.Running.Query.{looking}
 use Rattle.gix_odb_world.specs.Told.{look_begun, told_since, view_then}
-use Rattle.gix_odb_run_laws.specs.Ends.{EndsUnasked}
-use Rattle.gix_odb_run_laws.specs.Turn.{IsQueryTurn}
-use Rattle.gix_odb_run_laws.proofs.QueryTurns.{IsLookTurn, look_turn, view_in_front}
+use Rattle.gix_odb_world.specs.RunLaws.Ends.{EndsUnasked}
+use Rattle.gix_odb_world.specs.RunLaws.Turn.{IsQueryTurn}
+use Rattle.gix_odb_world.proofs.RunLaws.KnownRun.{IsKnownRun}
+use Rattle.gix_odb_world.proofs.RunLaws.QueryTurns.{IsLookTurn, look_turn, view_in_front}
 
 nothing_of : (xs : List Exchange) → length xs ≡ 0 → xs ≡ []
 nothing_of [] is = refl
@@ -67,12 +67,12 @@ module _ (first : Volume) (events : List Event) (place : ℕ) (e : Event) (handl
 
 -- Let a handle's snapshot, as its query began, have been read, and have an index with the id that is sought and the pack that each such index names
 -- for it; for a test an index with the id is enough. Then the query ends in its first turn, which did nothing.
-pub object_at_hand_is_found_in_the_first_turn : (first : Volume) (events : List Event) (run : Run) → IsRun first events run
+pub object_at_hand_is_found_in_the_first_turn : (first : Volume) (events : List Event) → IsKnownRun first events
     → (place : ℕ) (e : Event) (handle : ℕ) (running : Running) (query : Query) → IsQueryTurn events place e handle running query → running.turns ≡ 0
     → IsAtHand query (sought running.store.parts running.modes.ignoring query) (view_then events handle running.modes.core running.begun)
     → EndsUnasked query e
-object_at_hand_is_found_in_the_first_turn first events run is place e handle running query turn early hand =
-    let at = look_turn first events run is place e handle running query turn in
+object_at_hand_is_found_in_the_first_turn first events is place e handle running query turn early hand =
+    let at = look_turn first events is place e handle running query turn in
     let id = sought running.store.parts running.modes.ignoring query in
     ends_unasked first events place e handle running query at early
     (object_at_hand_is_found_at_once (setting_in running.store) query id (view_then (take place events) handle running.modes.core running.begun)

@@ -25,15 +25,14 @@ use Rattle.gix_odb_events.specs.declared.event.Refusal.TheVariants as refusals
 use Rattle.gix_odb_loose.specs.declared.find.Error.TheVariants as loose_errors
 use Rattle.gix_odb_loose.specs.declared.write.Error.TheVariants as loose_write_errors
 use Rattle.gix_odb_runs.specs.Cores.{answer_behind, cores_after, history_at}
-use Rattle.gix_odb_runs.specs.Event.{Asked, CoreAnswer, CoreEvent, Event, OfCore, OfDisk, OfNewCore, OfNothing}
+use Rattle.gix_odb_runs.specs.Event.{Asked, CoreEvent, Event}
 use Rattle.gix_odb_events.specs.declared.answer.Ask.{Ask}
 use Rattle.gix_odb_runs.specs.Run.{FailedSince, Stand, disk_after, told_now, tree_at}
 use Rattle.gix_odb_runs.specs.Turned.{is_done}
 use Rattle.gix_odb_runs.specs.Writing.{ToWrite, to_write}
-use Rattle.gix_odb_runs.specs.declared.record.Run.{Run}
 use Rattle.gix_odb_runs.proofs.WriteAsk.Quiet.{never_wants}
 use Rattle.gix_odb_world.specs.AtWork.{MakeCall, Modes, OpenStore, Running, Store, Task}
-use Rattle.gix_odb_world.specs.Headline.{IsRun, IsTurn, Law, Suits, Turns, asked_applied, asked_by_clone, asked_by_close, stand_of}
+use Rattle.gix_odb_world.specs.Headline.{IsTurn, Law, Suits, Turns, asked_applied, asked_by_clone, asked_by_close, stand_of}
 use Rattle.gix_odb_world.specs.Promise.{OpeningPromise, Promise, QueryPromise}
 use Rattle.gix_odb_world.specs.Status.{Free, Resting, Status, Working, status_of}
 use Rattle.gix_odb_world.specs.Refused.{RefusedSince}
@@ -41,8 +40,9 @@ use Rattle.gix_odb_world.specs.Told.{told_since}
 use Rattle.gix_odb_world.specs.Valid.{misuse_of}
 use Rattle.gix_odb_world.specs.Written.{PromiseOfWrite}
 use Rattle.gix_odb_world.proofs.RunSteps.{turn_step}
-use Rattle.gix_odb_run_laws.specs.Memory.{RanOut, TellsWant}
-use Rattle.gix_odb_run_laws.proofs.TurnsAtWork.{turn_at_work}
+use Rattle.gix_odb_world.specs.RunLaws.Memory.{RanOut, TellsWant}
+use Rattle.gix_odb_world.proofs.RunLaws.KnownRun.{IsKnownRun}
+use Rattle.gix_odb_world.proofs.RunLaws.TurnsAtWork.{turn_at_work}
 
 -- ---- what a core answers
 
@@ -101,9 +101,9 @@ module _ (first : Volume) (past : List Event) (e : Event) (law : Law first past 
   event_has_memory = memory_by e.outcome refl law.suits
 
 -- No event of a run is answered by want of memory: by the disk, or by a core.
-pub no_event_is_answered_by_want_of_memory : (first : Volume) (events : List Event) (run : Run) → IsRun first events run
+pub no_event_is_answered_by_want_of_memory : (first : Volume) (events : List Event) → IsKnownRun first events
     → (place : ℕ) (e : Event) → slice_get events place ≡ Some e → ¬ (RanOut e.asked)
-no_event_is_answered_by_want_of_memory first events run is place e there = event_has_memory first (take place events) e (is.lawful place e there)
+no_event_is_answered_by_want_of_memory first events is place e there = event_has_memory first (take place events) e (is.lawful place e there)
 
 -- ---- what a reply tells
 
@@ -167,9 +167,9 @@ is_turn_if_replied : (step : Step) (error : CallError) (asked : Asked) (outcome 
 is_turn_if_replied step error asked outcome is suits = subst (λ (o : Outcome). Suits step o asked) is suits
 
 -- No query, opening or write of a run ends by an error that tells want of memory.
-pub no_reply_tells_want_of_memory : (first : Volume) (events : List Event) (run : Run) → IsRun first events run
+pub no_reply_tells_want_of_memory : (first : Volume) (events : List Event) → IsKnownRun first events
     → (place : ℕ) (e : Event) → slice_get events place ≡ Some e → (error : CallError) → e.outcome ≡ outcomes.Reply (replies.Refused error) → ¬ (TellsWant error)
-no_reply_tells_want_of_memory first events run is place e there error ends wants =
+no_reply_tells_want_of_memory first events is place e there error ends wants =
     let past : List Event = take place events in
     let law : Law first past e = is.lawful place e there in
     let at : IsAtTask past e =

@@ -52,7 +52,7 @@ use Rattle.gix_odb_looks.specs.declared.look_up.Part.TheVariants as parts
 use Rattle.gix_odb_looks.specs.declared.look_up.Purpose.{Purpose}
 use Rattle.gix_odb_looks.specs.declared.look_up.Purpose.TheVariants as purposes
 use Rattle.gix_odb_looks.proofs.MissLaws.Replies.{EndsNoMiss, IsMiss, found_is_no_miss, refused_is_no_miss, verdict_is_no_miss}
-use Rattle.gix_odb_run_laws.specs.Missed.{EndAtLastList, last_list, list_by}
+use Rattle.gix_odb_world.specs.RunLaws.Missed.{EndAtLastList, last_list, list_by}
 
 -- ---- what hands on no listing
 

@@ -1,0 +1,12 @@
+-- What the laws of runs rest on: a lawful run that begins with a tree, and in which each handle knew after each event what its work knows.
+use Rattle.std.specs.Prelude.{List}
+use Rattle.odb_asks.specs.MemDisk.{Volume}
+use Rattle.odb_nodes.specs.Tree.{IsTree, tree_of}
+use Rattle.gix_odb_runs.specs.Event.{Event}
+use Rattle.gix_odb_world.specs.Headline.{IsLawful}
+use Rattle.gix_odb_world.specs.Running.{RunsThroughout}
+
+pub record IsKnownRun (first : Volume) (events : List Event) : Type 0 where
+  pub start : IsTree (tree_of first.state)
+  pub lawful : IsLawful first events
+  pub throughout : RunsThroughout first events

@@ -1,0 +1,71 @@
+-- A write as a machine.
+use Rattle.std.specs.Prelude.{◌≡◌, Option, Some, None, Result, Ok, Err}
+use Rattle.gix_odb_loose.specs.LooseOrder.{disk_ask_of}
+use Rattle.gix_odb_loose.specs.declared.call.LooseCall.{LooseCall}
+use Rattle.gix_odb_calls.specs.declared.call.Reply.{Reply}
+use Rattle.gix_odb_calls.specs.declared.load_index.Error as load
+use Rattle.gix_odb_events.specs.declared.answer.Answer.{Answer}
+use Rattle.gix_odb_events.specs.declared.answer.Ask.{Ask}
+use Rattle.gix_odb_looks.specs.LookUpOrder.{loose_ask}
+use Rattle.gix_odb_refresh.specs.RefreshOrder as refreshes
+use Rattle.gix_odb_refresh.specs.declared.refresh.Refresh.{Refresh}
+use Rattle.gix_odb_refresh.specs.declared.refresh.Refresh.TheVariants as fronts
+use Rattle.gix_odb_refresh.specs.declared.refresh.Refresh.TheVariants.{Ready}
+use Rattle.gix_odb.specs.CallOrder.{result_of_write, unlisted, written_on}
+use Rattle.gix_odb.specs.declared.call_state.CallState.TheVariants.{Refreshing, Refused, Writing}
+use Rattle.gix_odb_world.specs.declared.work.Work.{Work}
+use Rattle.gix_odb_world.specs.declared.work.Work.TheVariants.{Calling}
+use Rattle.gix_odb_world.specs.AtWork.{MakeCall, Store}
+use Rattle.gix_odb_world.specs.Bound.{bound_of_task}
+use Rattle.gix_odb_runs.specs.Writing.{ToWrite, call_to_write}
+use Rattle.gix_odb_world.specs.Machine.{Machine}
+
+-- a write on its way: behind what stands in front of it, at its own turns, or not to be made, since its store could not be listed
+pub data WriteState : Type 0 where
+  InFront : (refresh : Refresh) (call : LooseCall) → WriteState
+  Own : (call : LooseCall) → WriteState
+  Unlisted : (error : load.Error) → WriteState
+
+abbrev pub work_of : WriteState → Work
+work_of (InFront refresh call) = Calling (Refreshing refresh call)
+work_of (Own call) = Calling (Writing call)
+work_of (Unlisted error) = Calling (Refused error)
+
+abbrev pub write_asks : WriteState → Option Ask
+write_asks (InFront refresh call) = refreshes.ask_of refresh
+write_asks (Own call) = loose_ask (disk_ask_of call)
+write_asks (Unlisted error) = None
+
+abbrev pub own_result : Result Reply LooseCall → Result Reply WriteState
+own_result (Ok reply) = Ok reply
+own_result (Err call) = Err (Own call)
+
+-- what a write comes to by what stands in front of it then
+abbrev pub front_result : LooseCall → Refresh → Result Reply WriteState
+front_result call Ready = own_result (result_of_write call)
+front_result call (fronts.Refused error) = Ok (unlisted error)
+front_result call refresh = Err (InFront refresh call)
+
+abbrev pub write_fed : Store → WriteState → Option Answer → Result Reply WriteState
+write_fed store (InFront refresh call) None = Err (InFront refresh call)
+write_fed store (InFront refresh call) (Some answer) = front_result call (refreshes.fed store.parts.objects store.parts.folders refresh answer)
+write_fed store (Own call) None = own_result (result_of_write call)
+write_fed store (Own call) (Some answer) = own_result (result_of_write (written_on call answer))
+write_fed store (Unlisted error) answer = Ok (unlisted error)
+
+abbrev pub writes_by : WriteState → Option LooseCall
+writes_by (InFront refresh call) = None
+writes_by (Own call) = Some call
+writes_by (Unlisted error) = None
+
+-- a write as a machine: the list of its store is read first, where it was not
+abbrev pub writing : Machine
+writing = record {
+  State = WriteState;
+  work = work_of;
+  ask = λ store state. write_asks state;
+  feed = write_fed;
+  writes = writes_by;
+  IsFor = λ task state. (w : ToWrite) × (task ≡ MakeCall (call_to_write w));
+  bound = λ store modes task entries. bound_of_task store modes task entries;
+}
