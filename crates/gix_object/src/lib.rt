@@ -1,4 +1,4 @@
-//! Objects: their kinds, their headers both ways, their ids, and the traits of what finds and writes them.
+//! Objects: their kinds, their headers both ways, their ids, what is wanted of them, and the traits of what finds and writes them.
 //!
 //! A loose object is a header and then the data; its id is the hash of both. What `encode` writes `decode`
 //! reads back, and `decode` takes nothing else.
@@ -15,6 +15,7 @@ pub mod encode;
 mod find;
 mod id;
 mod kind;
+mod want;
 mod write;
 
 pub use data::{Data, Header};
@@ -22,4 +23,5 @@ pub use find::{Exists, Find, FindHeader};
 pub use id::compute_hash;
 pub use kind::Kind;
 pub use odb_base::is_within;
+pub use want::Want;
 pub use write::{Write, WriteTo};

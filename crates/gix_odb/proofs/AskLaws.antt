@@ -4,16 +4,17 @@ use Rattle.std.proofs.Common.{◌≡◌, ◌↔◌, ℕ, List, [], ◌∷◌, Op
 use Rattle.std.specs.Result.{result_ok}
 use Rattle.gix_hash.specs.declared.kind.Kind.{Kind as HashKind}
 use Rattle.gix_hash.specs.declared.object_id.ObjectId.{ObjectId}
+use Rattle.gix_object.specs.declared.kind.Kind.{Kind}
 use Rattle.odb_asks.specs.declared.ask.DiskAsk.{DiskAsk}
 use Rattle.gix_odb_loose.specs.LooseOrder.{disk_ask_of, stage_ask, stage_reply}
 use Rattle.gix_odb_loose.specs.declared.call.LooseCall.{LooseCall}
 use Rattle.gix_odb_loose.specs.declared.call.Stage as loose
 use Rattle.gix_odb_loose.specs.declared.call.Stage.TheVariants as loose_stages
+use Rattle.gix_odb_calls.proofs.QueryLaws.{by_call-all}
 use Rattle.gix_odb_calls.specs.declared.call.Call.{Call}
 use Rattle.gix_odb_calls.specs.declared.call.Call.TheVariants as call_kinds
 use Rattle.gix_odb_calls.specs.declared.call.Reply.{Reply}
 use Rattle.gix_odb_calls.specs.declared.query.Query.{Query}
-use Rattle.gix_odb_calls.specs.declared.query.Query.TheVariants.{Find, Header, Test}
 use Rattle.gix_odb_events.specs.declared.answer.Answer.{Answer}
 use Rattle.gix_odb_events.specs.declared.answer.Ask.{Ask}
 use Rattle.gix_odb_events.specs.declared.answer.Ask.TheVariants as asks
@@ -33,7 +34,7 @@ use Rattle.gix_odb_refresh.specs.Asked as any
 use Rattle.gix_odb_refresh.specs.RefreshOrder as refreshes
 use Rattle.gix_odb_refresh.specs.declared.refresh.Refresh.{Refresh}
 use Rattle.gix_odb_refresh.specs.declared.refresh.Refresh.TheVariants as fronts
-use Rattle.gix_odb.specs.CallOrder.{ask_of, asked_by, asked_of, fed, fronted, looking_result, replied_by, result_of, started, unlisted, writing, writing_result, wrote_as}
+use Rattle.gix_odb.specs.CallOrder.{ask_of, asked_by, asked_of, fed, fronted, looking, looking_result, replied_by, result_of, started, unlisted, writing, writing_result, wrote_as}
 use Rattle.gix_odb.specs.declared.ask.Ask.TheVariants as own
 use Rattle.gix_odb.specs.declared.call_state.CallState.{CallState}
 use Rattle.gix_odb.specs.declared.call_state.CallState.TheVariants.{Looking, Refreshing, Refused, Writing}
@@ -50,9 +51,7 @@ look_asks_none head (look_stages.Done other) reply is = refl
 
 write_asks_none : (call : LooseCall) (stage : loose.Stage) (reply : Reply) → writing_result (replied_by call (stage_reply stage)) ≡ Ok reply
     → loose_ask (stage_ask stage) ≡ None
-write_asks_none call (loose_stages.Testing path) reply is = absurd (cc is)
-write_asks_none call (loose_stages.Finding path limit) reply is = absurd (cc is)
-write_asks_none call (loose_stages.Heading path) reply is = absurd (cc is)
+write_asks_none call (loose_stages.Asking want path limit) reply is = absurd (cc is)
 write_asks_none call (loose_stages.Writing job) reply is = absurd (cc is)
 write_asks_none call (loose_stages.Done other) reply is = refl
 
@@ -132,9 +131,7 @@ HasReply state = ask_of state ≡ None → (reply : Reply) × (result_of state �
 
 write_has_reply : (call : LooseCall) (stage : loose.Stage) → loose_ask (stage_ask stage) ≡ None
     → (reply : Reply) × (writing_result (replied_by call (stage_reply stage)) ≡ Ok reply)
-write_has_reply call (loose_stages.Testing path) is = absurd (cc is)
-write_has_reply call (loose_stages.Finding path limit) is = absurd (cc is)
-write_has_reply call (loose_stages.Heading path) is = absurd (cc is)
+write_has_reply call (loose_stages.Asking want path limit) is = absurd (cc is)
 write_has_reply call (loose_stages.Writing job) is = absurd (cc is)
 write_has_reply call (loose_stages.Done reply) is = (wrote_as reply, refl)
 
@@ -145,19 +142,23 @@ standing_has_reply (Writing call) stands is = write_has_reply call call.stage is
 standing_has_reply (Refused error) stands is = (unlisted error, refl)
 
 module _ (setting : Setting) (hash : HashKind) (view : View) (sought : Query → ObjectId) (exchanges : List Exchange) where
-  query_has_reply : (query : Query) → HasReply (behind setting (Looking (looks.started setting view query (sought query))) exchanges)
+  query_has_reply : (query : Query) → HasReply (behind setting (Looking (looks.started setting view query.want (sought query))) exchanges)
   query_has_reply query =
-      subst HasReply (sym (behind-look setting (looks.started setting view query (sought query)) exchanges))
-      (λ is. let done = (a_done_look_up_asks_nothing setting view query (sought query) exchanges).0 is in (done.0, ap looking_result done.1))
+      subst HasReply (sym (behind-look setting (looks.started setting view query.want (sought query)) exchanges))
+      (λ is. let done = (a_done_look_up_asks_nothing setting view query.want (sought query) exchanges).0 is in (done.0, ap looking_result done.1))
+
+  new_write_has_reply : (kind : Kind) (size : ℕ) (bytes : List ℕ) (known : Option ObjectId)
+      → HasReply (behind setting (started setting hash view sought (call_kinds.Write kind size bytes known)) exchanges)
+  new_write_has_reply kind size bytes known =
+      standing_has_reply (behind setting (started setting hash view sought (call_kinds.Write kind size bytes known)) exchanges)
+      (behind-stands setting (started setting hash view sought (call_kinds.Write kind size bytes known)) exchanges
+      (fronted-stands (refreshes.started view) (writing setting.objects hash kind size bytes known)))
 
   has_reply : (call : Call) → HasReply (behind setting (started setting hash view sought call) exchanges)
-  has_reply (call_kinds.Find id) = query_has_reply (Find id)
-  has_reply (call_kinds.Header id) = query_has_reply (Header id)
-  has_reply (call_kinds.Test id) = query_has_reply (Test id)
-  has_reply (call_kinds.Write kind size bytes id) =
-      standing_has_reply (behind setting (started setting hash view sought (call_kinds.Write kind size bytes id)) exchanges)
-      (behind-stands setting (started setting hash view sought (call_kinds.Write kind size bytes id)) exchanges
-      (fronted-stands (refreshes.started view) (writing setting.objects hash kind size bytes id)))
+  has_reply call =
+      by_call-all (λ (state : CallState). HasReply (behind setting state exchanges)) (λ query. looking setting view sought query)
+      (λ kind size bytes known. fronted (refreshes.started view) (writing setting.objects hash kind size bytes known))
+      query_has_reply new_write_has_reply call
 
   -- a call that was started asks nothing exactly where it has its reply
   pub a_done_call_asks_nothing : (call : Call) → (ask_of (behind setting (started setting hash view sought call) exchanges) ≡ None)

@@ -15,6 +15,7 @@ use Rattle.gix_odb_loose.specs.declared.call.LooseReply.{LooseReply}
 use Rattle.gix_odb_loose.specs.declared.call.LooseReply.TheVariants as loose_replies
 use Rattle.gix_odb_loose.specs.declared.store.Store as loose
 use Rattle.gix_odb_calls.specs.Hashes.{is_of_hash}
+use Rattle.gix_odb_calls.specs.Query.{by_call}
 use Rattle.gix_odb_calls.specs.declared.call.Call.{Call}
 use Rattle.gix_odb_calls.specs.declared.call.Call.TheVariants as call_kinds
 use Rattle.gix_odb_calls.specs.declared.call.CallError.TheVariants as call_errors
@@ -37,7 +38,6 @@ use Rattle.gix_odb_events.specs.declared.answer.Ask.{Ask}
 use Rattle.gix_odb_events.specs.declared.answer.Ask.TheVariants as asks
 use Rattle.gix_odb_events.specs.declared.event.Event.TheVariants as events
 use Rattle.gix_odb_calls.specs.declared.query.Query.{Query}
-use Rattle.gix_odb_calls.specs.declared.query.Query.TheVariants.{Find, Header, Test}
 use Rattle.gix_odb_calls.specs.declared.load_index.Error as load
 use Rattle.gix_odb_calls.specs.declared.write.Error.TheVariants as write_errors
 
@@ -82,7 +82,7 @@ IsOfHash hash call = is_of_hash hash call ≡ true
 
 -- a new query from a snapshot, where `sought` tells the id that is sought
 abbrev pub looking : Setting → View → (sought : Query → ObjectId) → Query → CallState
-looking setting view sought query = Looking (looks.started setting view query (sought query))
+looking setting view sought query = Looking (looks.started setting view query.want (sought query))
 
 -- a write and what stands in front of it: it begins where that is ready
 abbrev pub fronted : Refresh → LooseCall → CallState
@@ -92,11 +92,11 @@ fronted refresh write = Refreshing refresh write
 
 -- a new call in a store of a hash
 abbrev pub started : Setting → HashKind → View → (sought : Query → ObjectId) → Call → CallState
-started setting hash view sought (call_kinds.Find id) = looking setting view sought (Find id)
-started setting hash view sought (call_kinds.Header id) = looking setting view sought (Header id)
-started setting hash view sought (call_kinds.Test id) = looking setting view sought (Test id)
-started setting hash view sought (call_kinds.Write kind size bytes id) =
-    fronted (refreshes.started view) (writing setting.objects hash kind size bytes id)
+started setting hash view sought call =
+    by_call
+    (λ query. looking setting view sought query)
+    (λ kind size bytes known. fronted (refreshes.started view) (writing setting.objects hash kind size bytes known))
+    call
 
 -- what is asked for next, if anything is: of the disk, or of the store's core
 abbrev pub ask_of : CallState → Option Ask

@@ -9,13 +9,14 @@ use Rattle.gix_hash.specs.declared.object_id.ObjectId.{ObjectId}
 use Rattle.gix_hash.specs.ObjectId.{id_cmp, kind_of}
 use Rattle.gix_hash.specs.declared.kind.Kind.{Kind as HashKind}
 use Rattle.gix_object.specs.declared.kind.Kind.{Kind}
+use Rattle.gix_object.specs.declared.want.Want.{Want}
+use Rattle.gix_object.specs.declared.want.Want.TheVariants as wants
 use Rattle.gix_pack_files.specs.Pack.{Entry, entry_at, header_at, is_pack}
 use Rattle.gix_pack_files.specs.declared.data.entry.Header as entry
 use Rattle.gix_odb_loose.specs.LooseFile as loose
+use Rattle.gix_odb_loose.specs.LooseOrder.{job_of}
 use Rattle.gix_odb_looks.specs.Found.{Gives}
-use Rattle.gix_odb_calls.specs.Verdict.{job_of}
 use Rattle.gix_odb_calls.specs.declared.query.Query.{Query}
-use Rattle.gix_odb_calls.specs.declared.query.Query.TheVariants.{Find, Header, Test}
 use Rattle.gix_odb_calls.specs.declared.find.Header as headers
 use Rattle.gix_odb_calls.specs.declared.find.Header.TheVariants.{Loose, Packed}
 
@@ -54,18 +55,22 @@ abbrev pub replaced : (ObjectId → Option ObjectId) → (ignoring : Bool) → O
 replaced replacement true id = id
 replaced replacement false id = or_itself (replacement id) id
 
--- the id that a call seeks: for a find and a header the replacement of the asked id, one and no chain
+-- the id that is sought for an asked one: for a find and a header its replacement, one and no chain
+abbrev pub sought_for : (ObjectId → Option ObjectId) → (ignoring : Bool) → Want → ObjectId → ObjectId
+sought_for replacement ignoring wants.Object id = replaced replacement ignoring id
+sought_for replacement ignoring wants.Header id = replaced replacement ignoring id
+sought_for replacement ignoring wants.Presence id = id
+
+-- the id that a call seeks
 abbrev pub sought_with : (ObjectId → Option ObjectId) → (ignoring : Bool) → Query → ObjectId
-sought_with replacement ignoring (Find id) = replaced replacement ignoring id
-sought_with replacement ignoring (Header id) = replaced replacement ignoring id
-sought_with replacement ignoring (Test id) = id
+sought_with replacement ignoring query = sought_for replacement ignoring query.want query.of
 
 -- the id that replaces another in a store
 abbrev pub replacement_in : StoreData → ObjectId → Option ObjectId
 replacement_in store id = lookup (eq_by_cmp id_cmp id) store.replacements
 
 abbrev pub sought : StoreData → (ignoring : Bool) → Query → ObjectId
-sought store ignoring call = sought_with (replacement_in store) ignoring call
+sought store ignoring query = sought_with (replacement_in store) ignoring query
 
 -- a path of a tree shows a file with those bytes, links followed
 abbrev pub ShowsFile : Tree → Path → List ℕ → Type 0
@@ -73,34 +78,34 @@ ShowsFile tree path bytes = (time : ℕ) × (read_of tree path ≡ Ok (bytes, ti
 
 -- What a loose file answers a call, as an answer of a store. A file holds answers of one form alone for a call, so what the last row
 -- makes of those of another form never counts.
-abbrev pub of_loose : Query → loose.Answer → Answer
-of_loose (Find asked) (loose.Object kind bytes) = Object kind bytes
-of_loose (Header asked) (loose.HeaderOf kind size) = HeaderOf (Loose kind size)
-of_loose call own = Presence
+abbrev pub of_loose : Want → loose.Answer → Answer
+of_loose wants.Object (loose.Object kind bytes) = Object kind bytes
+of_loose wants.Header (loose.HeaderOf kind size) = HeaderOf (Loose kind size)
+of_loose want own = Presence
 
 -- The row of an index answers a test alone.
-abbrev pub IsOfRow : Query → Answer → Type 0
-IsOfRow (Test asked) answer = answer ≡ Presence
-IsOfRow call answer = ⊥
+abbrev pub IsOfRow : Want → Answer → Type 0
+IsOfRow wants.Presence answer = answer ≡ Presence
+IsOfRow want answer = ⊥
 
 -- A pack holds an answer at an offset: for a find the base entry there, with its data within the limit, and for a header the header of one.
-abbrev pub HoldsEntry : StoreData → Query → HashKind → (pack : List ℕ) → (offset : ℕ) → Answer → Type 0
-HoldsEntry store (Find asked) hash pack offset answer =
+abbrev pub HoldsEntry : StoreData → Want → HashKind → (pack : List ℕ) → (offset : ℕ) → Answer → Type 0
+HoldsEntry store wants.Object hash pack offset answer =
     (own : Entry) × (entry_at hash pack offset store.limit ≡ Ok own) × (answer ≡ Object own.kind own.bytes)
-HoldsEntry store (Header asked) hash pack offset answer =
+HoldsEntry store wants.Header hash pack offset answer =
     (own : entry.Header) × (header_at hash pack offset ≡ Ok own) × (answer ≡ HeaderOf (Packed own.kind own.size))
-HoldsEntry store (Test asked) hash pack offset answer = ⊥
+HoldsEntry store wants.Presence hash pack offset answer = ⊥
 
 -- Contents hold an answer of a call that seeks an id. A loose file holds an object if it is a header with that kind and the length of
 -- the data, and then the data, whose length is within the limit. It holds a header if it begins with it. Any file holds the answer of
 -- a test. An index and its pack, both of the hash of the id, hold an answer where the index gives the id an offset at which the pack holds it;
 -- for a test the index is enough.
-abbrev pub Holds : StoreData → Query → (id : ObjectId) → Contents → Answer → Type 0
-Holds store call id (LooseFile bytes) answer = (own : loose.Answer) × (answer ≡ of_loose call own) × loose.Holds store.limit (job_of call id) bytes own
-Holds store call id (InIndex name index offset) answer = Gives (kind_of id) index id offset × IsOfRow call answer
-Holds store call id (InPack name index pack offset) answer =
-    Gives (kind_of id) index id offset × (is_pack (kind_of id) pack ≡ true) × HoldsEntry store call (kind_of id) pack offset answer
+abbrev pub Holds : StoreData → Want → (id : ObjectId) → Contents → Answer → Type 0
+Holds store want id (LooseFile bytes) answer = (own : loose.Answer) × (answer ≡ of_loose want own) × loose.Holds store.limit (job_of want id) bytes own
+Holds store want id (InIndex name index offset) answer = Gives (kind_of id) index id offset × IsOfRow want answer
+Holds store want id (InPack name index pack offset) answer =
+    Gives (kind_of id) index id offset × (is_pack (kind_of id) pack ≡ true) × HoldsEntry store want (kind_of id) pack offset answer
 
 -- contents are sound for a call that seeks an id where they hold some answer of it
-abbrev pub IsSound : StoreData → Query → (id : ObjectId) → Contents → Type 0
-IsSound store call id contents = (answer : Answer) × Holds store call id contents answer
+abbrev pub IsSound : StoreData → Want → (id : ObjectId) → Contents → Type 0
+IsSound store want id contents = (answer : Answer) × Holds store want id contents answer

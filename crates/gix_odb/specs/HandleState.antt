@@ -75,4 +75,4 @@ replaced_by handle id = replaced (replacement_of handle) handle.ignore_replaceme
 
 -- the id that a call seeks
 abbrev pub sought_by : HandleState → Query → ObjectId
-sought_by handle call = sought_with (replacement_of handle) handle.ignore_replacements call
+sought_by handle query = sought_with (replacement_of handle) handle.ignore_replacements query

@@ -10,8 +10,8 @@ use Rattle.gix_hash.specs.declared.object_id.ObjectId.{ObjectId}
 use Rattle.gix_odb_loose.specs.LooseFile.{loose_path}
 use Rattle.gix_odb_packs.specs.PackFolder.{is_index_name, pack_folder}
 use Rattle.gix_odb_events.specs.PackPath.{pack_path}
-use Rattle.gix_odb_calls.specs.declared.query.Query.{Query}
-use Rattle.gix_odb_calls.specs.declared.query.Query.TheVariants.{Find, Header, Test}
+use Rattle.gix_object.specs.declared.want.Want.{Want}
+use Rattle.gix_object.specs.declared.want.Want.TheVariants.{Object, Header, Presence}
 use Rattle.gix_odb.specs.Contents.{StoreData, folder_list, Contents, LooseFile, InIndex, InPack, Answer, Holds, IsSound, ShowsFile}
 use Rattle.gix_odb.specs.Moments.{Sometime, Throughout}
 
@@ -40,12 +40,12 @@ WasShown trees opened begun now folder id (InPack name index pack offset) =
 
 -- In one folder of a store that was opened at the moment `opened`, contents were shown for the sought id in a call from `begun` to
 -- `now` that hold the answer.
-pub record Held (trees : ℕ → Tree) (store : StoreData) (opened begun now : ℕ) (call : Query) (id : ObjectId) (answer : Answer) : Type 0 where
+pub record Held (trees : ℕ → Tree) (store : StoreData) (opened begun now : ℕ) (want : Want) (id : ObjectId) (answer : Answer) : Type 0 where
   pub folder : Path
   pub among : Contains (folder_list store) folder
   pub contents : Contents
   pub shown : WasShown trees opened begun now folder id contents
-  pub holds : Holds store call id contents answer
+  pub holds : Holds store want id contents answer
 
 -- ---- still
 
@@ -62,31 +62,31 @@ pub record IsItselfFile (tree : Tree) (path : Path) : Type 0 where
   pub is_file : meta.kind ≡ kinds.File
 
 -- an index and its pack are sound for a call at an offset: for a test the row of the index is enough
-abbrev pub IsSoundPair : StoreData → Query → ObjectId → Name → (index pack : List ℕ) → (offset : ℕ) → Type 0
-IsSoundPair store (Find asked) id name index pack offset = IsSound store (Find asked) id (InPack name index pack offset)
-IsSoundPair store (Header asked) id name index pack offset = IsSound store (Header asked) id (InPack name index pack offset)
-IsSoundPair store (Test asked) id name index pack offset = IsSound store (Test asked) id (InIndex name index offset)
+abbrev pub IsSoundPair : StoreData → Want → ObjectId → Name → (index pack : List ℕ) → (offset : ℕ) → Type 0
+IsSoundPair store Object id name index pack offset = IsSound store Object id (InPack name index pack offset)
+IsSoundPair store Header id name index pack offset = IsSound store Header id (InPack name index pack offset)
+IsSoundPair store Presence id name index pack offset = IsSound store Presence id (InIndex name index offset)
 
 -- At one moment an object lies in a pack of a folder: the index of a name is itself a file, and a file is shown as its pack. The two are sound
 -- for the call, and the index gives the id this offset.
-pub record LiesInPack (store : StoreData) (call : Query) (tree : Tree) (folder : Path) (id : ObjectId) (name : Name) (offset : ℕ) : Type 0 where
+pub record LiesInPack (store : StoreData) (want : Want) (tree : Tree) (folder : Path) (id : ObjectId) (name : Name) (offset : ℕ) : Type 0 where
   pub named : is_index_name name ≡ true
   pub itself : IsItselfFile tree (index_path folder name)
   pub index : List ℕ
   pub shows_index : ShowsFile tree (index_path folder name) index
   pub pack : List ℕ
   pub shows_pack : ShowsFile tree (pack_path (index_path folder name)) pack
-  pub sound : IsSoundPair store call id name index pack offset
+  pub sound : IsSoundPair store want id name index pack offset
 
 -- At one moment an object lies at a place of a folder, in contents that are sound for the call.
-abbrev pub LiesAt : StoreData → Query → Tree → (folder : Path) → ObjectId → Place → Type 0
-LiesAt store call tree folder id InLooseFile =
-    (bytes : List ℕ) × ShowsFile tree (loose_path folder id) bytes × IsSound store call id (LooseFile bytes)
-LiesAt store call tree folder id (InPackFile name offset) = LiesInPack store call tree folder id name offset
+abbrev pub LiesAt : StoreData → Want → Tree → (folder : Path) → ObjectId → Place → Type 0
+LiesAt store want tree folder id InLooseFile =
+    (bytes : List ℕ) × ShowsFile tree (loose_path folder id) bytes × IsSound store want id (LooseFile bytes)
+LiesAt store want tree folder id (InPackFile name offset) = LiesInPack store want tree folder id name offset
 
 -- In one folder, at one place, the object of an id lay at every moment from `begun` to `now`, in contents that are sound for the call.
-pub record Still (trees : ℕ → Tree) (store : StoreData) (begun now : ℕ) (call : Query) (id : ObjectId) : Type 0 where
+pub record Still (trees : ℕ → Tree) (store : StoreData) (begun now : ℕ) (want : Want) (id : ObjectId) : Type 0 where
   pub folder : Path
   pub among : Contains (folder_list store) folder
   pub place : Place
-  pub always : Throughout begun now (λ moment. LiesAt store call (trees moment) folder id place)
+  pub always : Throughout begun now (λ moment. LiesAt store want (trees moment) folder id place)

@@ -48,9 +48,6 @@ impl CallState {
         ensures sized { HasSize call.now }
     {
         match call {
-            Call::Find(id) => looking(alloc, handle, Query::Find(*id)),
-            Call::Header(id) => looking(alloc, handle, Query::Header(*id)),
-            Call::Test(id) => looking(alloc, handle, Query::Test(*id)),
             Call::Write {
                 kind,
                 size,
@@ -69,6 +66,10 @@ impl CallState {
                 )?;
                 Ok(fronted(refresh_of(handle), write))
             }
+            call => match call.query() {
+                Some(query) => looking(alloc, handle, query),
+                None => unreachable!("a call that writes nothing asks"),
+            },
         }
     }
 
@@ -266,7 +267,7 @@ fn looking_from(
 {
     let id = handle.sought(query);
     let setting = setting_of(handle);
-    let look = LookUp::start(alloc, &setting, view, query, id)?;
+    let look = LookUp::start(alloc, &setting, view, query.want, id)?;
     Ok(CallState::Looking(look))
 }
 

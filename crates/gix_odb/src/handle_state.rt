@@ -3,6 +3,7 @@ ghost use Rattle.std.specs.Prelude.{◌≡◌, IfOk, None, false};
 ghost use Rattle.gix_odb.specs.HandleState.{replaced_by, sought_by, with_view};
 
 use gix_hash::ObjectId;
+use gix_object::Want;
 use gix_odb_calls::{Query, StoreParts};
 use gix_odb_events::View;
 use odb_base::NoMemory;
@@ -71,10 +72,9 @@ impl HandleState {
     pub fn sought(&self, query: Query) -> ObjectId
         ensures sought { result ≡ sought_by self.now query }
     {
-        match query {
-            Query::Find(id) => self.replaced(id),
-            Query::Header(id) => self.replaced(id),
-            Query::Test(id) => id,
+        match query.want {
+            Want::Object | Want::Header => self.replaced(query.of),
+            Want::Presence => query.of,
         }
     }
 

@@ -1,3 +1,4 @@
 pub mod Hashes
+pub mod Query
 pub mod Slots
 pub mod Verdict

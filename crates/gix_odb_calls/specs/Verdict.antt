@@ -3,10 +3,10 @@ use Rattle.std.specs.Prelude.{ℕ, true, false, Option, Some, Result, Ok, Err, B
 use Rattle.odb_base.specs.Path.{Path}
 use Rattle.gix_hash.specs.ObjectId.{kind_of}
 use Rattle.gix_hash.specs.declared.object_id.ObjectId.{ObjectId}
-use Rattle.gix_odb_loose.specs.LooseOrder.{started}
+use Rattle.gix_object.specs.declared.want.Want.{Want}
+use Rattle.gix_object.specs.declared.want.Want.TheVariants.{Object, Header, Presence}
+use Rattle.gix_odb_loose.specs.LooseOrder.{started_for}
 use Rattle.gix_odb_loose.specs.declared.call.LooseCall.{LooseCall}
-use Rattle.gix_odb_loose.specs.declared.call.LooseJob.{LooseJob}
-use Rattle.gix_odb_loose.specs.declared.call.LooseJob.TheVariants as jobs
 use Rattle.gix_odb_loose.specs.declared.call.LooseReply.{LooseReply}
 use Rattle.gix_odb_loose.specs.declared.call.LooseReply.TheVariants as loose_replies
 use Rattle.gix_odb_loose.specs.declared.find.Error.{Error}
@@ -17,26 +17,18 @@ use Rattle.gix_odb_calls.specs.declared.call.Reply.{Reply}
 use Rattle.gix_odb_calls.specs.declared.call.Reply.TheVariants as replies
 use Rattle.gix_odb_calls.specs.declared.find.Error.TheVariants as find_errors
 use Rattle.gix_odb_calls.specs.declared.find.Header.TheVariants as headers
-use Rattle.gix_odb_calls.specs.declared.query.Query.{Query}
-use Rattle.gix_odb_calls.specs.declared.query.Query.TheVariants.{Find, Header, Test}
 use Rattle.gix_odb_calls.specs.declared.verdict.Verdict.{Verdict}
 use Rattle.gix_odb_calls.specs.declared.verdict.Verdict.TheVariants as verdicts
 
 -- ---- what a folder is asked
-
--- what a folder is to do for a call that seeks an id
-abbrev pub job_of : Query → ObjectId → LooseJob
-job_of (Find asked) id = jobs.Find id
-job_of (Header asked) id = jobs.Header id
-job_of (Test asked) id = jobs.Contains id
 
 -- the loose objects of a folder, for ids of the hash of one
 abbrev pub loose_store : (limit : Option ℕ) → ObjectId → Path → loose.Store
 loose_store limit id folder = record { path = folder; object_hash = kind_of id; options = record { alloc_limit_bytes = limit } }
 
 -- a folder is asked
-abbrev pub asking : (limit : Option ℕ) → Query → ObjectId → Path → LooseCall
-asking limit call id folder = started (loose_store limit id folder) (job_of call id)
+abbrev pub asking : (limit : Option ℕ) → Want → ObjectId → Path → LooseCall
+asking limit want id folder = started_for (loose_store limit id folder) want id
 
 -- ---- what its reply means for the query
 
@@ -53,10 +45,10 @@ verdict_on_test (Err error) = verdicts.Notes error
 
 -- What the query makes of the reply to its job: an object, a header and an error end it; nothing at the path is a miss. So is the reply
 -- to another job, which no folder gives.
-abbrev pub verdict_on : Query → LooseReply → Verdict
-verdict_on (Find asked) (loose_replies.Found (Ok (Some found))) = verdicts.Ends (replies.Found found.0 found.1)
-verdict_on (Find asked) (loose_replies.Found (Err error)) = verdicts.Ends (refused error)
-verdict_on (Header asked) (loose_replies.Header (Ok (Some found))) = verdicts.Ends (replies.Header (headers.Loose found.1 found.0))
-verdict_on (Header asked) (loose_replies.Header (Err error)) = verdicts.Ends (refused error)
-verdict_on (Test asked) (loose_replies.Contains answer) = verdict_on_test answer
-verdict_on call reply = verdicts.Misses
+abbrev pub verdict_on : Want → LooseReply → Verdict
+verdict_on Object (loose_replies.Found (Ok (Some found))) = verdicts.Ends (replies.Found found.0 found.1)
+verdict_on Object (loose_replies.Found (Err error)) = verdicts.Ends (refused error)
+verdict_on Header (loose_replies.Header (Ok (Some found))) = verdicts.Ends (replies.Header (headers.Loose found.1 found.0))
+verdict_on Header (loose_replies.Header (Err error)) = verdicts.Ends (refused error)
+verdict_on Presence (loose_replies.Contains answer) = verdict_on_test answer
+verdict_on want reply = verdicts.Misses

@@ -1,11 +1,13 @@
 //! A call on an open handle: what it asks for, what it ends with, and why it is refused.
-ghost use Rattle.std.specs.Prelude.{◌≡◌, IfOk};
+ghost use Rattle.std.specs.Prelude.{◌≡◌, Some, IfOk};
 ghost use Rattle.gix_odb_calls.specs.Hashes.{is_of_hash};
+ghost use Rattle.gix_odb_calls.specs.Query.{query_of};
 
 use crate::hashes::is_id_of;
+use crate::query::Query;
 use crate::{find, init, write};
 use gix_hash::ObjectId;
-use gix_object::Kind;
+use gix_object::{Kind, Want};
 use odb_base::{ByteList, NoMemory};
 use std::alloc::Global;
 use thiserror::Error;
@@ -29,6 +31,18 @@ pub enum Call {
 }
 
 impl Call {
+    /// What the call asks; a write asks nothing.
+    pub fn query(&self) -> Option<Query>
+        ensures query { result ≡ query_of self.now }
+    {
+        match self {
+            Call::Find(id) => asked(Want::Object, *id),
+            Call::Header(id) => asked(Want::Header, *id),
+            Call::Test(id) => asked(Want::Presence, *id),
+            Call::Write { .. } => None,
+        }
+    }
+
     /// A copy of the call.
     pub fn try_clone(&self, alloc: Global) -> Result<Call, NoMemory>
         ensures copied { IfOk result (λ copy. copy ≡ self.now) }
@@ -61,6 +75,12 @@ impl Call {
             Call::Write { id: None, .. } => true,
         }
     }
+}
+
+fn asked(want: Want, of: ObjectId) -> Option<Query>
+    ensures query { result ≡ Some (record { want = want; of = of }) }
+{
+    Some(Query { want, of })
 }
 
 /// What a call, or an opening, ends with.

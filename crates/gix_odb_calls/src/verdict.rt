@@ -5,9 +5,8 @@ ghost use Rattle.gix_odb_calls.specs.Verdict as queries;
 
 use crate::call::{CallError, Reply};
 use crate::find;
-use crate::query::Query;
 use gix_hash::ObjectId;
-use gix_object::Kind;
+use gix_object::{Kind, Want};
 use gix_odb_loose::{LooseCall, LooseJob, LooseReply};
 use odb_base::{ByteList, NoMemory, PathText};
 use std::alloc::Global;
@@ -27,36 +26,26 @@ pub fn folder_call(
     alloc: Global,
     folder: &PathText,
     limit: Option<u64>,
-    query: Query,
+    want: Want,
     id: ObjectId,
 ) -> Result<LooseCall, NoMemory>
-    ensures asking { IfOk result (λ call. call ≡ asking limit query id folder.now) }
+    ensures asking { IfOk result (λ call. call ≡ asking limit want id folder.now) }
 {
     let options = gix_odb_loose::Options {
         alloc_limit_bytes: limit,
     };
     let store = gix_odb_loose::Store::at_opts(alloc, folder, id.kind(), options)?;
-    LooseCall::start(alloc, &store, job_of(query, id))
-}
-
-fn job_of(query: Query, id: ObjectId) -> LooseJob
-    ensures job { result ≡ queries.job_of query id }
-{
-    match query {
-        Query::Find(_) => LooseJob::Find(id),
-        Query::Header(_) => LooseJob::Header(id),
-        Query::Test(_) => LooseJob::Contains(id),
-    }
+    LooseCall::start(alloc, &store, LooseJob::of(want, id))
 }
 
 /// What a query makes of the reply to its job.
-pub fn verdict_on(query: Query, reply: LooseReply) -> Verdict
-    ensures verdict { result ≡ queries.verdict_on query reply }
+pub fn verdict_on(want: Want, reply: LooseReply) -> Verdict
+    ensures verdict { result ≡ queries.verdict_on want reply }
 {
-    match (query, reply) {
-        (Query::Find(_), LooseReply::Found(answer)) => verdict_on_find(answer),
-        (Query::Header(_), LooseReply::Header(answer)) => verdict_on_header(answer),
-        (Query::Test(_), LooseReply::Contains(answer)) => verdict_on_test(answer),
+    match (want, reply) {
+        (Want::Object, LooseReply::Found(answer)) => verdict_on_find(answer),
+        (Want::Header, LooseReply::Header(answer)) => verdict_on_header(answer),
+        (Want::Presence, LooseReply::Contains(answer)) => verdict_on_test(answer),
         // The reply is that to another job, which no folder gives.
         (_, reply) => {
             drop(reply);
@@ -67,7 +56,7 @@ pub fn verdict_on(query: Query, reply: LooseReply) -> Verdict
 
 // An object ends a find, as an error does; nothing at the path is a miss.
 fn verdict_on_find(answer: Result<Option<(Kind, ByteList)>, gix_odb_loose::find::Error>) -> Verdict
-    ensures verdict { (id : ObjectId) → result ≡ queries.verdict_on (Query.Find id) (LooseReply.Found answer) }
+    ensures verdict { result ≡ queries.verdict_on Want.Object (LooseReply.Found answer) }
 {
     match answer {
         Ok(Some((kind, bytes))) => Verdict::Ends(Reply::Found { kind, bytes }),
@@ -78,7 +67,7 @@ fn verdict_on_find(answer: Result<Option<(Kind, ByteList)>, gix_odb_loose::find:
 
 // The same of a header.
 fn verdict_on_header(answer: Result<Option<(u64, Kind)>, gix_odb_loose::find::Error>) -> Verdict
-    ensures verdict { (id : ObjectId) → result ≡ queries.verdict_on (Query.Header id) (LooseReply.Header answer) }
+    ensures verdict { result ≡ queries.verdict_on Want.Header (LooseReply.Header answer) }
 {
     match answer {
         Ok(Some((size, kind))) => Verdict::Ends(Reply::Header(find::Header::Loose { kind, size })),

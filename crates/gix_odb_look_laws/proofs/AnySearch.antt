@@ -21,8 +21,8 @@ use Rattle.gix_odb_packs.specs.TryOrder.{at, at_search, at_todo}
 use Rattle.gix_odb_packs.specs.declared.goal.Error.{Error}
 use Rattle.gix_odb_packs.specs.declared.goal.Found.{Found}
 use Rattle.gix_odb_packs.specs.declared.goal.Goal.{Goal}
-use Rattle.gix_odb_packs.specs.declared.goal.Wanted.{Wanted}
-use Rattle.gix_odb_packs.specs.declared.goal.Wanted.TheVariants.{Object, Header, Presence}
+use Rattle.gix_object.specs.declared.want.Want.{Want}
+use Rattle.gix_object.specs.declared.want.Want.TheVariants.{Object, Header, Presence}
 use Rattle.gix_odb_packs.specs.declared.search.AbsentFile.{AbsentFile}
 use Rattle.gix_odb_packs.specs.declared.search.WantedPack.{WantedPack}
 use Rattle.gix_odb_packs.specs.declared.trier.Ahead.{Ahead}
@@ -49,29 +49,29 @@ module _ (goal : Goal) (absent : List AbsentFile) (index : SnapshotIndex) where
     file_comes : (path : Path) (file : Option FileBytes)
         → Comes AnyFound AnyError AnyPack (in_file goal absent index (record { place = place; offset = offset }) path file)
     file_comes path None = unloaded_comes AnyFound AnyError AnyPack goal absent index (record { place = place; offset = offset }) path tt
-    file_comes path (Some file) = given_comes (given_by goal.wanted goal.limit file offset)
+    file_comes path (Some file) = given_comes (given_by goal.want goal.limit file offset)
 
     packs_come : (pack : Option PackFile)
         → Comes AnyFound AnyError AnyPack (in_packs goal absent index (record { place = place; offset = offset }) pack)
     packs_come None = tt
     packs_come (Some pack) = file_comes pack.path (loaded pack.state)
 
-    spot_comes : (wanted : Wanted) → Comes AnyFound AnyError AnyPack (at_spot wanted goal absent index (Some (record { place = place; offset = offset })))
+    spot_comes : (wanted : Want) → Comes AnyFound AnyError AnyPack (at_spot wanted goal absent index (Some (record { place = place; offset = offset })))
     spot_comes Presence = tt
     spot_comes Object = packs_come (slice_get index.packs place)
     spot_comes Header = packs_come (slice_get index.packs place)
 
   row_comes : (row : Option Row)
-      → Comes AnyFound AnyError AnyPack (at_spot goal.wanted goal absent index (option_map (λ (r : Row). record { place = 0; offset = r.offset }) row))
+      → Comes AnyFound AnyError AnyPack (at_spot goal.want goal absent index (option_map (λ (r : Row). record { place = 0; offset = r.offset }) row))
   row_comes None = tt
-  row_comes (Some row) = spot_comes 0 row.offset goal.wanted
+  row_comes (Some row) = spot_comes 0 row.offset goal.want
 
   pack_row_comes : (row : Option PackRow)
-      → Comes AnyFound AnyError AnyPack (at_spot goal.wanted goal absent index (option_map (λ (r : PackRow). record { place = r.pack; offset = r.offset }) row))
+      → Comes AnyFound AnyError AnyPack (at_spot goal.want goal absent index (option_map (λ (r : PackRow). record { place = r.pack; offset = r.offset }) row))
   pack_row_comes None = tt
-  pack_row_comes (Some row) = spot_comes row.pack row.offset goal.wanted
+  pack_row_comes (Some row) = spot_comes row.pack row.offset goal.want
 
-  index_comes : (own : LoadedIndex) → Comes AnyFound AnyError AnyPack (at_spot goal.wanted goal absent index (spot_in own goal.id))
+  index_comes : (own : LoadedIndex) → Comes AnyFound AnyError AnyPack (at_spot goal.want goal absent index (spot_in own goal.id))
   index_comes (Single file) = row_comes (find (λ (row : Row). is_eq (id_cmp row.id goal.id)) (index_rows file.kind file.bytes))
   index_comes (Multi bytes) = pack_row_comes (find (λ (row : PackRow). is_eq (id_cmp row.id goal.id)) (told bytes).rows)
 

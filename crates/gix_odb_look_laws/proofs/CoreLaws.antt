@@ -26,7 +26,7 @@ use Rattle.gix_odb_core.proofs.ShapeLaws.{journal_comes_to_a_shape, possible_jou
 use Rattle.gix_odb_core.proofs.SnapshotLaws.{entry_hands_the_view_behind_it}
 use Rattle.gix_odb_events.specs.declared.answer.Answer.TheVariants as told
 use Rattle.gix_odb_events.specs.declared.answer.Ask.TheVariants as asks
-use Rattle.gix_odb_calls.specs.declared.query.Query.{Query}
+use Rattle.gix_object.specs.declared.want.Want.{Want}
 use Rattle.gix_odb_calls.specs.declared.verdict.Verdict.{Verdict}
 use Rattle.gix_odb_looks.specs.Exchange.{Exchange, IsAnswerTo}
 use Rattle.gix_odb_looks.specs.Fair.{HasRows, IsFair, IsIndexSound, PackedPlace, index_at}

@@ -26,7 +26,7 @@ use Rattle.gix_odb_events.specs.declared.answer.Ask.TheVariants as asks
 use Rattle.gix_odb_packs.specs.declared.lister.ListStep.{ListStep}
 use Rattle.gix_odb_packs.specs.declared.lister.ListStep.TheVariants as steps
 use Rattle.gix_odb_packs.specs.declared.lister.Lister.{Lister}
-use Rattle.gix_odb_calls.specs.declared.query.Query.{Query}
+use Rattle.gix_object.specs.declared.want.Want.{Want}
 use Rattle.gix_odb_looks.specs.Exchange.{AreAsked, Exchange, WasTold, behind}
 use Rattle.gix_odb_looks.specs.LookUpOrder.{Setting, ask_at, ask_of, fed, lister_fed, seen, started}
 use Rattle.gix_odb_looks.specs.Shown.{folders_of}
@@ -147,7 +147,7 @@ module _ (setting : Setting) where
     seen_behind look here [] asked among = here
     seen_behind look here (exchange ∷ exchanges) asked among =
         seen_behind (fed setting look exchange.answer)
-        (stage_stands setting AnyCall OfLister OfRows (Unit {0}) (λ query id folder. tt) (λ here. starts_seeing Told setting.folders setting.objects)
+        (stage_stands setting AnyCall OfLister OfRows (Unit {0}) (λ want id folder. tt) (λ here. starts_seeing Told setting.folders setting.objects)
         (seen look.head exchange.answer) look.stage exchange.answer
         (goes_seeing look.stage here exchange.ask exchange.answer asked.0 (among exchange (has_first exchange exchanges))))
         exchanges asked.1 (λ other is. among other (has_later exchange exchanges other is))
@@ -193,17 +193,17 @@ module _ (setting : Setting) where
     listed_behind coming look here [] asked of = (coming, here)
     listed_behind coming look here (exchange ∷ exchanges) asked of =
         listed_behind of.0 (fed setting look exchange.answer)
-        (stage_stands setting AnyCall (IsAtLister of.0) AreAll (Unit {0}) (λ query id folder. tt)
+        (stage_stands setting AnyCall (IsAtLister of.0) AreAll (Unit {0}) (λ want id folder. tt)
         (λ here. starts_listing tree setting.folders setting.objects of.0) (seen look.head exchange.answer) look.stage exchange.answer
         (goes_listing coming look.stage here exchange.ask exchange.answer of.0 asked.0 of.1))
         exchanges asked.1 of.2
 
   -- ---- the laws
 
-  module _ (view : View) (query : Query) (id : ObjectId) (exchanges : List Exchange) (asked : AreAsked setting (started setting view query id) exchanges)
-      (listing : Listing) (is : ask_of (behind setting (started setting view query id) exchanges) ≡ Some (asks.Core (events.Publish listing))) where
+  module _ (view : View) (want : Want) (id : ObjectId) (exchanges : List Exchange) (asked : AreAsked setting (started setting view want id) exchanges)
+      (listing : Listing) (is : ask_of (behind setting (started setting view want id) exchanges) ≡ Some (asks.Core (events.Publish listing))) where
     abbrev begun : LookUp
-    begun = started setting view query id
+    begun = started setting view want id
 
     -- Each row of a listing that is handed to the core has an index that was itself a file in one of the exchanges, and a pack path that
     -- showed a file in one.
@@ -211,8 +211,8 @@ module _ (setting : Setting) where
     rows_of_a_listing_were_seen =
         published setting AnyCall (OfLister exchanges) (OfRows exchanges) (Unit {0}) (behind setting begun exchanges).stage
         (seen_behind exchanges begun
-        (start_stands setting AnyCall (OfLister exchanges) (OfRows exchanges) (Unit {0}) (λ query id folder. tt)
-        (λ here. starts_seeing (Told exchanges) setting.folders setting.objects) view query id tt)
+        (start_stands setting AnyCall (OfLister exchanges) (OfRows exchanges) (Unit {0}) (λ want id folder. tt)
+        (λ here. starts_seeing (Told exchanges) setting.folders setting.objects) view want id tt)
         exchanges asked (λ exchange among. among))
         listing is
 
@@ -221,7 +221,7 @@ module _ (setting : Setting) where
     rows_of_a_listing_are_those_of_the_tree tree of =
         let lists_so =
         listed_behind tree [] begun
-        (start_stands setting AnyCall (IsAtLister tree []) (AreAll tree) (Unit {0}) (λ query id folder. tt)
-        (λ here. starts_listing tree setting.folders setting.objects []) view query id tt)
+        (start_stands setting AnyCall (IsAtLister tree []) (AreAll tree) (Unit {0}) (λ want id folder. tt)
+        (λ here. starts_listing tree setting.folders setting.objects []) view want id tt)
         exchanges asked of in
         published setting AnyCall (IsAtLister tree lists_so.0) (AreAll tree) (Unit {0}) (behind setting begun exchanges).stage lists_so.1 listing is

@@ -32,8 +32,8 @@ use Rattle.gix_odb_calls.specs.Verdict.{asking, verdict_on}
 use Rattle.gix_odb_calls.specs.declared.call.CallError.TheVariants as call_errors
 use Rattle.gix_odb_calls.specs.declared.call.Reply.{Reply}
 use Rattle.gix_odb_calls.specs.declared.find.Error.TheVariants as find_errors
-use Rattle.gix_odb_calls.specs.declared.query.Query.{Query}
-use Rattle.gix_odb_calls.specs.declared.query.Query.TheVariants.{Find, Header, Test}
+use Rattle.gix_object.specs.declared.want.Want.{Want}
+use Rattle.gix_object.specs.declared.want.Want.TheVariants.{Object, Header, Presence}
 use Rattle.gix_odb_calls.specs.declared.verdict.Verdict.{Verdict}
 use Rattle.gix_odb_calls.specs.declared.verdict.Verdict.TheVariants as verdicts
 use Rattle.gix_odb_looks.specs.Exchange.{AreAsked, Exchange, behind}
@@ -63,13 +63,13 @@ use Rattle.gix_odb_looks.proofs.MissLaws.Track.{IsEarly, IsOn, never_missed}
 use Rattle.gix_odb_look_laws.specs.Moved.{AreLooseFair, ArePublished, HasLoose, IsLooseFair}
 
 -- an answer that says that the object is there is no miss
-answer_is_no_miss : (query : Query) (reply : Reply) → IsAnswer reply → ¬ (IsMiss query reply)
-answer_is_no_miss query reply answer is = by query (subst IsAnswer is answer)
+answer_is_no_miss : (want : Want) (reply : Reply) → IsAnswer reply → ¬ (IsMiss want reply)
+answer_is_no_miss want reply answer is = by want (subst IsAnswer is answer)
   where
-    by : (q : Query) → ¬ (IsAnswer (not_found q))
-    by (Find id) wrong = wrong
-    by (Header id) wrong = wrong
-    by (Test id) wrong = wrong
+    by : (q : Want) → ¬ (IsAnswer (not_found q))
+    by Object wrong = wrong
+    by Header wrong = wrong
+    by Presence wrong = wrong
 
 -- a list behind which the loose folders are asked for the first time
 abbrev IsFirst : Part → Type 0
@@ -115,12 +115,12 @@ stays_closed (asks.Disk ask) answer none = refl
 stays_closed (asks.Core event) answer none = refl
 stays_closed (asks.NewCore slots folders) answer none = refl
 
-module _ (setting : Setting) (query : Query) (id : ObjectId) (folder : Path) (among : Contains (folders_of setting) folder) where
+module _ (setting : Setting) (want : Want) (id : ObjectId) (folder : Path) (among : Contains (folders_of setting) folder) where
   -- the folder is asked now, or is ahead
   pub record IsComing (round : LooseRound) (call : LooseCall) : Type 0 where
     pub first : IsFirst round.part
     pub asked : Path
-    pub call_is : call ≡ asking setting.limit query id asked
+    pub call_is : call ≡ asking setting.limit want id asked
     pub ahead : (asked ≡ folder) ⊎ Contains (drop round.next setting.folders) folder
 
   -- the loose objects of the folder are still to be asked, or the look-up is done with another reply than that nothing was found
@@ -130,17 +130,17 @@ module _ (setting : Setting) (query : Query) (id : ObjectId) (folder : Path) (am
   IsWaiting (stages.Looking purpose notes) = IsBeforeLoose purpose
   IsWaiting (stages.Listing lister base notes) = ⊥
   IsWaiting (stages.Publishing listing notes) = ⊥
-  IsWaiting (stages.Done reply) = ¬ (IsMiss query reply)
+  IsWaiting (stages.Done reply) = ¬ (IsMiss want reply)
 
-  -- the look-up is for this query and id
+  -- the look-up wants this of this id
   pub record IsFor (head : LookHead) : Type 0 where
-    pub query_is : head.query ≡ query
+    pub want_is : head.want ≡ want
     pub id_is : head.id ≡ id
 
   module _ (head : LookHead) (own : IsFor head) where
-    same_call : (asked : Path) → asking setting.limit head.query head.id asked ≡ asking setting.limit query id asked
+    same_call : (asked : Path) → asking setting.limit head.want head.id asked ≡ asking setting.limit want id asked
     same_call asked =
-        ap (λ (q : Query). asking setting.limit q head.id asked) own.query_is ∙ ap (λ (i : ObjectId). asking setting.limit query i asked) own.id_is
+        ap (λ (q : Want). asking setting.limit q head.id asked) own.want_is ∙ ap (λ (i : ObjectId). asking setting.limit want i asked) own.id_is
 
     loose_begins : (part : Part) → IsFirst part → (notes : Notes) → IsWaiting (loose_from setting head part notes)
     loose_begins part first notes =
@@ -163,10 +163,10 @@ module _ (setting : Setting) (query : Query) (id : ObjectId) (folder : Path) (am
 
     tried_waits : (part : Part) → IsFirst part → (end : Tried) → IsWaiting (by_tried setting head part end)
     tried_waits part first (tried.More trier) = first
-    tried_waits part first (tried.Hit what) = found_is_no_miss query what
+    tried_waits part first (tried.Hit what) = found_is_no_miss want what
     tried_waits part first (tried.Missed notes) = list_waits part first notes
-    tried_waits part first (tried.Bad error) = refused_is_no_miss query (call_errors.Find (find_error error))
-    tried_waits part first (tried.Broken refusal) = refused_is_no_miss query (call_errors.Find (find_errors.LoadIndex (of_refusal refusal)))
+    tried_waits part first (tried.Bad error) = refused_is_no_miss want (call_errors.Find (find_error error))
+    tried_waits part first (tried.Broken refusal) = refused_is_no_miss want (call_errors.Find (find_errors.LoadIndex (of_refusal refusal)))
 
     view_waits : (part : Part) → IsFirst part → (view : View) (todo : List Todo) (notes : Notes) → IsWaiting (try_view setting head part view todo notes)
     view_waits part first view todo notes =
@@ -181,7 +181,7 @@ module _ (setting : Setting) (query : Query) (id : ObjectId) (folder : Path) (am
         record { first = first; asked = asked; call_is = same_call asked; ahead = here_or_behind setting.folders round.next asked folder is ahead }
 
     verdict_waits : (round : LooseRound) → IsFirst round.part → Contains (drop round.next setting.folders) folder → (verdict : Verdict)
-        → EndsNoMiss query verdict → IsWaiting (by_verdict setting head round verdict)
+        → EndsNoMiss want verdict → IsWaiting (by_verdict setting head round verdict)
     verdict_waits round first ahead (verdicts.Ends reply) ends = ends
     verdict_waits round first ahead verdicts.Misses ends = folder_waits round first ahead (slice_get setting.folders round.next) refl
     verdict_waits round first ahead (verdicts.Notes error) ends =
@@ -189,36 +189,36 @@ module _ (setting : Setting) (query : Query) (id : ObjectId) (folder : Path) (am
 
     -- what the folder that is asked replies
     module _ (round : LooseRound) (call : LooseCall) (coming : IsComing round call) (answer : DiskAnswer) where
-      replies_so : (reply : LooseReply) → reply_of (loose_fed (asking setting.limit query id coming.asked) answer) ≡ Some reply
-          → IsWaiting (by_verdict setting head round (verdict_on query reply))
+      replies_so : (reply : LooseReply) → reply_of (loose_fed (asking setting.limit want id coming.asked) answer) ≡ Some reply
+          → IsWaiting (by_verdict setting head round (verdict_on want reply))
           → IsWaiting (by_reply setting head round (loose_fed call answer) (reply_of (loose_fed call answer)))
       replies_so reply is waits =
           subst (λ (r : Option LooseReply). IsWaiting (by_reply setting head round (loose_fed call answer) r))
           (sym (ap (λ (c : LooseCall). reply_of (loose_fed c answer)) coming.call_is ∙ is))
-          (subst (λ (q : Query). IsWaiting (by_verdict setting head round (verdict_on q reply))) (sym own.query_is) waits)
+          (subst (λ (q : Want). IsWaiting (by_verdict setting head round (verdict_on q reply))) (sym own.want_is) waits)
 
-      here_waits : HasLoose setting query id coming.asked answer → IsWaiting (by_reply setting head round (loose_fed call answer) (reply_of (loose_fed call answer)))
+      here_waits : HasLoose setting want id coming.asked answer → IsWaiting (by_reply setting head round (loose_fed call answer) (reply_of (loose_fed call answer)))
       here_waits has =
           replies_so has.reply has.replied
-          (subst (λ (verdict : Verdict). IsWaiting (by_verdict setting head round verdict)) (sym has.says) (answer_is_no_miss query has.told has.found))
+          (subst (λ (verdict : Verdict). IsWaiting (by_verdict setting head round verdict)) (sym has.says) (answer_is_no_miss want has.told has.found))
 
       ahead_waits : Contains (drop round.next setting.folders) folder
           → IsWaiting (by_reply setting head round (loose_fed call answer) (reply_of (loose_fed call answer)))
       ahead_waits ahead =
-          let reply = folder_replies setting.limit query id coming.asked answer in
-          replies_so reply.0 reply.1 (verdict_waits round coming.first ahead (verdict_on query reply.0) (verdict_is_no_miss query reply.0))
+          let reply = folder_replies setting.limit want id coming.asked answer in
+          replies_so reply.0 reply.1 (verdict_waits round coming.first ahead (verdict_on want reply.0) (verdict_is_no_miss want reply.0))
 
-      loose_waits : (ask : Ask) → loose_ask (disk_ask_of call) ≡ Some ask → IsLooseFair setting query id folder ask (told.Disk answer)
+      loose_waits : (ask : Ask) → loose_ask (disk_ask_of call) ≡ Some ask → IsLooseFair setting want id folder ask (told.Disk answer)
           → IsWaiting (by_reply setting head round (loose_fed call answer) (reply_of (loose_fed call answer)))
       loose_waits ask is fair =
           elim coming.ahead [
             | inl same ↦
                 here_waits
-                (subst (λ (f : Path). HasLoose setting query id f answer) (sym same)
-                (loose_ask_is (λ (a : Ask). IsLooseFair setting query id folder a (told.Disk answer) → HasLoose setting query id folder answer) ask
+                (subst (λ (f : Path). HasLoose setting want id f answer) (sym same)
+                (loose_ask_is (λ (a : Ask). IsLooseFair setting want id folder a (told.Disk answer) → HasLoose setting want id folder answer) ask
                 (disk_ask_of call)
                 (λ asked asks_it fair_to_it.
-                fair_to_it (ap (λ (f : Path). disk_ask_of (asking setting.limit query id f)) (sym same) ∙ ap disk_ask_of (sym coming.call_is) ∙ asks_it))
+                fair_to_it (ap (λ (f : Path). disk_ask_of (asking setting.limit want id f)) (sym same) ∙ ap disk_ask_of (sym coming.call_is) ∙ asks_it))
                 is fair))
             | inr ahead ↦ ahead_waits ahead
           ]
@@ -241,7 +241,7 @@ module _ (setting : Setting) (query : Query) (id : ObjectId) (folder : Path) (am
     -- ---- an exchange
 
     stage_waits : (stage : LookStage) → IsWaiting stage → (ask : Ask) (answer : Answer) → ask_at stage ≡ Some ask
-        → ((view : View) → view_of answer ≡ Some view → view.read ≡ true) → IsLooseFair setting query id folder ask answer
+        → ((view : View) → view_of answer ≡ Some view → view.read ≡ true) → IsLooseFair setting want id folder ask answer
         → IsWaiting (fed_at setting head stage answer).stage
     stage_waits (stages.Trying trier part) waits ask answer is published fair = tried_waits part waits (trier_fed trier answer)
     stage_waits (stages.Loose round call) waits ask (told.Disk answer) is published fair = loose_waits round call waits answer ask is fair
@@ -250,7 +250,7 @@ module _ (setting : Setting) (query : Query) (id : ObjectId) (folder : Path) (am
     stage_waits (stages.Looking purpose notes) waits ask (told.Core (Ok effect)) is published fair =
         look_waits purpose waits notes (view_shown effect) published
     stage_waits (stages.Looking purpose notes) waits ask (told.Core (Err refusal)) is published fair =
-        refused_is_no_miss query (call_errors.Find (find_errors.LoadIndex (of_refusal refusal)))
+        refused_is_no_miss want (call_errors.Find (find_errors.LoadIndex (of_refusal refusal)))
     stage_waits (stages.Listing lister base notes) waits ask answer is published fair = absurd waits
     stage_waits (stages.Publishing listing notes) waits ask answer is published fair = absurd waits
     stage_waits (stages.Done reply) waits ask answer is published fair = waits
@@ -259,7 +259,7 @@ module _ (setting : Setting) (query : Query) (id : ObjectId) (folder : Path) (am
     pub own : IsFor look.head
     pub stage : IsWaiting look.stage
 
-  -- the head of a look-up that waits stays for the query and the id
+  -- the head of a look-up that waits keeps what it wants and the id
   own_behind : (stage : LookStage) → IsWaiting stage → (head : LookHead) → IsFor head → (answer : Answer) → IsFor (fed_at setting head stage answer).head
   own_behind (stages.Trying trier part) waits head own answer = own
   own_behind (stages.Loose round call) waits head own (told.Disk answer) = own
@@ -272,25 +272,25 @@ module _ (setting : Setting) (query : Query) (id : ObjectId) (folder : Path) (am
   own_behind (stages.Done reply) waits head own answer = own
 
   look_waits_on : (look : LookUp) → IsLookWaiting look → (exchange : Exchange) → ask_at look.stage ≡ Some exchange.ask
-      → ((view : View) → view_of exchange.answer ≡ Some view → view.read ≡ true) → IsLooseFair setting query id folder exchange.ask exchange.answer
+      → ((view : View) → view_of exchange.answer ≡ Some view → view.read ≡ true) → IsLooseFair setting want id folder exchange.ask exchange.answer
       → IsLookWaiting (fed setting look exchange.answer)
   look_waits_on look waiting exchange is published fair =
       let head : LookHead = seen look.head exchange.answer in
-      let own : IsFor head = record { query_is = waiting.own.query_is; id_is = waiting.own.id_is } in
+      let own : IsFor head = record { want_is = waiting.own.want_is; id_is = waiting.own.id_is } in
       record {
         own = own_behind look.stage waiting.stage head own exchange.answer;
         stage = stage_waits head own look.stage waiting.stage exchange.ask exchange.answer is published fair;
       }
 
-  starts_waiting : (view : View) → IsLookWaiting (started setting view query id)
+  starts_waiting : (view : View) → IsLookWaiting (started setting view want id)
   starts_waiting view = record { own = own; stage = by view.read }
     where
-      own : IsFor (new_head query id)
-      own = record { query_is = refl; id_is = refl }
+      own : IsFor (new_head want id)
+      own = record { want_is = refl; id_is = refl }
 
       by : (b : Bool)
-          → IsWaiting (cond b (try_view setting (new_head query id) parts.Snapshot view [] without_notes) (stages.Looking (purposes.First true) without_notes))
-      by true = view_waits (new_head query id) own parts.Snapshot tt view [] without_notes
+          → IsWaiting (cond b (try_view setting (new_head want id) parts.Snapshot view [] without_notes) (stages.Looking (purposes.First true) without_notes))
+      by true = view_waits (new_head want id) own parts.Snapshot tt view [] without_notes
       by false = tt
 
   -- ---- no folder of packs is opened while it waits
@@ -304,7 +304,7 @@ module _ (setting : Setting) (query : Query) (id : ObjectId) (folder : Path) (am
   opens_none (stages.Done reply) waits path is = cc is
 
   none_open : (look : LookUp) → IsLookWaiting look → (before : List Exchange) → AreAsked setting look before → ArePublished before
-      → AreLooseFair setting query id folder before → stream_from None before ≡ None
+      → AreLooseFair setting want id folder before → stream_from None before ≡ None
   none_open look waiting [] asked published loose = refl
   none_open look waiting (exchange ∷ before) asked published loose =
       let here = has_first exchange before in
@@ -315,21 +315,21 @@ module _ (setting : Setting) (query : Query) (id : ObjectId) (folder : Path) (am
       (λ other is. published other (has_later exchange before other is)) (λ other is. loose other (has_later exchange before other is))
 
   -- As long as the loose objects of a folder are fair to the object, a look-up of a core that had published a list has no stream open.
-  pub no_stream_is_open_before_the_loose_folder_is_asked : (view : View) (before : List Exchange) → AreAsked setting (started setting view query id) before
-      → ArePublished before → AreLooseFair setting query id folder before → stream_in before ≡ None
+  pub no_stream_is_open_before_the_loose_folder_is_asked : (view : View) (before : List Exchange) → AreAsked setting (started setting view want id) before
+      → ArePublished before → AreLooseFair setting want id folder before → stream_in before ≡ None
   no_stream_is_open_before_the_loose_folder_is_asked view before asked published loose =
-      none_open (started setting view query id) (starts_waiting view) before asked published loose
+      none_open (started setting view want id) (starts_waiting view) before asked published loose
 
 -- ---- the object moves
 
-module _ (setting : Setting) (hash : Kind) (query : Query) (id : ObjectId) (of_hash : kind_of id ≡ hash) (place : PackedPlace)
+module _ (setting : Setting) (hash : Kind) (want : Want) (id : ObjectId) (of_hash : kind_of id ≡ hash) (place : PackedPlace)
     (among : Contains (folders_of setting) place.folder) where
   abbrev Waits : LookUp → Type 0
-  Waits look = IsLookWaiting setting query id place.folder among look
+  Waits look = IsLookWaiting setting want id place.folder among look
 
   -- before the first listing a look-up is on its track to whatever lies still from now on
-  on_track : (stream : Option Stream) (stage : LookStage) → IsWaiting setting query id place.folder among stage
-      → IsOn setting hash query id of_hash place among stream stage
+  on_track : (stream : Option Stream) (stage : LookStage) → IsWaiting setting want id place.folder among stage
+      → IsOn setting hash want id of_hash place among stream stage
   on_track stream (stages.Trying trier parts.Snapshot) waits = tt
   on_track stream (stages.Trying trier (parts.List list_no true)) waits = tt
   on_track stream (stages.Trying trier (parts.List list_no false)) waits = tt
@@ -348,26 +348,26 @@ module _ (setting : Setting) (hash : Kind) (query : Query) (id : ObjectId) (of_h
   on_track stream (stages.Done reply) waits = waits
 
   not_missed : (past : List Exchange) (look : LookUp) → Waits look → (before after : List Exchange) → AreAsked setting look (before ++ after)
-      → ArePublished before → AreLooseFair setting query id place.folder before → AreFair hash id place (past ++ before) after
-      → ¬ (result_of (behind setting look (before ++ after)) ≡ Ok (not_found query))
+      → ArePublished before → AreLooseFair setting want id place.folder before → AreFair hash id place (past ++ before) after
+      → ¬ (result_of (behind setting look (before ++ after)) ≡ Ok (not_found want))
   not_missed past look waiting [] after asked published loose fair =
-      never_missed setting hash query id of_hash place among past look
+      never_missed setting hash want id of_hash place among past look
       (record {
-        own = record { query_is = waiting.own.query_is; id_is = waiting.own.id_is };
+        own = record { want_is = waiting.own.want_is; id_is = waiting.own.id_is };
         stage = on_track (stream_in past) look.stage waiting.stage;
       })
       after asked (subst (λ (es : List Exchange). AreFair hash id place es after) (append-nil past) fair)
   not_missed past look waiting (exchange ∷ before) after asked published loose fair =
       let here = has_first exchange before in
       not_missed (past ++ exchange ∷ []) (fed setting look exchange.answer)
-      (look_waits_on setting query id place.folder among look waiting exchange asked.0 (published exchange here) (loose exchange here))
+      (look_waits_on setting want id place.folder among look waiting exchange asked.0 (published exchange here) (loose exchange here))
       before after asked.1 (λ other is. published other (has_later exchange before other is)) (λ other is. loose other (has_later exchange before other is))
       (subst (λ (es : List Exchange). AreFair hash id place es after) (sym (append_assoc past (exchange ∷ []) before)) fair)
 
   -- Let an object be loose in a folder up to an exchange, and lie still in a pack of that folder from then on. A look-up isn't ended by "not
   -- found", if the core of its store had published a list by then.
   pub objects_that_move_into_packs_are_not_missed : (view : View) (before after : List Exchange)
-      → AreAsked setting (started setting view query id) (before ++ after) → ArePublished before → AreLooseFair setting query id place.folder before
-      → AreFair hash id place before after → ¬ (result_of (behind setting (started setting view query id) (before ++ after)) ≡ Ok (not_found query))
+      → AreAsked setting (started setting view want id) (before ++ after) → ArePublished before → AreLooseFair setting want id place.folder before
+      → AreFair hash id place before after → ¬ (result_of (behind setting (started setting view want id) (before ++ after)) ≡ Ok (not_found want))
   objects_that_move_into_packs_are_not_missed view before after asked published loose fair =
-      not_missed [] (started setting view query id) (starts_waiting setting query id place.folder among view) before after asked published loose fair
+      not_missed [] (started setting view want id) (starts_waiting setting want id place.folder among view) before after asked published loose fair

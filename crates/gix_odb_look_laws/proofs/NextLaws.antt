@@ -14,7 +14,7 @@ use Rattle.gix_odb_events.specs.declared.event.Event.TheVariants as events
 use Rattle.gix_odb_events.specs.declared.view.View.{View}
 use Rattle.gix_odb_events.specs.declared.answer.Ask.{Ask}
 use Rattle.gix_odb_events.specs.declared.answer.Ask.TheVariants as asks
-use Rattle.gix_odb_calls.specs.declared.query.Query.{Query}
+use Rattle.gix_object.specs.declared.want.Want.{Want}
 use Rattle.gix_odb_looks.specs.Exchange.{AreAsked, Exchange, behind}
 use Rattle.gix_odb_looks.specs.LookUpOrder.{Setting, ask_of, started}
 use Rattle.gix_odb_looks.specs.Shown.{IsIndexPath, IsShownView}
@@ -25,11 +25,11 @@ use Rattle.gix_odb_look_laws.specs.JustRead.{IsPackPath, read_of}
 use Rattle.gix_odb_look_laws.proofs.LastExchange.{asked-within}
 use Rattle.gix_odb_look_laws.proofs.ReadLaws.{index_that_was_read_is_stored_next, pack_that_was_read_is_stored_next}
 
-module _ (Shown : Path → List ℕ → Type 0) (setting : Setting) (hash : Kind) (query : Query) (id : ObjectId) (same : kind_of id ≡ hash)
+module _ (Shown : Path → List ℕ → Type 0) (setting : Setting) (hash : Kind) (want : Want) (id : ObjectId) (same : kind_of id ≡ hash)
     (view : View) (shown : IsShownView Shown setting hash view) (exchanges : List Exchange)
-    (asked : AreAsked setting (started setting view query id) exchanges) (truth : AreTrue Shown setting hash exchanges) where
+    (asked : AreAsked setting (started setting view want id) exchanges) (truth : AreTrue Shown setting hash exchanges) where
   abbrev start : LookUp
-  start = started setting view query id
+  start = started setting view want id
 
   module _ (first next : Exchange) (comes : ComesNext exchanges first next) where
     abbrev so_far : List Exchange
@@ -54,7 +54,7 @@ module _ (Shown : Path → List ℕ → Type 0) (setting : Setting) (hash : Kind
         → (slot : ℕ) × (next.ask ≡ asks.Core (events.PutIndex slot path (record { kind = hash; bytes = bytes })))
     exchange_behind_a_read_stores_the_index index parsed =
         let put =
-        index_that_was_read_is_stored_next Shown setting hash query id same view shown (so_far first next comes) (within first next comes).0
+        index_that_was_read_is_stored_next Shown setting hash want id same view shown (so_far first next comes) (within first next comes).0
         (true_so_far first next comes) path bytes index parsed (record { time = time; last = (comes.past, refl) }) in
         (put.0, next_is first next comes (asks.Core (events.PutIndex put.0 path (record { kind = hash; bytes = bytes }))) put.1)
 
@@ -63,6 +63,6 @@ module _ (Shown : Path → List ℕ → Type 0) (setting : Setting) (hash : Kind
         → (pack : PackId) × (next.ask ≡ asks.Core (events.PutPack pack path (record { kind = hash; bytes = bytes })))
     exchange_behind_a_read_stores_the_pack pack parsed =
         let put =
-        pack_that_was_read_is_stored_next Shown setting hash query id same view shown (so_far first next comes) (within first next comes).0
+        pack_that_was_read_is_stored_next Shown setting hash want id same view shown (so_far first next comes) (within first next comes).0
         (true_so_far first next comes) path bytes pack parsed (record { time = time; last = (comes.past, refl) }) in
         (put.0, next_is first next comes (asks.Core (events.PutPack put.0 path (record { kind = hash; bytes = bytes }))) put.1)

@@ -23,17 +23,15 @@ use Rattle.gix_odb_packs.specs.declared.goal.Error.{Error}
 use Rattle.gix_odb_packs.specs.declared.goal.Found.{Found}
 use Rattle.gix_odb_packs.specs.declared.goal.Found.TheVariants as found
 use Rattle.gix_odb_packs.specs.declared.goal.Goal.{Goal}
-use Rattle.gix_odb_packs.specs.declared.goal.Wanted.{Wanted}
-use Rattle.gix_odb_packs.specs.declared.goal.Wanted.TheVariants.{Object, Header, Presence}
+use Rattle.gix_object.specs.declared.want.Want.{Want}
+use Rattle.gix_object.specs.declared.want.Want.TheVariants.{Object, Header, Presence}
 use Rattle.gix_odb_packs.specs.declared.trier.Ahead.{Ahead}
 use Rattle.gix_odb_packs.specs.declared.trier.Tried.{Tried}
 use Rattle.gix_odb_packs.specs.declared.trier.Tried.TheVariants as ends
 use Rattle.gix_odb_packs.proofs.ReachLemmas.{first_or_later, none_in}
 use Rattle.gix_odb_calls.specs.declared.call.CallError.TheVariants as call_errors
 use Rattle.gix_odb_calls.specs.declared.call.Reply.TheVariants as replies
-use Rattle.gix_odb_calls.specs.declared.query.Query.{Query}
-use Rattle.gix_odb_calls.specs.declared.query.Query.TheVariants as queries
-use Rattle.gix_odb_looks.specs.LookUpOrder.{Setting, at, by_tried, find_error, goal_of, new_head, reply_found, started, try_view, wanted_by, without_notes}
+use Rattle.gix_odb_looks.specs.LookUpOrder.{Setting, at, by_tried, find_error, goal_of, new_head, reply_found, started, try_view, without_notes}
 use Rattle.gix_odb_looks.specs.declared.look_up.LookHead.{LookHead}
 use Rattle.gix_odb_looks.specs.declared.look_up.LookStage.TheVariants as stages
 use Rattle.gix_odb_looks.specs.declared.look_up.Part.{Part}
@@ -45,7 +43,7 @@ use Rattle.gix_odb_look_laws.specs.AtHand.{HasId, HasPacks, IsAtHand, IsDone, Is
 -- ---- a search that ends
 
 -- What trying comes to that ends at once, with no pack and no index that is still to be read. For presence it finds it.
-abbrev Ends : Wanted → Tried → Type 0
+abbrev Ends : Want → Tried → Type 0
 Ends Presence (ends.Hit found.Presence) = Unit {0}
 Ends Presence other = ⊥
 Ends wanted (ends.Hit what) = Unit {0}
@@ -53,13 +51,13 @@ Ends wanted (ends.Bad error) = Unit {0}
 Ends wanted other = ⊥
 
 -- what a search needs of an index that has the id
-abbrev Needs : Wanted → SnapshotIndex → (place : ℕ) → Type 0
+abbrev Needs : Want → SnapshotIndex → (place : ℕ) → Type 0
 Needs Presence index place = Unit {0}
 Needs wanted index place = IsPackLoaded index place
 
 module _ (goal : Goal) where
   abbrev NeedsIfHas : SnapshotIndex → Type 0
-  NeedsIfHas index = (place : ℕ) → place_for index.index goal.id ≡ Some place → Needs goal.wanted index place
+  NeedsIfHas index = (place : ℕ) → place_for index.index goal.id ≡ Some place → Needs goal.want index place
 
   no_place : (index : SnapshotIndex) → place_for index.index goal.id ≡ None → ¬ (HasId goal.id index)
   no_place index none has = let wrong : None ≡ Some has.place = sym none ∙ has.has in cc wrong
@@ -85,16 +83,16 @@ module _ (goal : Goal) (ahead : Ahead) where
         (sym has.named)
         (subst (λ (file : Option FileBytes). P (at_search goal ahead (first_of (in_file goal [] index (record { place = place; offset = offset }) has.pack.path file) (search goal [] rest))))
         (sym has.there)
-        (given_ends P hit bad (given_by goal.wanted goal.limit has.file offset)))
+        (given_ends P hit bad (given_by goal.want goal.limit has.file offset)))
 
-    spot_ends : (wanted : Wanted) (place offset : ℕ) → Needs wanted index place
+    spot_ends : (wanted : Want) (place offset : ℕ) → Needs wanted index place
         → Ends wanted (at_search goal ahead (first_of (at_spot wanted goal [] index (Some (record { place = place; offset = offset }))) (search goal [] rest)))
     spot_ends Presence place offset needs = tt
     spot_ends Object place offset needs = in_loaded (Ends Object) (λ what. tt) (λ error. tt) place offset needs
     spot_ends Header place offset needs = in_loaded (Ends Header) (λ what. tt) (λ error. tt) place offset needs
 
     -- the index has the id, and the search ends there; or it hasn't, and the search goes on
-    module _ (wanted : Wanted) where
+    module _ (wanted : Want) where
       abbrev NeedsAt : Option ℕ → Type 0
       NeedsAt own = (place : ℕ) → own ≡ Some place → Needs wanted index place
 
@@ -118,10 +116,10 @@ module _ (goal : Goal) (ahead : Ahead) where
       index_ends (Multi bytes) needs later = pack_row_ends (find (λ (row : PackRow). is_eq (id_cmp row.id goal.id)) (told bytes).rows) needs later
 
   search_ends : (indices : List SnapshotIndex) → All (NeedsIfHas goal) indices → (index : SnapshotIndex) → Contains indices index → HasId goal.id index
-      → Ends goal.wanted (seeks indices)
+      → Ends goal.want (seeks indices)
   search_ends [] needs index among has = absurd (none_in index among)
   search_ends (first ∷ rest) needs index among has =
-      index_ends first rest goal.wanted first.index (All-head (NeedsIfHas goal) first rest needs)
+      index_ends first rest goal.want first.index (All-head (NeedsIfHas goal) first rest needs)
       (λ none.
       elim (first_or_later first rest index among) [
         | inl is ↦ absurd (no_place goal first none (subst (HasId goal.id) (sym is) has))
@@ -131,57 +129,57 @@ module _ (goal : Goal) (ahead : Ahead) where
 -- ---- the look-up
 
 module _ (setting : Setting) where
-  found_one : (query : Query) (head : LookHead) (part : Part) (what : Found) → SaysYes query (reply_found what)
-      → IsDone query (at head (by_tried setting head part (ends.Hit what)))
-  found_one query head part what says =
-      record { reply = reply_found what; replied = refl; silent = refl; found = found_is_no_miss query what; says_yes = says }
+  found_one : (want : Want) (head : LookHead) (part : Part) (what : Found) → SaysYes want (reply_found what)
+      → IsDone want (at head (by_tried setting head part (ends.Hit what)))
+  found_one want head part what says =
+      record { reply = reply_found what; replied = refl; silent = refl; found = found_is_no_miss want what; says_yes = says }
 
-  refused_one : (query : Query) (head : LookHead) (part : Part) (error : Error) → SaysYes query (replies.Refused (call_errors.Find (find_error error)))
-      → IsDone query (at head (by_tried setting head part (ends.Bad error)))
-  refused_one query head part error says =
+  refused_one : (want : Want) (head : LookHead) (part : Part) (error : Error) → SaysYes want (replies.Refused (call_errors.Find (find_error error)))
+      → IsDone want (at head (by_tried setting head part (ends.Bad error)))
+  refused_one want head part error says =
       record {
         reply = replies.Refused (call_errors.Find (find_error error));
         replied = refl;
         silent = refl;
-        found = refused_is_no_miss query (call_errors.Find (find_error error));
+        found = refused_is_no_miss want (call_errors.Find (find_error error));
         says_yes = says;
       }
 
-  done : (query : Query) (head : LookHead) (part : Part) (end : Tried) → Ends (wanted_by query) end → IsDone query (at head (by_tried setting head part end))
-  done (queries.Find asked) head part (ends.Hit what) over = found_one (queries.Find asked) head part what tt
-  done (queries.Find asked) head part (ends.Bad error) over = refused_one (queries.Find asked) head part error tt
-  done (queries.Find asked) head part (ends.More trier) over = absurd over
-  done (queries.Find asked) head part (ends.Missed notes) over = absurd over
-  done (queries.Find asked) head part (ends.Broken refusal) over = absurd over
-  done (queries.Header asked) head part (ends.Hit what) over = found_one (queries.Header asked) head part what tt
-  done (queries.Header asked) head part (ends.Bad error) over = refused_one (queries.Header asked) head part error tt
-  done (queries.Header asked) head part (ends.More trier) over = absurd over
-  done (queries.Header asked) head part (ends.Missed notes) over = absurd over
-  done (queries.Header asked) head part (ends.Broken refusal) over = absurd over
-  done (queries.Test asked) head part (ends.Hit found.Presence) over = found_one (queries.Test asked) head part found.Presence refl
-  done (queries.Test asked) head part (ends.Hit (found.Object kind bytes)) over = absurd over
-  done (queries.Test asked) head part (ends.Hit (found.Header kind size)) over = absurd over
-  done (queries.Test asked) head part (ends.Bad error) over = absurd over
-  done (queries.Test asked) head part (ends.More trier) over = absurd over
-  done (queries.Test asked) head part (ends.Missed notes) over = absurd over
-  done (queries.Test asked) head part (ends.Broken refusal) over = absurd over
+  done : (want : Want) (head : LookHead) (part : Part) (end : Tried) → Ends want end → IsDone want (at head (by_tried setting head part end))
+  done Object head part (ends.Hit what) over = found_one Object head part what tt
+  done Object head part (ends.Bad error) over = refused_one Object head part error tt
+  done Object head part (ends.More trier) over = absurd over
+  done Object head part (ends.Missed notes) over = absurd over
+  done Object head part (ends.Broken refusal) over = absurd over
+  done Header head part (ends.Hit what) over = found_one Header head part what tt
+  done Header head part (ends.Bad error) over = refused_one Header head part error tt
+  done Header head part (ends.More trier) over = absurd over
+  done Header head part (ends.Missed notes) over = absurd over
+  done Header head part (ends.Broken refusal) over = absurd over
+  done Presence head part (ends.Hit found.Presence) over = found_one Presence head part found.Presence refl
+  done Presence head part (ends.Hit (found.Object kind bytes)) over = absurd over
+  done Presence head part (ends.Hit (found.Header kind size)) over = absurd over
+  done Presence head part (ends.Bad error) over = absurd over
+  done Presence head part (ends.More trier) over = absurd over
+  done Presence head part (ends.Missed notes) over = absurd over
+  done Presence head part (ends.Broken refusal) over = absurd over
 
-  needs : (query : Query) (id : ObjectId) (view : View) → HasPacks query id view → All (NeedsIfHas (goal_of setting (new_head query id))) view.snapshot.indices
-  needs (queries.Find asked) id view packs = packs
-  needs (queries.Header asked) id view packs = packs
-  needs (queries.Test asked) id view packs =
+  needs : (want : Want) (id : ObjectId) (view : View) → HasPacks want id view → All (NeedsIfHas (goal_of setting (new_head want id))) view.snapshot.indices
+  needs Object id view packs = packs
+  needs Header id view packs = packs
+  needs Presence id view packs =
       let indices = view.snapshot.indices in
-      All-weaker (Contains indices) (NeedsIfHas (goal_of setting (new_head (queries.Test asked) id))) (λ index among place is. tt) indices
+      All-weaker (Contains indices) (NeedsIfHas (goal_of setting (new_head Presence id))) (λ index among place is. tt) indices
       (All-contains_itself indices)
 
   -- A look-up whose snapshot has an index with the id, and has loaded the pack that each such index names for it, is done as it starts and
   -- asks nothing. For a test an index with the id is enough.
-  pub object_at_hand_is_found_at_once : (query : Query) (id : ObjectId) (view : View) → IsAtHand query id view → IsDone query (started setting view query id)
-  object_at_hand_is_found_at_once query id view hand =
-      let head : LookHead = new_head query id in
+  pub object_at_hand_is_found_at_once : (want : Want) (id : ObjectId) (view : View) → IsAtHand want id view → IsDone want (started setting view want id)
+  object_at_hand_is_found_at_once want id view hand =
+      let head : LookHead = new_head want id in
       let goal : Goal = goal_of setting head in
       let indices = view.snapshot.indices in
       let left : Ahead = record { indices = rest_behind goal [] indices; todo = []; notes = without_notes } in
-      subst (λ (b : Bool). IsDone query (at head (cond b (try_view setting head parts.Snapshot view [] without_notes) (stages.Looking (purposes.First true) without_notes))))
+      subst (λ (b : Bool). IsDone want (at head (cond b (try_view setting head parts.Snapshot view [] without_notes) (stages.Looking (purposes.First true) without_notes))))
       (sym hand.read)
-      (done query head parts.Snapshot (seeks goal left indices) (search_ends goal left indices (needs query id view hand.packs) hand.index hand.among hand.has))
+      (done want head parts.Snapshot (seeks goal left indices) (search_ends goal left indices (needs want id view hand.packs) hand.index hand.among hand.has))

@@ -40,8 +40,8 @@ use Rattle.gix_odb_packs.specs.declared.trier.Stage.TheVariants as tries_stages
 use Rattle.gix_odb_packs.specs.declared.trier.Tried.TheVariants as ends
 use Rattle.gix_odb_packs.specs.declared.trier.Trier.{Trier}
 use Rattle.gix_odb_calls.specs.Verdict.{asking}
-use Rattle.gix_odb_calls.specs.declared.query.Query.{Query}
-use Rattle.gix_odb_calls.specs.declared.query.Query.TheVariants.{Find, Header, Test}
+use Rattle.gix_object.specs.declared.want.Want.{Want}
+use Rattle.gix_object.specs.declared.want.Want.TheVariants.{Object, Header, Presence}
 use Rattle.gix_odb_looks.specs.Exchange.{AreAsked, Exchange, behind}
 use Rattle.gix_odb_looks.specs.LookUpOrder.{Setting, ask_at, ask_of, by_tried, fed, fed_at, loose_ask, seen, started}
 use Rattle.gix_odb_looks.specs.Shown.{IsIndexPath, IsShownView}
@@ -71,18 +71,18 @@ lister_reads_nothing folder (list_stages.Index own left) path is = cc is
 lister_reads_nothing folder (list_stages.Pack row left) path is = cc is
 
 -- the loose objects of a folder are read at one path
-loose_reads : (limit : Option ℕ) (query : Query) (id : ObjectId) (folder path : Path)
-    → loose_ask (disk_ask_of (asking limit query id folder)) ≡ Some (asks.Disk (disk_asks.Read path)) → loose_path folder id ≡ path
-loose_reads limit (Find asked) id folder path is = cc is
-loose_reads limit (Header asked) id folder path is = cc is
-loose_reads limit (Test asked) id folder path is = absurd (cc is)
+loose_reads : (limit : Option ℕ) (want : Want) (id : ObjectId) (folder path : Path)
+    → loose_ask (disk_ask_of (asking limit want id folder)) ≡ Some (asks.Disk (disk_asks.Read path)) → loose_path folder id ≡ path
+loose_reads limit Object id folder path is = cc is
+loose_reads limit Header id folder path is = cc is
+loose_reads limit Presence id folder path is = absurd (cc is)
 
-module _ (Shown : Path → List ℕ → Type 0) (setting : Setting) (hash : Kind) (query : Query) (id : ObjectId) (same : kind_of id ≡ hash) where
-  no_loose : (all : List Exchange) (call : LooseCall) → KnowsLoose Shown setting hash id all query call → (folder : Path) (name : Name)
+module _ (Shown : Path → List ℕ → Type 0) (setting : Setting) (hash : Kind) (want : Want) (id : ObjectId) (same : kind_of id ≡ hash) where
+  no_loose : (all : List Exchange) (call : LooseCall) → KnowsLoose Shown setting hash id all want call → (folder : Path) (name : Name)
       → ¬ (loose_ask (disk_ask_of call) ≡ Some (asks.Disk (disk_asks.Read (pack_folder folder ++ name ∷ []))))
   no_loose all call known folder name is =
       loose_is_in_no_pack_folder known.folder folder id name
-      (loose_reads setting.limit query id known.folder (pack_folder folder ++ name ∷ [])
+      (loose_reads setting.limit want id known.folder (pack_folder folder ++ name ∷ [])
       (ap (λ (c : LooseCall). loose_ask (disk_ask_of c)) (sym known.is) ∙ is))
 
   -- ---- an index that was read
@@ -150,11 +150,11 @@ module _ (Shown : Path → List ℕ → Type 0) (setting : Setting) (hash : Kind
       pack_put pack parsed (tries_stages.PassingPack wanted) known is = absurd (cc is)
 
     module _ (all : List Exchange) where
-      goal_of_hash : (trier : Trier) → KnowsTrier Shown setting hash id all query trier → kind_of trier.goal.id ≡ hash
+      goal_of_hash : (trier : Trier) → KnowsTrier Shown setting hash id all want trier → kind_of trier.goal.id ≡ hash
       goal_of_hash trier known = ap (λ (goal : Goal). kind_of goal.id) known.goal ∙ same
 
       abbrev Knows : LookStage → Type 0
-      Knows stage = KnowsLookStage Shown setting hash id all query stage
+      Knows stage = KnowsLookStage Shown setting hash id all want stage
 
       index_stage : IsIndexPath setting path → is_index hash bytes ≡ true → (head : LookHead) (stage : LookStage) → Knows stage
           → ask_at stage ≡ Some (asks.Disk (disk_asks.Read path)) → PutsIndex (ask_of (fed_at setting head stage answer))
@@ -205,7 +205,7 @@ module _ (Shown : Path → List ℕ → Type 0) (setting : Setting) (hash : Kind
     stage_backed (stages.Done reply) here ask is = absurd (cc is)
 
     module _ (last : Exchange) (just : (path : Path) (own : DiskAnswer) → last ≡ read_of path own → Read path own) where
-      goes : (past : List Exchange) (stage : LookStage) → KnowsLookStage Shown setting hash id past query stage → ask_at stage ≡ Some last.ask
+      goes : (past : List Exchange) (stage : LookStage) → KnowsLookStage Shown setting hash id past want stage → ask_at stage ≡ Some last.ask
           → IsTrue Shown setting hash last.ask last.answer → Goes (IsRead Read hash) stage last.answer
       goes past (stages.Trying trier part) known is truth =
           let own_ask : tries.ask_of trier ≡ last.ask = same_Some _ last.ask is in
@@ -224,15 +224,15 @@ module _ (Shown : Path → List ℕ → Type 0) (setting : Setting) (hash : Kind
 
   module _ (view : View) (shown : IsShownView Shown setting hash view) where
     abbrev start : LookUp
-    start = started setting view query id
+    start = started setting view want id
 
     module _ (past : List Exchange) (last : Exchange) (asked : AreAsked setting start (past ++ last ∷ [])) (truth : AreTrue Shown setting hash (past ++ last ∷ [])) where
       abbrev before : LookUp
       before = behind setting start past
 
-      known_before : KnowsLook Shown setting hash id past query before
+      known_before : KnowsLook Shown setting hash id past want before
       known_before =
-          look_known Shown setting hash query id same view shown past (asked-push setting start past last asked).0 (true_before Shown setting hash past last truth)
+          look_known Shown setting hash want id same view shown past (asked-push setting start past last asked).0 (true_before Shown setting hash past last truth)
 
       is_asked : ask_of before ≡ Some last.ask
       is_asked = (asked-push setting start past last asked).1
@@ -298,7 +298,7 @@ module _ (Shown : Path → List ℕ → Type 0) (setting : Setting) (hash : Kind
           elim (none_or_cut exchanges) [
             | inl none ↦
                 subst (λ (es : List Exchange). OfStage (IsRead (Read exchanges) hash) (behind setting start es).stage) none
-                (start_has (IsRead (Read exchanges) hash) setting (seek_goes (Read exchanges) hash) view query id)
+                (start_has (IsRead (Read exchanges) hash) setting (seek_goes (Read exchanges) hash) view want id)
             | inr cut ↦ cut_reads cut
           ]
 

@@ -24,7 +24,7 @@ use Rattle.gix_odb_packs.specs.declared.trier.Tried.TheVariants as tried
 use Rattle.gix_odb_packs.specs.declared.trier.Trier.{Trier}
 use Rattle.gix_odb_calls.specs.Verdict.{verdict_on}
 use Rattle.gix_odb_calls.specs.declared.load_index.Error.TheVariants as load_errors
-use Rattle.gix_odb_calls.specs.declared.query.Query.{Query}
+use Rattle.gix_object.specs.declared.want.Want.{Want}
 use Rattle.gix_odb_calls.specs.declared.verdict.Verdict.{Verdict}
 use Rattle.gix_odb_calls.specs.declared.verdict.Verdict.TheVariants as verdicts
 use Rattle.gix_odb_looks.specs.LookUpOrder.{Setting, after_list, after_loose, at_folder, by_listed, by_look, by_published, by_reply, by_tried}
@@ -98,7 +98,7 @@ module _ (OfTrier : Trier → Type 0) where
 
     of_reply : (head : LookHead) (round : LooseRound) (call : LooseCall) (reply : Option LooseReply) → OfStage (by_reply setting head round call reply)
     of_reply head round call None = tt
-    of_reply head round call (Some reply) = of_verdict head round (verdict_on head.query reply)
+    of_reply head round call (Some reply) = of_verdict head round (verdict_on head.want reply)
 
     -- ---- the core has answered
 
@@ -111,8 +111,8 @@ module _ (OfTrier : Trier → Type 0) where
         chosen view.read (try_view setting head (parts.List view.list_no loose) view view.todo notes) (listing_from setting view.list_no notes)
         (of_view head (parts.List view.list_no loose) view view.todo notes) tt
     of_look head (purposes.Check list_no) notes (Some view) =
-        chosen (view.list_no == list_no) (ended head.query notes) (counted setting head view.list_no (listing_from setting view.list_no notes))
-        (chosen notes.failed (stages.Done (load_refused load_errors.Io)) (stages.Done (not_found head.query)) tt tt)
+        chosen (view.list_no == list_no) (ended head.want notes) (counted setting head view.list_no (listing_from setting view.list_no notes))
+        (chosen notes.failed (stages.Done (load_refused load_errors.Io)) (stages.Done (not_found head.want)) tt tt)
         (of_counted head view.list_no (listing_from setting view.list_no notes) tt)
     of_look head purposes.Again notes (Some view) = tt
 
@@ -145,7 +145,7 @@ module _ (OfTrier : Trier → Type 0) where
     stage_goes head (stages.Done reply) answer here = tt
 
     -- a new look-up
-    pub start_has : (view : View) (query : Query) (id : ObjectId) → OfStage (started setting view query id).stage
-    start_has view query id =
-        chosen view.read (try_view setting (new_head query id) parts.Snapshot view [] without_notes) (stages.Looking (purposes.First true) without_notes)
-        (of_view (new_head query id) parts.Snapshot view [] without_notes) tt
+    pub start_has : (view : View) (want : Want) (id : ObjectId) → OfStage (started setting view want id).stage
+    start_has view want id =
+        chosen view.read (try_view setting (new_head want id) parts.Snapshot view [] without_notes) (stages.Looking (purposes.First true) without_notes)
+        (of_view (new_head want id) parts.Snapshot view [] without_notes) tt

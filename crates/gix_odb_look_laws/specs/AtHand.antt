@@ -16,8 +16,8 @@ use Rattle.gix_odb_events.specs.declared.loaded.SnapshotIndex.{SnapshotIndex}
 use Rattle.gix_odb_events.specs.declared.view.View.{View}
 use Rattle.gix_odb_calls.specs.declared.call.Reply.{Reply}
 use Rattle.gix_odb_calls.specs.declared.call.Reply.TheVariants as replies
-use Rattle.gix_odb_calls.specs.declared.query.Query.{Query}
-use Rattle.gix_odb_calls.specs.declared.query.Query.TheVariants.{Find, Header, Test}
+use Rattle.gix_object.specs.declared.want.Want.{Want}
+use Rattle.gix_object.specs.declared.want.Want.TheVariants.{Object, Header, Presence}
 use Rattle.gix_odb_looks.specs.LookUpOrder.{ask_of, not_found, result_of}
 use Rattle.gix_odb_looks.specs.declared.look_up.LookUp.{LookUp}
 
@@ -46,30 +46,30 @@ abbrev pub HasPackLoaded : ObjectId → SnapshotIndex → Type 0
 HasPackLoaded id index = (place : ℕ) → place_for index.index id ≡ Some place → IsPackLoaded index place
 
 -- A find and a look for a header need the pack that each index with the id names for it. For a test no pack is needed.
-abbrev pub HasPacks : Query → ObjectId → View → Type 0
-HasPacks (Find asked) id view = All (HasPackLoaded id) view.snapshot.indices
-HasPacks (Header asked) id view = All (HasPackLoaded id) view.snapshot.indices
-HasPacks (Test asked) id view = Unit {0}
+abbrev pub HasPacks : Want → ObjectId → View → Type 0
+HasPacks Object id view = All (HasPackLoaded id) view.snapshot.indices
+HasPacks Header id view = All (HasPackLoaded id) view.snapshot.indices
+HasPacks Presence id view = Unit {0}
 
--- a snapshot of a list that was read has an index with the id, and the packs that the query needs
-pub record IsAtHand (query : Query) (id : ObjectId) (view : View) : Type 0 where
+-- a snapshot of a list that was read has an index with the id, and the packs that this takes
+pub record IsAtHand (want : Want) (id : ObjectId) (view : View) : Type 0 where
   pub read : view.read ≡ true
   pub index : SnapshotIndex
   pub among : Contains view.snapshot.indices index
   pub has : HasId id index
-  pub packs : HasPacks query id view
+  pub packs : HasPacks want id view
 
 -- ---- the look-up
 
 -- a test is answered by a yes
-abbrev pub SaysYes : Query → Reply → Type 0
-SaysYes (Test asked) reply = reply ≡ replies.Tested true
-SaysYes query reply = Unit {0}
+abbrev pub SaysYes : Want → Reply → Type 0
+SaysYes Presence reply = reply ≡ replies.Tested true
+SaysYes want reply = Unit {0}
 
 -- A look-up is done: it has its reply, which doesn't say that nothing was found, and asks nothing.
-pub record IsDone (query : Query) (look : LookUp) : Type 0 where
+pub record IsDone (want : Want) (look : LookUp) : Type 0 where
   pub reply : Reply
   pub replied : result_of look ≡ Ok reply
   pub silent : ask_of look ≡ None
-  pub found : ¬ (reply ≡ not_found query)
-  pub says_yes : SaysYes query reply
+  pub found : ¬ (reply ≡ not_found want)
+  pub says_yes : SaysYes want reply

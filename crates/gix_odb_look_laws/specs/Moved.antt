@@ -12,7 +12,7 @@ use Rattle.gix_odb_events.specs.declared.answer.Ask.{Ask}
 use Rattle.gix_odb_events.specs.declared.answer.Ask.TheVariants as asks
 use Rattle.gix_odb_calls.specs.Verdict.{asking, verdict_on}
 use Rattle.gix_odb_calls.specs.declared.call.Reply.{Reply}
-use Rattle.gix_odb_calls.specs.declared.query.Query.{Query}
+use Rattle.gix_object.specs.declared.want.Want.{Want}
 use Rattle.gix_odb_calls.specs.declared.verdict.Verdict.TheVariants as verdicts
 use Rattle.gix_odb_looks.specs.Exchange.{Exchange, IsAnswerTo}
 use Rattle.gix_odb_looks.specs.LookUpOrder.{Setting, loose_fed, view_of}
@@ -22,18 +22,18 @@ use Rattle.gix_odb_looks.specs.Reply.{IsAnswer}
 abbrev pub ArePublished : List Exchange → Type 0
 ArePublished exchanges = (exchange : Exchange) → Contains exchanges exchange → (view : View) → view_of exchange.answer ≡ Some view → view.read ≡ true
 
-module _ (setting : Setting) (query : Query) (id : ObjectId) (folder : Path) where
-  -- the loose objects of the folder, asked by the query, have the object, by this answer of the disk
+module _ (setting : Setting) (want : Want) (id : ObjectId) (folder : Path) where
+  -- the loose objects of the folder, asked for what is wanted, have the object, by this answer of the disk
   pub record HasLoose (answer : DiskAnswer) : Type 0 where
     pub reply : LooseReply
-    pub replied : reply_of (loose_fed (asking setting.limit query id folder) answer) ≡ Some reply
+    pub replied : reply_of (loose_fed (asking setting.limit want id folder) answer) ≡ Some reply
     pub told : Reply
-    pub says : verdict_on query reply ≡ verdicts.Ends told
+    pub says : verdict_on want reply ≡ verdicts.Ends told
     pub found : IsAnswer told
 
   -- an exchange is fair to the loose object of the folder: where its call is the one by which it is asked for, the answer has it
   abbrev pub IsLooseFair : Ask → Answer → Type 0
-  IsLooseFair (asks.Disk ask) (told.Disk answer) = disk_ask_of (asking setting.limit query id folder) ≡ Some ask → HasLoose answer
+  IsLooseFair (asks.Disk ask) (told.Disk answer) = disk_ask_of (asking setting.limit want id folder) ≡ Some ask → HasLoose answer
   IsLooseFair ask answer = IsAnswerTo ask answer
 
   abbrev pub AreLooseFair : List Exchange → Type 0

@@ -38,7 +38,7 @@ use Rattle.gix_odb_calls.specs.declared.call.Reply.{Reply}
 use Rattle.gix_odb_calls.specs.declared.call.Reply.TheVariants as replies
 use Rattle.gix_odb_calls.specs.declared.find.Error.{Error}
 use Rattle.gix_odb_calls.specs.declared.find.Error.TheVariants as errors
-use Rattle.gix_odb_calls.specs.declared.query.Query.{Query}
+use Rattle.gix_object.specs.declared.want.Want.{Want}
 use Rattle.gix_odb_calls.specs.declared.verdict.Verdict.{Verdict}
 use Rattle.gix_odb_looks.specs.Caused.{IsCaused}
 use Rattle.gix_odb_looks.specs.Exchange.{AreAsked, Exchange, IsLast, behind, published_in}
@@ -78,35 +78,35 @@ done_with head (stages.Done other) reply is = cc is
 
 -- ---- what a look-up replies, and when it asks nothing more
 
-behind-stands : (setting : Setting) (query : Query) (id : ObjectId) (exchanges : List Exchange) (look : LookUp) → StandsFor setting query id look
-    → StandsFor setting query id (behind setting look exchanges)
-behind-stands setting query id [] look stands = stands
-behind-stands setting query id (exchange ∷ exchanges) look stands =
-    behind-stands setting query id exchanges (fed setting look exchange.answer) (fed-stands setting query id look exchange.answer stands)
+behind-stands : (setting : Setting) (want : Want) (id : ObjectId) (exchanges : List Exchange) (look : LookUp) → StandsFor setting want id look
+    → StandsFor setting want id (behind setting look exchanges)
+behind-stands setting want id [] look stands = stands
+behind-stands setting want id (exchange ∷ exchanges) look stands =
+    behind-stands setting want id exchanges (fed setting look exchange.answer) (fed-stands setting want id look exchange.answer stands)
 
-module _ (setting : Setting) (view : View) (query : Query) (id : ObjectId) (exchanges : List Exchange) where
+module _ (setting : Setting) (view : View) (want : Want) (id : ObjectId) (exchanges : List Exchange) where
   abbrev look : LookUp
-  look = behind setting (started setting view query id) exchanges
+  look = behind setting (started setting view want id) exchanges
 
-  stands_behind : StandsFor setting query id look
-  stands_behind = behind-stands setting query id exchanges (started setting view query id) (started-stands setting view query id)
+  stands_behind : StandsFor setting want id look
+  stands_behind = behind-stands setting want id exchanges (started setting view want id) (started-stands setting view want id)
 
-  -- the reply of a look-up is one that its query has
-  pub replies_are_of_the_query : (reply : Reply) → result_of look ≡ Ok reply → IsReplyTo query reply
+  -- the reply of a look-up is of what it wants
+  pub replies_are_of_the_query : (reply : Reply) → result_of look ≡ Ok reply → IsReplyTo want reply
   replies_are_of_the_query reply is =
-      subst (λ q. IsReplyTo q reply) stands_behind.query_is
-      (subst (StandsAt setting look.head.query look.head.id) (done_with look.head look.stage reply is) stands_behind.stands)
+      subst (λ q. IsReplyTo q reply) stands_behind.want_is
+      (subst (StandsAt setting look.head.want look.head.id) (done_with look.head look.stage reply is) stands_behind.stands)
 
   -- a look-up asks nothing exactly when it has its reply
   pub a_done_look_up_asks_nothing : (ask_of look ≡ None) ↔ ((reply : Reply) × (result_of look ≡ Ok reply))
   a_done_look_up_asks_nothing =
       (replied look.head look.stage stands_behind.stands, λ done. ap ask_at (done_with look.head look.stage done.0 done.1))
     where
-      replied : (head : LookHead) (stage : LookStage) → StandsAt setting head.query head.id stage → ask_at stage ≡ None
+      replied : (head : LookHead) (stage : LookStage) → StandsAt setting head.want head.id stage → ask_at stage ≡ None
           → (reply : Reply) × (result_at head stage ≡ Ok reply)
       replied head (stages.Trying trier part) stands is = absurd (cc is)
       replied head (stages.Loose round call) (folder, among, asked) is =
-          let asks_so = folder_has_ask setting.limit head.query head.id folder in
+          let asks_so = folder_has_ask setting.limit head.want head.id folder in
           let some : disk_ask_of call ≡ Some asks_so.0 = ap disk_ask_of asked ∙ asks_so.1 in
           let same : loose_ask (disk_ask_of call) ≡ loose_ask (Some asks_so.0) = ap loose_ask some in
           absurd (cc (same, is))
@@ -118,10 +118,10 @@ module _ (setting : Setting) (view : View) (query : Query) (id : ObjectId) (exch
   -- an event that the core refuses ends the look-up with that refusal
   pub a_refused_event_ends_the_look_up : (event : Event) (refusal : Refusal)
       → IsLast exchanges (record { ask = asks.Core event; answer = told.Core (Err refusal) })
-      → AreAsked setting (started setting view query id) exchanges
+      → AreAsked setting (started setting view want id) exchanges
       → result_of look ≡ Ok (load_refused (of_refusal refusal))
   a_refused_event_ends_the_look_up event refusal last asked =
-      let start = started setting view query id in
+      let start = started setting view want id in
       subst (λ (l : List Exchange). AreAsked setting start l → result_of (behind setting start l) ≡ Ok (load_refused (of_refusal refusal))) (sym last.1)
       (refused_event_ends setting event refusal last.0 start) asked
 
@@ -144,9 +144,9 @@ shown_begins (Some begun) view shown is = (begun, refl)
 shown_begins None (Some view) shown is = (view.list_no, refl)
 shown_begins None None shown is = absurd (cc is)
 
-module _ (Shown : Path → List ℕ → Type 0) (setting : Setting) (hash : Kind) (query : Query) (id : ObjectId) where
+module _ (Shown : Path → List ℕ → Type 0) (setting : Setting) (hash : Kind) (want : Want) (id : ObjectId) where
   record IsKnown (past : List Exchange) (look : LookUp) : Type 0 where
-    stands : StandsFor setting query id look
+    stands : StandsFor setting want id look
     counts : Counts past look.head
     knows : KnowsAt Shown setting hash id past look.head look.stage
 
@@ -206,9 +206,9 @@ module _ (Shown : Path → List ℕ → Type 0) (setting : Setting) (hash : Kind
         truth = truth;
         published = published_in-push past exchange;
       })
-      (subst (λ i. StandsAt setting look.head.query i look.stage) known.stands.id_is known.stands.stands)
+      (subst (λ i. StandsAt setting look.head.want i look.stage) known.stands.id_is known.stands.stands)
       (knows-more past exchange look.head look.stage exchange.ask asked known.knows) in
-      record { stands = fed-stands setting query id look exchange.answer known.stands; counts = after.0; knows = after.1 }
+      record { stands = fed-stands setting want id look exchange.answer known.stands; counts = after.0; knows = after.1 }
     where
       -- a list that is published is one more of the look-up's own
       room : (listing : Listing) (view : View) → ask_at look.stage ≡ Some (asks.Core (events.Publish listing))
@@ -245,57 +245,57 @@ module _ (Shown : Path → List ℕ → Type 0) (setting : Setting) (hash : Kind
       asked.1 numbered.1
       (λ other among. truth other (Contains-append_right (exchange ∷ []) exchanges other among)))
 
-  started-known : (view : View) → IsKnown [] (started setting view query id)
-  started-known view = record { stands = started-stands setting view query id; counts = record { begun = refl; own = refl }; knows = by view.read }
+  started-known : (view : View) → IsKnown [] (started setting view want id)
+  started-known view = record { stands = started-stands setting view want id; counts = record { begun = refl; own = refl }; knows = by view.read }
     where
-      by : (b : Bool) → KnowsAt Shown setting hash id [] (new_head query id)
-          (if b then try_view setting (new_head query id) parts.Snapshot view [] without_notes else stages.Looking (purposes.First true) without_notes)
-      by true = try_view-known Shown setting hash id [] (new_head query id) parts.Snapshot tt view [] without_notes (λ is. absurd (cc is))
+      by : (b : Bool) → KnowsAt Shown setting hash id [] (new_head want id)
+          (if b then try_view setting (new_head want id) parts.Snapshot view [] without_notes else stages.Looking (purposes.First true) without_notes)
+      by true = try_view-known Shown setting hash id [] (new_head want id) parts.Snapshot tt view [] without_notes (λ is. absurd (cc is))
       by false = λ is. absurd (cc is)
 
-  list_caused : (exchanges : List Exchange) (error : Error) → IsOfLists error → IsListCaused Shown setting hash id exchanges query error
-      → IsCaused Shown setting hash id query exchanges error
+  list_caused : (exchanges : List Exchange) (error : Error) → IsOfLists error → IsListCaused Shown setting hash id exchanges want error
+      → IsCaused Shown setting hash id want exchanges error
   list_caused exchanges (errors.Loose error) of cause = cause
   list_caused exchanges (errors.LoadIndex error) of cause = cause
   list_caused exchanges errors.NoMemory of cause = absurd cause
   list_caused exchanges error of cause = absurd of
 
   -- a look-up that the loose objects of a folder or the lists of packs refuse has a cause that was told
-  list_refusal_caused : (view : View) (exchanges : List Exchange) → AreAsked setting (started setting view query id) exchanges
+  list_refusal_caused : (view : View) (exchanges : List Exchange) → AreAsked setting (started setting view want id) exchanges
       → AreTrue Shown setting hash exchanges → (slots number : ℕ) → AreNumbered slots number exchanges
       → (error : Error) → IsOfLists error
-      → result_of (behind setting (started setting view query id) exchanges) ≡ Ok (replies.Refused (call_errors.Find error))
-      → IsCaused Shown setting hash id query exchanges error
+      → result_of (behind setting (started setting view want id) exchanges) ≡ Ok (replies.Refused (call_errors.Find error))
+      → IsCaused Shown setting hash id want exchanges error
   list_refusal_caused view exchanges asked truth slots number numbered error of is =
-      let look = behind setting (started setting view query id) exchanges in
+      let look = behind setting (started setting view want id) exchanges in
       let known =
-      behind-known slots number exchanges [] (started setting view query id) (started-known view) (started-owned setting view query id number)
+      behind-known slots number exchanges [] (started setting view want id) (started-known view) (started-owned setting view want id number)
       asked numbered truth in
       let done = done_with look.head look.stage (replies.Refused (call_errors.Find error)) is in
       list_caused exchanges error of
-      (subst (λ (q : Query). IsListCaused Shown setting hash id exchanges q error) known.stands.query_is
+      (subst (λ (q : Want). IsListCaused Shown setting hash id exchanges q error) known.stands.want_is
       (subst (KnowsAt Shown setting hash id exchanges look.head) done known.knows))
 
   -- each error that a look-up is refused by has its cause, in what was told or shown
   pub each_refusal_has_its_cause : kind_of id ≡ hash → (view : View) → IsShownView Shown setting hash view → (exchanges : List Exchange)
-      → AreAsked setting (started setting view query id) exchanges
+      → AreAsked setting (started setting view want id) exchanges
       → AreTrue Shown setting hash exchanges → (slots number : ℕ) → AreNumbered slots number exchanges
-      → (error : Error) → result_of (behind setting (started setting view query id) exchanges) ≡ Ok (replies.Refused (call_errors.Find error))
-      → IsCaused Shown setting hash id query exchanges error
+      → (error : Error) → result_of (behind setting (started setting view want id) exchanges) ≡ Ok (replies.Refused (call_errors.Find error))
+      → IsCaused Shown setting hash id want exchanges error
   each_refusal_has_its_cause same view shown exchanges asked truth slots number numbered error is = by error is
     where
       of_list : (error : Error) → IsOfLists error
-          → result_of (behind setting (started setting view query id) exchanges) ≡ Ok (replies.Refused (call_errors.Find error))
-          → IsCaused Shown setting hash id query exchanges error
+          → result_of (behind setting (started setting view want id) exchanges) ≡ Ok (replies.Refused (call_errors.Find error))
+          → IsCaused Shown setting hash id want exchanges error
       of_list error of is = list_refusal_caused view exchanges asked truth slots number numbered error of is
 
       of_pack : (error : Error) → IsOfPack error
-          → result_of (behind setting (started setting view query id) exchanges) ≡ Ok (replies.Refused (call_errors.Find error))
-          → IsCaused Shown setting hash id query exchanges error
-      of_pack error of is = pack_refusal_caused Shown setting hash query id same view shown exchanges asked truth error is of
+          → result_of (behind setting (started setting view want id) exchanges) ≡ Ok (replies.Refused (call_errors.Find error))
+          → IsCaused Shown setting hash id want exchanges error
+      of_pack error of is = pack_refusal_caused Shown setting hash want id same view shown exchanges asked truth error is of
 
-      by : (error : Error) → result_of (behind setting (started setting view query id) exchanges) ≡ Ok (replies.Refused (call_errors.Find error))
-          → IsCaused Shown setting hash id query exchanges error
+      by : (error : Error) → result_of (behind setting (started setting view want id) exchanges) ≡ Ok (replies.Refused (call_errors.Find error))
+          → IsCaused Shown setting hash id want exchanges error
       by (errors.Loose error) is = of_list (errors.Loose error) tt is
       by (errors.LoadIndex error) is = of_list (errors.LoadIndex error) tt is
       by errors.LoadPack is = of_pack errors.LoadPack tt is

@@ -28,7 +28,7 @@ use Rattle.gix_odb_calls.specs.declared.call.CallError.TheVariants as call_error
 use Rattle.gix_odb_calls.specs.declared.call.Reply.TheVariants as replies
 use Rattle.gix_odb_calls.specs.declared.call.Reply.{Reply}
 use Rattle.gix_odb_calls.specs.declared.find.Error.{Error}
-use Rattle.gix_odb_calls.specs.declared.query.Query.{Query}
+use Rattle.gix_object.specs.declared.want.Want.{Want}
 use Rattle.gix_odb_calls.specs.declared.verdict.Verdict.TheVariants as verdicts
 use Rattle.gix_odb_calls.specs.declared.verdict.Verdict.{Verdict}
 use Rattle.gix_odb_looks.specs.Caused.{IsCaused}
@@ -44,21 +44,21 @@ use Rattle.gix_odb_looks.specs.declared.look_up.LookStage.{LookStage}
 use Rattle.gix_odb_looks.specs.declared.look_up.LookUp.{LookUp}
 use Rattle.gix_odb_looks.proofs.FoundLaws.Behind.{done_known, look_known, stage_hands}
 
-module _ (Shown : Path → List ℕ → Type 0) (setting : Setting) (hash : Kind) (query : Query) (id : ObjectId) (same : kind_of id ≡ hash)
+module _ (Shown : Path → List ℕ → Type 0) (setting : Setting) (hash : Kind) (want : Want) (id : ObjectId) (same : kind_of id ≡ hash)
     (view : View) (shown : IsShownView Shown setting hash view) (exchanges : List Exchange)
-    (asked : AreAsked setting (started setting view query id) exchanges) (truth : AreTrue Shown setting hash exchanges) where
+    (asked : AreAsked setting (started setting view want id) exchanges) (truth : AreTrue Shown setting hash exchanges) where
   abbrev look : LookUp
-  look = behind setting (started setting view query id) exchanges
+  look = behind setting (started setting view want id) exchanges
 
   -- a file that a look-up hands to the core was shown at its path, and a listing that it publishes has only rows of indices of the folders
   pub what_is_handed_was_shown : (ask : Ask) → ask_of look ≡ Some ask → IsHandedBy Shown setting hash ask
   what_is_handed_was_shown ask is =
-      stage_hands Shown setting hash query id exchanges look.stage ask (look_known Shown setting hash query id same view shown exchanges asked truth).stage is
+      stage_hands Shown setting hash want id exchanges look.stage ask (look_known Shown setting hash want id same view shown exchanges asked truth).stage is
 
   -- an answer was found in a pack that was shown, or is what the loose objects of a folder said
   pub what_is_found_was_shown : (reply : Reply) → result_of look ≡ Ok reply → IsAnswer reply
-      → (IsFound Shown setting hash id query reply)
-      ⊎ ((folder : Path) × Contains (folders_of setting) folder × HasVerdict setting query id exchanges folder (verdicts.Ends reply))
+      → (IsFound Shown setting hash id want reply)
+      ⊎ ((folder : Path) × Contains (folders_of setting) folder × HasVerdict setting want id exchanges folder (verdicts.Ends reply))
   what_is_found_was_shown reply is answer =
-      (done_known Shown setting hash query id exchanges look.head look.stage reply
-      (look_known Shown setting hash query id same view shown exchanges asked truth).stage is).found answer
+      (done_known Shown setting hash want id exchanges look.head look.stage reply
+      (look_known Shown setting hash want id same view shown exchanges asked truth).stage is).found answer

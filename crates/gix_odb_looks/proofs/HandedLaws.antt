@@ -33,7 +33,7 @@ use Rattle.gix_odb_packs.specs.declared.lister.ListStep.TheVariants as listed
 use Rattle.gix_odb_packs.specs.declared.trier.Stage.TheVariants as tries_stages
 use Rattle.gix_odb_packs.specs.declared.trier.Stage.{Stage}
 use Rattle.gix_odb_calls.specs.declared.call.Reply.{Reply}
-use Rattle.gix_odb_calls.specs.declared.query.Query.{Query}
+use Rattle.gix_object.specs.declared.want.Want.{Want}
 use Rattle.gix_odb_looks.specs.Exchange.{AreAsked, Exchange, behind}
 use Rattle.gix_odb_looks.specs.Stream.{Stream, stream_in}
 use Rattle.gix_odb_looks.specs.LookUpOrder.{Setting, ask_at, ask_of, fed, lister_fed, result_of, seen, started}
@@ -125,18 +125,18 @@ module _ (setting : Setting) (distinct : IsDistinct same_path (folders_of settin
   differs_behind look here [] = here
   differs_behind look here (exchange ∷ exchanges) =
       differs_behind (fed setting look exchange.answer)
-      (stage_stands setting AnyCall (ListerDiffers setting.folders) RowsDiffer (Unit {0}) (λ query id folder. tt) starts_listing
+      (stage_stands setting AnyCall (ListerDiffers setting.folders) RowsDiffer (Unit {0}) (λ want id folder. tt) starts_listing
       (seen look.head exchange.answer) look.stage exchange.answer (goes_differing look.stage exchange.answer here))
       exchanges
 
-  module _ (view : View) (query : Query) (id : ObjectId) (exchanges : List Exchange) (asked : AreAsked setting (started setting view query id) exchanges) where
+  module _ (view : View) (want : Want) (id : ObjectId) (exchanges : List Exchange) (asked : AreAsked setting (started setting view want id) exchanges) where
     abbrev listing_look : LookUp
-    listing_look = behind setting (started setting view query id) exchanges
+    listing_look = behind setting (started setting view want id) exchanges
 
     differs : StageDiffers listing_look.stage
     differs =
-        differs_behind (started setting view query id)
-        (start_stands setting AnyCall (ListerDiffers setting.folders) RowsDiffer (Unit {0}) (λ query id folder. tt) starts_listing view query id tt)
+        differs_behind (started setting view want id)
+        (start_stands setting AnyCall (ListerDiffers setting.folders) RowsDiffer (Unit {0}) (λ want id folder. tt) starts_listing view want id tt)
         exchanges
 
     pub rows_of_a_listing_have_different_paths : (listing : Handed) → ask_of listing_look ≡ Some (asks.Core (events.Publish listing))
@@ -156,16 +156,16 @@ pub record IsOwnStream (exchanges : List Exchange) (dir : ℕ) : Type 0 where
   pub of : stream.folder ≡ folder
   pub number : stream.dir ≡ dir
 
-module _ (setting : Setting) (view : View) (query : Query) (id : ObjectId) (exchanges : List Exchange)
-    (asked : AreAsked setting (started setting view query id) exchanges) where
+module _ (setting : Setting) (view : View) (want : Want) (id : ObjectId) (exchanges : List Exchange)
+    (asked : AreAsked setting (started setting view want id) exchanges) where
   abbrev look : LookUp
-  look = behind setting (started setting view query id) exchanges
+  look = behind setting (started setting view want id) exchanges
 
   abbrev now : Told
   now = told_from none_told exchanges
 
   own : IsOwn setting now look.stage
-  own = streams_are_own setting view query id exchanges asked
+  own = streams_are_own setting view want id exchanges asked
 
   -- a call of the disk changes nothing in any tree
   pub look_ups_change_no_file : (ask : DiskAsk) → ask_of look ≡ Some (asks.Disk ask) → (tree : Tree) → change_of_ask tree ask ≡ None

@@ -16,7 +16,7 @@ use Rattle.gix_odb_events.specs.declared.view.View.{View}
 use Rattle.gix_odb_events.specs.declared.answer.Answer.{Answer}
 use Rattle.gix_odb_events.specs.declared.answer.Ask.{Ask}
 use Rattle.gix_odb_events.specs.declared.answer.Ask.TheVariants as asks
-use Rattle.gix_odb_calls.specs.declared.query.Query.{Query}
+use Rattle.gix_object.specs.declared.want.Want.{Want}
 use Rattle.gix_odb_calls.specs.declared.verdict.Verdict.{Verdict}
 use Rattle.gix_odb_calls.specs.declared.verdict.Verdict.TheVariants as verdicts
 use Rattle.gix_odb_looks.specs.Exchange.{AreAsked, Exchange, HasFailed, HasVerdict, behind}
@@ -35,24 +35,24 @@ use Rattle.gix_odb_looks.proofs.MissLaws.Lists.{first_in, later_in}
 use Rattle.gix_odb_looks.proofs.MissLaws.Track.{never_missed, starts}
 
 -- an object that lies still in a pack while a look-up works, with fair answers, is not said to be missing
-pub nothing_still_in_packs_is_missed : (setting : Setting) (hash : Kind) (view : View) (query : Query) (id : ObjectId) (exchanges : List Exchange)
+pub nothing_still_in_packs_is_missed : (setting : Setting) (hash : Kind) (view : View) (want : Want) (id : ObjectId) (exchanges : List Exchange)
     → kind_of id ≡ hash → (place : PackedPlace) → Contains (folders_of setting) place.folder
-    → AreAsked setting (started setting view query id) exchanges → AreFair hash id place [] exchanges
-    → ¬ (result_of (behind setting (started setting view query id) exchanges) ≡ Ok (not_found query))
-nothing_still_in_packs_is_missed setting hash view query id exchanges of_hash place among asked fair =
-    never_missed setting hash query id of_hash place among [] (started setting view query id)
-    (starts setting hash query id of_hash place among view) exchanges asked fair
+    → AreAsked setting (started setting view want id) exchanges → AreFair hash id place [] exchanges
+    → ¬ (result_of (behind setting (started setting view want id) exchanges) ≡ Ok (not_found want))
+nothing_still_in_packs_is_missed setting hash view want id exchanges of_hash place among asked fair =
+    never_missed setting hash want id of_hash place among [] (started setting view want id)
+    (starts setting hash want id of_hash place among view) exchanges asked fair
 
-module _ (setting : Setting) (query : Query) (id : ObjectId) where
+module _ (setting : Setting) (want : Want) (id : ObjectId) where
   -- ---- each folder was asked
 
   module _ (all : List Exchange) where
     abbrev Passes : LookUp → Type 0
-    Passes look = IsLookPassing setting query id all look
+    Passes look = IsLookPassing setting want id all look
 
     passes_one : (look : LookUp) → Passes look → (exchange : Exchange) → Contains all exchange → ask_of look ≡ Some exchange.ask
         → Passes (fed setting look exchange.answer)
-    passes_one look passing exchange among asked = look_passes_on setting query id all look passing exchange.ask exchange.answer asked among
+    passes_one look passing exchange among asked = look_passes_on setting want id all look passing exchange.ask exchange.answer asked among
 
     folders_passed : (look : LookUp) → Passes look → (exchanges : List Exchange) → ((exchange : Exchange) → Contains exchanges exchange → Contains all exchange)
         → AreAsked setting look exchanges → Passes (behind setting look exchanges)
@@ -61,26 +61,26 @@ module _ (setting : Setting) (query : Query) (id : ObjectId) where
         folders_passed (fed setting look exchange.answer) (passes_one look passing exchange (among exchange (first_in exchange exchanges)) asked.0)
         exchanges (λ other is. among other (later_in exchange exchanges other is)) asked.1
 
-    asking_at : (stage : LookStage) → IsPassing setting query id all stage → IsAskingAt setting query stage
+    asking_at : (stage : LookStage) → IsPassing setting want id all stage → IsAskingAt setting want stage
     asking_at (stages.Loose round call) passing = (id, passing.asked, passing.call_is)
     asking_at stage passing = tt
 
   -- A look-up that found nothing asked the loose objects of each folder, and missed there.
-  pub not_found_missed_in_each_folder : (view : View) (exchanges : List Exchange) → AreAsked setting (started setting view query id) exchanges
-      → result_of (behind setting (started setting view query id) exchanges) ≡ Ok (not_found query)
-      → (folder : Path) → Contains (folders_of setting) folder → HasVerdict setting query id exchanges folder verdicts.Misses
+  pub not_found_missed_in_each_folder : (view : View) (exchanges : List Exchange) → AreAsked setting (started setting view want id) exchanges
+      → result_of (behind setting (started setting view want id) exchanges) ≡ Ok (not_found want)
+      → (folder : Path) → Contains (folders_of setting) folder → HasVerdict setting want id exchanges folder verdicts.Misses
   not_found_missed_in_each_folder view exchanges asked is =
-      let start = started setting view query id in
+      let start = started setting view want id in
       let look = behind setting start exchanges in
-      let passing = folders_passed exchanges start (passes_at_start setting query id exchanges view) exchanges (λ exchange among. among) asked in
-      missed_at_end setting query id exchanges look.head look.stage passing.stage is
+      let passing = folders_passed exchanges start (passes_at_start setting want id exchanges view) exchanges (λ exchange among. among) asked in
+      missed_at_end setting want id exchanges look.head look.stage passing.stage is
 
   -- ---- no call failed
 
-  marred_behind : (look : LookUp) → IsLookMarred setting query look → (exchanges : List Exchange) → IsLookMarred setting query (behind setting look exchanges)
+  marred_behind : (look : LookUp) → IsLookMarred setting want look → (exchanges : List Exchange) → IsLookMarred setting want (behind setting look exchanges)
   marred_behind look marred [] = marred
   marred_behind look marred (exchange ∷ exchanges) =
-      marred_behind (fed setting look exchange.answer) (stays_marred setting query look marred exchange.answer) exchanges
+      marred_behind (fed setting look exchange.answer) (stays_marred setting want look marred exchange.answer) exchanges
 
   module _ (Shown : Path → List ℕ → Type 0) (hash : Kind) where
     can_fail : (ask : Ask) → IsTrue Shown setting hash ask failed → CanFail ask
@@ -90,15 +90,15 @@ module _ (setting : Setting) (query : Query) (id : ObjectId) where
 
     module _ (all : List Exchange) (truth : AreTrue Shown setting hash all) where
       failure_told : (look : LookUp) → Passes all look → (exchange : Exchange) → Contains all exchange → ask_of look ≡ Some exchange.ask
-          → exchange.answer ≡ failed → IsLookMarred setting query (fed setting look exchange.answer)
+          → exchange.answer ≡ failed → IsLookMarred setting want (fed setting look exchange.answer)
       failure_told look passing exchange among is failed_so =
-          subst (λ (answer : Answer). IsLookMarred setting query (fed setting look answer)) (sym failed_so)
-          (failure_mars setting query look passing.own.query_is (asking_at all look.stage passing.stage) exchange.ask is
+          subst (λ (answer : Answer). IsLookMarred setting want (fed setting look answer)) (sym failed_so)
+          (failure_mars setting want look passing.own.want_is (asking_at all look.stage passing.stage) exchange.ask is
           (can_fail exchange.ask (subst (λ (answer : Answer). IsTrue Shown setting hash exchange.ask answer) failed_so (truth exchange among))))
 
       failures_mar : (look : LookUp) → Passes all look → (exchanges : List Exchange)
           → ((exchange : Exchange) → Contains exchanges exchange → Contains all exchange)
-          → AreAsked setting look exchanges → HasFailed exchanges → IsLookMarred setting query (behind setting look exchanges)
+          → AreAsked setting look exchanges → HasFailed exchanges → IsLookMarred setting want (behind setting look exchanges)
       failures_mar look passing [] among asked has = absurd (none_in has.exchange has.among)
       failures_mar look passing (exchange ∷ exchanges) among asked has =
           let here = among exchange (first_in exchange exchanges) in
@@ -114,11 +114,11 @@ module _ (setting : Setting) (query : Query) (id : ObjectId) where
           ]
 
     -- none of the calls of the disk of a look-up that found nothing failed
-    pub not_found_had_no_failure : (view : View) (exchanges : List Exchange) → AreAsked setting (started setting view query id) exchanges
+    pub not_found_had_no_failure : (view : View) (exchanges : List Exchange) → AreAsked setting (started setting view want id) exchanges
         → AreTrue Shown setting hash exchanges
-        → result_of (behind setting (started setting view query id) exchanges) ≡ Ok (not_found query) → ¬ (HasFailed exchanges)
+        → result_of (behind setting (started setting view want id) exchanges) ≡ Ok (not_found want) → ¬ (HasFailed exchanges)
     not_found_had_no_failure view exchanges asked truth is has =
-        let start = started setting view query id in
+        let start = started setting view want id in
         let look = behind setting start exchanges in
-        let marred = failures_mar exchanges truth start (passes_at_start setting query id exchanges view) exchanges (λ exchange among. among) asked has in
-        marred_is_no_miss setting query look.head look.stage marred.stage is
+        let marred = failures_mar exchanges truth start (passes_at_start setting want id exchanges view) exchanges (λ exchange among. among) asked has in
+        marred_is_no_miss setting want look.head look.stage marred.stage is

@@ -19,7 +19,7 @@ use Rattle.gix_odb_packs.specs.declared.lister.ListStage.{ListStage}
 use Rattle.gix_odb_packs.specs.declared.lister.ListStage.TheVariants as list_stages
 use Rattle.gix_odb_packs.specs.declared.trier.Stage.{Stage}
 use Rattle.gix_odb_packs.specs.declared.trier.Stage.TheVariants as tries_stages
-use Rattle.gix_odb_calls.specs.declared.query.Query.{Query}
+use Rattle.gix_object.specs.declared.want.Want.{Want}
 use Rattle.gix_odb_looks.specs.Exchange.{AreAsked, Exchange, behind}
 use Rattle.gix_odb_looks.specs.LookUpOrder.{Setting, ask_at, ask_of, loose_ask, started}
 use Rattle.gix_odb_looks.specs.Shown.{IsShownView, folders_of}
@@ -64,8 +64,8 @@ module _ (setting : Setting) (path : Path) where
       let none : is_of_streams (disk_asks.OpenDir path) ≡ false = ap is_of_streams (sym same) ∙ still ask refl in
       cc none
 
-  module _ (Shown : Path → List ℕ → Type 0) (hash : Kind) (query : Query) (id : ObjectId) (exchanges : List Exchange) where
-    opens_by : (stage : LookStage) → KnowsLookStage Shown setting hash id exchanges query stage → ask_at stage ≡ Some (asks.Disk (disk_asks.OpenDir path)) → IsFolderOfPacks
+  module _ (Shown : Path → List ℕ → Type 0) (hash : Kind) (want : Want) (id : ObjectId) (exchanges : List Exchange) where
+    opens_by : (stage : LookStage) → KnowsLookStage Shown setting hash id exchanges want stage → ask_at stage ≡ Some (asks.Disk (disk_asks.OpenDir path)) → IsFolderOfPacks
     opens_by (stages.Trying trier part) known is =
         let same : tries.ask_of trier ≡ asks.Disk (disk_asks.OpenDir path) = cc is in absurd (trier_opens_none trier.stage path same)
     opens_by (stages.Loose round call) known is = absurd (loose_opens_none (disk_ask_of call) (λ ask asked. call_asks_still call ask asked) is)
@@ -76,11 +76,11 @@ module _ (setting : Setting) (path : Path) where
     opens_by (stages.Done reply) known is = absurd (cc is)
 
 -- a directory that a look-up opens is the folder of packs of one of the folders
-pub look_ups_open_folders_of_packs : (Shown : Path → List ℕ → Type 0) (setting : Setting) (hash : Kind) (query : Query) (id : ObjectId) → kind_of id ≡ hash
-    → (view : View) → IsShownView Shown setting hash view → (exchanges : List Exchange) → AreAsked setting (started setting view query id) exchanges
+pub look_ups_open_folders_of_packs : (Shown : Path → List ℕ → Type 0) (setting : Setting) (hash : Kind) (want : Want) (id : ObjectId) → kind_of id ≡ hash
+    → (view : View) → IsShownView Shown setting hash view → (exchanges : List Exchange) → AreAsked setting (started setting view want id) exchanges
     → AreTrue Shown setting hash exchanges → (path : Path)
-    → ask_of (behind setting (started setting view query id) exchanges) ≡ Some (asks.Disk (disk_asks.OpenDir path))
+    → ask_of (behind setting (started setting view want id) exchanges) ≡ Some (asks.Disk (disk_asks.OpenDir path))
     → IsFolderOfPacks setting path
-look_ups_open_folders_of_packs Shown setting hash query id same view shown exchanges asked truth path is =
-    opens_by setting path Shown hash query id exchanges (behind setting (started setting view query id) exchanges).stage
-    (look_known Shown setting hash query id same view shown exchanges asked truth).stage is
+look_ups_open_folders_of_packs Shown setting hash want id same view shown exchanges asked truth path is =
+    opens_by setting path Shown hash want id exchanges (behind setting (started setting view want id) exchanges).stage
+    (look_known Shown setting hash want id same view shown exchanges asked truth).stage is

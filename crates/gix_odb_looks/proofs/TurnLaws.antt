@@ -12,7 +12,7 @@ use Rattle.gix_odb_events.specs.declared.view.View.{View}
 use Rattle.gix_odb_events.specs.declared.answer.Answer.{Answer}
 use Rattle.gix_odb_events.specs.declared.answer.Ask.{Ask}
 use Rattle.gix_odb_calls.specs.declared.call.Reply.{Reply}
-use Rattle.gix_odb_calls.specs.declared.query.Query.{Query}
+use Rattle.gix_object.specs.declared.want.Want.{Want}
 use Rattle.gix_odb_looks.specs.Exchange.{AreAnswered, AreAsked, Exchange, behind}
 use Rattle.gix_odb_looks.specs.Stream.{Stream, stream_by}
 use Rattle.gix_odb_looks.specs.Laps.{AreNumbered, AreWithin, number_by, turns_of_lap, turns_of_look}
@@ -69,15 +69,15 @@ module _ (bounds : Bounds) where
       in
       omega (arith, rest)
 
-  started_left : (view : View) (query : Query) (id : ObjectId) (read : Bool) → length view.snapshot.indices ≤ bounds.slots
+  started_left : (view : View) (want : Want) (id : ObjectId) (read : Bool) → length view.snapshot.indices ≤ bounds.slots
       → 8 * bounds.slots + 2 * length bounds.setting.folders + 3 ≤ bounds.lap
-      → HasLeft bounds (new_head query id)
-      (cond read (try_view bounds.setting (new_head query id) parts.Snapshot view [] without_notes) (stages.Looking (purposes.First true) without_notes))
+      → HasLeft bounds (new_head want id)
+      (cond read (try_view bounds.setting (new_head want id) parts.Snapshot view [] without_notes) (stages.Looking (purposes.First true) without_notes))
       0 None ((bounds.setting.most + 2) * bounds.lap)
-  started_left view query id true few enough =
-      view_left bounds (new_head query id) parts.Snapshot 0 None ((bounds.setting.most + 2) * bounds.lap) view [] without_notes (omega arith)
+  started_left view want id true few enough =
+      view_left bounds (new_head want id) parts.Snapshot 0 None ((bounds.setting.most + 2) * bounds.lap) view [] without_notes (omega arith)
       (record { own = refl; begun = omega arith; enough = omega arith })
-  started_left view query id false few enough = record { own = refl; begun = omega arith; enough = omega arith }
+  started_left view want id false few enough = record { own = refl; begun = omega arith; enough = omega arith }
 
 -- a lap has room for a listing and what is behind it
 lap_is_wide : (slots folders entries : ℕ)
@@ -90,15 +90,15 @@ lap_is_wide slots folders entries =
 lists_are_within : (slots folders entries : ℕ) → 8 * slots + 2 * folders + 3 ≤ turns_of_lap slots (suc folders) entries
 lists_are_within slots folders entries = omega arith
 
-pub a_look_up_ends_in_time : (setting : Setting) (view : View) (query : Query) (id : ObjectId) (exchanges : List Exchange) (slots entries : ℕ)
+pub a_look_up_ends_in_time : (setting : Setting) (view : View) (want : Want) (id : ObjectId) (exchanges : List Exchange) (slots entries : ℕ)
     → length view.snapshot.indices ≤ slots
-    → AreAsked setting (started setting view query id) exchanges
+    → AreAsked setting (started setting view want id) exchanges
     → AreNumbered slots 0 exchanges
     → AreWithin entries None exchanges
     → AreAnswered exchanges
-    → ((reply : Reply) → ¬ (result_of (behind setting (started setting view query id) exchanges) ≡ Ok reply))
+    → ((reply : Reply) → ¬ (result_of (behind setting (started setting view want id) exchanges) ≡ Ok reply))
     → length exchanges < turns_of_look slots (length (folders_of setting)) setting.most entries
-a_look_up_ends_in_time setting view query id exchanges slots entries few asked numbered within answered on =
+a_look_up_ends_in_time setting view want id exchanges slots entries few asked numbered within answered on =
     let bounds : Bounds =
     record {
       setting = setting;
@@ -108,5 +108,5 @@ a_look_up_ends_in_time setting view query id exchanges slots entries few asked n
       wide = lap_is_wide slots (length setting.folders) entries;
     }
     in
-    turns_left bounds (started setting view query id) 0 None ((setting.most + 2) * bounds.lap) exchanges
-    (started_left bounds view query id view.read few (lists_are_within slots (length setting.folders) entries)) asked numbered within answered on
+    turns_left bounds (started setting view want id) 0 None ((setting.most + 2) * bounds.lap) exchanges
+    (started_left bounds view want id view.read few (lists_are_within slots (length setting.folders) entries)) asked numbered within answered on

@@ -24,8 +24,8 @@ use Rattle.gix_odb_calls.specs.declared.find.Error.{Error}
 use Rattle.gix_odb_calls.specs.declared.find.Error.TheVariants as errors
 use Rattle.gix_odb_calls.specs.declared.load_index.Error as load
 use Rattle.gix_odb_calls.specs.declared.load_index.Error.TheVariants as load_errors
-use Rattle.gix_odb_calls.specs.declared.query.Query.{Query}
-use Rattle.gix_odb_calls.specs.declared.query.Query.TheVariants.{Find, Header, Test}
+use Rattle.gix_object.specs.declared.want.Want.{Want}
+use Rattle.gix_object.specs.declared.want.Want.TheVariants.{Object, Header, Presence}
 use Rattle.gix_odb_events.specs.declared.view.View.{View}
 use Rattle.gix_odb_calls.specs.declared.verdict.Verdict.TheVariants as verdicts
 use Rattle.gix_odb_calls.specs.Verdict.{refused}
@@ -64,13 +64,13 @@ pub record IsRefused (exchanges : List Exchange) (refusal : Refusal) : Type 0 wh
 
 -- Here `Shown path bytes` says that a file with these bytes was shown at this path since the store was opened.
 module _ (Shown : Path → List ℕ → Type 0) (setting : Setting) (hash : Kind) (id : ObjectId) where
-  -- An index gives the id an offset, at which its pack refuses what the query wants by this error. No limit refuses a header, and for a
+  -- An index gives the id an offset, at which its pack refuses what is wanted by this error. No limit refuses a header, and for a
   -- test no pack is read.
-  abbrev pub IsPackError : Query → pack.Error → Type 0
-  IsPackError (Find asked) error = IsInPack Shown setting hash id (λ pack offset. entry_at hash pack offset setting.limit ≡ Err error)
-  IsPackError (Header asked) (pack_errors.OutOfMemory size) = ⊥
-  IsPackError (Header asked) error = IsInPack Shown setting hash id (λ pack offset. header_at hash pack offset ≡ Err error)
-  IsPackError (Test asked) error = ⊥
+  abbrev pub IsPackError : Want → pack.Error → Type 0
+  IsPackError Object error = IsInPack Shown setting hash id (λ pack offset. entry_at hash pack offset setting.limit ≡ Err error)
+  IsPackError Header (pack_errors.OutOfMemory size) = ⊥
+  IsPackError Header error = IsInPack Shown setting hash id (λ pack offset. header_at hash pack offset ≡ Err error)
+  IsPackError Presence error = ⊥
 
   -- an index gives the id an offset, and its pack was read and is none
   pub record IsUnloaded (exchanges : List Exchange) : Type 0 where
@@ -98,14 +98,14 @@ module _ (Shown : Path → List ℕ → Type 0) (setting : Setting) (hash : Kind
   IsLoadCaused exchanges (load_errors.Unsettled begun own now) = IsUnsettled exchanges begun own now
   IsLoadCaused exchanges load_errors.NoMemory = IsRefused exchanges refusals.NoMemory
 
-  -- why a query was refused
-  abbrev pub IsCaused : Query → List Exchange → Error → Type 0
-  IsCaused query exchanges (errors.Loose error) =
-      (folder : Path) × Contains (folders_of setting) folder × HasVerdict setting query id exchanges folder (verdicts.Ends (refused error))
-  IsCaused query exchanges (errors.LoadIndex error) = IsLoadCaused exchanges error
-  IsCaused query exchanges errors.LoadPack = IsUnloaded exchanges
-  IsCaused query exchanges errors.Pack = IsPackError query pack_errors.BadEntry
-  IsCaused query exchanges (errors.EntryType code) = IsPackError query (pack_errors.EntryType code)
-  IsCaused query exchanges errors.DeltaEntry = IsPackError query pack_errors.DeltaEntry
-  IsCaused query exchanges (errors.OutOfMemory size) = IsPackError query (pack_errors.OutOfMemory size)
-  IsCaused query exchanges errors.NoMemory = ⊥
+  -- why a look-up was refused
+  abbrev pub IsCaused : Want → List Exchange → Error → Type 0
+  IsCaused want exchanges (errors.Loose error) =
+      (folder : Path) × Contains (folders_of setting) folder × HasVerdict setting want id exchanges folder (verdicts.Ends (refused error))
+  IsCaused want exchanges (errors.LoadIndex error) = IsLoadCaused exchanges error
+  IsCaused want exchanges errors.LoadPack = IsUnloaded exchanges
+  IsCaused want exchanges errors.Pack = IsPackError want pack_errors.BadEntry
+  IsCaused want exchanges (errors.EntryType code) = IsPackError want (pack_errors.EntryType code)
+  IsCaused want exchanges errors.DeltaEntry = IsPackError want pack_errors.DeltaEntry
+  IsCaused want exchanges (errors.OutOfMemory size) = IsPackError want (pack_errors.OutOfMemory size)
+  IsCaused want exchanges errors.NoMemory = ⊥

@@ -17,7 +17,7 @@ use Rattle.gix_odb_events.specs.declared.answer.Answer.TheVariants as told
 use Rattle.gix_odb_events.specs.declared.answer.Ask.{Ask}
 use Rattle.gix_odb_events.specs.declared.answer.Ask.TheVariants as asks
 use Rattle.gix_odb_calls.specs.Verdict.{asking, verdict_on}
-use Rattle.gix_odb_calls.specs.declared.query.Query.{Query}
+use Rattle.gix_object.specs.declared.want.Want.{Want}
 use Rattle.gix_odb_calls.specs.declared.verdict.Verdict.{Verdict}
 use Rattle.gix_odb_looks.specs.LookUpOrder.{Setting, ask_of, fed, loose_fed, view_of}
 use Rattle.gix_odb_looks.specs.declared.look_up.LookUp.{LookUp}
@@ -72,14 +72,14 @@ abbrev pub WasTold : List Exchange → Ask → Answer → Type 0
 WasTold exchanges ask answer = Contains exchanges (record { ask = ask; answer = answer })
 
 -- the loose objects of a folder were asked for an object in one of them, and the verdict on what they reply to the answer is this one
-pub record HasVerdict (setting : Setting) (query : Query) (id : ObjectId) (exchanges : List Exchange) (folder : Path) (verdict : Verdict) : Type 0 where
+pub record HasVerdict (setting : Setting) (want : Want) (id : ObjectId) (exchanges : List Exchange) (folder : Path) (verdict : Verdict) : Type 0 where
   pub ask : DiskAsk
-  pub asked : disk_ask_of (asking setting.limit query id folder) ≡ Some ask
+  pub asked : disk_ask_of (asking setting.limit want id folder) ≡ Some ask
   pub answer : DiskAnswer
   pub told : WasTold exchanges (asks.Disk ask) (told.Disk answer)
   pub reply : LooseReply
-  pub replied : reply_of (loose_fed (asking setting.limit query id folder) answer) ≡ Some reply
-  pub is : verdict_on query reply ≡ verdict
+  pub replied : reply_of (loose_fed (asking setting.limit want id folder) answer) ≡ Some reply
+  pub is : verdict_on want reply ≡ verdict
 
 -- the number of the list in a view, or else another
 abbrev pub number_or : Option ℕ → Option View → Option ℕ

@@ -11,8 +11,8 @@ use Rattle.gix_odb_events.specs.PackPath.{pack_path}
 use Rattle.gix_odb_calls.specs.declared.call.Reply.{Reply}
 use Rattle.gix_odb_calls.specs.declared.call.Reply.TheVariants as replies
 use Rattle.gix_odb_calls.specs.declared.find.Header.TheVariants as headers
-use Rattle.gix_odb_calls.specs.declared.query.Query.{Query}
-use Rattle.gix_odb_calls.specs.declared.query.Query.TheVariants.{Find, Header, Test}
+use Rattle.gix_object.specs.declared.want.Want.{Want}
+use Rattle.gix_object.specs.declared.want.Want.TheVariants.{Object, Header, Presence}
 use Rattle.gix_odb_looks.specs.LookUpOrder.{Setting}
 use Rattle.gix_odb_looks.specs.Shown.{IsIndexPath}
 
@@ -55,8 +55,8 @@ module _ (Shown : Path → List ℕ → Type 0) (setting : Setting) (hash : Kind
     pub shown : Shown (pack_path path) pack
     pub content : Content pack offset
 
-  -- what was found in packs, as the reply to a query. For a test the row of an index is enough
-  abbrev pub IsFound : Query → Reply → Type 0
-  IsFound (Find asked) reply = IsInPack (λ pack offset. IsEntryReply hash setting.limit pack offset reply)
-  IsFound (Header asked) reply = IsInPack (λ pack offset. IsHeaderReply hash pack offset reply)
-  IsFound (Test asked) reply = (path : Path) × (offset : ℕ) × IsInIndex path offset × (reply ≡ replies.Tested true)
+  -- what was found in packs, as the reply to whoever wants so much. For a test the row of an index is enough
+  abbrev pub IsFound : Want → Reply → Type 0
+  IsFound Object reply = IsInPack (λ pack offset. IsEntryReply hash setting.limit pack offset reply)
+  IsFound Header reply = IsInPack (λ pack offset. IsHeaderReply hash pack offset reply)
+  IsFound Presence reply = (path : Path) × (offset : ℕ) × IsInIndex path offset × (reply ≡ replies.Tested true)

@@ -12,7 +12,7 @@ pub mod Publishing
 use Rattle.std.specs.Prelude.{ℕ, true, false, [], Option, Some, None, if◌then◌else◌, Result, Ok, Err}
 use Rattle.gix_hash.specs.declared.object_id.ObjectId.{ObjectId}
 use Rattle.gix_odb_calls.specs.declared.call.Reply.{Reply}
-use Rattle.gix_odb_calls.specs.declared.query.Query.{Query}
+use Rattle.gix_object.specs.declared.want.Want.{Want}
 use Rattle.gix_odb_events.specs.Answers.{view_in}
 use Rattle.gix_odb_events.specs.declared.answer.Answer.{Answer}
 use Rattle.gix_odb_events.specs.declared.answer.Answer.TheVariants as told
@@ -37,7 +37,7 @@ pub use Rattle.gix_odb_looks.specs.LookUpOrder.Replies.{load_refused, find_error
 pub use Rattle.gix_odb_looks.specs.LookUpOrder.Store.{Setting, setting_of}
 pub use Rattle.gix_odb_looks.specs.LookUpOrder.Listing.{listing_from, lister_fed, by_listed}
 pub use Rattle.gix_odb_looks.specs.LookUpOrder.Loose.{loose_from, after_loose, at_folder, by_verdict, by_reply, by_call, loose_fed}
-pub use Rattle.gix_odb_looks.specs.LookUpOrder.Trying.{wanted_by, goal_of, after_list, by_tried, try_view, trier_fed}
+pub use Rattle.gix_odb_looks.specs.LookUpOrder.Trying.{goal_of, after_list, by_tried, try_view, trier_fed}
 pub use Rattle.gix_odb_looks.specs.LookUpOrder.Checking.{is_unsettled, unsettled, counted, by_check}
 pub use Rattle.gix_odb_looks.specs.LookUpOrder.Looking.{view_shown, by_first, by_look}
 pub use Rattle.gix_odb_looks.specs.LookUpOrder.Publishing.{with_own, by_published}
@@ -45,14 +45,14 @@ pub use Rattle.gix_odb_looks.specs.LookUpOrder.Publishing.{with_own, by_publishe
 abbrev pub without_notes : Notes
 without_notes = record { failed = false; absent = [] }
 
-abbrev pub new_head : Query → ObjectId → LookHead
-new_head query id = record { query = query; id = id; begun = None; own = 0 }
+abbrev pub new_head : Want → ObjectId → LookHead
+new_head want id = record { want = want; id = id; begun = None; own = 0 }
 
 -- a snapshot that is of a list that was read is tried first, without the indices that it doesn't have loaded
-abbrev pub started : Setting → View → Query → ObjectId → LookUp
-started setting view query id = record {
-  head = new_head query id;
-  stage = if view.read then try_view setting (new_head query id) parts.Snapshot view [] without_notes else stages.Looking (purposes.First true) without_notes;
+abbrev pub started : Setting → View → Want → ObjectId → LookUp
+started setting view want id = record {
+  head = new_head want id;
+  stage = if view.read then try_view setting (new_head want id) parts.Snapshot view [] without_notes else stages.Looking (purposes.First true) without_notes;
 }
 
 abbrev pub loose_ask : Option DiskAsk → Option Ask

@@ -1,11 +1,11 @@
--- The replies that a query has, and those that say that the object is there.
+-- The replies that a look-up has, by what is wanted, and those that say that the object is there.
 use Rattle.std.specs.Prelude.{true}
 use Rattle.gix_odb_calls.specs.declared.call.CallError.{CallError}
 use Rattle.gix_odb_calls.specs.declared.call.CallError.TheVariants as call_errors
 use Rattle.gix_odb_calls.specs.declared.call.Reply.{Reply}
 use Rattle.gix_odb_calls.specs.declared.call.Reply.TheVariants as replies
-use Rattle.gix_odb_calls.specs.declared.query.Query.{Query}
-use Rattle.gix_odb_calls.specs.declared.query.Query.TheVariants.{Find, Header, Test}
+use Rattle.gix_object.specs.declared.want.Want.{Want}
+use Rattle.gix_object.specs.declared.want.Want.TheVariants.{Object, Header, Presence}
 
 -- an error of a find, a look for a header or a test
 abbrev pub IsFindError : CallError → Type 0
@@ -29,11 +29,11 @@ IsReplyToTest (replies.Tested there) = Unit {0}
 IsReplyToTest (replies.Refused error) = IsFindError error
 IsReplyToTest reply = ⊥
 
--- a reply that a query has
-abbrev pub IsReplyTo : Query → Reply → Type 0
-IsReplyTo (Find id) reply = IsReplyToFind reply
-IsReplyTo (Header id) reply = IsReplyToHeader reply
-IsReplyTo (Test id) reply = IsReplyToTest reply
+-- a reply that a look-up has
+abbrev pub IsReplyTo : Want → Reply → Type 0
+IsReplyTo Object reply = IsReplyToFind reply
+IsReplyTo Header reply = IsReplyToHeader reply
+IsReplyTo Presence reply = IsReplyToTest reply
 
 -- a reply says that the object is there
 abbrev pub IsAnswer : Reply → Type 0

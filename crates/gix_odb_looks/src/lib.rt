@@ -5,7 +5,7 @@
 //! and lists the folders of packs until the list that was tried is the newest: `specs/LookUpOrder.antt`. The calls of a
 //! handle, in `gix_odb`, make one.
 //! ```rust
-//! let mut look = LookUp::start(alloc, &setting, &snapshot, query, id)?;
+//! let mut look = LookUp::start(alloc, &setting, &snapshot, want, id)?;
 //! while let Some(ask) = look.ask(alloc)? {
 //!     let answer = ..;                       // of the disk, or of the core
 //!     look = look.feed(alloc, &setting, answer)?;

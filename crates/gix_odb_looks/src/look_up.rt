@@ -17,7 +17,8 @@ mod replies;
 mod trying;
 
 use gix_hash::ObjectId;
-use gix_odb_calls::{Query, Reply, StoreParts};
+use gix_object::Want;
+use gix_odb_calls::{Reply, StoreParts};
 use gix_odb_events::{Answer, Ask, Event, Listing, View};
 use gix_odb_loose::LooseCall;
 use gix_odb_packs::{Lister, Notes, Trier};
@@ -44,7 +45,7 @@ pub struct LookUp {
 /// What a look-up is for, and how many lists it met.
 #[derive(Clone, Copy)]
 pub struct LookHead {
-    pub query: Query,
+    pub want: Want,
     /// The id that is sought.
     pub id: ObjectId,
     /// The number of the list in the first view that the core handed over.
@@ -165,13 +166,13 @@ impl LookUp {
         alloc: Global,
         setting: &Setting<'_>,
         snapshot: &View,
-        query: Query,
+        want: Want,
         id: ObjectId,
     ) -> Result<LookUp, NoMemory>
-        ensures begun { IfOk result (λ look. look ≡ order.started (setting_of setting.now) snapshot.now query id) }
+        ensures begun { IfOk result (λ look. look ≡ order.started (setting_of setting.now) snapshot.now want id) }
     {
         let head = LookHead {
-            query,
+            want,
             id,
             begun: None,
             own: 0,

@@ -117,9 +117,7 @@ module _ (job : WriteJob) where
   -- The answer to its call leads it on.
   pub IsCallAlong-next : (stage : CallStage) (past : List Exchange) (ask : DiskAsk) (answer : DiskAnswer) → stage_ask stage ≡ Some ask → IsCallAlong job stage past
       → IsCallAlong job (next_stage stage answer) (past ++ exchanged ask answer ∷ [])
-  IsCallAlong-next (calls.Testing path) past ask answer asked h = absurd h
-  IsCallAlong-next (calls.Finding path limit) past ask answer asked h = absurd h
-  IsCallAlong-next (calls.Heading path) past ask answer asked h = absurd h
+  IsCallAlong-next (calls.Asking want path limit) past ask answer asked h = absurd h
   IsCallAlong-next (calls.Done reply) past ask answer asked h = absurd (cc asked)
   IsCallAlong-next (calls.Writing now) past ask answer asked h =
       let same : ask_in now ≡ ask = cc asked in

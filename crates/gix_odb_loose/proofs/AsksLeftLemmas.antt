@@ -110,9 +110,7 @@ module _ (job : WriteJob) where
   stage_left (stages.Removing number refusal) given = other_left (stages.Removing number refusal) given refl
 
 pub fewer : (stage : CallStage) (ask : DiskAsk) (given : DiskAnswer) → stage_ask stage ≡ Some ask → asks_left (next_stage stage given) < asks_left stage
-fewer (calls.Testing path) ask given is = omega arith
-fewer (calls.Finding path limit) ask given is = omega arith
-fewer (calls.Heading path) ask given is = omega arith
+fewer (calls.Asking want path limit) ask given is = omega arith
 fewer (calls.Writing job) ask given is = rw (advance_left job (next_in job given)) (stage_left job job.stage given)
 fewer (calls.Done reply) ask given is = absurd (cc is)
 

@@ -1,10 +1,12 @@
 -- No call of a store opens a stream of the disk, takes from one or closes one. For callers.
 use Rattle.std.specs.Prelude.{◌≡◌, true, false, List, Some, is_some, refl}
 use Rattle.std.proofs.Common.{◌∙◌, ℕ, sym, ap}
+use Rattle.odb_base.specs.Path.{Path}
 use Rattle.odb_asks.specs.StreamAsks.{is_of_streams}
 use Rattle.odb_asks.specs.declared.ask.DiskAsk.{DiskAsk}
-use Rattle.odb_asks.specs.declared.ask.DiskAsk.TheVariants as asks
-use Rattle.gix_odb_loose.specs.LooseOrder.{disk_ask_of, stage_ask}
+use Rattle.gix_object.specs.declared.want.Want.{Want}
+use Rattle.gix_object.specs.declared.want.Want.TheVariants.{Object, Header, Presence}
+use Rattle.gix_odb_loose.specs.LooseOrder.{disk_ask_of, stage_ask, want_ask}
 use Rattle.gix_odb_loose.specs.StreamJobs.Progress.{Begun}
 use Rattle.gix_odb_loose.specs.StreamJobs.AtStage.{IsReady}
 use Rattle.gix_odb_loose.specs.WriteOrder.{number_made, write_ask}
@@ -27,10 +29,13 @@ write_asks_still head piece (stages.Removing number refusal) = refl
 pub write_asked_still : (head : WriteHead) (piece : List ℕ) (stage : WriteStage) (ask : DiskAsk) → ask ≡ write_ask head piece stage → is_of_streams ask ≡ false
 write_asked_still head piece stage ask is = ap is_of_streams is ∙ write_asks_still head piece stage
 
+want_asks_still : (want : Want) (path : Path) → is_of_streams (want_ask want path) ≡ false
+want_asks_still Object path = refl
+want_asks_still Header path = refl
+want_asks_still Presence path = refl
+
 stage_ask-still : (stage : Stage) (ask : DiskAsk) → stage_ask stage ≡ Some ask → is_of_streams ask ≡ false
-stage_ask-still (calls.Testing path) ask is = let same : asks.Look path true ≡ ask = cc is in ap is_of_streams (sym same)
-stage_ask-still (calls.Finding path limit) ask is = let same : asks.Read path ≡ ask = cc is in ap is_of_streams (sym same)
-stage_ask-still (calls.Heading path) ask is = let same : asks.Read path ≡ ask = cc is in ap is_of_streams (sym same)
+stage_ask-still (calls.Asking want path limit) ask is = let same : want_ask want path ≡ ask = cc is in ap is_of_streams (sym same) ∙ want_asks_still want path
 stage_ask-still (calls.Writing job) ask is = let same : ask_in job ≡ ask = cc is in ap is_of_streams (sym same) ∙ write_asks_still job.head (piece_in job) job.stage
 stage_ask-still (calls.Done reply) ask is = absurd (cc is)
 

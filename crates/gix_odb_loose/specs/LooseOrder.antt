@@ -7,6 +7,8 @@ use Rattle.odb_asks.specs.declared.ask.DiskAsk.TheVariants as asks
 use Rattle.odb_asks.specs.declared.ask.DiskAnswer.{DiskAnswer}
 use Rattle.gix_hash.specs.declared.object_id.ObjectId.{ObjectId}
 use Rattle.gix_object.specs.declared.kind.Kind.{Kind}
+use Rattle.gix_object.specs.declared.want.Want.{Want}
+use Rattle.gix_object.specs.declared.want.Want.TheVariants.{Object, Header, Presence}
 use Rattle.gix_odb_loose.specs.LooseFile.{loose_path}
 use Rattle.gix_odb_loose.specs.Store.{store_path, store_hash, store_limit}
 use Rattle.gix_odb_loose.specs.declared.store.Store.{Store}
@@ -31,27 +33,53 @@ use Rattle.gix_odb_loose.specs.declared.call.Stage.{Stage}
 use Rattle.gix_odb_loose.specs.declared.call.Stage.TheVariants as stages
 use Rattle.gix_odb_loose.specs.LooseOrder.Answered.{tested_by, found_by, header_by}
 
+-- ---- what is wanted of the object of an id
+
+-- the job of whoever wants it
+abbrev pub job_of : Want → ObjectId → LooseJob
+job_of Object id = jobs.Find id
+job_of Header id = jobs.Header id
+job_of Presence id = jobs.Contains id
+
+-- a test looks at the path, links followed; a find and a header read it
+abbrev pub want_ask : Want → Path → DiskAsk
+want_ask Object path = asks.Read path
+want_ask Header path = asks.Read path
+want_ask Presence path = asks.Look path true
+
+-- what is made of the answer
+abbrev pub want_reply : Want → Path → Option ℕ → DiskAnswer → LooseReply
+want_reply Object path limit answer = replies.Found (found_by path limit answer)
+want_reply Header path limit answer = replies.Header (header_by path answer)
+want_reply Presence path limit answer = replies.Contains (tested_by path answer)
+
 -- ---- the stages of a call
 
 -- a new write has its data and no temporary file
 abbrev pub begun : Store → Kind → ℕ → List ℕ → Option ObjectId → WriteJob
 begun store kind size bytes id = write_of (write_head store kind size) (store_hash store) id bytes
 
+-- a new call that only asks has its path
+abbrev pub asking_of : Store → Want → ObjectId → Stage
+asking_of store want id = stages.Asking want (loose_path (store_path store) id) (store_limit store)
+
 -- a new call has its one path, or what is to be written, and has asked nothing
 abbrev pub first_stage : Store → LooseJob → Stage
-first_stage store (jobs.Contains id) = stages.Testing (loose_path (store_path store) id)
-first_stage store (jobs.Find id) = stages.Finding (loose_path (store_path store) id) (store_limit store)
-first_stage store (jobs.Header id) = stages.Heading (loose_path (store_path store) id)
+first_stage store (jobs.Contains id) = asking_of store Presence id
+first_stage store (jobs.Find id) = asking_of store Object id
+first_stage store (jobs.Header id) = asking_of store Header id
 first_stage store (jobs.Write kind size bytes id) = stages.Writing (begun store kind size bytes id)
 
 abbrev pub started : Store → LooseJob → LooseCall
 started store job = record { stage = first_stage store job }
 
--- a test looks at the path, links followed; a find and a header read it
+-- the call of whoever wants so much of the object of an id
+abbrev pub started_for : Store → Want → ObjectId → LooseCall
+started_for store want id = record { stage = asking_of store want id }
+
+-- what is asked at a stage
 abbrev pub asked_at : Stage → LooseAsk
-asked_at (stages.Testing path) = loose_asks.Disk (asks.Look path true)
-asked_at (stages.Finding path limit) = loose_asks.Disk (asks.Read path)
-asked_at (stages.Heading path) = loose_asks.Disk (asks.Read path)
+asked_at (stages.Asking want path limit) = loose_asks.Disk (want_ask want path)
 asked_at (stages.Writing job) = loose_asks.Disk (ask_in job)
 asked_at (stages.Done reply) = loose_asks.Done reply
 
@@ -93,9 +121,7 @@ written_to job (advances.Reply answer) = stages.Done (replies.Wrote answer)
 
 -- a finding call is done after its one answer, a write at its end; a call that is done stays as it is
 abbrev pub next_stage : Stage → DiskAnswer → Stage
-next_stage (stages.Testing path) answer = stages.Done (replies.Contains (tested_by path answer))
-next_stage (stages.Finding path limit) answer = stages.Done (replies.Found (found_by path limit answer))
-next_stage (stages.Heading path) answer = stages.Done (replies.Header (header_by path answer))
+next_stage (stages.Asking want path limit) answer = stages.Done (want_reply want path limit answer)
 next_stage (stages.Writing job) answer = written_to job (advance_by job answer)
 next_stage (stages.Done reply) answer = stages.Done reply
 
@@ -104,16 +130,12 @@ fed call answer = record { stage = next_stage call.stage answer }
 
 -- how many calls of the disk are still to come
 abbrev pub asks_left : Stage → ℕ
-asks_left (stages.Testing path) = 1
-asks_left (stages.Finding path limit) = 1
-asks_left (stages.Heading path) = 1
+asks_left (stages.Asking want path limit) = 1
 asks_left (stages.Writing job) = writes_left (length job.bytes) (wants.Disk job.stage)
 asks_left (stages.Done reply) = 0
 
 abbrev pub temporary_at : Stage → Option Path
-temporary_at (stages.Testing path) = None
-temporary_at (stages.Finding path limit) = None
-temporary_at (stages.Heading path) = None
+temporary_at (stages.Asking want path limit) = None
 temporary_at (stages.Writing job) = temporary_of job.head (number_made job.stage)
 temporary_at (stages.Done reply) = None
 

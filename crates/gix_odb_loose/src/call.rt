@@ -3,8 +3,7 @@ ghost use Rattle.std.specs.Prelude.{◌≡◌, true, None, Some, IfOk, MatchResu
 ghost use Rattle.gix_hash.specs.ObjectId.{kind_of};
 ghost use Rattle.gix_odb_loose.specs.Store.{store_hash};
 ghost use Rattle.gix_odb_loose.specs.LooseFile.{id_asked};
-ghost use Rattle.gix_odb_loose.specs.LooseOrder.{started, ask_of, asked_as, asked_at, disk_ask_of, reply_of, temporary_in, next_stage, written_to};
-ghost use Rattle.gix_odb_loose.specs.LooseOrder.Answered.{tested_by, found_by, header_by};
+ghost use Rattle.gix_odb_loose.specs.LooseOrder.{job_of, asking_of, want_ask, want_reply, started, ask_of, asked_as, asked_at, disk_ask_of, reply_of, temporary_in, next_stage, written_to};
 ghost use Rattle.gix_odb_loose.specs.WriteJobs.{advance_by};
 ghost use Rattle.gix_odb_loose.specs.LooseOrder.{fed as fed_with};
 
@@ -12,7 +11,7 @@ use crate::write_at_hand::{Advance, WriteJob};
 use crate::write_order::{WriteHead, WriteStage};
 use crate::{Store, find, reply, write};
 use gix_hash::ObjectId;
-use gix_object::Kind;
+use gix_object::{Kind, Want};
 use odb_asks::{DiskAnswer, DiskAsk};
 use odb_base::{ByteList, NoMemory, PathText};
 use std::alloc::Global;
@@ -30,6 +29,19 @@ pub enum LooseJob {
         bytes: ByteList,
         id: Option<ObjectId>,
     },
+}
+
+impl LooseJob {
+    /// The job of whoever wants so much of the object of an id.
+    pub fn of(want: Want, id: ObjectId) -> LooseJob
+        ensures job { result ≡ job_of want id }
+    {
+        match want {
+            Want::Object => LooseJob::Find(id),
+            Want::Header => LooseJob::Header(id),
+            Want::Presence => LooseJob::Contains(id),
+        }
+    }
 }
 
 /// What a call does next.
@@ -52,12 +64,12 @@ pub enum LooseReply {
 /// Where a call stands.
 #[derive(Drop)]
 pub enum Stage {
-    /// The path is to be looked at.
-    Testing { path: PathText },
-    /// The path is to be read for the whole object.
-    Finding { path: PathText, limit: Option<u64> },
-    /// The path is to be read for the header.
-    Heading { path: PathText },
+    /// The path is to be looked at for whether the object is there, and to be read for its data or its header.
+    Asking {
+        want: Want,
+        path: PathText,
+        limit: Option<u64>,
+    },
     /// An object is being written.
     Writing(WriteJob),
     Done(LooseReply),
@@ -86,16 +98,9 @@ impl LooseCall {
         ensures first { IfOk result (λ call. call ≡ started store.now job) }
     {
         let stage = match job {
-            LooseJob::Contains(id) => Stage::Testing {
-                path: store.object_path(alloc, &id)?,
-            },
-            LooseJob::Find(id) => Stage::Finding {
-                path: store.object_path(alloc, &id)?,
-                limit: store.limit(),
-            },
-            LooseJob::Header(id) => Stage::Heading {
-                path: store.object_path(alloc, &id)?,
-            },
+            LooseJob::Contains(id) => asking(alloc, store, Want::Presence, id)?,
+            LooseJob::Find(id) => asking(alloc, store, Want::Object, id)?,
+            LooseJob::Header(id) => asking(alloc, store, Want::Header, id)?,
             LooseJob::Write {
                 kind,
                 size,
@@ -233,9 +238,7 @@ impl Stage {
         ensures next { IfOk result (λ next. asked_as next ≡ asked_at self.now) }
     {
         match self {
-            Stage::Testing { path } => Ok(Next::Disk(look_at(alloc, path)?)),
-            Stage::Finding { path, .. } => Ok(Next::Disk(read_of(alloc, path)?)),
-            Stage::Heading { path } => Ok(Next::Disk(read_of(alloc, path)?)),
+            Stage::Asking { want, path, .. } => Ok(Next::Disk(ask_for(alloc, *want, path)?)),
             Stage::Writing(job) => {
                 let piece = ByteList::from_slice(alloc, job.piece())?;
                 Ok(Next::Disk(job.head.ask_at(alloc, &job.stage, piece)?))
@@ -249,17 +252,52 @@ impl Stage {
         ensures next { IfOk result (λ next. next ≡ next_stage self answer) }
     {
         match self {
-            Stage::Testing { path } => test_fed(alloc, &path, answer),
-            Stage::Finding { path, limit } => find_fed(alloc, &path, limit, answer),
-            Stage::Heading { path } => header_fed(alloc, &path, answer),
+            Stage::Asking { want, path, limit } => asking_fed(alloc, want, &path, limit, answer),
             Stage::Writing(job) => write_fed(alloc, job, answer),
             Stage::Done(reply) => Ok(Stage::Done(reply)),
         }
     }
 }
 
+// A call that only asks for the object of an id, before it has asked the disk.
+fn asking(alloc: Global, store: &Store, want: Want, id: ObjectId) -> Result<Stage, NoMemory>
+    requires hash { kind_of id ≡ store_hash store.now }
+    ensures first { IfOk result (λ stage. stage ≡ asking_of store.now want id) }
+{
+    Ok(Stage::Asking {
+        want,
+        path: store.object_path(alloc, &id)?,
+        limit: store.limit(),
+    })
+}
+
+fn ask_for(alloc: Global, want: Want, path: &PathText) -> Result<DiskAsk, NoMemory>
+    ensures ask { IfOk result (λ ask. ask ≡ want_ask want path.now) }
+{
+    match want {
+        Want::Presence => look_at(alloc, path),
+        Want::Object | Want::Header => read_of(alloc, path),
+    }
+}
+
+fn asking_fed(
+    alloc: Global,
+    want: Want,
+    path: &PathText,
+    limit: Option<u64>,
+    answer: DiskAnswer,
+) -> Result<Stage, NoMemory>
+    ensures next { IfOk result (λ next. next ≡ Stage.Done (want_reply want path.now limit answer)) }
+{
+    match want {
+        Want::Object => find_fed(alloc, path, limit, answer),
+        Want::Header => header_fed(alloc, path, answer),
+        Want::Presence => test_fed(alloc, path, answer),
+    }
+}
+
 fn test_fed(alloc: Global, path: &PathText, answer: DiskAnswer) -> Result<Stage, NoMemory>
-    ensures next { IfOk result (λ next. next ≡ Stage.Done (LooseReply.Contains (tested_by path.now answer))) }
+    ensures next { IfOk result (λ next. next ≡ Stage.Done (want_reply Want.Presence path.now None answer)) }
 {
     let there = reply::tested(alloc, path, &answer)?;
     drop(answer);
@@ -272,14 +310,14 @@ fn find_fed(
     limit: Option<u64>,
     answer: DiskAnswer,
 ) -> Result<Stage, NoMemory>
-    ensures next { IfOk result (λ next. next ≡ Stage.Done (LooseReply.Found (found_by path.now limit answer))) }
+    ensures next { IfOk result (λ next. next ≡ Stage.Done (want_reply Want.Object path.now limit answer)) }
 {
     let found = reply::found(alloc, path, limit, answer)?;
     Ok(Stage::Done(LooseReply::Found(found)))
 }
 
 fn header_fed(alloc: Global, path: &PathText, answer: DiskAnswer) -> Result<Stage, NoMemory>
-    ensures next { IfOk result (λ next. next ≡ Stage.Done (LooseReply.Header (header_by path.now answer))) }
+    ensures next { IfOk result (λ next. next ≡ Stage.Done (want_reply Want.Header path.now None answer)) }
 {
     let header = reply::headed(alloc, path, &answer)?;
     drop(answer);

@@ -95,7 +95,7 @@ module _ (goal : Goal) where
   noted_core ahead noted (try_stages.StoringIndex at file) effect = noted_search ahead noted (search_stored goal ahead.notes at file effect)
   noted_core ahead noted (try_stages.PassingIndex at why) effect = noted_seek ahead noted
   noted_core ahead noted (try_stages.StoringPack pack file) effect =
-      noted_given (given_by goal.wanted goal.limit (unwrap_or (pack_behind pack effect) file) pack.offset)
+      noted_given (given_by goal.want goal.limit (unwrap_or (pack_behind pack effect) file) pack.offset)
   noted_core ahead noted (try_stages.PassingPack pack) effect = noted_seek (record ahead { notes = with_absent ahead.notes pack.slot pack.path }) noted
   noted_core ahead noted stage effect = noted
 

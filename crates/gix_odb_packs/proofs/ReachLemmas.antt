@@ -27,8 +27,8 @@ use Rattle.gix_odb_packs.specs.Spot.{in_single, spot_in}
 use Rattle.gix_odb_packs.specs.declared.goal.Error.{Error}
 use Rattle.gix_odb_packs.specs.declared.goal.Found.{Found}
 use Rattle.gix_odb_packs.specs.declared.goal.Goal.{Goal}
-use Rattle.gix_odb_packs.specs.declared.goal.Wanted.{Wanted}
-use Rattle.gix_odb_packs.specs.declared.goal.Wanted.TheVariants.{Object, Header, Presence}
+use Rattle.gix_object.specs.declared.want.Want.{Want}
+use Rattle.gix_object.specs.declared.want.Want.TheVariants.{Object, Header, Presence}
 use Rattle.gix_odb_packs.specs.declared.search.AbsentFile.{AbsentFile}
 use Rattle.gix_odb_packs.specs.declared.search.Notes.{Notes}
 use Rattle.gix_odb_packs.specs.declared.search.Sought.{Sought}
@@ -134,7 +134,7 @@ module _ (pack : Path) where
     reaches-given (Err error) = tt
 
     reaches-file : (spot : Spot) (path : Path) → path ≡ pack → (file : Option FileBytes) → Reaches (in_file goal absent index spot path file)
-    reaches-file spot path is (Some file) = reaches-given (given_by goal.wanted goal.limit file spot.offset)
+    reaches-file spot path is (Some file) = reaches-given (given_by goal.want goal.limit file spot.offset)
     reaches-file spot path is None =
         subst Reaches
         (sym (cond-false (was_absent absent index.slot path) Nowhere
@@ -147,7 +147,7 @@ module _ (pack : Path) where
     reaches-packs spot [] one = absurd (cc one)
     reaches-packs spot (file ∷ packs) one = let is : file.path ≡ pack = cc one in reaches-file spot file.path is (loaded file.state)
 
-    reaches-spot : (wanted : Wanted) (offset : ℕ) → map (λ (file : PackFile). file.path) index.packs ≡ pack ∷ []
+    reaches-spot : (wanted : Want) (offset : ℕ) → map (λ (file : PackFile). file.path) index.packs ≡ pack ∷ []
         → Reaches (at_spot wanted goal absent index (Some (record { place = 0; offset = offset })))
     reaches-spot Presence offset one = tt
     reaches-spot Object offset one = reaches-packs (record { place = 0; offset = offset }) index.packs one
@@ -159,4 +159,4 @@ module _ (pack : Path) where
         let among = subst (λ (kind : Kind). Contains (index_rows kind leads.file.bytes) row) (sym leads.kind) leads.among in
         let spot = has_spot leads.file goal.id row among leads.of_id in
         let is : spot_in index.index goal.id ≡ Some (record { place = 0; offset = spot.0 }) = ap (λ (i : _). spot_in i goal.id) leads.single ∙ spot.1 in
-        subst (λ (s : Option Spot). Reaches (at_spot goal.wanted goal absent index s)) (sym is) (reaches-spot goal.wanted spot.0 leads.one)
+        subst (λ (s : Option Spot). Reaches (at_spot goal.want goal absent index s)) (sym is) (reaches-spot goal.want spot.0 leads.one)

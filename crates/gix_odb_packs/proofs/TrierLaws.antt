@@ -30,8 +30,8 @@ use Rattle.gix_odb_packs.specs.declared.goal.Error.TheVariants as errors
 use Rattle.gix_odb_packs.specs.declared.goal.Found.{Found}
 use Rattle.gix_odb_packs.specs.declared.goal.Found.TheVariants as found
 use Rattle.gix_odb_packs.specs.declared.goal.Goal.{Goal}
-use Rattle.gix_odb_packs.specs.declared.goal.Wanted.{Wanted}
-use Rattle.gix_odb_packs.specs.declared.goal.Wanted.TheVariants as wanted
+use Rattle.gix_object.specs.declared.want.Want.{Want}
+use Rattle.gix_object.specs.declared.want.Want.TheVariants as wanted
 use Rattle.gix_odb_packs.specs.declared.search.AbsentFile.{AbsentFile}
 use Rattle.gix_odb_packs.specs.declared.search.Sought.{Sought}
 use Rattle.gix_odb_packs.specs.declared.search.Sought.TheVariants as searches
@@ -52,13 +52,13 @@ use Rattle.gix_odb_events.specs.declared.event.Event.{Event}
 -- ---- what a pack gives
 
 -- what was found is what is wanted
-abbrev pub Fits : Wanted → Found → Type 0
+abbrev pub Fits : Want → Found → Type 0
 Fits wanted.Object (found.Object kind bytes) = Unit {0}
 Fits wanted.Header (found.Header kind size) = Unit {0}
 Fits wanted.Presence found.Presence = Unit {0}
 Fits wanted found = ⊥
 
-abbrev IsGiven : Wanted → Result Found Error → Type 0
+abbrev IsGiven : Want → Result Found Error → Type 0
 IsGiven wanted (Ok found) = Fits wanted found
 IsGiven wanted (Err error) = Unit {0}
 
@@ -70,24 +70,24 @@ header_given : (result : Result pack_header.Header pack.Error) → IsGiven wante
 header_given (Ok header) = tt
 header_given (Err error) = tt
 
-given_fits : (wanted : Wanted) (limit : Option ℕ) (file : FileBytes) (offset : ℕ) → IsGiven wanted (given_by wanted limit file offset)
+given_fits : (wanted : Want) (limit : Option ℕ) (file : FileBytes) (offset : ℕ) → IsGiven wanted (given_by wanted limit file offset)
 given_fits wanted.Object limit file offset = object_given (entry_at file.kind file.bytes offset limit)
 given_fits wanted.Header limit file offset = header_given (header_at file.kind file.bytes offset)
 given_fits wanted.Presence limit file offset = tt
 
 -- ---- a search
 
-abbrev IsSought : Wanted → Sought → Type 0
+abbrev IsSought : Want → Sought → Type 0
 IsSought wanted searches.Nowhere = Unit {0}
 IsSought wanted (searches.Finds found) = Fits wanted found
 IsSought wanted (searches.Fails error) = Unit {0}
 IsSought wanted (searches.Wants pack) = Unit {0}
 
-given_or_not-sought : (wanted : Wanted) (result : Result Found Error) → IsGiven wanted result → IsSought wanted (given_or_not result)
+given_or_not-sought : (wanted : Want) (result : Result Found Error) → IsGiven wanted result → IsSought wanted (given_or_not result)
 given_or_not-sought wanted (Ok found) fits = fits
 given_or_not-sought wanted (Err error) fits = tt
 
-first_of-sought : (wanted : Wanted) (search further : Sought) → IsSought wanted search → IsSought wanted further → IsSought wanted (first_of search further)
+first_of-sought : (wanted : Want) (search further : Sought) → IsSought wanted search → IsSought wanted further → IsSought wanted (first_of search further)
 first_of-sought wanted searches.Nowhere further fits next = next
 first_of-sought wanted (searches.Finds found) further fits next = fits
 first_of-sought wanted (searches.Fails error) further fits next = tt
@@ -95,37 +95,37 @@ first_of-sought wanted (searches.Wants pack) further fits next = tt
 
 module _ (goal : Goal) (absent : List AbsentFile) where
   module _ (index : SnapshotIndex) (spot : Spot) where
-    in_file-sought : (path : Path) (file : Option FileBytes) → IsSought goal.wanted (in_file goal absent index spot path file)
+    in_file-sought : (path : Path) (file : Option FileBytes) → IsSought goal.want (in_file goal absent index spot path file)
     in_file-sought path (Some file) =
-        given_or_not-sought goal.wanted (given_by goal.wanted goal.limit file spot.offset) (given_fits goal.wanted goal.limit file spot.offset)
+        given_or_not-sought goal.want (given_by goal.want goal.limit file spot.offset) (given_fits goal.want goal.limit file spot.offset)
     in_file-sought path None = by (was_absent absent index.slot path)
       where
         pack : WantedPack
         pack = record { slot = index.slot; place = place_in index.index spot; path = path; offset = spot.offset }
 
-        by : (b : Bool) → IsSought goal.wanted (if b then searches.Nowhere else searches.Wants pack)
+        by : (b : Bool) → IsSought goal.want (if b then searches.Nowhere else searches.Wants pack)
         by true = tt
         by false = tt
 
-    in_packs-sought : (pack : Option PackFile) → IsSought goal.wanted (in_packs goal absent index spot pack)
+    in_packs-sought : (pack : Option PackFile) → IsSought goal.want (in_packs goal absent index spot pack)
     in_packs-sought None = tt
     in_packs-sought (Some pack) = in_file-sought pack.path (loaded pack.state)
 
-  at_spot-sought : (wanted : Wanted) → goal.wanted ≡ wanted → (index : SnapshotIndex) (spot : Option Spot)
-      → IsSought goal.wanted (at_spot wanted goal absent index spot)
+  at_spot-sought : (wanted : Want) → goal.want ≡ wanted → (index : SnapshotIndex) (spot : Option Spot)
+      → IsSought goal.want (at_spot wanted goal absent index spot)
   at_spot-sought wanted.Object is index None = tt
   at_spot-sought wanted.Header is index None = tt
   at_spot-sought wanted.Presence is index None = tt
   at_spot-sought wanted.Object is index (Some spot) = in_packs-sought index spot (slice_get index.packs spot.place)
   at_spot-sought wanted.Header is index (Some spot) = in_packs-sought index spot (slice_get index.packs spot.place)
-  at_spot-sought wanted.Presence is index (Some spot) = subst (λ (w : Wanted). Fits w found.Presence) (sym is) tt
+  at_spot-sought wanted.Presence is index (Some spot) = subst (λ (w : Want). Fits w found.Presence) (sym is) tt
 
-  tried-sought : (index : SnapshotIndex) → IsSought goal.wanted (tried goal absent index)
-  tried-sought index = at_spot-sought goal.wanted refl index (spot_in index.index goal.id)
+  tried-sought : (index : SnapshotIndex) → IsSought goal.want (tried goal absent index)
+  tried-sought index = at_spot-sought goal.want refl index (spot_in index.index goal.id)
 
-  search-sought : (indices : List SnapshotIndex) → IsSought goal.wanted (search goal absent indices)
+  search-sought : (indices : List SnapshotIndex) → IsSought goal.want (search goal absent indices)
   search-sought [] = tt
-  search-sought (index ∷ rest) = first_of-sought goal.wanted (tried goal absent index) (search goal absent rest) (tried-sought index) (search-sought rest)
+  search-sought (index ∷ rest) = first_of-sought goal.want (tried goal absent index) (search goal absent rest) (tried-sought index) (search-sought rest)
 
 -- ---- a trier
 
@@ -145,12 +145,12 @@ module _ (goal : Goal) (Failed : Type 0) (Refuses : Refusal → Type 0) where
   -- What trying comes to: it goes on for its goal, finds what is wanted, or ends. A failure that is noted is one, and so is a refusal.
   abbrev pub Comes : Tried → Type 0
   Comes (ends.More trier) = (trier.goal ≡ goal) × Noted trier.ahead.notes
-  Comes (ends.Hit found) = Fits goal.wanted found
+  Comes (ends.Hit found) = Fits goal.want found
   Comes (ends.Missed notes) = Noted notes
   Comes (ends.Bad error) = Unit {0}
   Comes (ends.Broken refusal) = Refuses refusal
 
-  given-comes : (result : Result Found Error) → IsGiven goal.wanted result → Comes (by_given result)
+  given-comes : (result : Result Found Error) → IsGiven goal.want result → Comes (by_given result)
   given-comes (Ok found) fits = fits
   given-comes (Err error) fits = tt
 
@@ -158,7 +158,7 @@ module _ (goal : Goal) (Failed : Type 0) (Refuses : Refusal → Type 0) where
   at_todo-comes ahead noted [] = noted
   at_todo-comes ahead noted (todo ∷ rest) = (refl, noted)
 
-  at_search-comes : (ahead : Ahead) → Noted ahead.notes → (sought : Sought) → IsSought goal.wanted sought → Comes (at_search goal ahead sought)
+  at_search-comes : (ahead : Ahead) → Noted ahead.notes → (sought : Sought) → IsSought goal.want sought → Comes (at_search goal ahead sought)
   at_search-comes ahead noted searches.Nowhere fits = at_todo-comes ahead noted ahead.todo
   at_search-comes ahead noted (searches.Finds found) fits = fits
   at_search-comes ahead noted (searches.Fails error) fits = tt
@@ -219,8 +219,8 @@ module _ (goal : Goal) (Failed : Type 0) (Refuses : Refusal → Type 0) where
         (tried-sought goal ahead.notes.absent (shown_or_own place file (shown_behind place effect)))
     behind_core-comes (stages.PassingIndex place why) effect = seek-comes ahead noted
     behind_core-comes (stages.StoringPack pack file) effect =
-        given-comes (given_by goal.wanted goal.limit (unwrap_or (pack_behind pack effect) file) pack.offset)
-        (given_fits goal.wanted goal.limit (unwrap_or (pack_behind pack effect) file) pack.offset)
+        given-comes (given_by goal.want goal.limit (unwrap_or (pack_behind pack effect) file) pack.offset)
+        (given_fits goal.want goal.limit (unwrap_or (pack_behind pack effect) file) pack.offset)
     behind_core-comes (stages.PassingPack pack) effect = seek-comes (record ahead { notes = with_absent ahead.notes pack.slot pack.path }) noted
     behind_core-comes stage effect = (refl, noted)
 

@@ -9,8 +9,8 @@ use Rattle.gix_odb_packs.specs.declared.goal.Error.{Error}
 use Rattle.gix_odb_packs.specs.declared.goal.Error.TheVariants as errors
 use Rattle.gix_odb_packs.specs.declared.goal.Found.{Found}
 use Rattle.gix_odb_packs.specs.declared.goal.Found.TheVariants as found
-use Rattle.gix_odb_packs.specs.declared.goal.Wanted.{Wanted}
-use Rattle.gix_odb_packs.specs.declared.goal.Wanted.TheVariants.{Object, Header, Presence}
+use Rattle.gix_object.specs.declared.want.Want.{Want}
+use Rattle.gix_object.specs.declared.want.Want.TheVariants.{Object, Header, Presence}
 
 -- an error of a pack, as one of a look for an object. Bytes that are no pack can't be loaded
 abbrev pub error_of : pack.Error → Error
@@ -30,7 +30,7 @@ header_in (Err error) = Err (error_of error)
 
 -- what a pack gives at an offset: a base entry with its data, within the limit; the header of one; or that the object is there, for
 -- which no pack is asked
-abbrev pub given_by : Wanted → (limit : Option ℕ) → FileBytes → (offset : ℕ) → Result Found Error
+abbrev pub given_by : Want → (limit : Option ℕ) → FileBytes → (offset : ℕ) → Result Found Error
 given_by Object limit file offset = object_in (entry_at file.kind file.bytes offset limit)
 given_by Header limit file offset = header_in (header_at file.kind file.bytes offset)
 given_by Presence limit file offset = Ok found.Presence

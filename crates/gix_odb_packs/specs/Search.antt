@@ -14,8 +14,8 @@ use Rattle.gix_odb_packs.specs.declared.goal.Error.{Error}
 use Rattle.gix_odb_packs.specs.declared.goal.Found.{Found}
 use Rattle.gix_odb_packs.specs.declared.goal.Found.TheVariants as found
 use Rattle.gix_odb_packs.specs.declared.goal.Goal.{Goal}
-use Rattle.gix_odb_packs.specs.declared.goal.Wanted.{Wanted}
-use Rattle.gix_odb_packs.specs.declared.goal.Wanted.TheVariants.{Object, Header, Presence}
+use Rattle.gix_object.specs.declared.want.Want.{Want}
+use Rattle.gix_object.specs.declared.want.Want.TheVariants.{Object, Header, Presence}
 use Rattle.gix_odb_packs.specs.declared.search.AbsentFile.{AbsentFile}
 use Rattle.gix_odb_packs.specs.declared.search.Notes.{Notes}
 use Rattle.gix_odb_packs.specs.declared.search.Sought.{Sought}
@@ -42,7 +42,7 @@ place_in (Multi bytes) spot = Some spot.place
 
 -- a pack that is loaded gives the object or an error. Another one is to be read, unless it was absent
 abbrev pub in_file : Goal → List AbsentFile → SnapshotIndex → Spot → Path → Option FileBytes → Sought
-in_file goal absent index spot path (Some file) = given_or_not (given_by goal.wanted goal.limit file spot.offset)
+in_file goal absent index spot path (Some file) = given_or_not (given_by goal.want goal.limit file spot.offset)
 in_file goal absent index spot path None =
     if was_absent absent index.slot path then Nowhere
     else Wants (record { slot = index.slot; place = place_in index.index spot; path = path; offset = spot.offset })
@@ -55,14 +55,14 @@ in_packs goal absent index spot None = Nowhere
 in_packs goal absent index spot (Some pack) = in_pack goal absent index spot pack
 
 -- for presence the row of an index is enough
-abbrev pub at_spot : Wanted → Goal → List AbsentFile → SnapshotIndex → Option Spot → Sought
+abbrev pub at_spot : Want → Goal → List AbsentFile → SnapshotIndex → Option Spot → Sought
 at_spot wanted goal absent index None = Nowhere
 at_spot Presence goal absent index (Some spot) = Finds found.Presence
 at_spot Object goal absent index (Some spot) = in_packs goal absent index spot (slice_get index.packs spot.place)
 at_spot Header goal absent index (Some spot) = in_packs goal absent index spot (slice_get index.packs spot.place)
 
 abbrev pub tried : Goal → List AbsentFile → SnapshotIndex → Sought
-tried goal absent index = at_spot goal.wanted goal absent index (spot_in index.index goal.id)
+tried goal absent index = at_spot goal.want goal absent index (spot_in index.index goal.id)
 
 -- ---- indices, one after another
 

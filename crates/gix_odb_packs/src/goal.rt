@@ -3,28 +3,17 @@ ghost use Rattle.std.specs.Prelude.{◌≡◌, IfOk, IfErr};
 ghost use Rattle.gix_odb_packs.specs.Goal.{error_of, given_by};
 
 use gix_hash::ObjectId;
-use gix_object::Kind;
+use gix_object::{Kind, Want};
 use gix_pack_files::data;
 use odb_base::{ByteList, NoMemory};
 use std::alloc::Global;
 use thiserror::Error;
 
-/// What is wanted of an object.
-#[derive(Clone, Copy, PartialEq, Eq)]
-pub enum Wanted {
-    /// Its kind and its data.
-    Object,
-    /// Its kind and its size.
-    Header,
-    /// Whether it is there.
-    Presence,
-}
-
 /// An object that is sought: its id, what is wanted of it, and the most bytes of data that it may have, if there is a limit.
 #[derive(Clone, Copy)]
 pub struct Goal {
     pub id: ObjectId,
-    pub wanted: Wanted,
+    pub want: Want,
     pub limit: Option<u64>,
 }
 
@@ -76,12 +65,12 @@ impl Goal {
         pack: &data::File,
         offset: u64,
     ) -> Result<Result<Found, Error>, NoMemory>
-        ensures given { IfOk result (λ given. given ≡ given_by self.now.wanted self.now.limit pack.now offset) }
+        ensures given { IfOk result (λ given. given ≡ given_by self.now.want self.now.limit pack.now offset) }
     {
-        match self.wanted {
-            Wanted::Object => object_at(alloc, pack, offset, self.limit),
-            Wanted::Header => Ok(header_at(pack, offset)),
-            Wanted::Presence => Ok(Ok(Found::Presence)),
+        match self.want {
+            Want::Object => object_at(alloc, pack, offset, self.limit),
+            Want::Header => Ok(header_at(pack, offset)),
+            Want::Presence => Ok(Ok(Found::Presence)),
         }
     }
 }
@@ -92,7 +81,7 @@ fn object_at(
     offset: u64,
     limit: Option<u64>,
 ) -> Result<Result<Found, Error>, NoMemory>
-    ensures given { IfOk result (λ given. given ≡ given_by Wanted.Object limit pack.now offset) }
+    ensures given { IfOk result (λ given. given ≡ given_by Want.Object limit pack.now offset) }
 {
     match pack.entry(offset, limit) {
         Ok(entry) => Ok(Ok(Found::Object {
@@ -104,7 +93,7 @@ fn object_at(
 }
 
 fn header_at(pack: &data::File, offset: u64) -> Result<Found, Error>
-    ensures given { result ≡ given_by Wanted.Header None pack.now offset }
+    ensures given { result ≡ given_by Want.Header None pack.now offset }
 {
     match pack.decode_header(offset) {
         Ok(header) => Ok(Found::Header {

@@ -28,7 +28,7 @@ mod trier;
 pub use absent::AbsentPacks;
 pub use folders::pack_folder;
 pub use gix_odb_events::{Answer, Ask};
-pub use goal::{Error, Found, Goal, Wanted};
+pub use goal::{Error, Found, Goal};
 pub use lister::{EntryList, ListHead, ListStage, ListStep, Lister};
 pub use rest::Rest;
 pub use search::{AbsentFile, Notes, WantedPack};

@@ -3,8 +3,9 @@ ghost use Rattle.std.specs.Prelude.{◌≡◌, [], false, true, IfOk, OnErr, OnO
 ghost use Rattle.gix_odb_packs.specs.Search.{given_or_not, in_pack, place_in, rest_behind, search, tried, with_absent};
 
 use crate::absent::AbsentPacks;
-use crate::goal::{Error, Found, Goal, Wanted};
+use crate::goal::{Error, Found, Goal};
 use crate::spot::{Spot, spot_in};
+use gix_object::Want;
 use gix_odb_events::{LoadedIndex, LoadedRest, PackFile, SnapshotIndex};
 use odb_base::{NoMemory, PathText};
 use std::alloc::Global;
@@ -152,7 +153,7 @@ impl Goal {
         let Some(spot) = spot_in(&index.index, &self.id) else {
             return Ok(Sought::Nowhere);
         };
-        if self.wanted == Wanted::Presence {
+        if self.want == Want::Presence {
             return Ok(Sought::Finds(Found::Presence));
         }
         match index.packs.value().get(spot.place as usize) {

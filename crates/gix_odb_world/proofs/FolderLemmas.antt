@@ -16,7 +16,7 @@ use Rattle.gix_odb_loose.specs.Causes.{Cause}
 use Rattle.gix_odb_loose.proofs.CauseLaws.{Cause-wider}
 use Rattle.gix_odb_loose.specs.LooseFile.{LeadsToFile, Reading, loose_path}
 use Rattle.gix_odb_loose.specs.LooseFile as loose_files
-use Rattle.gix_odb_loose.specs.LooseOrder.{disk_ask_of, reply_of, fed}
+use Rattle.gix_odb_loose.specs.LooseOrder.{disk_ask_of, fed, job_of, reply_of}
 use Rattle.gix_odb_loose.specs.LooseOrder.Answered.{tested_by, found_by, header_by}
 use Rattle.gix_odb_loose.specs.Replies.{Says}
 use Rattle.gix_odb_loose.proofs.ReplyLaws.{Says-now}
@@ -25,14 +25,13 @@ use Rattle.gix_odb_loose.specs.declared.call.LooseReply.{LooseReply}
 use Rattle.gix_odb_loose.specs.declared.call.LooseReply.TheVariants as loose_replies
 use Rattle.gix_odb_loose.specs.declared.find.Error.{Error}
 use Rattle.gix_odb_loose.specs.declared.find.Error.TheVariants as errors
-use Rattle.gix_odb_calls.specs.declared.query.Query.{Query}
-use Rattle.gix_odb_calls.specs.declared.query.Query.TheVariants.{Find, Header, Test}
+use Rattle.gix_object.specs.declared.want.Want.{Want}
+use Rattle.gix_object.specs.declared.want.Want.TheVariants.{Object, Header, Presence}
 use Rattle.gix_odb_calls.specs.declared.verdict.Verdict.{Verdict}
 use Rattle.gix_odb_calls.specs.declared.verdict.Verdict.TheVariants as verdicts
 use Rattle.gix_odb_calls.specs.Verdict.{asking, loose_store, verdict_on}
 use Rattle.gix_odb_world.specs.Causes.{GaveSometime, LooseCause}
 use Rattle.gix_odb.specs.Contents.{LooseFile, folder_list, of_loose}
-use Rattle.gix_odb_calls.specs.Verdict.{job_of}
 use Rattle.gix_odb_world.specs.Status.{Store}
 use Rattle.gix_odb_events.specs.declared.event.Refusal.{Refusal}
 use Rattle.gix_odb_looks.specs.Exchange.{Exchange}
@@ -40,19 +39,19 @@ use Rattle.gix_odb.specs.Held.{Held}
 use Rattle.gix_odb_world.specs.Promise.{Keeps, claim_of}
 use Rattle.gix_odb_runs.proofs.WriteAsk.Quiet.{look_quiet, read_quiet}
 
--- each query asks a folder with a look or a read
-pub ask_found : (limit : Option ℕ) (call : Query) (id : ObjectId) (folder : Path)
-    → (ask : DiskAsk) × (disk_ask_of (asking limit call id folder) ≡ Some ask) × ((tree : Tree) → change_of_ask tree ask ≡ None)
-ask_found limit (Find asked) id folder = (asks.Read (loose_path folder id), refl, read_quiet (loose_path folder id))
-ask_found limit (Header asked) id folder = (asks.Read (loose_path folder id), refl, read_quiet (loose_path folder id))
-ask_found limit (Test asked) id folder = (asks.Look (loose_path folder id) true, refl, look_quiet (loose_path folder id) true)
+-- whatever is wanted, a folder is asked with a look or a read
+pub ask_found : (limit : Option ℕ) (want : Want) (id : ObjectId) (folder : Path)
+    → (ask : DiskAsk) × (disk_ask_of (asking limit want id folder) ≡ Some ask) × ((tree : Tree) → change_of_ask tree ask ≡ None)
+ask_found limit Object id folder = (asks.Read (loose_path folder id), refl, read_quiet (loose_path folder id))
+ask_found limit Header id folder = (asks.Read (loose_path folder id), refl, read_quiet (loose_path folder id))
+ask_found limit Presence id folder = (asks.Look (loose_path folder id) true, refl, look_quiet (loose_path folder id) true)
 
 -- What the verdict on a folder's reply says: an answer that was held or an error with its cause, a miss by a call of the disk that
 -- didn't fail, or an error with its cause that is noted.
-abbrev pub VerdictSays : (ℕ → Tree) → Type 0 → (Refused : Refusal → Type 0) → (told : List Exchange) → Store → ℕ → ℕ → Query → ObjectId → Path → (fails : Bool) → Verdict → Type 0
-VerdictSays trees Failed Refused told store begun now call id folder fails (verdicts.Ends reply) = Keeps trees Failed Refused told store begun now call id (claim_of call reply)
-VerdictSays trees Failed Refused told store begun now call id folder fails verdicts.Misses = (fails ≡ false) × (¬ (LeadsToFile (trees now) (loose_path folder id)))
-VerdictSays trees Failed Refused told store begun now call id folder fails (verdicts.Notes error) = LooseCause trees Failed store begun now call id error
+abbrev pub VerdictSays : (ℕ → Tree) → Type 0 → (Refused : Refusal → Type 0) → (told : List Exchange) → Store → ℕ → ℕ → Want → ObjectId → Path → (fails : Bool) → Verdict → Type 0
+VerdictSays trees Failed Refused told store begun now want id folder fails (verdicts.Ends reply) = Keeps trees Failed Refused told store begun now want id (claim_of want reply)
+VerdictSays trees Failed Refused told store begun now want id folder fails verdicts.Misses = (fails ≡ false) × (¬ (LeadsToFile (trees now) (loose_path folder id)))
+VerdictSays trees Failed Refused told store begun now want id folder fails (verdicts.Notes error) = LooseCause trees Failed store begun now want id error
 
 -- the answer to a call of the disk: that it failed, or what the tree tells
 abbrev given_by : (fails : Bool) → (told : DiskAnswer) → DiskAnswer
@@ -76,33 +75,33 @@ module _ (trees : ℕ → Tree) (Failed : Type 0) (Refused : Refusal → Type 0)
   abbrev at : Path
   at = loose_path folder id
 
-  abbrev SaysNow : Query → LooseReply → Type 0
-  SaysNow call reply = Says at store.parts.limit (job_of call id) (tree_of disk.state) (next_fails disk ≡ true) ⊥ reply
+  abbrev SaysNow : Want → LooseReply → Type 0
+  SaysNow want reply = Says at store.parts.limit (job_of want id) (tree_of disk.state) (next_fails disk ≡ true) ⊥ reply
 
-  abbrev SaysBy : Query → LooseReply → Type 0
-  SaysBy call reply = VerdictSays trees Failed Refused told store begun now call id folder (next_fails disk) (verdict_on call reply)
+  abbrev SaysBy : Want → LooseReply → Type 0
+  SaysBy want reply = VerdictSays trees Failed Refused told store begun now want id folder (next_fails disk) (verdict_on want reply)
 
   -- what a read of the path gives now
   abbrev IsRead : Reading → Type 0
   IsRead read = read ≡ read_of (tree_of disk.state) at
 
   -- a cause of the last moment is one of the call
-  cause_now : (call : Query) (error : Error) → Cause (job_of call id) at store.parts.limit IsRead (next_fails disk ≡ true) ⊥ error
-      → LooseCause trees Failed store begun now call id error
-  cause_now call error c =
+  cause_now : (want : Want) (error : Error) → Cause (job_of want id) at store.parts.limit IsRead (next_fails disk ≡ true) ⊥ error
+      → LooseCause trees Failed store begun now want id error
+  cause_now want error c =
       record {
         folder = folder;
         among = among;
         cause = Cause-wider IsRead (GaveSometime trees begun now at)
             (λ read is. record { moment = now; from = later; to = omega arith; was = subst (λ tree. read ≡ read_of tree at) (sym shown) is })
-            (next_fails disk ≡ true) Failed ⊥ ⊥ fails (λ never. never) (job_of call id) at store.parts.limit error c;
+            (next_fails disk ≡ true) Failed ⊥ ⊥ fails (λ never. never) (job_of want id) at store.parts.limit error c;
       }
 
   -- what the file at the path holds now was held in the call
-  held_now : (call : Query) (own : loose_files.Answer)
-      → loose_files.Gives (read_of (tree_of disk.state) at) (λ bytes. loose_files.Holds store.parts.limit (job_of call id) bytes own)
-      → Held trees store.parts store.opened begun now call id (of_loose call own)
-  held_now call own gives =
+  held_now : (want : Want) (own : loose_files.Answer)
+      → loose_files.Gives (read_of (tree_of disk.state) at) (λ bytes. loose_files.Holds store.parts.limit (job_of want id) bytes own)
+      → Held trees store.parts store.opened begun now want id (of_loose want own)
+  held_now want own gives =
       let read = subst (λ tree. read_of tree at ≡ Ok (gives.bytes, gives.time)) (sym shown) gives.given in
       record {
         folder = folder;
@@ -115,59 +114,59 @@ module _ (trees : ℕ → Tree) (Failed : Type 0) (Refused : Refusal → Type 0)
   missed_now : ¬ (LeadsToFile (tree_of disk.state) at) → ¬ (LeadsToFile (trees now) at)
   missed_now missed = subst (λ tree. ¬ (LeadsToFile tree at)) (sym shown) missed
 
-  find_says : (asked : ObjectId) (result : Result (Option (Kind × List ℕ)) Error) → SaysNow (Find asked) (loose_replies.Found result)
+  find_says : (result : Result (Option (Kind × List ℕ)) Error) → SaysNow Object (loose_replies.Found result)
       → (result ≡ Ok None → next_fails disk ≡ false)
-      → SaysBy (Find asked) (loose_replies.Found result)
-  find_says asked (Ok (Some x)) says sound =
-      held_now (Find asked) (loose_files.Object x.0 x.1) (says.held (loose_files.Object x.0 x.1) refl)
-  find_says asked (Ok None) says sound = (sound refl, missed_now (says.missed tt))
-  find_says asked (Err error) says sound = cause_now (Find asked) error (says.refused error refl)
+      → SaysBy Object (loose_replies.Found result)
+  find_says (Ok (Some x)) says sound =
+      held_now Object (loose_files.Object x.0 x.1) (says.held (loose_files.Object x.0 x.1) refl)
+  find_says (Ok None) says sound = (sound refl, missed_now (says.missed tt))
+  find_says (Err error) says sound = cause_now Object error (says.refused error refl)
 
-  header_says : (asked : ObjectId) (result : Result (Option (ℕ × Kind)) Error) → SaysNow (Header asked) (loose_replies.Header result)
+  header_says : (result : Result (Option (ℕ × Kind)) Error) → SaysNow Header (loose_replies.Header result)
       → (result ≡ Ok None → next_fails disk ≡ false)
-      → SaysBy (Header asked) (loose_replies.Header result)
-  header_says asked (Ok (Some x)) says sound =
-      held_now (Header asked) (loose_files.HeaderOf x.1 x.0) (says.held (loose_files.HeaderOf x.1 x.0) refl)
-  header_says asked (Ok None) says sound = (sound refl, missed_now (says.missed tt))
-  header_says asked (Err error) says sound = cause_now (Header asked) error (says.refused error refl)
+      → SaysBy Header (loose_replies.Header result)
+  header_says (Ok (Some x)) says sound =
+      held_now Header (loose_files.HeaderOf x.1 x.0) (says.held (loose_files.HeaderOf x.1 x.0) refl)
+  header_says (Ok None) says sound = (sound refl, missed_now (says.missed tt))
+  header_says (Err error) says sound = cause_now Header error (says.refused error refl)
 
-  test_says : (asked : ObjectId) (result : Result Bool Error) → SaysNow (Test asked) (loose_replies.Contains result)
+  test_says : (result : Result Bool Error) → SaysNow Presence (loose_replies.Contains result)
       → (result ≡ Ok false → next_fails disk ≡ false)
-      → SaysBy (Test asked) (loose_replies.Contains result)
-  test_says asked (Ok true) says sound = held_now (Test asked) loose_files.Presence (says.held loose_files.Presence refl)
-  test_says asked (Ok false) says sound = (sound refl, missed_now (says.missed tt))
-  test_says asked (Err errors.NoMemory) says sound = cause_now (Test asked) errors.NoMemory (says.refused errors.NoMemory refl)
-  test_says asked (Err errors.Decode) says sound = cause_now (Test asked) errors.Decode (says.refused errors.Decode refl)
-  test_says asked (Err (errors.OutOfMemory size)) says sound = cause_now (Test asked) (errors.OutOfMemory size) (says.refused (errors.OutOfMemory size) refl)
-  test_says asked (Err (errors.Io action path)) says sound = cause_now (Test asked) (errors.Io action path) (says.refused (errors.Io action path) refl)
-  test_says asked (Err (errors.SizeMismatch actual expected path)) says sound =
-      cause_now (Test asked) (errors.SizeMismatch actual expected path) (says.refused (errors.SizeMismatch actual expected path) refl)
+      → SaysBy Presence (loose_replies.Contains result)
+  test_says (Ok true) says sound = held_now Presence loose_files.Presence (says.held loose_files.Presence refl)
+  test_says (Ok false) says sound = (sound refl, missed_now (says.missed tt))
+  test_says (Err errors.NoMemory) says sound = cause_now Presence errors.NoMemory (says.refused errors.NoMemory refl)
+  test_says (Err errors.Decode) says sound = cause_now Presence errors.Decode (says.refused errors.Decode refl)
+  test_says (Err (errors.OutOfMemory size)) says sound = cause_now Presence (errors.OutOfMemory size) (says.refused (errors.OutOfMemory size) refl)
+  test_says (Err (errors.Io action path)) says sound = cause_now Presence (errors.Io action path) (says.refused (errors.Io action path) refl)
+  test_says (Err (errors.SizeMismatch actual expected path)) says sound =
+      cause_now Presence (errors.SizeMismatch actual expected path) (says.refused (errors.SizeMismatch actual expected path) refl)
 
   -- the folder's call has its reply after the disk's answer, which says so much
-  pub folder_says : (call : Query)
-      → (reply : LooseReply) × (reply_of (fed (asking store.parts.limit call id folder) (answer_now disk (ask_found store.parts.limit call id folder).0)) ≡ Some reply) × SaysBy call reply
+  pub folder_says : (want : Want)
+      → (reply : LooseReply) × (reply_of (fed (asking store.parts.limit want id folder) (answer_now disk (ask_found store.parts.limit want id folder).0)) ≡ Some reply) × SaysBy want reply
   unfolding ask_found
-  folder_says (Find asked) =
+  folder_says Object =
       let given = answer_now disk (asks.Read at) in
       let result = found_by at store.parts.limit given in (
         loose_replies.Found result,
         refl,
-        find_says asked result (Says-now (loose_store store.parts.limit id folder) (jobs.Find id) disk (asks.Read at) (loose_replies.Found result) refl refl)
+        find_says result (Says-now (loose_store store.parts.limit id folder) (jobs.Find id) disk (asks.Read at) (loose_replies.Found result) refl refl)
             (sound_find at store.parts.limit (next_fails disk) (answer_of (tree_of disk.state) (asks.Read at))),
       )
-  folder_says (Header asked) =
+  folder_says Header =
       let given = answer_now disk (asks.Read at) in
       let result = header_by at given in (
         loose_replies.Header result,
         refl,
-        header_says asked result (Says-now (loose_store store.parts.limit id folder) (jobs.Header id) disk (asks.Read at) (loose_replies.Header result) refl refl)
+        header_says result (Says-now (loose_store store.parts.limit id folder) (jobs.Header id) disk (asks.Read at) (loose_replies.Header result) refl refl)
             (sound_header at (next_fails disk) (answer_of (tree_of disk.state) (asks.Read at))),
       )
-  folder_says (Test asked) =
+  folder_says Presence =
       let given = answer_now disk (asks.Look at true) in
       let result = tested_by at given in (
         loose_replies.Contains result,
         refl,
-        test_says asked result (Says-now (loose_store store.parts.limit id folder) (jobs.Contains id) disk (asks.Look at true) (loose_replies.Contains result) refl refl)
+        test_says result (Says-now (loose_store store.parts.limit id folder) (jobs.Contains id) disk (asks.Look at true) (loose_replies.Contains result) refl refl)
             (sound_test at (next_fails disk) (answer_of (tree_of disk.state) (asks.Look at true))),
       )

@@ -23,6 +23,7 @@ mod RunLaws
 mod RunEnds
 mod KnowsLemmas
 pub mod MachineLaws
+pub mod QueryCalls
 mod QuietTurn
 mod CountedFiles
 mod OpeningMachine

@@ -4,9 +4,12 @@ pub mod Turn
 use Rattle.std.proofs.Common.{◌≡◌, ℕ, ◌+◌, List, [], ◌∷◌, ◌++◌, length, Option, None, Some, Ok, Err, Result, refl, sym, ◌∙◌, ap, subst, arith}
 use Rattle.std.proofs.lemmas.List.{length_push}
 use Rattle.odb_asks.specs.MemDisk.{Volume}
+use Rattle.gix_hash.specs.declared.object_id.ObjectId.{ObjectId}
 use Rattle.gix_odb_calls.specs.declared.call.Reply.{Reply}
+use Rattle.gix_object.specs.declared.want.Want.{Want}
+use Rattle.gix_object.specs.declared.want.Want.TheVariants.{Object, Header, Presence}
+use Rattle.gix_odb_calls.specs.Query.{call_for}
 use Rattle.gix_odb_calls.specs.declared.query.Query.{Query}
-use Rattle.gix_odb_calls.specs.declared.query.Query.TheVariants.{Find, Header, Test}
 use Rattle.gix_odb_looks.specs.Exchange.{AreAsked, behind}
 use Rattle.gix_odb_looks.specs.LookUpOrder as looks
 use Rattle.gix_odb_looks.specs.LookUpOrder.{ask_of, fed, result_of}
@@ -59,7 +62,7 @@ looking_kept first events e handle running look other knows =
     let view_is = view_kept events e handle running.begun knows.since running.modes.core in
     let setting = setting_in running.store in
     let begun_is : look_begun events handle running.store running.modes running.begun knows.query ≡ look_begun whole handle running.store running.modes running.begun knows.query =
-    ap (λ v. looks.started setting v knows.query (sought running.store.parts running.modes.ignoring knows.query)) (sym view_is) in
+    ap (λ v. looks.started setting v knows.query.want (sought running.store.parts running.modes.ignoring knows.query)) (sym view_is) in
     let longer = length_push events e in
     let since = knows.since in
     record {
@@ -84,9 +87,12 @@ looking_kept first events e handle running look other knows =
 
 -- no bytes are written by a query
 no_bytes : (query : Query) → None ≡ bytes_to_write (call_of query)
-no_bytes (Find id) = refl
-no_bytes (Header id) = refl
-no_bytes (Test id) = refl
+no_bytes query = by query.want query.of
+  where
+    by : (want : Want) (id : ObjectId) → None ≡ bytes_to_write (call_for want id)
+    by Object id = refl
+    by Header id = refl
+    by Presence id = refl
 
 looking_bounded : (store : Store) (modes : Modes) (task : Task) (query : Query) → task ≡ MakeCall (call_of query) → (entries : ℕ)
     → bound_of_call store modes entries None ≡ bound_of_task store modes task entries

@@ -11,10 +11,10 @@ use Rattle.gix_odb_events.specs.declared.event.Refusal.TheVariants as refusals
 use Rattle.gix_odb_events.specs.declared.view.View.{View}
 use Rattle.gix_odb_loose.proofs.CauseLaws.{Cause-wider}
 use Rattle.gix_odb_loose.specs.LooseFile.{LeadsToFile, loose_path}
-use Rattle.gix_odb_loose.specs.LooseOrder.{reply_of}
+use Rattle.gix_odb_loose.specs.LooseOrder.{job_of, reply_of}
 use Rattle.gix_odb_loose.proofs.StillAskLaws.{call_asks_still}
 use Rattle.gix_odb_loose.specs.declared.find.Error as loose
-use Rattle.gix_odb_calls.specs.Verdict.{asking, job_of, refused, verdict_on}
+use Rattle.gix_odb_calls.specs.Verdict.{asking, refused, verdict_on}
 use Rattle.gix_odb_calls.specs.declared.call.CallError.TheVariants as call_errors
 use Rattle.gix_odb_calls.specs.declared.call.Reply.{Reply}
 use Rattle.gix_odb_calls.specs.declared.call.Reply.TheVariants as replies
@@ -23,7 +23,8 @@ use Rattle.gix_odb_calls.specs.declared.find.Error.TheVariants as errors
 use Rattle.gix_odb_calls.specs.declared.find.Header.TheVariants as headers
 use Rattle.gix_odb_calls.specs.declared.load_index.Error.TheVariants as load_errors
 use Rattle.gix_odb_calls.specs.declared.query.Query.{Query}
-use Rattle.gix_odb_calls.specs.declared.query.Query.TheVariants.{Find, Header, Test}
+use Rattle.gix_object.specs.declared.want.Want.{Want}
+use Rattle.gix_object.specs.declared.want.Want.TheVariants as wants
 use Rattle.gix_odb_calls.specs.declared.verdict.Verdict.{Verdict}
 use Rattle.gix_odb_calls.specs.declared.verdict.Verdict.TheVariants as verdicts
 use Rattle.gix_odb_events.specs.PackPath.{pack_path}
@@ -80,6 +81,9 @@ module _ (first : Volume) (events : List Event) (handle : ℕ) (store : Store) (
   abbrev told : List Exchange
   told = told_since events handle begun
 
+  abbrev want : Want
+  want = query.want
+
   abbrev id : ObjectId
   id = sought store.parts modes.ignoring query
 
@@ -96,10 +100,10 @@ module _ (first : Volume) (events : List Event) (handle : ℕ) (store : Store) (
   look = look_now events handle store modes begun query
 
   abbrev Says : Claim → Type 0
-  Says claim = Keeps trees Failed Refused told store begun now query id claim
+  Says claim = Keeps trees Failed Refused told store begun now want id claim
 
   abbrev IsHeld : Answer → Type 0
-  IsHeld answer = Held trees store.parts store.opened begun now query id answer
+  IsHeld answer = Held trees store.parts store.opened begun now want id answer
 
   -- ---- what was so of a moment of the query is so of the query
 
@@ -111,69 +115,69 @@ module _ (first : Volume) (events : List Event) (handle : ℕ) (store : Store) (
     shown_later folder (InPack name index pack offset) was =
         (was.0, sometime_later store.opened moment now to _ was.1, sometime_later store.opened moment now to _ was.2)
 
-    held_later : (answer : Answer) → Held trees store.parts store.opened begun moment query id answer → IsHeld answer
+    held_later : (answer : Answer) → Held trees store.parts store.opened begun moment want id answer → IsHeld answer
     held_later answer held =
         record { folder = held.folder; among = held.among; contents = held.contents; shown = shown_later held.folder held.contents held.shown; holds = held.holds }
 
-    cause_later : (error : loose.Error) → LooseCause trees Failed store begun moment query id error → LooseCause trees Failed store begun now query id error
+    cause_later : (error : loose.Error) → LooseCause trees Failed store begun moment want id error → LooseCause trees Failed store begun now want id error
     cause_later error caused = record {
       folder = caused.folder;
       among = caused.among;
       cause =
           Cause-wider (GaveSometime trees begun moment (loose_path caused.folder id)) (GaveSometime trees begun now (loose_path caused.folder id))
           (λ read was. sometime_later begun moment now to _ was) Failed Failed ⊥ ⊥ (λ failed. failed) (λ never. never)
-          (job_of query id) (loose_path caused.folder id) store.parts.limit error caused.cause;
+          (job_of want id) (loose_path caused.folder id) store.parts.limit error caused.cause;
     }
 
   -- ---- what the loose objects of a folder said
 
-  module _ (folder : Path) (among : Contains (folder_list store.parts) folder) (verdict : Verdict) (has : HasVerdict setting query id told folder verdict) where
+  module _ (folder : Path) (among : Contains (folder_list store.parts) folder) (verdict : Verdict) (has : HasVerdict setting want id told folder verdict) where
     given : IsGiven first events handle begun has.ask has.answer
     given = well.given has.ask has.answer has.told
 
     -- a failed call of the folder is one of the query
     fails : next_fails given.disk ≡ true → Failed
-    fails is = given.failed (fails_now-still given.disk has.ask (call_asks_still (asking store.parts.limit query id folder) has.ask has.asked) ∙ is)
+    fails is = given.failed (fails_now-still given.disk has.ask (call_asks_still (asking store.parts.limit want id folder) has.ask has.asked) ∙ is)
 
-    said : VerdictSays trees Failed Refused told store begun given.moment query id folder (next_fails given.disk) verdict
+    said : VerdictSays trees Failed Refused told store begun given.moment want id folder (next_fails given.disk) verdict
     said =
-        let says = folder_says trees Failed Refused told store begun given.moment given.from given.disk given.shown fails id folder among query in
-        let own = ask_found store.parts.limit query id folder in
+        let says = folder_says trees Failed Refused told store begun given.moment given.from given.disk given.shown fails id folder among want in
+        let own = ask_found store.parts.limit want id folder in
         let same_ask : own.0 ≡ has.ask = cc (own.1, has.asked) in
         let same_reply : Some says.0 ≡ Some has.reply =
         sym says.1
-        ∙ (ap (λ a. reply_of (loose_fed (asking store.parts.limit query id folder) (answer_now given.disk a))) same_ask
-        ∙ (ap (λ a. reply_of (loose_fed (asking store.parts.limit query id folder) a)) (sym given.is) ∙ has.replied)) in
+        ∙ (ap (λ a. reply_of (loose_fed (asking store.parts.limit want id folder) (answer_now given.disk a))) same_ask
+        ∙ (ap (λ a. reply_of (loose_fed (asking store.parts.limit want id folder) a)) (sym given.is) ∙ has.replied)) in
         let same : says.0 ≡ has.reply = cc same_reply in
-        subst (VerdictSays trees Failed Refused told store begun given.moment query id folder (next_fails given.disk)) (ap (verdict_on query) same ∙ has.is) says.2
+        subst (VerdictSays trees Failed Refused told store begun given.moment want id folder (next_fails given.disk)) (ap (verdict_on want) same ∙ has.is) says.2
 
   -- what a folder's loose objects said of a reply, and so of a claim
   claim_later : (moment : ℕ) → moment ≤ now → (reply : Reply) → IsAnswer reply
-      → Keeps trees Failed Refused told store begun moment query id (claim_of query reply) → Says (claim_of query reply)
-  claim_later moment to reply answer keeps = by query reply answer keeps
+      → Keeps trees Failed Refused told store begun moment want id (claim_of want reply) → Says (claim_of want reply)
+  claim_later moment to reply answer keeps = by want reply answer keeps
     where
-      by : (call : Query) (reply : Reply) → IsAnswer reply → Keeps trees Failed Refused told store begun moment query id (claim_of call reply) → Says (claim_of call reply)
-      by (Find asked) (replies.Found kind bytes) answer keeps = held_later moment to (Object kind bytes) keeps
-      by (Find asked) (replies.Header header) answer keeps = keeps
-      by (Find asked) (replies.Tested true) answer keeps = keeps
-      by (Header asked) (replies.Header header) answer keeps = held_later moment to (HeaderOf header) keeps
-      by (Header asked) (replies.Found kind bytes) answer keeps = keeps
-      by (Header asked) (replies.Tested true) answer keeps = keeps
-      by (Test asked) (replies.Tested true) answer keeps = held_later moment to Presence keeps
-      by (Test asked) (replies.Found kind bytes) answer keeps = keeps
-      by (Test asked) (replies.Header header) answer keeps = keeps
-      by call (replies.Tested false) answer keeps = absurd answer
-      by call replies.NotFound answer keeps = absurd answer
-      by call (replies.Refused error) answer keeps = absurd answer
-      by call (replies.Wrote id) answer keeps = absurd answer
-      by call (replies.Opened slots) answer keeps = absurd answer
+      by : (wanted : Want) (reply : Reply) → IsAnswer reply → Keeps trees Failed Refused told store begun moment want id (claim_of wanted reply) → Says (claim_of wanted reply)
+      by wants.Object (replies.Found kind bytes) answer keeps = held_later moment to (Object kind bytes) keeps
+      by wants.Object (replies.Header header) answer keeps = keeps
+      by wants.Object (replies.Tested true) answer keeps = keeps
+      by wants.Header (replies.Header header) answer keeps = held_later moment to (HeaderOf header) keeps
+      by wants.Header (replies.Found kind bytes) answer keeps = keeps
+      by wants.Header (replies.Tested true) answer keeps = keeps
+      by wants.Presence (replies.Tested true) answer keeps = held_later moment to Presence keeps
+      by wants.Presence (replies.Found kind bytes) answer keeps = keeps
+      by wants.Presence (replies.Header header) answer keeps = keeps
+      by wanted (replies.Tested false) answer keeps = absurd answer
+      by wanted replies.NotFound answer keeps = absurd answer
+      by wanted (replies.Refused error) answer keeps = absurd answer
+      by wanted (replies.Wrote id) answer keeps = absurd answer
+      by wanted (replies.Opened slots) answer keeps = absurd answer
 
   -- ---- what was found in packs
 
   module _ (path : Path) (offset : ℕ) (row : IsInIndex Shown setting store.hash id path offset) where
     -- a row of an index answers a test
-    row_held : (asked : ObjectId) → query ≡ Test asked → IsHeld Presence
-    row_held asked is = record {
+    row_held : want ≡ wants.Presence → IsHeld Presence
+    row_held is = record {
       folder = row.at.folder;
       among = row.at.among;
       contents = InIndex row.at.name row.bytes offset;
@@ -185,7 +189,7 @@ module _ (first : Volume) (events : List Event) (handle : ℕ) (store : Store) (
 
   -- an index and its pack hold what the pack has at the offset
   module _ (Content : (pack : List ℕ) (offset : ℕ) → Type 0) (in_pack : IsInPack Shown setting store.hash id Content) where
-    pack_held : (answer : Answer) → HoldsEntry store.parts query (kind_of id) in_pack.pack in_pack.offset answer → IsHeld answer
+    pack_held : (answer : Answer) → HoldsEntry store.parts want (kind_of id) in_pack.pack in_pack.offset answer → IsHeld answer
     pack_held answer holds =
         let row = in_pack.index in
         record {
@@ -204,28 +208,28 @@ module _ (first : Volume) (events : List Event) (handle : ℕ) (store : Store) (
           );
         }
 
-  found : (call : Query) (reply : Reply) → query ≡ call → IsFound Shown setting store.hash id call reply → Says (claim_of call reply)
-  found (Find asked) reply is in_pack =
+  found : (wanted : Want) (reply : Reply) → want ≡ wanted → IsFound Shown setting store.hash id wanted reply → Says (claim_of wanted reply)
+  found wants.Object reply is in_pack =
       let own = in_pack.content in
-      subst (λ r. Says (claim_of (Find asked) r)) (sym own.is)
+      subst (λ r. Says (claim_of wants.Object r)) (sym own.is)
       (pack_held (λ pack offset. IsEntryReply store.hash setting.limit pack offset reply) in_pack (Object own.entry.kind own.entry.bytes)
       (subst (λ q. HoldsEntry store.parts q (kind_of id) in_pack.pack in_pack.offset (Object own.entry.kind own.entry.bytes)) (sym is)
       (own.entry, ap (λ hash. entry_at hash in_pack.pack in_pack.offset store.parts.limit) fits.hashed ∙ own.there, refl)))
-  found (Header asked) reply is in_pack =
+  found wants.Header reply is in_pack =
       let own = in_pack.content in
-      subst (λ r. Says (claim_of (Header asked) r)) (sym own.is)
+      subst (λ r. Says (claim_of wants.Header r)) (sym own.is)
       (pack_held (λ pack offset. IsHeaderReply store.hash pack offset reply) in_pack (HeaderOf (headers.Packed own.header.kind own.header.size))
       (subst (λ q. HoldsEntry store.parts q (kind_of id) in_pack.pack in_pack.offset (HeaderOf (headers.Packed own.header.kind own.header.size))) (sym is)
       (own.header, ap (λ hash. header_at hash in_pack.pack in_pack.offset) fits.hashed ∙ own.there, refl)))
-  found (Test asked) reply is row =
-      subst (λ r. Says (claim_of (Test asked) r)) (sym row.3) (row_held row.0 row.1 row.2 asked is)
+  found wants.Presence reply is row =
+      subst (λ r. Says (claim_of wants.Presence r)) (sym row.3) (row_held row.0 row.1 row.2 is)
 
   -- ---- the promise
 
-  answered : (reply : Reply) → result_of look ≡ Ok reply → IsAnswer reply → Says (claim_of query reply)
+  answered : (reply : Reply) → result_of look ≡ Ok reply → IsAnswer reply → Says (claim_of want reply)
   answered reply is answer =
-      elim (what_is_found_was_shown Shown setting store.hash query id fits.hashed view well.snapshot told asked well.truth reply is answer) [
-        | inl in_packs ↦ found query reply refl in_packs
+      elim (what_is_found_was_shown Shown setting store.hash want id fits.hashed view well.snapshot told asked well.truth reply is answer) [
+        | inl in_packs ↦ found want reply refl in_packs
         | inr loose ↦
             let at = given loose.0 loose.1 (verdicts.Ends reply) loose.2 in
             claim_later at.moment at.to reply answer (said loose.0 loose.1 (verdicts.Ends reply) loose.2)
@@ -233,13 +237,13 @@ module _ (first : Volume) (events : List Event) (handle : ℕ) (store : Store) (
 
   -- ---- nothing was found
 
-  module _ (is : result_of look ≡ Ok (not_found query)) where
+  module _ (is : result_of look ≡ Ok (not_found want)) where
     none_failed : ¬ Failed
-    none_failed failed = not_found_had_no_failure setting query id Shown store.hash view told asked well.truth is (well.failures failed)
+    none_failed failed = not_found_had_no_failure setting want id Shown store.hash view told asked well.truth is (well.failures failed)
 
     module _ (folder : Path) (among : Contains (folder_list store.parts) folder) where
-      abbrev has : HasVerdict setting query id told folder verdicts.Misses
-      has = not_found_missed_in_each_folder setting query id view told asked is folder among
+      abbrev has : HasVerdict setting want id told folder verdicts.Misses
+      has = not_found_missed_in_each_folder setting want id view told asked is folder among
 
       -- the moment at which its loose objects were asked
       abbrev at : IsGiven first events handle begun has.ask has.answer
@@ -249,37 +253,31 @@ module _ (first : Volume) (events : List Event) (handle : ℕ) (store : Store) (
       passed = (said folder among verdicts.Misses has).1
 
       -- no index gave it an offset throughout, with a pack beside it
-      not_in_pack : (name : Name) (offset : ℕ) → ¬ (Throughout begun now (λ moment. LiesAt store.parts query (trees moment) folder id (InPackFile name offset)))
+      not_in_pack : (name : Name) (offset : ℕ) → ¬ (Throughout begun now (λ moment. LiesAt store.parts want (trees moment) folder id (InPackFile name offset)))
       not_in_pack name offset always =
           let named = (always at.moment at.from at.to).named in
           let place : PackedPlace = record { folder = folder; name = name; named = named; offset = offset } in
           let still : IsPackedStill trees store begun now id place = record {
-            always = λ moment from to. lies_indexed store.parts query (trees moment) store.hash id fits.hashed place (always moment from to);
+            always = λ moment from to. lies_indexed store.parts want (trees moment) store.hash id fits.hashed place (always moment from to);
             one = rule folder among name named;
           } in
-          nothing_still_in_packs_is_missed setting store.hash view query id told fits.hashed place among asked (well.fair id place none_failed still) is
+          nothing_still_in_packs_is_missed setting store.hash view want id told fits.hashed place among asked (well.fair id place none_failed still) is
 
-      none_still : (place : Place) → ¬ (Throughout begun now (λ moment. LiesAt store.parts query (trees moment) folder id place))
+      none_still : (place : Place) → ¬ (Throughout begun now (λ moment. LiesAt store.parts want (trees moment) folder id place))
       none_still InLooseFile always =
           let here = always at.moment at.from at.to in passed (record { bytes = here.0; time = here.1.0; given = here.1.1; holds = tt })
       none_still (InPackFile name offset) always = not_in_pack name offset always
 
-    missed : (¬ Failed) × (¬ (Still trees store.parts begun now query id))
+    missed : (¬ Failed) × (¬ (Still trees store.parts begun now want id))
     missed = (none_failed, λ still. none_still still.folder still.among still.place still.always)
 
-  refusal : (error : finding.Error) → result_of look ≡ Ok (replies.Refused (call_errors.Find error)) → FindCause trees Failed Refused told store begun now query id error
-  refusal error is = by error (each_refusal_has_its_cause Shown setting store.hash query id fits.hashed view well.snapshot told asked well.truth modes.slots 0 well.numbered error is)
+  refusal : (error : finding.Error) → result_of look ≡ Ok (replies.Refused (call_errors.Find error)) → FindCause trees Failed Refused told store begun now want id error
+  refusal error is = by error (each_refusal_has_its_cause Shown setting store.hash want id fits.hashed view well.snapshot told asked well.truth modes.slots 0 well.numbered error is)
     where
-      refused_says : (moment : ℕ) (call : Query) (error : loose.Error) → Keeps trees Failed Refused told store begun moment query id (claim_of call (refused error))
-          → LooseCause trees Failed store begun moment query id error
-      refused_says moment (Find asked) error caused = caused
-      refused_says moment (Header asked) error caused = caused
-      refused_says moment (Test asked) error caused = caused
-
-      by : (error : finding.Error) → IsCaused Shown setting store.hash id query told error → FindCause trees Failed Refused told store begun now query id error
+      by : (error : finding.Error) → IsCaused Shown setting store.hash id want told error → FindCause trees Failed Refused told store begun now want id error
       by (errors.Loose error) caused =
           let at = given caused.0 caused.1 (verdicts.Ends (refused error)) caused.2 in
-          cause_later at.moment at.to error (refused_says at.moment query error (said caused.0 caused.1 (verdicts.Ends (refused error)) caused.2))
+          cause_later at.moment at.to error (said caused.0 caused.1 (verdicts.Ends (refused error)) caused.2)
       by (errors.LoadIndex load_errors.Io) caused = caused
       by (errors.LoadIndex (load_errors.InsufficientSlots current needed)) caused =
           since_told events handle modes.core begun refusing (refusals.InsufficientSlots current needed) caused
@@ -294,22 +292,22 @@ module _ (first : Volume) (events : List Event) (handle : ℕ) (store : Store) (
       by errors.NoMemory caused = caused
 
   pub query_promise : (reply : Reply) → result_of look ≡ Ok reply → QueryPromise trees Failed Refused told store modes begun now query reply
-  query_promise reply is = by query reply refl (replies_are_of_the_query setting view query id told reply is) is
+  query_promise reply is = by want reply refl (replies_are_of_the_query setting view want id told reply is) is
     where
-      missing : (reply : Reply) → result_of look ≡ Ok reply → reply ≡ not_found query → (¬ Failed) × (¬ (Still trees store.parts begun now query id))
+      missing : (reply : Reply) → result_of look ≡ Ok reply → reply ≡ not_found want → (¬ Failed) × (¬ (Still trees store.parts begun now want id))
       missing reply is same = missed (is ∙ ap Ok same)
 
-      by : (call : Query) (reply : Reply) → query ≡ call → IsReplyTo call reply → result_of look ≡ Ok reply → Says (claim_of call reply)
-      by (Find asked) (replies.Found kind bytes) same of is = subst (λ q. Says (claim_of q (replies.Found kind bytes))) same (answered (replies.Found kind bytes) is tt)
-      by (Find asked) replies.NotFound same of is =
+      by : (wanted : Want) (reply : Reply) → want ≡ wanted → IsReplyTo wanted reply → result_of look ≡ Ok reply → Says (claim_of wanted reply)
+      by wants.Object (replies.Found kind bytes) same of is = subst (λ q. Says (claim_of q (replies.Found kind bytes))) same (answered (replies.Found kind bytes) is tt)
+      by wants.Object replies.NotFound same of is =
           let none = missing replies.NotFound is (sym (ap not_found same)) in record { no_failure = none.0; none_still = none.1 }
-      by (Find asked) (replies.Refused (call_errors.Find error)) same of is = refusal error is
-      by (Header asked) (replies.Header header) same of is = subst (λ q. Says (claim_of q (replies.Header header))) same (answered (replies.Header header) is tt)
-      by (Header asked) replies.NotFound same of is =
+      by wants.Object (replies.Refused (call_errors.Find error)) same of is = refusal error is
+      by wants.Header (replies.Header header) same of is = subst (λ q. Says (claim_of q (replies.Header header))) same (answered (replies.Header header) is tt)
+      by wants.Header replies.NotFound same of is =
           let none = missing replies.NotFound is (sym (ap not_found same)) in record { no_failure = none.0; none_still = none.1 }
-      by (Header asked) (replies.Refused (call_errors.Find error)) same of is = refusal error is
-      by (Test asked) (replies.Tested true) same of is = subst (λ q. Says (claim_of q (replies.Tested true))) same (answered (replies.Tested true) is tt)
-      by (Test asked) (replies.Tested false) same of is =
+      by wants.Header (replies.Refused (call_errors.Find error)) same of is = refusal error is
+      by wants.Presence (replies.Tested true) same of is = subst (λ q. Says (claim_of q (replies.Tested true))) same (answered (replies.Tested true) is tt)
+      by wants.Presence (replies.Tested false) same of is =
           let none = missing (replies.Tested false) is (sym (ap not_found same)) in record { no_failure = none.0; none_still = none.1 }
-      by (Test asked) (replies.Refused (call_errors.Find error)) same of is = refusal error is
-      by call reply same of is = absurd of
+      by wants.Presence (replies.Refused (call_errors.Find error)) same of is = refusal error is
+      by wanted reply same of is = absurd of

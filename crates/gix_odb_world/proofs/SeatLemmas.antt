@@ -17,8 +17,8 @@ use Rattle.odb_asks.specs.declared.ask.DiskAsk.TheVariants as asks
 use Rattle.gix_odb.specs.Contents.{folder_list}
 use Rattle.gix_odb.specs.OpenOrder as openings
 use Rattle.gix_odb_packs.specs.ListOrder as lists
+use Rattle.gix_odb_calls.proofs.QueryLaws.{by_call-all}
 use Rattle.gix_odb_calls.specs.declared.call.Call.{Call}
-use Rattle.gix_odb_calls.specs.declared.call.Call.TheVariants as calls
 use Rattle.gix_odb_calls.specs.declared.call.CallError.TheVariants as call_errors
 use Rattle.gix_odb_calls.specs.declared.call.Reply.{Reply}
 use Rattle.gix_odb_calls.specs.declared.call.Reply.TheVariants as replies
@@ -46,12 +46,16 @@ use Rattle.gix_odb_events.specs.declared.answer.Answer.TheVariants as work_answe
 use Rattle.gix_odb_events.specs.declared.answer.Ask.TheVariants as work_asks
 use Rattle.gix_odb_world.specs.Headline.{IsLawful, IsTurn, Law, Suits, Turns, Works, stand_of}
 use Rattle.gix_odb_world.specs.Machines.{ask_in, fed_in}
-use Rattle.gix_odb_runs.specs.Run.{disk_after, told_now}
-use Rattle.gix_odb_world.specs.Promise.{Promise}
+use Rattle.gix_odb_runs.specs.Run.{FailedSince, disk_after, told_now, tree_at}
+use Rattle.gix_odb_runs.specs.Writing.{to_write}
+use Rattle.gix_odb_world.specs.Promise.{Promise, QueryPromise}
+use Rattle.gix_odb_world.specs.Refused.{RefusedSince}
 use Rattle.gix_odb_world.specs.Seats.{HasSeat, HasSeatAt, HasSeatThroughout, IsNowhere, IsOpenAt, IsOpenAtTask, IsSeated, RegistersOwn, RegistersOwnThroughout}
 use Rattle.gix_odb_world.specs.Status.{Free, MakeCall, Modes, OpenStore, Resting, Running, Status, Store, Task, Working, come_to, modes_after, refuses_opening}
 use Rattle.gix_odb_world.specs.Status.{replied, status_after, status_of, turned}
+use Rattle.gix_odb_world.specs.Told.{told_since}
 use Rattle.gix_odb_world.specs.Valid.{misuse_of, phase_of, why_not_after, why_not_running}
+use Rattle.gix_odb_world.specs.Written.{PromiseOfWrite}
 use Rattle.gix_odb_world.proofs.AlongRun.{along_run}
 use Rattle.gix_odb_world.proofs.OpenFacts.{lawful_front}
 use Rattle.gix_odb_world.proofs.RunSteps.{at_work}
@@ -74,10 +78,11 @@ opened_refuses_none {slots} reply is refuses =
 -- no call is refused as an opening is
 no_call_refuses : (first : Volume) (events : List Event) (handle : ℕ) (store : Store) (modes : Modes) (begun : ℕ) (call : Call) (reply : Reply)
     → refuses_opening reply ≡ true → ¬ (Promise first events handle store modes begun (MakeCall call) reply)
-no_call_refuses first events handle store modes begun (calls.Find id) (replies.Refused (call_errors.Open error)) is promise = promise
-no_call_refuses first events handle store modes begun (calls.Header id) (replies.Refused (call_errors.Open error)) is promise = promise
-no_call_refuses first events handle store modes begun (calls.Test id) (replies.Refused (call_errors.Open error)) is promise = promise
-no_call_refuses first events handle store modes begun (calls.Write kind size bytes known) (replies.Refused (call_errors.Open error)) is promise = promise
+no_call_refuses first events handle store modes begun call (replies.Refused (call_errors.Open error)) is promise =
+    by_call-all (λ (T : Type 0). ¬ T)
+    (λ query. QueryPromise (tree_at first events) (FailedSince events handle begun) (RefusedSince events handle modes.core begun) (told_since events handle begun) store modes begun (length events) query (replies.Refused (call_errors.Open error)))
+    (λ kind size bytes known. PromiseOfWrite first events handle store modes begun (to_write store.parts.objects store.hash kind size bytes known) (replies.Refused (call_errors.Open error)))
+    (λ query never. never) (λ kind size bytes known never. never) call promise
 no_call_refuses first events handle store modes begun call reply is promise = cc is
 
 -- ---- one event

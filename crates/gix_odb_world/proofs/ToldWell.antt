@@ -296,12 +296,12 @@ module _ (first : Volume) (events : List Event) (e : Event) where
 
       handed : IsHanded (ShownSince first events store) setting store.hash event
       handed =
-          what_is_handed_was_shown (ShownSince first events store) setting store.hash knows.query (sought store.parts running.modes.ignoring knows.query) knows.fits.hashed
+          what_is_handed_was_shown (ShownSince first events store) setting store.hash knows.query.want (sought store.parts running.modes.ignoring knows.query) knows.fits.hashed
           (view_then events handle core begun) well.snapshot before knows.asked well.truth (parts.Core event) asked_now
 
       can : CanHappen (present history) handle event
       can =
-          what_is_handed_can_happen setting knows.fits.distinct (view_then events handle core begun) knows.query (sought store.parts running.modes.ignoring knows.query)
+          what_is_handed_can_happen setting knows.fits.distinct (view_then events handle core begun) knows.query.want (sought store.parts running.modes.ignoring knows.query)
           before knows.asked event asked_now (present history) handle
 
       answer_is : answer ≡ answer_behind history handle event
@@ -376,7 +376,7 @@ module _ (first : Volume) (events : List Event) (e : Event) where
       -- a stream that it reads on is its own
       own_stream : (dir : ℕ) → ask ≡ asks.NextEntry dir → IsOwnStream before dir
       own_stream dir is =
-          streams_of_look_ups_are_their_own setting (view_then events handle core begun) knows.query (sought store.parts running.modes.ignoring knows.query) before
+          streams_of_look_ups_are_their_own setting (view_then events handle core begun) knows.query.want (sought store.parts running.modes.ignoring knows.query) before
           knows.asked dir (inl (disk_asked ∙ ap (λ a. Some (parts.Disk a)) is))
 
       -- the tree that answers is that of the moment before

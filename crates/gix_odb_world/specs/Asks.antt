@@ -8,9 +8,8 @@ use Rattle.gix_odb_loose.specs.LooseFile.{loose_path}
 use Rattle.gix_odb_loose.specs.WriteJobs.{piece_at, pieces_of}
 use Rattle.gix_odb_loose.specs.WriteOrder.{prefix_path, temp_names, temp_path}
 use Rattle.gix_odb_loose.specs.WritePieces.{piece_size}
-use Rattle.gix_odb_calls.specs.declared.call.Call.TheVariants as calls
+use Rattle.gix_odb_calls.specs.Query.{by_call}
 use Rattle.gix_odb_calls.specs.declared.query.Query.{Query}
-use Rattle.gix_odb_calls.specs.declared.query.Query.TheVariants.{Find, Header, Test}
 use Rattle.gix_odb_looks.specs.LookUpOrder.{ask_of}
 use Rattle.gix_odb_events.specs.declared.answer.Ask.{Ask}
 use Rattle.gix_odb_events.specs.declared.answer.Ask.TheVariants as parts
@@ -77,11 +76,11 @@ AsksAsWrite first past handle store modes begun turns w ask =
 -- objects directory and then lists the folders of packs, where it is to count the indices; a query makes the one that its look-up asks for.
 abbrev pub AsksInOrder : Volume → List Event → (handle : ℕ) → Store → (modes : Modes) → (begun turns : ℕ) → Task → DiskAsk → Type 0
 AsksInOrder first past handle store modes begun turns OpenStore ask = AsksAsOpening past handle store begun (parts.Disk ask)
-AsksInOrder first past handle store modes begun turns (MakeCall (calls.Find id)) ask = AsksAsLook past handle store modes begun (Find id) (Some (parts.Disk ask))
-AsksInOrder first past handle store modes begun turns (MakeCall (calls.Header id)) ask = AsksAsLook past handle store modes begun (Header id) (Some (parts.Disk ask))
-AsksInOrder first past handle store modes begun turns (MakeCall (calls.Test id)) ask = AsksAsLook past handle store modes begun (Test id) (Some (parts.Disk ask))
-AsksInOrder first past handle store modes begun turns (MakeCall (calls.Write kind size bytes known)) ask =
-    AsksAsWrite first past handle store modes begun turns (to_write store.parts.objects store.hash kind size bytes known) ask
+AsksInOrder first past handle store modes begun turns (MakeCall call) ask =
+    by_call
+    (λ query. AsksAsLook past handle store modes begun query (Some (parts.Disk ask)))
+    (λ kind size bytes known. AsksAsWrite first past handle store modes begun turns (to_write store.parts.objects store.hash kind size bytes known) ask)
+    call
 
 -- How many slots and folders a task may ask for in a core for its store: an opening asks for the slots that its order of work comes to, behind all
 -- that its handle was told since it began, and for the folders of the store.
@@ -93,19 +92,18 @@ MayAskNewCore past handle store begun (MakeCall call) slots folders = ⊥
 -- Whether a task may end in a turn that asks for nothing: a query does whose look-up is done, since the snapshot had all that it took.
 abbrev pub MayEndUnasked : List Event → (handle : ℕ) → Store → (modes : Modes) → (begun : ℕ) → Task → Type 0
 MayEndUnasked past handle store modes begun OpenStore = ⊥
-MayEndUnasked past handle store modes begun (MakeCall (calls.Find id)) = AsksAsLook past handle store modes begun (Find id) None
-MayEndUnasked past handle store modes begun (MakeCall (calls.Header id)) = AsksAsLook past handle store modes begun (Header id) None
-MayEndUnasked past handle store modes begun (MakeCall (calls.Test id)) = AsksAsLook past handle store modes begun (Test id) None
-MayEndUnasked past handle store modes begun (MakeCall (calls.Write kind size bytes known)) = ⊥
+MayEndUnasked past handle store modes begun (MakeCall call) =
+    by_call (λ query. AsksAsLook past handle store modes begun query None) (λ kind size bytes known. ⊥) call
 
 -- Which event of the core of its store a task may ask for: a query asks for the one that its look-up asks for, a write for the one that what stands
 -- in front of it asks for.
 abbrev pub MayAskCore : List Event → (handle : ℕ) → Store → (modes : Modes) → (begun : ℕ) → Task → CoreEvent → Type 0
 MayAskCore past handle store modes begun OpenStore event = ⊥
-MayAskCore past handle store modes begun (MakeCall (calls.Find id)) event = AsksAsLook past handle store modes begun (Find id) (Some (parts.Core event))
-MayAskCore past handle store modes begun (MakeCall (calls.Header id)) event = AsksAsLook past handle store modes begun (Header id) (Some (parts.Core event))
-MayAskCore past handle store modes begun (MakeCall (calls.Test id)) event = AsksAsLook past handle store modes begun (Test id) (Some (parts.Core event))
-MayAskCore past handle store modes begun (MakeCall (calls.Write kind size bytes known)) event = AsksAsRefresh past handle store modes begun (parts.Core event)
+MayAskCore past handle store modes begun (MakeCall call) event =
+    by_call
+    (λ query. AsksAsLook past handle store modes begun query (Some (parts.Core event)))
+    (λ kind size bytes known. AsksAsRefresh past handle store modes begun (parts.Core event))
+    call
 
 -- What a turn asks for, if it asks for anything.
 abbrev pub AsksAsTask : Volume → List Event → (handle : ℕ) → Store → (modes : Modes) → (begun turns : ℕ) → Task → Option Ask → Type 0

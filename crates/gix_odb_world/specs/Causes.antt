@@ -8,8 +8,9 @@ use Rattle.odb_nodes.specs.declared.meta.Kind.TheVariants as kinds
 use Rattle.gix_hash.specs.declared.object_id.ObjectId.{ObjectId}
 use Rattle.gix_odb_loose.specs.Causes.{Cause}
 use Rattle.gix_odb_loose.specs.LooseFile.{Reading, loose_path}
+use Rattle.gix_odb_loose.specs.LooseOrder.{job_of}
 use Rattle.gix_odb_loose.specs.declared.find.Error as loose
-use Rattle.gix_odb_calls.specs.declared.query.Query.{Query}
+use Rattle.gix_object.specs.declared.want.Want.{Want}
 use Rattle.gix_odb_calls.specs.declared.init.Error as opening
 use Rattle.gix_odb_calls.specs.declared.init.Error.TheVariants as opening_errors
 use Rattle.gix_odb_calls.specs.declared.find.Error as finding
@@ -23,7 +24,6 @@ use Rattle.gix_odb.specs.OpenExchanges.{IsNumber}
 use Rattle.gix_odb_looks.specs.Exchange.{Exchange}
 use Rattle.gix_odb_events.specs.declared.event.Refusal.{Refusal as CoreRefusal}
 use Rattle.gix_odb_world.specs.Refused.{LoadCause}
-use Rattle.gix_odb_calls.specs.Verdict.{job_of}
 use Rattle.gix_odb_world.specs.AtWork.{Store, setting_in}
 use Rattle.gix_odb_events.specs.PackId.{most_slots}
 
@@ -51,16 +51,16 @@ abbrev pub GaveSometime : (ℕ → Tree) → ℕ → ℕ → Path → Reading �
 GaveSometime trees begun now path read = Sometime begun now (λ moment. read ≡ read_of (trees moment) path)
 
 -- An error of the loose objects has its cause at the loose path of the sought id in some folder of the store.
-pub record LooseCause (trees : ℕ → Tree) (Failed : Type 0) (store : Store) (begun now : ℕ) (call : Query) (id : ObjectId) (error : loose.Error) : Type 0 where
+pub record LooseCause (trees : ℕ → Tree) (Failed : Type 0) (store : Store) (begun now : ℕ) (want : Want) (id : ObjectId) (error : loose.Error) : Type 0 where
   pub folder : Path
   pub among : Contains (folder_list store.parts) folder
-  pub cause : Cause (job_of call id) (loose_path folder id) store.parts.limit (GaveSometime trees begun now (loose_path folder id)) Failed ⊥ error
+  pub cause : Cause (job_of want id) (loose_path folder id) store.parts.limit (GaveSometime trees begun now (loose_path folder id)) Failed ⊥ error
 
 -- What each error of a query says, where `Failed` says that a call of the disk failed in it, `Refused` which refusals of its core it was told
 -- of, and where the handle was told so since it began: an error of the loose objects of a folder was given by what these read; one of the core
 -- by a refusal; any other one by what was shown since the store was opened, or by what was asked and answered.
-abbrev pub FindCause : (ℕ → Tree) → Type 0 → (Refused : CoreRefusal → Type 0) → (told : List Exchange) → Store → ℕ → ℕ → Query → ObjectId → finding.Error → Type 0
-FindCause trees Failed Refused told store begun now call id (find_errors.Loose error) = LooseCause trees Failed store begun now call id error
-FindCause trees Failed Refused told store begun now call id (find_errors.LoadIndex error) =
-    LoadCause Refused (IsCaused (WasShownAt trees store.opened now) (setting_in store) store.hash id call told (find_errors.LoadIndex error)) error
-FindCause trees Failed Refused told store begun now call id error = IsCaused (WasShownAt trees store.opened now) (setting_in store) store.hash id call told error
+abbrev pub FindCause : (ℕ → Tree) → Type 0 → (Refused : CoreRefusal → Type 0) → (told : List Exchange) → Store → ℕ → ℕ → Want → ObjectId → finding.Error → Type 0
+FindCause trees Failed Refused told store begun now want id (find_errors.Loose error) = LooseCause trees Failed store begun now want id error
+FindCause trees Failed Refused told store begun now want id (find_errors.LoadIndex error) =
+    LoadCause Refused (IsCaused (WasShownAt trees store.opened now) (setting_in store) store.hash id want told (find_errors.LoadIndex error)) error
+FindCause trees Failed Refused told store begun now want id error = IsCaused (WasShownAt trees store.opened now) (setting_in store) store.hash id want told error

@@ -4,12 +4,13 @@ use Rattle.odb_nodes.specs.Tree.{Tree}
 use Rattle.odb_asks.specs.MemDisk.{Volume}
 use Rattle.gix_hash.specs.declared.object_id.ObjectId.{ObjectId}
 use Rattle.gix_odb_calls.specs.declared.query.Query.{Query}
-use Rattle.gix_odb_calls.specs.declared.query.Query.TheVariants.{Find, Header, Test}
+use Rattle.gix_object.specs.declared.want.Want.{Want}
+use Rattle.gix_object.specs.declared.want.Want.TheVariants as wants
 use Rattle.gix_odb_calls.specs.declared.call.Reply.{Reply}
 use Rattle.gix_odb_calls.specs.declared.call.Reply.TheVariants as replies
 use Rattle.gix_odb_calls.specs.declared.call.CallError.TheVariants as call_errors
 use Rattle.gix_odb_calls.specs.declared.find.Error as finding
-use Rattle.gix_odb_calls.specs.declared.call.Call.TheVariants as calls
+use Rattle.gix_odb_calls.specs.Query.{by_call}
 use Rattle.gix_odb.specs.Contents.{Answer, Object, HeaderOf, Presence, folder_list, sought}
 use Rattle.gix_odb.specs.Held.{Held, Still}
 use Rattle.gix_odb_looks.specs.Exchange.{Exchange}
@@ -45,9 +46,9 @@ pub record Opens (events : List Event) (trees : ℕ → Tree) (told : List Excha
 
 -- A reply that the object isn't there: no call of the disk failed in the call, and no sound object of the id lay
 -- still throughout.
-pub record Misses (trees : ℕ → Tree) (Failed : Type 0) (store : Store) (begun now : ℕ) (call : Query) (id : ObjectId) : Type 0 where
+pub record Misses (trees : ℕ → Tree) (Failed : Type 0) (store : Store) (begun now : ℕ) (want : Want) (id : ObjectId) : Type 0 where
   pub no_failure : ¬ Failed
-  pub none_still : ¬ Still trees store.parts begun now call id
+  pub none_still : ¬ Still trees store.parts begun now want id
 
 -- what a reply claims of its call: an answer that was held, that the object isn't there, an error with its cause; or
 -- the call never ends with it
@@ -57,23 +58,24 @@ pub data Claim : Type 0 where
   Caused : (error : finding.Error) → Claim
   Never : Claim
 
-abbrev pub claim_of : Query → Reply → Claim
-claim_of (Find id) (replies.Found kind bytes) = Holding (Object kind bytes)
-claim_of (Find id) replies.NotFound = Missing
-claim_of (Header id) (replies.Header header) = Holding (HeaderOf header)
-claim_of (Header id) replies.NotFound = Missing
-claim_of (Test id) (replies.Tested true) = Holding Presence
-claim_of (Test id) (replies.Tested false) = Missing
-claim_of call (replies.Refused (call_errors.Find error)) = Caused error
-claim_of call reply = Never
+-- what a reply claims, by what is wanted
+abbrev pub claim_of : Want → Reply → Claim
+claim_of want (replies.Refused (call_errors.Find error)) = Caused error
+claim_of wants.Object (replies.Found kind bytes) = Holding (Object kind bytes)
+claim_of wants.Object replies.NotFound = Missing
+claim_of wants.Header (replies.Header header) = Holding (HeaderOf header)
+claim_of wants.Header replies.NotFound = Missing
+claim_of wants.Presence (replies.Tested true) = Holding Presence
+claim_of wants.Presence (replies.Tested false) = Missing
+claim_of want reply = Never
 
 -- What a claim says, of the sought id, of a query whose handle was told so since it began. The store was opened at the moment after its open
 -- step.
-abbrev pub Keeps : (ℕ → Tree) → Type 0 → (Refused : Refusal → Type 0) → (told : List Exchange) → Store → ℕ → ℕ → Query → ObjectId → Claim → Type 0
-Keeps trees Failed Refused told store begun now call id (Holding answer) = Held trees store.parts store.opened begun now call id answer
-Keeps trees Failed Refused told store begun now call id Missing = Misses trees Failed store begun now call id
-Keeps trees Failed Refused told store begun now call id (Caused error) = FindCause trees Failed Refused told store begun now call id error
-Keeps trees Failed Refused told store begun now call id Never = ⊥
+abbrev pub Keeps : (ℕ → Tree) → Type 0 → (Refused : Refusal → Type 0) → (told : List Exchange) → Store → ℕ → ℕ → Want → ObjectId → Claim → Type 0
+Keeps trees Failed Refused told store begun now want id (Holding answer) = Held trees store.parts store.opened begun now want id answer
+Keeps trees Failed Refused told store begun now want id Missing = Misses trees Failed store begun now want id
+Keeps trees Failed Refused told store begun now want id (Caused error) = FindCause trees Failed Refused told store begun now want id error
+Keeps trees Failed Refused told store begun now want id Never = ⊥
 
 -- What a reply to an opening promises whose handle was told so since it began. A reply that an opening never ends with promises what nothing can
 -- keep.
@@ -84,17 +86,14 @@ OpeningPromise events trees Failed told store begun now reply = ⊥
 
 -- What the reply to a query promises, of the id that it seeks.
 abbrev pub QueryPromise : (ℕ → Tree) → Type 0 → (Refused : Refusal → Type 0) → (told : List Exchange) → Store → (modes : Modes) → ℕ → ℕ → Query → Reply → Type 0
-QueryPromise trees Failed Refused told store modes begun now query reply = Keeps trees Failed Refused told store begun now query (sought store.parts modes.ignoring query) (claim_of query reply)
+QueryPromise trees Failed Refused told store modes begun now query reply = Keeps trees Failed Refused told store begun now query.want (sought store.parts modes.ignoring query) (claim_of query.want reply)
 
 -- What a reply that the last event gives promises, by the task that the handle was begun with.
 abbrev pub Promise : Volume → List Event → (handle : ℕ) → Store → (modes : Modes) → ℕ → Task → Reply → Type 0
 Promise first events handle store modes begun OpenStore reply =
     OpeningPromise events (tree_at first events) (FailedSince events handle begun) (told_since events handle begun) store begun (length events) reply
-Promise first events handle store modes begun (MakeCall (calls.Find id)) reply =
-    QueryPromise (tree_at first events) (FailedSince events handle begun) (RefusedSince events handle modes.core begun) (told_since events handle begun) store modes begun (length events) (Find id) reply
-Promise first events handle store modes begun (MakeCall (calls.Header id)) reply =
-    QueryPromise (tree_at first events) (FailedSince events handle begun) (RefusedSince events handle modes.core begun) (told_since events handle begun) store modes begun (length events) (Header id) reply
-Promise first events handle store modes begun (MakeCall (calls.Test id)) reply =
-    QueryPromise (tree_at first events) (FailedSince events handle begun) (RefusedSince events handle modes.core begun) (told_since events handle begun) store modes begun (length events) (Test id) reply
-Promise first events handle store modes begun (MakeCall (calls.Write kind size bytes known)) reply =
-    PromiseOfWrite first events handle store modes begun (to_write store.parts.objects store.hash kind size bytes known) reply
+Promise first events handle store modes begun (MakeCall call) reply =
+    by_call
+    (λ query. QueryPromise (tree_at first events) (FailedSince events handle begun) (RefusedSince events handle modes.core begun) (told_since events handle begun) store modes begun (length events) query reply)
+    (λ kind size bytes known. PromiseOfWrite first events handle store modes begun (to_write store.parts.objects store.hash kind size bytes known) reply)
+    call

@@ -27,7 +27,6 @@ use Rattle.gix_odb_calls.specs.declared.call.CallError.{CallError}
 use Rattle.gix_odb_calls.specs.declared.call.Reply.{Reply}
 use Rattle.gix_odb_calls.specs.declared.call.Reply.TheVariants as replies
 use Rattle.gix_odb_calls.specs.declared.query.Query.{Query}
-use Rattle.gix_odb_calls.specs.declared.query.Query.TheVariants.{Find}
 use Rattle.gix_odb_calls.specs.declared.step.Outcome.TheVariants as outcomes
 use Rattle.gix_odb_looks.specs.LookUpOrder.{not_found}
 use Rattle.gix_odb_looks.specs.Shown.{IsIndexPath}
@@ -43,7 +42,7 @@ use Rattle.gix_odb_world.specs.RunLaws.Turn.{AsksCore, IsQueryTurn, IsTurnAt, Is
 use Rattle.gix_odb_world.specs.RunLaws.Ends.{EndsUnasked}
 use Rattle.gix_odb_world.specs.RunLaws.Stored.{IsBacked}
 use Rattle.gix_odb_world.specs.RunLaws.Listed.{AreRowsShown, StoodStill}
-use Rattle.gix_odb_world.specs.RunLaws.Hashed.{ObjectsHash}
+use Rattle.gix_odb_world.specs.RunLaws.Hashed.{ObjectsHash, find_of}
 use Rattle.gix_odb_world.specs.RunLaws.Moved.{HadPublished, HasMoved}
 use Rattle.gix_odb_world.specs.RunLaws.Missed.{EndAtLastList}
 use Rattle.gix_odb_world.specs.RunLaws.Pending.{AreInTime, ArePending}
@@ -56,7 +55,7 @@ pub record KeepsRunLaws (first : Volume) (events : List Event) : Type 0 where
   -- Let a handle's snapshot, as its query began, have been read, and have an index with the sought id and the pack that each such index names for it; for
   -- a test an index with the id is enough. Then the query ends in its first turn, which asks for nothing, and not by an answer that nothing is there.
   pub at_hand : (place : ℕ) (e : Event) (handle : ℕ) (running : Running) (query : Query) → IsQueryTurn events place e handle running query → running.turns ≡ 0
-      → IsAtHand query (sought running.store.parts running.modes.ignoring query) (view_then events handle running.modes.core running.begun)
+      → IsAtHand query.want (sought running.store.parts running.modes.ignoring query) (view_then events handle running.modes.core running.begun)
       → EndsUnasked query e
   -- where a query read an index in a folder of its store, and the bytes parse, its next turn stores these bytes
   pub stores_index : (place : ℕ) (e : Event) (handle : ℕ) (running : Running) (query : Query) → IsQueryTurn events place e handle running query
@@ -82,20 +81,20 @@ pub record KeepsRunLaws (first : Volume) (events : List Event) : Type 0 where
       → listing.rows ≡ longest_first (listed_in (tree_at first events running.begun) (folder_list running.store.parts))
   -- where each object in the files of a store, as the run shows them since the store was opened, has data that hash to its id, what a find finds has
   -- data that hash to the id that it seeks
-  pub hashes : (place : ℕ) (e : Event) (handle : ℕ) (running : Running) (asked : ObjectId) → IsQueryTurn events place e handle running (Find asked)
+  pub hashes : (place : ℕ) (e : Event) (handle : ℕ) (running : Running) (asked : ObjectId) → IsQueryTurn events place e handle running (find_of asked)
       → (kind : Kind) (bytes : List ℕ) → e.outcome ≡ outcomes.Reply (replies.Found kind bytes)
       → ObjectsHash (tree_at first events) (length events) running.store
-      → object_id running.store.hash kind bytes ≡ sought running.store.parts running.modes.ignoring (Find asked)
+      → object_id running.store.hash kind bytes ≡ sought running.store.parts running.modes.ignoring (find_of asked)
   -- A query isn't answered that nothing is there, in a store whose list had been read as the query began, while its object moves from a loose file of a
   -- folder into a pack there.
   pub moved_found : (place : ℕ) (e : Event) (handle : ℕ) (running : Running) (query : Query) → IsQueryTurn events place e handle running query
       → HadPublished events running.modes.core running.begun
-      → HasMoved (tree_at first events) running.store.parts running.begun (place + 1) query (sought running.store.parts running.modes.ignoring query)
-      → ¬ (e.outcome ≡ outcomes.Reply (not_found query))
+      → HasMoved (tree_at first events) running.store.parts running.begun (place + 1) query.want (sought running.store.parts running.modes.ignoring query)
+      → ¬ (e.outcome ≡ outcomes.Reply (not_found query.want))
   -- A query that is answered that nothing is there ended with a look at the core, whose view has the number of the list that the core published or
   -- confirmed last for it.
   pub misses_at_last_list : (place : ℕ) (e : Event) (handle : ℕ) (running : Running) (query : Query) → IsQueryTurn events place e handle running query
-      → e.outcome ≡ outcomes.Reply (not_found query) → EndAtLastList (told_since (take (place + 1) events) handle running.begun)
+      → e.outcome ≡ outcomes.Reply (not_found query.want) → EndAtLastList (told_since (take (place + 1) events) handle running.begun)
   -- turns of one handle that are all pending, one after another, are fewer than the bound of its task, with those that it took for the task before
   pub pending_in_time : (handle from count : ℕ) → 0 < count → ArePending events handle from count → AreInTime first events handle from count
   -- where a turn ends a task, and the run up to it shows the cause of no error of the task, the answer is the task's own and no refusal

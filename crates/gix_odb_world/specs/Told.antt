@@ -6,10 +6,8 @@ use Rattle.gix_odb_core.specs.Replay.{snapshot_of}
 use Rattle.gix_odb_events.specs.declared.view.View.{View}
 use Rattle.gix_odb_events.specs.declared.answer.Answer.TheVariants as told
 use Rattle.gix_odb_events.specs.declared.answer.Ask.TheVariants as asks
-use Rattle.gix_odb_calls.specs.declared.call.Call.{Call}
-use Rattle.gix_odb_calls.specs.declared.call.Call.TheVariants as calls
 use Rattle.gix_odb_calls.specs.declared.query.Query.{Query}
-use Rattle.gix_odb_calls.specs.declared.query.Query.TheVariants.{Find, Header, Test}
+pub use Rattle.gix_odb_calls.specs.Query.{call_of}
 use Rattle.gix_odb_looks.specs.Exchange.{Exchange, behind}
 use Rattle.gix_odb_looks.specs.LookUpOrder.{started}
 use Rattle.gix_odb_looks.specs.declared.look_up.LookUp.{LookUp}
@@ -25,12 +23,6 @@ use Rattle.gix_odb_world.specs.AtWork.{Modes, Store, setting_in}
 use Rattle.gix_odb_runs.specs.Cores.{cores_after, history_at}
 use Rattle.gix_odb_runs.specs.Event.{Asked, Event, OfCore, OfDisk, OfNewCore, OfNothing}
 use Rattle.gix_odb_runs.specs.Turned.{is_turn_of}
-
--- the call that makes a query
-abbrev pub call_of : Query → Call
-call_of (Find id) = calls.Find id
-call_of (Header id) = calls.Header id
-call_of (Test id) = calls.Test id
 
 -- what was asked and answered, where it was a call of the disk or an event of a core that was there
 abbrev pub exchange_of : Asked → Option Exchange
@@ -55,7 +47,7 @@ view_then events handle core number = unwrap_or (snapshot_of handle (history_at 
 -- the look-up with which a query of a handle began at the event that has a number
 abbrev pub look_begun : List Event → (handle : ℕ) → Store → Modes → (begun : ℕ) → Query → LookUp
 look_begun events handle store modes begun query =
-    started (setting_in store) (view_then events handle modes.core begun) query (sought store.parts modes.ignoring query)
+    started (setting_in store) (view_then events handle modes.core begun) query.want (sought store.parts modes.ignoring query)
 
 -- and where it stands: behind all that the handle was told since
 abbrev pub look_now : List Event → (handle : ℕ) → Store → Modes → (begun : ℕ) → Query → LookUp

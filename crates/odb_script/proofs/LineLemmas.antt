@@ -16,10 +16,10 @@ use Rattle.gix_odb_calls.specs.declared.call.Call.TheVariants as calls
 use Rattle.gix_odb_calls.specs.declared.step.Step.TheVariants as steps
 use Rattle.gix_odb_calls.specs.declared.line.Line.TheVariants.{One, Finish}
 use Rattle.odb_script.specs.declared.item.Item.TheVariants as items
-use Rattle.odb_script.specs.declared.word.Question.{Question}
-use Rattle.odb_script.specs.declared.word.Question.TheVariants as questions
 use Rattle.odb_script.specs.declared.word.Word.TheVariants as words
 use Rattle.odb_script.specs.Word.{word_of}
+use Rattle.gix_object.specs.declared.want.Want.{Want}
+use Rattle.gix_object.specs.declared.want.Want.TheVariants as wants
 use Rattle.gix_object.specs.declared.kind.Kind.{Kind}
 use Rattle.gix_object.specs.declared.kind.Kind.TheVariants.{Commit, Tree, Blob, Tag}
 use Rattle.gix_object.specs.Kind.{kind_word}
@@ -27,7 +27,7 @@ use Rattle.gix_object.proofs.KindLaws.{kind_of_word-kind_word}
 use Rattle.odb_script.specs.Content.{data_of}
 use Rattle.odb_script.specs.Opening.{handle_of}
 use Rattle.odb_script.proofs.SplitLemmas.{slice_split-join}
-use Rattle.odb_script.specs.Line.{Fields, call_of, fields_of, line_item, item_of}
+use Rattle.odb_script.specs.Line.{Fields, call_for, fields_of, line_item, item_of}
 
 -- ---- fields and their line
 
@@ -175,26 +175,26 @@ item_of-clone handle from small few =
     (IsField-word (codes "clone") refl refl, (IsField-decimal handle (omega arith), (IsField-decimal from (omega arith), tt)))
     ∙ rw (handle_of-decimal handle small, handle_of-decimal from few) refl
 
--- questions about an id
+-- calls that ask for the object of an id
 module _ (handle : ℕ) (id : ObjectId) (small : handle < 2 ^ 32) (is : IsId id) where
-  asked : (b : ℕ) (word : List ℕ) (question : Question) → (b == 35) ≡ false → IsField (b ∷ word) → word_of (b ∷ word) ≡ Some (words.Ask question)
-      → item_of (line_of ((b ∷ word) ∷ decimal handle ∷ hex_of id ∷ [])) ≡ items.Play (One (steps.Start handle (call_of question id)))
+  asked : (b : ℕ) (word : List ℕ) (want : Want) → (b == 35) ≡ false → IsField (b ∷ word) → word_of (b ∷ word) ≡ Some (words.Ask want)
+      → item_of (line_of ((b ∷ word) ∷ decimal handle ∷ hex_of id ∷ [])) ≡ items.Play (One (steps.Start handle (call_for want id)))
   unfolding line_item
-  asked b word question no_comment field word_is =
+  asked b word want no_comment field word_is =
       item_of-line_of b word (decimal handle ∷ hex_of id ∷ []) no_comment (field, (IsField-decimal handle (omega arith), (IsField-hex_of id is, tt)))
       ∙ rw (word_is, handle_of-decimal handle small, id_of-hex_of id is) refl
 
   pub item_of-find : item_of (line_of (codes "find" ∷ decimal handle ∷ hex_of id ∷ [])) ≡ items.Play (One (steps.Start handle (calls.Find id)))
   unfolding word_of
-  item_of-find = asked 102 (codes "ind") questions.Find refl (IsField-word (codes "find") refl refl) refl
+  item_of-find = asked 102 (codes "ind") wants.Object refl (IsField-word (codes "find") refl refl) refl
 
   pub item_of-header : item_of (line_of (codes "header" ∷ decimal handle ∷ hex_of id ∷ [])) ≡ items.Play (One (steps.Start handle (calls.Header id)))
   unfolding word_of
-  item_of-header = asked 104 (codes "eader") questions.Header refl (IsField-word (codes "header") refl refl) refl
+  item_of-header = asked 104 (codes "eader") wants.Header refl (IsField-word (codes "header") refl refl) refl
 
   pub item_of-test : item_of (line_of (codes "test" ∷ decimal handle ∷ hex_of id ∷ [])) ≡ items.Play (One (steps.Start handle (calls.Test id)))
   unfolding word_of
-  item_of-test = asked 116 (codes "est") questions.Test refl (IsField-word (codes "test") refl refl) refl
+  item_of-test = asked 116 (codes "est") wants.Presence refl (IsField-word (codes "test") refl refl) refl
 
 -- writes of data that are spelled as a field
 IsField-kind_word : (kind : Kind) → IsField (kind_word kind)

@@ -16,10 +16,9 @@ use Rattle.odb_script.specs.declared.item.Item.{Item}
 use Rattle.odb_script.specs.declared.item.Item.TheVariants as items
 use Rattle.odb_script.specs.declared.word.ChangeWord.{ChangeWord}
 use Rattle.odb_script.specs.declared.word.ChangeWord.TheVariants as change_words
-use Rattle.odb_script.specs.declared.word.Question.{Question}
-use Rattle.odb_script.specs.declared.word.Question.TheVariants as questions
 use Rattle.odb_script.specs.declared.word.Word.{Word}
 use Rattle.odb_script.specs.declared.word.Word.TheVariants as words
+pub use Rattle.gix_odb_calls.specs.Query.{call_for}
 pub use Rattle.odb_script.specs.Split.{Fields, fields_of, texts_of}
 use Rattle.odb_script.specs.Word.{word_of, change_word_of}
 use Rattle.odb_script.specs.Content.{data_of}
@@ -60,12 +59,6 @@ abbrev pub clone_of : (handle from : Option ℕ) → Item
 clone_of (Some handle) (Some from) = step_item (steps.Clone handle from)
 clone_of handle from = items.Refused
 
--- the call that a question about an id is
-abbrev pub call_of : Question → ObjectId → Call
-call_of questions.Find id = calls.Find id
-call_of questions.Header id = calls.Header id
-call_of questions.Test id = calls.Test id
-
 -- the start of a call on an id
 abbrev pub start_of : (ObjectId → Call) → Option ℕ → Option ObjectId → Item
 start_of call None id = items.Refused
@@ -103,7 +96,7 @@ line_item (Some words.Open) (handle ∷ path ∷ options) = open_of handle path 
 line_item (Some words.Clone) (handle ∷ from ∷ []) = clone_of (handle_of handle) (handle_of from)
 line_item (Some words.Close) fields = for_handle (λ h. step_item (steps.Close h)) fields
 line_item (Some words.Ignore) fields = for_handle (λ h. step_item (steps.Ignore h)) fields
-line_item (Some (words.Ask question)) (handle ∷ id ∷ []) = start_of (call_of question) (handle_of handle) (id_of id)
+line_item (Some (words.Ask want)) (handle ∷ id ∷ []) = start_of (call_for want) (handle_of handle) (id_of id)
 line_item (Some words.Write) (handle ∷ kind ∷ digits ∷ []) =
     write_of (handle_of handle) (kind_of_word kind) (size_of (data_of digits)) (data_of digits) None
 line_item (Some words.Stream) (handle ∷ kind ∷ size ∷ digits ∷ []) =

@@ -2,9 +2,9 @@
 use Rattle.std.specs.Prelude.{ℕ, Bool, List, [], ◌∷◌, codes, Option, Some, None, if◌then◌else◌}
 use Rattle.std.specs.List.{list_any}
 use Rattle.odb_base.specs.Path.{same_name}
+use Rattle.gix_object.specs.declared.want.Want.TheVariants as wants
 use Rattle.odb_script.specs.declared.word.ChangeWord.{ChangeWord}
 use Rattle.odb_script.specs.declared.word.ChangeWord.TheVariants as changes
-use Rattle.odb_script.specs.declared.word.Question.TheVariants as questions
 use Rattle.odb_script.specs.declared.word.Word.{Word}
 use Rattle.odb_script.specs.declared.word.Word.TheVariants as words
 
@@ -24,9 +24,9 @@ step_word_of text =
     else if same_name text (codes "clone") then Some words.Clone
     else if same_name text (codes "close") then Some words.Close
     else if same_name text (codes "ignore") then Some words.Ignore
-    else if same_name text (codes "find") then Some (words.Ask questions.Find)
-    else if same_name text (codes "header") then Some (words.Ask questions.Header)
-    else if same_name text (codes "test") then Some (words.Ask questions.Test)
+    else if same_name text (codes "find") then Some (words.Ask wants.Object)
+    else if same_name text (codes "header") then Some (words.Ask wants.Header)
+    else if same_name text (codes "test") then Some (words.Ask wants.Presence)
     else if same_name text (codes "write") then Some words.Write
     else if same_name text (codes "stream") then Some words.Stream
     else if same_name text (codes "writeas") then Some words.WriteAs

@@ -2,16 +2,17 @@
 ghost use Rattle.std.specs.Prelude.{◌≡◌, Some, IfOk};
 ghost use Rattle.std.specs.Option.{MatchOption};
 ghost use Rattle.odb_script.specs.Change.{change_of};
-ghost use Rattle.odb_script.specs.Line.{clone_of, item_of, is_blank, fields_of, fields_item, texts_of, one_handle, line_item, call_of, start_of, step_item, setup_item, outside_item, changed_item};
+ghost use Rattle.odb_script.specs.Line.{clone_of, item_of, is_blank, fields_of, fields_item, texts_of, one_handle, line_item, call_for, start_of, step_item, setup_item, outside_item, changed_item};
 
 use crate::change::change_of;
 use crate::field::{handle_of, id_of};
 use crate::opening::open_of;
 use crate::split::fields_of;
-use crate::word::{ChangeWord, Question, Word, change_word_of, word_of};
+use crate::word::{ChangeWord, Word, change_word_of, word_of};
 use crate::write::{stream, write, writeas};
 use gix_hash::ObjectId;
-use gix_odb_calls::{Call, Line, Step};
+use gix_object::Want;
+use gix_odb_calls::{Line, Query, Step};
 use odb_base::{NoMemory, parse_decimal};
 use odb_disk::Change;
 use std::alloc::Global;
@@ -92,7 +93,7 @@ fn line_item(alloc: Global, word: Option<Word>, fields: &[&str]) -> Result<Item,
         Some(Word::Clone) => Ok(clone_line(fields)),
         Some(Word::Close) => Ok(for_handle(fields, |handle| step_item(Step::Close { handle }))),
         Some(Word::Ignore) => Ok(for_handle(fields, |handle| step_item(Step::Ignore { handle }))),
-        Some(Word::Ask(question)) => Ok(ask(question, fields)),
+        Some(Word::Ask(want)) => Ok(ask(want, fields)),
         Some(Word::Write) => write(alloc, fields),
         Some(Word::Stream) => stream(alloc, fields),
         Some(Word::WriteAs) => writeas(alloc, fields),
@@ -175,37 +176,26 @@ fn clone_of(handle: Option<u32>, from: Option<u32>) -> Item
 }
 
 #[tactic(auto, unfolding(crate::specs::Line::line_item))]
-fn ask(question: Question, fields: &[&str]) -> Item
-    ensures item { result ≡ line_item (Some (Word.Ask question)) (texts_of fields.now) }
+fn ask(want: Want, fields: &[&str]) -> Item
+    ensures item { result ≡ line_item (Some (Word.Ask want)) (texts_of fields.now) }
 {
     match fields {
-        [handle, id] => start_of(question, handle_of(handle), id_of(id)),
+        [handle, id] => start_of(want, handle_of(handle), id_of(id)),
         _ => Item::Refused,
     }
 }
 
 /// The start of a call on an id.
-fn start_of(question: Question, handle: Option<u32>, id: Option<ObjectId>) -> Item
-    ensures item { result ≡ start_of (call_of question) handle id }
+fn start_of(want: Want, handle: Option<u32>, id: Option<ObjectId>) -> Item
+    ensures item { result ≡ start_of (call_for want) handle id }
 {
     let (Some(handle), Some(id)) = (handle, id) else {
         return Item::Refused;
     };
     step_item(Step::Start {
         handle,
-        call: call_of(question, id),
+        call: Query { want, of: id }.call(),
     })
-}
-
-/// The call that a question about an id is.
-fn call_of(question: Question, id: ObjectId) -> Call
-    ensures call { result ≡ call_of question id }
-{
-    match question {
-        Question::Find => Call::Find(id),
-        Question::Header => Call::Header(id),
-        Question::Test => Call::Test(id),
-    }
 }
 
 /// A change that another program makes.

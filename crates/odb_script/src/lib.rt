@@ -28,4 +28,4 @@ pub use item::{Item, item_of};
 pub use opening::is_unbuilt_option;
 pub use reader::{Ending, Reading, SCRIPT_LIMIT, Script, Taken, read};
 pub use split::{fields_of, first_part};
-pub use word::{ChangeWord, Question, Word, change_word_of, word_of};
+pub use word::{ChangeWord, Word, change_word_of, word_of};

@@ -2,13 +2,7 @@
 ghost use Rattle.std.specs.Prelude.{◌≡◌, Some, None, if◌then◌else◌};
 ghost use Rattle.odb_script.specs.Word.{word_of, step_word_of, change_word_of, unbuilt_words, is_one_of};
 
-/// A question about the object of an id.
-#[derive(Clone, Copy, PartialEq, Eq)]
-pub enum Question {
-    Find,
-    Header,
-    Test,
-}
+use gix_object::Want;
 
 /// A word that a line may begin with.
 #[derive(Clone, Copy, PartialEq, Eq)]
@@ -22,8 +16,8 @@ pub enum Word {
     Clone,
     Close,
     Ignore,
-    /// A call that a question is.
-    Ask(Question),
+    /// A call that asks for so much of the object of an id.
+    Ask(Want),
     Write,
     Stream,
     WriteAs,
@@ -69,9 +63,9 @@ fn step_word_of(text: &str) -> Option<Word>
         "clone" => Some(Word::Clone),
         "close" => Some(Word::Close),
         "ignore" => Some(Word::Ignore),
-        "find" => Some(Word::Ask(Question::Find)),
-        "header" => Some(Word::Ask(Question::Header)),
-        "test" => Some(Word::Ask(Question::Test)),
+        "find" => Some(Word::Ask(Want::Object)),
+        "header" => Some(Word::Ask(Want::Header)),
+        "test" => Some(Word::Ask(Want::Presence)),
         "write" => Some(Word::Write),
         "stream" => Some(Word::Stream),
         "writeas" => Some(Word::WriteAs),

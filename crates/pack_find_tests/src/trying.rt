@@ -4,17 +4,18 @@ use crate::happening::happen;
 use crate::shown::{put_ask, put_end, put_event};
 use crate::text::Text;
 use crate::words::cut;
+use gix_object::Want;
 use gix_odb_core::{Core, Refusal, View};
-use gix_odb_packs::{Answer, Ask, Goal, Notes, Tried, Trier, Wanted};
+use gix_odb_packs::{Answer, Ask, Goal, Notes, Tried, Trier};
 use odb_base::NoMemory;
 use odb_disk::MemDisk;
 use std::alloc::Global;
 
-fn wanted_of(verb: &str) -> Wanted {
+fn want_of(verb: &str) -> Want {
     match verb {
-        "find" => Wanted::Object,
-        "header" => Wanted::Header,
-        _ => Wanted::Presence,
+        "find" => Want::Object,
+        "header" => Want::Header,
+        _ => Want::Presence,
     }
 }
 
@@ -23,7 +24,7 @@ fn goal_of(alloc: Global, verb: &str, words: &str) -> Result<Goal, NoMemory> {
     let (word, limit) = cut(words);
     Ok(Goal {
         id: id_of(alloc, word)?,
-        wanted: wanted_of(verb),
+        want: want_of(verb),
         limit: limit.parse::<u64>().ok(),
     })
 }

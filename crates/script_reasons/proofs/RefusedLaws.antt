@@ -6,8 +6,9 @@ use Rattle.gix_hash.specs.ObjectId.{id_of}
 use Rattle.gix_hash.specs.declared.object_id.ObjectId.{ObjectId}
 use Rattle.gix_object.specs.Kind.{kind_of_word}
 use Rattle.gix_object.specs.declared.kind.Kind.{Kind}
+use Rattle.gix_object.specs.declared.want.Want.{Want}
 use Rattle.odb_script.specs.Content.{data_of}
-use Rattle.odb_script.specs.Line.{call_of, changed_item, fields_item, fields_of, is_blank, for_handle, item_of, line_item, start_of, write_under}
+use Rattle.odb_script.specs.Line.{call_for, changed_item, fields_item, fields_of, is_blank, for_handle, item_of, line_item, start_of, write_under}
 use Rattle.odb_script.specs.Opening.{handle_of}
 use Rattle.odb_script.specs.Split.{Fields}
 use Rattle.odb_script.specs.Word.{change_word_of, word_of}
@@ -15,7 +16,6 @@ use Rattle.odb_script.specs.declared.item.Item.{Item}
 use Rattle.odb_script.specs.declared.item.Item.TheVariants as items
 use Rattle.odb_script.specs.declared.word.ChangeWord.{ChangeWord}
 use Rattle.odb_script.specs.declared.word.ChangeWord.TheVariants as changes
-use Rattle.odb_script.specs.declared.word.Question.{Question}
 use Rattle.odb_script.specs.declared.word.Word.{Word}
 use Rattle.odb_script.specs.declared.word.Word.TheVariants as words
 use Rattle.script_reasons.specs.Expected.{expected_of, expected_of_change}
@@ -34,8 +34,8 @@ one item [] other all h = absurd all
 one item (handle ∷ []) other all h = let is = some_is (handle_of handle) all.0 in other is.0 (rw is.1 at h)
 one item (handle ∷ more ∷ rest) other all h = absurd all.1
 
-asked : (question : Question) (handle : ℕ) (id : ObjectId) → start_of (call_of question) (Some handle) (Some id) ≢ items.Refused
-asked question handle id h = cc h
+asked : (want : Want) (handle : ℕ) (id : ObjectId) → start_of (call_for want) (Some handle) (Some id) ≢ items.Refused
+asked want handle id h = cc h
 
 known : (handle : ℕ) (kind : Kind) (id : ObjectId) (bytes : List ℕ) → write_under (Some handle) (Some kind) (Some id) (Some bytes) ≢ items.Refused
 known handle kind id bytes h = cc h
@@ -68,12 +68,12 @@ no_fault (Some words.Clone) fields none h = clone fields (all_spelled (expected_
     clone (handle ∷ from ∷ more ∷ rest) all h = absurd all.1.1
 no_fault (Some words.Close) fields none h = one _ fields (λ handle e. cc e) (all_spelled (expected_of words.Close) fields 2 none) h
 no_fault (Some words.Ignore) fields none h = one _ fields (λ handle e. cc e) (all_spelled (expected_of words.Ignore) fields 2 none) h
-no_fault (Some (words.Ask question)) fields none h = ask fields (all_spelled (expected_of (words.Ask question)) fields 2 none) h
+no_fault (Some (words.Ask want)) fields none h = ask fields (all_spelled (expected_of (words.Ask want)) fields 2 none) h
   where
-    ask : (fields : Fields) → AllSpelled (expected_of (words.Ask question)) fields → line_item (Some (words.Ask question)) fields ≢ items.Refused
+    ask : (fields : Fields) → AllSpelled (expected_of (words.Ask want)) fields → line_item (Some (words.Ask want)) fields ≢ items.Refused
     ask [] all h = absurd all
     ask (handle ∷ []) all h = absurd all.1
-    ask (handle ∷ id ∷ []) all h = let hd = some_is (handle_of handle) all.0 in let i = some_is (id_of id) all.1.0 in asked question hd.0 i.0 (rw (hd.1, i.1) at h)
+    ask (handle ∷ id ∷ []) all h = let hd = some_is (handle_of handle) all.0 in let i = some_is (id_of id) all.1.0 in asked want hd.0 i.0 (rw (hd.1, i.1) at h)
     ask (handle ∷ id ∷ more ∷ rest) all h = absurd all.1.1
 no_fault (Some words.Write) fields none h = write fields (all_spelled (expected_of words.Write) fields 2 none) h
   where

@@ -1,8 +1,7 @@
 //! The text of `--help`, beside the words that scripts are read by.
 use crate::run::HELP;
-use odb_script::{
-    ChangeWord, Choice, Question, Word, change_word_of, choice_of, is_unbuilt_option, word_of,
-};
+use gix_object::Want;
+use odb_script::{ChangeWord, Choice, Word, change_word_of, choice_of, is_unbuilt_option, word_of};
 use std::alloc::Global;
 use std::test::Fail;
 
@@ -17,9 +16,9 @@ const WORDS: [Word; 17] = [
     Word::Clone,
     Word::Close,
     Word::Ignore,
-    Word::Ask(Question::Find),
-    Word::Ask(Question::Header),
-    Word::Ask(Question::Test),
+    Word::Ask(Want::Object),
+    Word::Ask(Want::Header),
+    Word::Ask(Want::Presence),
     Word::Write,
     Word::Stream,
     Word::WriteAs,
@@ -49,9 +48,9 @@ fn spelled(word: Word) -> &'static str {
         Word::Clone => "clone NEW H",
         Word::Close => "close H",
         Word::Ignore => "ignore H",
-        Word::Ask(Question::Find) => "find H HEX",
-        Word::Ask(Question::Header) => "header H HEX",
-        Word::Ask(Question::Test) => "test H HEX",
+        Word::Ask(Want::Object) => "find H HEX",
+        Word::Ask(Want::Header) => "header H HEX",
+        Word::Ask(Want::Presence) => "test H HEX",
         Word::Write => "write H KIND DATA",
         Word::Stream => "stream H KIND SIZE DATA",
         Word::WriteAs => "writeas H KIND HEX DATA",

@@ -26,8 +26,8 @@ use Rattle.gix_odb_calls.specs.declared.find.Error.{Error}
 use Rattle.gix_odb_calls.specs.declared.find.Error.TheVariants as errors
 use Rattle.gix_odb_calls.specs.declared.load_index.Error as load
 use Rattle.gix_odb_calls.specs.declared.load_index.Error.TheVariants as load_errors
-use Rattle.gix_odb_calls.specs.declared.query.Query.{Query}
-use Rattle.gix_odb_calls.specs.declared.query.Query.TheVariants.{Find, Header, Test}
+use Rattle.gix_object.specs.declared.want.Want.{Want}
+use Rattle.gix_object.specs.declared.want.Want.TheVariants.{Object, Header, Presence}
 use Rattle.gix_odb_looks.specs.Caused.{IsCaused, IsLoadCaused, IsPackError, IsUnloaded, IsUnsettled}
 use Rattle.gix_odb_looks.specs.Exchange.{Exchange}
 use Rattle.gix_odb_looks.specs.Found.{IsFound, IsInIndex, IsInPack}
@@ -88,10 +88,10 @@ module _ (Shown Wider : Path → List ℕ → Type 0) (wider : (path : Path) (by
       content = is.content;
     }
 
-    pub IsFound-wider : (query : Query) (reply : Reply) → IsFound Shown setting hash id query reply → IsFound Wider setting hash id query reply
-    IsFound-wider (Find asked) reply found = IsInPack-wider _ found
-    IsFound-wider (Header asked) reply found = IsInPack-wider _ found
-    IsFound-wider (Test asked) reply found = (found.0, found.1, IsInIndex-wider found.0 found.1 found.2, found.3)
+    pub IsFound-wider : (want : Want) (reply : Reply) → IsFound Shown setting hash id want reply → IsFound Wider setting hash id want reply
+    IsFound-wider Object reply found = IsInPack-wider _ found
+    IsFound-wider Header reply found = IsInPack-wider _ found
+    IsFound-wider Presence reply found = (found.0, found.1, IsInIndex-wider found.0 found.1 found.2, found.3)
 
   -- ---- what is true, and what is a cause
 
@@ -112,15 +112,15 @@ module _ (Shown Wider : Path → List ℕ → Type 0) (wider : (path : Path) (by
   AreTrue-wider exchanges are = λ exchange among. IsTrue-wider exchange.ask exchange.answer (are exchange among)
 
   module _ (id : ObjectId) where
-    IsPackError-wider : (query : Query) (error : pack.Error) → IsPackError Shown setting hash id query error
-        → IsPackError Wider setting hash id query error
-    IsPackError-wider (Find asked) error is = IsInPack-wider id _ is
-    IsPackError-wider (Header asked) pack_errors.BadPack is = IsInPack-wider id _ is
-    IsPackError-wider (Header asked) pack_errors.BadEntry is = IsInPack-wider id _ is
-    IsPackError-wider (Header asked) pack_errors.DeltaEntry is = IsInPack-wider id _ is
-    IsPackError-wider (Header asked) (pack_errors.OutOfMemory size) is = is
-    IsPackError-wider (Header asked) (pack_errors.EntryType code) is = IsInPack-wider id _ is
-    IsPackError-wider (Test asked) error is = is
+    IsPackError-wider : (want : Want) (error : pack.Error) → IsPackError Shown setting hash id want error
+        → IsPackError Wider setting hash id want error
+    IsPackError-wider Object error is = IsInPack-wider id _ is
+    IsPackError-wider Header pack_errors.BadPack is = IsInPack-wider id _ is
+    IsPackError-wider Header pack_errors.BadEntry is = IsInPack-wider id _ is
+    IsPackError-wider Header pack_errors.DeltaEntry is = IsInPack-wider id _ is
+    IsPackError-wider Header (pack_errors.OutOfMemory size) is = is
+    IsPackError-wider Header (pack_errors.EntryType code) is = IsInPack-wider id _ is
+    IsPackError-wider Presence error is = is
 
     -- a cause in exchanges
     module _ (exchanges : List Exchange) where
@@ -147,13 +147,13 @@ module _ (Shown Wider : Path → List ℕ → Type 0) (wider : (path : Path) (by
       IsLoadCaused-wider (load_errors.Unsettled begun own now) is = IsUnsettled-wider begun own now is
       IsLoadCaused-wider load_errors.NoMemory is = is
 
-      pub IsCaused-wider : (query : Query) (error : Error) → IsCaused Shown setting hash id query exchanges error
-          → IsCaused Wider setting hash id query exchanges error
-      IsCaused-wider query (errors.Loose error) cause = cause
-      IsCaused-wider query (errors.LoadIndex error) cause = IsLoadCaused-wider error cause
-      IsCaused-wider query errors.LoadPack cause = IsUnloaded-wider cause
-      IsCaused-wider query errors.Pack cause = IsPackError-wider query _ cause
-      IsCaused-wider query (errors.EntryType code) cause = IsPackError-wider query _ cause
-      IsCaused-wider query errors.DeltaEntry cause = IsPackError-wider query _ cause
-      IsCaused-wider query (errors.OutOfMemory size) cause = IsPackError-wider query _ cause
-      IsCaused-wider query errors.NoMemory cause = cause
+      pub IsCaused-wider : (want : Want) (error : Error) → IsCaused Shown setting hash id want exchanges error
+          → IsCaused Wider setting hash id want exchanges error
+      IsCaused-wider want (errors.Loose error) cause = cause
+      IsCaused-wider want (errors.LoadIndex error) cause = IsLoadCaused-wider error cause
+      IsCaused-wider want errors.LoadPack cause = IsUnloaded-wider cause
+      IsCaused-wider want errors.Pack cause = IsPackError-wider want _ cause
+      IsCaused-wider want (errors.EntryType code) cause = IsPackError-wider want _ cause
+      IsCaused-wider want errors.DeltaEntry cause = IsPackError-wider want _ cause
+      IsCaused-wider want (errors.OutOfMemory size) cause = IsPackError-wider want _ cause
+      IsCaused-wider want errors.NoMemory cause = cause

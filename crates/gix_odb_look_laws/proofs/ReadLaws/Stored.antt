@@ -128,7 +128,7 @@ module _ (Read : Path → DiskAnswer → Type 0) (hash : Kind) where
           try_goes goal ahead ahead.notes.absent (shown_or_own place file (shown_behind place effect))
       answer_goes (stages.PassingIndex place why) (told.Core (Ok effect)) truth just = seek_goes goal ahead
       answer_goes (stages.StoringPack pack file) (told.Core (Ok effect)) truth just =
-          given_goes (given_by goal.wanted goal.limit (unwrap_or (pack_behind pack effect) file) pack.offset)
+          given_goes (given_by goal.want goal.limit (unwrap_or (pack_behind pack effect) file) pack.offset)
       answer_goes (stages.PassingPack pack) (told.Core (Ok effect)) truth just =
           seek_goes goal (record ahead { notes = with_absent ahead.notes pack.slot pack.path })
       answer_goes (stages.StoringIndex place file) (told.Core (Err refusal)) truth just = tt

@@ -24,26 +24,21 @@ use Rattle.gix_odb_packs.specs.declared.lister.ListStep.{ListStep}
 use Rattle.gix_odb_packs.specs.declared.lister.ListStep.TheVariants as ends
 use Rattle.gix_odb_packs.specs.declared.lister.Lister.{Lister}
 use Rattle.gix_odb_calls.specs.Verdict.{asking}
-use Rattle.gix_odb_calls.specs.declared.query.Query.{Query}
-use Rattle.gix_odb_calls.specs.declared.query.Query.TheVariants.{Find, Header, Test}
+use Rattle.gix_object.specs.declared.want.Want.{Want}
 use Rattle.gix_odb_looks.specs.LookUpOrder.{Setting, loose_fed}
 use Rattle.gix_odb_looks.specs.Shown.{folders_of}
 
 -- ---- a folder's call
 
 -- it has an ask
-pub folder_has_ask : (limit : Option ℕ) (query : Query) (id : ObjectId) (folder : Path)
-    → (ask : DiskAsk) × (disk_ask_of (asking limit query id folder) ≡ Some ask)
-folder_has_ask limit (Find asked) id folder = (_, refl)
-folder_has_ask limit (Header asked) id folder = (_, refl)
-folder_has_ask limit (Test asked) id folder = (_, refl)
+pub folder_has_ask : (limit : Option ℕ) (want : Want) (id : ObjectId) (folder : Path)
+    → (ask : DiskAsk) × (disk_ask_of (asking limit want id folder) ≡ Some ask)
+folder_has_ask limit want id folder = (_, refl)
 
 -- and its reply behind the answer
-pub folder_has_reply : (limit : Option ℕ) (query : Query) (id : ObjectId) (folder : Path) (answer : DiskAnswer)
-    → (reply : LooseReply) × (reply_of (loose_fed (asking limit query id folder) answer) ≡ Some reply)
-folder_has_reply limit (Find asked) id folder answer = (_, refl)
-folder_has_reply limit (Header asked) id folder answer = (_, refl)
-folder_has_reply limit (Test asked) id folder answer = (_, refl)
+pub folder_has_reply : (limit : Option ℕ) (want : Want) (id : ObjectId) (folder : Path) (answer : DiskAnswer)
+    → (reply : LooseReply) × (reply_of (loose_fed (asking limit want id folder) answer) ≡ Some reply)
+folder_has_reply limit want id folder answer = (_, refl)
 
 -- ---- the folders of a store
 

@@ -25,8 +25,8 @@ use Rattle.gix_odb_calls.specs.declared.call.Reply.{Reply}
 use Rattle.gix_odb_calls.specs.declared.call.Reply.TheVariants as replies
 use Rattle.gix_odb_calls.specs.declared.find.Error.{Error}
 use Rattle.gix_odb_calls.specs.declared.find.Error.TheVariants as find_errors
-use Rattle.gix_odb_calls.specs.declared.query.Query.{Query}
-use Rattle.gix_odb_calls.specs.declared.query.Query.TheVariants.{Find, Header, Test}
+use Rattle.gix_object.specs.declared.want.Want.{Want}
+use Rattle.gix_object.specs.declared.want.Want.TheVariants.{Object, Header, Presence}
 use Rattle.gix_odb_calls.specs.declared.verdict.Verdict.{Verdict}
 use Rattle.gix_odb_calls.specs.declared.verdict.Verdict.TheVariants as verdicts
 use Rattle.gix_odb_looks.specs.Caused.{IsLoadCaused, IsRefused}
@@ -61,17 +61,17 @@ pub record Counts (exchanges : List Exchange) (head : LookHead) : Type 0 where
 
 module _ (Shown : Path → List ℕ → Type 0) (setting : Setting) (hash : Kind) (id : ObjectId)
     (exchanges : List Exchange) where
-  -- Why the loose objects of a folder, or the lists of packs, refuse a query. Want of memory refuses none.
-  abbrev pub IsListCaused : Query → Error → Type 0
-  IsListCaused query (find_errors.Loose error) =
-      (folder : Path) × Contains (folders_of setting) folder × HasVerdict setting query id exchanges folder (verdicts.Ends (refused error))
-  IsListCaused query (find_errors.LoadIndex error) = IsLoadCaused Shown setting hash id exchanges error
-  IsListCaused query find_errors.NoMemory = ⊥
-  IsListCaused query error = Unit {0}
+  -- Why the loose objects of a folder, or the lists of packs, refuse a look-up. Want of memory refuses none.
+  abbrev pub IsListCaused : Want → Error → Type 0
+  IsListCaused want (find_errors.Loose error) =
+      (folder : Path) × Contains (folders_of setting) folder × HasVerdict setting want id exchanges folder (verdicts.Ends (refused error))
+  IsListCaused want (find_errors.LoadIndex error) = IsLoadCaused Shown setting hash id exchanges error
+  IsListCaused want find_errors.NoMemory = ⊥
+  IsListCaused want error = Unit {0}
 
-  abbrev pub IsExplained : Query → Reply → Type 0
-  IsExplained query (replies.Refused (call_errors.Find error)) = IsListCaused query error
-  IsExplained query reply = Unit {0}
+  abbrev pub IsExplained : Want → Reply → Type 0
+  IsExplained want (replies.Refused (call_errors.Find error)) = IsListCaused want error
+  IsExplained want reply = Unit {0}
 
   -- what is known at each stage
   abbrev pub KnowsAt : LookHead → LookStage → Type 0
@@ -80,62 +80,62 @@ module _ (Shown : Path → List ℕ → Type 0) (setting : Setting) (hash : Kind
   KnowsAt head (stages.Looking purpose notes) = Noted exchanges notes
   KnowsAt head (stages.Listing lister base notes) = Noted exchanges notes × HasBegun head × Breaks exchanges lister.stage
   KnowsAt head (stages.Publishing listing notes) = Noted exchanges notes × HasBegun head
-  KnowsAt head (stages.Done reply) = IsExplained head.query reply
+  KnowsAt head (stages.Done reply) = IsExplained head.want reply
 
   -- ---- replies
 
-  pub found_explained : (query : Query) (found : Found) → IsExplained query (reply_found found)
-  found_explained query (found.Object kind bytes) = tt
-  found_explained query (found.Header kind size) = tt
-  found_explained query found.Presence = tt
+  pub found_explained : (want : Want) (found : Found) → IsExplained want (reply_found found)
+  found_explained want (found.Object kind bytes) = tt
+  found_explained want (found.Header kind size) = tt
+  found_explained want found.Presence = tt
 
-  pub bad_explained : (query : Query) (error : pack.Error) → IsListCaused query (find_error error)
-  bad_explained query pack_errors.LoadPack = tt
-  bad_explained query pack_errors.Pack = tt
-  bad_explained query (pack_errors.EntryType code) = tt
-  bad_explained query pack_errors.DeltaEntry = tt
-  bad_explained query (pack_errors.OutOfMemory size) = tt
+  pub bad_explained : (want : Want) (error : pack.Error) → IsListCaused want (find_error error)
+  bad_explained want pack_errors.LoadPack = tt
+  bad_explained want pack_errors.Pack = tt
+  bad_explained want (pack_errors.EntryType code) = tt
+  bad_explained want pack_errors.DeltaEntry = tt
+  bad_explained want (pack_errors.OutOfMemory size) = tt
 
-  pub not_found_explained : (query : Query) → IsExplained query (not_found query)
-  not_found_explained (Find asked) = tt
-  not_found_explained (Header asked) = tt
-  not_found_explained (Test asked) = tt
+  pub not_found_explained : (want : Want) → IsExplained want (not_found want)
+  not_found_explained Object = tt
+  not_found_explained Header = tt
+  not_found_explained Presence = tt
 
-  pub refusal_explained : (query : Query) (refusal : Refusal) → IsRefused exchanges refusal
-      → IsListCaused query (find_errors.LoadIndex (of_refusal refusal))
-  refusal_explained query (refusals.InsufficientSlots current needed) was = was
-  refusal_explained query refusals.GenerationOverflow was = was
-  refusal_explained query refusals.NoMemory was = was
+  pub refusal_explained : (want : Want) (refusal : Refusal) → IsRefused exchanges refusal
+      → IsListCaused want (find_errors.LoadIndex (of_refusal refusal))
+  refusal_explained want (refusals.InsufficientSlots current needed) was = was
+  refusal_explained want refusals.GenerationOverflow was = was
+  refusal_explained want refusals.NoMemory was = was
 
   -- a verdict on the loose objects of a folder ends with an explained reply, or notes a failure
-  abbrev pub VerdictTells : Query → Verdict → Type 0
-  VerdictTells query (verdicts.Ends reply) = IsExplained query reply
-  VerdictTells query verdicts.Misses = Unit {0}
-  VerdictTells query (verdicts.Notes error) = HasFailed exchanges
+  abbrev pub VerdictTells : Want → Verdict → Type 0
+  VerdictTells want (verdicts.Ends reply) = IsExplained want reply
+  VerdictTells want verdicts.Misses = Unit {0}
+  VerdictTells want (verdicts.Notes error) = HasFailed exchanges
 
-  verdict_tells : (folder : Path) → Contains (folders_of setting) folder → (query : Query) (reply : LooseReply)
+  verdict_tells : (folder : Path) → Contains (folders_of setting) folder → (want : Want) (reply : LooseReply)
       → ((error : loose.Error) → reply ≡ loose_replies.Contains (Err error) → HasFailed exchanges ⊎ (error ≡ loose_errors.NoMemory))
-      → HasVerdict setting query id exchanges folder (verdict_on query reply) → VerdictTells query (verdict_on query reply)
-  verdict_tells folder among (Find asked) (loose_replies.Found (Ok (Some found))) fails says = tt
-  verdict_tells folder among (Find asked) (loose_replies.Found (Ok None)) fails says = tt
-  verdict_tells folder among (Find asked) (loose_replies.Found (Err error)) fails says = (folder, among, says)
-  verdict_tells folder among (Find asked) (loose_replies.Header answer) fails says = tt
-  verdict_tells folder among (Find asked) (loose_replies.Contains answer) fails says = tt
-  verdict_tells folder among (Find asked) (loose_replies.Wrote answer) fails says = tt
-  verdict_tells folder among (Header asked) (loose_replies.Header (Ok (Some found))) fails says = tt
-  verdict_tells folder among (Header asked) (loose_replies.Header (Ok None)) fails says = tt
-  verdict_tells folder among (Header asked) (loose_replies.Header (Err error)) fails says = (folder, among, says)
-  verdict_tells folder among (Header asked) (loose_replies.Found answer) fails says = tt
-  verdict_tells folder among (Header asked) (loose_replies.Contains answer) fails says = tt
-  verdict_tells folder among (Header asked) (loose_replies.Wrote answer) fails says = tt
-  verdict_tells folder among (Test asked) (loose_replies.Contains (Ok true)) fails says = tt
-  verdict_tells folder among (Test asked) (loose_replies.Contains (Ok false)) fails says = tt
-  verdict_tells folder among (Test asked) (loose_replies.Contains (Err loose_errors.NoMemory)) fails says = (folder, among, says)
-  verdict_tells folder among (Test asked) (loose_replies.Contains (Err error)) fails says =
+      → HasVerdict setting want id exchanges folder (verdict_on want reply) → VerdictTells want (verdict_on want reply)
+  verdict_tells folder among Object (loose_replies.Found (Ok (Some found))) fails says = tt
+  verdict_tells folder among Object (loose_replies.Found (Ok None)) fails says = tt
+  verdict_tells folder among Object (loose_replies.Found (Err error)) fails says = (folder, among, says)
+  verdict_tells folder among Object (loose_replies.Header answer) fails says = tt
+  verdict_tells folder among Object (loose_replies.Contains answer) fails says = tt
+  verdict_tells folder among Object (loose_replies.Wrote answer) fails says = tt
+  verdict_tells folder among Header (loose_replies.Header (Ok (Some found))) fails says = tt
+  verdict_tells folder among Header (loose_replies.Header (Ok None)) fails says = tt
+  verdict_tells folder among Header (loose_replies.Header (Err error)) fails says = (folder, among, says)
+  verdict_tells folder among Header (loose_replies.Found answer) fails says = tt
+  verdict_tells folder among Header (loose_replies.Contains answer) fails says = tt
+  verdict_tells folder among Header (loose_replies.Wrote answer) fails says = tt
+  verdict_tells folder among Presence (loose_replies.Contains (Ok true)) fails says = tt
+  verdict_tells folder among Presence (loose_replies.Contains (Ok false)) fails says = tt
+  verdict_tells folder among Presence (loose_replies.Contains (Err loose_errors.NoMemory)) fails says = (folder, among, says)
+  verdict_tells folder among Presence (loose_replies.Contains (Err error)) fails says =
       elim (fails error refl) [ inl failed ↦ failed | inr none ↦ absurd (cc none) ]
-  verdict_tells folder among (Test asked) (loose_replies.Found answer) fails says = tt
-  verdict_tells folder among (Test asked) (loose_replies.Header answer) fails says = tt
-  verdict_tells folder among (Test asked) (loose_replies.Wrote answer) fails says = tt
+  verdict_tells folder among Presence (loose_replies.Found answer) fails says = tt
+  verdict_tells folder among Presence (loose_replies.Header answer) fails says = tt
+  verdict_tells folder among Presence (loose_replies.Wrote answer) fails says = tt
 
   -- a look that failed is noted by its error
   tested_failed : (path : Path) (answer : DiskAnswer) → (answer ≡ answers.Refused disk_errors.Failed → HasFailed exchanges) → (error : loose.Error)
@@ -145,16 +145,16 @@ module _ (Shown : Path → List ℕ → Type 0) (setting : Setting) (hash : Kind
   tested_failed path (answers.Meta meta) fails error is = absurd (cc is)
   tested_failed path answer fails error is = absurd (cc is)
 
-  folder_failed : (query : Query) (folder : Path) (answer : DiskAnswer) → (answer ≡ answers.Refused disk_errors.Failed → HasFailed exchanges)
-      → (reply : LooseReply) → reply_of (loose_fed (asking setting.limit query id folder) answer) ≡ Some reply
+  folder_failed : (want : Want) (folder : Path) (answer : DiskAnswer) → (answer ≡ answers.Refused disk_errors.Failed → HasFailed exchanges)
+      → (reply : LooseReply) → reply_of (loose_fed (asking setting.limit want id folder) answer) ≡ Some reply
       → (error : loose.Error) → reply ≡ loose_replies.Contains (Err error) → HasFailed exchanges ⊎ (error ≡ loose_errors.NoMemory)
-  folder_failed (Find asked) folder answer fails reply is error so = absurd (cc (is, so))
-  folder_failed (Header asked) folder answer fails reply is error so = absurd (cc (is, so))
-  folder_failed (Test asked) folder answer fails reply is error so = tested_failed (loose_path folder id) answer fails error cc
+  folder_failed Object folder answer fails reply is error so = absurd (cc (is, so))
+  folder_failed Header folder answer fails reply is error so = absurd (cc (is, so))
+  folder_failed Presence folder answer fails reply is error so = tested_failed (loose_path folder id) answer fails error cc
 
   -- what a folder's reply comes to
-  pub folder_tells : (query : Query) (folder : Path) → Contains (folders_of setting) folder → (answer : DiskAnswer)
+  pub folder_tells : (want : Want) (folder : Path) → Contains (folders_of setting) folder → (answer : DiskAnswer)
       → (answer ≡ answers.Refused disk_errors.Failed → HasFailed exchanges)
-      → (reply : LooseReply) → reply_of (loose_fed (asking setting.limit query id folder) answer) ≡ Some reply
-      → HasVerdict setting query id exchanges folder (verdict_on query reply) → VerdictTells query (verdict_on query reply)
-  folder_tells query folder among answer fails reply is says = verdict_tells folder among query reply (folder_failed query folder answer fails reply is) says
+      → (reply : LooseReply) → reply_of (loose_fed (asking setting.limit want id folder) answer) ≡ Some reply
+      → HasVerdict setting want id exchanges folder (verdict_on want reply) → VerdictTells want (verdict_on want reply)
+  folder_tells want folder among answer fails reply is says = verdict_tells folder among want reply (folder_failed want folder answer fails reply is) says

@@ -31,7 +31,7 @@ use Rattle.gix_odb_packs.specs.declared.trier.Tried.{Tried}
 use Rattle.gix_odb_packs.specs.declared.trier.Tried.TheVariants as tried
 use Rattle.gix_odb_calls.specs.Verdict.{verdict_on}
 use Rattle.gix_odb_calls.specs.declared.load_index.Error.TheVariants as load_errors
-use Rattle.gix_odb_calls.specs.declared.query.Query.{Query}
+use Rattle.gix_object.specs.declared.want.Want.{Want}
 use Rattle.gix_odb_calls.specs.declared.verdict.Verdict.{Verdict}
 use Rattle.gix_odb_calls.specs.declared.verdict.Verdict.TheVariants as verdicts
 use Rattle.gix_odb_looks.specs.Laps.{Follows, IsNumbered, number_by}
@@ -150,7 +150,7 @@ module _ (setting : Setting) (now : ℕ) where
 
     reply_owned : (round : LooseRound) (call : LooseCall) (reply : Option LooseReply) → OwnedPart round.part → Owned (by_reply setting head round call reply)
     reply_owned round call None is = is
-    reply_owned round call (Some reply) is = verdict_owned round (verdict_on head.query reply) is
+    reply_owned round call (Some reply) is = verdict_owned round (verdict_on head.want reply) is
 
     -- ---- looks and listings
 
@@ -161,10 +161,10 @@ module _ (setting : Setting) (now : ℕ) where
         by true = tt
         by false = is
 
-    ended_owned : (notes : Notes) → Owned (ended head.query notes)
+    ended_owned : (notes : Notes) → Owned (ended head.want notes)
     ended_owned notes = by notes.failed
       where
-        by : (b : Bool) → Owned (if b then stages.Done (load_refused load_errors.Io) else stages.Done (not_found head.query))
+        by : (b : Bool) → Owned (if b then stages.Done (load_refused load_errors.Io) else stages.Done (not_found head.want))
         by true = tt
         by false = tt
 
@@ -179,7 +179,7 @@ module _ (setting : Setting) (now : ℕ) where
     check_owned : (number : ℕ) (view : View) (notes : Notes) → IsBelow head.own view.list_no now → Owned (by_check setting head number view notes)
     check_owned number view notes is = by (view.list_no == number)
       where
-        by : (b : Bool) → Owned (if b then ended head.query notes else counted setting head view.list_no (listing_from setting view.list_no notes))
+        by : (b : Bool) → Owned (if b then ended head.want notes else counted setting head view.list_no (listing_from setting view.list_no notes))
         by true = ended_owned notes
         by false = counted_owned view.list_no (listing_from setting view.list_no notes) is
 
@@ -278,11 +278,11 @@ own_has_room setting slots before head (stages.Listing lister base notes) listin
 own_has_room setting slots before head (stages.Done reply) listing view is asked numbered = absurd (cc asked)
 
 -- a look-up that is started published none
-pub started-owned : (setting : Setting) (view : View) (query : Query) (id : ObjectId) (number : ℕ) → IsLookOwned number (started setting view query id)
-started-owned setting view query id number = by view.read
+pub started-owned : (setting : Setting) (view : View) (want : Want) (id : ObjectId) (number : ℕ) → IsLookOwned number (started setting view want id)
+started-owned setting view want id number = by view.read
   where
     by : (b : Bool)
         → IsOwned number 0
-        (if b then try_view setting (new_head query id) parts.Snapshot view [] without_notes else stages.Looking (purposes.First true) without_notes)
-    by true = view_owned setting number (new_head query id) parts.Snapshot view [] without_notes (omega arith, omega arith)
+        (if b then try_view setting (new_head want id) parts.Snapshot view [] without_notes else stages.Looking (purposes.First true) without_notes)
+    by true = view_owned setting number (new_head want id) parts.Snapshot view [] without_notes (omega arith, omega arith)
     by false = (omega arith, omega arith)

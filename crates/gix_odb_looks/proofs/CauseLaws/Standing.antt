@@ -1,4 +1,4 @@
--- Where a look-up stands: what it tries is wanted, what it asks is a folder of its store, and its reply is one of its query.
+-- Where a look-up stands: what it tries is wanted, what it asks is a folder of its store, and its reply is of what it wants.
 use Rattle.std.proofs.Common.{ap, ◌≡◌, ℕ, Bool, true, false, ◌==◌, List, [], slice_get, Option, Some, None, Ok, Err, refl, sym, ◌∙◌, subst}
 use Rattle.std.specs.Prelude.{if◌then◌else◌, unwrap_or, Contains}
 use Rattle.odb_base.specs.Path.{Path}
@@ -24,7 +24,7 @@ use Rattle.gix_odb_calls.specs.Verdict.{asking, verdict_on}
 use Rattle.gix_odb_calls.specs.declared.load_index.Error as load
 use Rattle.gix_odb_calls.specs.declared.find.Error.TheVariants as find_errors
 use Rattle.gix_odb_calls.specs.declared.load_index.Error.TheVariants as load_errors
-use Rattle.gix_odb_calls.specs.declared.query.Query.{Query}
+use Rattle.gix_object.specs.declared.want.Want.{Want}
 use Rattle.gix_odb_calls.specs.declared.verdict.Verdict.{Verdict}
 use Rattle.gix_odb_calls.specs.declared.verdict.Verdict.TheVariants as verdicts
 use Rattle.gix_odb_looks.specs.LoadIndex.{of_refusal}
@@ -32,7 +32,7 @@ use Rattle.gix_odb_looks.specs.LookUpOrder.{Setting, after_list, after_loose, at
 use Rattle.gix_odb_looks.specs.LookUpOrder.{by_first, by_listed, by_look, by_published, by_reply, by_tried}
 use Rattle.gix_odb_looks.specs.LookUpOrder.{by_verdict, counted, ended, fed, fed_at, find_error, goal_of}
 use Rattle.gix_odb_looks.specs.LookUpOrder.{is_unsettled, listing_from, load_refused, loose_fed, loose_from, not_found}
-use Rattle.gix_odb_looks.specs.LookUpOrder.{lister_fed, new_head, seen, started, trier_fed, try_view, unsettled, view_shown, wanted_by, with_own, without_notes}
+use Rattle.gix_odb_looks.specs.LookUpOrder.{lister_fed, new_head, seen, started, trier_fed, try_view, unsettled, view_shown, with_own, without_notes}
 use Rattle.gix_odb_looks.specs.Shown.{folders_of}
 use Rattle.gix_odb_looks.specs.declared.look_up.LookHead.{LookHead}
 use Rattle.gix_odb_looks.specs.declared.look_up.LookStage.{LookStage}
@@ -50,31 +50,31 @@ use Rattle.gix_odb_packs.proofs.TrierLaws.{Comes, Fits, fed-comes, seek-comes}
 
 -- ---- what is so at each stage
 
-module _ (setting : Setting) (query : Query) (id : ObjectId) where
+module _ (setting : Setting) (want : Want) (id : ObjectId) where
   -- a folder's call has just begun
   abbrev pub IsOfFolder : LooseCall → Type 0
-  IsOfFolder call = (folder : Path) × Contains (folders_of setting) folder × (call ≡ asking setting.limit query id folder)
+  IsOfFolder call = (folder : Path) × Contains (folders_of setting) folder × (call ≡ asking setting.limit want id folder)
 
   abbrev pub StandsAt : LookStage → Type 0
-  StandsAt (stages.Trying trier part) = trier.goal.wanted ≡ wanted_by query
+  StandsAt (stages.Trying trier part) = trier.goal.want ≡ want
   StandsAt (stages.Loose round call) = IsOfFolder call
   StandsAt (stages.Looking purpose notes) = Unit {0}
   StandsAt (stages.Listing lister base notes) = IsAtFolder setting lister.head
   StandsAt (stages.Publishing listing notes) = Unit {0}
-  StandsAt (stages.Done reply) = IsReplyTo query reply
+  StandsAt (stages.Done reply) = IsReplyTo want reply
 
 -- the same of a look-up
 abbrev pub Stands : Setting → LookUp → Type 0
-Stands setting look = StandsAt setting look.head.query look.head.id look.stage
+Stands setting look = StandsAt setting look.head.want look.head.id look.stage
 
 -- ---- one exchange
 
 module _ (setting : Setting) (head : LookHead) where
   abbrev Stand : LookStage → Type 0
-  Stand stage = StandsAt setting head.query head.id stage
+  Stand stage = StandsAt setting head.want head.id stage
 
   load_refused-stand : (error : load.Error) → Stand (stages.Done (load_refused error))
-  load_refused-stand error = refused_replies head.query (find_errors.LoadIndex error)
+  load_refused-stand error = refused_replies head.want (find_errors.LoadIndex error)
 
   loose_from-stand : (part : Part) (notes : Notes) → Stand (loose_from setting head part notes)
   loose_from-stand part notes = (setting.objects, first_folder setting, refl)
@@ -93,21 +93,21 @@ module _ (setting : Setting) (head : LookHead) where
   after_loose-stand (parts.List list_no loose) notes = listing_from-stand list_no notes
   after_loose-stand (parts.Published list_no) notes = tt
 
-  ended-stand : (notes : Notes) → Stand (ended head.query notes)
+  ended-stand : (notes : Notes) → Stand (ended head.want notes)
   ended-stand notes = by notes.failed
     where
-      by : (b : Bool) → Stand (if b then stages.Done (load_refused load_errors.Io) else stages.Done (not_found head.query))
+      by : (b : Bool) → Stand (if b then stages.Done (load_refused load_errors.Io) else stages.Done (not_found head.want))
       by true = load_refused-stand load_errors.Io
-      by false = not_found_replies head.query
+      by false = not_found_replies head.want
 
   -- ---- the indices of a list
 
-  by_tried-stand : (part : Part) (goal : Goal) → goal.wanted ≡ wanted_by head.query → (t : Tried) → Comes goal (Unit {0}) (λ refusal. Unit {0}) t
+  by_tried-stand : (part : Part) (goal : Goal) → goal.want ≡ head.want → (t : Tried) → Comes goal (Unit {0}) (λ refusal. Unit {0}) t
       → Stand (by_tried setting head part t)
-  by_tried-stand part goal is (tried.More trier) comes = ap (λ (g : Goal). g.wanted) comes.0 ∙ is
-  by_tried-stand part goal is (tried.Hit found) comes = found_replies head.query found (subst (λ w. Fits w found) is comes)
+  by_tried-stand part goal is (tried.More trier) comes = ap (λ (g : Goal). g.want) comes.0 ∙ is
+  by_tried-stand part goal is (tried.Hit found) comes = found_replies head.want found (subst (λ w. Fits w found) is comes)
   by_tried-stand part goal is (tried.Missed notes) comes = after_list-stand part notes
-  by_tried-stand part goal is (tried.Bad error) comes = refused_replies head.query (find_error error)
+  by_tried-stand part goal is (tried.Bad error) comes = refused_replies head.want (find_error error)
   by_tried-stand part goal is (tried.Broken refusal) comes = load_refused-stand (of_refusal refusal)
 
   try_view-stand : (part : Part) (view : View) (todo : List Todo) (notes : Notes) → Stand (try_view setting head part view todo notes)
@@ -124,20 +124,20 @@ module _ (setting : Setting) (head : LookHead) where
   at_folder-stand round None is = after_loose-stand round.part round.notes
   at_folder-stand round (Some folder) is = (folder, later_folder setting round.next folder is, refl)
 
-  by_verdict-stand : (round : LooseRound) (verdict : Verdict) → EndsWell head.query verdict → Stand (by_verdict setting head round verdict)
+  by_verdict-stand : (round : LooseRound) (verdict : Verdict) → EndsWell head.want verdict → Stand (by_verdict setting head round verdict)
   by_verdict-stand round (verdicts.Ends reply) well = well
   by_verdict-stand round verdicts.Misses well = at_folder-stand round (slice_get setting.folders round.next) refl
   by_verdict-stand round (verdicts.Notes error) well =
       at_folder-stand (record round { notes = record round.notes { failed = true } }) (slice_get setting.folders round.next) refl
 
   by_asking-stand : (round : LooseRound) (folder : Path) (answer : DiskAnswer)
-      → Stand (by_call setting head round (loose_fed (asking setting.limit head.query head.id folder) answer))
+      → Stand (by_call setting head round (loose_fed (asking setting.limit head.want head.id folder) answer))
   by_asking-stand round folder answer =
-      let has = folder_has_reply setting.limit head.query head.id folder answer in
-      subst (λ reply. Stand (by_reply setting head round (loose_fed (asking setting.limit head.query head.id folder) answer) reply)) (sym has.1)
-      (by_verdict-stand round (verdict_on head.query has.0) (verdict_ends_well head.query has.0))
+      let has = folder_has_reply setting.limit head.want head.id folder answer in
+      subst (λ reply. Stand (by_reply setting head round (loose_fed (asking setting.limit head.want head.id folder) answer) reply)) (sym has.1)
+      (by_verdict-stand round (verdict_on head.want has.0) (verdict_ends_well head.want has.0))
 
-  by_call-stand : (round : LooseRound) (call : LooseCall) → IsOfFolder setting head.query head.id call → (answer : DiskAnswer)
+  by_call-stand : (round : LooseRound) (call : LooseCall) → IsOfFolder setting head.want head.id call → (answer : DiskAnswer)
       → Stand (by_call setting head round (loose_fed call answer))
   by_call-stand round call (folder, among, is) answer =
       subst (λ call. Stand (by_call setting head round (loose_fed call answer))) (sym is) (by_asking-stand round folder answer)
@@ -162,7 +162,7 @@ module _ (setting : Setting) (head : LookHead) where
   by_check-stand : (list_no : ℕ) (view : View) (notes : Notes) → Stand (by_check setting head list_no view notes)
   by_check-stand list_no view notes = by (view.list_no == list_no)
     where
-      by : (b : Bool) → Stand (if b then ended head.query notes else counted setting head view.list_no (listing_from setting view.list_no notes))
+      by : (b : Bool) → Stand (if b then ended head.want notes else counted setting head view.list_no (listing_from setting view.list_no notes))
       by true = ended-stand notes
       by false = counted-stand view.list_no (listing_from setting view.list_no notes) (listing_from-stand view.list_no notes)
 
@@ -178,15 +178,15 @@ module _ (setting : Setting) (head : LookHead) where
   by_listed-stand base notes listed.Broken goes = load_refused-stand load_errors.Io
 
 by_published-stand : (setting : Setting) (head : LookHead) (listing : Listing) (notes : Notes) (effect : Effect)
-    → StandsAt setting head.query head.id (by_published setting head listing notes effect).stage
+    → StandsAt setting head.want head.id (by_published setting head listing notes effect).stage
 by_published-stand setting head listing notes (effects.Published view) =
     try_view-stand setting (with_own head) (parts.Published view.list_no) view view.todo notes
 by_published-stand setting head listing notes (effects.Unchanged view) = try_view-stand setting head (parts.Published view.list_no) view view.todo notes
 by_published-stand setting head listing notes (effects.Outdated list_no) = counted-stand setting head list_no (stages.Looking purposes.Again notes) tt
 by_published-stand setting head listing notes effect = tt
 
-fed_at-stand : (setting : Setting) (head : LookHead) (stage : LookStage) (answer : Answer) → StandsAt setting head.query head.id stage
-    → StandsAt setting head.query head.id (fed_at setting head stage answer).stage
+fed_at-stand : (setting : Setting) (head : LookHead) (stage : LookStage) (answer : Answer) → StandsAt setting head.want head.id stage
+    → StandsAt setting head.want head.id (fed_at setting head stage answer).stage
 fed_at-stand setting head (stages.Trying trier part) answer is =
     by_tried-stand setting head part trier.goal is (trier_fed trier answer)
     (fed-comes (Unit {0}) (λ refusal. Unit {0}) trier answer (λ so. tt) (λ so. tt) (λ event refusal asked so. tt))
@@ -203,16 +203,16 @@ fed_at-stand setting head (stages.Publishing listing notes) (told.Core (Ok effec
 fed_at-stand setting head (stages.Publishing listing notes) (told.Core (Err refusal)) is = load_refused-stand setting head (of_refusal refusal)
 fed_at-stand setting head (stages.Done reply) answer is = is
 
--- a look-up keeps its query and its id
+-- a look-up keeps what it wants and its id
 by_published-head : (setting : Setting) (head : LookHead) (listing : Listing) (notes : Notes) (effect : Effect)
-    → ((by_published setting head listing notes effect).head.query ≡ head.query) × ((by_published setting head listing notes effect).head.id ≡ head.id)
+    → ((by_published setting head listing notes effect).head.want ≡ head.want) × ((by_published setting head listing notes effect).head.id ≡ head.id)
 by_published-head setting head listing notes (effects.Published view) = (refl, refl)
 by_published-head setting head listing notes (effects.Unchanged view) = (refl, refl)
 by_published-head setting head listing notes (effects.Outdated list_no) = (refl, refl)
 by_published-head setting head listing notes effect = (refl, refl)
 
 fed_at-head : (setting : Setting) (head : LookHead) (stage : LookStage) (answer : Answer)
-    → ((fed_at setting head stage answer).head.query ≡ head.query) × ((fed_at setting head stage answer).head.id ≡ head.id)
+    → ((fed_at setting head stage answer).head.want ≡ head.want) × ((fed_at setting head stage answer).head.id ≡ head.id)
 fed_at-head setting head (stages.Trying trier part) answer = (refl, refl)
 fed_at-head setting head (stages.Loose round call) (told.Disk answer) = (refl, refl)
 fed_at-head setting head (stages.Loose round call) (told.Core answer) = (refl, refl)
@@ -226,34 +226,34 @@ fed_at-head setting head (stages.Publishing listing notes) (told.Core (Ok effect
 fed_at-head setting head (stages.Publishing listing notes) (told.Core (Err refusal)) = (refl, refl)
 fed_at-head setting head (stages.Done reply) answer = (refl, refl)
 
--- ---- a look-up for a query
+-- ---- a look-up of an id
 
--- it is for this query and this id, and stands well
-pub record StandsFor (setting : Setting) (query : Query) (id : ObjectId) (look : LookUp) : Type 0 where
-  pub query_is : look.head.query ≡ query
+-- it wants this of this id, and stands well
+pub record StandsFor (setting : Setting) (want : Want) (id : ObjectId) (look : LookUp) : Type 0 where
+  pub want_is : look.head.want ≡ want
   pub id_is : look.head.id ≡ id
   pub stands : Stands setting look
 
-pub started-stands : (setting : Setting) (view : View) (query : Query) (id : ObjectId) → StandsFor setting query id (started setting view query id)
-started-stands setting view query id = record { query_is = refl; id_is = refl; stands = by view.read }
+pub started-stands : (setting : Setting) (view : View) (want : Want) (id : ObjectId) → StandsFor setting want id (started setting view want id)
+started-stands setting view want id = record { want_is = refl; id_is = refl; stands = by view.read }
   where
     head : LookHead
-    head = new_head query id
+    head = new_head want id
 
     by : (b : Bool)
-        → StandsAt setting query id (if b then try_view setting head parts.Snapshot view [] without_notes else stages.Looking (purposes.First true) without_notes)
+        → StandsAt setting want id (if b then try_view setting head parts.Snapshot view [] without_notes else stages.Looking (purposes.First true) without_notes)
     by true = try_view-stand setting head parts.Snapshot view [] without_notes
     by false = tt
 
-pub fed-stands : (setting : Setting) (query : Query) (id : ObjectId) (look : LookUp) (answer : Answer) → StandsFor setting query id look
-    → StandsFor setting query id (fed setting look answer)
-fed-stands setting query id look answer before =
+pub fed-stands : (setting : Setting) (want : Want) (id : ObjectId) (look : LookUp) (answer : Answer) → StandsFor setting want id look
+    → StandsFor setting want id (fed setting look answer)
+fed-stands setting want id look answer before =
     let kept = fed_at-head setting (seen look.head answer) look.stage answer in
     let stand = fed_at-stand setting (seen look.head answer) look.stage answer before.stands in
     record {
-      query_is = kept.0 ∙ before.query_is;
+      want_is = kept.0 ∙ before.want_is;
       id_is = kept.1 ∙ before.id_is;
       stands =
           subst (λ q. StandsAt setting q (fed setting look answer).head.id (fed setting look answer).stage) (sym kept.0)
-          (subst (λ i. StandsAt setting look.head.query i (fed setting look answer).stage) (sym kept.1) stand);
+          (subst (λ i. StandsAt setting look.head.want i (fed setting look answer).stage) (sym kept.1) stand);
     }

@@ -91,22 +91,22 @@ module _ (Shown : Path → List ℕ → Type 0) (setting : Setting) (hash : Kind
     after_loose-known (parts.List list_no loose) notes noted showed = listing_from-known list_no notes noted showed
     after_loose-known (parts.Published list_no) notes noted showed = noted
 
-    ended-known : (notes : Notes) → Noted exchanges notes → Knows head (ended head.query notes)
+    ended-known : (notes : Notes) → Noted exchanges notes → Knows head (ended head.want notes)
     ended-known notes noted = by notes.failed refl
       where
-        by : (b : Bool) → notes.failed ≡ b → Knows head (if b then stages.Done (load_refused load_errors.Io) else stages.Done (not_found head.query))
+        by : (b : Bool) → notes.failed ≡ b → Knows head (if b then stages.Done (load_refused load_errors.Io) else stages.Done (not_found head.want))
         by true is = inl (noted is)
-        by false is = not_found_explained Shown setting hash id exchanges head.query
+        by false is = not_found_explained Shown setting hash id exchanges head.want
 
     -- ---- the indices of a list
 
     by_tried-known : (part : Part) → ShowedPart head part → (goal : Goal) (t : Tried) → Comes goal (HasFailed exchanges) Refuses t
         → Knows head (by_tried setting head part t)
     by_tried-known part showed goal (tried.More trier) tells = (tells.1, showed)
-    by_tried-known part showed goal (tried.Hit found) tells = found_explained Shown setting hash id exchanges head.query found
+    by_tried-known part showed goal (tried.Hit found) tells = found_explained Shown setting hash id exchanges head.want found
     by_tried-known part showed goal (tried.Missed notes) tells = after_list-known part notes tells showed
-    by_tried-known part showed goal (tried.Bad error) tells = bad_explained Shown setting hash id exchanges head.query error
-    by_tried-known part showed goal (tried.Broken refusal) tells = refusal_explained Shown setting hash id exchanges head.query refusal tells
+    by_tried-known part showed goal (tried.Bad error) tells = bad_explained Shown setting hash id exchanges head.want error
+    by_tried-known part showed goal (tried.Broken refusal) tells = refusal_explained Shown setting hash id exchanges head.want refusal tells
 
     pub try_view-known : (part : Part) → ShowedPart head part → (view : View) (todo : List Todo) (notes : Notes) → Noted exchanges notes
         → Knows head (try_view setting head part view todo notes)
@@ -125,7 +125,7 @@ module _ (Shown : Path → List ℕ → Type 0) (setting : Setting) (hash : Kind
     at_folder-known round noted showed (Some folder) = (noted, showed)
 
     by_verdict-known : (round : LooseRound) → Noted exchanges round.notes → ShowedPart head round.part → (verdict : Verdict)
-        → VerdictTells Shown setting hash id exchanges head.query verdict
+        → VerdictTells Shown setting hash id exchanges head.want verdict
         → Knows head (by_verdict setting head round verdict)
     by_verdict-known round noted showed (verdicts.Ends reply) tells = tells
     by_verdict-known round noted showed verdicts.Misses tells = at_folder-known round noted showed (slice_get setting.folders round.next)
@@ -160,7 +160,7 @@ module _ (Shown : Path → List ℕ → Type 0) (setting : Setting) (hash : Kind
           → Knows head (by_check setting head list_no view notes)
       by_check-known list_no view notes noted number = by (view.list_no == list_no)
         where
-          by : (b : Bool) → Knows head (if b then ended head.query notes else counted setting head view.list_no (listing_from setting view.list_no notes))
+          by : (b : Bool) → Knows head (if b then ended head.want notes else counted setting head view.list_no (listing_from setting view.list_no notes))
           by true = ended-known notes noted
           by false = counted-known view.list_no number (listing_from setting view.list_no notes) (listing_from-known view.list_no notes noted begun)
 
@@ -263,21 +263,21 @@ module _ (Shown : Path → List ℕ → Type 0) (setting : Setting) (hash : Kind
     module _ (round : LooseRound) (knows : Noted exchanges round.notes × ShowedPart head round.part) where
       module _ (folder : Path) (among : Contains (folders_of setting) folder) where
         abbrev call_asked : LooseCall
-        call_asked = asking setting.limit head.query id folder
+        call_asked = asking setting.limit head.want id folder
 
         abbrev at_call : LookStage
         at_call = stages.Loose round call_asked
 
         asking-known : (answer : DiskAnswer) → Answered before head at_call (told.Disk answer) → Knowing (fed_at setting head at_call (told.Disk answer))
         asking-known answer t =
-            let asks_so = folder_has_ask setting.limit head.query id folder in
-            let replies_so = folder_has_reply setting.limit head.query id folder answer in
+            let asks_so = folder_has_ask setting.limit head.want id folder in
+            let replies_so = folder_has_reply setting.limit head.want id folder answer in
             let asked : ask_at at_call ≡ Some (asks.Disk asks_so.0) = ap loose_ask asks_so.1 in
             let was = was_told at_call (told.Disk answer) t (asks.Disk asks_so.0) asked in (
               quiet at_call (told.Disk answer) t (asks.Disk asks_so.0) asked refl,
               subst (λ reply. Knows head (by_reply setting head round (loose_fed call_asked answer) reply)) (sym replies_so.1)
-                  (by_verdict-known head round knows.0 knows.1 (verdict_on head.query replies_so.0)
-                  (folder_tells Shown setting hash id exchanges head.query folder among answer
+                  (by_verdict-known head round knows.0 knows.1 (verdict_on head.want replies_so.0)
+                  (folder_tells Shown setting hash id exchanges head.want folder among answer
                   (λ is. HasFailed-from_told exchanges (asks.Disk asks_so.0) (told.Disk answer) was (ap (λ (a : DiskAnswer). told.Disk a) is))
                   replies_so.0 replies_so.1
                   (record { ask = asks_so.0; asked = asks_so.1; answer = answer; told = was; reply = replies_so.0; replied = replies_so.1; is = refl }))),
@@ -286,10 +286,10 @@ module _ (Shown : Path → List ℕ → Type 0) (setting : Setting) (hash : Kind
         -- the disk answers
         never_core : (answer : core.Answer) → Answered before head at_call (told.Core answer) → ⊥
         never_core answer t =
-            let asks_so = folder_has_ask setting.limit head.query id folder in
+            let asks_so = folder_has_ask setting.limit head.want id folder in
             is_true at_call (told.Core answer) t (asks.Disk asks_so.0) (ap loose_ask asks_so.1)
 
-      loose-known : (call : LooseCall) → IsOfFolder setting head.query id call → (answer : Answer) → Answered before head (stages.Loose round call) answer
+      loose-known : (call : LooseCall) → IsOfFolder setting head.want id call → (answer : Answer) → Answered before head (stages.Loose round call) answer
           → Knowing (fed_at setting head (stages.Loose round call) answer)
       loose-known call (folder, among, is) (told.Disk answer) t =
           subst (λ c. Answered before head (stages.Loose round c) (told.Disk answer) → Knowing (fed_at setting head (stages.Loose round c) (told.Disk answer)))
@@ -332,7 +332,7 @@ module _ (Shown : Path → List ℕ → Type 0) (setting : Setting) (hash : Kind
         )
     looking-known purpose notes noted (told.Core (Err refusal)) t = (
       quiet (stages.Looking purpose notes) (told.Core (Err refusal)) t (asks.Core events.Look) refl refl,
-      refusal_explained Shown setting hash id exchanges head.query refusal
+      refusal_explained Shown setting hash id exchanges head.want refusal
           (record { event = events.Look; told = was_told (stages.Looking purpose notes) (told.Core (Err refusal)) t (asks.Core events.Look) refl }),
     )
 
@@ -378,13 +378,13 @@ module _ (Shown : Path → List ℕ → Type 0) (setting : Setting) (hash : Kind
       publishing-known (told.Core (Ok effect)) t = by_published-known effect t
       publishing-known (told.Core (Err refusal)) t = (
         counts_so (told.Core (Err refusal)) t refl,
-        refusal_explained Shown setting hash id exchanges head.query refusal
+        refusal_explained Shown setting hash id exchanges head.want refusal
             (record { event = events.Publish listing; told = was_told at_publish (told.Core (Err refusal)) t publish refl }),
       )
 
     -- ---- any stage
 
-    pub fed_at-known : (stage : LookStage) (answer : Answer) → Answered before head stage answer → StandsAt setting head.query id stage → Knows head stage
+    pub fed_at-known : (stage : LookStage) (answer : Answer) → Answered before head stage answer → StandsAt setting head.want id stage → Knows head stage
         → Knowing (fed_at setting head stage answer)
     fed_at-known (stages.Trying trier part) answer t stands knows = trying-known trier part answer t knows
     fed_at-known (stages.Loose round call) answer t stands knows = loose-known round knows call stands answer t

@@ -18,7 +18,7 @@ use Rattle.gix_odb_calls.specs.declared.call.CallError.TheVariants as call_error
 use Rattle.gix_odb_calls.specs.declared.call.Reply.TheVariants as replies
 use Rattle.gix_odb_calls.specs.declared.call.Reply.{Reply}
 use Rattle.gix_odb_calls.specs.declared.find.Error.{Error}
-use Rattle.gix_odb_calls.specs.declared.query.Query.{Query}
+use Rattle.gix_object.specs.declared.want.Want.{Want}
 use Rattle.gix_odb_looks.specs.Caused.{IsCaused}
 use Rattle.gix_odb_looks.specs.Exchange.{AreAsked, Exchange, behind}
 use Rattle.gix_odb_looks.specs.LookUpOrder.{Setting, ask_at, fed, loose_ask, result_at, result_of, seen, started}
@@ -39,7 +39,7 @@ disk_hands : (Shown : Path → List ℕ → Type 0) (setting : Setting) (hash : 
 disk_hands Shown setting hash None ask is = absurd (cc is)
 disk_hands Shown setting hash (Some own) ask is = let same : asks.Disk own ≡ ask = cc is in subst (IsHandedBy Shown setting hash) same tt
 
-module _ (Shown : Path → List ℕ → Type 0) (setting : Setting) (hash : Kind) (query : Query) (id : ObjectId) where
+module _ (Shown : Path → List ℕ → Type 0) (setting : Setting) (hash : Kind) (want : Want) (id : ObjectId) where
   trier_hands : (stage : Stage) → KnowsStage Shown setting hash id stage → IsHandedBy Shown setting hash (tries.ask_at stage)
   trier_hands (tries_stages.StoringIndex place file) here = here
   trier_hands (tries_stages.StoringPack pack file) here = here.1
@@ -49,10 +49,10 @@ module _ (Shown : Path → List ℕ → Type 0) (setting : Setting) (hash : Kind
 
   module _ (exchanges : List Exchange) where
     abbrev pub Knows : LookUp → Type 0
-    Knows look = KnowsLook Shown setting hash id exchanges query look
+    Knows look = KnowsLook Shown setting hash id exchanges want look
 
     abbrev pub Stands : LookStage → Type 0
-    Stands stage = KnowsLookStage Shown setting hash id exchanges query stage
+    Stands stage = KnowsLookStage Shown setting hash id exchanges want stage
 
     rest_known : kind_of id ≡ hash → AreTrue Shown setting hash exchanges → (rest : List Exchange) (look : LookUp)
         → ((exchange : Exchange) → Contains rest exchange → Contains exchanges exchange)
@@ -63,8 +63,8 @@ module _ (Shown : Path → List ℕ → Type 0) (setting : Setting) (hash : Kind
     rest_known same truth (exchange ∷ rest) look among asked known =
         let here = among exchange (has_first exchange rest) in
         rest_known same truth rest (fed setting look exchange.answer) (λ other is. among other (has_later exchange rest other is)) asked.1
-        (stage_known Shown setting hash id exchanges query same (seen look.head exchange.answer) look.stage exchange.ask exchange.answer
-        (record { query_is = known.head.query_is; id_is = known.head.id_is }) known.stage asked.0 (truth exchange here) here)
+        (stage_known Shown setting hash id exchanges want same (seen look.head exchange.answer) look.stage exchange.ask exchange.answer
+        (record { want_is = known.head.want_is; id_is = known.head.id_is }) known.stage asked.0 (truth exchange here) here)
 
     -- what a stage hands to the core
     pub stage_hands : (stage : LookStage) (ask : Ask) → Stands stage → ask_at stage ≡ Some ask → IsHandedBy Shown setting hash ask
@@ -85,24 +85,24 @@ module _ (Shown : Path → List ℕ → Type 0) (setting : Setting) (hash : Kind
 
     -- what is known of the reply of a look-up that is done
     pub done_known : (head : LookHead) (stage : LookStage) (reply : Reply) → Stands stage → result_at head stage ≡ Ok reply
-        → KnowsReply Shown setting hash id exchanges query reply
+        → KnowsReply Shown setting hash id exchanges want reply
     done_known head (stages.Done own) reply here is =
         let same : own ≡ reply = cc is in
-        subst (λ (other : Reply). KnowsReply Shown setting hash id exchanges query other) same here
+        subst (λ (other : Reply). KnowsReply Shown setting hash id exchanges want other) same here
     done_known head stage reply here is = absurd (cc is)
 
   module _ (same : kind_of id ≡ hash) (view : View) (shown : IsShownView Shown setting hash view) (exchanges : List Exchange)
-      (asked : AreAsked setting (started setting view query id) exchanges) (truth : AreTrue Shown setting hash exchanges) where
+      (asked : AreAsked setting (started setting view want id) exchanges) (truth : AreTrue Shown setting hash exchanges) where
     abbrev pub look : LookUp
-    look = behind setting (started setting view query id) exchanges
+    look = behind setting (started setting view want id) exchanges
 
-    pub look_known : KnowsLook Shown setting hash id exchanges query look
+    pub look_known : KnowsLook Shown setting hash id exchanges want look
     look_known =
-        rest_known exchanges same truth exchanges (started setting view query id) (λ exchange is. is) asked
-        (begun_known Shown setting hash id exchanges query view shown)
+        rest_known exchanges same truth exchanges (started setting view want id) (λ exchange is. is) asked
+        (begun_known Shown setting hash id exchanges want view shown)
 
     -- an error that packs give has its cause
     pub pack_refusal_caused : (error : Error) → result_of look ≡ Ok (replies.Refused (call_errors.Find error)) → IsOfPack error
-        → IsCaused Shown setting hash id query exchanges error
+        → IsCaused Shown setting hash id want exchanges error
     pack_refusal_caused error is of =
         (done_known exchanges look.head look.stage (replies.Refused (call_errors.Find error)) look_known.stage is).caused error refl of

@@ -31,12 +31,12 @@ use Rattle.gix_odb_packs.specs.declared.search.WantedPack.{WantedPack}
 use Rattle.gix_odb_packs.proofs.SeekLaws.{Comes, unloaded_comes}
 use Rattle.gix_odb_calls.specs.declared.call.Reply.TheVariants as replies
 use Rattle.gix_odb_calls.specs.declared.find.Header.TheVariants as headers
-use Rattle.gix_odb_calls.specs.declared.query.Query.{Query}
-use Rattle.gix_odb_calls.specs.declared.query.Query.TheVariants.{Find, Header, Test}
+use Rattle.gix_object.specs.declared.want.Want.{Want}
+use Rattle.gix_object.specs.declared.want.Want.TheVariants.{Object, Header, Presence}
 use Rattle.gix_odb_looks.specs.Caused.{IsCaused}
 use Rattle.gix_odb_looks.specs.Exchange.{Exchange}
 use Rattle.gix_odb_looks.specs.Found.{IsEntryReply, IsHeaderReply, IsInIndex, IsInPack}
-use Rattle.gix_odb_looks.specs.LookUpOrder.{Setting, find_error, wanted_by}
+use Rattle.gix_odb_looks.specs.LookUpOrder.{Setting, find_error}
 use Rattle.gix_odb_looks.specs.Shown.{IsPackShownAt, IsPackShown, IsIndexShown}
 use Rattle.gix_odb_looks.proofs.FoundLaws.Known.{IsCausedHere, IsFoundHere, IsWanted, KnowsGiven, goal_for}
 use Rattle.gix_odb_looks.proofs.FoundLaws.Lists.{find_passes}
@@ -49,20 +49,20 @@ equal Greater is = cc is
 
 module _ (Shown : Path → List ℕ → Type 0) (setting : Setting) (hash : Kind) (id : ObjectId)
     (exchanges : List Exchange) where
-  abbrev aim : Query → Goal
-  aim query = goal_for setting query id
+  abbrev aim : Want → Goal
+  aim want = goal_for setting want id
 
-  abbrev Hits : Query → Found → Type 0
-  Hits query found = IsFoundHere Shown setting hash id exchanges query found
+  abbrev Hits : Want → Found → Type 0
+  Hits want found = IsFoundHere Shown setting hash id exchanges want found
 
-  abbrev Bads : Query → goals.Error → Type 0
-  Bads query error = IsCausedHere Shown setting hash id exchanges query error
+  abbrev Bads : Want → goals.Error → Type 0
+  Bads want error = IsCausedHere Shown setting hash id exchanges want error
 
   abbrev Wanted : WantedPack → Type 0
   Wanted pack = IsWanted Shown setting hash id pack
 
-  abbrev GivenOf : Query → Result Found goals.Error → Type 0
-  GivenOf query given = KnowsGiven Shown setting hash id exchanges query given
+  abbrev GivenOf : Want → Result Found goals.Error → Type 0
+  GivenOf want given = KnowsGiven Shown setting hash id exchanges want given
 
   -- ---- what a pack gives
 
@@ -72,75 +72,75 @@ module _ (Shown : Path → List ℕ → Type 0) (setting : Setting) (hash : Kind
     within Content content =
         record { path = path; offset = offset; index = index; pack = file.bytes; parsed = read.parsed; shown = read.shown; content = content }
 
-    abbrev IsCausedBy : Query → pack_data.Error → Type 0
-    IsCausedBy query error = IsCaused Shown setting hash id query exchanges (find_error (error_of error))
+    abbrev IsCausedBy : Want → pack_data.Error → Type 0
+    IsCausedBy want error = IsCaused Shown setting hash id want exchanges (find_error (error_of error))
 
-    entry_refused : (asked : ObjectId) (error : pack_data.Error) → entry_at hash file.bytes offset setting.limit ≡ Err error → IsOfEntry error
-        → IsCausedBy (Find asked) error
-    entry_refused asked data_errors.BadPack is fits = absurd fits
-    entry_refused asked data_errors.BadEntry is fits = within (λ pack at. entry_at hash pack at setting.limit ≡ Err data_errors.BadEntry) is
-    entry_refused asked data_errors.DeltaEntry is fits = within (λ pack at. entry_at hash pack at setting.limit ≡ Err data_errors.DeltaEntry) is
-    entry_refused asked (data_errors.OutOfMemory size) is fits = within (λ pack at. entry_at hash pack at setting.limit ≡ Err (data_errors.OutOfMemory size)) is
-    entry_refused asked (data_errors.EntryType code) is fits = within (λ pack at. entry_at hash pack at setting.limit ≡ Err (data_errors.EntryType code)) is
+    entry_refused : (error : pack_data.Error) → entry_at hash file.bytes offset setting.limit ≡ Err error → IsOfEntry error
+        → IsCausedBy Object error
+    entry_refused data_errors.BadPack is fits = absurd fits
+    entry_refused data_errors.BadEntry is fits = within (λ pack at. entry_at hash pack at setting.limit ≡ Err data_errors.BadEntry) is
+    entry_refused data_errors.DeltaEntry is fits = within (λ pack at. entry_at hash pack at setting.limit ≡ Err data_errors.DeltaEntry) is
+    entry_refused (data_errors.OutOfMemory size) is fits = within (λ pack at. entry_at hash pack at setting.limit ≡ Err (data_errors.OutOfMemory size)) is
+    entry_refused (data_errors.EntryType code) is fits = within (λ pack at. entry_at hash pack at setting.limit ≡ Err (data_errors.EntryType code)) is
 
-    header_refused : (asked : ObjectId) (error : pack_data.Error) → header_at hash file.bytes offset ≡ Err error → IsOfHeader error
-        → IsCausedBy (Header asked) error
-    header_refused asked data_errors.BadPack is fits = absurd fits
-    header_refused asked data_errors.BadEntry is fits = within (λ pack at. header_at hash pack at ≡ Err data_errors.BadEntry) is
-    header_refused asked data_errors.DeltaEntry is fits = within (λ pack at. header_at hash pack at ≡ Err data_errors.DeltaEntry) is
-    header_refused asked (data_errors.OutOfMemory size) is fits = absurd fits
-    header_refused asked (data_errors.EntryType code) is fits = within (λ pack at. header_at hash pack at ≡ Err (data_errors.EntryType code)) is
+    header_refused : (error : pack_data.Error) → header_at hash file.bytes offset ≡ Err error → IsOfHeader error
+        → IsCausedBy Header error
+    header_refused data_errors.BadPack is fits = absurd fits
+    header_refused data_errors.BadEntry is fits = within (λ pack at. header_at hash pack at ≡ Err data_errors.BadEntry) is
+    header_refused data_errors.DeltaEntry is fits = within (λ pack at. header_at hash pack at ≡ Err data_errors.DeltaEntry) is
+    header_refused (data_errors.OutOfMemory size) is fits = absurd fits
+    header_refused (data_errors.EntryType code) is fits = within (λ pack at. header_at hash pack at ≡ Err (data_errors.EntryType code)) is
 
-    object_given : (asked : ObjectId) (result : Result Entry pack_data.Error) → entry_at hash file.bytes offset setting.limit ≡ result
-        → GivenOf (Find asked) (object_in result)
-    object_given asked (Ok entry) is =
+    object_given : (result : Result Entry pack_data.Error) → entry_at hash file.bytes offset setting.limit ≡ result
+        → GivenOf Object (object_in result)
+    object_given (Ok entry) is =
         within (λ pack at. IsEntryReply hash setting.limit pack at (replies.Found entry.kind entry.bytes)) (record { entry = entry; there = is; is = refl })
-    object_given asked (Err error) is = entry_refused asked error is (entry_error hash file.bytes offset setting.limit error is)
+    object_given (Err error) is = entry_refused error is (entry_error hash file.bytes offset setting.limit error is)
 
-    header_given : (asked : ObjectId) (result : Result pack_header.Header pack_data.Error) → header_at hash file.bytes offset ≡ result
-        → GivenOf (Header asked) (header_in result)
-    header_given asked (Ok header) is =
+    header_given : (result : Result pack_header.Header pack_data.Error) → header_at hash file.bytes offset ≡ result
+        → GivenOf Header (header_in result)
+    header_given (Ok header) is =
         within (λ pack at. IsHeaderReply hash pack at (replies.Header (headers.Packed header.kind header.size)))
         (record { header = header; there = is; is = refl })
-    header_given asked (Err error) is = header_refused asked error is (header_error hash file.bytes offset error is)
+    header_given (Err error) is = header_refused error is (header_error hash file.bytes offset error is)
 
-    pub given_known : (query : Query) → GivenOf query (given_by (wanted_by query) setting.limit file offset)
-    given_known (Find asked) =
-        object_given asked (entry_at file.kind file.bytes offset setting.limit)
+    pub given_known : (want : Want) → GivenOf want (given_by want setting.limit file offset)
+    given_known Object =
+        object_given (entry_at file.kind file.bytes offset setting.limit)
         (ap (λ (kind : Kind). entry_at kind file.bytes offset setting.limit) (sym read.kind))
-    given_known (Header asked) =
-        header_given asked (header_at file.kind file.bytes offset) (ap (λ (kind : Kind). header_at kind file.bytes offset) (sym read.kind))
-    given_known (Test asked) = (path, offset, index, refl)
+    given_known Header =
+        header_given (header_at file.kind file.bytes offset) (ap (λ (kind : Kind). header_at kind file.bytes offset) (sym read.kind))
+    given_known Presence = (path, offset, index, refl)
 
   -- ---- one index
 
-  sought_given : (query : Query) (given : Result Found goals.Error) → GivenOf query given → Comes (Hits query) (Bads query) Wanted (given_or_not given)
-  sought_given query (Ok found) known = known
-  sought_given query (Err error) known = known
+  sought_given : (want : Want) (given : Result Found goals.Error) → GivenOf want given → Comes (Hits want) (Bads want) Wanted (given_or_not given)
+  sought_given want (Ok found) known = known
+  sought_given want (Err error) known = known
 
-  module _ (query : Query) (absent : List AbsentFile) (index : SnapshotIndex) (row : Row) (known : IsInIndex Shown setting hash id index.path row.offset) where
+  module _ (want : Want) (absent : List AbsentFile) (index : SnapshotIndex) (row : Row) (known : IsInIndex Shown setting hash id index.path row.offset) where
     file_known : (path : Path) → path ≡ pack_path index.path → (file : Option FileBytes)
         → ((bytes : FileBytes) → file ≡ Some bytes → IsPackShownAt Shown setting hash path bytes)
-        → Comes (Hits query) (Bads query) Wanted (in_file (aim query) absent index (record { place = 0; offset = row.offset }) path file)
+        → Comes (Hits want) (Bads want) Wanted (in_file (aim want) absent index (record { place = 0; offset = row.offset }) path file)
     file_known path beside None read =
-        unloaded_comes (Hits query) (Bads query) Wanted (aim query) absent index (record { place = 0; offset = row.offset }) path
+        unloaded_comes (Hits want) (Bads want) Wanted (aim want) absent index (record { place = 0; offset = row.offset }) path
         (record { path = index.path; index = known; is = beside })
     file_known path beside (Some file) read =
-        sought_given query (given_by (wanted_by query) setting.limit file row.offset)
-        (given_known index.path row.offset known file (subst (λ (p : Path). IsPackShownAt Shown setting hash p file) beside (read file refl)) query)
+        sought_given want (given_by want setting.limit file row.offset)
+        (given_known index.path row.offset known file (subst (λ (p : Path). IsPackShownAt Shown setting hash p file) beside (read file refl)) want)
 
     packs_known : (packs : List PackFile) → map (λ (pack : PackFile). pack.path) packs ≡ pack_path index.path ∷ [] → All (IsPackShown Shown setting hash) packs
-        → Comes (Hits query) (Bads query) Wanted (in_packs (aim query) absent index (record { place = 0; offset = row.offset }) (slice_get packs 0))
+        → Comes (Hits want) (Bads want) Wanted (in_packs (aim want) absent index (record { place = 0; offset = row.offset }) (slice_get packs 0))
     packs_known [] one read = tt
     packs_known (pack ∷ packs) one read = file_known pack.path (cc one) (loaded pack.state) (All-head (IsPackShown Shown setting hash) pack packs read)
 
-  row_known : (query : Query) (absent : List AbsentFile) (index : SnapshotIndex) (row : Row) → IsInIndex Shown setting hash id index.path row.offset
+  row_known : (want : Want) (absent : List AbsentFile) (index : SnapshotIndex) (row : Row) → IsInIndex Shown setting hash id index.path row.offset
       → map (λ (pack : PackFile). pack.path) index.packs ≡ pack_path index.path ∷ []
       → All (IsPackShown Shown setting hash) index.packs
-      → Comes (Hits query) (Bads query) Wanted (at_spot (wanted_by query) (aim query) absent index (Some (record { place = 0; offset = row.offset })))
-  row_known (Find asked) absent index row known one read = packs_known (Find asked) absent index row known index.packs one read
-  row_known (Header asked) absent index row known one read = packs_known (Header asked) absent index row known index.packs one read
-  row_known (Test asked) absent index row known one read = (index.path, row.offset, known, refl)
+      → Comes (Hits want) (Bads want) Wanted (at_spot want (aim want) absent index (Some (record { place = 0; offset = row.offset })))
+  row_known Object absent index row known one read = packs_known Object absent index row known index.packs one read
+  row_known Header absent index row known one read = packs_known Header absent index row known index.packs one read
+  row_known Presence absent index row known one read = (index.path, row.offset, known, refl)
 
   abbrev has_id : Row → Bool
   has_id row = is_eq (id_cmp row.id id)
@@ -164,16 +164,16 @@ module _ (Shown : Path → List ℕ → Type 0) (setting : Setting) (hash : Kind
         };
       }
 
-  spot_known : (query : Query) (absent : List AbsentFile) (index : SnapshotIndex) (shown : IsIndexShown Shown setting hash index) (found : Option Row)
+  spot_known : (want : Want) (absent : List AbsentFile) (index : SnapshotIndex) (shown : IsIndexShown Shown setting hash index) (found : Option Row)
       → find has_id (index_rows shown.file.kind shown.file.bytes) ≡ found
-      → Comes (Hits query) (Bads query) Wanted
-      (at_spot (wanted_by query) (aim query) absent index (option_map (λ (row : Row). record { place = 0; offset = row.offset }) found))
-  spot_known query absent index shown None is = tt
-  spot_known query absent index shown (Some row) is = row_known query absent index row (row_gives index shown row is) shown.one shown.packs
+      → Comes (Hits want) (Bads want) Wanted
+      (at_spot want (aim want) absent index (option_map (λ (row : Row). record { place = 0; offset = row.offset }) found))
+  spot_known want absent index shown None is = tt
+  spot_known want absent index shown (Some row) is = row_known want absent index row (row_gives index shown row is) shown.one shown.packs
 
-  pub tried_known : (query : Query) (absent : List AbsentFile) (index : SnapshotIndex) → IsIndexShown Shown setting hash index
-      → Comes (Hits query) (Bads query) Wanted (tried (aim query) absent index)
-  tried_known query absent index shown =
-      subst (λ (own : LoadedIndex). Comes (Hits query) (Bads query) Wanted (at_spot (wanted_by query) (aim query) absent index (spot_in own id)))
+  pub tried_known : (want : Want) (absent : List AbsentFile) (index : SnapshotIndex) → IsIndexShown Shown setting hash index
+      → Comes (Hits want) (Bads want) Wanted (tried (aim want) absent index)
+  tried_known want absent index shown =
+      subst (λ (own : LoadedIndex). Comes (Hits want) (Bads want) Wanted (at_spot want (aim want) absent index (spot_in own id)))
       (sym shown.single)
-      (spot_known query absent index shown (find has_id (index_rows shown.file.kind shown.file.bytes)) refl)
+      (spot_known want absent index shown (find has_id (index_rows shown.file.kind shown.file.bytes)) refl)

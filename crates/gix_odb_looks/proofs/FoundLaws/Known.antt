@@ -29,13 +29,13 @@ use Rattle.gix_odb_calls.specs.declared.call.Reply.{Reply}
 use Rattle.gix_odb_calls.specs.declared.call.Reply.TheVariants as replies
 use Rattle.gix_odb_calls.specs.declared.find.Error.{Error}
 use Rattle.gix_odb_calls.specs.declared.find.Error.TheVariants as errors
-use Rattle.gix_odb_calls.specs.declared.query.Query.{Query}
+use Rattle.gix_object.specs.declared.want.Want.{Want}
 use Rattle.gix_odb_calls.specs.declared.verdict.Verdict.TheVariants as verdicts
 use Rattle.gix_odb_looks.specs.Caused.{IsCaused}
 use Rattle.gix_odb_looks.specs.Exchange.{Exchange, HasVerdict}
 use Rattle.gix_odb_looks.specs.Reply.{IsAnswer}
 use Rattle.gix_odb_looks.specs.Found.{IsFound, IsInIndex}
-use Rattle.gix_odb_looks.specs.LookUpOrder.{Setting, find_error, reply_found, wanted_by}
+use Rattle.gix_odb_looks.specs.LookUpOrder.{Setting, find_error, reply_found}
 use Rattle.gix_odb_looks.specs.Shown.{IsIndexPath, IsIndexShownAt, IsIndexRow, IsPackShownAt, IsIndexShown, folders_of}
 use Rattle.gix_odb_looks.specs.declared.look_up.LookHead.{LookHead}
 use Rattle.gix_odb_looks.specs.declared.look_up.LookStage.{LookStage}
@@ -51,9 +51,9 @@ IsOfPack errors.DeltaEntry = Unit {0}
 IsOfPack (errors.OutOfMemory size) = Unit {0}
 IsOfPack error = ⊥
 
--- what a query seeks of an id
-abbrev pub goal_for : Setting → Query → ObjectId → Goal
-goal_for setting query id = record { id = id; wanted = wanted_by query; limit = setting.limit }
+-- what is sought of an id
+abbrev pub goal_for : Setting → Want → ObjectId → Goal
+goal_for setting want id = record { id = id; want = want; limit = setting.limit }
 
 -- ---- listings
 
@@ -107,19 +107,19 @@ module _ (Shown : Path → List ℕ → Type 0) (setting : Setting) (hash : Kind
 -- ---- look-ups
 
 module _ (Shown : Path → List ℕ → Type 0) (setting : Setting) (hash : Kind) (id : ObjectId) (exchanges : List Exchange)
-    (query : Query) where
+    (want : Want) where
   abbrev pub IsFoundHere : Found → Type 0
-  IsFoundHere found = IsFound Shown setting hash id query (reply_found found)
+  IsFoundHere found = IsFound Shown setting hash id want (reply_found found)
 
   abbrev pub IsCausedHere : goals.Error → Type 0
-  IsCausedHere error = IsCaused Shown setting hash id query exchanges (find_error error)
+  IsCausedHere error = IsCaused Shown setting hash id want exchanges (find_error error)
 
   abbrev pub KnowsGiven : Result Found goals.Error → Type 0
   KnowsGiven (Ok found) = IsFoundHere found
   KnowsGiven (Err error) = IsCausedHere error
 
   pub record KnowsTrier (trier : Trier) : Type 0 where
-    pub goal : trier.goal ≡ goal_for setting query id
+    pub goal : trier.goal ≡ goal_for setting want id
     pub ahead : KnowsAhead Shown setting hash id trier.ahead
     pub stage : KnowsStage Shown setting hash id trier.stage
 
@@ -133,16 +133,16 @@ module _ (Shown : Path → List ℕ → Type 0) (setting : Setting) (hash : Kind
   -- an answer was found, in packs or among loose objects, and an error of a pack has its cause
   pub record KnowsReply (reply : Reply) : Type 0 where
     pub found : IsAnswer reply
-        → IsFound Shown setting hash id query reply
-        ⊎ ((folder : Path) × Contains (folders_of setting) folder × HasVerdict setting query id exchanges folder (verdicts.Ends reply))
+        → IsFound Shown setting hash id want reply
+        ⊎ ((folder : Path) × Contains (folders_of setting) folder × HasVerdict setting want id exchanges folder (verdicts.Ends reply))
     pub caused : (error : Error) → reply ≡ replies.Refused (call_errors.Find error) → IsOfPack error
-        → IsCaused Shown setting hash id query exchanges error
+        → IsCaused Shown setting hash id want exchanges error
 
   -- the loose objects of one of the folders are asked
   pub record KnowsLoose (call : LooseCall) : Type 0 where
     pub folder : Path
     pub among : Contains (folders_of setting) folder
-    pub is : call ≡ asking setting.limit query id folder
+    pub is : call ≡ asking setting.limit want id folder
 
   abbrev pub KnowsLookStage : LookStage → Type 0
   KnowsLookStage (look_stages.Trying trier part) = KnowsTrier trier
@@ -153,7 +153,7 @@ module _ (Shown : Path → List ℕ → Type 0) (setting : Setting) (hash : Kind
   KnowsLookStage (look_stages.Done reply) = KnowsReply reply
 
   pub record KnowsHead (head : LookHead) : Type 0 where
-    pub query_is : head.query ≡ query
+    pub want_is : head.want ≡ want
     pub id_is : head.id ≡ id
 
   pub record KnowsLook (look : LookUp) : Type 0 where

@@ -34,8 +34,7 @@ use Rattle.gix_odb_packs.specs.declared.trier.Tried.TheVariants as tried
 use Rattle.gix_odb_packs.specs.declared.trier.Trier.{Trier}
 use Rattle.gix_odb_calls.specs.Verdict.{asking, verdict_on}
 use Rattle.gix_odb_calls.specs.declared.load_index.Error.TheVariants as load_errors
-use Rattle.gix_odb_calls.specs.declared.query.Query.{Query}
-use Rattle.gix_odb_calls.specs.declared.query.Query.TheVariants.{Find, Header, Test}
+use Rattle.gix_object.specs.declared.want.Want.{Want}
 use Rattle.gix_odb_calls.specs.declared.verdict.Verdict.{Verdict}
 use Rattle.gix_odb_calls.specs.declared.verdict.Verdict.TheVariants as verdicts
 use Rattle.gix_odb_looks.specs.Exchange.{Exchange, HasVerdict, WasTold}
@@ -43,7 +42,7 @@ use Rattle.gix_odb_looks.specs.LoadIndex.{of_refusal}
 use Rattle.gix_odb_looks.specs.LookUpOrder.{Setting, after_list, after_loose, ask_at, at_folder, by_call, by_check, by_first, by_listed, by_look}
 use Rattle.gix_odb_looks.specs.LookUpOrder.{by_published, by_reply, by_tried, by_verdict, counted, ended, fed_at, goal_of, is_unsettled, listing_from}
 use Rattle.gix_odb_looks.specs.LookUpOrder.{load_refused, loose_ask, loose_fed, loose_from, new_head, not_found, started, trier_fed, try_view, unsettled}
-use Rattle.gix_odb_looks.specs.LookUpOrder.{view_shown, wanted_by, with_own, without_notes}
+use Rattle.gix_odb_looks.specs.LookUpOrder.{view_shown, with_own, without_notes}
 use Rattle.gix_odb_looks.specs.Shown.{IsIndexRow, IsShownView, folders_of}
 use Rattle.gix_odb_looks.specs.True.{IsTrue}
 use Rattle.gix_odb_looks.specs.declared.look_up.LookHead.{LookHead}
@@ -65,31 +64,27 @@ use Rattle.gix_odb_looks.proofs.FoundLaws.Views.{views_shown}
 -- ---- the loose objects of a folder
 
 -- a folder that is asked for an object asks the disk once, and replies to its answer
-asks_once : (limit : Option ℕ) (query : Query) (id : ObjectId) (folder : Path) → (ask : DiskAsk) × (disk_ask_of (asking limit query id folder) ≡ Some ask)
-asks_once limit (Find asked) id folder = (_, refl)
-asks_once limit (Header asked) id folder = (_, refl)
-asks_once limit (Test asked) id folder = (_, refl)
+asks_once : (limit : Option ℕ) (want : Want) (id : ObjectId) (folder : Path) → (ask : DiskAsk) × (disk_ask_of (asking limit want id folder) ≡ Some ask)
+asks_once limit want id folder = (_, refl)
 
-replies_once : (limit : Option ℕ) (query : Query) (id : ObjectId) (folder : Path) (answer : DiskAnswer)
-    → (reply : LooseReply) × (reply_of (loose_fed (asking limit query id folder) answer) ≡ Some reply)
-replies_once limit (Find asked) id folder answer = (_, refl)
-replies_once limit (Header asked) id folder answer = (_, refl)
-replies_once limit (Test asked) id folder answer = (_, refl)
+replies_once : (limit : Option ℕ) (want : Want) (id : ObjectId) (folder : Path) (answer : DiskAnswer)
+    → (reply : LooseReply) × (reply_of (loose_fed (asking limit want id folder) answer) ≡ Some reply)
+replies_once limit want id folder answer = (_, refl)
 
 same_ask : (call : Option DiskAsk) (ask : Ask) (own : DiskAsk) → call ≡ Some own → loose_ask call ≡ Some ask → ask ≡ asks.Disk own
 same_ask None ask own is asked = absurd (cc is)
 same_ask (Some other) ask own is asked = let one : other ≡ own = cc is in let two : asks.Disk other ≡ ask = cc asked in cc (one, two)
 
 module _ (Shown : Path → List ℕ → Type 0) (setting : Setting) (hash : Kind) (id : ObjectId) (exchanges : List Exchange)
-    (query : Query) where
+    (want : Want) where
   abbrev Stands : LookStage → Type 0
-  Stands stage = KnowsLookStage Shown setting hash id exchanges query stage
+  Stands stage = KnowsLookStage Shown setting hash id exchanges want stage
 
   abbrev Heads : LookHead → Type 0
-  Heads head = KnowsHead Shown setting hash id exchanges query head
+  Heads head = KnowsHead Shown setting hash id exchanges want head
 
   abbrev Knows : LookUp → Type 0
-  Knows look = KnowsLook Shown setting hash id exchanges query look
+  Knows look = KnowsLook Shown setting hash id exchanges want look
 
   abbrev IsView : View → Type 0
   IsView view = IsShownView Shown setting hash view
@@ -101,9 +96,9 @@ module _ (Shown : Path → List ℕ → Type 0) (setting : Setting) (hash : Kind
   chosen_known false one other first further = further
 
   folder_known : (head : LookHead) (folder : Path) → Heads head → Contains (folders_of setting) folder
-      → KnowsLoose Shown setting hash id exchanges query (asking setting.limit head.query head.id folder)
+      → KnowsLoose Shown setting hash id exchanges want (asking setting.limit head.want head.id folder)
   folder_known head folder known among =
-      record { folder = folder; among = among; is = λ i. asking setting.limit (known.query_is i) (known.id_is i) folder }
+      record { folder = folder; among = among; is = λ i. asking setting.limit (known.want_is i) (known.id_is i) folder }
 
   loose_known : (head : LookHead) (part : Part) (notes : Notes) → Heads head → Stands (loose_from setting head part notes)
   loose_known head part notes known = folder_known head setting.objects known (has_first setting.objects setting.folders)
@@ -121,34 +116,34 @@ module _ (Shown : Path → List ℕ → Type 0) (setting : Setting) (hash : Kind
 
   -- ---- a list is tried
 
-  tried_known : (head : LookHead) (part : Part) (end : Tried) → Heads head → KnowsTried Shown setting hash id exchanges query end
+  tried_known : (head : LookHead) (part : Part) (end : Tried) → Heads head → KnowsTried Shown setting hash id exchanges want end
       → Stands (by_tried setting head part end)
   tried_known head part (tried.More trier) known here = here
-  tried_known head part (tried.Hit found) known here = found_reply Shown setting hash id exchanges query found here
+  tried_known head part (tried.Hit found) known here = found_reply Shown setting hash id exchanges want found here
   tried_known head part (tried.Missed notes) known here = after_list_known head part notes known
-  tried_known head part (tried.Bad error) known here = pack_reply Shown setting hash id exchanges query error here
-  tried_known head part (tried.Broken refusal) known here = load_reply Shown setting hash id exchanges query (of_refusal refusal)
+  tried_known head part (tried.Bad error) known here = pack_reply Shown setting hash id exchanges want error here
+  tried_known head part (tried.Broken refusal) known here = load_reply Shown setting hash id exchanges want (of_refusal refusal)
 
-  goal_is : (head : LookHead) → Heads head → goal_for setting query id ≡ goal_of setting head
-  goal_is head known = sym (λ i. record { id = known.id_is i; wanted = wanted_by (known.query_is i); limit = setting.limit })
+  goal_is : (head : LookHead) → Heads head → goal_for setting want id ≡ goal_of setting head
+  goal_is head known = sym (λ i. record { id = known.id_is i; want = known.want_is i; limit = setting.limit })
 
   try_known : (head : LookHead) (part : Part) (view : View) (todo : List Todo) (notes : Notes) → Heads head → IsView view → All (IsIndexTodo setting) todo
       → Stands (try_view setting head part view todo notes)
   try_known head part view todo notes known shown paths =
       let ahead : Ahead = record { indices = view.snapshot.indices; todo = todo; notes = notes } in
       tried_known head part (seek (goal_of setting head) ahead) known
-      (subst (λ (goal : Goal). KnowsTried Shown setting hash id exchanges query (seek goal ahead)) (goal_is head known)
-      (seek_known Shown setting hash id exchanges query ahead (record { indices = shown.indices; todo = paths })))
+      (subst (λ (goal : Goal). KnowsTried Shown setting hash id exchanges want (seek goal ahead)) (goal_is head known)
+      (seek_known Shown setting hash id exchanges want ahead (record { indices = shown.indices; todo = paths })))
 
-  pub begun_known : (view : View) → IsView view → Knows (started setting view query id)
+  pub begun_known : (view : View) → IsView view → Knows (started setting view want id)
   begun_known view shown =
-      let head : Heads (new_head query id) = record { query_is = refl; id_is = refl } in
+      let head : Heads (new_head want id) = record { want_is = refl; id_is = refl } in
       record {
         head = head;
         stage =
-            chosen_known view.read (try_view setting (new_head query id) parts.Snapshot view [] without_notes)
+            chosen_known view.read (try_view setting (new_head want id) parts.Snapshot view [] without_notes)
             (stages.Looking (purposes.First true) without_notes)
-            (try_known (new_head query id) parts.Snapshot view [] without_notes head shown (All-nil (IsIndexTodo setting))) tt;
+            (try_known (new_head want id) parts.Snapshot view [] without_notes head shown (All-nil (IsIndexTodo setting))) tt;
       }
 
   -- ---- a folder has replied
@@ -160,25 +155,25 @@ module _ (Shown : Path → List ℕ → Type 0) (setting : Setting) (hash : Kind
       folder_known head folder known (has_later setting.objects setting.folders folder (at_place setting.folders round.next folder is))
 
   verdict_known : (head : LookHead) (round : LooseRound) (verdict : Verdict) (folder : Path) → Heads head → Contains (folders_of setting) folder
-      → HasVerdict setting query id exchanges folder verdict
+      → HasVerdict setting want id exchanges folder verdict
       → EndsOther verdict
       → Stands (by_verdict setting head round verdict)
   verdict_known head round (verdicts.Ends reply) folder known among says other =
-      loose_reply Shown setting hash id exchanges query reply folder among says other
+      loose_reply Shown setting hash id exchanges want reply folder among says other
   verdict_known head round verdicts.Misses folder known among says other = next_known head round (slice_get setting.folders round.next) refl known
   verdict_known head round (verdicts.Notes error) folder known among says other =
       next_known head (record round { notes = record round.notes { failed = true } }) (slice_get setting.folders round.next) refl known
 
   asked_known : (head : LookHead) (round : LooseRound) (folder : Path) (ask : Ask) (answer : DiskAnswer) → Heads head → Contains (folders_of setting) folder
-      → loose_ask (disk_ask_of (asking setting.limit query id folder)) ≡ Some ask
+      → loose_ask (disk_ask_of (asking setting.limit want id folder)) ≡ Some ask
       → WasTold exchanges ask (told.Disk answer)
-      → Stands (by_call setting head round (loose_fed (asking setting.limit query id folder) answer))
+      → Stands (by_call setting head round (loose_fed (asking setting.limit want id folder) answer))
   asked_known head round folder ask answer known among asked was =
-      let own = asks_once setting.limit query id folder in
-      let call : LooseCall = loose_fed (asking setting.limit query id folder) answer in
-      let replied = replies_once setting.limit query id folder answer in
-      let is : ask ≡ asks.Disk own.0 = same_ask (disk_ask_of (asking setting.limit query id folder)) ask own.0 own.1 asked in
-      let says : HasVerdict setting query id exchanges folder (verdict_on query replied.0) =
+      let own = asks_once setting.limit want id folder in
+      let call : LooseCall = loose_fed (asking setting.limit want id folder) answer in
+      let replied = replies_once setting.limit want id folder answer in
+      let is : ask ≡ asks.Disk own.0 = same_ask (disk_ask_of (asking setting.limit want id folder)) ask own.0 own.1 asked in
+      let says : HasVerdict setting want id exchanges folder (verdict_on want replied.0) =
       record {
         ask = own.0;
         asked = own.1;
@@ -188,13 +183,13 @@ module _ (Shown : Path → List ℕ → Type 0) (setting : Setting) (hash : Kind
         replied = replied.1;
         is = refl;
       } in
-      let same : verdict_on query replied.0 ≡ verdict_on head.query replied.0 = ap (λ (asks : Query). verdict_on asks replied.0) (sym known.query_is) in
+      let same : verdict_on want replied.0 ≡ verdict_on head.want replied.0 = ap (λ (asks : Want). verdict_on asks replied.0) (sym known.want_is) in
       subst (λ (reply : Option LooseReply). Stands (by_reply setting head round call reply)) (sym replied.1)
-      (verdict_known head round (verdict_on head.query replied.0) folder known among
-      (subst (HasVerdict setting query id exchanges folder) same says) (loose_ends_other head.query replied.0))
+      (verdict_known head round (verdict_on head.want replied.0) folder known among
+      (subst (HasVerdict setting want id exchanges folder) same says) (loose_ends_other head.want replied.0))
 
   call_known : (head : LookHead) (round : LooseRound) (call : LooseCall) (ask : Ask) (answer : DiskAnswer) → Heads head
-      → KnowsLoose Shown setting hash id exchanges query call
+      → KnowsLoose Shown setting hash id exchanges want call
       → loose_ask (disk_ask_of call) ≡ Some ask
       → WasTold exchanges ask (told.Disk answer)
       → Stands (by_call setting head round (loose_fed call answer))
@@ -206,22 +201,22 @@ module _ (Shown : Path → List ℕ → Type 0) (setting : Setting) (hash : Kind
 
   counted_known : (head : LookHead) (now : ℕ) (next : LookStage) → Stands next → Stands (counted setting head now next)
   counted_known head now next here =
-      chosen_known (is_unsettled setting head now) (unsettled head now) next (load_reply Shown setting hash id exchanges query _) here
+      chosen_known (is_unsettled setting head now) (unsettled head now) next (load_reply Shown setting hash id exchanges want _) here
 
   first_known : (head : LookHead) (loose : Bool) (view : View) (notes : Notes) → Heads head → IsView view → Stands (by_first setting head loose view notes)
   first_known head loose view notes known shown =
       chosen_known view.read (try_view setting head (parts.List view.list_no loose) view view.todo notes) (listing_from setting view.list_no notes)
       (try_known head (parts.List view.list_no loose) view view.todo notes known shown shown.todo) (started_known setting)
 
-  ended_known : (asked : Query) (notes : Notes) → Stands (ended asked notes)
+  ended_known : (asked : Want) (notes : Notes) → Stands (ended asked notes)
   ended_known asked notes =
       chosen_known notes.failed (stages.Done (load_refused load_errors.Io)) (stages.Done (not_found asked))
-      (load_reply Shown setting hash id exchanges query load_errors.Io) (missed_reply Shown setting hash id exchanges query asked)
+      (load_reply Shown setting hash id exchanges want load_errors.Io) (missed_reply Shown setting hash id exchanges want asked)
 
   check_known : (head : LookHead) (list_no : ℕ) (view : View) (notes : Notes) → Stands (by_check setting head list_no view notes)
   check_known head list_no view notes =
-      chosen_known (view.list_no == list_no) (ended head.query notes) (counted setting head view.list_no (listing_from setting view.list_no notes))
-      (ended_known head.query notes) (counted_known head view.list_no (listing_from setting view.list_no notes) (started_known setting))
+      chosen_known (view.list_no == list_no) (ended head.want notes) (counted setting head view.list_no (listing_from setting view.list_no notes))
+      (ended_known head.want notes) (counted_known head view.list_no (listing_from setting view.list_no notes) (started_known setting))
 
   look_known : (head : LookHead) (purpose : Purpose) (notes : Notes) (view : Option View) → Heads head → ((own : View) → view ≡ Some own → IsView own)
       → Stands (by_look setting head purpose notes view)
@@ -234,7 +229,7 @@ module _ (Shown : Path → List ℕ → Type 0) (setting : Setting) (hash : Kind
       → ((own : View) → view_in (Ok effect) ≡ Some own → IsView own)
       → Knows (by_published setting head listing notes effect)
   published_known head listing notes (effects.Published view) known rows views =
-      let own : Heads (with_own head) = record { query_is = known.query_is; id_is = known.id_is } in
+      let own : Heads (with_own head) = record { want_is = known.want_is; id_is = known.id_is } in
       let shown = views view refl in
       record { head = own; stage = try_known (with_own head) (parts.Published view.list_no) view view.todo notes own shown shown.todo }
   published_known head listing notes (effects.Unchanged view) known rows views =
@@ -249,19 +244,19 @@ module _ (Shown : Path → List ℕ → Type 0) (setting : Setting) (hash : Kind
   listed_known : (base : ℕ) (notes : Notes) (step : ListStep) → KnowsListStep setting step → Stands (by_listed base notes step)
   listed_known base notes (listed.More lister) here = here
   listed_known base notes (listed.Rows rows) here = all_longest_first (IsIndexRow setting) rows here
-  listed_known base notes listed.Broken here = load_reply Shown setting hash id exchanges query load_errors.Io
+  listed_known base notes listed.Broken here = load_reply Shown setting hash id exchanges want load_errors.Io
 
   -- ---- an exchange
 
   trier_known : (same : kind_of id ≡ hash) (head : LookHead) (trier : Trier) (part : Part) (answer : Answer) → Heads head
-      → KnowsTrier Shown setting hash id exchanges query trier
+      → KnowsTrier Shown setting hash id exchanges want trier
       → IsTrue Shown setting hash (tries.ask_of trier) answer
       → WasTold exchanges (tries.ask_of trier) answer
       → Stands (by_tried setting head part (trier_fed trier answer))
   trier_known same head trier part answer known here truth asked =
       tried_known head part (trier_fed trier answer) known
-      (subst (λ (goal : Goal). KnowsTried Shown setting hash id exchanges query (tries.by_answer goal trier.ahead trier.stage answer)) (sym here.goal)
-      (answer_known Shown setting hash id exchanges query same trier.ahead here.ahead trier.stage answer here.stage truth asked))
+      (subst (λ (goal : Goal). KnowsTried Shown setting hash id exchanges want (tries.by_answer goal trier.ahead trier.stage answer)) (sym here.goal)
+      (answer_known Shown setting hash id exchanges want same trier.ahead here.ahead trier.stage answer here.stage truth asked))
 
   pub stage_known : kind_of id ≡ hash → (head : LookHead) (stage : LookStage) (ask : Ask) (answer : Answer) → Heads head → Stands stage
       → ask_at stage ≡ Some ask
@@ -286,9 +281,9 @@ module _ (Shown : Path → List ℕ → Type 0) (setting : Setting) (hash : Kind
         stage = look_known head purpose notes (view_shown effect) known (views_shown Shown setting hash ask (Ok effect) truth);
       }
   stage_known same head (stages.Looking purpose notes) ask (told.Core (Err refusal)) known here asks truth asked =
-      record { head = known; stage = load_reply Shown setting hash id exchanges query (of_refusal refusal) }
+      record { head = known; stage = load_reply Shown setting hash id exchanges want (of_refusal refusal) }
   stage_known same head (stages.Publishing listing notes) ask (told.Core (Ok effect)) known here asks truth asked =
       published_known head listing notes effect known here (views_shown Shown setting hash ask (Ok effect) truth)
   stage_known same head (stages.Publishing listing notes) ask (told.Core (Err refusal)) known here asks truth asked =
-      record { head = known; stage = load_reply Shown setting hash id exchanges query (of_refusal refusal) }
+      record { head = known; stage = load_reply Shown setting hash id exchanges want (of_refusal refusal) }
   stage_known same head stage ask answer known here asks truth asked = record { head = known; stage = here }

@@ -16,8 +16,8 @@ use Rattle.gix_odb_calls.specs.declared.call.Reply.{Reply}
 use Rattle.gix_odb_calls.specs.declared.call.Reply.TheVariants as replies
 use Rattle.gix_odb_calls.specs.declared.find.Error.{Error}
 use Rattle.gix_odb_calls.specs.declared.load_index.Error as load
-use Rattle.gix_odb_calls.specs.declared.query.Query.{Query}
-use Rattle.gix_odb_calls.specs.declared.query.Query.TheVariants.{Find, Header, Test}
+use Rattle.gix_object.specs.declared.want.Want.{Want}
+use Rattle.gix_object.specs.declared.want.Want.TheVariants.{Object, Header, Presence}
 use Rattle.gix_odb_calls.specs.declared.verdict.Verdict.{Verdict}
 use Rattle.gix_odb_calls.specs.declared.verdict.Verdict.TheVariants as verdicts
 use Rattle.gix_odb_looks.specs.Caused.{IsCaused}
@@ -42,21 +42,21 @@ test_ends_other (Err loose_errors.NoMemory) = λ no. no
 test_ends_other (Err error) = tt
 
 -- no loose object is refused by a pack
-pub loose_ends_other : (query : Query) (reply : LooseReply) → EndsOther (verdict_on query reply)
-loose_ends_other (Find asked) (loose_replies.Found (Ok (Some object))) = tt
-loose_ends_other (Find asked) (loose_replies.Found (Err error)) = λ no. no
-loose_ends_other (Header asked) (loose_replies.Header (Ok (Some object))) = tt
-loose_ends_other (Header asked) (loose_replies.Header (Err error)) = λ no. no
-loose_ends_other (Test asked) (loose_replies.Contains answer) = test_ends_other answer
-loose_ends_other query reply = tt
+pub loose_ends_other : (want : Want) (reply : LooseReply) → EndsOther (verdict_on want reply)
+loose_ends_other Object (loose_replies.Found (Ok (Some object))) = tt
+loose_ends_other Object (loose_replies.Found (Err error)) = λ no. no
+loose_ends_other Header (loose_replies.Header (Ok (Some object))) = tt
+loose_ends_other Header (loose_replies.Header (Err error)) = λ no. no
+loose_ends_other Presence (loose_replies.Contains answer) = test_ends_other answer
+loose_ends_other want reply = tt
 
 module _ (Shown : Path → List ℕ → Type 0) (setting : Setting) (hash : Kind) (id : ObjectId) (exchanges : List Exchange)
-    (query : Query) where
+    (want : Want) where
   abbrev Knows : Reply → Type 0
-  Knows reply = KnowsReply Shown setting hash id exchanges query reply
+  Knows reply = KnowsReply Shown setting hash id exchanges want reply
 
   abbrev Because : Error → Type 0
-  Because error = IsCaused Shown setting hash id query exchanges error
+  Because error = IsCaused Shown setting hash id want exchanges error
 
   other_cause : (reply : Reply) → IsOther reply → (error : Error) → reply ≡ replies.Refused (call_errors.Find error) → IsOfPack error → Because error
   other_cause reply other error is of = absurd (subst IsOther is other of)
@@ -66,10 +66,10 @@ module _ (Shown : Path → List ℕ → Type 0) (setting : Setting) (hash : Kind
   found_is_other (founds.Header kind size) = tt
   found_is_other founds.Presence = tt
 
-  pub found_reply : (found : Found) → IsFoundHere Shown setting hash id exchanges query found → Knows (reply_found found)
+  pub found_reply : (found : Found) → IsFoundHere Shown setting hash id exchanges want found → Knows (reply_found found)
   found_reply found here = record { found = λ answer. inl here; caused = other_cause (reply_found found) (found_is_other found) }
 
-  pub pack_reply : (error : goals.Error) → IsCausedHere Shown setting hash id exchanges query error
+  pub pack_reply : (error : goals.Error) → IsCausedHere Shown setting hash id exchanges want error
       → Knows (replies.Refused (call_errors.Find (find_error error)))
   pack_reply error here = record {
     found = λ answer. absurd answer;
@@ -79,11 +79,11 @@ module _ (Shown : Path → List ℕ → Type 0) (setting : Setting) (hash : Kind
   pub load_reply : (error : load.Error) → Knows (load_refused error)
   load_reply error = record { found = λ answer. absurd answer; caused = other_cause (load_refused error) (λ no. no) }
 
-  pub missed_reply : (asked : Query) → Knows (not_found asked)
-  missed_reply (Find own) = record { found = λ answer. absurd answer; caused = other_cause replies.NotFound tt }
-  missed_reply (Header own) = record { found = λ answer. absurd answer; caused = other_cause replies.NotFound tt }
-  missed_reply (Test own) = record { found = λ answer. absurd answer; caused = other_cause (replies.Tested false) tt }
+  pub missed_reply : (asked : Want) → Knows (not_found asked)
+  missed_reply Object = record { found = λ answer. absurd answer; caused = other_cause replies.NotFound tt }
+  missed_reply Header = record { found = λ answer. absurd answer; caused = other_cause replies.NotFound tt }
+  missed_reply Presence = record { found = λ answer. absurd answer; caused = other_cause (replies.Tested false) tt }
 
-  pub loose_reply : (reply : Reply) (folder : Path) → Contains (folders_of setting) folder → HasVerdict setting query id exchanges folder (verdicts.Ends reply)
+  pub loose_reply : (reply : Reply) (folder : Path) → Contains (folders_of setting) folder → HasVerdict setting want id exchanges folder (verdicts.Ends reply)
       → IsOther reply → Knows reply
   loose_reply reply folder among says other = record { found = λ answer. inr (folder, among, says); caused = other_cause reply other }

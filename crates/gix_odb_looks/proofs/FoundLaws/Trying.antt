@@ -36,10 +36,10 @@ use Rattle.gix_odb_packs.specs.declared.trier.Stage.TheVariants as stages
 use Rattle.gix_odb_packs.specs.declared.trier.Tried.{Tried}
 use Rattle.gix_odb_packs.specs.declared.trier.Tried.TheVariants as ends
 use Rattle.gix_odb_packs.proofs.SeekLaws.{all_rest_behind, search_comes, search_ends}
-use Rattle.gix_odb_calls.specs.declared.query.Query.{Query}
+use Rattle.gix_object.specs.declared.want.Want.{Want}
 use Rattle.gix_odb_looks.specs.Caused.{IsNoPack, IsUnloaded}
 use Rattle.gix_odb_looks.specs.Exchange.{Exchange, WasTold}
-use Rattle.gix_odb_looks.specs.LookUpOrder.{Setting, wanted_by}
+use Rattle.gix_odb_looks.specs.LookUpOrder.{Setting}
 use Rattle.gix_odb_looks.specs.Shown.{IsIndexPath, IsIndexShownAt, IsPackShownAt, IsIndexShown, IsShownView}
 use Rattle.gix_odb_looks.specs.True.{IsTrue}
 use Rattle.gix_odb_looks.proofs.FoundLaws.Known.{IsCausedHere, IsFoundHere, IsIndexTodo, IsWanted, KnowsAhead, KnowsGiven, KnowsStage, KnowsTried, goal_for}
@@ -47,12 +47,12 @@ use Rattle.gix_odb_looks.proofs.FoundLaws.Indices.{given_known, tried_known}
 use Rattle.gix_odb_looks.proofs.FoundLaws.Views.{index_shown, pack_loaded, views_shown}
 
 module _ (Shown : Path → List ℕ → Type 0) (setting : Setting) (hash : Kind) (id : ObjectId) (exchanges : List Exchange)
-    (query : Query) where
+    (want : Want) where
   abbrev goal : Goal
-  goal = goal_for setting query id
+  goal = goal_for setting want id
 
   abbrev Knows : Tried → Type 0
-  Knows tried = KnowsTried Shown setting hash id exchanges query tried
+  Knows tried = KnowsTried Shown setting hash id exchanges want tried
 
   abbrev IsLeft : Ahead → Type 0
   IsLeft ahead = KnowsAhead Shown setting hash id ahead
@@ -73,10 +73,10 @@ module _ (Shown : Path → List ℕ → Type 0) (setting : Setting) (hash : Kind
       (record { indices = indices; todo = All-tail (IsIndexTodo setting) todo rest paths }) (All-head (IsIndexTodo setting) todo rest paths)
 
   abbrev Hits : Found → Type 0
-  Hits found = IsFoundHere Shown setting hash id exchanges query found
+  Hits found = IsFoundHere Shown setting hash id exchanges want found
 
   abbrev Bads : goals.Error → Type 0
-  Bads error = IsCausedHere Shown setting hash id exchanges query error
+  Bads error = IsCausedHere Shown setting hash id exchanges want error
 
   abbrev Wanted : WantedPack → Type 0
   Wanted pack = IsWanted Shown setting hash id pack
@@ -89,7 +89,7 @@ module _ (Shown : Path → List ℕ → Type 0) (setting : Setting) (hash : Kind
       record { indices = all_rest_behind goal absent (IsIndexShown Shown setting hash) ahead.indices known.indices; todo = known.todo } in
       let on : Ahead = record ahead { indices = indices } in
       search_ends Hits Bads Wanted Knows goal on (search goal absent ahead.indices)
-      (search_comes Hits Bads Wanted goal absent (IsIndexShown Shown setting hash) (tried_known Shown setting hash id exchanges query absent)
+      (search_comes Hits Bads Wanted goal absent (IsIndexShown Shown setting hash) (tried_known Shown setting hash id exchanges want absent)
       ahead.indices known.indices)
       (todo_known on ahead.todo left.indices known.todo) (λ found hit. hit) (λ error bad. bad)
       (λ pack wanted. at_known on (stages.ReadingPack pack) left wanted)
@@ -119,7 +119,7 @@ module _ (Shown : Path → List ℕ → Type 0) (setting : Setting) (hash : Kind
         → Knows (at_search goal ahead (tried goal ahead.notes.absent (shown_or_own place file (shown_behind place effect))))
     index_stored_known place file effect path read views =
         search_ends Hits Bads Wanted Knows goal ahead (tried goal ahead.notes.absent (shown_or_own place file (shown_behind place effect)))
-        (tried_known Shown setting hash id exchanges query ahead.notes.absent (shown_or_own place file (shown_behind place effect))
+        (tried_known Shown setting hash id exchanges want ahead.notes.absent (shown_or_own place file (shown_behind place effect))
         (index_shown Shown setting hash place file path read (view_in (Ok effect)) views))
         (todo_known ahead ahead.todo known.indices known.todo) (λ found hit. hit) (λ error bad. bad)
         (λ pack wanted. at_known ahead (stages.ReadingPack pack) known wanted)
@@ -162,20 +162,20 @@ module _ (Shown : Path → List ℕ → Type 0) (setting : Setting) (hash : Kind
     pack_read_known pack (answers.Refused disk_errors.Failed) wanted truth asked = unloaded pack (answers.Refused disk_errors.Failed) wanted asked (inl refl)
     pack_read_known pack answer wanted truth asked = absurd truth.0
 
-    given_ends : (given : Result Found goals.Error) → KnowsGiven Shown setting hash id exchanges query given → Knows (by_given given)
+    given_ends : (given : Result Found goals.Error) → KnowsGiven Shown setting hash id exchanges want given → Knows (by_given given)
     given_ends (Ok found) here = here
     given_ends (Err error) here = here
 
     pack_stored_known : (pack : WantedPack) (file : FileBytes) (effect : Effect) → IsWanted Shown setting hash id pack
         → IsPackShownAt Shown setting hash pack.path file
         → ((view : View) → view_in (Ok effect) ≡ Some view → IsShownView Shown setting hash view)
-        → Knows (by_given (given_by (wanted_by query) setting.limit (unwrap_or (pack_behind pack effect) file) pack.offset))
+        → Knows (by_given (given_by want setting.limit (unwrap_or (pack_behind pack effect) file) pack.offset))
     pack_stored_known pack file effect wanted read views =
         let own : FileBytes = unwrap_or (pack_behind pack effect) file in
         let own_read : IsPackShownAt Shown setting hash pack.path own = pack_loaded Shown setting hash pack file read (view_in (Ok effect)) views in
-        given_ends (given_by (wanted_by query) setting.limit own pack.offset)
+        given_ends (given_by want setting.limit own pack.offset)
         (given_known Shown setting hash id exchanges wanted.path pack.offset wanted.index own
-        (subst (λ (path : Path). IsPackShownAt Shown setting hash path own) wanted.is own_read) query)
+        (subst (λ (path : Path). IsPackShownAt Shown setting hash path own) wanted.is own_read) want)
 
     -- ---- an answer
 

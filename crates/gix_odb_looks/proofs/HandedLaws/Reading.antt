@@ -8,7 +8,7 @@ use Rattle.odb_asks.specs.declared.ask.DiskAsk.{DiskAsk}
 use Rattle.odb_asks.specs.declared.ask.DiskAsk.TheVariants as disk_asks
 use Rattle.odb_nodes.specs.Tree.{Tree}
 use Rattle.gix_hash.specs.declared.object_id.ObjectId.{ObjectId}
-use Rattle.gix_odb_loose.specs.LooseOrder.{disk_ask_of, next_stage, stage_ask}
+use Rattle.gix_odb_loose.specs.LooseOrder.{disk_ask_of, next_stage, stage_ask, want_ask}
 use Rattle.gix_odb_loose.specs.declared.call.LooseCall.{LooseCall}
 use Rattle.gix_odb_loose.specs.declared.call.Stage as loose
 use Rattle.gix_odb_loose.specs.declared.call.Stage.TheVariants as loose_stages
@@ -29,8 +29,8 @@ use Rattle.gix_odb_packs.specs.declared.trier.Stage.{Stage}
 use Rattle.gix_odb_packs.specs.declared.trier.Stage.TheVariants as tries_stages
 use Rattle.gix_odb_calls.specs.Verdict.{asking}
 use Rattle.gix_odb_calls.specs.declared.call.Reply.{Reply}
-use Rattle.gix_odb_calls.specs.declared.query.Query.{Query}
-use Rattle.gix_odb_calls.specs.declared.query.Query.TheVariants.{Find, Header, Test}
+use Rattle.gix_object.specs.declared.want.Want.{Want}
+use Rattle.gix_object.specs.declared.want.Want.TheVariants.{Object, Header, Presence}
 use Rattle.gix_odb_looks.specs.Exchange.{AreAsked, Exchange, behind}
 use Rattle.gix_odb_looks.specs.Stream.{stream_from}
 use Rattle.gix_odb_looks.specs.LookUpOrder.{Setting, ask_at, fed, lister_fed, loose_ask, result_at, seen, started}
@@ -88,24 +88,21 @@ abbrev OnlyReads : LooseCall → Type 0
 OnlyReads call = ReadsAt call.stage
 
 reads_on : (stage : loose.Stage) (answer : DiskAnswer) → ReadsAt stage → ReadsAt (next_stage stage answer)
-reads_on (loose_stages.Testing path) answer here = tt
-reads_on (loose_stages.Finding path limit) answer here = tt
-reads_on (loose_stages.Heading path) answer here = tt
+reads_on (loose_stages.Asking want path limit) answer here = tt
 reads_on (loose_stages.Writing job) answer here = absurd here
 reads_on (loose_stages.Done reply) answer here = tt
 
-asking_reads : (limit : Option ℕ) (query : Query) (id : ObjectId) (folder : Path) → OnlyReads (asking limit query id folder)
-asking_reads limit (Find asked) id folder = tt
-asking_reads limit (Header asked) id folder = tt
-asking_reads limit (Test asked) id folder = tt
+asking_reads : (limit : Option ℕ) (want : Want) (id : ObjectId) (folder : Path) → OnlyReads (asking limit want id folder)
+asking_reads limit want id folder = tt
+
+want_plain : (want : Want) (path : Path) → IsPlain (asks.Disk (want_ask want path))
+want_plain Object path = record { changes = path_is_read path; opens = tt }
+want_plain Header path = record { changes = path_is_read path; opens = tt }
+want_plain Presence path = record { changes = path_is_looked_at path true; opens = tt }
 
 loose_plain : (stage : loose.Stage) → ReadsAt stage → (own : DiskAsk) → stage_ask stage ≡ Some own → IsPlain (asks.Disk own)
-loose_plain (loose_stages.Testing path) here own is =
-    subst (λ (ask : DiskAsk). IsPlain (asks.Disk ask)) (same_Some _ own is) (record { changes = path_is_looked_at path true; opens = tt })
-loose_plain (loose_stages.Finding path limit) here own is =
-    subst (λ (ask : DiskAsk). IsPlain (asks.Disk ask)) (same_Some _ own is) (record { changes = path_is_read path; opens = tt })
-loose_plain (loose_stages.Heading path) here own is =
-    subst (λ (ask : DiskAsk). IsPlain (asks.Disk ask)) (same_Some _ own is) (record { changes = path_is_read path; opens = tt })
+loose_plain (loose_stages.Asking want path limit) here own is =
+    subst (λ (ask : DiskAsk). IsPlain (asks.Disk ask)) (same_Some (want_ask want path) own is) (want_plain want path)
 loose_plain (loose_stages.Writing job) here own is = absurd here
 loose_plain (loose_stages.Done reply) here own is = absurd (cc is)
 
@@ -190,11 +187,11 @@ module _ (setting : Setting) where
       (seen look.head exchange.answer) look.stage exchange.answer (goes_on now look.stage own exchange.ask exchange.answer asked.0))
       exchanges asked.1
 
-  pub streams_are_own : (view : View) (query : Query) (id : ObjectId) (exchanges : List Exchange) → AreAsked setting (started setting view query id) exchanges
-      → IsOwn (told_from none_told exchanges) (behind setting (started setting view query id) exchanges).stage
-  streams_are_own view query id exchanges asked =
-      own_behind none_told (started setting view query id)
-      (start_stands setting OnlyReads (StreamOf none_told) AnyRows (HasNone none_told) (asking_reads setting.limit) (λ none. none) view query id refl)
+  pub streams_are_own : (view : View) (want : Want) (id : ObjectId) (exchanges : List Exchange) → AreAsked setting (started setting view want id) exchanges
+      → IsOwn (told_from none_told exchanges) (behind setting (started setting view want id) exchanges).stage
+  streams_are_own view want id exchanges asked =
+      own_behind none_told (started setting view want id)
+      (start_stands setting OnlyReads (StreamOf none_told) AnyRows (HasNone none_told) (asking_reads setting.limit) (λ none. none) view want id refl)
       exchanges asked
 
   -- ---- which stream is asked
@@ -214,10 +211,14 @@ module _ (setting : Setting) where
   trier_own now (tries_stages.StoringPack pack file) = tt
   trier_own now (tries_stages.PassingPack pack) = tt
 
+  want_own : (now : Told) (want : Want) (path : Path) → AsksOwn now (asks.Disk (want_ask want path))
+  want_own now Object path = tt
+  want_own now Header path = tt
+  want_own now Presence path = tt
+
   loose_own : (now : Told) (stage : loose.Stage) → ReadsAt stage → (own : DiskAsk) → stage_ask stage ≡ Some own → AsksOwn now (asks.Disk own)
-  loose_own now (loose_stages.Testing path) here own is = subst (λ (ask : DiskAsk). AsksOwn now (asks.Disk ask)) (same_Some _ own is) tt
-  loose_own now (loose_stages.Finding path limit) here own is = subst (λ (ask : DiskAsk). AsksOwn now (asks.Disk ask)) (same_Some _ own is) tt
-  loose_own now (loose_stages.Heading path) here own is = subst (λ (ask : DiskAsk). AsksOwn now (asks.Disk ask)) (same_Some _ own is) tt
+  loose_own now (loose_stages.Asking want path limit) here own is =
+      subst (λ (ask : DiskAsk). AsksOwn now (asks.Disk ask)) (same_Some (want_ask want path) own is) (want_own now want path)
   loose_own now (loose_stages.Writing job) here own is = absurd here
   loose_own now (loose_stages.Done reply) here own is = absurd (cc is)
 

@@ -32,7 +32,7 @@ use Rattle.gix_odb_packs.specs.declared.trier.Tried.{Tried}
 use Rattle.gix_odb_packs.specs.declared.trier.Tried.TheVariants as tried
 use Rattle.gix_odb_calls.specs.Verdict.{asking, verdict_on}
 use Rattle.gix_odb_calls.specs.declared.load_index.Error.TheVariants as load_errors
-use Rattle.gix_odb_calls.specs.declared.query.Query.{Query}
+use Rattle.gix_object.specs.declared.want.Want.{Want}
 use Rattle.gix_odb_calls.specs.declared.verdict.Verdict.{Verdict}
 use Rattle.gix_odb_calls.specs.declared.verdict.Verdict.TheVariants as verdicts
 use Rattle.gix_odb_looks.specs.LookUpOrder.{Setting, after_list, after_loose, ask_at, at_folder, by_listed, by_look, by_published, by_reply, by_tried}
@@ -105,7 +105,7 @@ module _ (setting : Setting) (OfCall : LooseCall → Type 0) (OfLister : Lister 
   Goes (stages.Listing lister base notes) (told.Disk answer) = Steps (lister_fed setting lister answer)
   Goes stage answer = Stands stage
 
-  module _ (calls : (query : Query) (id : ObjectId) (folder : Path) → OfCall (asking setting.limit query id folder))
+  module _ (calls : (want : Want) (id : ObjectId) (folder : Path) → OfCall (asking setting.limit want id folder))
       (begins : Else → OfLister (lists.started setting.objects)) where
     -- ---- the parts begin
 
@@ -114,10 +114,10 @@ module _ (setting : Setting) (OfCall : LooseCall → Type 0) (OfLister : Lister 
     chosen false one other first further = further
 
     list_stands : (head : LookHead) (part : Part) (notes : Notes) → Else → Stands (after_list setting head part notes)
-    list_stands head parts.Snapshot notes here = (here, calls head.query head.id setting.objects)
-    list_stands head (parts.List list_no true) notes here = (here, calls head.query head.id setting.objects)
+    list_stands head parts.Snapshot notes here = (here, calls head.want head.id setting.objects)
+    list_stands head (parts.List list_no true) notes here = (here, calls head.want head.id setting.objects)
     list_stands head (parts.List list_no false) notes here = begins here
-    list_stands head (parts.Published list_no) notes here = (here, calls head.query head.id setting.objects)
+    list_stands head (parts.Published list_no) notes here = (here, calls head.want head.id setting.objects)
 
     loose_stands : (part : Part) (notes : Notes) → Else → Stands (after_loose setting part notes)
     loose_stands parts.Snapshot notes here = here
@@ -139,17 +139,17 @@ module _ (setting : Setting) (OfCall : LooseCall → Type 0) (OfLister : Lister 
         tried_stands head part (seek (goal_of setting head) (record { indices = view.snapshot.indices; todo = todo; notes = notes })) here
 
     -- a new look-up stands
-    pub start_stands : (view : View) (query : Query) (id : ObjectId) → Else → Stands (started setting view query id).stage
-    start_stands view query id here =
-        chosen view.read (try_view setting (new_head query id) parts.Snapshot view [] without_notes)
+    pub start_stands : (view : View) (want : Want) (id : ObjectId) → Else → Stands (started setting view want id).stage
+    start_stands view want id here =
+        chosen view.read (try_view setting (new_head want id) parts.Snapshot view [] without_notes)
         (stages.Looking (purposes.First true) without_notes)
-        (try_stands (new_head query id) parts.Snapshot view [] without_notes here) here
+        (try_stands (new_head want id) parts.Snapshot view [] without_notes here) here
 
     -- ---- a folder has replied
 
     folder_stands : (head : LookHead) (round : LooseRound) (next : Option Path) → Else → Stands (at_folder setting head round next)
     folder_stands head round None here = loose_stands round.part round.notes here
-    folder_stands head round (Some folder) here = (here, calls head.query head.id folder)
+    folder_stands head round (Some folder) here = (here, calls head.want head.id folder)
 
     verdict_stands : (head : LookHead) (round : LooseRound) (verdict : Verdict) → Else → Stands (by_verdict setting head round verdict)
     verdict_stands head round (verdicts.Ends reply) here = here
@@ -160,16 +160,16 @@ module _ (setting : Setting) (OfCall : LooseCall → Type 0) (OfLister : Lister 
     reply_stands : (head : LookHead) (round : LooseRound) (call : LooseCall) (reply : Option LooseReply) → Else → OfCall call
         → Stands (by_reply setting head round call reply)
     reply_stands head round call None here own = (here, own)
-    reply_stands head round call (Some reply) here own = verdict_stands head round (verdict_on head.query reply) here
+    reply_stands head round call (Some reply) here own = verdict_stands head round (verdict_on head.want reply) here
 
     -- ---- the core has answered
 
     counted_stands : (head : LookHead) (now : ℕ) (next : LookStage) → Else → Stands next → Stands (counted setting head now next)
     counted_stands head now next here own = chosen (is_unsettled setting head now) (unsettled head now) next here own
 
-    ended_stands : (query : Query) (notes : Notes) → Else → Stands (ended query notes)
-    ended_stands query notes here =
-        chosen notes.failed (stages.Done (load_refused load_errors.Io)) (stages.Done (not_found query)) here here
+    ended_stands : (want : Want) (notes : Notes) → Else → Stands (ended want notes)
+    ended_stands want notes here =
+        chosen notes.failed (stages.Done (load_refused load_errors.Io)) (stages.Done (not_found want)) here here
 
     look_stands : (head : LookHead) (purpose : Purpose) (notes : Notes) (view : Option View) → Else → Stands (by_look setting head purpose notes view)
     look_stands head purpose notes None here = here
@@ -177,8 +177,8 @@ module _ (setting : Setting) (OfCall : LooseCall → Type 0) (OfLister : Lister 
         chosen view.read (try_view setting head (parts.List view.list_no loose) view view.todo notes) (listing_from setting view.list_no notes)
         (try_stands head (parts.List view.list_no loose) view view.todo notes here) (begins here)
     look_stands head (purposes.Check list_no) notes (Some view) here =
-        chosen (view.list_no == list_no) (ended head.query notes) (counted setting head view.list_no (listing_from setting view.list_no notes))
-        (ended_stands head.query notes here) (counted_stands head view.list_no (listing_from setting view.list_no notes) here (begins here))
+        chosen (view.list_no == list_no) (ended head.want notes) (counted setting head view.list_no (listing_from setting view.list_no notes))
+        (ended_stands head.want notes here) (counted_stands head view.list_no (listing_from setting view.list_no notes) here (begins here))
     look_stands head purposes.Again notes (Some view) here = begins here
 
     published_stands : (head : LookHead) (listing : Listing) (notes : Notes) (effect : Effect) → Else → OfRows listing.rows

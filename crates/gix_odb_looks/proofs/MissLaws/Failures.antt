@@ -39,8 +39,8 @@ use Rattle.gix_odb_calls.specs.declared.call.CallError.TheVariants as call_error
 use Rattle.gix_odb_calls.specs.declared.find.Error.TheVariants as find_errors
 use Rattle.gix_odb_calls.specs.declared.load_index.Error as load_index
 use Rattle.gix_odb_calls.specs.declared.load_index.Error.TheVariants as load_errors
-use Rattle.gix_odb_calls.specs.declared.query.Query.{Query}
-use Rattle.gix_odb_calls.specs.declared.query.Query.TheVariants.{Find, Header, Test}
+use Rattle.gix_object.specs.declared.want.Want.{Want}
+use Rattle.gix_object.specs.declared.want.Want.TheVariants.{Object, Header, Presence}
 use Rattle.gix_odb_calls.specs.declared.verdict.Verdict.{Verdict}
 use Rattle.gix_odb_calls.specs.declared.verdict.Verdict.TheVariants as verdicts
 use Rattle.gix_odb_looks.specs.LoadIndex.{of_refusal}
@@ -79,11 +79,11 @@ is_of_disk (asks.Core event) can = absurd can
 is_of_disk (asks.NewCore slots folders) can = absurd can
 
 -- a verdict that is no plain miss
-abbrev IsNoPlainMiss : Query → Verdict → Type 0
-IsNoPlainMiss query verdicts.Misses = ⊥
-IsNoPlainMiss query verdict = EndsNoMiss query verdict
+abbrev IsNoPlainMiss : Want → Verdict → Type 0
+IsNoPlainMiss want verdicts.Misses = ⊥
+IsNoPlainMiss want verdict = EndsNoMiss want verdict
 
-module _ (setting : Setting) (query : Query) where
+module _ (setting : Setting) (want : Want) where
   -- a failure was noted, or ends what is under way
   abbrev pub IsMarred : LookStage → Type 0
   IsMarred (stages.Trying trier part) = IsNoted trier.ahead.notes
@@ -91,10 +91,10 @@ module _ (setting : Setting) (query : Query) where
   IsMarred (stages.Looking purpose notes) = IsNoted notes
   IsMarred (stages.Listing lister base notes) = IsNoted notes ⊎ IsBreaking lister.stage
   IsMarred (stages.Publishing listing notes) = IsNoted notes
-  IsMarred (stages.Done reply) = ¬ (IsMiss query reply)
+  IsMarred (stages.Done reply) = ¬ (IsMiss want reply)
 
   refused_mars : (error : load_index.Error) → IsMarred (stages.Done (load_refused error))
-  refused_mars error = refused_is_no_miss query (call_errors.Find (find_errors.LoadIndex error))
+  refused_mars error = refused_is_no_miss want (call_errors.Find (find_errors.LoadIndex error))
 
   module _ (head : LookHead) where
     marred_list : (part : Part) (notes : Notes) → IsNoted notes → IsMarred (after_list setting head part notes)
@@ -105,9 +105,9 @@ module _ (setting : Setting) (query : Query) where
 
     marred_tried : (part : Part) (result : Tried) → NotedIn result → IsMarred (by_tried setting head part result)
     marred_tried part (tried.More trier) noted = noted
-    marred_tried part (tried.Hit what) noted = found_is_no_miss query what
+    marred_tried part (tried.Hit what) noted = found_is_no_miss want what
     marred_tried part (tried.Missed notes) noted = marred_list part notes noted
-    marred_tried part (tried.Bad error) noted = refused_is_no_miss query (call_errors.Find (find_error error))
+    marred_tried part (tried.Bad error) noted = refused_is_no_miss want (call_errors.Find (find_error error))
     marred_tried part (tried.Broken refusal) noted = refused_mars (of_refusal refusal)
 
     marred_view : (part : Part) (view : View) (notes : Notes) → IsNoted notes → IsMarred (try_view setting head part view view.todo notes)
@@ -124,34 +124,34 @@ module _ (setting : Setting) (query : Query) where
     marred_folder round noted None = marred_loose round.part round.notes noted
     marred_folder round noted (Some folder) = noted
 
-    marred_verdict : (round : LooseRound) → IsNoted round.notes → (verdict : Verdict) → EndsNoMiss query verdict
+    marred_verdict : (round : LooseRound) → IsNoted round.notes → (verdict : Verdict) → EndsNoMiss want verdict
         → IsMarred (by_verdict setting head round verdict)
     marred_verdict round noted (verdicts.Ends reply) ends = ends
     marred_verdict round noted verdicts.Misses ends = marred_folder round noted (slice_get setting.folders round.next)
     marred_verdict round noted (verdicts.Notes error) ends =
         marred_folder (record round { notes = record round.notes { failed = true } }) refl (slice_get setting.folders round.next)
 
-    failed_verdict : (round : LooseRound) (verdict : Verdict) → IsNoPlainMiss query verdict → IsMarred (by_verdict setting head round verdict)
+    failed_verdict : (round : LooseRound) (verdict : Verdict) → IsNoPlainMiss want verdict → IsMarred (by_verdict setting head round verdict)
     failed_verdict round (verdicts.Ends reply) ends = ends
     failed_verdict round verdicts.Misses ends = absurd ends
     failed_verdict round (verdicts.Notes error) ends =
         marred_folder (record round { notes = record round.notes { failed = true } }) refl (slice_get setting.folders round.next)
 
-    marred_reply : head.query ≡ query → (round : LooseRound) → IsNoted round.notes → (call : LooseCall) (reply : Option LooseReply)
+    marred_reply : head.want ≡ want → (round : LooseRound) → IsNoted round.notes → (call : LooseCall) (reply : Option LooseReply)
         → IsMarred (by_reply setting head round call reply)
     marred_reply own round noted call None = noted
     marred_reply own round noted call (Some reply) =
-        marred_verdict round noted (verdict_on head.query reply)
-        (subst (λ (q : Query). EndsNoMiss q (verdict_on head.query reply)) own (verdict_is_no_miss head.query reply))
+        marred_verdict round noted (verdict_on head.want reply)
+        (subst (λ (q : Want). EndsNoMiss q (verdict_on head.want reply)) own (verdict_is_no_miss head.want reply))
 
     marred_counted : (b : Bool) (now : ℕ) (next : LookStage) → IsMarred next → IsMarred (cond b (unsettled head now) next)
     marred_counted true now next marred = refused_mars (load_errors.Unsettled (unwrap_or head.begun now) head.own now)
     marred_counted false now next marred = marred
 
-    marred_ended : (notes : Notes) → IsNoted notes → IsMarred (ended head.query notes)
+    marred_ended : (notes : Notes) → IsNoted notes → IsMarred (ended head.want notes)
     marred_ended notes noted = by notes.failed noted
       where
-        by : (b : Bool) → b ≡ true → IsMarred (cond b (stages.Done (load_refused load_errors.Io)) (stages.Done (not_found head.query)))
+        by : (b : Bool) → b ≡ true → IsMarred (cond b (stages.Done (load_refused load_errors.Io)) (stages.Done (not_found head.want)))
         by true is = refused_mars load_errors.Io
         by false is = absurd (cc is)
 
@@ -165,7 +165,7 @@ module _ (setting : Setting) (query : Query) where
         by false = inl noted
     marred_look (purposes.Check list_no) notes noted (Some view) = by (view.list_no == list_no)
       where
-        by : (b : Bool) → IsMarred (cond b (ended head.query notes) (counted setting head view.list_no (listing_from setting view.list_no notes)))
+        by : (b : Bool) → IsMarred (cond b (ended head.want notes) (counted setting head view.list_no (listing_from setting view.list_no notes)))
         by true = marred_ended notes noted
         by false = marred_counted (is_unsettled setting head view.list_no) view.list_no (listing_from setting view.list_no notes) (inl noted)
     marred_look purposes.Again notes noted (Some view) = inl noted
@@ -187,10 +187,10 @@ module _ (setting : Setting) (query : Query) where
   -- ---- what is marred stays so
 
   pub record IsLookMarred (look : LookUp) : Type 0 where
-    pub own : look.head.query ≡ query
+    pub own : look.head.want ≡ want
     pub stage : IsMarred look.stage
 
-  marred_published : (head : LookHead) → head.query ≡ query → (listing : Listing) (notes : Notes) → IsNoted notes → (effect : Effect)
+  marred_published : (head : LookHead) → head.want ≡ want → (listing : Listing) (notes : Notes) → IsNoted notes → (effect : Effect)
       → IsLookMarred (by_published setting head listing notes effect)
   marred_published head own listing notes noted (effects.Published view) =
       record { own = own; stage = marred_view (with_own head) (parts.Published view.list_no) view notes noted }
@@ -200,7 +200,7 @@ module _ (setting : Setting) (query : Query) where
       record { own = own; stage = marred_counted head (is_unsettled setting head list_no) list_no (stages.Looking purposes.Again notes) noted }
   marred_published head own listing notes noted effect = record { own = own; stage = noted }
 
-  marred_stage : (head : LookHead) → head.query ≡ query → (stage : LookStage) → IsMarred stage → (answer : Answer)
+  marred_stage : (head : LookHead) → head.want ≡ want → (stage : LookStage) → IsMarred stage → (answer : Answer)
       → IsLookMarred (fed_at setting head stage answer)
   marred_stage head own (stages.Trying trier part) marred answer =
       record { own = own; stage = marred_tried head part (trier_fed trier answer) (noted_answer trier.goal trier.ahead marred trier.stage answer) }
@@ -225,7 +225,7 @@ module _ (setting : Setting) (query : Query) where
   stays_marred look marred answer = marred_stage (seen look.head answer) marred.own look.stage marred.stage answer
 
   -- what is marred is no miss
-  pub marred_is_no_miss : (head : LookHead) (stage : LookStage) → IsMarred stage → ¬ (result_at head stage ≡ Ok (not_found query))
+  pub marred_is_no_miss : (head : LookHead) (stage : LookStage) → IsMarred stage → ¬ (result_at head stage ≡ Ok (not_found want))
   marred_is_no_miss head (stages.Done reply) marred is = marred (cc is)
   marred_is_no_miss head stage marred is = cc is
 
@@ -242,28 +242,28 @@ module _ (setting : Setting) (query : Query) where
   failed_lister head base notes list_head (list_stages.Pack row left) can = refused_mars load_errors.Io
 
   -- the verdict on a folder whose call failed
-  failed_says : (q : Query) (id : ObjectId) (asked : Path) → (reply : LooseReply)
+  failed_says : (q : Want) (id : ObjectId) (asked : Path) → (reply : LooseReply)
       × (reply_of (loose_fed (asking setting.limit q id asked) (disk_answers.Refused disk_errors.Failed)) ≡ Some reply) × IsNoPlainMiss q (verdict_on q reply)
-  failed_says (Find own) id asked = (loose_replies.Found (Err (unreadable (loose_path asked id))), refl, refused_is_no_miss (Find own) _)
-  failed_says (Header own) id asked = (loose_replies.Header (Err (unreadable (loose_path asked id))), refl, refused_is_no_miss (Header own) _)
-  failed_says (Test own) id asked = (loose_replies.Contains (Err (unreadable (loose_path asked id))), refl, tt)
+  failed_says Object id asked = (loose_replies.Found (Err (unreadable (loose_path asked id))), refl, refused_is_no_miss Object _)
+  failed_says Header id asked = (loose_replies.Header (Err (unreadable (loose_path asked id))), refl, refused_is_no_miss Header _)
+  failed_says Presence id asked = (loose_replies.Contains (Err (unreadable (loose_path asked id))), refl, tt)
 
-  failed_folder : (head : LookHead) → head.query ≡ query → (round : LooseRound) (call : LooseCall) (id : ObjectId) (asked : Path)
-      → call ≡ asking setting.limit query id asked → IsMarred (by_call setting head round (loose_fed call (disk_answers.Refused disk_errors.Failed)))
+  failed_folder : (head : LookHead) → head.want ≡ want → (round : LooseRound) (call : LooseCall) (id : ObjectId) (asked : Path)
+      → call ≡ asking setting.limit want id asked → IsMarred (by_call setting head round (loose_fed call (disk_answers.Refused disk_errors.Failed)))
   failed_folder head own round call id asked is =
-      let says = failed_says query id asked in
+      let says = failed_says want id asked in
       let replies_so : reply_of (loose_fed call (disk_answers.Refused disk_errors.Failed)) ≡ Some says.0 =
       ap (λ (c : LooseCall). reply_of (loose_fed c (disk_answers.Refused disk_errors.Failed))) is ∙ says.1 in
       subst (λ (r : Option LooseReply). IsMarred (by_reply setting head round (loose_fed call (disk_answers.Refused disk_errors.Failed)) r)) (sym replies_so)
-      (subst (λ (q : Query). IsMarred (by_verdict setting head round (verdict_on q says.0))) (sym own)
-      (failed_verdict head round (verdict_on query says.0) says.2))
+      (subst (λ (q : Want). IsMarred (by_verdict setting head round (verdict_on q says.0))) (sym own)
+      (failed_verdict head round (verdict_on want says.0) says.2))
 
   -- the folder of a call that the look-up makes there
   abbrev pub IsAskingAt : LookStage → Type 0
-  IsAskingAt (stages.Loose round call) = (id : ObjectId) × (asked : Path) × (call ≡ asking setting.limit query id asked)
+  IsAskingAt (stages.Loose round call) = (id : ObjectId) × (asked : Path) × (call ≡ asking setting.limit want id asked)
   IsAskingAt stage = Unit {0}
 
-  failed_stage : (head : LookHead) → head.query ≡ query → (stage : LookStage) → IsAskingAt stage → (ask : Ask) → ask_at stage ≡ Some ask → CanFail ask
+  failed_stage : (head : LookHead) → head.want ≡ want → (stage : LookStage) → IsAskingAt stage → (ask : Ask) → ask_at stage ≡ Some ask → CanFail ask
       → IsLookMarred (fed_at setting head stage failed)
   failed_stage head own (stages.Trying trier part) at ask is can =
       record {
@@ -286,6 +286,6 @@ module _ (setting : Setting) (query : Query) where
   failed_stage head own (stages.Done reply) at ask is can = absurd (cc is)
 
   -- a look-up whose call failed is marred
-  pub failure_mars : (look : LookUp) → look.head.query ≡ query → IsAskingAt look.stage → (ask : Ask) → ask_at look.stage ≡ Some ask → CanFail ask
+  pub failure_mars : (look : LookUp) → look.head.want ≡ want → IsAskingAt look.stage → (ask : Ask) → ask_at look.stage ≡ Some ask → CanFail ask
       → IsLookMarred (fed setting look failed)
   failure_mars look own at ask is can = failed_stage (seen look.head failed) own look.stage at ask is can

@@ -31,8 +31,7 @@ use Rattle.gix_odb_calls.specs.declared.call.CallError.TheVariants as call_error
 use Rattle.gix_odb_calls.specs.declared.find.Error.TheVariants as find_errors
 use Rattle.gix_odb_calls.specs.declared.load_index.Error as load_index
 use Rattle.gix_odb_calls.specs.declared.load_index.Error.TheVariants as load_errors
-use Rattle.gix_odb_calls.specs.declared.query.Query.{Query}
-use Rattle.gix_odb_calls.specs.declared.query.Query.TheVariants.{Find, Header, Test}
+use Rattle.gix_object.specs.declared.want.Want.{Want}
 use Rattle.gix_odb_calls.specs.declared.verdict.Verdict.{Verdict}
 use Rattle.gix_odb_calls.specs.declared.verdict.Verdict.TheVariants as verdicts
 use Rattle.gix_odb_looks.specs.LoadIndex.{of_refusal}
@@ -57,21 +56,17 @@ use Rattle.gix_odb_looks.proofs.MissLaws.Lists.{drop_none, first_in, found_at, h
 use Rattle.gix_odb_looks.proofs.MissLaws.Replies.{EndsNoMiss, IsMiss, found_is_no_miss, refused_is_no_miss, verdict_is_no_miss}
 
 -- a folder that is asked replies to one call of the disk
-pub folder_replies : (limit : Option ℕ) (query : Query) (id : ObjectId) (folder : Path) (answer : DiskAnswer)
-    → (reply : LooseReply) × (reply_of (loose_fed (asking limit query id folder) answer) ≡ Some reply)
-folder_replies limit (Find asked) id folder answer = (loose_replies.Found (found_by (loose_path folder id) limit answer), refl)
-folder_replies limit (Header asked) id folder answer = (loose_replies.Header (header_by (loose_path folder id) answer), refl)
-folder_replies limit (Test asked) id folder answer = (loose_replies.Contains (tested_by (loose_path folder id) answer), refl)
+pub folder_replies : (limit : Option ℕ) (want : Want) (id : ObjectId) (folder : Path) (answer : DiskAnswer)
+    → (reply : LooseReply) × (reply_of (loose_fed (asking limit want id folder) answer) ≡ Some reply)
+folder_replies limit want id folder answer = (_, refl)
 
-folder_asks : (limit : Option ℕ) (query : Query) (id : ObjectId) (folder : Path) → (ask : DiskAsk) × (disk_ask_of (asking limit query id folder) ≡ Some ask)
-folder_asks limit (Find asked) id folder = (_, refl)
-folder_asks limit (Header asked) id folder = (_, refl)
-folder_asks limit (Test asked) id folder = (_, refl)
+folder_asks : (limit : Option ℕ) (want : Want) (id : ObjectId) (folder : Path) → (ask : DiskAsk) × (disk_ask_of (asking limit want id folder) ≡ Some ask)
+folder_asks limit want id folder = (_, refl)
 
-module _ (setting : Setting) (query : Query) (id : ObjectId) (exchanges : List Exchange) where
+module _ (setting : Setting) (want : Want) (id : ObjectId) (exchanges : List Exchange) where
   -- the folder was asked in one of the exchanges, and missed
   abbrev IsMissed : Path → Type 0
-  IsMissed folder = HasVerdict setting query id exchanges folder verdicts.Misses
+  IsMissed folder = HasVerdict setting want id exchanges folder verdicts.Misses
 
   abbrev pub AllMissed : Type 0
   AllMissed = (folder : Path) → Contains (folders_of setting) folder → IsMissed folder
@@ -87,7 +82,7 @@ module _ (setting : Setting) (query : Query) (id : ObjectId) (exchanges : List E
   pub record IsAsking (round : LooseRound) (call : LooseCall) : Type 0 where
     pub asked : Path
     pub among : Contains (folders_of setting) asked
-    pub call_is : call ≡ asking setting.limit query id asked
+    pub call_is : call ≡ asking setting.limit want id asked
     pub past : round.notes.failed ≡ false → IsPast (λ folder. (asked ≡ folder) ⊎ Behind round.next folder)
 
   -- what is known at each stage of the folders that were asked
@@ -99,20 +94,20 @@ module _ (setting : Setting) (query : Query) (id : ObjectId) (exchanges : List E
   IsPassing (stages.Looking purposes.Again notes) = Unit {0}
   IsPassing (stages.Listing lister base notes) = Unit {0}
   IsPassing (stages.Publishing listing notes) = Unit {0}
-  IsPassing (stages.Done reply) = IsMiss query reply → AllMissed
+  IsPassing (stages.Done reply) = IsMiss want reply → AllMissed
 
-  -- the look-up is for this query and id
+  -- the look-up wants this of this id
   pub record IsFor (head : LookHead) : Type 0 where
-    pub query_is : head.query ≡ query
+    pub want_is : head.want ≡ want
     pub id_is : head.id ≡ id
 
   module _ (head : LookHead) (own : IsFor head) where
-    same_call : (folder : Path) → asking setting.limit head.query head.id folder ≡ asking setting.limit query id folder
+    same_call : (folder : Path) → asking setting.limit head.want head.id folder ≡ asking setting.limit want id folder
     same_call folder =
-        ap (λ (q : Query). asking setting.limit q head.id folder) own.query_is ∙ ap (λ (i : ObjectId). asking setting.limit query i folder) own.id_is
+        ap (λ (q : Want). asking setting.limit q head.id folder) own.want_is ∙ ap (λ (i : ObjectId). asking setting.limit want i folder) own.id_is
 
     refused_passes : (error : load_index.Error) → IsPassing (stages.Done (load_refused error))
-    refused_passes error is = absurd (refused_is_no_miss query (call_errors.Find (find_errors.LoadIndex error)) is)
+    refused_passes error is = absurd (refused_is_no_miss want (call_errors.Find (find_errors.LoadIndex error)) is)
 
     loose_begins : (part : Part) (notes : Notes) → IsPassing (loose_from setting head part notes)
     loose_begins part notes =
@@ -135,9 +130,9 @@ module _ (setting : Setting) (query : Query) (id : ObjectId) (exchanges : List E
 
     tried_passes : (part : Part) (result : Tried) → IsPassing (by_tried setting head part result)
     tried_passes part (tried.More trier) = tt
-    tried_passes part (tried.Hit what) = λ is. absurd (found_is_no_miss query what is)
+    tried_passes part (tried.Hit what) = λ is. absurd (found_is_no_miss want what is)
     tried_passes part (tried.Missed notes) = list_passes part notes
-    tried_passes part (tried.Bad error) = λ is. absurd (refused_is_no_miss query (call_errors.Find (find_error error)) is)
+    tried_passes part (tried.Bad error) = λ is. absurd (refused_is_no_miss want (call_errors.Find (find_error error)) is)
     tried_passes part (tried.Broken refusal) = refused_passes (of_refusal refusal)
 
     -- ---- loose folders
@@ -169,7 +164,7 @@ module _ (setting : Setting) (query : Query) (id : ObjectId) (exchanges : List E
         }
 
     verdict_passes : (round : LooseRound) (asked : Path) → (round.notes.failed ≡ false → IsPast (λ folder. (asked ≡ folder) ⊎ Behind round.next folder))
-        → (verdict : Verdict) → HasVerdict setting query id exchanges asked verdict → EndsNoMiss query verdict → IsPassing (by_verdict setting head round verdict)
+        → (verdict : Verdict) → HasVerdict setting want id exchanges asked verdict → EndsNoMiss want verdict → IsPassing (by_verdict setting head round verdict)
     verdict_passes round asked past (verdicts.Ends reply) says ends = λ is. absurd (ends is)
     verdict_passes round asked past verdicts.Misses says ends =
         folder_passes round
@@ -189,11 +184,11 @@ module _ (setting : Setting) (query : Query) (id : ObjectId) (exchanges : List E
         → loose_ask (disk_ask_of call) ≡ Some ask → WasTold exchanges ask (told.Disk answer)
         → IsPassing (by_reply setting head round (loose_fed call answer) (reply_of (loose_fed call answer)))
     asked_passes round call asking_it ask answer is was =
-        let call_of = folder_asks setting.limit query id asking_it.asked in
-        let reply = folder_replies setting.limit query id asking_it.asked answer in
+        let call_of = folder_asks setting.limit want id asking_it.asked in
+        let reply = folder_replies setting.limit want id asking_it.asked answer in
         let asks_it : ask ≡ asks.Disk call_of.0 =
         sym (same_Some (asks.Disk call_of.0) ask (sym (ap loose_ask (ap disk_ask_of asking_it.call_is ∙ call_of.1)) ∙ is)) in
-        let says : HasVerdict setting query id exchanges asking_it.asked (verdict_on query reply.0) =
+        let says : HasVerdict setting want id exchanges asking_it.asked (verdict_on want reply.0) =
         record {
           ask = call_of.0;
           asked = call_of.1;
@@ -205,13 +200,13 @@ module _ (setting : Setting) (query : Query) (id : ObjectId) (exchanges : List E
         } in
         let replies_so : reply_of (loose_fed call answer) ≡ Some reply.0 = ap (λ (c : LooseCall). reply_of (loose_fed c answer)) asking_it.call_is ∙ reply.1 in
         subst (λ (r : Option LooseReply). IsPassing (by_reply setting head round (loose_fed call answer) r)) (sym replies_so)
-        (subst (λ (q : Query). IsPassing (by_verdict setting head round (verdict_on q reply.0))) (sym own.query_is)
-        (verdict_passes round asking_it.asked asking_it.past (verdict_on query reply.0) says (verdict_is_no_miss query reply.0)))
+        (subst (λ (q : Want). IsPassing (by_verdict setting head round (verdict_on q reply.0))) (sym own.want_is)
+        (verdict_passes round asking_it.asked asking_it.past (verdict_on want reply.0) says (verdict_is_no_miss want reply.0)))
 
     -- ---- looks at the core
 
     ended_passes : (notes : Notes) → (notes.failed ≡ false → AllMissed) → (b : Bool) → notes.failed ≡ b
-        → IsPassing (cond b (stages.Done (load_refused load_errors.Io)) (stages.Done (not_found head.query)))
+        → IsPassing (cond b (stages.Done (load_refused load_errors.Io)) (stages.Done (not_found head.want)))
     ended_passes notes missed true is = refused_passes load_errors.Io
     ended_passes notes missed false is = λ miss. missed is
 
@@ -220,7 +215,7 @@ module _ (setting : Setting) (query : Query) (id : ObjectId) (exchanges : List E
     counted_passes false now next passes = passes
 
     check_passes : (list_no : ℕ) (view : View) (notes : Notes) → (notes.failed ≡ false → AllMissed) → (b : Bool)
-        → IsPassing (cond b (ended head.query notes) (counted setting head view.list_no (listing_from setting view.list_no notes)))
+        → IsPassing (cond b (ended head.want notes) (counted setting head view.list_no (listing_from setting view.list_no notes)))
     check_passes list_no view notes missed true = ended_passes notes missed notes.failed refl
     check_passes list_no view notes missed false =
         counted_passes (is_unsettled setting head view.list_no) view.list_no (listing_from setting view.list_no notes) tt
@@ -253,7 +248,7 @@ module _ (setting : Setting) (query : Query) (id : ObjectId) (exchanges : List E
   published_passes : (head : LookHead) → IsFor head → (listing : Listing) (notes : Notes) (effect : Effect)
       → IsLookPassing (by_published setting head listing notes effect)
   published_passes head own listing notes (effects.Published view) =
-      let own_too : IsFor (with_own head) = record { query_is = own.query_is; id_is = own.id_is } in
+      let own_too : IsFor (with_own head) = record { want_is = own.want_is; id_is = own.id_is } in
       record {
         own = own_too;
         stage =
@@ -296,23 +291,23 @@ module _ (setting : Setting) (query : Query) (id : ObjectId) (exchanges : List E
   pub look_passes_on : (look : LookUp) → IsLookPassing look → (ask : Ask) (answer : Answer) → ask_at look.stage ≡ Some ask
       → WasTold exchanges ask answer → IsLookPassing (fed setting look answer)
   look_passes_on look passing ask answer is was =
-      stage_passes (seen look.head answer) (record { query_is = passing.own.query_is; id_is = passing.own.id_is })
+      stage_passes (seen look.head answer) (record { want_is = passing.own.want_is; id_is = passing.own.id_is })
       look.stage passing.stage ask answer is was
 
-  pub passes_at_start : (view : View) → IsLookPassing (started setting view query id)
-  passes_at_start view = record { own = record { query_is = refl; id_is = refl }; stage = by view.read }
+  pub passes_at_start : (view : View) → IsLookPassing (started setting view want id)
+  passes_at_start view = record { own = record { want_is = refl; id_is = refl }; stage = by view.read }
     where
-      own : IsFor (new_head query id)
-      own = record { query_is = refl; id_is = refl }
+      own : IsFor (new_head want id)
+      own = record { want_is = refl; id_is = refl }
 
       by : (b : Bool)
-          → IsPassing (cond b (try_view setting (new_head query id) parts.Snapshot view [] without_notes) (stages.Looking (purposes.First true) without_notes))
+          → IsPassing (cond b (try_view setting (new_head want id) parts.Snapshot view [] without_notes) (stages.Looking (purposes.First true) without_notes))
       by true =
-          tried_passes (new_head query id) own parts.Snapshot
-          (seek (goal_of setting (new_head query id)) (record { indices = view.snapshot.indices; todo = []; notes = without_notes }))
+          tried_passes (new_head want id) own parts.Snapshot
+          (seek (goal_of setting (new_head want id)) (record { indices = view.snapshot.indices; todo = []; notes = without_notes }))
       by false = tt
 
   -- at its end each folder was missed
-  pub missed_at_end : (head : LookHead) (stage : LookStage) → IsPassing stage → result_at head stage ≡ Ok (not_found query) → AllMissed
+  pub missed_at_end : (head : LookHead) (stage : LookStage) → IsPassing stage → result_at head stage ≡ Ok (not_found want) → AllMissed
   missed_at_end head (stages.Done reply) passes is = passes (cc is)
   missed_at_end head stage passes is = absurd (cc is)

@@ -38,7 +38,7 @@ use Rattle.gix_odb_calls.specs.Verdict.{verdict_on}
 use Rattle.gix_odb_calls.specs.declared.call.CallError.TheVariants as call_errors
 use Rattle.gix_odb_calls.specs.declared.find.Error.TheVariants as find_errors
 use Rattle.gix_odb_calls.specs.declared.load_index.Error.TheVariants as load_errors
-use Rattle.gix_odb_calls.specs.declared.query.Query.{Query}
+use Rattle.gix_object.specs.declared.want.Want.{Want}
 use Rattle.gix_odb_calls.specs.declared.verdict.Verdict.{Verdict}
 use Rattle.gix_odb_calls.specs.declared.verdict.Verdict.TheVariants as verdicts
 use Rattle.gix_odb_looks.specs.Exchange.{Exchange, AreAsked, behind}
@@ -82,7 +82,7 @@ IsNoCheck purposes.Again = Unit {0}
 abbrev tries_view : Setting → LookHead → View → Notes → Tried
 tries_view setting head view notes = seek (goal_of setting head) (record { indices = view.snapshot.indices; todo = view.todo; notes = notes })
 
-module _ (setting : Setting) (hash : Kind) (query : Query) (id : ObjectId) (of_hash : kind_of id ≡ hash) (place : PackedPlace)
+module _ (setting : Setting) (hash : Kind) (want : Want) (id : ObjectId) (of_hash : kind_of id ≡ hash) (place : PackedPlace)
     (among : Contains (folders_of setting) place.folder) where
   abbrev pub RowThere : List ListingRow → Type 0
   RowThere rows = HasRow hash id place setting.folders rows
@@ -101,11 +101,11 @@ module _ (setting : Setting) (hash : Kind) (query : Query) (id : ObjectId) (of_h
   IsOn stream (stages.Listing lister base notes) =
       (notes.absent ≡ []) × IsOnWay hash id place setting.folders stream lister.head lister.stage
   IsOn stream (stages.Publishing listing notes) = (notes.absent ≡ []) × RowThere listing.rows
-  IsOn stream (stages.Done reply) = ¬ (IsMiss query reply)
+  IsOn stream (stages.Done reply) = ¬ (IsMiss want reply)
 
-  -- the look-up is for this query and id
+  -- the look-up wants this of this id
   pub record IsFor (head : LookHead) : Type 0 where
-    pub query_is : head.query ≡ query
+    pub want_is : head.want ≡ want
     pub id_is : head.id ≡ id
 
   pub record IsLookOn (stream : Option Stream) (look : LookUp) : Type 0 where
@@ -131,18 +131,18 @@ module _ (setting : Setting) (hash : Kind) (query : Query) (id : ObjectId) (of_h
 
     early_goes : (part : Part) → IsEarly part → (result : Tried) → IsOn stream (by_tried setting head part result)
     early_goes part early (tried.More trier) = early_tries part early trier
-    early_goes part early (tried.Hit what) = found_is_no_miss query what
+    early_goes part early (tried.Hit what) = found_is_no_miss want what
     early_goes part early (tried.Missed notes) = list_goes part early notes
-    early_goes part early (tried.Bad error) = refused_is_no_miss query (call_errors.Find (find_error error))
-    early_goes part early (tried.Broken refusal) = refused_is_no_miss query (call_errors.Find (find_errors.LoadIndex (of_refusal refusal)))
+    early_goes part early (tried.Bad error) = refused_is_no_miss want (call_errors.Find (find_error error))
+    early_goes part early (tried.Broken refusal) = refused_is_no_miss want (call_errors.Find (find_errors.LoadIndex (of_refusal refusal)))
 
     published_goes : (list_no : ℕ) (result : Tried) → IsNoMiss hash id (index_at place) result
         → IsOn stream (by_tried setting head (parts.Published list_no) result)
     published_goes list_no (tried.More trier) on = on
-    published_goes list_no (tried.Hit what) on = found_is_no_miss query what
+    published_goes list_no (tried.Hit what) on = found_is_no_miss want what
     published_goes list_no (tried.Missed notes) on = absurd on
-    published_goes list_no (tried.Bad error) on = refused_is_no_miss query (call_errors.Find (find_error error))
-    published_goes list_no (tried.Broken refusal) on = refused_is_no_miss query (call_errors.Find (find_errors.LoadIndex (of_refusal refusal)))
+    published_goes list_no (tried.Bad error) on = refused_is_no_miss want (call_errors.Find (find_error error))
+    published_goes list_no (tried.Broken refusal) on = refused_is_no_miss want (call_errors.Find (find_errors.LoadIndex (of_refusal refusal)))
 
     tried_goes : (part : Part) (result : Tried) → IsEarly part ⊎ IsNoMiss hash id (index_at place) result → IsOn stream (by_tried setting head part result)
     tried_goes part result (inl early) = early_goes part early result
@@ -161,7 +161,7 @@ module _ (setting : Setting) (hash : Kind) (query : Query) (id : ObjectId) (of_h
     folder_goes round early None = loose_goes round.part early round.notes
     folder_goes round early (Some folder) = early
 
-    verdict_goes : (round : LooseRound) → IsEarly round.part → (verdict : Verdict) → EndsNoMiss query verdict
+    verdict_goes : (round : LooseRound) → IsEarly round.part → (verdict : Verdict) → EndsNoMiss want verdict
         → IsOn stream (by_verdict setting head round verdict)
     verdict_goes round early (verdicts.Ends reply) ends = ends
     verdict_goes round early verdicts.Misses ends = folder_goes round early (slice_get setting.folders round.next)
@@ -172,8 +172,8 @@ module _ (setting : Setting) (hash : Kind) (query : Query) (id : ObjectId) (of_h
         → IsOn stream (by_reply setting head round call reply)
     reply_goes own round early call None = early
     reply_goes own round early call (Some reply) =
-        verdict_goes round early (verdict_on head.query reply)
-        (subst (λ (q : Query). EndsNoMiss q (verdict_on head.query reply)) own.query_is (verdict_is_no_miss head.query reply))
+        verdict_goes round early (verdict_on head.want reply)
+        (subst (λ (q : Want). EndsNoMiss q (verdict_on head.want reply)) own.want_is (verdict_is_no_miss head.want reply))
 
     -- ---- looks at the core
 
@@ -194,11 +194,11 @@ module _ (setting : Setting) (hash : Kind) (query : Query) (id : ObjectId) (of_h
         → IsOn stream (by_listed base notes step)
     listed_goes base notes none (listed.More lister) on = (none, on)
     listed_goes base notes none (listed.Rows rows) on = (none, (on.0, longest_first_has rows on.0 on.1, on.2))
-    listed_goes base notes none listed.Broken on = refused_is_no_miss query (call_errors.Find (find_errors.LoadIndex load_errors.Io))
+    listed_goes base notes none listed.Broken on = refused_is_no_miss want (call_errors.Find (find_errors.LoadIndex load_errors.Io))
 
     counted_goes : (b : Bool) (now : ℕ) (notes : Notes) → IsOn stream (cond b (unsettled head now) (stages.Looking purposes.Again notes))
     counted_goes true now notes =
-        refused_is_no_miss query (call_errors.Find (find_errors.LoadIndex (load_errors.Unsettled (unwrap_or head.begun now) head.own now)))
+        refused_is_no_miss want (call_errors.Find (find_errors.LoadIndex (load_errors.Unsettled (unwrap_or head.begun now) head.own now)))
     counted_goes false now notes = tt
 
   -- the view that a publish hands over has the index, loaded or still to be loaded
@@ -227,7 +227,7 @@ module _ (setting : Setting) (hash : Kind) (query : Query) (id : ObjectId) (of_h
       → RowThere listing.rows → (effect : Effect) → IsFair hash id place past (asks.Core (events.Publish listing)) (told.Core (Ok effect))
       → IsLookOn stream (by_published setting head listing notes effect)
   publish_goes stream past head own listing notes none has (effects.Published view) fair =
-      let own_too : IsFor (with_own head) = record { query_is = own.query_is; id_is = own.id_is } in
+      let own_too : IsFor (with_own head) = record { want_is = own.want_is; id_is = own.id_is } in
       record {
         own = own_too;
         stage = view_goes stream (with_own head) own_too listing has notes none view (fair.0 view refl) (rows_in listing view (fair.1 view (inl refl)));
@@ -264,7 +264,7 @@ module _ (setting : Setting) (hash : Kind) (query : Query) (id : ObjectId) (of_h
   stage_goes past head own (stages.Looking purpose notes) on ask (told.Core (Ok effect)) is fair =
       record { own = own; stage = look_goes (stream_by (stream_in past) ask (told.Core (Ok effect))) head purpose on notes (view_shown effect) }
   stage_goes past head own (stages.Looking purpose notes) on ask (told.Core (Err refusal)) is fair =
-      record { own = own; stage = refused_is_no_miss query (call_errors.Find (find_errors.LoadIndex (of_refusal refusal))) }
+      record { own = own; stage = refused_is_no_miss want (call_errors.Find (find_errors.LoadIndex (of_refusal refusal))) }
   stage_goes past head own (stages.Listing lister base notes) on ask (told.Disk answer) is fair =
       let own_ask = same_Some _ ask is in
       let then : LookUp = fed_at setting head (stages.Listing lister base notes) (told.Disk answer) in
@@ -284,22 +284,22 @@ module _ (setting : Setting) (hash : Kind) (query : Query) (id : ObjectId) (of_h
       publish_goes (stream_by (stream_in past) ask (told.Core (Ok effect))) past head own listing notes on.0 on.1 effect
       (subst (λ (a : Ask). IsFair hash id place past a (told.Core (Ok effect))) (sym (same_Some _ ask is)) fair)
   stage_goes past head own (stages.Publishing listing notes) on ask (told.Core (Err refusal)) is fair =
-      record { own = own; stage = refused_is_no_miss query (call_errors.Find (find_errors.LoadIndex (of_refusal refusal))) }
+      record { own = own; stage = refused_is_no_miss want (call_errors.Find (find_errors.LoadIndex (of_refusal refusal))) }
   stage_goes past head own (stages.Done reply) on ask answer is fair = absurd (cc is)
 
   look_on : (past : List Exchange) (look : LookUp) → IsLookOn (stream_in past) look → (ask : Ask) (answer : Answer) → ask_at look.stage ≡ Some ask
       → IsFair hash id place past ask answer → IsLookOn (stream_by (stream_in past) ask answer) (fed setting look answer)
   look_on past look on ask answer is fair =
-      stage_goes past (seen look.head answer) (record { query_is = on.own.query_is; id_is = on.own.id_is }) look.stage on.stage ask answer is fair
+      stage_goes past (seen look.head answer) (record { want_is = on.own.want_is; id_is = on.own.id_is }) look.stage on.stage ask answer is fair
 
   -- ---- a whole look-up
 
-  no_miss_at : (stream : Option Stream) (head : LookHead) (stage : LookStage) → IsOn stream stage → ¬ (result_at head stage ≡ Ok (not_found query))
+  no_miss_at : (stream : Option Stream) (head : LookHead) (stage : LookStage) → IsOn stream stage → ¬ (result_at head stage ≡ Ok (not_found want))
   no_miss_at stream head (stages.Done reply) on is = on (cc is)
   no_miss_at stream head stage on is = cc is
 
   pub never_missed : (past : List Exchange) (look : LookUp) → IsLookOn (stream_in past) look → (exchanges : List Exchange) → AreAsked setting look exchanges
-      → AreFair hash id place past exchanges → ¬ (result_of (behind setting look exchanges) ≡ Ok (not_found query))
+      → AreFair hash id place past exchanges → ¬ (result_of (behind setting look exchanges) ≡ Ok (not_found want))
   never_missed past look on [] asked fair = no_miss_at (stream_in past) look.head look.stage on.stage
   never_missed past look on (exchange ∷ exchanges) asked fair =
       let next = look_on past look on exchange.ask exchange.answer asked.0 fair.0 in
@@ -307,12 +307,12 @@ module _ (setting : Setting) (hash : Kind) (query : Query) (id : ObjectId) (of_h
       (subst (λ (s : Option Stream). IsLookOn s (fed setting look exchange.answer)) (sym (stream_in-push past exchange)) next) exchanges asked.1 fair.1
 
   -- a new look-up is on its track
-  pub starts : (view : View) → IsLookOn None (started setting view query id)
-  starts view = record { own = record { query_is = refl; id_is = refl }; stage = by view.read }
+  pub starts : (view : View) → IsLookOn None (started setting view want id)
+  starts view = record { own = record { want_is = refl; id_is = refl }; stage = by view.read }
     where
       by : (b : Bool)
-          → IsOn None (cond b (try_view setting (new_head query id) parts.Snapshot view [] without_notes) (stages.Looking (purposes.First true) without_notes))
+          → IsOn None (cond b (try_view setting (new_head want id) parts.Snapshot view [] without_notes) (stages.Looking (purposes.First true) without_notes))
       by true =
-          early_goes None (new_head query id) parts.Snapshot tt
-          (seek (goal_of setting (new_head query id)) (record { indices = view.snapshot.indices; todo = []; notes = without_notes }))
+          early_goes None (new_head want id) parts.Snapshot tt
+          (seek (goal_of setting (new_head want id)) (record { indices = view.snapshot.indices; todo = []; notes = without_notes }))
       by false = tt

@@ -153,7 +153,7 @@ module _ (hash : Kind) (id : ObjectId) (place : PackedPlace) where
       answer_goes (stages.ReadingPack wanted) way (told.Core answer) fair = absurd fair
       answer_goes (stages.StoringPack wanted file) way (told.Disk answer) fair = absurd fair
       answer_goes (stages.StoringPack wanted file) way (told.Core (Ok effect)) fair =
-          given_goes (given_by goal.wanted goal.limit (unwrap_or (pack_behind wanted effect) file) wanted.offset)
+          given_goes (given_by goal.want goal.limit (unwrap_or (pack_behind wanted effect) file) wanted.offset)
       answer_goes (stages.StoringPack wanted file) way (told.Core (Err refusal)) fair = tt
       answer_goes (stages.PassingPack wanted) way (told.Disk answer) fair = absurd fair
       answer_goes (stages.PassingPack wanted) way (told.Core (Ok effect)) fair = passed_goes hash id (index_at place) goal own ahead able wanted way

@@ -74,10 +74,10 @@ module _ (bounds : Bounds) where
       → before ≤ view.list_no
       → HasFurther bounds head number before 1 (suc turns)
       → HasLeft bounds (shown head view)
-      (cond same (ended head.query notes) (counted bounds.setting (shown head view) view.list_no (listing_from bounds.setting view.list_no notes)))
+      (cond same (ended head.want notes) (counted bounds.setting (shown head view) view.list_no (listing_from bounds.setting view.list_no notes)))
       view.list_no stream turns
   check_left head number before stream turns view notes true is later has =
-      ended_left (shown head view) notes.failed (load_refused load_errors.Io) (not_found head.query) view.list_no stream turns
+      ended_left (shown head view) notes.failed (load_refused load_errors.Io) (not_found head.want) view.list_no stream turns
   check_left head number before stream turns view notes false is later has =
       let other = eqb-false view.list_no number is in
       let behind : HasFurther bounds (shown head view) number view.list_no 1 (suc turns) = IsFurther-on (seeing view) view.list_no has later (omega arith) in

@@ -38,7 +38,7 @@ module _ (bounds : Bounds) where
       → OfPart bounds head part before (folders bounds + 1) turns
       → HasLeft bounds head (loose_from bounds.setting head part notes) before stream turns
   loose_left head part before stream turns notes has = (
-    asks_once bounds.setting.limit head.query head.id bounds.setting.objects,
+    asks_once bounds.setting.limit head.want head.id bounds.setting.objects,
     OfPart-less bounds head part before (folders bounds + 1) turns ((folders bounds - 0) + 1) turns has (omega arith),
   )
 
@@ -91,7 +91,7 @@ module _ (bounds : Bounds) where
       (OfPart-less bounds head round.part before (folders bounds - round.next) turns 0 turns has (omega arith))
   folder_left head round before stream turns (Some folder) is has =
       let within = slice_get_within bounds.setting.folders round.next folder is in (
-        asks_once bounds.setting.limit head.query head.id folder,
+        asks_once bounds.setting.limit head.want head.id folder,
         OfPart-less bounds head round.part before (folders bounds - round.next) turns ((folders bounds - (round.next + 1)) + 1) turns has
             (omega (arith, within)),
       )
@@ -111,4 +111,4 @@ module _ (bounds : Bounds) where
       → HasLeft bounds head (by_call bounds.setting head round call) before stream turns
   call_left head round before stream turns call reply is has =
       subst (λ (reply : Option LooseReply). HasLeft bounds head (by_reply bounds.setting head round call reply) before stream turns) (sym is)
-      (verdict_left head round before stream turns (verdict_on head.query reply) has)
+      (verdict_left head round before stream turns (verdict_on head.want reply) has)

@@ -72,7 +72,7 @@ fed_at_tries turns goal ahead (stages.ReadingPack pack) (told.Disk answer) suits
 fed_at_tries turns goal ahead (stages.ReadingPack pack) (told.Core answer) suits room = absurd suits
 fed_at_tries turns goal ahead (stages.StoringPack pack file) (told.Disk answer) suits room = absurd suits
 fed_at_tries turns goal ahead (stages.StoringPack pack file) (told.Core (Ok effect)) suits room =
-    given_tries turns (given_by goal.wanted goal.limit (unwrap_or (pack_behind pack effect) file) pack.offset)
+    given_tries turns (given_by goal.want goal.limit (unwrap_or (pack_behind pack effect) file) pack.offset)
 fed_at_tries turns goal ahead (stages.StoringPack pack file) (told.Core (Err refusal)) suits room = tt
 fed_at_tries turns goal ahead (stages.PassingPack pack) (told.Disk answer) suits room = absurd suits
 fed_at_tries turns goal ahead (stages.PassingPack pack) (told.Core (Ok effect)) suits room =

@@ -10,8 +10,7 @@ use Rattle.gix_odb_packs.proofs.TryTurnLaws.{trier_turns}
 use Rattle.gix_odb_events.specs.declared.answer.Answer.{Answer}
 use Rattle.gix_odb_calls.specs.Verdict.{asking}
 use Rattle.gix_odb_calls.specs.declared.call.Reply.{Reply}
-use Rattle.gix_odb_calls.specs.declared.query.Query.{Query}
-use Rattle.gix_odb_calls.specs.declared.query.Query.TheVariants.{Find, Header, Test}
+use Rattle.gix_object.specs.declared.want.Want.{Want}
 use Rattle.gix_odb_looks.specs.Laps.{number_by}
 use Rattle.gix_odb_looks.specs.Stream.{Stream}
 use Rattle.gix_odb_looks.specs.LookUpOrder.{Setting, loose_fed, result_at, seen}
@@ -44,10 +43,8 @@ pub record Bounds : Type 0 where
 abbrev pub IsOneAsk : LooseCall → Type 0
 IsOneAsk call = (answer : DiskAnswer) → (reply : LooseReply) × (reply_of (loose_fed call answer) ≡ Some reply)
 
-pub asks_once : (limit : Option ℕ) (query : Query) (id : ObjectId) (folder : Path) → IsOneAsk (asking limit query id folder)
-asks_once limit (Find asked) id folder answer = (_, refl)
-asks_once limit (Header asked) id folder answer = (_, refl)
-asks_once limit (Test asked) id folder answer = (_, refl)
+pub asks_once : (limit : Option ℕ) (want : Want) (id : ObjectId) (folder : Path) → IsOneAsk (asking limit want id folder)
+asks_once limit want id folder answer = (_, refl)
 
 module _ (bounds : Bounds) where
   abbrev pub folders : ℕ

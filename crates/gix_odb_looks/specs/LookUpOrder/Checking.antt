@@ -25,4 +25,4 @@ counted setting head now next = if is_unsettled setting head now then unsettled 
 -- the list that was tried is the newest, and the look-up ends; or it is counted, and the folders are listed again
 abbrev pub by_check : Setting → LookHead → (list_no : ℕ) → View → Notes → LookStage
 by_check setting head list_no view notes =
-    if view.list_no == list_no then ended head.query notes else counted setting head view.list_no (listing_from setting view.list_no notes)
+    if view.list_no == list_no then ended head.want notes else counted setting head view.list_no (listing_from setting view.list_no notes)

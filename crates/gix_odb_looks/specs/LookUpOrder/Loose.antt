@@ -23,7 +23,7 @@ use Rattle.gix_odb_looks.specs.LookUpOrder.Listing.{listing_from}
 -- the loose objects of the first folder are asked
 abbrev pub loose_from : Setting → LookHead → Part → Notes → LookStage
 loose_from setting head part notes =
-    stages.Loose (record { next = 0; notes = notes; part = part }) (asking setting.limit head.query head.id setting.objects)
+    stages.Loose (record { next = 0; notes = notes; part = part }) (asking setting.limit head.want head.id setting.objects)
 
 -- behind the loose folders: the core's list, a listing, or a look at whether the list that was tried is still the newest
 abbrev pub after_loose : Setting → Part → Notes → LookStage
@@ -35,7 +35,7 @@ after_loose setting (parts.Published list_no) notes = stages.Looking (purposes.C
 abbrev pub at_folder : Setting → LookHead → LooseRound → Option Path → LookStage
 at_folder setting head round None = after_loose setting round.part round.notes
 at_folder setting head round (Some folder) =
-    stages.Loose (record round { next = round.next + 1 }) (asking setting.limit head.query head.id folder)
+    stages.Loose (record round { next = round.next + 1 }) (asking setting.limit head.want head.id folder)
 
 -- behind what a folder says: its reply, the next folder, or that folder with the failed look noted
 abbrev pub by_verdict : Setting → LookHead → LooseRound → Verdict → LookStage
@@ -47,7 +47,7 @@ by_verdict setting head round (verdicts.Notes error) =
 -- behind a call of a folder that was fed: it goes on, or has its reply
 abbrev pub by_reply : Setting → LookHead → LooseRound → LooseCall → Option LooseReply → LookStage
 by_reply setting head round call None = stages.Loose round call
-by_reply setting head round call (Some reply) = by_verdict setting head round (verdict_on head.query reply)
+by_reply setting head round call (Some reply) = by_verdict setting head round (verdict_on head.want reply)
 
 -- the same by the call alone
 abbrev pub by_call : Setting → LookHead → LooseRound → LooseCall → LookStage

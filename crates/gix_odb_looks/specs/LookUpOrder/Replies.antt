@@ -15,8 +15,8 @@ use Rattle.gix_odb_calls.specs.declared.load_index.Error as load_index
 use Rattle.gix_odb_calls.specs.declared.load_index.Error.TheVariants as load_errors
 use Rattle.gix_odb_looks.specs.declared.look_up.LookStage.{LookStage}
 use Rattle.gix_odb_looks.specs.declared.look_up.LookStage.TheVariants as stages
-use Rattle.gix_odb_calls.specs.declared.query.Query.{Query}
-use Rattle.gix_odb_calls.specs.declared.query.Query.TheVariants.{Test}
+use Rattle.gix_object.specs.declared.want.Want.{Want}
+use Rattle.gix_object.specs.declared.want.Want.TheVariants.{Presence}
 
 abbrev pub load_refused : load_index.Error → Reply
 load_refused error = replies.Refused (call_errors.Find (find_errors.LoadIndex error))
@@ -33,10 +33,10 @@ reply_found (found.Object kind bytes) = replies.Found kind bytes
 reply_found (found.Header kind size) = replies.Header (headers.Packed kind size)
 reply_found found.Presence = replies.Tested true
 
-abbrev pub not_found : Query → Reply
-not_found (Test id) = replies.Tested false
-not_found query = replies.NotFound
+abbrev pub not_found : Want → Reply
+not_found Presence = replies.Tested false
+not_found want = replies.NotFound
 
 -- where nothing was found: an index that couldn't be read, or a folder that couldn't be looked into, is told
-abbrev pub ended : Query → Notes → LookStage
-ended query notes = if notes.failed then stages.Done (load_refused load_errors.Io) else stages.Done (not_found query)
+abbrev pub ended : Want → Notes → LookStage
+ended want notes = if notes.failed then stages.Done (load_refused load_errors.Io) else stages.Done (not_found want)

@@ -2,8 +2,6 @@
 use Rattle.std.specs.Prelude.{true, false, List}
 use Rattle.gix_odb_calls.specs.declared.call.CallError.TheVariants as call_errors
 use Rattle.gix_odb_calls.specs.declared.call.Reply.TheVariants as replies
-use Rattle.gix_odb_calls.specs.declared.query.Query.{Query}
-use Rattle.gix_odb_calls.specs.declared.query.Query.TheVariants.{Find, Header, Test}
 use Rattle.gix_odb_events.specs.declared.answer.Answer.{Answer}
 use Rattle.gix_odb_events.specs.declared.loaded.Todo.{Todo}
 use Rattle.gix_odb_events.specs.declared.view.View.{View}
@@ -16,8 +14,6 @@ use Rattle.gix_odb_looks.specs.declared.look_up.Part.TheVariants as parts
 use Rattle.gix_odb_packs.specs.TryOrder.{seek}
 use Rattle.gix_odb_packs.specs.TryOrder as tries
 use Rattle.gix_odb_packs.specs.declared.goal.Goal.{Goal}
-use Rattle.gix_odb_packs.specs.declared.goal.Wanted.{Wanted}
-use Rattle.gix_odb_packs.specs.declared.goal.Wanted.TheVariants as wanted
 use Rattle.gix_odb_packs.specs.declared.search.Notes.{Notes}
 use Rattle.gix_odb_packs.specs.declared.trier.Tried.{Tried}
 use Rattle.gix_odb_packs.specs.declared.trier.Tried.TheVariants as tried
@@ -27,15 +23,9 @@ use Rattle.gix_odb_looks.specs.LookUpOrder.Listing.{listing_from}
 use Rattle.gix_odb_looks.specs.LookUpOrder.Loose.{loose_from}
 use Rattle.gix_odb_looks.specs.LookUpOrder.Replies.{load_refused, find_error, reply_found}
 
--- what of the object a query wants
-abbrev pub wanted_by : Query → Wanted
-wanted_by (Find id) = wanted.Object
-wanted_by (Header id) = wanted.Header
-wanted_by (Test id) = wanted.Presence
-
 -- what is sought in the indices, and within which limit
 abbrev pub goal_of : Setting → LookHead → Goal
-goal_of setting head = record { id = head.id; wanted = wanted_by head.query; limit = setting.limit }
+goal_of setting head = record { id = head.id; want = head.want; limit = setting.limit }
 
 -- behind the indices of a list come the loose folders, but not behind the core's list where the snapshot was tried before it; then the folders of packs are listed
 abbrev pub after_list : Setting → LookHead → Part → Notes → LookStage

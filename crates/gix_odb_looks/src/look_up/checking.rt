@@ -24,7 +24,7 @@ pub(super) fn by_check(
 {
     let now = view.list_no;
     if now == list_no {
-        Ok(ended(head.query, &notes))
+        Ok(ended(head.want, &notes))
     } else if is_unsettled(setting, head, now) {
         Ok(unsettled(head, now))
     } else {

@@ -49,9 +49,9 @@ impl LookHead {
         folder: &PathText,
         limit: Option<u64>,
     ) -> Result<gix_odb_loose::LooseCall, NoMemory>
-        ensures asking { IfOk result (λ call. call ≡ asking limit self.query self.id folder.now) }
+        ensures asking { IfOk result (λ call. call ≡ asking limit self.want self.id folder.now) }
     {
-        folder_call(alloc, folder, limit, self.query, self.id)
+        folder_call(alloc, folder, limit, self.want, self.id)
     }
 }
 
@@ -106,7 +106,7 @@ fn called(
     ensures by { IfOk result (λ stage. stage ≡ order.by_call (setting_of setting.now) head round call) }
 {
     match call.into_reply() {
-        Ok(reply) => by_verdict(alloc, setting, head, round, verdict_on(head.query, reply)),
+        Ok(reply) => by_verdict(alloc, setting, head, round, verdict_on(head.want, reply)),
         Err(call) => Ok(LookStage::Loose { round, call }),
     }
 }

@@ -5,7 +5,8 @@ ghost use Rattle.gix_odb_looks.specs.LookUpOrder as order;
 
 use super::LookStage;
 use crate::load_index::of_refusal;
-use gix_odb_calls::{CallError, Query, Reply, find, load_index};
+use gix_object::Want;
+use gix_odb_calls::{CallError, Reply, find, load_index};
 use gix_odb_events::Refusal;
 use gix_odb_packs::{self as packs, Found, Notes};
 use odb_base::NoMemory;
@@ -38,23 +39,23 @@ pub(super) fn reply_found(found: Found) -> Reply
     }
 }
 
-fn not_found(query: Query) -> Reply
-    ensures reply { result ≡ order.not_found query }
+fn not_found(want: Want) -> Reply
+    ensures reply { result ≡ order.not_found want }
 {
-    match query {
-        Query::Test(_) => Reply::Tested(false),
+    match want {
+        Want::Presence => Reply::Tested(false),
         _ => Reply::NotFound,
     }
 }
 
 /// The end where nothing was found. A file that could not be read, or a folder that could not be looked into, is told.
-pub(super) fn ended(query: Query, notes: &Notes) -> LookStage
-    ensures ended { result ≡ order.ended query notes.now }
+pub(super) fn ended(want: Want, notes: &Notes) -> LookStage
+    ensures ended { result ≡ order.ended want notes.now }
 {
     if notes.failed {
         LookStage::Done(load_refused(load_index::Error::Io))
     } else {
-        LookStage::Done(not_found(query))
+        LookStage::Done(not_found(want))
     }
 }
 

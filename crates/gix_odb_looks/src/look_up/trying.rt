@@ -8,21 +8,11 @@ use super::loose::loose_from;
 use super::replies::{find_error, load_refused, reply_found};
 use super::{LookHead, LookStage, LookUp, Part, Setting, at};
 use crate::load_index::of_refusal;
-use gix_odb_calls::{CallError, Query, Reply};
+use gix_odb_calls::{CallError, Reply};
 use gix_odb_events::{Answer, TodoRest, View};
-use gix_odb_packs::{Goal, Notes, Tried, Trier, Wanted};
+use gix_odb_packs::{Goal, Notes, Tried, Trier};
 use odb_base::NoMemory;
 use std::alloc::Global;
-
-fn wanted_by(query: Query) -> Wanted
-    ensures wanted { result ≡ order.wanted_by query }
-{
-    match query {
-        Query::Find(_) => Wanted::Object,
-        Query::Header(_) => Wanted::Header,
-        Query::Test(_) => Wanted::Presence,
-    }
-}
 
 impl LookHead {
     fn goal(self, setting: &Setting<'_>) -> Goal
@@ -30,7 +20,7 @@ impl LookHead {
     {
         Goal {
             id: self.id,
-            wanted: wanted_by(self.query),
+            want: self.want,
             limit: setting.parts.alloc_limit_bytes,
         }
     }

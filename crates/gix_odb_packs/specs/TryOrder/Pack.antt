@@ -63,7 +63,7 @@ pack_behind pack effect = pack_shown pack (view_in (Ok effect))
 
 -- the pack gives the object as the core shows it, or as it was read where its slot no longer holds it
 abbrev pub pack_stored : Goal → WantedPack → FileBytes → Effect → Tried
-pack_stored goal pack file effect = by_given (given_by goal.wanted goal.limit (unwrap_or (pack_behind pack effect) file) pack.offset)
+pack_stored goal pack file effect = by_given (given_by goal.want goal.limit (unwrap_or (pack_behind pack effect) file) pack.offset)
 
 abbrev pub pack_passed : Goal → Ahead → WantedPack → Tried
 pack_passed goal ahead pack = seek goal (record ahead { notes = with_absent ahead.notes pack.slot pack.path })

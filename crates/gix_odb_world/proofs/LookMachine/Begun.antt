@@ -5,17 +5,24 @@ use Rattle.std.proofs.lemmas.List.{length_push}
 use Rattle.odb_asks.specs.MemDisk.{Volume}
 use Rattle.gix_hash.specs.ObjectId.{kind_of}
 use Rattle.gix_hash.specs.declared.object_id.ObjectId.{ObjectId}
+use Rattle.gix_object.specs.declared.kind.Kind.{Kind}
 use Rattle.gix_odb_calls.specs.Hashes.{is_of_hash}
+use Rattle.gix_odb_calls.proofs.QueryLaws.{by_call-call_of, each_call, is_of_hash-query}
+use Rattle.gix_odb_calls.specs.declared.call.Call.{Call}
 use Rattle.gix_odb_calls.specs.declared.call.Call.TheVariants as call_kinds
 use Rattle.gix_odb_calls.specs.declared.query.Query.{Query}
-use Rattle.gix_odb_calls.specs.declared.query.Query.TheVariants.{Find, Header, Test}
+use Rattle.gix_object.specs.declared.want.Want.{Want}
+use Rattle.gix_object.specs.declared.want.Want.TheVariants.{Object, Header, Presence}
 use Rattle.gix_odb_looks.specs.Exchange.{AreAsked, behind}
 use Rattle.gix_odb_looks.specs.LookUpOrder as looks
 use Rattle.gix_odb_looks.specs.declared.look_up.LookUp.{LookUp}
+use Rattle.gix_odb_refresh.specs.RefreshOrder as refreshes
 use Rattle.gix_odb_refresh.specs.declared.refresh.Refresh.TheVariants as fronts
 use Rattle.gix_odb_refresh.specs.declared.refresh.Refresh.TheVariants.{Ready}
-use Rattle.gix_odb.specs.Contents.{or_itself, replacement_in, sought}
+use Rattle.gix_odb.specs.Contents.{or_itself, replacement_in, sought, sought_for}
+use Rattle.gix_odb.specs.CallOrder as calls
 use Rattle.gix_odb.specs.CallOrder.{fronted, writing}
+use Rattle.gix_odb.specs.declared.call_state.CallState.{CallState}
 use Rattle.gix_odb.specs.declared.call_state.CallState.TheVariants.{Looking}
 use Rattle.gix_odb_world.specs.declared.work.Work.TheVariants.{Calling}
 use Rattle.gix_odb_world.specs.AtWork.{Modes, setting_in, view_in_modes}
@@ -33,18 +40,21 @@ use Rattle.gix_odb_world.proofs.ToldWell.{told_well_at_first}
 sought_of : (store : Store) (modes : Modes) (query : Query) → is_of_hash store.hash (call_of query) ≡ true
     → ((id other : ObjectId) → replacement_in store.parts id ≡ Some other → kind_of other ≡ store.hash)
     → kind_of (sought store.parts modes.ignoring query) ≡ store.hash
-sought_of store modes query hashed replaced = by query hashed modes.ignoring
+sought_of store modes query hashed replaced = by query.want query.of named modes.ignoring
   where
+    named : kind_of query.of ≡ store.hash
+    named = same_is (kind_of query.of) store.hash (sym (is_of_hash-query store.hash query) ∙ hashed)
+
     itself : (id : ObjectId) → kind_of id ≡ store.hash → (o : Option ObjectId) → replacement_in store.parts id ≡ o → kind_of (or_itself o id) ≡ store.hash
     itself id own None is = own
     itself id own (Some other) is = replaced id other is
 
-    by : (query : Query) → is_of_hash store.hash (call_of query) ≡ true → (ignoring : Bool) → kind_of (sought store.parts ignoring query) ≡ store.hash
-    by (Find id) hashed true = same_is (kind_of id) store.hash hashed
-    by (Find id) hashed false = itself id (same_is (kind_of id) store.hash hashed) (replacement_in store.parts id) refl
-    by (Header id) hashed true = same_is (kind_of id) store.hash hashed
-    by (Header id) hashed false = itself id (same_is (kind_of id) store.hash hashed) (replacement_in store.parts id) refl
-    by (Test id) hashed ignoring = same_is (kind_of id) store.hash hashed
+    by : (want : Want) (id : ObjectId) → kind_of id ≡ store.hash → (ignoring : Bool) → kind_of (sought_for (replacement_in store.parts) ignoring want id) ≡ store.hash
+    by Object id own true = own
+    by Object id own false = itself id own (replacement_in store.parts id) refl
+    by Header id own true = own
+    by Header id own false = itself id own (replacement_in store.parts id) refl
+    by Presence id own ignoring = own
 
 module _ (first : Volume) (events : List Event) (e : Event) (handle : ℕ) (store : Store) (modes : Modes) where
   abbrev begun_whole : List Event
@@ -64,7 +74,7 @@ module _ (first : Volume) (events : List Event) (e : Event) (handle : ℕ) (stor
     nothing_told : told_since begun_whole handle number ≡ []
     nothing_told = ap (told_since begun_whole handle) count ∙ told_first begun_whole handle
 
-    begins : (look : LookUp) → looks.started (setting_in store) (view_in_modes modes) query (sought store.parts modes.ignoring query) ≡ look
+    begins : (look : LookUp) → looks.started (setting_in store) (view_in_modes modes) query.want (sought store.parts modes.ignoring query) ≡ look
         → IsLooking first begun_whole handle (running_from number (MakeCall (call_of query)) store modes) look
     begins look is = record {
       query = query;
@@ -73,7 +83,7 @@ module _ (first : Volume) (events : List Event) (e : Event) (handle : ℕ) (stor
       fits = record { distinct = start.distinct; hashed = sought_of store modes query start.hashed start.replaced };
       is =
           sym is
-          ∙ (ap (λ v. looks.started (setting_in store) v query (sought store.parts modes.ignoring query)) seen
+          ∙ (ap (λ v. looks.started (setting_in store) v query.want (sought store.parts modes.ignoring query)) seen
           ∙ ap (behind (setting_in store) (look_begun begun_whole handle store modes number query)) (sym nothing_told));
       asked = subst (AreAsked (setting_in store) (look_begun begun_whole handle store modes number query)) (sym nothing_told) tt;
       turns = ap length (sym nothing_told);
@@ -81,14 +91,32 @@ module _ (first : Volume) (events : List Event) (e : Event) (handle : ℕ) (stor
       refused = refused_at_first events e handle modes.core;
     }
 
-  pub looking_starts : (task : Task) (look : LookUp) → BeginsAs first begun_whole handle store modes task → begun_with store modes task ≡ Calling (Looking look)
-      → IsLooking first begun_whole handle (running_from number task store modes) look
-  looking_starts OpenStore look start is = absurd (cc is)
-  looking_starts (MakeCall (call_kinds.Find id)) look start is = begins (Find id) start look (cc is)
-  looking_starts (MakeCall (call_kinds.Header id)) look start is = begins (Header id) start look (cc is)
-  looking_starts (MakeCall (call_kinds.Test id)) look start is = begins (Test id) start look (cc is)
-  looking_starts (MakeCall (call_kinds.Write kind size bytes known)) look start is = absurd (never (view_in_modes modes).read is)
+  -- what a call begins with is the look-up of its query
+  begins_call : (query : Query) (look : LookUp) → IsStarted first begun_whole handle store modes (call_of query)
+      → begun_with store modes (MakeCall (call_of query)) ≡ Calling (Looking look)
+      → IsLooking first begun_whole handle (running_from number (MakeCall (call_of query)) store modes) look
+  begins_call query look start is =
+      let same : Calling (Looking (looks.started (setting_in store) (view_in_modes modes) query.want (sought store.parts modes.ignoring query))) ≡ Calling (Looking look) =
+      ap (λ (s : CallState). Calling s)
+      (sym (by_call-call_of (λ (q : Query). calls.looking (setting_in store) (view_in_modes modes) (sought store.parts modes.ignoring) q)
+      (λ kind size bytes known. fronted (refreshes.started (view_in_modes modes)) (writing store.parts.objects store.hash kind size bytes known)) query)) ∙ is in
+      begins query start look (cc same)
+
+  begins_no_write : (kind : Kind) (size : ℕ) (bytes : List ℕ) (known : Option ObjectId) (look : LookUp)
+      → ¬ (begun_with store modes (MakeCall (call_kinds.Write kind size bytes known)) ≡ Calling (Looking look))
+  begins_no_write kind size bytes known look is = never (view_in_modes modes).read is
     where
       never : (read : Bool) → ¬ (Calling (fronted (if read then Ready else fronts.Looking) (writing store.parts.objects store.hash kind size bytes known)) ≡ Calling (Looking look))
       never true is = cc is
       never false is = cc is
+
+  pub looking_starts : (task : Task) (look : LookUp) → BeginsAs first begun_whole handle store modes task → begun_with store modes task ≡ Calling (Looking look)
+      → IsLooking first begun_whole handle (running_from number task store modes) look
+  looking_starts OpenStore look start is = absurd (cc is)
+  looking_starts (MakeCall call) look start is =
+      each_call
+      (λ (c : Call). IsStarted first begun_whole handle store modes c → begun_with store modes (MakeCall c) ≡ Calling (Looking look)
+      → IsLooking first begun_whole handle (running_from number (MakeCall c) store modes) look)
+      (λ query own begun. begins_call query look own begun)
+      (λ kind size bytes known own begun. absurd (begins_no_write kind size bytes known look begun))
+      call start is

@@ -16,7 +16,6 @@ use Rattle.gix_odb_events.specs.declared.answer.Ask.{Ask}
 use Rattle.gix_odb_events.specs.declared.answer.Ask.TheVariants as parts
 use Rattle.gix_odb_calls.specs.declared.call.Reply.{Reply}
 use Rattle.gix_odb_calls.specs.declared.query.Query.{Query}
-use Rattle.gix_odb_calls.specs.declared.query.Query.TheVariants.{Find, Header, Test}
 use Rattle.gix_odb_looks.specs.Exchange.{AreAsked, Exchange, behind}
 use Rattle.gix_odb_looks.specs.LookUpOrder as looks
 use Rattle.gix_odb_looks.specs.LookUpOrder.{Setting, ask_of, fed, result_at, result_of}
@@ -31,7 +30,7 @@ use Rattle.gix_odb_looks.proofs.TurnLaws.{a_look_up_ends_in_time}
 use Rattle.gix_odb.specs.Contents.{sought}
 use Rattle.gix_odb.specs.declared.call_state.CallState.TheVariants.{Looking}
 use Rattle.gix_odb_world.specs.declared.work.Work.TheVariants.{Calling}
-use Rattle.gix_odb_world.specs.Asks.{AsksInOrder}
+use Rattle.gix_odb_world.specs.Asks.{AsksAsLook, AsksAsRefresh, AsksAsWrite, AsksInOrder}
 use Rattle.gix_odb_world.specs.AtWork.{setting_in}
 use Rattle.gix_odb_world.specs.Bound.{HasAtMost, bound_of_call}
 use Rattle.gix_odb_runs.specs.Cores.{answer_behind, history_at, or_before}
@@ -39,6 +38,8 @@ use Rattle.gix_odb_runs.specs.Event.{CoreEvent, Event, OfCore, OfDisk, OfNothing
 use Rattle.gix_odb_world.specs.Headline.{LeavesDisk, stand_of}
 use Rattle.gix_odb_world.specs.Promise.{Promise, QueryPromise}
 use Rattle.gix_odb_runs.specs.Run.{FailedSince, change_by, disk_after, tree_at}
+use Rattle.gix_odb_runs.specs.Writing.{to_write}
+use Rattle.gix_odb_world.specs.Written.{PromiseOfWrite}
 use Rattle.gix_odb_world.specs.Refused.{RefusedSince}
 use Rattle.gix_odb_world.specs.Running.PackedStill.{IndicesShowOne}
 use Rattle.gix_odb_world.specs.Running.Query.{IsLooking, IsToldWell, call_of, looking}
@@ -50,6 +51,7 @@ use Rattle.gix_odb_world.proofs.LookPromise.{query_promise}
 use Rattle.gix_odb_world.proofs.MachineLaws.{IsRunning, IsTurnAsking, MachineComes, TakesTurn, quiet_turn, told_after}
 use Rattle.gix_odb_world.proofs.PackedStill.Moments.{indices_show_one_later, kept_without_call}
 use Rattle.gix_odb_world.proofs.PackedStill.Rule.{indices_show_one}
+use Rattle.gix_odb_world.proofs.QueryCalls.{to_call}
 use Rattle.gix_odb_world.proofs.QuietTurn.{shown_now}
 use Rattle.gix_odb_world.proofs.RefusedLemmas.{refused_later, refused_on_core, refused_on_disk}
 use Rattle.gix_odb_world.proofs.ToldLemmas.{asked-push, behind-push, told_none, told_turn, view_kept}
@@ -94,41 +96,38 @@ module _ (first : Volume) (events : List Event) (handle : ℕ) (running : Runnin
   pub quiet : (ask : DiskAsk) → ask_of look ≡ Some (parts.Disk ask) → change_by (disk_after first events) ask ≡ None
   quiet ask is =
       change_by-quiet (disk_after first events) ask
-      (look_ups_change_no_file setting view query id exchanges knows.asked ask (asked_now (Some (parts.Disk ask)) is) (tree_of (disk_after first events).state))
+      (look_ups_change_no_file setting view query.want id exchanges knows.asked ask (asked_now (Some (parts.Disk ask)) is) (tree_of (disk_after first events).state))
 
   -- the call of the disk comes in the order of the task
-  in_order : (call : Query) → query ≡ call → (ask : DiskAsk) → ask_of now_at ≡ Some (parts.Disk ask)
-      → AsksInOrder first events handle store running.modes running.begun running.turns (MakeCall (call_of call)) ask
-  in_order (Find asked) same ask is = subst (λ q. ask_of (look_now events handle store running.modes running.begun q) ≡ Some (parts.Disk ask)) same is
-  in_order (Header asked) same ask is = subst (λ q. ask_of (look_now events handle store running.modes running.begun q) ≡ Some (parts.Disk ask)) same is
-  in_order (Test asked) same ask is = subst (λ q. ask_of (look_now events handle store running.modes running.begun q) ≡ Some (parts.Disk ask)) same is
+  in_order : (ask : DiskAsk) → ask_of now_at ≡ Some (parts.Disk ask)
+      → AsksInOrder first events handle store running.modes running.begun running.turns (MakeCall (call_of query)) ask
+  in_order ask is =
+      to_call (λ q. AsksAsLook events handle store running.modes running.begun q (Some (parts.Disk ask)))
+      (λ kind size bytes known. AsksAsWrite first events handle store running.modes running.begun running.turns (to_write store.parts.objects store.hash kind size bytes known) ask)
+      query is
 
-  takes_part : (call : Query) → query ≡ call → (asked : Option Ask) → ask_of look ≡ asked
-      → TakesTurn first events handle running (MakeCall (call_of call)) asked
-  takes_part call same (Some (parts.Disk ask)) is =
-      quiet_turn first events handle running (MakeCall (call_of call)) ask (in_order call same ask (asked_now (Some (parts.Disk ask)) is)) (quiet ask is)
-  takes_part call same (Some (parts.NewCore slots folders)) is = absurd (look_ups_have_no_core_made look slots folders is)
-  takes_part (Find asked) same None is = subst (λ q. ask_of (look_now events handle store running.modes running.begun q) ≡ None) same (asked_now None is)
-  takes_part (Header asked) same None is = subst (λ q. ask_of (look_now events handle store running.modes running.begun q) ≡ None) same (asked_now None is)
-  takes_part (Test asked) same None is = subst (λ q. ask_of (look_now events handle store running.modes running.begun q) ≡ None) same (asked_now None is)
-  takes_part (Find asked) same (Some (parts.Core event)) is =
-      subst (λ q. ask_of (look_now events handle store running.modes running.begun q) ≡ Some (parts.Core event)) same (asked_now (Some (parts.Core event)) is)
-  takes_part (Header asked) same (Some (parts.Core event)) is =
-      subst (λ q. ask_of (look_now events handle store running.modes running.begun q) ≡ Some (parts.Core event)) same (asked_now (Some (parts.Core event)) is)
-  takes_part (Test asked) same (Some (parts.Core event)) is =
-      subst (λ q. ask_of (look_now events handle store running.modes running.begun q) ≡ Some (parts.Core event)) same (asked_now (Some (parts.Core event)) is)
+  takes_part : (asked : Option Ask) → ask_of look ≡ asked → TakesTurn first events handle running (MakeCall (call_of query)) asked
+  takes_part (Some (parts.Disk ask)) is =
+      quiet_turn first events handle running (MakeCall (call_of query)) ask (in_order ask (asked_now (Some (parts.Disk ask)) is)) (quiet ask is)
+  takes_part (Some (parts.NewCore slots folders)) is = absurd (look_ups_have_no_core_made look slots folders is)
+  takes_part None is =
+      to_call (λ q. AsksAsLook events handle store running.modes running.begun q None) (λ kind size bytes known. ⊥) query (asked_now None is)
+  takes_part (Some (parts.Core event)) is =
+      to_call (λ q. AsksAsLook events handle store running.modes running.begun q (Some (parts.Core event)))
+      (λ kind size bytes known. AsksAsRefresh events handle store running.modes running.begun (parts.Core event))
+      query (asked_now (Some (parts.Core event)) is)
 
   pub takes : TakesTurn first events handle running running.task (ask_of look)
-  takes = subst (λ task. TakesTurn first events handle running task (ask_of look)) (sym knows.task) (takes_part query refl (ask_of look) refl)
+  takes = subst (λ task. TakesTurn first events handle running task (ask_of look)) (sym knows.task) (takes_part (ask_of look) refl)
 
   pub ends : ask_of look ≡ None → (reply : Reply) × (result_of look ≡ Ok reply)
   ends none =
-      let done = (a_done_look_up_asks_nothing setting view query id exchanges).0 (asked_now None none) in
+      let done = (a_done_look_up_asks_nothing setting view query.want id exchanges).0 (asked_now None none) in
       (done.0, ap result_of knows.is ∙ done.1)
 
   pub happens : (event : CoreEvent) → ask_of look ≡ Some (parts.Core event) → (shape : Shape) (seat : ℕ) → CanHappen shape seat event
   happens event is shape seat =
-      what_is_handed_can_happen setting knows.fits.distinct view query id exchanges knows.asked event
+      what_is_handed_can_happen setting knows.fits.distinct view query.want id exchanges knows.asked event
       (asked_now (Some (parts.Core event)) is) shape seat
 
   -- ---- what its turn comes to
@@ -145,24 +144,21 @@ module _ (first : Volume) (events : List Event) (handle : ℕ) (running : Runnin
         indices_show_one_later first events e store (omega (arith, early, since))
         (same ∙ sym (ap (λ past. tree_of (disk_after first past).state) (take-length events))) (indices_show_one first events handle running ran)
 
-    by_query : (call : Query) (reply : Reply)
-        → QueryPromise (tree_at first whole) (FailedSince whole handle running.begun) (RefusedSince whole handle running.modes.core running.begun) (told_since whole handle running.begun) store running.modes running.begun (length whole) call reply
-        → Promise first whole handle store running.modes running.begun (MakeCall (call_of call)) reply
-    by_query (Find asked) reply keeps = keeps
-    by_query (Header asked) reply keeps = keeps
-    by_query (Test asked) reply keeps = keeps
-
     promised : (reply : Reply)
         → QueryPromise (tree_at first whole) (FailedSince whole handle running.begun) (RefusedSince whole handle running.modes.core running.begun) (told_since whole handle running.begun) store running.modes running.begun (length whole) query reply
         → Promise first whole handle store running.modes running.begun running.task reply
-    promised reply keeps = subst (λ task. Promise first whole handle store running.modes running.begun task reply) (sym knows.task) (by_query query reply keeps)
+    promised reply keeps = subst (λ task. Promise first whole handle store running.modes running.begun task reply) (sym knows.task)
+        (to_call
+        (λ q. QueryPromise (tree_at first whole) (FailedSince whole handle running.begun) (RefusedSince whole handle running.modes.core running.begun) (told_since whole handle running.begun) store running.modes running.begun (length whole) q reply)
+        (λ kind size bytes known. PromiseOfWrite first whole handle store running.modes running.begun (to_write store.parts.objects store.hash kind size bytes known) reply)
+        query keeps)
 
     abbrev begun_now : LookUp
     begun_now = look_begun whole handle store running.modes running.begun query
 
     -- it begins as it did
     begins_same : look_begun events handle store running.modes running.begun query ≡ begun_now
-    begins_same = ap (λ v. looks.started setting v query id) (sym (view_kept events e handle running.begun knows.since running.modes.core))
+    begins_same = ap (λ v. looks.started setting v query.want id) (sym (view_kept events e handle running.begun knows.since running.modes.core))
 
     module _ (told_now_is : List Exchange) (told_is : told_since whole handle running.begun ≡ told_now_is)
         (well : IsToldWell first whole handle store running.modes running.begun) (refused : AreRefused whole handle running.modes.core running.begun)
@@ -248,7 +244,7 @@ module _ (first : Volume) (events : List Event) (handle : ℕ) (running : Runnin
           let long = longer in
           let more = length_push events e in
           let few =
-          a_look_up_ends_in_time setting (view_then whole handle running.modes.core running.begun) query id (told_since whole handle running.begun) running.modes.slots entries well.few
+          a_look_up_ends_in_time setting (view_then whole handle running.modes.core running.begun) query.want id (told_since whole handle running.begun) running.modes.slots entries well.few
           (subst (λ l. AreAsked setting l (told_since whole handle running.begun)) begins_same
           (subst (AreAsked setting (look_begun events handle store running.modes running.begun query)) (sym told_is) all_asked))
           well.numbered

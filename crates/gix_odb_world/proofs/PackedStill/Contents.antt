@@ -5,8 +5,8 @@ use Rattle.odb_nodes.specs.Tree.{Tree}
 use Rattle.gix_hash.specs.ObjectId.{kind_of}
 use Rattle.gix_hash.specs.declared.kind.Kind.{Kind}
 use Rattle.gix_hash.specs.declared.object_id.ObjectId.{ObjectId}
-use Rattle.gix_odb_calls.specs.declared.query.Query.{Query}
-use Rattle.gix_odb_calls.specs.declared.query.Query.TheVariants.{Find, Header, Test}
+use Rattle.gix_object.specs.declared.want.Want.{Want}
+use Rattle.gix_object.specs.declared.want.Want.TheVariants.{Object, Header, Presence}
 use Rattle.gix_odb_looks.specs.Fair.{PackedPlace}
 use Rattle.gix_odb_looks.specs.Found.{Gives}
 use Rattle.gix_odb.specs.Contents.{StoreData}
@@ -14,21 +14,21 @@ use Rattle.gix_odb.specs.Held.{IsSoundPair, LiesInPack}
 use Rattle.gix_odb_world.specs.Running.PackedStill.{LiesIndexed}
 
 -- the index of a sound pair gives the id the offset
-sound_pair_gives : (store : StoreData) (call : Query) (id : ObjectId) (name : Name) (index pack : List ℕ) (offset : ℕ)
-    → IsSoundPair store call id name index pack offset → Gives (kind_of id) index id offset
-sound_pair_gives store (Find asked) id name index pack offset sound = sound.1.0
-sound_pair_gives store (Header asked) id name index pack offset sound = sound.1.0
-sound_pair_gives store (Test asked) id name index pack offset sound = sound.1.0
+sound_pair_gives : (store : StoreData) (want : Want) (id : ObjectId) (name : Name) (index pack : List ℕ) (offset : ℕ)
+    → IsSoundPair store want id name index pack offset → Gives (kind_of id) index id offset
+sound_pair_gives store Object id name index pack offset sound = sound.1.0
+sound_pair_gives store Header id name index pack offset sound = sound.1.0
+sound_pair_gives store Presence id name index pack offset sound = sound.1.0
 
-pub lies_indexed : (store : StoreData) (call : Query) (tree : Tree) (hash : Kind) (id : ObjectId) → kind_of id ≡ hash → (place : PackedPlace)
-    → LiesInPack store call tree place.folder id place.name place.offset → LiesIndexed tree hash id place
-lies_indexed store call tree hash id hashed place lies = record {
+pub lies_indexed : (store : StoreData) (want : Want) (tree : Tree) (hash : Kind) (id : ObjectId) → kind_of id ≡ hash → (place : PackedPlace)
+    → LiesInPack store want tree place.folder id place.name place.offset → LiesIndexed tree hash id place
+lies_indexed store want tree hash id hashed place lies = record {
   itself = lies.itself;
   index = lies.index;
   shows_index = lies.shows_index;
   gives =
       subst (λ kind. Gives kind lies.index id place.offset) hashed
-      (sound_pair_gives store call id place.name lies.index lies.pack place.offset lies.sound);
+      (sound_pair_gives store want id place.name lies.index lies.pack place.offset lies.sound);
   pack = lies.pack;
   shows_pack = lies.shows_pack;
 }

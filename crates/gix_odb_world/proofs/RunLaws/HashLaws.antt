@@ -10,7 +10,7 @@ use Rattle.gix_hash.specs.declared.object_id.ObjectId.{ObjectId}
 use Rattle.gix_object.specs.Id.{object_id}
 use Rattle.gix_object.specs.declared.kind.Kind.{Kind}
 use Rattle.gix_odb_calls.specs.declared.call.Reply.TheVariants as replies
-use Rattle.gix_odb_calls.specs.declared.query.Query.TheVariants.{Find}
+use Rattle.gix_object.specs.declared.want.Want.TheVariants as wants
 use Rattle.gix_odb_calls.specs.declared.step.Outcome.TheVariants as outcomes
 use Rattle.gix_odb.specs.Contents.{Contents, InIndex, InPack, LooseFile, Object, sought}
 use Rattle.gix_odb.specs.Held.{Held, WasShown, WasShownAt}
@@ -20,7 +20,7 @@ use Rattle.gix_odb_runs.specs.Event.{Event}
 use Rattle.gix_odb_runs.specs.Run.{tree_at}
 use Rattle.gix_odb_world.specs.Told.{call_of}
 use Rattle.gix_odb_world.proofs.RunSteps.Fronts.{take_next}
-use Rattle.gix_odb_world.specs.RunLaws.Hashed.{ObjectsHash}
+use Rattle.gix_odb_world.specs.RunLaws.Hashed.{ObjectsHash, find_of}
 use Rattle.gix_odb_world.specs.RunLaws.Turn.{IsQueryTurn}
 use Rattle.gix_odb_world.proofs.RunLaws.KnownRun.{IsKnownRun}
 use Rattle.gix_odb_world.proofs.RunLaws.QueryTurns.{IsLookTurn, look_turn, tree_in_front}
@@ -55,27 +55,27 @@ module _ (first : Volume) (events : List Event) (place : ℕ) (within : place �
 -- Where each object in the files of a store, as the run shows them since the store was opened, has data that hash to its id, what a find finds has data that hash to
 -- the id that it seeks.
 pub found_data_hash_to_the_sought_id : (first : Volume) (events : List Event) → IsKnownRun first events
-    → (place : ℕ) (e : Event) (handle : ℕ) (running : Running) (asked : ObjectId) → IsQueryTurn events place e handle running (Find asked)
+    → (place : ℕ) (e : Event) (handle : ℕ) (running : Running) (asked : ObjectId) → IsQueryTurn events place e handle running (find_of asked)
     → (kind : Kind) (bytes : List ℕ) → e.outcome ≡ outcomes.Reply (replies.Found kind bytes)
     → ObjectsHash (tree_at first events) (length events) running.store
-    → object_id running.store.hash kind bytes ≡ sought running.store.parts running.modes.ignoring (Find asked)
+    → object_id running.store.hash kind bytes ≡ sought running.store.parts running.modes.ignoring (find_of asked)
 found_data_hash_to_the_sought_id first events is place e handle running asked turn kind bytes ends hashed =
-    let at : IsLookTurn first events place e handle running (Find asked) = look_turn first events is place e handle running (Find asked) turn in
-    let id : ObjectId = sought running.store.parts running.modes.ignoring (Find asked) in
+    let at : IsLookTurn first events place e handle running (find_of asked) = look_turn first events is place e handle running (find_of asked) turn in
+    let id : ObjectId = sought running.store.parts running.modes.ignoring (find_of asked) in
     let past : List Event = take place events in
-    let began : BegunAs past handle running.begun running.store (MakeCall (call_of (Find asked))) =
+    let began : BegunAs past handle running.begun running.store (MakeCall (call_of (find_of asked))) =
     subst (BegunAs past handle running.begun running.store) turn.task at.works.begins in
-    let held : Held (tree_at first (past ++ e ∷ [])) running.store.parts running.store.opened running.begun (length (past ++ e ∷ [])) (Find asked) id (Object kind bytes) =
-    at.law.promise handle running (MakeCall (call_of (Find asked))) (replies.Found kind bytes) turn.turns began ends in
+    let held : Held (tree_at first (past ++ e ∷ [])) running.store.parts running.store.opened running.begun (length (past ++ e ∷ [])) wants.Object id (Object kind bytes) =
+    at.law.promise handle running (MakeCall (call_of (find_of asked))) (replies.Found kind bytes) turn.turns began ends in
     let front : take (place + 1) events ≡ past ++ e ∷ [] = take_next events place e turn.there in
-    let own : Held (tree_at first (take (place + 1) events)) running.store.parts running.store.opened running.begun (length (past ++ e ∷ [])) (Find asked) id (Object kind bytes) =
-    subst (λ (es : List Event). Held (tree_at first es) running.store.parts running.store.opened running.begun (length (past ++ e ∷ [])) (Find asked) id (Object kind bytes)) (sym front) held in
+    let own : Held (tree_at first (take (place + 1) events)) running.store.parts running.store.opened running.begun (length (past ++ e ∷ [])) wants.Object id (Object kind bytes) =
+    subst (λ (es : List Event). Held (tree_at first es) running.store.parts running.store.opened running.begun (length (past ++ e ∷ [])) wants.Object id (Object kind bytes)) (sym front) held in
     let count = length_push past e in
     let long = at.long in
     let within = at.within in
     let early : length (past ++ e ∷ []) ≤ place + 1 = omega (arith, count, long) in
     ap (λ (hash : HashKind). object_id hash kind bytes) (sym at.fits.hashed)
-    ∙ hashed asked id own.folder own.among own.contents
+    ∙ hashed id own.folder own.among own.contents
     (contents_in_run first events (place + 1) (omega (arith, within)) running.store.opened running.begun (length (past ++ e ∷ [])) at.well.opened early own.folder id own.contents
     own.shown)
     kind bytes own.holds

@@ -33,7 +33,7 @@ use Rattle.gix_odb_calls.specs.declared.call.CallError.TheVariants as call_error
 use Rattle.gix_odb_calls.specs.declared.find.Error.TheVariants as find_errors
 use Rattle.gix_odb_calls.specs.declared.load_index.Error.TheVariants as load_errors
 use Rattle.gix_odb_calls.specs.declared.load_index.Error.{Error}
-use Rattle.gix_odb_calls.specs.declared.query.Query.{Query}
+use Rattle.gix_object.specs.declared.want.Want.{Want}
 use Rattle.gix_odb_calls.specs.declared.verdict.Verdict.{Verdict}
 use Rattle.gix_odb_calls.specs.declared.verdict.Verdict.TheVariants as verdicts
 use Rattle.gix_odb_looks.specs.Exchange.{AreAsked, Exchange, behind}
@@ -82,21 +82,21 @@ PurposeAt number (purposes.First loose) = Unit {0}
 PurposeAt number (purposes.Check own) = number ≡ Some own
 PurposeAt number purposes.Again = Unit {0}
 
-module _ (setting : Setting) (query : Query) where
+module _ (setting : Setting) (want : Want) where
   abbrev IsAt : Option ℕ → LookStage → Type 0
   IsAt number (stages.Trying trier part) = PartAt number part
   IsAt number (stages.Loose round call) = PartAt number round.part
   IsAt number (stages.Looking purpose notes) = PurposeAt number purpose
   IsAt number (stages.Listing lister base notes) = Unit {0}
   IsAt number (stages.Publishing listing notes) = Unit {0}
-  IsAt number (stages.Done reply) = ¬ (IsMiss query reply)
+  IsAt number (stages.Done reply) = ¬ (IsMiss want reply)
 
   record IsLookAt (number : Option ℕ) (look : LookUp) : Type 0 where
-    own : look.head.query ≡ query
+    own : look.head.want ≡ want
     stage : IsAt number look.stage
 
-  refused_at : (error : Error) → ¬ (IsMiss query (load_refused error))
-  refused_at error = refused_is_no_miss query (call_errors.Find (find_errors.LoadIndex error))
+  refused_at : (error : Error) → ¬ (IsMiss want (load_refused error))
+  refused_at error = refused_is_no_miss want (call_errors.Find (find_errors.LoadIndex error))
 
   module _ (number : Option ℕ) (head : LookHead) where
     -- ---- lists
@@ -109,9 +109,9 @@ module _ (setting : Setting) (query : Query) where
 
     tried_at : (part : Part) → PartAt number part → (result : Tried) → IsAt number (by_tried setting head part result)
     tried_at part at (tried.More trier) = at
-    tried_at part at (tried.Hit what) = found_is_no_miss query what
+    tried_at part at (tried.Hit what) = found_is_no_miss want what
     tried_at part at (tried.Missed notes) = list_at part at notes
-    tried_at part at (tried.Bad error) = refused_is_no_miss query (call_errors.Find (find_error error))
+    tried_at part at (tried.Bad error) = refused_is_no_miss want (call_errors.Find (find_error error))
     tried_at part at (tried.Broken refusal) = refused_at (of_refusal refusal)
 
     -- ---- loose folders
@@ -125,18 +125,18 @@ module _ (setting : Setting) (query : Query) where
     folder_at round at None = loose_at round.part at round.notes
     folder_at round at (Some folder) = at
 
-    verdict_at : (round : LooseRound) → PartAt number round.part → (verdict : Verdict) → EndsNoMiss query verdict → IsAt number (by_verdict setting head round verdict)
+    verdict_at : (round : LooseRound) → PartAt number round.part → (verdict : Verdict) → EndsNoMiss want verdict → IsAt number (by_verdict setting head round verdict)
     verdict_at round at (verdicts.Ends reply) ends = ends
     verdict_at round at verdicts.Misses ends = folder_at round at (slice_get setting.folders round.next)
     verdict_at round at (verdicts.Notes error) ends =
         folder_at (record round { notes = record round.notes { failed = true } }) at (slice_get setting.folders round.next)
 
-    reply_at : head.query ≡ query → (round : LooseRound) → PartAt number round.part → (call : LooseCall) (reply : Option LooseReply)
+    reply_at : head.want ≡ want → (round : LooseRound) → PartAt number round.part → (call : LooseCall) (reply : Option LooseReply)
         → IsAt number (by_reply setting head round call reply)
     reply_at own round at call None = at
     reply_at own round at call (Some reply) =
-        verdict_at round at (verdict_on head.query reply)
-        (subst (λ (q : Query). EndsNoMiss q (verdict_on head.query reply)) own (verdict_is_no_miss head.query reply))
+        verdict_at round at (verdict_on head.want reply)
+        (subst (λ (q : Want). EndsNoMiss q (verdict_on head.want reply)) own (verdict_is_no_miss head.want reply))
 
     -- ---- listings
 
@@ -164,12 +164,12 @@ module _ (setting : Setting) (query : Query) where
       newest : number ≡ Some view.list_no
       done : ask_at next ≡ None
 
-    ended_asks_nothing : (b : Bool) → ask_at (cond b (stages.Done (load_refused load_errors.Io)) (stages.Done (not_found head.query))) ≡ None
+    ended_asks_nothing : (b : Bool) → ask_at (cond b (stages.Done (load_refused load_errors.Io)) (stages.Done (not_found head.want))) ≡ None
     ended_asks_nothing true = refl
     ended_asks_nothing false = refl
 
     check_at : (effect : Effect) (own : ℕ) → number ≡ Some own → (notes : Notes) (view : View) → view_shown effect ≡ Some view → (b : Bool) → (view.list_no == own) ≡ b
-        → let next : LookStage = cond b (ended head.query notes) (counted setting head view.list_no (listing_from setting view.list_no notes)) in
+        → let next : LookStage = cond b (ended head.want notes) (counted setting head view.list_no (listing_from setting view.list_no notes)) in
         IsAt number next ⊎ IsChecked effect next
     check_at effect own at notes view shown true same =
         inr
@@ -196,7 +196,7 @@ module _ (setting : Setting) (query : Query) where
       tried_at (Some view.list_no) head (parts.Published view.list_no) refl
       (seek (goal_of setting head) (record { indices = view.snapshot.indices; todo = view.todo; notes = notes }))
 
-  published_at : (number : Option ℕ) (head : LookHead) → head.query ≡ query → (listing : Listing) (notes : Notes) (effect : Effect)
+  published_at : (number : Option ℕ) (head : LookHead) → head.want ≡ want → (listing : Listing) (notes : Notes) (effect : Effect)
       → IsLookAt (list_by number (asks.Core (events.Publish listing)) (told.Core (Ok effect))) (by_published setting head listing notes effect)
   published_at number head own listing notes (effects.Published view) = record { own = own; stage = viewed_at (with_own head) view notes }
   published_at number head own listing notes (effects.Unchanged view) = record { own = own; stage = viewed_at head view notes }
@@ -219,12 +219,12 @@ module _ (setting : Setting) (query : Query) where
   abbrev Goes : Option ℕ → Ask → Answer → LookUp → Type 0
   Goes number ask answer next = IsLookAt (list_by number ask answer) next ⊎ EndsHere number ask answer next
 
-  looked : (number : Option ℕ) (head : LookHead) → head.query ≡ query → (effect : Effect) (stage : LookStage)
+  looked : (number : Option ℕ) (head : LookHead) → head.want ≡ want → (effect : Effect) (stage : LookStage)
       → IsAt number stage ⊎ IsChecked number head effect stage → Goes number (asks.Core events.Look) (told.Core (Ok effect)) (record { head = head; stage = stage })
   looked number head own effect stage (inl at) = inl (record { own = own; stage = at })
   looked number head own effect stage (inr checked) = inr (record { asked = refl; effect = effect; answered = refl; checked = checked })
 
-  goes_at : (number : Option ℕ) (head : LookHead) → head.query ≡ query → (stage : LookStage) → IsAt number stage → (ask : Ask) (answer : Answer)
+  goes_at : (number : Option ℕ) (head : LookHead) → head.want ≡ want → (stage : LookStage) → IsAt number stage → (ask : Ask) (answer : Answer)
       → ask_at stage ≡ Some ask → Goes number ask answer (fed_at setting head stage answer)
   goes_at number head own (stages.Trying trier part) at ask answer is =
       subst (λ (a : Ask). Goes number a answer (fed_at setting head (stages.Trying trier part) answer)) (same_Some (tries.ask_of trier) ask is)
@@ -270,7 +270,7 @@ module _ (setting : Setting) (query : Query) where
 
   -- ---- a whole look-up
 
-  no_miss_at : (number : Option ℕ) (head : LookHead) (stage : LookStage) → IsAt number stage → ¬ (result_at head stage ≡ Ok (not_found query))
+  no_miss_at : (number : Option ℕ) (head : LookHead) (stage : LookStage) → IsAt number stage → ¬ (result_at head stage ≡ Ok (not_found want))
   no_miss_at number head (stages.Done reply) at is = at (cc is)
   no_miss_at number head (stages.Trying trier part) at is = cc is
   no_miss_at number head (stages.Loose round call) at is = cc is
@@ -323,7 +323,7 @@ module _ (setting : Setting) (query : Query) where
   }
 
   ends_at : (number : Option ℕ) (look : LookUp) → IsLookAt number look → (exchanges : List Exchange) → AreAsked setting look exchanges
-      → result_of (behind setting look exchanges) ≡ Ok (not_found query) → Ends number exchanges
+      → result_of (behind setting look exchanges) ≡ Ok (not_found want) → Ends number exchanges
   ends_at number look at [] asked misses = absurd (no_miss_at number look.head look.stage at.stage misses)
   ends_at number look at (exchange ∷ exchanges) asked misses =
       elim (goes_at number (seen look.head exchange.answer) at.own look.stage at.stage exchange.ask exchange.answer asked.0) [
@@ -335,17 +335,17 @@ module _ (setting : Setting) (query : Query) where
 
   module _ (id : ObjectId) (snapshot : View) where
     starts_at : (b : Bool)
-        → IsAt None (cond b (try_view setting (new_head query id) parts.Snapshot snapshot [] without_notes) (stages.Looking (purposes.First true) without_notes))
+        → IsAt None (cond b (try_view setting (new_head want id) parts.Snapshot snapshot [] without_notes) (stages.Looking (purposes.First true) without_notes))
     starts_at true =
-        tried_at None (new_head query id) parts.Snapshot tt
-        (seek (goal_of setting (new_head query id)) (record { indices = snapshot.snapshot.indices; todo = []; notes = without_notes }))
+        tried_at None (new_head want id) parts.Snapshot tt
+        (seek (goal_of setting (new_head want id)) (record { indices = snapshot.snapshot.indices; todo = []; notes = without_notes }))
     starts_at false = tt
 
     -- A look-up that found nothing ended at a look at the core, whose list is the one that was published or confirmed last for it.
-    pub misses_end_at_the_last_list : (exchanges : List Exchange) → AreAsked setting (started setting snapshot query id) exchanges
-        → result_of (behind setting (started setting snapshot query id) exchanges) ≡ Ok (not_found query) → EndAtLastList exchanges
+    pub misses_end_at_the_last_list : (exchanges : List Exchange) → AreAsked setting (started setting snapshot want id) exchanges
+        → result_of (behind setting (started setting snapshot want id) exchanges) ≡ Ok (not_found want) → EndAtLastList exchanges
     misses_end_at_the_last_list exchanges asked misses =
-        let ends = ends_at None (started setting snapshot query id) (record { own = refl; stage = starts_at snapshot.read }) exchanges asked misses in
+        let ends = ends_at None (started setting snapshot want id) (record { own = refl; stage = starts_at snapshot.read }) exchanges asked misses in
         record {
           before = ends.before;
           last = ends.last;

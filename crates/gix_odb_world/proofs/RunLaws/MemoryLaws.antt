@@ -2,15 +2,16 @@
 use Rattle.std.proofs.Common.{◌≡◌, ℕ, true, false, List, [], ◌∷◌, ◌++◌, length, take, Option, Some, None, Ok, Err, refl, sym, ap, subst}
 use Rattle.std.specs.Prelude.{slice_get}
 use Rattle.odb_asks.specs.MemDisk.{Volume}
-use Rattle.gix_hash.specs.declared.object_id.ObjectId.{ObjectId}
-use Rattle.gix_odb_calls.specs.declared.call.Call.TheVariants as calls
 use Rattle.gix_odb_calls.specs.declared.call.CallError.{CallError}
 use Rattle.gix_odb_calls.specs.declared.call.CallError.TheVariants as call_errors
 use Rattle.gix_odb_calls.specs.declared.call.Reply.TheVariants as replies
 use Rattle.gix_odb_calls.specs.declared.find.Error.TheVariants as find_errors
 use Rattle.gix_odb_calls.specs.declared.init.Error.TheVariants as opening_errors
 use Rattle.gix_odb_calls.specs.declared.load_index.Error.TheVariants as load_errors
-use Rattle.gix_odb_calls.specs.declared.query.Query.TheVariants.{Find, Header, Test}
+use Rattle.gix_odb_calls.specs.declared.query.Query.{Query}
+use Rattle.gix_object.specs.declared.want.Want.{Want}
+use Rattle.gix_object.specs.declared.want.Want.TheVariants as asked
+use Rattle.gix_odb_calls.proofs.QueryLaws.{by_call-all}
 use Rattle.gix_odb_calls.specs.declared.step.Step.{Step}
 use Rattle.gix_odb_calls.specs.declared.step.Step.TheVariants as steps
 use Rattle.gix_odb_calls.specs.declared.step.Outcome.{Outcome}
@@ -33,6 +34,8 @@ use Rattle.gix_odb_runs.specs.Writing.{ToWrite, to_write}
 use Rattle.gix_odb_runs.proofs.WriteAsk.Quiet.{never_wants}
 use Rattle.gix_odb_world.specs.AtWork.{MakeCall, Modes, OpenStore, Running, Store, Task}
 use Rattle.gix_odb_world.specs.Headline.{IsTurn, Law, Suits, Turns, asked_applied, asked_by_clone, asked_by_close, stand_of}
+use Rattle.gix_odb.specs.Contents.{sought}
+use Rattle.gix_odb_world.specs.Causes.{LooseCause}
 use Rattle.gix_odb_world.specs.Promise.{OpeningPromise, Promise, QueryPromise}
 use Rattle.gix_odb_world.specs.Status.{Free, Resting, Status, Working, status_of}
 use Rattle.gix_odb_world.specs.Refused.{RefusedSince}
@@ -117,35 +120,21 @@ module _ (first : Volume) (events : List Event) (handle : ℕ) (store : Store) (
   opening_wants (call_errors.Find error) promise wants = promise
   opening_wants (call_errors.Write error) promise wants = promise
 
-  find_wants : (id : ObjectId) (error : CallError)
-      → QueryPromise (tree_at first events) (FailedSince events handle begun) (RefusedSince events handle modes.core begun) (told_since events handle begun) store modes begun (length events) (Find id) (replies.Refused error)
+  query_wants : (query : Query) (error : CallError)
+      → QueryPromise (tree_at first events) (FailedSince events handle begun) (RefusedSince events handle modes.core begun) (told_since events handle begun) store modes begun (length events) query (replies.Refused error)
       → ¬ (TellsWant error)
-  find_wants id (call_errors.Find find_errors.NoMemory) promise wants = promise
-  find_wants id (call_errors.Find (find_errors.LoadIndex load_errors.NoMemory)) promise wants = promise
-  find_wants id (call_errors.Find (find_errors.Loose loose_errors.NoMemory)) promise wants = promise.cause
-  find_wants id (call_errors.Find error) promise wants = wants
-  find_wants id (call_errors.Open error) promise wants = promise
-  find_wants id (call_errors.Write error) promise wants = promise
-
-  header_wants : (id : ObjectId) (error : CallError)
-      → QueryPromise (tree_at first events) (FailedSince events handle begun) (RefusedSince events handle modes.core begun) (told_since events handle begun) store modes begun (length events) (Header id) (replies.Refused error)
-      → ¬ (TellsWant error)
-  header_wants id (call_errors.Find find_errors.NoMemory) promise wants = promise
-  header_wants id (call_errors.Find (find_errors.LoadIndex load_errors.NoMemory)) promise wants = promise
-  header_wants id (call_errors.Find (find_errors.Loose loose_errors.NoMemory)) promise wants = promise.cause
-  header_wants id (call_errors.Find error) promise wants = wants
-  header_wants id (call_errors.Open error) promise wants = promise
-  header_wants id (call_errors.Write error) promise wants = promise
-
-  test_wants : (id : ObjectId) (error : CallError)
-      → QueryPromise (tree_at first events) (FailedSince events handle begun) (RefusedSince events handle modes.core begun) (told_since events handle begun) store modes begun (length events) (Test id) (replies.Refused error)
-      → ¬ (TellsWant error)
-  test_wants id (call_errors.Find find_errors.NoMemory) promise wants = promise
-  test_wants id (call_errors.Find (find_errors.LoadIndex load_errors.NoMemory)) promise wants = promise
-  test_wants id (call_errors.Find (find_errors.Loose loose_errors.NoMemory)) promise wants = promise.cause
-  test_wants id (call_errors.Find error) promise wants = wants
-  test_wants id (call_errors.Open error) promise wants = promise
-  test_wants id (call_errors.Write error) promise wants = promise
+  query_wants query (call_errors.Find find_errors.NoMemory) promise wants = promise
+  query_wants query (call_errors.Find (find_errors.LoadIndex load_errors.NoMemory)) promise wants = promise
+  query_wants query (call_errors.Find (find_errors.Loose loose_errors.NoMemory)) promise wants = by query.want promise
+    where
+      by : (want : Want)
+          → ¬ (LooseCause (tree_at first events) (FailedSince events handle begun) store begun (length events) want (sought store.parts modes.ignoring query) loose_errors.NoMemory)
+      by asked.Object caused = caused.cause
+      by asked.Header caused = caused.cause
+      by asked.Presence caused = caused.cause
+  query_wants query (call_errors.Find error) promise wants = wants
+  query_wants query (call_errors.Open error) promise wants = promise
+  query_wants query (call_errors.Write error) promise wants = promise
 
   write_wants : (w : ToWrite) (error : CallError) → PromiseOfWrite first events handle store modes begun w (replies.Refused error) → ¬ (TellsWant error)
   write_wants w (call_errors.Write write_errors.NoMemory) promise wants = promise
@@ -157,11 +146,13 @@ module _ (first : Volume) (events : List Event) (handle : ℕ) (store : Store) (
 
   never_told : (task : Task) (error : CallError) → Promise first events handle store modes begun task (replies.Refused error) → ¬ (TellsWant error)
   never_told OpenStore error promise wants = opening_wants error promise wants
-  never_told (MakeCall (calls.Find id)) error promise wants = find_wants id error promise wants
-  never_told (MakeCall (calls.Header id)) error promise wants = header_wants id error promise wants
-  never_told (MakeCall (calls.Test id)) error promise wants = test_wants id error promise wants
-  never_told (MakeCall (calls.Write kind size bytes known)) error promise wants =
-      write_wants (to_write store.parts.objects store.hash kind size bytes known) error promise wants
+  never_told (MakeCall call) error promise wants =
+      by_call-all (λ (T : Type 0). T → ¬ (TellsWant error))
+      (λ query. QueryPromise (tree_at first events) (FailedSince events handle begun) (RefusedSince events handle modes.core begun) (told_since events handle begun) store modes begun (length events) query (replies.Refused error))
+      (λ kind size bytes known. PromiseOfWrite first events handle store modes begun (to_write store.parts.objects store.hash kind size bytes known) (replies.Refused error))
+      (λ query promised. query_wants query error promised)
+      (λ kind size bytes known promised. write_wants (to_write store.parts.objects store.hash kind size bytes known) error promised)
+      call promise wants
 
 is_turn_if_replied : (step : Step) (error : CallError) (asked : Asked) (outcome : Outcome) → outcome ≡ outcomes.Reply (replies.Refused error) → Suits step outcome asked → IsTurn step
 is_turn_if_replied step error asked outcome is suits = subst (λ (o : Outcome). Suits step o asked) is suits

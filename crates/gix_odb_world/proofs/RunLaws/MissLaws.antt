@@ -19,9 +19,9 @@ use Rattle.gix_odb_world.proofs.RunLaws.MovedLaws.{ended}
 -- view that this look gave is the one that the core published or confirmed last for the query.
 pub query_that_misses_ends_at_its_last_list : (first : Volume) (events : List Event) → IsKnownRun first events
     → (place : ℕ) (e : Event) (handle : ℕ) (running : Running) (query : Query) → IsQueryTurn events place e handle running query
-    → e.outcome ≡ outcomes.Reply (not_found query) → EndAtLastList (told_since (take (place + 1) events) handle running.begun)
+    → e.outcome ≡ outcomes.Reply (not_found query.want) → EndAtLastList (told_since (take (place + 1) events) handle running.begun)
 query_that_misses_ends_at_its_last_list first events is place e handle running query turn missing =
     let end = ended first events is place e handle running query turn missing in
     subst (λ (es : List Event). EndAtLastList (told_since es handle running.begun)) (sym (take_next events place e turn.there))
-    (misses_end_at_the_last_list (setting_in running.store) query (sought running.store.parts running.modes.ignoring query)
+    (misses_end_at_the_last_list (setting_in running.store) query.want (sought running.store.parts running.modes.ignoring query)
     (view_then (take place events) handle running.modes.core running.begun) _ end.asked end.misses)

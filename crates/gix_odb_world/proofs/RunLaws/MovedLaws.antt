@@ -24,7 +24,8 @@ use Rattle.gix_odb_events.specs.declared.answer.Ask.{Ask}
 use Rattle.gix_odb_events.specs.declared.answer.Ask.TheVariants as parts
 use Rattle.gix_odb_calls.specs.declared.call.Reply.{Reply}
 use Rattle.gix_odb_calls.specs.declared.query.Query.{Query}
-use Rattle.gix_odb_calls.specs.declared.query.Query.TheVariants.{Find, Header, Test}
+use Rattle.gix_object.specs.declared.want.Want.{Want}
+use Rattle.gix_object.specs.declared.want.Want.TheVariants as wants
 use Rattle.gix_odb_calls.specs.declared.step.Outcome.TheVariants as outcomes
 use Rattle.gix_odb_looks.specs.Exchange.{AreAsked, Exchange, IsAnswerTo, behind}
 use Rattle.gix_odb_looks.specs.Fair.{AreFair, PackedPlace}
@@ -47,7 +48,10 @@ use Rattle.gix_odb_runs.specs.Event.{Asked, CoreAnswer, CoreEvent, Event, OfCore
 use Rattle.gix_odb_world.specs.Headline.{FailsAsListed, Law, Works, outcome_of, stand_of}
 use Rattle.gix_odb_world.specs.Machine.{placed}
 use Rattle.gix_odb_world.specs.Machines.{fed_in}
-use Rattle.gix_odb_world.specs.Promise.{Promise}
+use Rattle.gix_odb_world.specs.Promise.{Keeps, Promise, QueryPromise, claim_of}
+use Rattle.gix_odb_world.specs.Refused.{RefusedSince}
+use Rattle.gix_odb_world.specs.Written.{PromiseOfWrite}
+use Rattle.gix_odb_runs.specs.Writing.{to_write}
 use Rattle.gix_odb_runs.specs.Run.{Fails, FailedSince, Stand, did_of_asked, disk_after, told_now, tree_at}
 use Rattle.gix_odb_world.specs.Running.PackedStill.{LiesIndexed}
 use Rattle.gix_odb_world.specs.Running.Query.{looking}
@@ -55,6 +59,7 @@ use Rattle.gix_odb_world.specs.Status.{Working, status_of}
 use Rattle.gix_odb_world.specs.Told.{call_of, exchange_of, look_begun, told_since, view_then}
 use Rattle.gix_odb_world.proofs.HistoryLemmas.{cores_after-push}
 use Rattle.gix_odb_world.proofs.PackedStill.Contents.{lies_indexed}
+use Rattle.gix_odb_world.proofs.QueryCalls.{of_call}
 use Rattle.gix_odb_world.proofs.RunSteps.Fronts.{event_or_end, length_take, none_beyond, take_next, take_suc, there_in_front}
 use Rattle.gix_odb_world.proofs.ToldLemmas.{asked-push, behind-push, told_none, told_turn}
 use Rattle.gix_odb_world.specs.RunLaws.Moved.{HadPublished, HasMoved}
@@ -88,13 +93,23 @@ same_answer : (store seat other further : ℕ) (one two : CoreEvent) (a b : Core
 same_answer store seat other further one two a b is = cc is
 
 no_failure : (first : Volume) (whole : List Event) (handle : ℕ) (store : Store) (modes : Modes) (begun : ℕ) (query : Query)
-    → Promise first whole handle store modes begun (MakeCall (call_of query)) (not_found query) → ¬ (FailedSince whole handle begun)
-no_failure first whole handle store modes begun (Find id) promise = promise.no_failure
-no_failure first whole handle store modes begun (Header id) promise = promise.no_failure
-no_failure first whole handle store modes begun (Test id) promise = promise.no_failure
+    → Promise first whole handle store modes begun (MakeCall (call_of query)) (not_found query.want) → ¬ (FailedSince whole handle begun)
+no_failure first whole handle store modes begun query promise =
+    by query.want
+    (of_call
+    (λ (q : Query). QueryPromise (tree_at first whole) (FailedSince whole handle begun) (RefusedSince whole handle modes.core begun) (told_since whole handle begun) store modes begun (length whole) q (not_found query.want))
+    (λ kind size bytes known. PromiseOfWrite first whole handle store modes begun (to_write store.parts.objects store.hash kind size bytes known) (not_found query.want))
+    query promise)
+  where
+    by : (want : Want)
+        → Keeps (tree_at first whole) (FailedSince whole handle begun) (RefusedSince whole handle modes.core begun) (told_since whole handle begun) store begun (length whole) want (sought store.parts modes.ignoring query) (claim_of want (not_found want))
+        → ¬ (FailedSince whole handle begun)
+    by wants.Object misses = misses.no_failure
+    by wants.Header misses = misses.no_failure
+    by wants.Presence misses = misses.no_failure
 
 module _ (first : Volume) (events : List Event) (is : IsKnownRun first events) (place : ℕ) (e : Event) (handle : ℕ) (running : Running) (query : Query)
-    (turn : IsQueryTurn events place e handle running query) (missing : e.outcome ≡ outcomes.Reply (not_found query)) where
+    (turn : IsQueryTurn events place e handle running query) (missing : e.outcome ≡ outcomes.Reply (not_found query.want)) where
   at : IsLookTurn first events place e handle running query
   at = look_turn first events is place e handle running query turn
 
@@ -135,15 +150,15 @@ module _ (first : Volume) (events : List Event) (is : IsKnownRun first events) (
 
   pub record Ended : Type 0 where
     pub asked : AreAsked setting start (told_since whole handle begun)
-    pub misses : result_of (behind setting start (told_since whole handle begun)) ≡ Ok (not_found query)
+    pub misses : result_of (behind setting start (told_since whole handle begun)) ≡ Ok (not_found query.want)
 
-  goes : (asked : Asked) → e.asked ≡ asked → outcome_of (fed_in store (Calling (Looking at.look)) (answered asked)) ≡ outcomes.Reply (not_found query)
+  goes : (asked : Asked) → e.asked ≡ asked → outcome_of (fed_in store (Calling (Looking at.look)) (answered asked)) ≡ outcomes.Reply (not_found query.want)
   goes asked same =
       ap (λ (w : Work). outcome_of (fed_in store w (answered asked))) (sym at.work)
       ∙ ap (λ (a : Asked). outcome_of (fed_in store running.work (answered a))) (sym same)
       ∙ sym at.works.goes ∙ missing
 
-  ended_by : (x : Exchange) → told_since whole handle begun ≡ told_so_far ++ x ∷ [] → ask_of at.look ≡ Some x.ask → result_of (fed setting at.look x.answer) ≡ Ok (not_found query) → Ended
+  ended_by : (x : Exchange) → told_since whole handle begun ≡ told_so_far ++ x ∷ [] → ask_of at.look ≡ Some x.ask → result_of (fed setting at.look x.answer) ≡ Ok (not_found query.want) → Ended
   ended_by x more asks ends = record {
     asked =
         subst (AreAsked setting start) (sym more) (asked-push setting start told_so_far x at.asked (sym (ap ask_of at.is) ∙ asks));
@@ -161,14 +176,14 @@ module _ (first : Volume) (events : List Event) (is : IsKnownRun first events) (
         asked = subst (AreAsked setting start) (sym nothing) at.asked;
         misses =
             ap (λ (es : List Exchange). result_of (behind setting start es)) nothing ∙ sym (ap result_of at.is)
-            ∙ reply_of_result (result_of at.look) (not_found query) (goes OfNothing asked);
+            ∙ reply_of_result (result_of at.look) (not_found query.want) (goes OfNothing asked);
       }
   by_ask (Some (parts.Disk ask)) same =
       let answer : DiskAnswer = answer_now (disk_after first past) ask in
       let asked : e.asked ≡ OfDisk ask answer = at.told ∙ ap (λ (a : Option Ask). told_now (stand_of past handle running) (disk_after first past) a) same in
       let x : Exchange = record { ask = parts.Disk ask; answer = told.Disk answer } in
       ended_by x (told_turn past e handle begun begun_early turn.turns.turn (OfDisk ask answer) asked x refl) same
-      (reply_of_result (result_of (fed setting at.look (told.Disk answer))) (not_found query) (goes (OfDisk ask answer) asked))
+      (reply_of_result (result_of (fed setting at.look (told.Disk answer))) (not_found query.want) (goes (OfDisk ask answer) asked))
   by_ask (Some (parts.NewCore slots folders)) same = absurd (look_ups_have_no_core_made at.look slots folders same)
   by_ask (Some (parts.Core event)) same =
       let stands : Stand = stand_of past handle running in
@@ -176,7 +191,7 @@ module _ (first : Volume) (events : List Event) (is : IsKnownRun first events) (
       let asked : e.asked ≡ OfCore stands.store stands.seat event answer = at.told ∙ ap (λ (a : Option Ask). told_now (stand_of past handle running) (disk_after first past) a) same in
       let x : Exchange = record { ask = parts.Core event; answer = told.Core answer } in
       ended_by x (told_turn past e handle begun begun_early turn.turns.turn (OfCore stands.store stands.seat event answer) asked x refl) same
-      (reply_of_result (result_of (fed setting at.look (told.Core answer))) (not_found query) (goes (OfCore stands.store stands.seat event answer) asked))
+      (reply_of_result (result_of (fed setting at.look (told.Core answer))) (not_found query.want) (goes (OfCore stands.store stands.seat event answer) asked))
 
   pub ended : Ended
   ended = by_ask (ask_of at.look) refl
@@ -185,7 +200,7 @@ module _ (first : Volume) (events : List Event) (is : IsKnownRun first events) (
   unfailed : ¬ (FailedSince whole handle begun)
   unfailed =
       no_failure first whole handle store running.modes begun query
-      (at.law.promise handle running (MakeCall (call_of query)) (not_found query) turn.turns (subst (BegunAs past handle begun store) turn.task at.works.begins) missing)
+      (at.law.promise handle running (MakeCall (call_of query)) (not_found query.want) turn.turns (subst (BegunAs past handle begun store) turn.task at.works.begins) missing)
 
   -- ---- the handle in the call
 
@@ -254,7 +269,7 @@ module _ (first : Volume) (events : List Event) (is : IsKnownRun first events) (
     -- ---- what was told while the object was loose
 
     module _ (folder : Path) (moment : ℕ) (since : begun ≤ moment) (to : moment ≤ place + 1)
-        (loose : (now : ℕ) → begun ≤ now → now ≤ moment → LiesAt store.parts query (tree_at first events now) folder id InLooseFile) where
+        (loose : (now : ℕ) → begun ≤ now → now ≤ moment → LiesAt store.parts query.want (tree_at first events now) folder id InLooseFile) where
       abbrev before : List Exchange
       before = told_since (take moment events) handle begun
 
@@ -307,7 +322,7 @@ module _ (first : Volume) (events : List Event) (is : IsKnownRun first events) (
               (subst (λ (n : ℕ). (present (history_at (cores_after (take by.place events)) n)).read ≡ true) (sym call.core) (reads_at by.place by.from up_to_place)) v handed
 
         abbrev IsGood : Exchange → Type 0
-        IsGood y = ((v : View) → view_of y.answer ≡ Some v → v.read ≡ true) × IsLooseFair setting query id folder y.ask y.answer
+        IsGood y = ((v : View) → view_of y.answer ≡ Some v → v.read ≡ true) × IsLooseFair setting query.want id folder y.ask y.answer
 
         by_asked : (asked : Asked) → by.event.asked ≡ asked → exchange_of asked ≡ Some x → IsGood x
         by_asked OfNothing same gives = absurd (cc gives)
@@ -316,8 +331,8 @@ module _ (first : Volume) (events : List Event) (is : IsKnownRun first events) (
             subst IsGood (same_Some (record { ask = parts.Disk ask; answer = told.Disk answer }) x gives) (
               (λ v none. let wrong : None ≡ Some v = none in absurd (cc wrong)),
               (λ asks_it.
-                  subst (HasLoose setting query id folder) (answered_then first events is by.place by.event by.there ask answer same)
-                  (sound_file_is_had store.parts setting refl query id folder (disk_after first (take by.place events))
+                  subst (HasLoose setting query.want id folder) (answered_then first events is by.place by.event by.there ask answer same)
+                  (sound_file_is_had store.parts setting refl query.want id folder (disk_after first (take by.place events))
                   (loose by.place by.from (let lt = by.before in omega (arith, lt))) ask asks_it (call_works ask answer same))),
             )
         by_asked (OfCore number seat event answer) same gives =
@@ -330,18 +345,18 @@ module _ (first : Volume) (events : List Event) (is : IsKnownRun first events) (
       published_before : ArePublished before
       published_before x among v shows = (good x (told_by_turn events begun moment handle x among)).0 v shows
 
-      loose_before : AreLooseFair setting query id folder before
+      loose_before : AreLooseFair setting query.want id folder before
       loose_before x among = (good x (told_by_turn events begun moment handle x among)).1
 
       -- ---- what was told since
 
       module _ (among : Contains (folder_list store.parts) folder) (name : Name) (named : is_index_name name ≡ true) (offset : ℕ)
-          (packed : (now : ℕ) → moment ≤ now → now ≤ place + 1 → LiesAt store.parts query (tree_at first events now) folder id (InPackFile name offset)) where
+          (packed : (now : ℕ) → moment ≤ now → now ≤ place + 1 → LiesAt store.parts query.want (tree_at first events now) folder id (InPackFile name offset)) where
         abbrev packed_place : PackedPlace
         packed_place = record { folder = folder; name = name; named = named; offset = offset }
 
         lies : (now : ℕ) → moment ≤ now → now ≤ place + 1 → LiesIndexed (tree_at first events now) store.hash id packed_place
-        lies now later up = lies_indexed store.parts query (tree_at first events now) store.hash id at.fits.hashed packed_place (packed now later up)
+        lies now later up = lies_indexed store.parts query.want (tree_at first events now) store.hash id at.fits.hashed packed_place (packed now later up)
 
         first_part : (rest : List Exchange) × (told_since (take (place + 1) events) handle begun ≡ before ++ rest)
         first_part = told_first_part events handle begun moment (place + 1) since to (let lt = at.within in omega (arith, lt))
@@ -352,7 +367,7 @@ module _ (first : Volume) (events : List Event) (is : IsKnownRun first events) (
             (subst (AreAsked setting start) (sym (ap (λ (es : List Event). told_since es handle begun) front) ∙ first_part.1) ended.asked)
 
         closed : stream_in before ≡ None
-        closed = no_stream_is_open_before_the_loose_folder_is_asked setting query id folder among view before asked_before published_before loose_before
+        closed = no_stream_is_open_before_the_loose_folder_is_asked setting query.want id folder among view before asked_before published_before loose_before
 
         -- all that was told, with what is fair behind the moment
         record Parts : Type 0 where
@@ -383,7 +398,7 @@ module _ (first : Volume) (events : List Event) (is : IsKnownRun first events) (
         not_missing : ⊥
         not_missing =
             let all_parts = parts_by (cases_lt moment (place + 1)) in
-            objects_that_move_into_packs_are_not_missed setting store.hash query id at.fits.hashed packed_place among view before all_parts.rest
+            objects_that_move_into_packs_are_not_missed setting store.hash query.want id at.fits.hashed packed_place among view before all_parts.rest
             (subst (AreAsked setting start) all_parts.all ended.asked) published_before loose_before all_parts.fair
             (sym (ap (λ (es : List Exchange). result_of (behind setting start es)) all_parts.all) ∙ ended.misses)
 
@@ -392,8 +407,8 @@ module _ (first : Volume) (events : List Event) (is : IsKnownRun first events) (
 pub object_that_moves_into_a_pack_is_not_missed : (first : Volume) (events : List Event) → IsKnownRun first events
     → (place : ℕ) (e : Event) (handle : ℕ) (running : Running) (query : Query) → IsQueryTurn events place e handle running query
     → HadPublished events running.modes.core running.begun
-    → HasMoved (tree_at first events) running.store.parts running.begun (place + 1) query (sought running.store.parts running.modes.ignoring query)
-    → ¬ (e.outcome ≡ outcomes.Reply (not_found query))
+    → HasMoved (tree_at first events) running.store.parts running.begun (place + 1) query.want (sought running.store.parts running.modes.ignoring query)
+    → ¬ (e.outcome ≡ outcomes.Reply (not_found query.want))
 object_that_moves_into_a_pack_is_not_missed first events is place e handle running query turn published moved missing =
     not_missing first events is place e handle running query turn missing published moved.folder moved.moment moved.from moved.to moved.loose moved.among moved.name
     (moved.packed moved.moment (omega arith) moved.to).named moved.offset moved.packed

@@ -41,7 +41,7 @@ module _ (first : Volume) (events : List Event) (place : ℕ) (e : Event) (handl
   begins : at.look ≡ start
   begins = at.is ∙ ap (behind (setting_in running.store) start) (nothing_of (told_since past handle running.begun) (sym at.turns ∙ early))
 
-  module _ (done : IsDone query start) where
+  module _ (done : IsDone query.want start) where
     silent : ask_of at.look ≡ None
     silent = ap ask_of begins ∙ done.silent
 
@@ -69,11 +69,11 @@ module _ (first : Volume) (events : List Event) (place : ℕ) (e : Event) (handl
 -- for it; for a test an index with the id is enough. Then the query ends in its first turn, which did nothing.
 pub object_at_hand_is_found_in_the_first_turn : (first : Volume) (events : List Event) → IsKnownRun first events
     → (place : ℕ) (e : Event) (handle : ℕ) (running : Running) (query : Query) → IsQueryTurn events place e handle running query → running.turns ≡ 0
-    → IsAtHand query (sought running.store.parts running.modes.ignoring query) (view_then events handle running.modes.core running.begun)
+    → IsAtHand query.want (sought running.store.parts running.modes.ignoring query) (view_then events handle running.modes.core running.begun)
     → EndsUnasked query e
 object_at_hand_is_found_in_the_first_turn first events is place e handle running query turn early hand =
     let at = look_turn first events is place e handle running query turn in
     let id = sought running.store.parts running.modes.ignoring query in
     ends_unasked first events place e handle running query at early
-    (object_at_hand_is_found_at_once (setting_in running.store) query id (view_then (take place events) handle running.modes.core running.begun)
-    (subst (IsAtHand query id) (sym (view_in_front events handle running.modes.core place running.begun at.since)) hand))
+    (object_at_hand_is_found_at_once (setting_in running.store) query.want id (view_then (take place events) handle running.modes.core running.begun)
+    (subst (IsAtHand query.want id) (sym (view_in_front events handle running.modes.core place running.begun at.since)) hand))

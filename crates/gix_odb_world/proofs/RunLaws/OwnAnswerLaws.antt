@@ -1,14 +1,18 @@
 -- Laws of runs in which no error has its cause: openings and calls are answered by an answer of their own.
 use Rattle.std.proofs.Common.{◌≡◌, ℕ, ◌+◌, List, [], ◌∷◌, ◌++◌, take, subst}
-use Rattle.std.specs.Prelude.{length}
+use Rattle.std.specs.Prelude.{Option, length}
 use Rattle.odb_asks.specs.MemDisk.{Volume}
 use Rattle.gix_hash.specs.declared.object_id.ObjectId.{ObjectId}
+use Rattle.gix_object.specs.declared.kind.Kind.{Kind}
+use Rattle.gix_object.specs.declared.want.Want.{Want}
+use Rattle.gix_object.specs.declared.want.Want.TheVariants as wants
+use Rattle.gix_odb_calls.proofs.QueryLaws.{each_call}
 use Rattle.gix_odb_calls.specs.declared.call.Call.{Call}
-use Rattle.gix_odb_calls.specs.declared.call.Call.TheVariants as calls
 use Rattle.gix_odb_calls.specs.declared.call.CallError.TheVariants as call_errors
 use Rattle.gix_odb_calls.specs.declared.call.Reply.{Reply}
 use Rattle.gix_odb_calls.specs.declared.call.Reply.TheVariants as replies
-use Rattle.gix_odb_calls.specs.declared.query.Query.TheVariants.{Find, Header, Test}
+use Rattle.gix_odb_calls.specs.declared.find.Error.{Error}
+use Rattle.gix_odb_calls.specs.declared.query.Query.{Query}
 use Rattle.gix_odb_calls.specs.declared.step.Outcome.TheVariants as outcomes
 use Rattle.gix_odb_calls.specs.declared.write.Error.TheVariants as write_errors
 use Rattle.gix_odb_runs.specs.Event.{Event}
@@ -16,12 +20,15 @@ use Rattle.gix_odb_runs.specs.Run.{FailedSince, tree_at}
 use Rattle.gix_odb_runs.specs.Writing.{ToWrite, to_write}
 use Rattle.gix_odb_world.specs.AtWork.{MakeCall, Modes, OpenStore, Running, Store, Task}
 use Rattle.gix_odb_world.specs.Headline.{Law}
-use Rattle.gix_odb_world.specs.Promise.{OpeningPromise, Promise, QueryPromise}
+use Rattle.gix_odb.specs.Contents.{sought}
+use Rattle.gix_odb_world.specs.Causes.{FindCause}
+use Rattle.gix_odb_world.specs.Promise.{Keeps, OpeningPromise, Promise, QueryPromise, claim_of}
 use Rattle.gix_odb_world.specs.Refused.{RefusedSince}
 use Rattle.gix_odb_world.specs.Told.{told_since}
 use Rattle.gix_odb_world.specs.Written.{PromiseOfWrite}
+use Rattle.gix_odb_world.proofs.QueryCalls.{of_call, to_call}
 use Rattle.gix_odb_world.proofs.RunSteps.Fronts.{take_next}
-use Rattle.gix_odb_world.specs.RunLaws.OwnAnswer.{IsOwnAnswer, IsOwnOfCall, NoCause, NoOpeningCause, NoQueryCause, NoWriteCause}
+use Rattle.gix_odb_world.specs.RunLaws.OwnAnswer.{IsOwnAnswer, IsOwnOfCall, IsOwnOfWant, IsOwnOfWrite, NoCause, NoOpeningCause, NoQueryCause, NoWriteCause}
 use Rattle.gix_odb_world.specs.RunLaws.Turn.{IsTurnAt}
 use Rattle.gix_odb_world.proofs.RunLaws.KnownRun.{IsKnownRun}
 
@@ -35,44 +42,54 @@ module _ (first : Volume) (events : List Event) (handle : ℕ) (store : Store) (
   own_opening (replies.Refused (call_errors.Open error)) promise none = absurd (none error promise)
   own_opening reply promise none = absurd promise
 
-  own_find : (id : ObjectId) (reply : Reply)
-      → QueryPromise (tree_at first events) (FailedSince events handle begun) (RefusedSince events handle modes.core begun) (told_since events handle begun) store modes begun (length events) (Find id) reply
-      → NoQueryCause first events handle store modes begun (Find id) → IsOwnOfCall (calls.Find id) reply
-  own_find id (replies.Found kind bytes) promise none = tt
-  own_find id replies.NotFound promise none = tt
-  own_find id (replies.Refused (call_errors.Find error)) promise none = absurd (none error promise)
-  own_find id reply promise none = absurd promise
+  abbrev Promised : Reply → Query → Type 0
+  Promised reply query =
+      QueryPromise (tree_at first events) (FailedSince events handle begun) (RefusedSince events handle modes.core begun) (told_since events handle begun) store modes begun (length events) query reply
 
-  own_header : (id : ObjectId) (reply : Reply)
-      → QueryPromise (tree_at first events) (FailedSince events handle begun) (RefusedSince events handle modes.core begun) (told_since events handle begun) store modes begun (length events) (Header id) reply
-      → NoQueryCause first events handle store modes begun (Header id) → IsOwnOfCall (calls.Header id) reply
-  own_header id (replies.Header header) promise none = tt
-  own_header id replies.NotFound promise none = tt
-  own_header id (replies.Refused (call_errors.Find error)) promise none = absurd (none error promise)
-  own_header id reply promise none = absurd promise
+  abbrev PromisedOfWrite : Reply → Kind → ℕ → List ℕ → Option ObjectId → Type 0
+  PromisedOfWrite reply kind size bytes known =
+      PromiseOfWrite first events handle store modes begun (to_write store.parts.objects store.hash kind size bytes known) reply
 
-  own_test : (id : ObjectId) (reply : Reply)
-      → QueryPromise (tree_at first events) (FailedSince events handle begun) (RefusedSince events handle modes.core begun) (told_since events handle begun) store modes begun (length events) (Test id) reply
-      → NoQueryCause first events handle store modes begun (Test id) → IsOwnOfCall (calls.Test id) reply
-  own_test id (replies.Tested there) promise none = tt
-  own_test id (replies.Refused (call_errors.Find error)) promise none = absurd (none error promise)
-  own_test id reply promise none = absurd promise
+  abbrev NoCauseOfWrite : Kind → ℕ → List ℕ → Option ObjectId → Type 0
+  NoCauseOfWrite kind size bytes known = NoWriteCause first events handle store modes begun (to_write store.parts.objects store.hash kind size bytes known)
 
-  own_write : (call : Call) (w : ToWrite) → ((id : ObjectId) → IsOwnOfCall call (replies.Wrote id)) → (reply : Reply)
-      → PromiseOfWrite first events handle store modes begun w reply → NoWriteCause first events handle store modes begun w → IsOwnOfCall call reply
-  own_write call w names (replies.Wrote id) promise none = names id
-  own_write call w names (replies.Refused (call_errors.Write (write_errors.LooseWrite error))) promise none = absurd (none.written error promise.cause)
-  own_write call w names (replies.Refused (call_errors.Write (write_errors.LoadIndex error))) promise none = absurd (none.listed error promise.cause)
-  own_write call w names reply promise none = absurd promise
+  own_query : (query : Query) (reply : Reply) → Promised reply query → NoQueryCause first events handle store modes begun query → IsOwnOfWant query.want reply
+  own_query query reply promise none = by query.want reply promise none
+    where
+      id : ObjectId
+      id = sought store.parts modes.ignoring query
+
+      by : (want : Want) (reply : Reply)
+          → Keeps (tree_at first events) (FailedSince events handle begun) (RefusedSince events handle modes.core begun) (told_since events handle begun) store begun (length events) want id (claim_of want reply)
+          → ((error : Error) → ¬ (FindCause (tree_at first events) (FailedSince events handle begun) (RefusedSince events handle modes.core begun) (told_since events handle begun) store begun (length events) want id error))
+          → IsOwnOfWant want reply
+      by want (replies.Refused (call_errors.Find error)) promise none = absurd (none error promise)
+      by wants.Object (replies.Found kind bytes) promise none = tt
+      by wants.Object replies.NotFound promise none = tt
+      by wants.Header (replies.Header header) promise none = tt
+      by wants.Header replies.NotFound promise none = tt
+      by wants.Presence (replies.Tested there) promise none = tt
+      by want reply promise none = absurd promise
+
+  own_write : (w : ToWrite) (reply : Reply)
+      → PromiseOfWrite first events handle store modes begun w reply → NoWriteCause first events handle store modes begun w → IsOwnOfWrite reply
+  own_write w (replies.Wrote id) promise none = tt
+  own_write w (replies.Refused (call_errors.Write (write_errors.LooseWrite error))) promise none = absurd (none.written error promise.cause)
+  own_write w (replies.Refused (call_errors.Write (write_errors.LoadIndex error))) promise none = absurd (none.listed error promise.cause)
+  own_write w reply promise none = absurd promise
 
   own_answer : (task : Task) (reply : Reply) → Promise first events handle store modes begun task reply → NoCause first events handle store modes begun task
       → IsOwnAnswer task reply
   own_answer OpenStore reply promise none = own_opening reply promise none
-  own_answer (MakeCall (calls.Find id)) reply promise none = own_find id reply promise none
-  own_answer (MakeCall (calls.Header id)) reply promise none = own_header id reply promise none
-  own_answer (MakeCall (calls.Test id)) reply promise none = own_test id reply promise none
-  own_answer (MakeCall (calls.Write kind size bytes known)) reply promise none =
-      own_write (calls.Write kind size bytes known) (to_write store.parts.objects store.hash kind size bytes known) (λ id. tt) reply promise none
+  own_answer (MakeCall call) reply promise none =
+      each_call
+      (λ (c : Call). Promise first events handle store modes begun (MakeCall c) reply → NoCause first events handle store modes begun (MakeCall c) → IsOwnOfCall c reply)
+      (λ query promised no_cause.
+      to_call (λ (q : Query). IsOwnOfWant q.want reply) (λ kind size bytes known. IsOwnOfWrite reply) query
+      (own_query query reply (of_call (Promised reply) (PromisedOfWrite reply) query promised)
+      (of_call (λ (q : Query). NoQueryCause first events handle store modes begun q) NoCauseOfWrite query no_cause)))
+      (λ kind size bytes known promised no_cause. own_write (to_write store.parts.objects store.hash kind size bytes known) reply promised no_cause)
+      call promise none
 
 -- Where a turn ends a task, and the run up to it shows no cause of an error for the task, the reply is an answer of its own and no refusal.
 pub without_a_cause_the_answer_is_its_own : (first : Volume) (events : List Event) → IsKnownRun first events

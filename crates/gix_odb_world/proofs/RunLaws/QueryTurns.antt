@@ -1,7 +1,7 @@
 -- What a run says of a turn of a query: its look-up stands behind all that its handle was told since the query began.
 use Rattle.std.proofs.Common.{◌≡◌, ℕ, zero, suc, ◌<◌, ◌≤◌, List, [], ◌∷◌, length, take, Option, Some, None, refl, sym, ap, ◌∙◌, subst, arith}
 use Rattle.std.specs.Prelude.{unwrap_or}
-use Rattle.std.proofs.lemmas.Option.{slice_get_within}
+use Rattle.std.proofs.lemmas.Option.{same_Some, slice_get_within}
 use Rattle.odb_asks.specs.MemDisk.{Volume}
 use Rattle.odb_nodes.specs.Tree.{tree_of}
 use Rattle.gix_odb_core.specs.Replay.{snapshot_of}
@@ -9,7 +9,8 @@ use Rattle.gix_hash.specs.declared.object_id.ObjectId.{ObjectId}
 use Rattle.gix_odb_events.specs.declared.answer.Ask.{Ask}
 use Rattle.gix_odb_events.specs.declared.answer.Ask.TheVariants as parts
 use Rattle.gix_odb_calls.specs.declared.query.Query.{Query}
-use Rattle.gix_odb_calls.specs.declared.query.Query.TheVariants.{Find, Header, Test}
+use Rattle.gix_odb_calls.proofs.QueryLaws.{query_of-call_of}
+use Rattle.gix_odb_calls.specs.Query.{query_of}
 use Rattle.gix_odb_looks.specs.Exchange.{AreAsked}
 use Rattle.gix_odb_looks.specs.LookUpOrder.{ask_of}
 use Rattle.gix_odb_looks.specs.declared.look_up.LookUp.{LookUp}
@@ -17,7 +18,7 @@ use Rattle.gix_odb.specs.HandleState.{unseen}
 use Rattle.gix_odb.specs.declared.call_state.CallState.TheVariants.{Looking, Refreshing, Refused, Writing}
 use Rattle.gix_odb_world.specs.declared.work.Work.{Work}
 use Rattle.gix_odb_world.specs.declared.work.Work.TheVariants.{Calling, Opening}
-use Rattle.gix_odb_world.specs.AtWork.{MakeCall, OpenStore, Running, setting_in}
+use Rattle.gix_odb_world.specs.AtWork.{MakeCall, OpenStore, Running, Task, setting_in}
 use Rattle.gix_odb_runs.specs.Cores.{answer_behind, cores_after, history_at}
 use Rattle.gix_odb_runs.specs.Event.{CoreAnswer, CoreEvent, Event, OfCore}
 use Rattle.gix_odb_world.specs.Headline.{IsLawful, Law, Works, stand_of}
@@ -37,21 +38,18 @@ use Rattle.gix_odb_world.proofs.RunLaws.KnownRun.{IsKnownRun}
 no_opening : (query : Query) → ¬ (MakeCall (call_of query) ≡ OpenStore)
 no_opening query is = cc is
 
+-- what a task asks, if it is a call that asks
+abbrev asked_by_task : Task → Option Query
+asked_by_task OpenStore = None
+asked_by_task (MakeCall call) = query_of call
+
 no_write : (query : Query) (w : ToWrite) → ¬ (MakeCall (call_of query) ≡ MakeCall (call_to_write w))
-no_write (Find id) w is = cc is
-no_write (Header id) w is = cc is
-no_write (Test id) w is = cc is
+no_write query w is =
+    let none : Some query ≡ None = sym (query_of-call_of query) ∙ ap asked_by_task is in
+    cc none
 
 same_query : (one other : Query) → MakeCall (call_of one) ≡ MakeCall (call_of other) → one ≡ other
-same_query (Find one) (Find other) is = let same : one ≡ other = cc is in ap (λ (id : ObjectId). Find id) same
-same_query (Header one) (Header other) is = let same : one ≡ other = cc is in ap (λ (id : ObjectId). Header id) same
-same_query (Test one) (Test other) is = let same : one ≡ other = cc is in ap (λ (id : ObjectId). Test id) same
-same_query (Find one) (Header other) is = absurd (cc is)
-same_query (Find one) (Test other) is = absurd (cc is)
-same_query (Header one) (Find other) is = absurd (cc is)
-same_query (Header one) (Test other) is = absurd (cc is)
-same_query (Test one) (Find other) is = absurd (cc is)
-same_query (Test one) (Header other) is = absurd (cc is)
+same_query one other is = same_Some one other (sym (query_of-call_of one) ∙ (ap asked_by_task is ∙ query_of-call_of other))
 
 -- ---- the fronts of a run
 

@@ -1,11 +1,11 @@
 -- Where handles stand after a step that was applied.
-use Rattle.std.proofs.Common.{◌≡◌, ◌≢◌, ℕ, ◌+◌, Bool, true, false, List, [], ◌∷◌, ◌++◌, length, None, Ok, refl, sym, ◌∙◌, ap, subst}
+use Rattle.std.proofs.Common.{◌≡◌, ◌≢◌, ℕ, ◌+◌, Bool, true, false, List, [], ◌∷◌, ◌++◌, length, None, Some, Ok, refl, sym, ◌∙◌, ap, subst}
 use Rattle.std.specs.Prelude.{◌==◌, if◌then◌else◌}
 use Rattle.std.proofs.lemmas.Bool.{eqb-true, eqb-false}
 use Rattle.odb_asks.specs.MemDisk.{Volume}
+use Rattle.gix_odb_calls.proofs.QueryLaws.{by_call-all}
 use Rattle.gix_odb_calls.specs.declared.call.Call.{Call}
-use Rattle.gix_odb_calls.specs.declared.call.Call.TheVariants as calls
-use Rattle.gix_odb_calls.specs.declared.query.Query.TheVariants.{Find, Header, Test}
+use Rattle.gix_odb_events.specs.declared.answer.Ask.TheVariants as parts
 use Rattle.gix_odb_looks.proofs.HandedLaws.{IsOfLooks, look_ups_ask_these_events_alone}
 use Rattle.gix_odb_refresh.proofs.RefreshLaws.{refreshes_ask_events_of_looks_alone}
 use Rattle.gix_odb_world.specs.Told.{look_now, refresh_now}
@@ -24,7 +24,7 @@ use Rattle.gix_odb_calls.specs.declared.step.Step.TheVariants as steps
 use Rattle.gix_odb_calls.specs.declared.step.Outcome.TheVariants as outcomes
 use Rattle.gix_odb_world.specs.declared.work.Work.{Work}
 use Rattle.gix_odb_world.specs.declared.work.Work.TheVariants.{Opening}
-use Rattle.gix_odb_world.specs.Asks.{MayAskCore}
+use Rattle.gix_odb_world.specs.Asks.{AsksAsLook, AsksAsRefresh, MayAskCore}
 use Rattle.gix_odb_runs.specs.Cores.{cores_after, cores_after_asked, history_at}
 use Rattle.gix_odb_runs.specs.Event.{Asked, CoreEvent, Event, OfCore, OfNothing}
 use Rattle.gix_odb_world.specs.Headline.{IsTurn, asked_applied, asked_by_clone, asked_by_close}
@@ -62,14 +62,12 @@ is_free_for_clone (Working running) parent valid = absurd (cc valid)
 pub asks_of_looks : (past : List Event) (handle : ℕ) (store : Store) (modes : Modes) (begun : ℕ) (task : Task) (event : CoreEvent)
     → MayAskCore past handle store modes begun task event → IsOfLooks event
 asks_of_looks past handle store modes begun OpenStore event asks = absurd asks
-asks_of_looks past handle store modes begun (MakeCall (calls.Find id)) event asks =
-    look_ups_ask_these_events_alone (look_now past handle store modes begun (Find id)) event asks
-asks_of_looks past handle store modes begun (MakeCall (calls.Header id)) event asks =
-    look_ups_ask_these_events_alone (look_now past handle store modes begun (Header id)) event asks
-asks_of_looks past handle store modes begun (MakeCall (calls.Test id)) event asks =
-    look_ups_ask_these_events_alone (look_now past handle store modes begun (Test id)) event asks
-asks_of_looks past handle store modes begun (MakeCall (calls.Write kind size bytes known)) event asks =
-    refreshes_ask_events_of_looks_alone (refresh_now past handle store modes begun) event asks
+asks_of_looks past handle store modes begun (MakeCall call) event asks =
+    by_call-all (λ (T : Type 0). T → IsOfLooks event) (λ query. AsksAsLook past handle store modes begun query (Some (parts.Core event)))
+    (λ kind size bytes known. AsksAsRefresh past handle store modes begun (parts.Core event))
+    (λ query asks. look_ups_ask_these_events_alone (look_now past handle store modes begun query) event asks)
+    (λ kind size bytes known asks. refreshes_ask_events_of_looks_alone (refresh_now past handle store modes begun) event asks)
+    call asks
 
 module _ (past : List Event) (e : Event) where
   abbrev pub now : List Event

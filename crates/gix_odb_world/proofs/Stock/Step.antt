@@ -214,9 +214,9 @@ module _ (first : Volume) (past : List Event) (e : Event) (lawful : IsLawful fir
           let id = sought running.store.parts running.modes.ignoring knows.query in
           let view = view_then past number running.modes.core running.begun in
           let exchanges = told_since past number running.begun in (
-            what_is_handed_was_shown (ShownSince first past running.store) setting running.store.hash knows.query id knows.fits.hashed view knows.well.snapshot exchanges
+            what_is_handed_was_shown (ShownSince first past running.store) setting running.store.hash knows.query.want id knows.fits.hashed view knows.well.snapshot exchanges
                 knows.asked knows.well.truth (parts.Core event) asked,
-            what_is_handed_can_happen setting knows.fits.distinct view knows.query id exchanges knows.asked event asked (present (history_at cores running.modes.core)) number,
+            what_is_handed_can_happen setting knows.fits.distinct view knows.query.want id exchanges knows.asked event asked (present (history_at cores running.modes.core)) number,
           )
 
     -- an open store's opening told the core that it made

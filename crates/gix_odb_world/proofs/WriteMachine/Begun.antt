@@ -7,7 +7,13 @@ use Rattle.gix_hash.specs.declared.object_id.ObjectId.{ObjectId}
 use Rattle.gix_object.specs.declared.kind.Kind.{Kind}
 use Rattle.gix_odb_loose.specs.declared.call.LooseCall.{LooseCall}
 use Rattle.gix_odb_loose.specs.declared.write_order.WriteStage.TheVariants.{Making}
+use Rattle.gix_odb_calls.proofs.QueryLaws.{by_call-call_of, each_call}
+use Rattle.gix_odb_calls.specs.Query.{call_of}
+use Rattle.gix_odb_calls.specs.declared.call.Call.{Call}
 use Rattle.gix_odb_calls.specs.declared.call.Call.TheVariants as call_kinds
+use Rattle.gix_odb_calls.specs.declared.query.Query.{Query}
+use Rattle.gix_odb_looks.specs.LookUpOrder as looks
+use Rattle.gix_odb_looks.specs.declared.look_up.LookUp.{LookUp}
 use Rattle.gix_odb_looks.specs.LookUpOrder.{Setting}
 use Rattle.gix_odb_refresh.specs.RefreshOrder.{started}
 use Rattle.gix_odb_refresh.specs.Refreshed.{AreAsked, behind, turns_of}
@@ -16,7 +22,9 @@ use Rattle.gix_odb_refresh.specs.declared.refresh.Refresh.TheVariants as fronts
 use Rattle.gix_odb_refresh.proofs.RefreshLaws.{a_read_snapshot_is_ready}
 use Rattle.gix_odb.specs.CallOrder as calls
 use Rattle.gix_odb.specs.CallOrder.{fronted}
-use Rattle.gix_odb.specs.Contents.{folder_list}
+use Rattle.gix_odb.specs.Contents.{folder_list, sought}
+use Rattle.gix_odb.specs.declared.call_state.CallState.{CallState}
+use Rattle.gix_odb.specs.declared.call_state.CallState.TheVariants.{Looking}
 use Rattle.gix_odb_world.specs.declared.work.Work.TheVariants.{Calling}
 use Rattle.gix_odb_world.specs.AtWork.{Modes, setting_in, view_in_modes}
 use Rattle.gix_odb_looks.specs.Laps.{turns_of_lap}
@@ -126,20 +134,29 @@ module _ (first : Volume) (events : List Event) (e : Event) (handle : ℕ) (stor
     by_read false is (Own call) at = absurd (cc at)
     by_read false is (Unlisted error) at = absurd (cc at)
 
+  -- a look-up begins at no state of a write
+  no_look : (look : LookUp) (state : WriteState) → ¬ (Calling (Looking look) ≡ work_of state)
+  no_look look (InFront refresh call) is = cc is
+  no_look look (Own call) is = cc is
+  no_look look (Unlisted error) is = cc is
+
+  no_query : (query : Query) (state : WriteState) → ¬ (begun_with store modes (MakeCall (call_of query)) ≡ work_of state)
+  no_query query state is =
+      no_look (looks.started (setting_in store) (view_in_modes modes) query.want (sought store.parts modes.ignoring query)) state
+      (ap (λ (s : CallState). Calling s)
+      (sym (by_call-call_of (λ (q : Query). calls.looking (setting_in store) (view_in_modes modes) (sought store.parts modes.ignoring) q)
+      (λ kind size bytes known. fronted (started (view_in_modes modes)) (calls.writing store.parts.objects store.hash kind size bytes known)) query)) ∙ is)
+
   -- a state at which a task begins is that of its write
   pub write_starts : (task : Task) (state : WriteState) → BeginsAs first whole handle store modes task → begun_with store modes task ≡ work_of state
       → KnowsOfWrite first whole handle (running_from number task store modes) state
-  write_starts (MakeCall (call_kinds.Write kind size bytes known)) state start at =
-      by_read kind size bytes known start (view_in_modes modes).read refl state at
+  write_starts (MakeCall call) state start at =
+      each_call
+      (λ (c : Call). IsStarted first whole handle store modes c → begun_with store modes (MakeCall c) ≡ work_of state
+      → KnowsOfWrite first whole handle (running_from number (MakeCall c) store modes) state)
+      (λ query own begun. absurd (no_query query state begun))
+      (λ kind size bytes known own begun. by_read kind size bytes known own (view_in_modes modes).read refl state begun)
+      call start at
   write_starts OpenStore (InFront refresh call) start at = absurd (cc at)
   write_starts OpenStore (Own call) start at = absurd (cc at)
   write_starts OpenStore (Unlisted error) start at = absurd (cc at)
-  write_starts (MakeCall (call_kinds.Find id)) (InFront refresh call) start at = absurd (cc at)
-  write_starts (MakeCall (call_kinds.Find id)) (Own call) start at = absurd (cc at)
-  write_starts (MakeCall (call_kinds.Find id)) (Unlisted error) start at = absurd (cc at)
-  write_starts (MakeCall (call_kinds.Header id)) (InFront refresh call) start at = absurd (cc at)
-  write_starts (MakeCall (call_kinds.Header id)) (Own call) start at = absurd (cc at)
-  write_starts (MakeCall (call_kinds.Header id)) (Unlisted error) start at = absurd (cc at)
-  write_starts (MakeCall (call_kinds.Test id)) (InFront refresh call) start at = absurd (cc at)
-  write_starts (MakeCall (call_kinds.Test id)) (Own call) start at = absurd (cc at)
-  write_starts (MakeCall (call_kinds.Test id)) (Unlisted error) start at = absurd (cc at)

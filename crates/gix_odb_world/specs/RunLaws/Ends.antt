@@ -14,5 +14,5 @@ pub record EndsUnasked (query : Query) (e : Event) : Type 0 where
   pub ends : e.outcome ≡ outcomes.Reply reply
   pub asked : e.asked ≡ OfNothing
   pub did : e.entry.did ≡ Nothing
-  pub found : ¬ (reply ≡ not_found query)
-  pub says_yes : SaysYes query reply
+  pub found : ¬ (reply ≡ not_found query.want)
+  pub says_yes : SaysYes query.want reply

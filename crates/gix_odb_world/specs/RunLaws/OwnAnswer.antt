@@ -1,15 +1,16 @@
 -- The answers that are an opening's or a call's own, and that a run shows no cause for another one.
 use Rattle.std.specs.Prelude.{ℕ, List, length}
 use Rattle.odb_asks.specs.MemDisk.{Volume}
+use Rattle.gix_object.specs.declared.want.Want.{Want}
+use Rattle.gix_object.specs.declared.want.Want.TheVariants as wants
+use Rattle.gix_odb_calls.specs.Query.{by_call}
 use Rattle.gix_odb_calls.specs.declared.call.Call.{Call}
-use Rattle.gix_odb_calls.specs.declared.call.Call.TheVariants as calls
 use Rattle.gix_odb_calls.specs.declared.call.Reply.{Reply}
 use Rattle.gix_odb_calls.specs.declared.call.Reply.TheVariants as replies
 use Rattle.gix_odb_calls.specs.declared.find.Error as finding
 use Rattle.gix_odb_calls.specs.declared.init.Error as opening
 use Rattle.gix_odb_calls.specs.declared.load_index.Error as load
 use Rattle.gix_odb_calls.specs.declared.query.Query.{Query}
-use Rattle.gix_odb_calls.specs.declared.query.Query.TheVariants.{Find, Header, Test}
 use Rattle.gix_odb_loose.specs.declared.write.Error as loose_write
 use Rattle.gix_odb.specs.Contents.{sought}
 use Rattle.gix_odb_refresh.specs.Refreshed.{IsCaused}
@@ -23,15 +24,22 @@ use Rattle.gix_odb_world.specs.Told.{told_since}
 
 -- ---- own answers
 
--- a find finds an object or none, a look for a header a header or none, a test says yes or no, and a write names the object
+-- a find finds an object or none, a look for a header a header or none, and a test says yes or no
+abbrev pub IsOwnOfWant : Want → Reply → Type 0
+IsOwnOfWant wants.Object (replies.Found kind bytes) = Unit {0}
+IsOwnOfWant wants.Object replies.NotFound = Unit {0}
+IsOwnOfWant wants.Header (replies.Header header) = Unit {0}
+IsOwnOfWant wants.Header replies.NotFound = Unit {0}
+IsOwnOfWant wants.Presence (replies.Tested there) = Unit {0}
+IsOwnOfWant want reply = ⊥
+
+-- a write names the object
+abbrev pub IsOwnOfWrite : Reply → Type 0
+IsOwnOfWrite (replies.Wrote id) = Unit {0}
+IsOwnOfWrite reply = ⊥
+
 abbrev pub IsOwnOfCall : Call → Reply → Type 0
-IsOwnOfCall (calls.Find id) (replies.Found kind bytes) = Unit {0}
-IsOwnOfCall (calls.Find id) replies.NotFound = Unit {0}
-IsOwnOfCall (calls.Header id) (replies.Header header) = Unit {0}
-IsOwnOfCall (calls.Header id) replies.NotFound = Unit {0}
-IsOwnOfCall (calls.Test id) (replies.Tested there) = Unit {0}
-IsOwnOfCall (calls.Write kind size bytes known) (replies.Wrote id) = Unit {0}
-IsOwnOfCall call reply = ⊥
+IsOwnOfCall call reply = by_call (λ query. IsOwnOfWant query.want reply) (λ kind size bytes known. IsOwnOfWrite reply) call
 
 -- an opening tells the slots of its store; none of these answers is a refusal
 abbrev pub IsOwnAnswer : Task → Reply → Type 0
@@ -45,7 +53,7 @@ IsOwnAnswer (MakeCall call) reply = IsOwnOfCall call reply
 abbrev pub NoQueryCause : Volume → List Event → (handle : ℕ) → Store → Modes → (begun : ℕ) → Query → Type 0
 NoQueryCause first events handle store modes begun query =
     (error : finding.Error) → ¬ (FindCause (tree_at first events) (FailedSince events handle begun) (RefusedSince events handle modes.core begun) (told_since events handle begun) store
-    begun (length events) query (sought store.parts modes.ignoring query) error)
+    begun (length events) query.want (sought store.parts modes.ignoring query) error)
 
 -- the same of a write: of no error of the loose objects, and of none of the listing in front of it
 pub record NoWriteCause (first : Volume) (events : List Event) (handle : ℕ) (store : Store) (modes : Modes) (begun : ℕ) (w : ToWrite) : Type 0 where
@@ -60,8 +68,8 @@ NoOpeningCause first events handle store begun =
 -- the same of any task
 abbrev pub NoCause : Volume → List Event → (handle : ℕ) → Store → Modes → (begun : ℕ) → Task → Type 0
 NoCause first events handle store modes begun OpenStore = NoOpeningCause first events handle store begun
-NoCause first events handle store modes begun (MakeCall (calls.Find id)) = NoQueryCause first events handle store modes begun (Find id)
-NoCause first events handle store modes begun (MakeCall (calls.Header id)) = NoQueryCause first events handle store modes begun (Header id)
-NoCause first events handle store modes begun (MakeCall (calls.Test id)) = NoQueryCause first events handle store modes begun (Test id)
-NoCause first events handle store modes begun (MakeCall (calls.Write kind size bytes known)) =
-    NoWriteCause first events handle store modes begun (to_write store.parts.objects store.hash kind size bytes known)
+NoCause first events handle store modes begun (MakeCall call) =
+    by_call
+    (λ query. NoQueryCause first events handle store modes begun query)
+    (λ kind size bytes known. NoWriteCause first events handle store modes begun (to_write store.parts.objects store.hash kind size bytes known))
+    call

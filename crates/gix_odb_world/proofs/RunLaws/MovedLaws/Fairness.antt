@@ -247,7 +247,7 @@ module _ (first : Volume) (events : List Event) (is : IsKnownRun first events) (
               record {
                 stock = stock_at (MakeCall (call_of knows.query)) knows.task;
                 handed =
-                    what_is_handed_was_shown (ShownSince first past was.store) setting was.store.hash knows.query (sought was.store.parts was.modes.ignoring knows.query)
+                    what_is_handed_was_shown (ShownSince first past was.store) setting was.store.hash knows.query.want (sought was.store.parts was.modes.ignoring knows.query)
                     knows.fits.hashed view knows.well.snapshot (told_since past handle was.begun) knows.asked knows.well.truth (parts.Core event)
                     (ap looks.ask_of (sym knows.is) ∙ asked);
               }
