@@ -22,6 +22,7 @@ use Rattle.gix_odb_events.specs.declared.answer.Answer.{Answer}
 use Rattle.gix_odb_events.specs.declared.answer.Answer.TheVariants as told
 use Rattle.gix_odb_events.specs.declared.answer.Ask.{Ask}
 use Rattle.gix_odb_events.specs.declared.answer.Ask.TheVariants as asks
+use Rattle.gix_odb_packs.specs.declared.index_loader.IndexLoader.TheVariants as loaders
 use Rattle.gix_odb_packs.specs.declared.search.Notes.{Notes}
 use Rattle.gix_odb_packs.specs.declared.trier.Stage.{Stage}
 use Rattle.gix_odb_packs.specs.declared.trier.Stage.TheVariants as tries_stages
@@ -88,9 +89,9 @@ IsBeforeLoose purposes.Again = ⊥
 -- ---- what opens no folder
 
 trier_opens_none : (stage : Stage) (path : Path) → ¬ (Some (tries.ask_at stage) ≡ Some (asks.Disk (disk_asks.OpenDir path)))
-trier_opens_none (tries_stages.ReadingIndex place) path is = cc is
-trier_opens_none (tries_stages.StoringIndex place own) path is = cc is
-trier_opens_none (tries_stages.PassingIndex place why) path is = cc is
+trier_opens_none (tries_stages.Loading (loaders.Reading place)) path is = cc is
+trier_opens_none (tries_stages.Loading (loaders.Storing place own)) path is = cc is
+trier_opens_none (tries_stages.Loading (loaders.Passing place why)) path is = cc is
 trier_opens_none (tries_stages.ReadingPack pack) path is = cc is
 trier_opens_none (tries_stages.StoringPack pack own) path is = cc is
 trier_opens_none (tries_stages.PassingPack pack) path is = cc is

@@ -30,11 +30,12 @@ use Rattle.gix_odb_events.specs.declared.answer.Ask.{Ask}
 use Rattle.gix_odb_events.specs.declared.answer.Ask.TheVariants as asks
 use Rattle.gix_odb_packs.specs.declared.goal.Error.TheVariants as errors
 use Rattle.gix_odb_packs.specs.declared.goal.Goal.{Goal}
+use Rattle.gix_odb_packs.specs.declared.index_loader.IndexLoader.TheVariants as loaders
+use Rattle.gix_odb_packs.specs.declared.index_loader.IndexPlace.{IndexPlace}
 use Rattle.gix_odb_packs.specs.declared.lister.ListStage.{ListStage}
 use Rattle.gix_odb_packs.specs.declared.lister.ListStage.TheVariants as list_stages
 use Rattle.gix_odb_packs.specs.declared.trier.Ahead.{Ahead}
 use Rattle.gix_odb_packs.specs.declared.search.WantedPack.{WantedPack}
-use Rattle.gix_odb_packs.specs.declared.trier.IndexPlace.{IndexPlace}
 use Rattle.gix_odb_packs.specs.declared.trier.Stage.{Stage}
 use Rattle.gix_odb_packs.specs.declared.trier.Stage.TheVariants as tries_stages
 use Rattle.gix_odb_packs.specs.declared.trier.Tried.TheVariants as ends
@@ -106,7 +107,7 @@ module _ (Shown : Path → List ℕ → Type 0) (setting : Setting) (hash : Kind
 
       index_tested : (place : IndexPlace) → place.path ≡ path → (b : Bool) → b ≡ true
           → PutsIndex (ask_at (by_tried setting head part (tries.at goal ahead
-          (cond b (tries_stages.StoringIndex place (record { kind = kind_of goal.id; bytes = bytes })) (tries_stages.PassingIndex place whys.Bad)))))
+          (tries_stages.Loading (cond b (loaders.Storing place (record { kind = kind_of goal.id; bytes = bytes })) (loaders.Passing place whys.Bad))))))
       index_tested place at true is = (
         place.slot,
         ap (λ (p : Path). Some (asks.Core (events.PutIndex place.slot p (record { kind = kind_of goal.id; bytes = bytes })))) at
@@ -116,13 +117,13 @@ module _ (Shown : Path → List ℕ → Type 0) (setting : Setting) (hash : Kind
 
       index_put : IsIndexPath setting path → is_index hash bytes ≡ true → (stage : Stage) → KnowsStage Shown setting hash id stage
           → Some (tries.ask_at stage) ≡ Some (asks.Disk (disk_asks.Read path)) → PutsIndex (next_by stage)
-      index_put index parsed (tries_stages.ReadingIndex place) known is =
+      index_put index parsed (tries_stages.Loading (loaders.Reading place)) known is =
           index_tested place (cc is) (is_index (kind_of goal.id) bytes) (subst (λ (kind : Kind). is_index kind bytes ≡ true) (sym of_hash) parsed)
       index_put index parsed (tries_stages.ReadingPack pack) known is =
           let at : path ≡ pack.path = sym (cc is) in
           absurd (index_is_no_pack_of setting path index known.path known.index.at (at ∙ known.is))
-      index_put index parsed (tries_stages.StoringIndex place own) known is = absurd (cc is)
-      index_put index parsed (tries_stages.PassingIndex place why) known is = absurd (cc is)
+      index_put index parsed (tries_stages.Loading (loaders.Storing place own)) known is = absurd (cc is)
+      index_put index parsed (tries_stages.Loading (loaders.Passing place why)) known is = absurd (cc is)
       index_put index parsed (tries_stages.StoringPack pack own) known is = absurd (cc is)
       index_put index parsed (tries_stages.PassingPack pack) known is = absurd (cc is)
 
@@ -141,11 +142,11 @@ module _ (Shown : Path → List ℕ → Type 0) (setting : Setting) (hash : Kind
           → Some (tries.ask_at stage) ≡ Some (asks.Disk (disk_asks.Read path)) → PutsPack (next_by stage)
       pack_put pack parsed (tries_stages.ReadingPack wanted) known is =
           pack_tested wanted (cc is) (is_pack (kind_of goal.id) bytes) (subst (λ (kind : Kind). is_pack kind bytes ≡ true) (sym of_hash) parsed)
-      pack_put pack parsed (tries_stages.ReadingIndex place) known is =
+      pack_put pack parsed (tries_stages.Loading (loaders.Reading place)) known is =
           let at : place.path ≡ path = cc is in
           absurd (index_is_no_pack setting place.path known (pack_folder pack.folder) pack.stem (at ∙ pack.is))
-      pack_put pack parsed (tries_stages.StoringIndex place own) known is = absurd (cc is)
-      pack_put pack parsed (tries_stages.PassingIndex place why) known is = absurd (cc is)
+      pack_put pack parsed (tries_stages.Loading (loaders.Storing place own)) known is = absurd (cc is)
+      pack_put pack parsed (tries_stages.Loading (loaders.Passing place why)) known is = absurd (cc is)
       pack_put pack parsed (tries_stages.StoringPack wanted own) known is = absurd (cc is)
       pack_put pack parsed (tries_stages.PassingPack wanted) known is = absurd (cc is)
 
@@ -189,9 +190,9 @@ module _ (Shown : Path → List ℕ → Type 0) (setting : Setting) (hash : Kind
     Backed ask = Unit {0}
 
     trier_backed : (stage : Stage) → IsReadAt Read hash stage → Backed (tries.ask_at stage)
-    trier_backed (tries_stages.ReadingIndex place) here = tt
-    trier_backed (tries_stages.StoringIndex place own) here = record { time = here.0; last = here.1 }
-    trier_backed (tries_stages.PassingIndex place why) here = record { answer = here.0; last = here.1; reason = here.2 }
+    trier_backed (tries_stages.Loading (loaders.Reading place)) here = tt
+    trier_backed (tries_stages.Loading (loaders.Storing place own)) here = record { time = here.0; last = here.1 }
+    trier_backed (tries_stages.Loading (loaders.Passing place why)) here = record { answer = here.0; last = here.1; reason = here.2 }
     trier_backed (tries_stages.ReadingPack pack) here = tt
     trier_backed (tries_stages.StoringPack pack own) here = record { time = here.0; last = here.1 }
     trier_backed (tries_stages.PassingPack pack) here = record { answer = answers.Refused disk_errors.Absent; last = here; reason = tt }

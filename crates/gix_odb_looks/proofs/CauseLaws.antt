@@ -33,6 +33,7 @@ use Rattle.gix_odb_events.specs.declared.answer.Ask.{Ask}
 use Rattle.gix_odb_packs.specs.declared.lister.ListStage.{ListStage}
 use Rattle.gix_odb_packs.specs.declared.lister.ListStage.TheVariants as list_stages
 use Rattle.gix_odb_packs.specs.declared.search.Notes.{Notes}
+use Rattle.gix_odb_packs.proofs.TrierLaws.{passes-further}
 use Rattle.gix_odb_calls.specs.declared.call.CallError.TheVariants as call_errors
 use Rattle.gix_odb_calls.specs.declared.call.Reply.{Reply}
 use Rattle.gix_odb_calls.specs.declared.call.Reply.TheVariants as replies
@@ -41,7 +42,7 @@ use Rattle.gix_odb_calls.specs.declared.find.Error.TheVariants as errors
 use Rattle.gix_object.specs.declared.want.Want.{Want}
 use Rattle.gix_odb_calls.specs.declared.verdict.Verdict.{Verdict}
 use Rattle.gix_odb_looks.specs.Caused.{IsCaused}
-use Rattle.gix_odb_looks.specs.Exchange.{AreAsked, Exchange, IsLast, behind, published_in}
+use Rattle.gix_odb_looks.specs.Exchange.{AreAsked, Exchange, IsLast, behind, published_in, HasFailed}
 use Rattle.gix_odb_looks.specs.Laps.{AreNumbered, IsNumbered, number_by}
 use Rattle.gix_odb_looks.specs.LookUpOrder.{Setting, ask_at, ask_of, fed, first_of, loose_ask, new_head}
 use Rattle.gix_odb_looks.specs.LoadIndex.{of_refusal}
@@ -180,7 +181,11 @@ module _ (Shown : Path → List ℕ → Type 0) (setting : Setting) (hash : Kind
 
     knows-more : (stage : LookStage) (ask : Ask) → ask_at stage ≡ Some ask → KnowsAt Shown setting hash id past head stage
         → KnowsAt Shown setting hash id more head_seen stage
-    knows-more (stages.Trying trier part) ask asked knows = (noted-more trier.ahead.notes knows.0, showed-more part knows.1)
+    knows-more (stages.Trying trier part) ask asked knows = (
+      noted-more trier.ahead.notes knows.0,
+      showed-more part knows.1,
+      passes-further (HasFailed past) (HasFailed more) (HasFailed-more past (exchange ∷ [])) trier.stage knows.2,
+    )
     knows-more (stages.Loose round call) ask asked knows = (noted-more round.notes knows.0, showed-more round.part knows.1)
     knows-more (stages.Looking purpose notes) ask asked knows = noted-more notes knows
     knows-more (stages.Listing lister base notes) ask asked knows = (noted-more notes knows.0, has_begun-more knows.1, breaks-more lister.stage knows.2)

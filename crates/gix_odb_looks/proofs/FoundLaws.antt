@@ -3,6 +3,7 @@ pub mod Lists
 mod PackErrors
 pub mod Known
 mod Views
+mod Loading
 mod Indices
 mod Trying
 pub mod Listing

@@ -28,6 +28,7 @@ use Rattle.gix_odb_events.specs.declared.answer.Answer.{Answer}
 use Rattle.gix_odb_events.specs.declared.answer.Answer.TheVariants as told
 use Rattle.gix_odb_events.specs.declared.answer.Ask.{Ask}
 use Rattle.gix_odb_events.specs.declared.answer.Ask.TheVariants as asks
+use Rattle.gix_odb_packs.specs.declared.index_loader.IndexLoader.TheVariants as loaders
 use Rattle.gix_odb_packs.specs.declared.lister.ListStep.{ListStep}
 use Rattle.gix_odb_packs.specs.declared.lister.ListStep.TheVariants as listed
 use Rattle.gix_odb_packs.specs.declared.trier.Stage.TheVariants as tries_stages
@@ -65,9 +66,9 @@ AsksOfLooks (asks.Core event) = IsOfLooks event
 AsksOfLooks (asks.NewCore slots folders) = ⊥
 
 trier_asks : (stage : Stage) → AsksOfLooks (tries.ask_at stage)
-trier_asks (tries_stages.ReadingIndex place) = tt
-trier_asks (tries_stages.StoringIndex place file) = tt
-trier_asks (tries_stages.PassingIndex place why) = tt
+trier_asks (tries_stages.Loading (loaders.Reading place)) = tt
+trier_asks (tries_stages.Loading (loaders.Storing place file)) = tt
+trier_asks (tries_stages.Loading (loaders.Passing place why)) = tt
 trier_asks (tries_stages.ReadingPack pack) = tt
 trier_asks (tries_stages.StoringPack pack file) = tt
 trier_asks (tries_stages.PassingPack pack) = tt

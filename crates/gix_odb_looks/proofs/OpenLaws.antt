@@ -14,6 +14,7 @@ use Rattle.gix_odb_packs.specs.PackFolder.{pack_folder}
 use Rattle.gix_odb_packs.specs.ListOrder as lists
 use Rattle.gix_odb_packs.specs.TryOrder as tries
 use Rattle.gix_odb_events.specs.declared.answer.Ask.TheVariants as asks
+use Rattle.gix_odb_packs.specs.declared.index_loader.IndexLoader.TheVariants as loaders
 use Rattle.gix_odb_packs.specs.declared.lister.ListHead.{ListHead}
 use Rattle.gix_odb_packs.specs.declared.lister.ListStage.{ListStage}
 use Rattle.gix_odb_packs.specs.declared.lister.ListStage.TheVariants as list_stages
@@ -31,9 +32,9 @@ use Rattle.gix_odb_looks.proofs.FoundLaws.Behind.{look_known}
 use Rattle.gix_odb_looks.proofs.FoundLaws.Known.{KnowsListHead, KnowsLookStage}
 
 trier_opens_none : (stage : Stage) (path : Path) → ¬ (tries.ask_at stage ≡ asks.Disk (disk_asks.OpenDir path))
-trier_opens_none (tries_stages.ReadingIndex place) path is = cc is
-trier_opens_none (tries_stages.StoringIndex place file) path is = cc is
-trier_opens_none (tries_stages.PassingIndex place why) path is = cc is
+trier_opens_none (tries_stages.Loading (loaders.Reading place)) path is = cc is
+trier_opens_none (tries_stages.Loading (loaders.Storing place file)) path is = cc is
+trier_opens_none (tries_stages.Loading (loaders.Passing place why)) path is = cc is
 trier_opens_none (tries_stages.ReadingPack pack) path is = cc is
 trier_opens_none (tries_stages.StoringPack pack file) path is = cc is
 trier_opens_none (tries_stages.PassingPack pack) path is = cc is

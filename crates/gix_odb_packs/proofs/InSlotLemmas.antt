@@ -1,17 +1,16 @@
 -- The index of a slot is the only one of it that a view shows: so what stands at a path, and a pack, are found by it.
-use Rattle.std.proofs.Common.{◌≡◌, ◌&&◌, zero, suc, Bool, true, false, cond, List, [], ◌∷◌, Contains, Option, Some, None, refl, sym, ap, ◌∙◌, subst, arith}
+use Rattle.std.proofs.Common.{◌≡◌, ◌&&◌, zero, suc, Bool, true, false, cond, List, [], ◌∷◌, Contains, Option, Some, None, refl, sym, ap, ◌∙◌, arith}
 use Rattle.std.specs.Prelude.{◌==◌}
 use Rattle.std.specs.List.{find}
 use Rattle.std.proofs.lemmas.Bool.{and_parts, cond-true, cond-false, eqb-true, false_from_ne_true}
 use Rattle.std.proofs.lemmas.Option.{same_Some}
-use Rattle.gix_pack_files.specs.FileBytes.{FileBytes}
 use Rattle.gix_odb_events.specs.PackFiles.{same_path}
 use Rattle.gix_odb_events.specs.declared.loaded.SnapshotIndex.{SnapshotIndex}
 use Rattle.gix_odb_packs.specs.InSlot.{at_path, pack_of}
-use Rattle.gix_odb_packs.specs.TryOrder.Index.{is_at}
+use Rattle.gix_odb_packs.specs.LoadOrder.{is_at}
 use Rattle.gix_odb_packs.specs.TryOrder.Pack.{pack_among, pack_in}
 use Rattle.gix_odb_packs.specs.declared.search.WantedPack.{WantedPack}
-use Rattle.gix_odb_packs.specs.declared.trier.IndexPlace.{IndexPlace}
+use Rattle.gix_odb_packs.specs.declared.index_loader.IndexPlace.{IndexPlace}
 
 contains_more : (x : SnapshotIndex) (list : List SnapshotIndex) (y : SnapshotIndex) → Contains list y → Contains (x ∷ list) y
 contains_more x list y (k, within, is) = (suc k, omega arith, is)

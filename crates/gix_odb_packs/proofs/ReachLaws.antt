@@ -16,13 +16,18 @@ use Rattle.gix_odb_events.specs.Answers.{view_in}
 use Rattle.gix_odb_events.specs.declared.event.Effect.{Effect}
 use Rattle.gix_odb_events.specs.declared.view.View.{View}
 use Rattle.gix_odb_packs.specs.Search.{first_of, left_by, rest_behind, search, tried, with_absent}
-use Rattle.gix_odb_packs.specs.TryOrder.{at_search, at_todo, index_stored, is_at, or_else, own_index, search_stored, seek, shown_in, shown_or_own}
+use Rattle.gix_odb_packs.specs.LoadOrder.{index_stored, is_at, or_else, own_index, shown_in, shown_or_own}
+use Rattle.gix_odb_packs.specs.TryOrder.{after_load, at_search, at_todo, noting, seek}
 use Rattle.gix_odb_packs.specs.declared.goal.Goal.{Goal}
+use Rattle.gix_odb_packs.specs.declared.index_loader.IndexLoader.{IndexLoader}
+use Rattle.gix_odb_packs.specs.declared.index_loader.IndexLoader.TheVariants.{Reading, Storing, Passing}
+use Rattle.gix_odb_packs.specs.declared.index_loader.IndexPlace.{IndexPlace}
+use Rattle.gix_odb_packs.specs.declared.index_loader.LoadStep.{LoadStep}
+use Rattle.gix_odb_packs.specs.declared.index_loader.LoadStep.TheVariants as steps
 use Rattle.gix_odb_packs.specs.declared.search.Sought.{Sought}
 use Rattle.gix_odb_packs.specs.declared.search.Sought.TheVariants.{Nowhere, Finds, Fails, Wants}
 use Rattle.gix_odb_packs.specs.declared.search.WantedPack.{WantedPack}
 use Rattle.gix_odb_packs.specs.declared.trier.Ahead.{Ahead}
-use Rattle.gix_odb_packs.specs.declared.trier.IndexPlace.{IndexPlace}
 use Rattle.gix_odb_packs.specs.declared.trier.Stage.{Stage}
 use Rattle.gix_odb_packs.specs.declared.trier.Stage.TheVariants as stages
 use Rattle.gix_odb_packs.specs.declared.trier.Tried.{Tried}
@@ -52,11 +57,22 @@ module _ (hash : Kind) (id : ObjectId) (target : Path) where
     pub lead : All LeadsIfThere ahead.indices
     pub present : IsPresent (pack_path target) ahead.notes.absent
 
+  -- the index is being loaded
+  abbrev pub IsAtHand : IndexLoader → Type 0
+  IsAtHand (Reading at) = at.path ≡ target
+  IsAtHand (Storing at file) = (at.path ≡ target) × Leads (pack_path target) hash id (own_index at file)
+  IsAtHand (Passing at why) = ⊥
+
+  -- a step of loading after which the index is loaded, or still being so
+  abbrev pub IsKept : LoadStep → Type 0
+  IsKept (steps.More loader) = IsAtHand loader
+  IsKept (steps.Loaded index) = Leads (pack_path target) hash id index
+  IsKept (steps.Missed why) = ⊥
+  IsKept (steps.Broken refusal) = Unit {0}
+
   -- the index is at hand or ahead, or its pack is at hand
   abbrev pub IsOnWay : Ahead → Stage → Type 0
-  IsOnWay ahead (stages.ReadingIndex at) = (at.path ≡ target) ⊎ HasTodo ahead.todo
-  IsOnWay ahead (stages.StoringIndex at file) = ((at.path ≡ target) × Leads (pack_path target) hash id (own_index at file)) ⊎ HasTodo ahead.todo
-  IsOnWay ahead (stages.PassingIndex at why) = HasTodo ahead.todo
+  IsOnWay ahead (stages.Loading loader) = IsAtHand loader ⊎ HasTodo ahead.todo
   IsOnWay ahead (stages.ReadingPack wanted) = (wanted.path ≡ pack_path target) ⊎ IsAhead ahead.indices ahead.todo
   IsOnWay ahead (stages.StoringPack wanted file) = Unit {0}
   IsOnWay ahead (stages.PassingPack wanted) = (¬ (wanted.path ≡ pack_path target)) × IsAhead ahead.indices ahead.todo
@@ -73,6 +89,38 @@ module _ (hash : Kind) (id : ObjectId) (target : Path) where
   IsNoMiss (ends.Missed notes) = ⊥
   IsNoMiss (ends.Bad error) = Unit {0}
   IsNoMiss (ends.Broken refusal) = Unit {0}
+
+  -- ---- an index that was stored
+
+  module _ (at : IndexPlace) where
+    abbrev AllLead : Option SnapshotIndex → Type 0
+    AllLead shown = (index : SnapshotIndex) → shown ≡ Some index → Leads (pack_path target) hash id index
+
+    shown_leads : at.path ≡ target → (indices : List SnapshotIndex) → All LeadsIfThere indices → AllLead (find (is_at at) indices)
+    shown_leads is indices lead index found =
+        let has = found_is LeadsIfThere (is_at at) indices lead index found in
+        has.0 (same_path-true index.path at.path (and_parts _ (same_path index.path at.path) has.1).1 ∙ is)
+
+    either_leads : (file : FileBytes) → Leads (pack_path target) hash id (own_index at file) → (one other : Option SnapshotIndex) → AllLead one
+        → AllLead other → Leads (pack_path target) hash id (shown_or_own at file (or_else one other))
+    either_leads file leads (Some index) other lead more = lead index refl
+    either_leads file leads None (Some index) lead more = more index refl
+    either_leads file leads None None lead more = leads
+
+    -- what is shown of the index is as sound as what was read
+    view_leads : (file : FileBytes) → at.path ≡ target → Leads (pack_path target) hash id (own_index at file) → (view : Option View)
+        → ((shown : View) → view ≡ Some shown → All LeadsIfThere shown.snapshot.indices × All LeadsIfThere shown.snapshot.kept)
+        → Leads (pack_path target) hash id (shown_or_own at file (shown_in at view))
+    view_leads file is leads None sound = leads
+    view_leads file is leads (Some view) sound =
+        let shown = sound view refl in
+        either_leads file leads (find (is_at at) view.snapshot.indices) (find (is_at at) view.snapshot.kept)
+        (shown_leads is view.snapshot.indices shown.0) (shown_leads is view.snapshot.kept shown.1)
+
+    pub stored_leads : (file : FileBytes) (effect : Effect) → IsAtHand (Storing at file)
+        → ((shown : View) → view_in (Ok effect) ≡ Some shown → All LeadsIfThere shown.snapshot.indices × All LeadsIfThere shown.snapshot.kept)
+        → Leads (pack_path target) hash id (index_stored at file effect)
+    stored_leads file effect here sound = view_leads file here.0 here.1 (view_in (Ok effect)) sound
 
   -- ---- the search goes on
 
@@ -158,42 +206,23 @@ module _ (hash : Kind) (id : ObjectId) (target : Path) where
     pub seek_goes : (ahead : Ahead) → IsSearchable ahead → IsAhead ahead.indices ahead.todo → IsNoMiss (seek goal ahead)
     seek_goes ahead able has = indices_go ahead able.present ahead.indices able.lead has
 
-    -- ---- an index that was stored
+    -- ---- an index that is loaded
 
-    module _ (ahead : Ahead) (able : IsSearchable ahead) (at : IndexPlace) where
-      abbrev AllLead : Option SnapshotIndex → Type 0
-      AllLead shown = (index : SnapshotIndex) → shown ≡ Some index → Leads (pack_path target) hash id index
+    loaded_goes : (ahead : Ahead) → IsSearchable ahead → (index : SnapshotIndex) → Leads (pack_path target) hash id index
+        → IsNoMiss (at_search goal ahead (tried goal ahead.notes.absent index))
+    loaded_goes ahead able index leads =
+        search_goes ahead able (tried goal ahead.notes.absent index)
+        (inl (reaches-index (pack_path target) goal ahead.notes.absent able.present index hash
+        (subst (λ (i : ObjectId). Leads (pack_path target) hash i index) (sym own) leads)))
 
-      shown_leads : at.path ≡ target → (indices : List SnapshotIndex) → All LeadsIfThere indices → AllLead (find (is_at at) indices)
-      shown_leads is indices lead index found =
-          let has = found_is LeadsIfThere (is_at at) indices lead index found in
-          has.0 (same_path-true index.path at.path (and_parts _ (same_path index.path at.path) has.1).1 ∙ is)
-
-      either_leads : (file : FileBytes) → Leads (pack_path target) hash id (own_index at file) → (one other : Option SnapshotIndex) → AllLead one
-          → AllLead other → Leads (pack_path target) hash id (shown_or_own at file (or_else one other))
-      either_leads file leads (Some index) other lead more = lead index refl
-      either_leads file leads None (Some index) lead more = more index refl
-      either_leads file leads None None lead more = leads
-
-      -- what is shown of the index is as sound as what was read
-      view_leads : (file : FileBytes) → at.path ≡ target → Leads (pack_path target) hash id (own_index at file) → (view : Option View)
-          → ((shown : View) → view ≡ Some shown → All LeadsIfThere shown.snapshot.indices × All LeadsIfThere shown.snapshot.kept)
-          → Leads (pack_path target) hash id (shown_or_own at file (shown_in at view))
-      view_leads file is leads None sound = leads
-      view_leads file is leads (Some view) sound =
-          let shown = sound view refl in
-          either_leads file leads (find (is_at at) view.snapshot.indices) (find (is_at at) view.snapshot.kept)
-          (shown_leads is view.snapshot.indices shown.0) (shown_leads is view.snapshot.kept shown.1)
-
-      pub stored_goes : (file : FileBytes) (effect : Effect) → IsOnWay ahead (stages.StoringIndex at file)
-          → ((shown : View) → view_in (Ok effect) ≡ Some shown → All LeadsIfThere shown.snapshot.indices × All LeadsIfThere shown.snapshot.kept)
-          → IsNoMiss (index_stored goal ahead at file effect)
-      stored_goes file effect (inr has) sound = search_goes ahead able (search_stored goal ahead.notes at file effect) (inr has)
-      stored_goes file effect (inl here) sound =
-          let leads = view_leads file here.0 here.1 (view_in (Ok effect)) sound in
-          search_goes ahead able (search_stored goal ahead.notes at file effect)
-          (inl (reaches-index (pack_path target) goal ahead.notes.absent able.present (shown_or_own at file (shown_in at (view_in (Ok effect)))) hash
-          (subst (λ (i : ObjectId). Leads (pack_path target) hash i (shown_or_own at file (shown_in at (view_in (Ok effect))))) (sym own) leads)))
+    pub load_goes : (ahead : Ahead) → IsSearchable ahead → (step : LoadStep) → IsKept step ⊎ HasTodo ahead.todo → IsNoMiss (after_load goal ahead step)
+    load_goes ahead able (steps.More loader) way = record { of_id = own; searchable = able; way = way }
+    load_goes ahead able (steps.Loaded index) (inl leads) = loaded_goes ahead able index leads
+    load_goes ahead able (steps.Loaded index) (inr has) = search_goes ahead able (tried goal ahead.notes.absent index) (inr has)
+    load_goes ahead able (steps.Missed why) (inl kept) = absurd kept
+    load_goes ahead able (steps.Missed why) (inr has) =
+        seek_goes (record ahead { notes = noting ahead.notes why }) (record { lead = able.lead; present = able.present }) (inr has)
+    load_goes ahead able (steps.Broken refusal) way = tt
 
     -- ---- a pack that was absent
 

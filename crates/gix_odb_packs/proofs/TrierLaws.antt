@@ -1,5 +1,5 @@
 -- What trying the indices of a list comes to.
-use Rattle.std.proofs.Common.{◌≡◌, Bool, true, false, List, [], ◌∷◌, Option, Some, None, Result, Ok, Err, refl, sym, subst, ℕ, ap, inl, inr}
+use Rattle.std.proofs.Common.{◌≡◌, Bool, true, false, List, [], ◌∷◌, Option, Some, None, Result, Ok, Err, refl, sym, subst, ℕ, inl, inr}
 use Rattle.std.specs.Prelude.{slice_get, unwrap_or, if◌then◌else◌}
 use Rattle.std.proofs.lemmas.Bool.{or_cases}
 use Rattle.odb_base.specs.Path.{Path}
@@ -8,11 +8,9 @@ use Rattle.odb_asks.specs.declared.ask.DiskAnswer.TheVariants as answers
 use Rattle.odb_nodes.specs.declared.disk_error.DiskError.TheVariants as disk_errors
 use Rattle.gix_hash.specs.ObjectId.{kind_of}
 use Rattle.gix_pack_files.specs.FileBytes.{FileBytes}
-use Rattle.gix_pack_files.specs.Index.{is_index}
 use Rattle.gix_pack_files.specs.Pack.{Entry, entry_at, header_at, is_pack}
 use Rattle.gix_pack_files.specs.declared.data.Error as pack
 use Rattle.gix_pack_files.specs.declared.data.entry.Header as pack_header
-use Rattle.gix_odb_events.specs.declared.event.Effect.{Effect}
 use Rattle.gix_odb_events.specs.declared.event.Refusal.{Refusal}
 use Rattle.gix_odb_events.specs.OnDiskFile.{loaded}
 use Rattle.gix_odb_events.specs.PackFiles.{PackFile}
@@ -21,8 +19,8 @@ use Rattle.gix_odb_events.specs.declared.loaded.Todo.{Todo}
 use Rattle.gix_odb_packs.specs.Goal.{given_by, header_in, object_in}
 use Rattle.gix_odb_packs.specs.Search.{at_spot, first_of, given_or_not, in_file, in_packs, place_in, rest_behind, search, tried, was_absent, with_absent}
 use Rattle.gix_odb_packs.specs.Spot.{spot_in}
-use Rattle.gix_odb_packs.specs.TryOrder.{at, ask_of, ask_at, noting, why_of, is_failed, at_search, at_todo, behind_core, behind_disk, by_answer}
-use Rattle.gix_odb_packs.specs.TryOrder.{by_given, fed, index_read, pack_read, refused, search_stored, seek, pack_behind, shown_behind, shown_or_own}
+use Rattle.gix_odb_packs.specs.LoadOrder as load
+use Rattle.gix_odb_packs.specs.TryOrder.{after_load, at, ask_of, ask_at, noting, is_failed, at_search, at_todo, by_answer, by_given, fed, pack_read, seek, pack_behind}
 use Rattle.gix_odb_events.specs.declared.answer.Answer.{Answer}
 use Rattle.gix_odb_events.specs.declared.answer.Answer.TheVariants as told
 use Rattle.gix_odb_packs.specs.declared.goal.Error.{Error}
@@ -32,22 +30,24 @@ use Rattle.gix_odb_packs.specs.declared.goal.Found.TheVariants as found
 use Rattle.gix_odb_packs.specs.declared.goal.Goal.{Goal}
 use Rattle.gix_object.specs.declared.want.Want.{Want}
 use Rattle.gix_object.specs.declared.want.Want.TheVariants as wanted
+use Rattle.gix_odb_packs.specs.declared.index_loader.LoadStep.{LoadStep}
+use Rattle.gix_odb_packs.specs.declared.index_loader.LoadStep.TheVariants as steps
 use Rattle.gix_odb_packs.specs.declared.search.AbsentFile.{AbsentFile}
 use Rattle.gix_odb_packs.specs.declared.search.Sought.{Sought}
 use Rattle.gix_odb_packs.specs.declared.search.Sought.TheVariants as searches
 use Rattle.gix_odb_packs.specs.declared.search.WantedPack.{WantedPack}
 use Rattle.gix_odb_packs.specs.declared.spot.Spot.{Spot}
 use Rattle.gix_odb_packs.specs.declared.trier.Ahead.{Ahead}
-use Rattle.gix_odb_packs.specs.declared.trier.IndexPlace.{IndexPlace}
 use Rattle.gix_odb_packs.specs.declared.trier.Stage.{Stage}
 use Rattle.gix_odb_packs.specs.declared.trier.Stage.TheVariants as stages
 use Rattle.gix_odb_packs.specs.declared.trier.Tried.{Tried}
 use Rattle.gix_odb_packs.specs.declared.trier.Tried.TheVariants as ends
 use Rattle.gix_odb_packs.specs.declared.trier.Trier.{Trier}
 use Rattle.gix_odb_packs.specs.declared.search.Notes.{Notes}
-use Rattle.gix_odb_events.specs.declared.event.PassWhy.TheVariants as whys
+use Rattle.gix_odb_events.specs.declared.event.PassWhy.{PassWhy}
 use Rattle.gix_odb_events.specs.declared.answer.Ask.TheVariants as asks
 use Rattle.gix_odb_events.specs.declared.event.Event.{Event}
+use Rattle.gix_odb_packs.proofs.LoadLaws as loads
 
 -- ---- what a pack gives
 
@@ -129,13 +129,22 @@ module _ (goal : Goal) (absent : List AbsentFile) where
 
 -- ---- a trier
 
--- why a file is passed over is a failure only where a call of the disk failed
-why_failed : (answer : DiskAnswer) → is_failed (why_of answer) ≡ true → answer ≡ answers.Refused disk_errors.Failed
-why_failed (answers.Refused disk_errors.Failed) is = refl
-why_failed (answers.Refused disk_errors.Absent) is = absurd (cc is)
-why_failed (answers.Refused disk_errors.LinkLoop) is = absurd (cc is)
-why_failed (answers.Refused error) is = absurd (cc is)
-why_failed answer is = absurd (cc is)
+-- an index is passed over for a failure only where a read failed
+abbrev pub Passes : (Failed : Type 0) → Stage → Type 0
+Passes Failed (stages.Loading loader) = loads.Passes Failed loader
+Passes Failed stage = Unit {0}
+
+pub failed-passes : (Failed : Type 0) → Failed → (stage : Stage) → Passes Failed stage
+failed-passes Failed failed (stages.Loading loader) = loads.failed-passes Failed failed loader
+failed-passes Failed failed (stages.ReadingPack pack) = tt
+failed-passes Failed failed (stages.StoringPack pack file) = tt
+failed-passes Failed failed (stages.PassingPack pack) = tt
+
+pub passes-further : (Failed Further : Type 0) → (Failed → Further) → (stage : Stage) → Passes Failed stage → Passes Further stage
+passes-further Failed Further on (stages.Loading loader) passes = loads.passes-further Failed Further on loader passes
+passes-further Failed Further on (stages.ReadingPack pack) passes = tt
+passes-further Failed Further on (stages.StoringPack pack file) passes = tt
+passes-further Failed Further on (stages.PassingPack pack) passes = tt
 
 module _ (goal : Goal) (Failed : Type 0) (Refuses : Refusal → Type 0) where
   -- what is noted failed
@@ -144,7 +153,7 @@ module _ (goal : Goal) (Failed : Type 0) (Refuses : Refusal → Type 0) where
 
   -- What trying comes to: it goes on for its goal, finds what is wanted, or ends. A failure that is noted is one, and so is a refusal.
   abbrev pub Comes : Tried → Type 0
-  Comes (ends.More trier) = (trier.goal ≡ goal) × Noted trier.ahead.notes
+  Comes (ends.More trier) = (trier.goal ≡ goal) × Noted trier.ahead.notes × Passes Failed trier.stage
   Comes (ends.Hit found) = Fits goal.want found
   Comes (ends.Missed notes) = Noted notes
   Comes (ends.Bad error) = Unit {0}
@@ -156,13 +165,13 @@ module _ (goal : Goal) (Failed : Type 0) (Refuses : Refusal → Type 0) where
 
   at_todo-comes : (ahead : Ahead) → Noted ahead.notes → (todo : List Todo) → Comes (at_todo goal ahead todo)
   at_todo-comes ahead noted [] = noted
-  at_todo-comes ahead noted (todo ∷ rest) = (refl, noted)
+  at_todo-comes ahead noted (todo ∷ rest) = (refl, noted, tt)
 
   at_search-comes : (ahead : Ahead) → Noted ahead.notes → (sought : Sought) → IsSought goal.want sought → Comes (at_search goal ahead sought)
   at_search-comes ahead noted searches.Nowhere fits = at_todo-comes ahead noted ahead.todo
   at_search-comes ahead noted (searches.Finds found) fits = fits
   at_search-comes ahead noted (searches.Fails error) fits = tt
-  at_search-comes ahead noted (searches.Wants pack) fits = (refl, noted)
+  at_search-comes ahead noted (searches.Wants pack) fits = (refl, noted, tt)
 
   pub seek-comes : (ahead : Ahead) → Noted ahead.notes → Comes (seek goal ahead)
   seek-comes ahead noted =
@@ -170,30 +179,20 @@ module _ (goal : Goal) (Failed : Type 0) (Refuses : Refusal → Type 0) where
       (search-sought goal ahead.notes.absent ahead.indices)
 
   module _ (ahead : Ahead) (noted : Noted ahead.notes) where
-    -- an index that could not be read
-    missed-noted : (answer : DiskAnswer) → (answer ≡ answers.Refused disk_errors.Failed → Failed) → Noted (noting ahead.notes (why_of answer))
-    missed-noted answer fails is =
-        elim (or_cases ahead.notes.failed (is_failed (why_of answer)) is) [
+    -- an index that was passed over
+    missed-noted : (why : PassWhy) → (is_failed why ≡ true → Failed) → Noted (noting ahead.notes why)
+    missed-noted why passes is =
+        elim (or_cases ahead.notes.failed (is_failed why) is) [
           | inl before ↦ noted before
-          | inr now ↦ fails (why_failed answer now)
+          | inr now ↦ passes now
         ]
 
-    index_read-comes : (place : IndexPlace) (answer : DiskAnswer) → (answer ≡ answers.Refused disk_errors.Failed → Failed)
-        → Comes (index_read goal ahead place answer)
-    index_read-comes place (answers.File bytes time) fails = by (is_index (kind_of goal.id) bytes)
-      where
-        file : FileBytes
-        file = record { kind = kind_of goal.id; bytes = bytes }
-
-        by : (b : Bool) → Comes (at goal ahead (if b then stages.StoringIndex place file else stages.PassingIndex place whys.Bad))
-        by true = (refl, noted)
-        by false = (refl, noted)
-    index_read-comes place (answers.Refused error) fails = (refl, missed-noted (answers.Refused error) fails)
-    index_read-comes place (answers.Meta meta) fails = (refl, missed-noted (answers.Meta meta) fails)
-    index_read-comes place (answers.Dir dir) fails = (refl, missed-noted (answers.Dir dir) fails)
-    index_read-comes place (answers.Entry entry) fails = (refl, missed-noted (answers.Entry entry) fails)
-    index_read-comes place answers.End fails = (refl, missed-noted answers.End fails)
-    index_read-comes place answers.Done fails = (refl, missed-noted answers.Done fails)
+    after_load-comes : (step : LoadStep) → loads.Comes Failed Refuses step → Comes (after_load goal ahead step)
+    after_load-comes (steps.More loader) passes = (refl, noted, passes)
+    after_load-comes (steps.Loaded index) loaded =
+        at_search-comes ahead noted (tried goal ahead.notes.absent index) (tried-sought goal ahead.notes.absent index)
+    after_load-comes (steps.Missed why) passes = seek-comes (record ahead { notes = noting ahead.notes why }) (missed-noted why passes)
+    after_load-comes (steps.Broken refusal) refuses = refuses
 
     pack_read-comes : (pack : WantedPack) (answer : DiskAnswer) → Comes (pack_read goal ahead pack answer)
     pack_read-comes pack (answers.File bytes time) = by (is_pack (kind_of goal.id) bytes)
@@ -202,48 +201,34 @@ module _ (goal : Goal) (Failed : Type 0) (Refuses : Refusal → Type 0) where
         stored = at goal ahead (stages.StoringPack pack (record { kind = kind_of goal.id; bytes = bytes }))
 
         by : (b : Bool) → Comes (if b then stored else ends.Bad errors.LoadPack)
-        by true = (refl, noted)
+        by true = (refl, noted, tt)
         by false = tt
-    pack_read-comes pack (answers.Refused disk_errors.Absent) = (refl, noted)
+    pack_read-comes pack (answers.Refused disk_errors.Absent) = (refl, noted, tt)
     pack_read-comes pack answer = tt
 
-    behind_disk-comes : (stage : Stage) (answer : DiskAnswer) → (answer ≡ answers.Refused disk_errors.Failed → Failed)
-        → Comes (behind_disk goal ahead stage answer)
-    behind_disk-comes (stages.ReadingIndex place) answer fails = index_read-comes place answer fails
-    behind_disk-comes (stages.ReadingPack pack) answer fails = pack_read-comes pack answer
-    behind_disk-comes stage answer fails = (refl, noted)
-
-    behind_core-comes : (stage : Stage) (effect : Effect) → Comes (behind_core goal ahead stage effect)
-    behind_core-comes (stages.StoringIndex place file) effect =
-        at_search-comes ahead noted (search_stored goal ahead.notes place file effect)
-        (tried-sought goal ahead.notes.absent (shown_or_own place file (shown_behind place effect)))
-    behind_core-comes (stages.PassingIndex place why) effect = seek-comes ahead noted
-    behind_core-comes (stages.StoringPack pack file) effect =
-        given-comes (given_by goal.want goal.limit (unwrap_or (pack_behind pack effect) file) pack.offset)
-        (given_fits goal.want goal.limit (unwrap_or (pack_behind pack effect) file) pack.offset)
-    behind_core-comes (stages.PassingPack pack) effect = seek-comes (record ahead { notes = with_absent ahead.notes pack.slot pack.path }) noted
-    behind_core-comes stage effect = (refl, noted)
-
-    refused-comes : (stage : Stage) (refusal : Refusal) → ((event : Event) → ask_at stage ≡ asks.Core event → Refuses refusal)
-        → Comes (refused goal ahead stage refusal)
-    refused-comes (stages.ReadingIndex place) refusal refuses = (refl, noted)
-    refused-comes (stages.ReadingPack pack) refusal refuses = (refl, noted)
-    refused-comes (stages.StoringIndex place file) refusal refuses = refuses _ refl
-    refused-comes (stages.PassingIndex place why) refusal refuses = refuses _ refl
-    refused-comes (stages.StoringPack pack file) refusal refuses = refuses _ refl
-    refused-comes (stages.PassingPack pack) refusal refuses = refuses _ refl
-
-    by_answer-comes : (stage : Stage) (answer : Answer) → (answer ≡ told.Disk (answers.Refused disk_errors.Failed) → Failed)
+    by_answer-comes : (stage : Stage) (answer : Answer) → Passes Failed stage → (answer ≡ told.Disk (answers.Refused disk_errors.Failed) → Failed)
         → ((event : Event) (refusal : Refusal) → ask_at stage ≡ asks.Core event → answer ≡ told.Core (Err refusal) → Refuses refusal)
         → Comes (by_answer goal ahead stage answer)
-    by_answer-comes stage (told.Disk answer) fails refuses = behind_disk-comes stage answer (λ is. fails (ap (λ (a : DiskAnswer). told.Disk a) is))
-    by_answer-comes stage (told.Core (Ok effect)) fails refuses = behind_core-comes stage effect
-    by_answer-comes stage (told.Core (Err refusal)) fails refuses = refused-comes stage refusal (λ event is. refuses event refusal is refl)
+    by_answer-comes (stages.Loading loader) answer passes fails refuses =
+        after_load-comes (load.fed (kind_of goal.id) loader answer)
+        (loads.fed-comes Failed Refuses (kind_of goal.id) loader answer passes fails refuses)
+    by_answer-comes (stages.ReadingPack pack) (told.Disk answer) passes fails refuses = pack_read-comes pack answer
+    by_answer-comes (stages.ReadingPack pack) (told.Core answer) passes fails refuses = (refl, noted, tt)
+    by_answer-comes (stages.StoringPack pack file) (told.Core (Ok effect)) passes fails refuses =
+        given-comes (given_by goal.want goal.limit (unwrap_or (pack_behind pack effect) file) pack.offset)
+        (given_fits goal.want goal.limit (unwrap_or (pack_behind pack effect) file) pack.offset)
+    by_answer-comes (stages.PassingPack pack) (told.Core (Ok effect)) passes fails refuses =
+        seek-comes (record ahead { notes = with_absent ahead.notes pack.slot pack.path }) noted
+    by_answer-comes (stages.StoringPack pack file) (told.Core (Err refusal)) passes fails refuses = refuses _ refusal refl refl
+    by_answer-comes (stages.PassingPack pack) (told.Core (Err refusal)) passes fails refuses = refuses _ refusal refl refl
+    by_answer-comes (stages.StoringPack pack file) (told.Disk answer) passes fails refuses = (refl, noted, tt)
+    by_answer-comes (stages.PassingPack pack) (told.Disk answer) passes fails refuses = (refl, noted, tt)
 
 -- an answer to a trier: a failure that it notes was noted before, or is the answer; and so is a refusal that ends it
 pub fed-comes : (Failed : Type 0) (Refuses : Refusal → Type 0) (trier : Trier) (answer : Answer) → (trier.ahead.notes.failed ≡ true → Failed)
+    → Passes Failed trier.stage
     → (answer ≡ told.Disk (answers.Refused disk_errors.Failed) → Failed)
     → ((event : Event) (refusal : Refusal) → ask_of trier ≡ asks.Core event → answer ≡ told.Core (Err refusal) → Refuses refusal)
     → Comes trier.goal Failed Refuses (fed trier answer)
-fed-comes Failed Refuses trier answer noted fails refuses =
-    by_answer-comes trier.goal Failed Refuses trier.ahead noted trier.stage answer fails refuses
+fed-comes Failed Refuses trier answer noted passes fails refuses =
+    by_answer-comes trier.goal Failed Refuses trier.ahead noted trier.stage answer passes fails refuses

@@ -1,28 +1,24 @@
 -- How many turns the indices of a list take that are tried.
 use Rattle.std.proofs.Common.{ℕ, suc, ◌+◌, ◌*◌, ◌≤◌, ◌<◌, List, [], ◌∷◌, length, arith}
-use Rattle.gix_pack_files.specs.FileBytes.{FileBytes}
 use Rattle.gix_odb_events.specs.declared.loaded.SnapshotIndex.{SnapshotIndex}
 use Rattle.gix_odb_events.specs.declared.loaded.Todo.{Todo}
-use Rattle.gix_odb_events.specs.declared.event.Effect.{Effect}
 use Rattle.gix_odb_packs.specs.Search.{first_of, left_by, rest_behind, search, tried}
-use Rattle.gix_odb_packs.specs.TryOrder.{at_search, at_todo, index_stored, search_stored, seek}
+use Rattle.gix_odb_packs.specs.TryOrder.{at_search, at_todo, seek}
 use Rattle.gix_odb_packs.specs.declared.goal.Goal.{Goal}
 use Rattle.gix_odb_packs.specs.declared.search.AbsentFile.{AbsentFile}
 use Rattle.gix_odb_packs.specs.declared.search.Sought.{Sought}
 use Rattle.gix_odb_packs.specs.declared.search.Sought.TheVariants as searches
 use Rattle.gix_odb_packs.specs.declared.trier.Ahead.{Ahead}
-use Rattle.gix_odb_packs.specs.declared.trier.IndexPlace.{IndexPlace}
 use Rattle.gix_odb_packs.specs.declared.trier.Stage.{Stage}
 use Rattle.gix_odb_packs.specs.declared.trier.Stage.TheVariants as stages
 use Rattle.gix_odb_packs.specs.declared.trier.Tried.{Tried}
 use Rattle.gix_odb_packs.specs.declared.trier.Tried.TheVariants as ends
 use Rattle.gix_odb_packs.specs.declared.trier.Trier.{Trier}
+use Rattle.gix_odb_packs.proofs.LoadLaws.{loader_turns}
 
--- the index that stands next is read and stored or passed over, and so is its pack
+-- the index that stands next is loaded, and its pack is read and stored or passed over
 abbrev pub stage_turns : Stage → ℕ
-stage_turns (stages.ReadingIndex place) = 4
-stage_turns (stages.StoringIndex place file) = 3
-stage_turns (stages.PassingIndex place why) = 1
+stage_turns (stages.Loading loader) = 2 + loader_turns loader
 stage_turns (stages.ReadingPack pack) = 2
 stage_turns (stages.StoringPack pack file) = 1
 stage_turns (stages.PassingPack pack) = 1
@@ -40,9 +36,7 @@ TriesFor turns (ends.More trier) = trier_turns trier ≤ turns
 TriesFor turns tried = Unit {0}
 
 some_turns : (stage : Stage) → 0 < stage_turns stage
-some_turns (stages.ReadingIndex place) = omega arith
-some_turns (stages.StoringIndex place file) = omega arith
-some_turns (stages.PassingIndex place why) = omega arith
+some_turns (stages.Loading loader) = omega arith
 some_turns (stages.ReadingPack pack) = omega arith
 some_turns (stages.StoringPack pack file) = omega arith
 some_turns (stages.PassingPack pack) = omega arith
@@ -115,8 +109,8 @@ seek_tries turns goal ahead room =
     let fewer = left_turns sought (length left) (length ahead.indices) (4 * length ahead.todo) (search_leaves goal ahead.notes.absent ahead.indices) in
     search_tries turns goal (record ahead { indices = left }) sought (omega (arith, fewer))
 
--- an index that was stored is searched, for which two turns are had
-pub stored_tries : (turns : ℕ) (goal : Goal) (ahead : Ahead) (place : IndexPlace) (file : FileBytes) (effect : Effect) → 2 + ahead_turns ahead ≤ turns
-    → TriesFor turns (index_stored goal ahead place file effect)
-stored_tries turns goal ahead place file effect room =
-    let sought = search_stored goal ahead.notes place file effect in search_tries turns goal ahead sought (omega (arith, few_search_turns sought))
+-- an index that was loaded is searched, for which two turns are had
+pub loaded_tries : (turns : ℕ) (goal : Goal) (ahead : Ahead) (index : SnapshotIndex) → 2 + ahead_turns ahead ≤ turns
+    → TriesFor turns (at_search goal ahead (tried goal ahead.notes.absent index))
+loaded_tries turns goal ahead index room =
+    let sought = tried goal ahead.notes.absent index in search_tries turns goal ahead sought (omega (arith, few_search_turns sought))

@@ -2,10 +2,10 @@
 use Rattle.std.specs.Prelude.{Option, Some, None, if◌then◌else◌}
 use Rattle.gix_pack_files.specs.FileBytes.{FileBytes}
 use Rattle.gix_odb_events.specs.declared.loaded.SnapshotIndex.{SnapshotIndex}
-use Rattle.gix_odb_packs.specs.TryOrder.Index.{is_at}
+use Rattle.gix_odb_packs.specs.LoadOrder.{is_at}
 use Rattle.gix_odb_packs.specs.TryOrder.Pack.{pack_among}
 use Rattle.gix_odb_packs.specs.declared.search.WantedPack.{WantedPack}
-use Rattle.gix_odb_packs.specs.declared.trier.IndexPlace.{IndexPlace}
+use Rattle.gix_odb_packs.specs.declared.index_loader.IndexPlace.{IndexPlace}
 
 -- the index, where it stands at the path
 abbrev pub at_path : IndexPlace → Option SnapshotIndex → Option SnapshotIndex

@@ -5,5 +5,6 @@ pub mod Goal
 pub mod Spot
 pub mod Search
 pub mod AbsentPacks
+pub mod LoadOrder
 pub mod TryOrder
 pub mod InSlot

@@ -1,14 +1,13 @@
 -- The order of work in which the indices of a list are tried.
 pub mod Asked
 pub mod Seek
-pub mod Index
+pub mod Loading
 pub mod Pack
 use Rattle.std.specs.Prelude.{Ok, Err}
-use Rattle.odb_asks.specs.declared.ask.DiskAnswer.{DiskAnswer}
-use Rattle.gix_odb_events.specs.declared.event.Effect.{Effect}
-use Rattle.gix_odb_events.specs.declared.event.Refusal.{Refusal}
+use Rattle.gix_hash.specs.ObjectId.{kind_of}
 use Rattle.gix_odb_events.specs.declared.answer.Answer.{Answer}
 use Rattle.gix_odb_events.specs.declared.answer.Answer.TheVariants as told
+use Rattle.gix_odb_packs.specs.LoadOrder as load
 use Rattle.gix_odb_packs.specs.declared.goal.Goal.{Goal}
 use Rattle.gix_odb_packs.specs.declared.trier.Ahead.{Ahead}
 use Rattle.gix_odb_packs.specs.declared.trier.Stage.{Stage}
@@ -16,33 +15,21 @@ use Rattle.gix_odb_packs.specs.declared.trier.Stage.TheVariants as stages
 use Rattle.gix_odb_packs.specs.declared.trier.Tried.{Tried}
 use Rattle.gix_odb_packs.specs.declared.trier.Tried.TheVariants as ends
 use Rattle.gix_odb_packs.specs.declared.trier.Trier.{Trier}
-pub use Rattle.gix_odb_packs.specs.TryOrder.Asked.{read_of, pass_of, put_index, put_pack, ask_at, ask_of}
+pub use Rattle.gix_odb_packs.specs.TryOrder.Asked.{put_pack, ask_at, ask_of}
 pub use Rattle.gix_odb_packs.specs.TryOrder.Seek.{at, at_todo, at_search, seek}
-pub use Rattle.gix_odb_packs.specs.TryOrder.Index.{why_of, is_failed, noting, index_or_bad, index_missed, index_read, is_at, or_else, shown_in, shown_behind, own_index, shown_or_own, search_stored, index_stored}
+pub use Rattle.gix_odb_packs.specs.TryOrder.Loading.{is_failed, noting, after_load}
 pub use Rattle.gix_odb_packs.specs.TryOrder.Pack.{pack_or_bad, pack_read, by_given, pack_among, pack_in, pack_or, pack_shown, pack_behind, pack_stored, pack_passed}
 
-abbrev pub behind_disk : Goal → Ahead → Stage → DiskAnswer → Tried
-behind_disk goal ahead (stages.ReadingIndex place) answer = index_read goal ahead place answer
-behind_disk goal ahead (stages.ReadingPack pack) answer = pack_read goal ahead pack answer
-behind_disk goal ahead stage answer = at goal ahead stage
-
-abbrev pub behind_core : Goal → Ahead → Stage → Effect → Tried
-behind_core goal ahead (stages.StoringIndex place file) effect = index_stored goal ahead place file effect
-behind_core goal ahead (stages.PassingIndex place why) effect = seek goal ahead
-behind_core goal ahead (stages.StoringPack pack file) effect = pack_stored goal pack file effect
-behind_core goal ahead (stages.PassingPack pack) effect = pack_passed goal ahead pack
-behind_core goal ahead stage effect = at goal ahead stage
-
--- an event that is refused ends the work
-abbrev pub refused : Goal → Ahead → Stage → Refusal → Tried
-refused goal ahead (stages.ReadingIndex place) refusal = at goal ahead (stages.ReadingIndex place)
-refused goal ahead (stages.ReadingPack pack) refusal = at goal ahead (stages.ReadingPack pack)
-refused goal ahead stage refusal = ends.Broken refusal
-
+-- An index is loaded, then searched, and its pack is read and stored. The core may refuse an event, which ends the work. An answer of
+-- the other kind, of the disk or of the core, leaves the stage.
 abbrev pub by_answer : Goal → Ahead → Stage → Answer → Tried
-by_answer goal ahead stage (told.Disk answer) = behind_disk goal ahead stage answer
-by_answer goal ahead stage (told.Core (Ok effect)) = behind_core goal ahead stage effect
-by_answer goal ahead stage (told.Core (Err refusal)) = refused goal ahead stage refusal
+by_answer goal ahead (stages.Loading loader) answer = after_load goal ahead (load.fed (kind_of goal.id) loader answer)
+by_answer goal ahead (stages.ReadingPack pack) (told.Disk answer) = pack_read goal ahead pack answer
+by_answer goal ahead (stages.ReadingPack pack) (told.Core answer) = at goal ahead (stages.ReadingPack pack)
+by_answer goal ahead (stages.StoringPack pack file) (told.Core (Ok effect)) = pack_stored goal pack file effect
+by_answer goal ahead (stages.PassingPack pack) (told.Core (Ok effect)) = pack_passed goal ahead pack
+by_answer goal ahead stage (told.Core (Err refusal)) = ends.Broken refusal
+by_answer goal ahead stage (told.Disk answer) = at goal ahead stage
 
 abbrev pub fed : Trier → Answer → Tried
 fed trier answer = by_answer trier.goal trier.ahead trier.stage answer

@@ -1,8 +1,9 @@
 //! How packs are found among the files of a store: the folders are listed, and the indices of a list are tried.
 //!
-//! Both are machines: `Lister` names one call of the disk at a time, `Trier` one call of the disk or one event of the
-//! store's core; each takes the answer and goes on, or ends. A call on a handle drives them in the order that it has for
-//! them. `specs/{ListOrder,TryOrder}.antt` say in which order they work, `specs/Goal.antt` what an index and a pack give.
+//! Machines do it: `Lister` names one call of the disk at a time, `Trier` one call of the disk or one event of the store's
+//! core, and so does `IndexLoader`, by which `Trier` loads an index; each takes the answer and goes on, or ends. A call on a
+//! handle drives them in the order that it has for them. `specs/{ListOrder,LoadOrder,TryOrder}.antt` say in which order they
+//! work, `specs/Goal.antt` what an index and a pack give.
 //! ```rust
 //! let mut lister = Lister::start(alloc, &objects)?;
 //! let rows = loop {
@@ -18,6 +19,7 @@
 mod absent;
 mod folders;
 mod goal;
+mod index_loader;
 mod lister;
 pub mod longest_first;
 mod rest;
@@ -29,7 +31,8 @@ pub use absent::AbsentPacks;
 pub use folders::pack_folder;
 pub use gix_odb_events::{Answer, Ask};
 pub use goal::{Error, Found, Goal};
+pub use index_loader::{IndexLoader, IndexPlace, LoadStep};
 pub use lister::{EntryList, ListHead, ListStage, ListStep, Lister};
 pub use rest::Rest;
 pub use search::{AbsentFile, Notes, WantedPack};
-pub use trier::{Ahead, IndexPlace, Stage, Tried, Trier};
+pub use trier::{Ahead, Stage, Tried, Trier};

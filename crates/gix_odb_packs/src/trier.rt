@@ -1,22 +1,25 @@
 //! The indices of a list are tried, one after another, until one leads to the object.
 ghost use Rattle.std.specs.Prelude.{◌≡◌, IfOk};
-ghost use Rattle.gix_odb_packs.specs.TryOrder.{ask_of, at_search, at_todo, behind_core, behind_disk, seek};
+ghost use Rattle.gix_odb_packs.specs.LoadOrder as load;
+ghost use Rattle.gix_odb_packs.specs.TryOrder.{ask_of, at_search, at_todo, seek};
 ghost use Rattle.gix_odb_packs.specs.TryOrder as order;
 
+mod loading;
 mod read;
 mod stored;
 
 use crate::goal::{Error, Found, Goal};
+use crate::index_loader::{IndexLoader, IndexPlace, pass_of, read_of};
 use crate::search::{Notes, Sought, WantedPack};
 use gix_odb_events::{
-    Answer, Ask, Effect, Event, LoadedRest, PackId, PassWhy, Refusal, Shared, Todo, TodoRest,
+    Answer, Ask, Event, LoadedRest, PackId, PassWhy, Refusal, Shared, Todo, TodoRest,
 };
-use gix_pack_files::{data, index};
-use odb_asks::{DiskAnswer, DiskAsk};
-use odb_base::{NoMemory, PathText};
-use read::{index_read, pack_read};
+use gix_pack_files::data;
+use loading::after_load;
+use odb_base::NoMemory;
+use read::pack_read;
 use std::alloc::Global;
-use stored::{index_stored, pack_passed, pack_stored};
+use stored::{pack_passed, pack_stored};
 
 /// Trying the indices of a list on its way.
 ///
@@ -41,18 +44,8 @@ pub struct Ahead {
 /// Where the work stands.
 #[derive(Drop)]
 pub enum Stage {
-    /// An index is to be read.
-    ReadingIndex(IndexPlace),
-    /// It was read, and is to be stored.
-    StoringIndex {
-        place: IndexPlace,
-        file: Shared<index::File>,
-    },
-    /// It could not be read, which is to be noted.
-    PassingIndex {
-        place: IndexPlace,
-        why: PassWhy,
-    },
+    /// An index is being loaded.
+    Loading(IndexLoader),
     /// A pack is to be read.
     ReadingPack(WantedPack),
     /// It was read, and is to be stored.
@@ -62,13 +55,6 @@ pub enum Stage {
     },
     /// It was absent, which is to be noted.
     PassingPack(WantedPack),
-}
-
-/// Where an index is: its slot, and its path.
-#[derive(Drop)]
-pub struct IndexPlace {
-    pub slot: u16,
-    pub path: PathText,
 }
 
 /// What trying comes to.
@@ -84,32 +70,6 @@ pub enum Tried {
     Bad(Error),
     /// The core refused a file.
     Broken(Refusal),
-}
-
-/// A copy of a path, as the call of the disk that reads it.
-fn read_of(alloc: Global, path: &PathText) -> Result<Ask, NoMemory>
-    ensures asks { IfOk result (λ ask. ask ≡ order.read_of path.now) }
-{
-    let path = path.try_clone(alloc)?;
-    Ok(Ask::Disk(DiskAsk::Read { path }))
-}
-
-/// The event that a file of a slot could not be read.
-fn pass_of(alloc: Global, slot: u16, path: &PathText, why: PassWhy) -> Result<Ask, NoMemory>
-    ensures asks { IfOk result (λ ask. ask ≡ order.pass_of slot path.now why) }
-{
-    let path = path.try_clone(alloc)?;
-    Ok(Ask::Core(Event::PassOver { slot, path, why }))
-}
-
-/// The event that an index was read.
-fn put_index(alloc: Global, place: &IndexPlace, file: &Shared<index::File>) -> Result<Ask, NoMemory>
-    ensures asks { IfOk result (λ ask. ask ≡ order.put_index place.now file.now) }
-{
-    let file = file.try_clone()?;
-    let path = place.path.try_clone(alloc)?;
-    let slot = place.slot;
-    Ok(Ask::Core(Event::PutIndex { slot, path, file }))
 }
 
 /// The event that a pack was read.
@@ -149,9 +109,7 @@ impl Trier {
         ensures asked { IfOk result (λ ask. ask ≡ ask_of self.now) }
     {
         match &self.stage {
-            Stage::ReadingIndex(place) => read_of(alloc, &place.path),
-            Stage::StoringIndex { place, file } => put_index(alloc, place, file),
-            Stage::PassingIndex { place, why } => pass_of(alloc, place.slot, &place.path, *why),
+            Stage::Loading(loader) => loader.ask(alloc),
             Stage::ReadingPack(pack) => read_of(alloc, &pack.path),
             Stage::StoringPack { pack, file } => put_pack(alloc, pack, file),
             Stage::PassingPack(pack) => { pass_of(alloc, pack.slot, &pack.path, PassWhy::Absent) }
@@ -163,13 +121,13 @@ impl Trier {
         ensures fed { IfOk result (λ tried. tried ≡ order.fed self answer) }
     {
         let Trier { goal, ahead, stage } = self;
-        match answer {
-            Answer::Disk(answer) => behind_disk(alloc, goal, ahead, stage, answer),
-            Answer::Core(answer) => {
-                let tried = behind_event(alloc, goal, ahead, stage, &answer);
-                drop(answer);
-                tried
+        match stage {
+            Stage::Loading(loader) => fed_loading(alloc, goal, ahead, loader, answer),
+            Stage::ReadingPack(pack) => fed_reading(alloc, goal, ahead, pack, answer),
+            Stage::StoringPack { pack, file } => {
+                fed_storing(alloc, goal, ahead, pack, file, answer)
             }
+            Stage::PassingPack(pack) => fed_passing(alloc, goal, ahead, pack, answer),
         }
     }
 }
@@ -181,83 +139,109 @@ fn at(goal: Goal, ahead: Ahead, stage: Stage) -> Tried
     Tried::More(Trier { goal, ahead, stage })
 }
 
-/// What it comes to behind an answer of the disk.
-fn behind_disk(
+/// What it comes to after an answer to the loading of an index.
+fn fed_loading(
     alloc: Global,
     goal: Goal,
     ahead: Ahead,
-    stage: Stage,
-    answer: DiskAnswer,
+    loader: IndexLoader,
+    answer: Answer,
 ) -> Result<Tried, NoMemory>
-    ensures fed { IfOk result (λ tried. tried ≡ behind_disk goal ahead stage answer) }
+    ensures fed { IfOk result (λ tried. tried ≡ order.by_answer goal ahead (Stage.Loading loader) answer) }
 {
-    match stage {
-        Stage::ReadingIndex(place) => index_read(alloc, goal, ahead, place, answer),
-        Stage::ReadingPack(pack) => pack_read(alloc, goal, ahead, pack, answer),
-        stage => Ok(at(goal, ahead, stage)),
+    match loader.feed(alloc, goal.id.kind(), answer) {
+        Ok(step) => after_load(alloc, goal, ahead, step),
+        Err(error) => {
+            drop(ahead);
+            Err(error)
+        }
     }
 }
 
-/// What it comes to behind an event. Want of memory ends it.
-fn behind_event(
+/// What it comes to after the read of a pack.
+fn fed_reading(
     alloc: Global,
     goal: Goal,
     ahead: Ahead,
-    stage: Stage,
-    answer: &Result<Effect, Refusal>,
+    pack: WantedPack,
+    answer: Answer,
 ) -> Result<Tried, NoMemory>
-    ensures fed { IfOk result (λ tried. tried ≡ order.by_answer goal ahead stage (Answer.Core answer.now)) }
+    ensures fed { IfOk result (λ tried. tried ≡ order.by_answer goal ahead (Stage.ReadingPack pack) answer) }
 {
     match answer {
-        Ok(effect) => behind_core(alloc, goal, ahead, stage, effect),
-        Err(Refusal::NoMemory) => {
-            drop(ahead);
-            drop(stage);
-            Err(NoMemory)
+        Answer::Disk(answer) => pack_read(alloc, goal, ahead, pack, answer),
+        Answer::Core(answer) => {
+            drop(answer);
+            Ok(at(goal, ahead, Stage::ReadingPack(pack)))
         }
-        Err(refusal) => Ok(refused(goal, ahead, stage, *refusal)),
     }
 }
 
-/// What it comes to behind an event that wasn't refused.
-fn behind_core(
+/// What it comes to after a pack was to be stored.
+fn fed_storing(
     alloc: Global,
     goal: Goal,
     ahead: Ahead,
-    stage: Stage,
-    effect: &Effect,
+    pack: WantedPack,
+    file: Shared<data::File>,
+    answer: Answer,
 ) -> Result<Tried, NoMemory>
-    ensures fed { IfOk result (λ tried. tried ≡ behind_core goal ahead stage effect.now) }
+    ensures fed { IfOk result (λ tried. tried ≡ order.by_answer goal ahead (Stage.StoringPack pack file) answer) }
 {
-    match stage {
-        Stage::StoringIndex { place, file } => index_stored(
-            alloc, goal, ahead, place, file, effect,
-        ),
-        Stage::PassingIndex { place, .. } => {
-            drop(place);
-            seek(alloc, goal, ahead)
-        }
-        Stage::StoringPack { pack, file } => {
+    match answer {
+        Answer::Core(Ok(effect)) => {
             drop(ahead);
-            pack_stored(alloc, goal, pack, file, effect)
+            let tried = pack_stored(alloc, goal, pack, file, &effect);
+            drop(effect);
+            tried
         }
-        Stage::PassingPack(pack) => pack_passed(alloc, goal, ahead, pack),
-        stage => Ok(at(goal, ahead, stage)),
+        Answer::Core(Err(refusal)) => {
+            drop(ahead);
+            drop(pack);
+            drop(file);
+            broken(refusal)
+        }
+        Answer::Disk(answer) => {
+            drop(answer);
+            Ok(at(goal, ahead, Stage::StoringPack { pack, file }))
+        }
     }
 }
 
-/// What it comes to behind an event that was refused.
-fn refused(goal: Goal, ahead: Ahead, stage: Stage, refusal: Refusal) -> Tried
-    ensures refused { result ≡ order.refused goal ahead stage refusal }
+/// What it comes to after a pack was to be passed over.
+fn fed_passing(
+    alloc: Global,
+    goal: Goal,
+    ahead: Ahead,
+    pack: WantedPack,
+    answer: Answer,
+) -> Result<Tried, NoMemory>
+    ensures fed { IfOk result (λ tried. tried ≡ order.by_answer goal ahead (Stage.PassingPack pack) answer) }
 {
-    match stage {
-        Stage::ReadingIndex(place) => at(goal, ahead, Stage::ReadingIndex(place)),
-        Stage::ReadingPack(pack) => at(goal, ahead, Stage::ReadingPack(pack)),
-        stage => {
-            drop(ahead);
-            drop(stage);
-            Tried::Broken(refusal)
+    match answer {
+        Answer::Core(Ok(effect)) => {
+            drop(effect);
+            pack_passed(alloc, goal, ahead, pack)
         }
+        Answer::Core(Err(refusal)) => {
+            drop(ahead);
+            drop(pack);
+            broken(refusal)
+        }
+        Answer::Disk(answer) => {
+            drop(answer);
+            Ok(at(goal, ahead, Stage::PassingPack(pack)))
+        }
+    }
+}
+
+/// An event that was refused ends the work. So does want of memory.
+fn broken(refusal: Refusal) -> Result<Tried, NoMemory>
+    ensures broken { IfOk result (λ tried. tried ≡ Tried.Broken refusal) }
+{
+    match refusal {
+        Refusal::NoMemory => Err(NoMemory),
+        refusal => Ok(Tried::Broken(refusal)),
     }
 }
 
@@ -287,12 +271,12 @@ fn at_search(alloc: Global, goal: Goal, ahead: Ahead, found: Sought) -> Result<T
     }
 }
 
-/// The next index that is still to be loaded is read, if there is one.
+/// The next index that is still to be loaded is loaded, if there is one.
 fn at_todo(alloc: Global, goal: Goal, mut ahead: Ahead) -> Result<Tried, NoMemory>
     ensures at { IfOk result (λ tried. tried ≡ at_todo goal ahead ahead.todo) }
 {
     match ahead.todo.pop() {
-        Ok(Some(todo)) => reading(alloc, goal, ahead, &todo),
+        Ok(Some(todo)) => at_index(alloc, goal, ahead, &todo),
         Ok(None) => Ok(missed(ahead)),
         Err(error) => {
             drop(ahead);
@@ -301,13 +285,12 @@ fn at_todo(alloc: Global, goal: Goal, mut ahead: Ahead) -> Result<Tried, NoMemor
     }
 }
 
-/// An index that is still to be loaded is read.
-fn reading(alloc: Global, goal: Goal, ahead: Ahead, todo: &Todo) -> Result<Tried, NoMemory>
-    ensures reads { IfOk result (λ tried. tried ≡ order.at goal ahead (Stage.ReadingIndex (record { slot = todo.now.slot; path = todo.now.path }))) }
+/// An index that is still to be loaded is loaded.
+fn at_index(alloc: Global, goal: Goal, ahead: Ahead, todo: &Todo) -> Result<Tried, NoMemory>
+    ensures loads { IfOk result (λ tried. tried ≡ order.at goal ahead (Stage.Loading (IndexLoader.Reading (load.place_of todo.now)))) }
 {
-    let slot = todo.slot;
-    match todo.path.value().try_clone(alloc) {
-        Ok(path) => Ok(at(goal, ahead, Stage::ReadingIndex(IndexPlace { slot, path }))),
+    match IndexPlace::of(alloc, todo) {
+        Ok(place) => Ok(at(goal, ahead, Stage::Loading(IndexLoader::start(place)))),
         Err(error) => {
             drop(ahead);
             Err(error)

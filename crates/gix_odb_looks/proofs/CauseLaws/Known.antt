@@ -19,6 +19,7 @@ use Rattle.gix_odb_packs.specs.declared.goal.Error as pack
 use Rattle.gix_odb_packs.specs.declared.goal.Error.TheVariants as pack_errors
 use Rattle.gix_odb_packs.specs.declared.goal.Found.{Found}
 use Rattle.gix_odb_packs.specs.declared.goal.Found.TheVariants as found
+use Rattle.gix_odb_packs.proofs.TrierLaws.{Passes}
 use Rattle.gix_odb_calls.specs.Verdict.{asking, refused, verdict_on}
 use Rattle.gix_odb_calls.specs.declared.call.CallError.TheVariants as call_errors
 use Rattle.gix_odb_calls.specs.declared.call.Reply.{Reply}
@@ -75,7 +76,7 @@ module _ (Shown : Path → List ℕ → Type 0) (setting : Setting) (hash : Kind
 
   -- what is known at each stage
   abbrev pub KnowsAt : LookHead → LookStage → Type 0
-  KnowsAt head (stages.Trying trier part) = Noted exchanges trier.ahead.notes × ShowedPart head part
+  KnowsAt head (stages.Trying trier part) = Noted exchanges trier.ahead.notes × ShowedPart head part × Passes (HasFailed exchanges) trier.stage
   KnowsAt head (stages.Loose round call) = Noted exchanges round.notes × ShowedPart head round.part
   KnowsAt head (stages.Looking purpose notes) = Noted exchanges notes
   KnowsAt head (stages.Listing lister base notes) = Noted exchanges notes × HasBegun head × Breaks exchanges lister.stage

@@ -18,6 +18,7 @@ use Rattle.gix_odb_events.specs.declared.listing.Listing.{Listing}
 use Rattle.gix_odb_events.specs.declared.loaded.Todo.{Todo}
 use Rattle.gix_odb_packs.specs.TryOrder as tries
 use Rattle.gix_odb_packs.specs.TryOrder.{seek}
+use Rattle.gix_odb_packs.specs.declared.index_loader.IndexLoader.TheVariants as loaders
 use Rattle.gix_odb_packs.specs.declared.trier.Stage.{Stage as TryStage}
 use Rattle.gix_odb_packs.specs.declared.trier.Stage.TheVariants as try_stages
 use Rattle.gix_odb_events.specs.declared.answer.Answer.{Answer}
@@ -251,9 +252,9 @@ module _ (setting : Setting) (slots before : ℕ) (head : LookHead) where
         by (stages.Done reply) answer later asked numbered is = tt
 
 try_publishes_none : (stage : TryStage) (listing : Listing) → ¬ (tries.ask_at stage ≡ asks.Core (events.Publish listing))
-try_publishes_none (try_stages.ReadingIndex place) listing is = cc is
-try_publishes_none (try_stages.StoringIndex place file) listing is = cc is
-try_publishes_none (try_stages.PassingIndex place why) listing is = cc is
+try_publishes_none (try_stages.Loading (loaders.Reading place)) listing is = cc is
+try_publishes_none (try_stages.Loading (loaders.Storing place file)) listing is = cc is
+try_publishes_none (try_stages.Loading (loaders.Passing place why)) listing is = cc is
 try_publishes_none (try_stages.ReadingPack pack) listing is = cc is
 try_publishes_none (try_stages.StoringPack pack file) listing is = cc is
 try_publishes_none (try_stages.PassingPack pack) listing is = cc is

@@ -10,6 +10,7 @@ use Rattle.gix_odb_packs.specs.TryOrder.{by_answer}
 use Rattle.gix_odb_events.specs.declared.answer.Answer.TheVariants as told
 use Rattle.gix_odb_events.specs.declared.answer.Ask.TheVariants as asks
 use Rattle.gix_odb_packs.specs.declared.goal.Goal.{Goal}
+use Rattle.gix_odb_packs.specs.declared.index_loader.IndexLoader.TheVariants as loaders
 use Rattle.gix_odb_packs.specs.declared.trier.Ahead.{Ahead}
 use Rattle.gix_odb_packs.specs.declared.trier.Stage.{Stage}
 use Rattle.gix_odb_packs.specs.declared.trier.Stage.TheVariants as try_stages
@@ -33,9 +34,9 @@ module _ (setting : Setting) (event : Event) (refusal : Refusal) where
 
   trier_ends : (head : LookHead) (part : Part) (goal : Goal) (ahead : Ahead) (stage : Stage) → tries.ask_at stage ≡ asks.Core event
       → Ends (record { head = head; stage = by_tried setting head part (by_answer goal ahead stage (told.Core (Err refusal))) })
-  trier_ends head part goal ahead (try_stages.ReadingIndex place) asked = absurd (cc asked)
-  trier_ends head part goal ahead (try_stages.StoringIndex place file) asked = refl
-  trier_ends head part goal ahead (try_stages.PassingIndex place why) asked = refl
+  trier_ends head part goal ahead (try_stages.Loading (loaders.Reading place)) asked = absurd (cc asked)
+  trier_ends head part goal ahead (try_stages.Loading (loaders.Storing place file)) asked = refl
+  trier_ends head part goal ahead (try_stages.Loading (loaders.Passing place why)) asked = refl
   trier_ends head part goal ahead (try_stages.ReadingPack pack) asked = absurd (cc asked)
   trier_ends head part goal ahead (try_stages.StoringPack pack file) asked = refl
   trier_ends head part goal ahead (try_stages.PassingPack pack) asked = refl

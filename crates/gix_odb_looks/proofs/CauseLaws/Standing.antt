@@ -46,7 +46,7 @@ use Rattle.gix_odb_looks.specs.declared.look_up.Purpose.TheVariants as purposes
 use Rattle.gix_odb_looks.proofs.CauseLaws.Folders.{GoesToFolder, IsAtFolder, fed-goes, first_folder, folder_has_reply, later_folder}
 use Rattle.gix_odb_looks.proofs.CauseLaws.Replies.{EndsWell, found_replies, not_found_replies, refused_replies, verdict_ends_well}
 use Rattle.gix_odb_looks.specs.Reply.{IsReplyTo}
-use Rattle.gix_odb_packs.proofs.TrierLaws.{Comes, Fits, fed-comes, seek-comes}
+use Rattle.gix_odb_packs.proofs.TrierLaws.{Comes, Fits, failed-passes, fed-comes, seek-comes}
 
 -- ---- what is so at each stage
 
@@ -189,7 +189,7 @@ fed_at-stand : (setting : Setting) (head : LookHead) (stage : LookStage) (answer
     → StandsAt setting head.want head.id (fed_at setting head stage answer).stage
 fed_at-stand setting head (stages.Trying trier part) answer is =
     by_tried-stand setting head part trier.goal is (trier_fed trier answer)
-    (fed-comes (Unit {0}) (λ refusal. Unit {0}) trier answer (λ so. tt) (λ so. tt) (λ event refusal asked so. tt))
+    (fed-comes (Unit {0}) (λ refusal. Unit {0}) trier answer (λ so. tt) (failed-passes (Unit {0}) tt trier.stage) (λ so. tt) (λ event refusal asked so. tt))
 fed_at-stand setting head (stages.Loose round call) (told.Disk answer) is = by_call-stand setting head round call is answer
 fed_at-stand setting head (stages.Loose round call) (told.Core answer) is = is
 fed_at-stand setting head (stages.Listing lister base notes) (told.Disk answer) is =

@@ -27,6 +27,7 @@ use Rattle.gix_odb_packs.specs.declared.lister.ListStep.TheVariants as listed
 use Rattle.gix_odb_packs.specs.declared.search.Notes.{Notes}
 use Rattle.gix_odb_packs.specs.declared.trier.Ahead.{Ahead}
 use Rattle.gix_odb_packs.specs.declared.goal.Goal.{Goal}
+use Rattle.gix_odb_packs.specs.declared.index_loader.IndexLoader.TheVariants as loaders
 use Rattle.gix_odb_packs.proofs.TrierLaws.{Comes, fed-comes, seek-comes}
 use Rattle.gix_odb_looks.specs.Caused.{IsRefused}
 use Rattle.gix_odb_looks.specs.Exchange.{HasFailed}
@@ -102,7 +103,7 @@ module _ (Shown : Path → List ℕ → Type 0) (setting : Setting) (hash : Kind
 
     by_tried-known : (part : Part) → ShowedPart head part → (goal : Goal) (t : Tried) → Comes goal (HasFailed exchanges) Refuses t
         → Knows head (by_tried setting head part t)
-    by_tried-known part showed goal (tried.More trier) tells = (tells.1, showed)
+    by_tried-known part showed goal (tried.More trier) tells = (tells.1, showed, tells.2)
     by_tried-known part showed goal (tried.Hit found) tells = found_explained Shown setting hash id exchanges head.want found
     by_tried-known part showed goal (tried.Missed notes) tells = after_list-known part notes tells showed
     by_tried-known part showed goal (tried.Bad error) tells = bad_explained Shown setting hash id exchanges head.want error
@@ -234,9 +235,9 @@ module _ (Shown : Path → List ℕ → Type 0) (setting : Setting) (hash : Kind
     -- ---- the indices of a list
 
     trier_publishes_none : (stage : TryStage) (answer : Answer) → is_publish (tries.ask_at stage) answer ≡ 0
-    trier_publishes_none (try_stages.ReadingIndex place) answer = refl
-    trier_publishes_none (try_stages.StoringIndex place file) answer = refl
-    trier_publishes_none (try_stages.PassingIndex place why) answer = refl
+    trier_publishes_none (try_stages.Loading (loaders.Reading place)) answer = refl
+    trier_publishes_none (try_stages.Loading (loaders.Storing place file)) answer = refl
+    trier_publishes_none (try_stages.Loading (loaders.Passing place why)) answer = refl
     trier_publishes_none (try_stages.ReadingPack pack) answer = refl
     trier_publishes_none (try_stages.StoringPack pack file) answer = refl
     trier_publishes_none (try_stages.PassingPack pack) answer = refl
@@ -248,7 +249,7 @@ module _ (Shown : Path → List ℕ → Type 0) (setting : Setting) (hash : Kind
         let was = was_told (stages.Trying trier part) answer t (tries.ask_of trier) refl in (
           quiet (stages.Trying trier part) answer t (tries.ask_of trier) refl (trier_publishes_none trier.stage answer),
           by_tried-known head part knows.1 trier.goal (trier_fed trier answer)
-              (fed-comes (HasFailed exchanges) Refuses trier answer knows.0
+              (fed-comes (HasFailed exchanges) Refuses trier answer knows.0 knows.2
               (HasFailed-from_told exchanges (tries.ask_of trier) answer was)
               (λ event refusal asked is. record { event = event; told = told_so (tries.ask_of trier) answer event refusal asked is was })),
         )

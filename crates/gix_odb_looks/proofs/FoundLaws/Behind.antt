@@ -12,6 +12,7 @@ use Rattle.gix_odb_packs.specs.ListOrder as lists
 use Rattle.gix_odb_packs.specs.TryOrder as tries
 use Rattle.gix_odb_events.specs.declared.answer.Ask.TheVariants as asks
 use Rattle.gix_odb_events.specs.declared.answer.Ask.{Ask}
+use Rattle.gix_odb_packs.specs.declared.index_loader.IndexLoader.TheVariants as loaders
 use Rattle.gix_odb_packs.specs.declared.trier.Stage.TheVariants as tries_stages
 use Rattle.gix_odb_packs.specs.declared.trier.Stage.{Stage}
 use Rattle.gix_odb_calls.specs.declared.call.CallError.TheVariants as call_errors
@@ -41,7 +42,7 @@ disk_hands Shown setting hash (Some own) ask is = let same : asks.Disk own ≡ a
 
 module _ (Shown : Path → List ℕ → Type 0) (setting : Setting) (hash : Kind) (want : Want) (id : ObjectId) where
   trier_hands : (stage : Stage) → KnowsStage Shown setting hash id stage → IsHandedBy Shown setting hash (tries.ask_at stage)
-  trier_hands (tries_stages.StoringIndex place file) here = here
+  trier_hands (tries_stages.Loading (loaders.Storing place file)) here = here
   trier_hands (tries_stages.StoringPack pack file) here = here.1
   trier_hands stage here = tt
 

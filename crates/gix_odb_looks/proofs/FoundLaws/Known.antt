@@ -10,6 +10,10 @@ use Rattle.gix_odb_packs.specs.PackFolder.{pack_folder}
 use Rattle.gix_odb_packs.specs.declared.goal.Error as goals
 use Rattle.gix_odb_packs.specs.declared.goal.Found.{Found}
 use Rattle.gix_odb_packs.specs.declared.goal.Goal.{Goal}
+use Rattle.gix_odb_packs.specs.declared.index_loader.IndexLoader.{IndexLoader}
+use Rattle.gix_odb_packs.specs.declared.index_loader.IndexLoader.TheVariants as loaders
+use Rattle.gix_odb_packs.specs.declared.index_loader.LoadStep.{LoadStep}
+use Rattle.gix_odb_packs.specs.declared.index_loader.LoadStep.TheVariants as load_steps
 use Rattle.gix_odb_packs.specs.declared.lister.ListHead.{ListHead}
 use Rattle.gix_odb_packs.specs.declared.lister.ListStage.{ListStage}
 use Rattle.gix_odb_packs.specs.declared.lister.ListStage.TheVariants as list_stages
@@ -82,6 +86,21 @@ module _ (setting : Setting) where
   KnowsListStep (list_steps.Rows rows) = All (IsIndexRow setting) rows
   KnowsListStep list_steps.Broken = Unit {0}
 
+-- ---- indices
+
+module _ (Shown : Path → List ℕ → Type 0) (setting : Setting) (hash : Kind) where
+  -- the index that is loaded is at the path of one, and what is stored was shown there
+  abbrev pub KnowsLoader : IndexLoader → Type 0
+  KnowsLoader (loaders.Reading place) = IsIndexPath setting place.path
+  KnowsLoader (loaders.Storing place file) = IsIndexPath setting place.path × IsIndexShownAt Shown setting hash place.path file
+  KnowsLoader (loaders.Passing place why) = Unit {0}
+
+  abbrev pub KnowsLoadStep : LoadStep → Type 0
+  KnowsLoadStep (load_steps.More loader) = KnowsLoader loader
+  KnowsLoadStep (load_steps.Loaded index) = IsIndexShown Shown setting hash index
+  KnowsLoadStep (load_steps.Missed why) = Unit {0}
+  KnowsLoadStep (load_steps.Broken refusal) = Unit {0}
+
 -- ---- packs
 
 module _ (Shown : Path → List ℕ → Type 0) (setting : Setting) (hash : Kind) (id : ObjectId) where
@@ -97,9 +116,7 @@ module _ (Shown : Path → List ℕ → Type 0) (setting : Setting) (hash : Kind
     pub todo : All (IsIndexTodo setting) ahead.todo
 
   abbrev pub KnowsStage : Stage → Type 0
-  KnowsStage (stages.ReadingIndex place) = IsIndexPath setting place.path
-  KnowsStage (stages.StoringIndex place file) = IsIndexPath setting place.path × IsIndexShownAt Shown setting hash place.path file
-  KnowsStage (stages.PassingIndex place why) = Unit {0}
+  KnowsStage (stages.Loading loader) = KnowsLoader Shown setting hash loader
   KnowsStage (stages.ReadingPack pack) = IsWanted pack
   KnowsStage (stages.StoringPack pack file) = IsWanted pack × IsPackShownAt Shown setting hash pack.path file
   KnowsStage (stages.PassingPack pack) = Unit {0}

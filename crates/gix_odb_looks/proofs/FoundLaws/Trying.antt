@@ -1,6 +1,6 @@
 -- While the indices of a list are tried, what is known of them is kept by each answer.
 use Rattle.std.proofs.Common.{◌≡◌, ℕ, Bool, true, false, cond, List, [], ◌∷◌, All, unwrap_or, Some, Result, Ok, Err}
-use Rattle.std.proofs.Common.{refl, subst, inl, inr}
+use Rattle.std.proofs.Common.{refl, sym, subst, inl, inr}
 use Rattle.std.proofs.lemmas.List.Elements.{All-head, All-tail}
 use Rattle.odb_base.specs.Path.{Path}
 use Rattle.odb_nodes.specs.declared.disk_error.DiskError.TheVariants as disk_errors
@@ -10,27 +10,27 @@ use Rattle.gix_hash.specs.ObjectId.{kind_of}
 use Rattle.gix_hash.specs.declared.kind.Kind.{Kind}
 use Rattle.gix_hash.specs.declared.object_id.ObjectId.{ObjectId}
 use Rattle.gix_pack_files.specs.FileBytes.{FileBytes}
-use Rattle.gix_pack_files.specs.Index.{is_index}
 use Rattle.gix_pack_files.specs.Pack.{is_pack}
 use Rattle.gix_odb_events.specs.declared.loaded.Todo.{Todo}
 use Rattle.gix_odb_events.specs.Answers.{view_in}
 use Rattle.gix_odb_events.specs.declared.event.Effect.{Effect}
-use Rattle.gix_odb_events.specs.declared.event.PassWhy.TheVariants as whys
-use Rattle.gix_odb_events.specs.declared.event.Refusal.{Refusal}
 use Rattle.gix_odb_events.specs.declared.view.View.{View}
 use Rattle.gix_odb_packs.specs.Goal.{given_by}
 use Rattle.gix_odb_packs.specs.Search.{rest_behind, search, tried, with_absent}
-use Rattle.gix_odb_packs.specs.TryOrder.{ask_at, at, at_search, at_todo, behind_core, behind_disk, by_answer, by_given, index_read, noting}
-use Rattle.gix_odb_packs.specs.TryOrder.{pack_behind, pack_read, read_of, refused, seek, shown_behind, shown_or_own, why_of}
+use Rattle.gix_odb_packs.specs.LoadOrder as load
+use Rattle.gix_odb_packs.specs.LoadOrder.{place_of, read_of}
+use Rattle.gix_odb_packs.specs.TryOrder.{after_load, ask_at, at, at_todo, by_answer, by_given, noting, pack_behind, pack_read, seek}
 use Rattle.gix_odb_events.specs.declared.answer.Answer.{Answer}
 use Rattle.gix_odb_events.specs.declared.answer.Answer.TheVariants as told
 use Rattle.gix_odb_packs.specs.declared.goal.Error as goals
 use Rattle.gix_odb_packs.specs.declared.goal.Error.TheVariants as pack_errors
 use Rattle.gix_odb_packs.specs.declared.goal.Found.{Found}
 use Rattle.gix_odb_packs.specs.declared.goal.Goal.{Goal}
+use Rattle.gix_odb_packs.specs.declared.index_loader.IndexLoader.TheVariants as loaders
+use Rattle.gix_odb_packs.specs.declared.index_loader.LoadStep.{LoadStep}
+use Rattle.gix_odb_packs.specs.declared.index_loader.LoadStep.TheVariants as load_steps
 use Rattle.gix_odb_packs.specs.declared.search.WantedPack.{WantedPack}
 use Rattle.gix_odb_packs.specs.declared.trier.Ahead.{Ahead}
-use Rattle.gix_odb_packs.specs.declared.trier.IndexPlace.{IndexPlace}
 use Rattle.gix_odb_packs.specs.declared.trier.Stage.{Stage}
 use Rattle.gix_odb_packs.specs.declared.trier.Stage.TheVariants as stages
 use Rattle.gix_odb_packs.specs.declared.trier.Tried.{Tried}
@@ -40,11 +40,12 @@ use Rattle.gix_object.specs.declared.want.Want.{Want}
 use Rattle.gix_odb_looks.specs.Caused.{IsNoPack, IsUnloaded}
 use Rattle.gix_odb_looks.specs.Exchange.{Exchange, WasTold}
 use Rattle.gix_odb_looks.specs.LookUpOrder.{Setting}
-use Rattle.gix_odb_looks.specs.Shown.{IsIndexPath, IsIndexShownAt, IsPackShownAt, IsIndexShown, IsShownView}
+use Rattle.gix_odb_looks.specs.Shown.{IsPackShownAt, IsIndexShown, IsShownView}
 use Rattle.gix_odb_looks.specs.True.{IsTrue}
-use Rattle.gix_odb_looks.proofs.FoundLaws.Known.{IsCausedHere, IsFoundHere, IsIndexTodo, IsWanted, KnowsAhead, KnowsGiven, KnowsStage, KnowsTried, goal_for}
+use Rattle.gix_odb_looks.proofs.FoundLaws.Known.{IsCausedHere, IsFoundHere, IsIndexTodo, IsWanted, KnowsAhead, KnowsGiven, KnowsLoadStep, KnowsStage, KnowsTried, goal_for}
 use Rattle.gix_odb_looks.proofs.FoundLaws.Indices.{given_known, tried_known}
-use Rattle.gix_odb_looks.proofs.FoundLaws.Views.{index_shown, pack_loaded, views_shown}
+use Rattle.gix_odb_looks.proofs.FoundLaws.Loading.{load_known}
+use Rattle.gix_odb_looks.proofs.FoundLaws.Views.{pack_loaded, views_shown}
 
 module _ (Shown : Path → List ℕ → Type 0) (setting : Setting) (hash : Kind) (id : ObjectId) (exchanges : List Exchange)
     (want : Want) where
@@ -69,7 +70,7 @@ module _ (Shown : Path → List ℕ → Type 0) (setting : Setting) (hash : Kind
       → Knows (at_todo goal ahead todo)
   todo_known ahead [] indices paths = tt
   todo_known ahead (todo ∷ rest) indices paths =
-      at_known (record ahead { todo = rest }) (stages.ReadingIndex (record { slot = todo.slot; path = todo.path }))
+      at_known (record ahead { todo = rest }) (stages.Loading (loaders.Reading (place_of todo)))
       (record { indices = indices; todo = All-tail (IsIndexTodo setting) todo rest paths }) (All-head (IsIndexTodo setting) todo rest paths)
 
   abbrev Hits : Found → Type 0
@@ -97,32 +98,16 @@ module _ (Shown : Path → List ℕ → Type 0) (setting : Setting) (hash : Kind
   -- ---- an index
 
   module _ (same : kind_of id ≡ hash) (ahead : Ahead) (known : IsLeft ahead) where
-    index_tested : (place : IndexPlace) (bytes : List ℕ) → IsIndexPath setting place.path → Shown place.path bytes → (parsed : Bool)
-        → is_index (kind_of id) bytes ≡ parsed
-        → Knows (at goal ahead (cond parsed (stages.StoringIndex place (record { kind = kind_of id; bytes = bytes })) (stages.PassingIndex place whys.Bad)))
-    index_tested place bytes path shown true is =
-        at_known ahead (stages.StoringIndex place (record { kind = kind_of id; bytes = bytes })) known
-        (path, record { kind = same; parsed = subst (λ (kind : Kind). is_index kind bytes ≡ true) same is; shown = shown })
-    index_tested place bytes path shown false is = at_known ahead (stages.PassingIndex place whys.Bad) known tt
-
-    index_read_known : (place : IndexPlace) (answer : DiskAnswer) → IsIndexPath setting place.path
-        → IsTrue Shown setting hash (read_of place.path) (told.Disk answer)
-        → Knows (index_read goal ahead place answer)
-    index_read_known place (answers.File bytes time) path truth = index_tested place bytes path truth.1 (is_index (kind_of id) bytes) refl
-    index_read_known place answer path truth =
-        at_known (record ahead { notes = noting ahead.notes (why_of answer) }) (stages.PassingIndex place (why_of answer))
-        (record { indices = known.indices; todo = known.todo }) tt
-
-    index_stored_known : (place : IndexPlace) (file : FileBytes) (effect : Effect) → IsIndexPath setting place.path
-        → IsIndexShownAt Shown setting hash place.path file
-        → ((view : View) → view_in (Ok effect) ≡ Some view → IsShownView Shown setting hash view)
-        → Knows (at_search goal ahead (tried goal ahead.notes.absent (shown_or_own place file (shown_behind place effect))))
-    index_stored_known place file effect path read views =
-        search_ends Hits Bads Wanted Knows goal ahead (tried goal ahead.notes.absent (shown_or_own place file (shown_behind place effect)))
-        (tried_known Shown setting hash id exchanges want ahead.notes.absent (shown_or_own place file (shown_behind place effect))
-        (index_shown Shown setting hash place file path read (view_in (Ok effect)) views))
+    load_ends : (step : LoadStep) → KnowsLoadStep Shown setting hash step → Knows (after_load goal ahead step)
+    load_ends (load_steps.More loader) here = at_known ahead (stages.Loading loader) known here
+    load_ends (load_steps.Loaded index) here =
+        search_ends Hits Bads Wanted Knows goal ahead (tried goal ahead.notes.absent index)
+        (tried_known Shown setting hash id exchanges want ahead.notes.absent index here)
         (todo_known ahead ahead.todo known.indices known.todo) (λ found hit. hit) (λ error bad. bad)
         (λ pack wanted. at_known ahead (stages.ReadingPack pack) known wanted)
+    load_ends (load_steps.Missed why) here =
+        seek_known (record ahead { notes = noting ahead.notes why }) (record { indices = known.indices; todo = known.todo })
+    load_ends (load_steps.Broken refusal) here = tt
 
     -- ---- a pack
 
@@ -179,31 +164,20 @@ module _ (Shown : Path → List ℕ → Type 0) (setting : Setting) (hash : Kind
 
     -- ---- an answer
 
-    disk_known : (stage : Stage) (answer : DiskAnswer) → Stands stage → IsTrue Shown setting hash (ask_at stage) (told.Disk answer)
-        → WasTold exchanges (ask_at stage) (told.Disk answer)
-        → Knows (behind_disk goal ahead stage answer)
-    disk_known (stages.ReadingIndex place) answer here truth asked = index_read_known place answer here truth
-    disk_known (stages.ReadingPack pack) answer here truth asked = pack_read_known pack answer here truth asked
-    disk_known stage answer here truth asked = at_known ahead stage known here
-
-    core_known : (stage : Stage) (effect : Effect) → Stands stage → ((view : View) → view_in (Ok effect) ≡ Some view → IsShownView Shown setting hash view)
-        → Knows (behind_core goal ahead stage effect)
-    core_known (stages.StoringIndex place file) effect here views = index_stored_known place file effect here.0 here.1 views
-    core_known (stages.PassingIndex place why) effect here views = seek_known ahead known
-    core_known (stages.StoringPack pack file) effect here views = pack_stored_known pack file effect here.0 here.1 views
-    core_known (stages.PassingPack pack) effect here views =
-        seek_known (record ahead { notes = with_absent ahead.notes pack.slot pack.path }) (record { indices = known.indices; todo = known.todo })
-    core_known stage effect here views = at_known ahead stage known here
-
-    refused_known : (stage : Stage) (refusal : Refusal) → Stands stage → Knows (refused goal ahead stage refusal)
-    refused_known (stages.ReadingIndex place) refusal here = at_known ahead (stages.ReadingIndex place) known here
-    refused_known (stages.ReadingPack pack) refusal here = at_known ahead (stages.ReadingPack pack) known here
-    refused_known stage refusal here = tt
-
     pub answer_known : (stage : Stage) (answer : Answer) → Stands stage → IsTrue Shown setting hash (ask_at stage) answer
         → WasTold exchanges (ask_at stage) answer
         → Knows (by_answer goal ahead stage answer)
-    answer_known stage (told.Disk answer) here truth asked = disk_known stage answer here truth asked
-    answer_known stage (told.Core (Ok effect)) here truth asked =
-        core_known stage effect here (views_shown Shown setting hash (ask_at stage) (Ok effect) truth)
-    answer_known stage (told.Core (Err refusal)) here truth asked = refused_known stage refusal here
+    answer_known (stages.Loading loader) answer here truth asked =
+        load_ends (load.fed (kind_of id) loader answer)
+        (subst (λ (kind : Kind). KnowsLoadStep Shown setting hash (load.fed kind loader answer)) (sym same)
+        (load_known Shown setting hash loader answer here truth))
+    answer_known (stages.ReadingPack pack) (told.Disk answer) here truth asked = pack_read_known pack answer here truth asked
+    answer_known (stages.ReadingPack pack) (told.Core answer) here truth asked = at_known ahead (stages.ReadingPack pack) known here
+    answer_known (stages.StoringPack pack file) (told.Core (Ok effect)) here truth asked =
+        pack_stored_known pack file effect here.0 here.1 (views_shown Shown setting hash (ask_at (stages.StoringPack pack file)) (Ok effect) truth)
+    answer_known (stages.PassingPack pack) (told.Core (Ok effect)) here truth asked =
+        seek_known (record ahead { notes = with_absent ahead.notes pack.slot pack.path }) (record { indices = known.indices; todo = known.todo })
+    answer_known (stages.StoringPack pack file) (told.Core (Err refusal)) here truth asked = tt
+    answer_known (stages.PassingPack pack) (told.Core (Err refusal)) here truth asked = tt
+    answer_known (stages.StoringPack pack file) (told.Disk answer) here truth asked = at_known ahead (stages.StoringPack pack file) known here
+    answer_known (stages.PassingPack pack) (told.Disk answer) here truth asked = at_known ahead (stages.PassingPack pack) known here

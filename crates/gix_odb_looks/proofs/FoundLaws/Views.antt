@@ -14,12 +14,13 @@ use Rattle.gix_odb_events.specs.Answers.{view_in}
 use Rattle.gix_odb_events.specs.declared.event.Effect.{Effect}
 use Rattle.gix_odb_events.specs.declared.event.Refusal.{Refusal}
 use Rattle.gix_odb_events.specs.declared.view.View.{View}
-use Rattle.gix_odb_packs.specs.TryOrder.{is_at, or_else, own_index, pack_among, pack_in, pack_or, pack_shown, shown_in, shown_or_own}
+use Rattle.gix_odb_packs.specs.LoadOrder.{is_at, or_else, own_index, shown_in, shown_or_own}
+use Rattle.gix_odb_packs.specs.TryOrder.{pack_among, pack_in, pack_or, pack_shown}
 use Rattle.gix_odb_events.specs.declared.answer.Answer.TheVariants as told
 use Rattle.gix_odb_events.specs.declared.answer.Ask.{Ask}
 use Rattle.gix_odb_events.specs.declared.answer.Ask.TheVariants as asks
+use Rattle.gix_odb_packs.specs.declared.index_loader.IndexPlace.{IndexPlace}
 use Rattle.gix_odb_packs.specs.declared.search.WantedPack.{WantedPack}
-use Rattle.gix_odb_packs.specs.declared.trier.IndexPlace.{IndexPlace}
 use Rattle.gix_odb_looks.specs.LookUpOrder.{Setting}
 use Rattle.gix_odb_looks.specs.Shown.{IsIndexPath, IsIndexShownAt, IsPackShownAt, IsPackShown, IsIndexShown, IsShownView}
 use Rattle.gix_odb_looks.specs.True.{IsTrue}
@@ -83,7 +84,7 @@ module _ (Shown : Path → List ℕ → Type 0) (setting : Setting) (hash : Kind
       (among_shown place view.snapshot.indices shown.indices index)
       (among_shown place view.snapshot.kept shown.kept index) is
 
-  -- the index that is tried behind the core's answer was shown
+  -- the index that is loaded behind the core's answer was shown
   pub index_shown : (place : IndexPlace) (file : FileBytes) → IsIndexPath setting place.path → IsIndexShownAt Shown setting hash place.path file
       → (view : Option View)
       → ((own : View) → view ≡ Some own → IsShownView Shown setting hash own)

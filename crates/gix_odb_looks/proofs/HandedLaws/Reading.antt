@@ -21,6 +21,7 @@ use Rattle.gix_odb_events.specs.declared.answer.Answer.{Answer}
 use Rattle.gix_odb_events.specs.declared.answer.Answer.TheVariants as told
 use Rattle.gix_odb_events.specs.declared.answer.Ask.{Ask}
 use Rattle.gix_odb_events.specs.declared.answer.Ask.TheVariants as asks
+use Rattle.gix_odb_packs.specs.declared.index_loader.IndexLoader.TheVariants as loaders
 use Rattle.gix_odb_packs.specs.declared.lister.ListStage.{ListStage}
 use Rattle.gix_odb_packs.specs.declared.lister.ListStage.TheVariants as list_stages
 use Rattle.gix_odb_packs.specs.declared.lister.ListStep.{ListStep}
@@ -71,9 +72,9 @@ record IsPlain (ask : Ask) : Type 0 where
   opens : OpensNone ask
 
 trier_plain : (stage : Stage) → IsPlain (tries.ask_at stage)
-trier_plain (tries_stages.ReadingIndex place) = record { changes = path_is_read place.path; opens = tt }
-trier_plain (tries_stages.StoringIndex place file) = record { changes = tt; opens = tt }
-trier_plain (tries_stages.PassingIndex place why) = record { changes = tt; opens = tt }
+trier_plain (tries_stages.Loading (loaders.Reading place)) = record { changes = path_is_read place.path; opens = tt }
+trier_plain (tries_stages.Loading (loaders.Storing place file)) = record { changes = tt; opens = tt }
+trier_plain (tries_stages.Loading (loaders.Passing place why)) = record { changes = tt; opens = tt }
 trier_plain (tries_stages.ReadingPack pack) = record { changes = path_is_read pack.path; opens = tt }
 trier_plain (tries_stages.StoringPack pack file) = record { changes = tt; opens = tt }
 trier_plain (tries_stages.PassingPack pack) = record { changes = tt; opens = tt }
@@ -204,9 +205,9 @@ module _ (setting : Setting) where
   AsksOwn now ask = Unit {0}
 
   trier_own : (now : Told) (stage : Stage) → AsksOwn now (tries.ask_at stage)
-  trier_own now (tries_stages.ReadingIndex place) = tt
-  trier_own now (tries_stages.StoringIndex place file) = tt
-  trier_own now (tries_stages.PassingIndex place why) = tt
+  trier_own now (tries_stages.Loading (loaders.Reading place)) = tt
+  trier_own now (tries_stages.Loading (loaders.Storing place file)) = tt
+  trier_own now (tries_stages.Loading (loaders.Passing place why)) = tt
   trier_own now (tries_stages.ReadingPack pack) = tt
   trier_own now (tries_stages.StoringPack pack file) = tt
   trier_own now (tries_stages.PassingPack pack) = tt

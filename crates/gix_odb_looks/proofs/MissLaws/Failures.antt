@@ -59,7 +59,7 @@ use Rattle.gix_odb_looks.specs.declared.look_up.Part.{Part}
 use Rattle.gix_odb_looks.specs.declared.look_up.Part.TheVariants as parts
 use Rattle.gix_odb_looks.specs.declared.look_up.Purpose.{Purpose}
 use Rattle.gix_odb_looks.specs.declared.look_up.Purpose.TheVariants as purposes
-use Rattle.gix_odb_packs.proofs.NotedLaws.{IsDisk, IsNoted, NotedIn, failed, failed_trier, noted_answer, noted_seek}
+use Rattle.gix_odb_packs.proofs.NotedLaws.{IsDisk, IsNoted, IsNotedBy, NotedIn, failed, failed_trier, noted_answer, noted_seek}
 use Rattle.gix_odb_looks.proofs.MissLaws.Replies.{EndsNoMiss, IsMiss, found_is_no_miss, refused_is_no_miss, verdict_is_no_miss}
 
 -- ---- look-ups
@@ -84,9 +84,9 @@ IsNoPlainMiss want verdicts.Misses = ⊥
 IsNoPlainMiss want verdict = EndsNoMiss want verdict
 
 module _ (setting : Setting) (want : Want) where
-  -- a failure was noted, or ends what is under way
+  -- a failure was noted, or is noted next, or ends what is under way
   abbrev pub IsMarred : LookStage → Type 0
-  IsMarred (stages.Trying trier part) = IsNoted trier.ahead.notes
+  IsMarred (stages.Trying trier part) = IsNotedBy trier
   IsMarred (stages.Loose round call) = IsNoted round.notes
   IsMarred (stages.Looking purpose notes) = IsNoted notes
   IsMarred (stages.Listing lister base notes) = IsNoted notes ⊎ IsBreaking lister.stage
@@ -203,7 +203,7 @@ module _ (setting : Setting) (want : Want) where
   marred_stage : (head : LookHead) → head.want ≡ want → (stage : LookStage) → IsMarred stage → (answer : Answer)
       → IsLookMarred (fed_at setting head stage answer)
   marred_stage head own (stages.Trying trier part) marred answer =
-      record { own = own; stage = marred_tried head part (trier_fed trier answer) (noted_answer trier.goal trier.ahead marred trier.stage answer) }
+      record { own = own; stage = marred_tried head part (trier_fed trier answer) (noted_answer trier.goal trier.ahead trier.stage marred answer) }
   marred_stage head own (stages.Loose round call) marred (told.Disk answer) =
       record { own = own; stage = marred_reply head own round marred (loose_fed call answer) (reply_of (loose_fed call answer)) }
   marred_stage head own (stages.Loose round call) marred (told.Core answer) = record { own = own; stage = marred }

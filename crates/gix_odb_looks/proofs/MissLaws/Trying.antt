@@ -16,26 +16,28 @@ use Rattle.gix_odb_events.specs.PackPath.{pack_path}
 use Rattle.gix_odb_events.specs.declared.loaded.SnapshotIndex.{SnapshotIndex}
 use Rattle.gix_odb_events.specs.Answers.{view_in}
 use Rattle.gix_odb_events.specs.declared.event.Effect.{Effect}
-use Rattle.gix_odb_events.specs.declared.event.PassWhy.{PassWhy}
 use Rattle.gix_odb_events.specs.declared.event.PassWhy.TheVariants as whys
 use Rattle.gix_odb_events.specs.declared.view.View.{View}
 use Rattle.gix_odb_packs.specs.Goal.{given_by}
-use Rattle.gix_odb_packs.specs.TryOrder.{ask_at, at, by_answer, by_given, fed, index_or_bad, index_read, noting, own_index, pack_behind, pack_read, why_of}
+use Rattle.gix_odb_packs.specs.LoadOrder as load
+use Rattle.gix_odb_packs.specs.TryOrder.{ask_at, at, by_answer, by_given, fed, pack_behind, pack_read}
 use Rattle.gix_odb_events.specs.declared.answer.Answer.{Answer}
 use Rattle.gix_odb_events.specs.declared.answer.Answer.TheVariants as told
 use Rattle.gix_odb_packs.specs.declared.goal.Error.{Error}
 use Rattle.gix_odb_packs.specs.declared.goal.Error.TheVariants as errors
 use Rattle.gix_odb_packs.specs.declared.goal.Found.{Found}
 use Rattle.gix_odb_packs.specs.declared.goal.Goal.{Goal}
+use Rattle.gix_odb_packs.specs.declared.index_loader.IndexLoader.{IndexLoader}
+use Rattle.gix_odb_packs.specs.declared.index_loader.IndexLoader.TheVariants as loaders
+use Rattle.gix_odb_packs.specs.declared.index_loader.IndexPlace.{IndexPlace}
 use Rattle.gix_odb_packs.specs.declared.search.WantedPack.{WantedPack}
 use Rattle.gix_odb_packs.specs.declared.trier.Ahead.{Ahead}
-use Rattle.gix_odb_packs.specs.declared.trier.IndexPlace.{IndexPlace}
 use Rattle.gix_odb_packs.specs.declared.trier.Stage.{Stage}
 use Rattle.gix_odb_packs.specs.declared.trier.Stage.TheVariants as stages
 use Rattle.gix_odb_packs.specs.declared.trier.Tried.{Tried}
 use Rattle.gix_odb_packs.specs.declared.trier.Tried.TheVariants as ends
 use Rattle.gix_odb_packs.specs.declared.trier.Trier.{Trier}
-use Rattle.gix_odb_packs.proofs.ReachLaws.{HasTodo, IsNoMiss, IsOnWay, IsSearchable, IsTracked, LeadsIfThere, passed_goes, seek_goes, stored_goes}
+use Rattle.gix_odb_packs.proofs.ReachLaws.{IsAtHand, IsKept, IsNoMiss, IsOnWay, IsSearchable, IsTracked, LeadsIfThere, load_goes, passed_goes, stored_leads}
 use Rattle.gix_odb_packs.proofs.ReachLemmas.{Leads}
 use Rattle.gix_odb_looks.specs.Exchange.{Exchange}
 use Rattle.gix_odb_looks.specs.Fair.{IsFair, IsIndexFair, IsViewFair, PackedPlace, index_at, pack_at}
@@ -71,48 +73,52 @@ module _ (hash : Kind) (id : ObjectId) (place : PackedPlace) where
     abbrev Way : Ahead → Stage → Type 0
     Way = IsOnWay hash id (index_at place)
 
+    views_lead : (effect : Effect) → ((view : View) → view_in (Ok effect) ≡ Some view → IsViewFair hash id place view) → (view : View)
+        → view_in (Ok effect) ≡ Some view
+        → All (LeadsIfThere hash id (index_at place)) view.snapshot.indices × All (LeadsIfThere hash id (index_at place)) view.snapshot.kept
+    views_lead effect fair view is =
+        let shown = fair view is in (lead_if_fair view.snapshot.indices shown.indices, lead_if_fair view.snapshot.kept shown.kept)
+
+    -- ---- an index that is loaded
+
+    abbrev AtHand : IndexLoader → Type 0
+    AtHand = IsAtHand hash id (index_at place)
+
+    -- an index that was read at the place's path leads to the place's pack
+    own_leads : (at : IndexPlace) (bytes : List ℕ) → at.path ≡ index_at place → Gives hash bytes id place.offset
+        → Leads (pack_at place) hash id (load.own_index at (record { kind = hash; bytes = bytes }))
+    own_leads at bytes is gives =
+        record {
+          file = record { kind = hash; bytes = bytes };
+          single = refl;
+          kind = refl;
+          row = gives.row;
+          among = gives.among;
+          of_id = gives.of_id;
+          one = ap (λ (path : Path). pack_path path ∷ []) is;
+        }
+
+    read_goes : (at : IndexPlace) (answer : DiskAnswer) → at.path ≡ index_at place → IsFair hash id place past (load.read_of at.path) (told.Disk answer)
+        → AtHand (load.index_read hash at answer)
+    read_goes at (answers.File bytes time) is fair =
+        let gives = fair.0 is in
+        subst AtHand
+        (sym (cond-true (is_index hash bytes) (loaders.Storing at (record { kind = hash; bytes = bytes })) (loaders.Passing at whys.Bad) gives.parsed))
+        (is, own_leads at bytes is gives)
+    read_goes at answer is fair = absurd (fair.0 is)
+
+    -- an index at hand stays so, or is loaded
+    loader_goes : (loader : IndexLoader) → AtHand loader → (answer : Answer) → IsFair hash id place past (load.ask_of loader) answer
+        → IsKept hash id (index_at place) (load.fed hash loader answer)
+    loader_goes (loaders.Reading at) here (told.Disk answer) fair = read_goes at answer here fair
+    loader_goes (loaders.Reading at) here (told.Core answer) fair = absurd fair
+    loader_goes (loaders.Storing at file) here (told.Core (Ok effect)) fair =
+        stored_leads hash id (index_at place) at file effect here (views_lead effect fair.0)
+    loader_goes (loaders.Storing at file) here (told.Core (Err refusal)) fair = tt
+    loader_goes (loaders.Storing at file) here (told.Disk answer) fair = absurd fair
+    loader_goes (loaders.Passing at why) here answer fair = absurd here
+
     module _ (goal : Goal) (own : goal.id ≡ id) (ahead : Ahead) (able : IsSearchable hash id (index_at place) ahead) where
-      -- ---- an index that was read
-
-      -- an index that was read at the place's path leads to the place's pack
-      own_leads : (at : IndexPlace) (bytes : List ℕ) → at.path ≡ index_at place → Gives hash bytes id place.offset
-          → Leads (pack_at place) hash id (own_index at (record { kind = kind_of goal.id; bytes = bytes }))
-      own_leads at bytes is gives =
-          record {
-            file = record { kind = kind_of goal.id; bytes = bytes };
-            single = refl;
-            kind = ap kind_of own ∙ of_hash;
-            row = gives.row;
-            among = gives.among;
-            of_id = gives.of_id;
-            one = ap (λ (path : Path). pack_path path ∷ []) is;
-          }
-
-      stage_by : (at : IndexPlace) (b : Bool) (bytes : List ℕ) → HasTodo hash id (index_at place) ahead.todo
-          → Way ahead (cond b (stages.StoringIndex at (record { kind = kind_of goal.id; bytes = bytes })) (stages.PassingIndex at whys.Bad))
-      stage_by at true bytes has = inr has
-      stage_by at false bytes has = has
-
-      stage_goes : (at : IndexPlace) (bytes : List ℕ) → (at.path ≡ index_at place → Gives hash bytes id place.offset) → Way ahead (stages.ReadingIndex at)
-          → Way ahead (index_or_bad goal at bytes)
-      stage_goes at bytes gives (inr has) = stage_by at (is_index (kind_of goal.id) bytes) bytes has
-      stage_goes at bytes gives (inl is) =
-          subst (Way ahead)
-          (sym (cond-true (is_index (kind_of goal.id) bytes) (stages.StoringIndex at (record { kind = kind_of goal.id; bytes = bytes }))
-          (stages.PassingIndex at whys.Bad)
-          (ap (λ (kind : Kind). is_index kind bytes) (ap kind_of own ∙ of_hash) ∙ (gives is).parsed)))
-          (inl (is, own_leads at bytes is (gives is)))
-
-      index_missed_goes : (at : IndexPlace) (why : PassWhy) → HasTodo hash id (index_at place) ahead.todo
-          → NoMiss (ends.More (record { goal = goal; ahead = record ahead { notes = noting ahead.notes why }; stage = stages.PassingIndex at why }))
-      index_missed_goes at why has = record { of_id = own; searchable = record { lead = able.lead; present = able.present }; way = has }
-
-      index_read_goes : (at : IndexPlace) (answer : DiskAnswer) → FairAt (stages.ReadingIndex at) (told.Disk answer) → Way ahead (stages.ReadingIndex at)
-          → NoMiss (index_read goal ahead at answer)
-      index_read_goes at (answers.File bytes time) fair way = record { of_id = own; searchable = able; way = stage_goes at bytes fair.0 way }
-      index_read_goes at answer fair (inl is) = absurd (fair.0 is)
-      index_read_goes at answer fair (inr has) = index_missed_goes at (why_of answer) has
-
       -- ---- packs
 
       given_goes : (given : Result Found Error) → NoMiss (by_given given)
@@ -133,22 +139,13 @@ module _ (hash : Kind) (id : ObjectId) (place : PackedPlace) where
 
       -- ---- an answer
 
-      views_lead : (effect : Effect) → ((view : View) → view_in (Ok effect) ≡ Some view → IsViewFair hash id place view) → (view : View)
-          → view_in (Ok effect) ≡ Some view
-          → All (LeadsIfThere hash id (index_at place)) view.snapshot.indices × All (LeadsIfThere hash id (index_at place)) view.snapshot.kept
-      views_lead effect fair view is =
-          let shown = fair view is in (lead_if_fair view.snapshot.indices shown.indices, lead_if_fair view.snapshot.kept shown.kept)
-
       answer_goes : (stage : Stage) → Way ahead stage → (answer : Answer) → FairAt stage answer → NoMiss (by_answer goal ahead stage answer)
-      answer_goes (stages.ReadingIndex at) way (told.Disk answer) fair = index_read_goes at answer fair way
-      answer_goes (stages.ReadingIndex at) way (told.Core answer) fair = absurd fair
-      answer_goes (stages.StoringIndex at file) way (told.Disk answer) fair = absurd fair
-      answer_goes (stages.StoringIndex at file) way (told.Core (Ok effect)) fair =
-          stored_goes hash id (index_at place) goal own ahead able at file effect way (views_lead effect fair.0)
-      answer_goes (stages.StoringIndex at file) way (told.Core (Err refusal)) fair = tt
-      answer_goes (stages.PassingIndex at why) way (told.Disk answer) fair = absurd fair
-      answer_goes (stages.PassingIndex at why) way (told.Core (Ok effect)) fair = seek_goes hash id (index_at place) goal own ahead able (inr way)
-      answer_goes (stages.PassingIndex at why) way (told.Core (Err refusal)) fair = tt
+      answer_goes (stages.Loading loader) (inl here) answer fair =
+          load_goes hash id (index_at place) goal own ahead able (load.fed (kind_of goal.id) loader answer)
+          (inl (subst (λ (kind : Kind). IsKept hash id (index_at place) (load.fed kind loader answer)) (sym (ap kind_of own ∙ of_hash))
+          (loader_goes loader here answer fair)))
+      answer_goes (stages.Loading loader) (inr has) answer fair =
+          load_goes hash id (index_at place) goal own ahead able (load.fed (kind_of goal.id) loader answer) (inr has)
       answer_goes (stages.ReadingPack wanted) way (told.Disk answer) fair = pack_read_goes wanted answer fair way
       answer_goes (stages.ReadingPack wanted) way (told.Core answer) fair = absurd fair
       answer_goes (stages.StoringPack wanted file) way (told.Disk answer) fair = absurd fair

@@ -1,8 +1,10 @@
 -- How the search for an object goes on among the indices of a list.
 use Rattle.std.specs.Prelude.{List, [], ◌∷◌}
 use Rattle.gix_odb_events.specs.declared.loaded.Todo.{Todo}
+use Rattle.gix_odb_packs.specs.LoadOrder.{place_of}
 use Rattle.gix_odb_packs.specs.Search.{rest_behind, search}
 use Rattle.gix_odb_packs.specs.declared.goal.Goal.{Goal}
+use Rattle.gix_odb_packs.specs.declared.index_loader.IndexLoader.TheVariants.{Reading}
 use Rattle.gix_odb_packs.specs.declared.search.Sought.{Sought}
 use Rattle.gix_odb_packs.specs.declared.search.Sought.TheVariants as searches
 use Rattle.gix_odb_packs.specs.declared.trier.Ahead.{Ahead}
@@ -14,10 +16,10 @@ use Rattle.gix_odb_packs.specs.declared.trier.Tried.TheVariants as ends
 abbrev pub at : Goal → Ahead → Stage → Tried
 at goal ahead stage = ends.More (record { goal = goal; ahead = ahead; stage = stage })
 
--- the next index that is still to be loaded is read; where there is none, no index led to the object
+-- the next index that is still to be loaded is loaded; where there is none, no index led to the object
 abbrev pub at_todo : Goal → Ahead → List Todo → Tried
 at_todo goal ahead [] = ends.Missed ahead.notes
-at_todo goal ahead (todo ∷ rest) = at goal (record ahead { todo = rest }) (stages.ReadingIndex (record { slot = todo.slot; path = todo.path }))
+at_todo goal ahead (todo ∷ rest) = at goal (record ahead { todo = rest }) (stages.Loading (Reading (place_of todo)))
 
 abbrev pub at_search : Goal → Ahead → Sought → Tried
 at_search goal ahead searches.Nowhere = at_todo goal ahead ahead.todo

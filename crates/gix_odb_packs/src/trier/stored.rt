@@ -1,140 +1,16 @@
-//! What the core made of a file that was tried.
-ghost use Rattle.std.specs.Prelude.{◌≡◌, IfOk, false, true, unwrap_or};
+//! What the core made of a pack that was read.
+ghost use Rattle.std.specs.Prelude.{◌≡◌, IfOk, unwrap_or};
 ghost use Rattle.std.specs.Option.{option_copied};
-ghost use Rattle.std.specs.List.{find};
-ghost use Rattle.gix_odb_packs.specs.TryOrder.{by_given, index_stored, is_at, own_index, pack_among, pack_behind, pack_in, pack_passed, pack_stored, search_stored, shown_behind, shown_or_own};
-ghost use Rattle.gix_odb_packs.specs.InSlot.{at_path, pack_of};
+ghost use Rattle.gix_odb_packs.specs.TryOrder.{by_given, pack_among, pack_behind, pack_in, pack_passed, pack_stored};
+ghost use Rattle.gix_odb_packs.specs.InSlot.{pack_of};
 
-use super::{Ahead, IndexPlace, Tried, at_search, seek};
+use super::{Ahead, Tried, seek};
 use crate::goal::{Error, Found, Goal};
-use crate::search::{Notes, Sought, WantedPack};
-use gix_odb_events::{Effect, LoadedIndex, PackFile, Shared, SnapshotIndex, View, packs_beside};
-use gix_pack_files::{data, index};
+use crate::search::WantedPack;
+use gix_odb_events::{Effect, PackFile, Shared, SnapshotIndex, View};
+use gix_pack_files::data;
 use odb_base::NoMemory;
 use std::alloc::Global;
-
-/// Whether an index that is shown stands in a slot, at a path.
-fn is_at(place: &IndexPlace, shown: &SnapshotIndex) -> bool
-    ensures at { result ≡ is_at place.now shown.now }
-{
-    shown.slot == place.slot && *shown.path.value() == place.path
-}
-
-/// The index of a slot that is shown, where it stands at a path.
-fn at_path(place: &IndexPlace, shown: Option<SnapshotIndex>) -> Option<SnapshotIndex>
-    ensures at { result ≡ at_path place.now shown }
-{
-    let index = shown?;
-    if is_at(place, &index) {
-        Some(index)
-    } else {
-        drop(index);
-        None
-    }
-}
-
-/// The index of a slot and a path among those that are listed.
-fn listed_at(place: &IndexPlace, view: &View) -> Result<Option<SnapshotIndex>, NoMemory>
-    ensures listed { IfOk result (λ shown. shown ≡ find (is_at place.now) view.now.snapshot.indices) }
-{
-    let shown = view.snapshot.indices.in_slot(place.slot)?;
-    Ok(at_path(place, shown))
-}
-
-/// The index of a slot and a path among those that are kept.
-fn kept_at(place: &IndexPlace, view: &View) -> Result<Option<SnapshotIndex>, NoMemory>
-    ensures kept { IfOk result (λ shown. shown ≡ find (is_at place.now) view.now.snapshot.kept) }
-{
-    let shown = view.snapshot.kept.in_slot(place.slot)?;
-    Ok(at_path(place, shown))
-}
-
-/// The index of a slot and a path, as an effect shows it: listed, or else kept.
-fn shown_behind(place: &IndexPlace, effect: &Effect) -> Result<Option<SnapshotIndex>, NoMemory>
-    ensures shown { IfOk result (λ shown. shown ≡ shown_behind place.now effect.now) }
-{
-    let Some(view) = effect.view() else {
-        return Ok(None);
-    };
-    match listed_at(place, view)? {
-        Some(index) => Ok(Some(index)),
-        None => kept_at(place, view),
-    }
-}
-
-/// An index as it was read, whose slot no longer holds its path: its pack is still to be read.
-fn own_index(
-    alloc: Global,
-    place: IndexPlace,
-    file: Shared<index::File>,
-) -> Result<SnapshotIndex, NoMemory>
-    ensures own { IfOk result (λ index. index ≡ own_index place file) }
-{
-    let IndexPlace { slot, path } = place;
-    let packs = packs_beside(alloc, &path)?;
-    Ok(SnapshotIndex {
-        slot,
-        path: Shared::new(alloc, path)?,
-        index: LoadedIndex::Single(file),
-        packs,
-    })
-}
-
-/// An index that was read, as the core shows it, or else as it was read.
-fn shown_or_own(
-    alloc: Global,
-    place: IndexPlace,
-    file: Shared<index::File>,
-    effect: &Effect,
-) -> Result<SnapshotIndex, NoMemory>
-    ensures index { IfOk result (λ index. index ≡ shown_or_own place file (shown_behind place effect.now)) }
-{
-    match shown_behind(&place, effect)? {
-        Some(shown) => {
-            drop(place);
-            drop(file);
-            Ok(shown)
-        }
-        None => own_index(alloc, place, file),
-    }
-}
-
-/// The search in an index that was read, as the core shows it, or else as it was read.
-fn search_stored(
-    alloc: Global,
-    goal: Goal,
-    notes: &Notes,
-    place: IndexPlace,
-    file: Shared<index::File>,
-    effect: &Effect,
-) -> Result<Sought, NoMemory>
-    ensures search { IfOk result (λ search. search ≡ search_stored goal notes.now place file effect.now) }
-{
-    let index = shown_or_own(alloc, place, file, effect)?;
-    let found = goal.tried(alloc, notes, &index);
-    drop(index);
-    found
-}
-
-/// What it comes to that an index was stored, or that another file stands there.
-pub(super) fn index_stored(
-    alloc: Global,
-    goal: Goal,
-    ahead: Ahead,
-    place: IndexPlace,
-    file: Shared<index::File>,
-    effect: &Effect,
-) -> Result<Tried, NoMemory>
-    ensures stored { IfOk result (λ tried. tried ≡ index_stored goal ahead place file effect.now) }
-{
-    match search_stored(alloc, goal, &ahead.notes, place, file, effect) {
-        Ok(found) => at_search(alloc, goal, ahead, found),
-        Err(error) => {
-            drop(ahead);
-            Err(error)
-        }
-    }
-}
 
 /// What a look into a pack comes to.
 fn by_given(given: Result<Found, Error>) -> Tried

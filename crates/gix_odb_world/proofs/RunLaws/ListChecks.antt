@@ -17,6 +17,7 @@ use Rattle.gix_odb_events.specs.declared.listing.Listing.{Listing}
 use Rattle.gix_odb_events.specs.declared.view.View.{View}
 use Rattle.gix_odb_packs.specs.TryOrder as tries
 use Rattle.gix_odb_packs.specs.TryOrder.{seek}
+use Rattle.gix_odb_packs.specs.declared.index_loader.IndexLoader.TheVariants as loaders
 use Rattle.gix_odb_packs.specs.declared.lister.ListStep.{ListStep}
 use Rattle.gix_odb_packs.specs.declared.lister.ListStep.TheVariants as listed
 use Rattle.gix_odb_packs.specs.declared.search.Notes.{Notes}
@@ -57,9 +58,9 @@ use Rattle.gix_odb_world.specs.RunLaws.Missed.{EndAtLastList, last_list, list_by
 -- ---- what hands on no listing
 
 trying_lists_nothing : (number : Option ℕ) (stage : Stage) (answer : Answer) → number ≡ list_by number (tries.ask_at stage) answer
-trying_lists_nothing number (tries_stages.ReadingIndex place) answer = refl
-trying_lists_nothing number (tries_stages.StoringIndex place file) answer = refl
-trying_lists_nothing number (tries_stages.PassingIndex place why) answer = refl
+trying_lists_nothing number (tries_stages.Loading (loaders.Reading place)) answer = refl
+trying_lists_nothing number (tries_stages.Loading (loaders.Storing place file)) answer = refl
+trying_lists_nothing number (tries_stages.Loading (loaders.Passing place why)) answer = refl
 trying_lists_nothing number (tries_stages.ReadingPack pack) answer = refl
 trying_lists_nothing number (tries_stages.StoringPack pack file) answer = refl
 trying_lists_nothing number (tries_stages.PassingPack pack) answer = refl

@@ -1,6 +1,8 @@
 use Rattle.std.proofs.Common.{◌≡◌, IfOk, List, subst, sym, ap, ◌∙◌}
 use Rattle.gix_odb_events.specs.declared.loaded.Todo.{Todo}
+use Rattle.gix_odb_packs.specs.LoadOrder.{place_of}
 use Rattle.gix_odb_packs.specs.TryOrder.Seek.{at}
+use Rattle.gix_odb_packs.specs.declared.index_loader.IndexLoader.TheVariants.{Reading}
 use Rattle.gix_odb_packs.specs.declared.trier.Stage.TheVariants as stages
 use Rattle.gix_odb_packs.specs.declared.trier.Tried.{Tried}
 use Rattle.gix_odb_packs.proofs.TodoLemmas.{first_read, none_read}
@@ -9,11 +11,11 @@ use Rattle.gix_odb_packs.proofs.trier.at_todo.Goals as goal
 pub returns-in-Ok-Some : goal.returns-in-Ok-Some
 returns-in-Ok-Some c =
     let todo = c.in-Ok-Some.todo in
-    let left = ap (λ (rest : List Todo). at c.args.goal (record c.args.ahead { todo = rest }) (stages.ReadingIndex (record { slot = todo.slot; path = todo.path })))
+    let left = ap (λ (rest : List Todo). at c.args.goal (record c.args.ahead { todo = rest }) (stages.Loading (Reading (place_of todo))))
     c.in-Ok-Some.ensures.rest in
     record {
-      at = subst (λ (wanted : Tried). IfOk c.reading.result (λ tried. tried ≡ wanted))
-          (left ∙ first_read c.args.goal c.args.ahead todo c.args.ahead.todo (sym c.in-Ok-Some.field-0-is ∙ c.in-Ok-Some.ensures.first)) c.reading.ensures.reads;
+      at = subst (λ (wanted : Tried). IfOk c.at_index.result (λ tried. tried ≡ wanted))
+          (left ∙ first_read c.args.goal c.args.ahead todo c.args.ahead.todo (sym c.in-Ok-Some.field-0-is ∙ c.in-Ok-Some.ensures.first)) c.at_index.ensures.loads;
     }
 
 pub returns-in-Ok-None : goal.returns-in-Ok-None

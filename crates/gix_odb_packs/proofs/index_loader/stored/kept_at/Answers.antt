@@ -1,6 +1,6 @@
 use Rattle.std.proofs.Common.{◌∙◌}
 use Rattle.gix_odb_packs.proofs.InSlotLemmas.{found_at}
-use Rattle.gix_odb_packs.proofs.trier.stored.kept_at.Goals as goal
+use Rattle.gix_odb_packs.proofs.index_loader.stored.kept_at.Goals as goal
 
 pub returns : goal.returns
 returns c = let only = c.in_ok-shown.ensures in
