@@ -32,8 +32,8 @@ use Rattle.gix_odb_looks.specs.declared.look_up.LookUp.{LookUp}
 use Rattle.gix_odb_refresh.proofs.RefreshLaws.{refreshes_have_no_core_made}
 use Rattle.gix_odb_refresh.specs.Asked as any
 use Rattle.gix_odb_refresh.specs.RefreshOrder as refreshes
-use Rattle.gix_odb_refresh.specs.declared.refresh.Refresh.{Refresh}
-use Rattle.gix_odb_refresh.specs.declared.refresh.Refresh.TheVariants as fronts
+use Rattle.gix_odb_refresh.specs.declared.refresh.RefreshStep.{RefreshStep}
+use Rattle.gix_odb_refresh.specs.declared.refresh.RefreshStep.TheVariants as fronts
 use Rattle.gix_odb.specs.CallOrder.{ask_of, asked_by, asked_of, fed, fronted, looking, looking_result, replied_by, result_of, started, unlisted, writing, writing_result, wrote_as}
 use Rattle.gix_odb.specs.declared.ask.Ask.TheVariants as own
 use Rattle.gix_odb.specs.declared.call_state.CallState.{CallState}
@@ -44,9 +44,8 @@ use Rattle.gix_odb.specs.declared.call_state.CallState.TheVariants.{Looking, Ref
 look_asks_none : (head : LookHead) (stage : LookStage) (reply : Reply) → looking_result (looks.result_at head stage) ≡ Ok reply → looks.ask_at stage ≡ None
 look_asks_none head (look_stages.Trying trier part) reply is = absurd (cc is)
 look_asks_none head (look_stages.Loose round call) reply is = absurd (cc is)
-look_asks_none head (look_stages.Looking purpose notes) reply is = absurd (cc is)
-look_asks_none head (look_stages.Listing lister base notes) reply is = absurd (cc is)
-look_asks_none head (look_stages.Publishing listing notes) reply is = absurd (cc is)
+look_asks_none head (look_stages.Refreshing refresh purpose notes) reply is = absurd (cc is)
+look_asks_none head (look_stages.Checking list_no notes) reply is = absurd (cc is)
 look_asks_none head (look_stages.Done other) reply is = refl
 
 write_asks_none : (call : LooseCall) (stage : loose.Stage) (reply : Reply) → writing_result (replied_by call (stage_reply stage)) ≡ Ok reply
@@ -69,7 +68,7 @@ loose_asks_no_core (Some ask) slots folders is = cc is
 
 pub calls_have_no_core_made : (state : CallState) (slots folders : ℕ) → ¬ (ask_of state ≡ Some (asks.NewCore slots folders))
 calls_have_no_core_made (Looking look) slots folders is = look_ups_have_no_core_made look slots folders is
-calls_have_no_core_made (Refreshing refresh write) slots folders is = refreshes_have_no_core_made refresh slots folders is
+calls_have_no_core_made (Refreshing refresh write) slots folders is = refreshes_have_no_core_made (fronts.More refresh) slots folders is
 calls_have_no_core_made (Writing call) slots folders is = loose_asks_no_core (disk_ask_of call) slots folders is
 calls_have_no_core_made (Refused error) slots folders is = cc is
 
@@ -92,18 +91,16 @@ calls_are_done_with_their_reply state reply = (
 
 -- ---- a call without a reply asks for something
 
--- where a write stands: what is in front of it asks for something
+-- a call that writes
 abbrev Stands : CallState → Type 0
 Stands (Looking look) = ⊥
-Stands (Refreshing refresh write) = ¬ (refreshes.ask_of refresh ≡ None)
-Stands (Writing call) = Unit {0}
-Stands (Refused error) = Unit {0}
+Stands state = Unit {0}
 
-fronted-stands : (refresh : Refresh) (write : LooseCall) → Stands (fronted refresh write)
-fronted-stands fronts.Looking write = λ is. cc is
-fronted-stands (fronts.Listing lister base) write = λ is. cc is
-fronted-stands (fronts.Publishing listing) write = λ is. cc is
-fronted-stands fronts.Ready write = tt
+fronted-stands : (step : RefreshStep) (write : LooseCall) → Stands (fronted step write)
+fronted-stands (fronts.More refresh) write = tt
+fronted-stands (fronts.Read view) write = tt
+fronted-stands (fronts.Current view own) write = tt
+fronted-stands (fronts.Outdated list_no) write = tt
 fronted-stands (fronts.Refused error) write = tt
 
 fed-stands : (setting : Setting) (state : CallState) (answer : Answer) → Stands state → Stands (fed setting state answer)
@@ -137,7 +134,7 @@ write_has_reply call (loose_stages.Done reply) is = (wrote_as reply, refl)
 
 standing_has_reply : (state : CallState) → Stands state → HasReply state
 standing_has_reply (Looking look) stands is = absurd stands
-standing_has_reply (Refreshing refresh write) stands is = absurd (stands is)
+standing_has_reply (Refreshing refresh write) stands is = absurd (cc is)
 standing_has_reply (Writing call) stands is = write_has_reply call call.stage is
 standing_has_reply (Refused error) stands is = (unlisted error, refl)
 

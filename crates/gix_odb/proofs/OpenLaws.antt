@@ -26,9 +26,10 @@ use Rattle.gix_odb_looks.specs.Laps.{AreWithin, turns_of_lap}
 use Rattle.gix_odb_looks.specs.LookUpOrder.{Setting}
 use Rattle.gix_odb_looks.specs.Shown.{folders_of}
 use Rattle.gix_odb_looks.proofs.HandedLaws.{IsOwnStream, left_open}
-use Rattle.gix_odb_looks.proofs.HandedLaws.Reading.{AsksOwn, ChangesNothing, lister_own, lister_reads, path_is_looked_at}
-use Rattle.gix_odb_looks.proofs.HandedLaws.Streams.{HasNone, IsOpen}
-use Rattle.gix_odb_looks.proofs.OpenLaws.{IsFolderOfPacks, lister_opens_there}
+use Rattle.gix_odb_refresh.proofs.ListerLaws.Reads.{AsksOwn, ChangesNothing, lister_own, lister_reads}
+use Rattle.gix_odb_looks.proofs.HandedLaws.Reading.{path_is_looked_at}
+use Rattle.gix_odb_refresh.proofs.ListerLaws.Streams.{HasNone, IsOpen}
+use Rattle.gix_odb_refresh.proofs.ListerLaws.Folders.{IsFolderOfPacks, lister_opens_there}
 use Rattle.gix_odb_refresh.specs.Asked.{AreSuited}
 use Rattle.gix_odb_refresh.proofs.RefreshLaws.Known.{told_of}
 use Rattle.gix_odb.specs.OpenOrder.{ask_of}
@@ -103,12 +104,12 @@ module _ (setting : Setting) (slots : Slots) (exchanges : List Exchange) (asked 
       by (opens.Done reply) is = absurd (cc is)
 
   asks_own : (now : OpenState) → Knows setting slots exchanges now → (ask : DiskAsk) → asks_of setting now ≡ Some (asks.Disk ask)
-      → AsksOwn setting (told_of exchanges) (asks.Disk ask)
+      → AsksOwn (told_of exchanges) (asks.Disk ask)
   asks_own opens.Looking known ask is =
-      subst (AsksOwn setting (told_of exchanges)) (same_Some (asks.Disk (disk_asks.Look setting.objects true)) (asks.Disk ask) is) tt
+      subst (AsksOwn (told_of exchanges)) (same_Some (asks.Disk (disk_asks.Look setting.objects true)) (asks.Disk ask) is) tt
   asks_own (opens.Listing lister percent minimum) known ask is =
-      subst (AsksOwn setting (told_of exchanges)) (same_Some (asks.Disk (lists.ask_of lister)) (asks.Disk ask) is)
-      (lister_own setting (told_of exchanges) lister.head.folder lister.stage known.stream)
+      subst (AsksOwn (told_of exchanges)) (same_Some (asks.Disk (lists.ask_of lister)) (asks.Disk ask) is)
+      (lister_own (told_of exchanges) lister.head.folder lister.stage known.stream)
   asks_own (opens.Registering number) known ask is = absurd (cc is)
   asks_own (opens.Done reply) known ask is = absurd (cc is)
 

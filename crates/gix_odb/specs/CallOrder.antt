@@ -29,8 +29,8 @@ use Rattle.gix_odb_looks.specs.declared.look_up.LookUp.{LookUp}
 use Rattle.gix_odb_looks.specs.LookUpOrder as looks
 use Rattle.gix_odb_looks.specs.LookUpOrder.{Setting, loose_ask}
 use Rattle.gix_odb_refresh.specs.RefreshOrder as refreshes
-use Rattle.gix_odb_refresh.specs.declared.refresh.Refresh.{Refresh}
-use Rattle.gix_odb_refresh.specs.declared.refresh.Refresh.TheVariants as fronts
+use Rattle.gix_odb_refresh.specs.declared.refresh.RefreshStep.{RefreshStep}
+use Rattle.gix_odb_refresh.specs.declared.refresh.RefreshStep.TheVariants as fronts
 use Rattle.gix_odb_events.specs.declared.view.View.{View}
 use Rattle.gix_odb_events.specs.declared.answer.Answer.{Answer}
 use Rattle.gix_odb_events.specs.declared.answer.Answer.TheVariants as told
@@ -84,11 +84,14 @@ IsOfHash hash call = is_of_hash hash call ≡ true
 abbrev pub looking : Setting → View → (sought : Query → ObjectId) → Query → CallState
 looking setting view sought query = Looking (looks.started setting view query.want (sought query))
 
--- a write and what stands in front of it: it begins where that is ready
-abbrev pub fronted : Refresh → LooseCall → CallState
-fronted fronts.Ready write = Writing write
+-- A write and the refresh before it. It begins where the core has a list that was read, also where the listing came too late: another list
+-- was read then.
+abbrev pub fronted : RefreshStep → LooseCall → CallState
+fronted (fronts.More refresh) write = Refreshing refresh write
+fronted (fronts.Read view) write = Writing write
+fronted (fronts.Current view own) write = Writing write
+fronted (fronts.Outdated list_no) write = Writing write
 fronted (fronts.Refused error) write = Refused error
-fronted refresh write = Refreshing refresh write
 
 -- a new call in a store of a hash
 abbrev pub started : Setting → HashKind → View → (sought : Query → ObjectId) → Call → CallState
@@ -101,7 +104,7 @@ started setting hash view sought call =
 -- what is asked for next, if anything is: of the disk, or of the store's core
 abbrev pub ask_of : CallState → Option Ask
 ask_of (Looking look) = looks.ask_of look
-ask_of (Refreshing refresh write) = refreshes.ask_of refresh
+ask_of (Refreshing refresh write) = Some (refreshes.ask_of refresh)
 ask_of (Writing call) = loose_ask (disk_ask_of call)
 ask_of (Refused error) = None
 

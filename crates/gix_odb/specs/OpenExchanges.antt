@@ -8,7 +8,7 @@ use Rattle.odb_nodes.specs.declared.disk_error.DiskError.TheVariants as disk_err
 use Rattle.odb_nodes.specs.declared.meta.Kind.{Kind}
 use Rattle.odb_nodes.specs.declared.meta.Kind.TheVariants as kinds
 use Rattle.gix_odb_events.specs.PackId.{most_slots}
-use Rattle.gix_odb_events.specs.declared.listing.ListingRow.{ListingRow}
+use Rattle.gix_odb_events.specs.declared.listing.Listing.{Listing}
 use Rattle.gix_odb_packs.specs.ListOrder as lists
 use Rattle.gix_odb_events.specs.declared.answer.Answer.{Answer}
 use Rattle.gix_odb_events.specs.declared.answer.Answer.TheVariants as told
@@ -60,7 +60,7 @@ pub record HasListed (setting : Setting) (exchanges : List Exchange) (step : Lis
   pub look : Exchange
   pub listing : List Exchange
   pub are : exchanges ≡ look ∷ listing
-  pub comes : list_behind setting.folders (listed.More (lists.started setting.objects)) listing ≡ step
+  pub comes : list_behind setting.folders (listed.More (lists.started setting.objects 0)) listing ≡ step
 
 -- ---- how many slots
 
@@ -68,7 +68,7 @@ pub record HasListed (setting : Setting) (exchanges : List Exchange) (step : Lis
 abbrev pub IsNumber : Setting → Slots → List Exchange → ℕ → Type 0
 IsNumber setting (Given slots) exchanges number = number ≡ slots
 IsNumber setting (AsNeededByDiskState percent minimum) exchanges number =
-    (rows : List ListingRow) × HasListed setting exchanges (listed.Rows rows) × (number ≡ slots_for percent minimum (length rows))
+    (listing : Listing) × HasListed setting exchanges (listed.Listed listing) × (number ≡ slots_for percent minimum (length listing.rows))
 
 -- ---- causes
 

@@ -81,7 +81,7 @@ numbered slots = if nat_le slots most_slots then opens.Registering slots else re
 -- the objects directory is there
 abbrev pub begun : Path → Slots → OpenState
 begun objects (Given slots) = numbered slots
-begun objects (AsNeededByDiskState percent minimum) = opens.Listing (lists.started objects) percent minimum
+begun objects (AsNeededByDiskState percent minimum) = opens.Listing (lists.started objects 0) percent minimum
 
 abbrev pub shown : Path → Slots → Kind → OpenState
 shown objects slots kinds.Dir = begun objects slots
@@ -96,7 +96,7 @@ looked objects slots answer = refused opening_errors.NotADirectory
 -- the slots are for the rows of the listing
 abbrev pub listed_on : (percent minimum : ℕ) → ListStep → OpenState
 listed_on percent minimum (listed.More lister) = opens.Listing lister percent minimum
-listed_on percent minimum (listed.Rows rows) = numbered (slots_for percent minimum (length rows))
+listed_on percent minimum (listed.Listed listing) = numbered (slots_for percent minimum (length listing.rows))
 listed_on percent minimum listed.Broken = refused (opening_errors.LoadIndex load_errors.Io)
 
 -- An opening after the answer to what it asked for, in a store of these folders that is to have these slots. One whose handle was

@@ -19,7 +19,7 @@ use gix_odb_calls::{Call, CallError, Query, Reply, load_index, write};
 use gix_odb_events::{Answer, Ask, Event, View};
 use gix_odb_looks::{LookUp, Setting};
 use gix_odb_loose::{LooseAsk, LooseCall, LooseJob, LooseReply};
-use gix_odb_refresh::Refresh;
+use gix_odb_refresh::{Refresh, RefreshStep};
 use odb_base::{ByteList, NoMemory, PathText};
 use std::alloc::Global;
 
@@ -64,7 +64,7 @@ impl CallState {
                     bytes,
                     *id,
                 )?;
-                Ok(fronted(refresh_of(handle), write))
+                Ok(refreshed(handle, write))
             }
             call => match call.query() {
                 Some(query) => looking(alloc, handle, query),
@@ -112,7 +112,7 @@ impl CallState {
     {
         match self {
             CallState::Looking(look) => look.ask(alloc),
-            CallState::Refreshing { refresh, .. } => refresh.ask(alloc),
+            CallState::Refreshing { refresh, .. } => Ok(Some(refresh.ask(alloc)?)),
             CallState::Writing(call) => write_ask(alloc, call),
             CallState::Refused(_) => Ok(None),
         }
@@ -200,7 +200,7 @@ fn write_reply(alloc: Global, call: &LooseCall) -> Result<Option<Reply>, NoMemor
     }
 }
 
-// A write after an answer to what stands in front of it.
+// A write after an answer to the refresh before it.
 fn refreshed_on(
     alloc: Global,
     handle: &HandleState,
@@ -211,7 +211,7 @@ fn refreshed_on(
     ensures fed { IfOk result (λ state. state ≡ calls.fed (setting_at handle.now) (CallState.Refreshing refresh write) answer) }
 {
     match refresh.feed(alloc, handle.parts(), answer) {
-        Ok(refresh) => Ok(fronted(refresh, write)),
+        Ok(step) => Ok(fronted(step, write)),
         Err(error) => {
             drop(write);
             Err(error)
@@ -271,27 +271,33 @@ fn looking_from(
     Ok(CallState::Looking(look))
 }
 
-// What stands in front of a write. A handle that has no snapshot yet looks at the core.
-fn refresh_of(handle: &HandleState) -> Refresh
-    ensures begun { result ≡ refreshes.started (view_at handle.now) }
+// A new write, before which the list of the store is read where the handle has seen none that was.
+fn refreshed(handle: &HandleState, write: LooseCall) -> CallState
+    ensures begun { result ≡ fronted (refreshes.started (view_at handle.now)) write }
 {
     match &handle.view {
-        Some(view) => Refresh::start(view),
-        None => Refresh::Looking,
+        Some(view) if view.read => CallState::Writing(write),
+        _ => CallState::Refreshing {
+            refresh: Refresh::Reading,
+            write,
+        },
     }
 }
 
-// A write and what stands in front of it: it begins where that is ready.
-fn fronted(refresh: Refresh, write: LooseCall) -> CallState
-    ensures fronted { result ≡ fronted refresh write }
+// A write and the refresh before it: it begins where the core has a list that was read.
+fn fronted(step: RefreshStep, write: LooseCall) -> CallState
+    ensures fronted { result ≡ fronted step write }
 {
-    match refresh {
-        Refresh::Ready => CallState::Writing(write),
-        Refresh::Refused(error) => {
+    match step {
+        RefreshStep::More(refresh) => CallState::Refreshing { refresh, write },
+        RefreshStep::Refused(error) => {
             drop(write);
             CallState::Refused(error)
         }
-        refresh => CallState::Refreshing { refresh, write },
+        step => {
+            drop(step);
+            CallState::Writing(write)
+        }
     }
 }
 

@@ -222,7 +222,7 @@ fn begun(alloc: Global, objects: &PathText, slots: Slots) -> Result<OpenState, N
     match slots {
         Slots::Given(slots) => Ok(numbered(u64::from(slots))),
         Slots::AsNeededByDiskState { percent, minimum } => Ok(OpenState::Listing {
-            lister: Lister::start(alloc, objects)?,
+            lister: Lister::start(alloc, objects, 0)?,
             percent,
             minimum,
         }),
@@ -239,7 +239,7 @@ fn listed_on(percent: u32, minimum: u32, step: ListStep) -> OpenState
             percent,
             minimum,
         },
-        ListStep::Rows(rows) => numbered(slots_for(percent, minimum, rows.len())),
+        ListStep::Listed(listing) => numbered(slots_for(percent, minimum, listing.rows.len())),
         ListStep::Broken => refused(init::Error::LoadIndex(load_index::Error::Io)),
     }
 }

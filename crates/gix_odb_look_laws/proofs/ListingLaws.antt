@@ -2,7 +2,7 @@
 mod TreeNames
 pub mod Seen
 pub mod OfTree
-use Rattle.std.proofs.Common.{◌≡◌, List, [], ◌∷◌, Contains, Some, sym, ap, subst}
+use Rattle.std.proofs.Common.{◌≡◌, ℕ, List, [], ◌∷◌, Contains, Some, sym, subst}
 use Rattle.std.specs.List.{All, IsDistinct}
 use Rattle.std.proofs.lemmas.Option.{same_Some}
 use Rattle.odb_base.specs.Path.{Path}
@@ -28,15 +28,14 @@ use Rattle.gix_odb_packs.specs.declared.lister.ListStep.TheVariants as steps
 use Rattle.gix_odb_packs.specs.declared.lister.Lister.{Lister}
 use Rattle.gix_object.specs.declared.want.Want.{Want}
 use Rattle.gix_odb_looks.specs.Exchange.{AreAsked, Exchange, WasTold, behind}
-use Rattle.gix_odb_looks.specs.LookUpOrder.{Setting, ask_at, ask_of, fed, lister_fed, seen, started}
+use Rattle.gix_odb_looks.specs.LookUpOrder.{Setting, ask_at, ask_of, fed, seen, started}
 use Rattle.gix_odb_looks.specs.Shown.{folders_of}
+use Rattle.gix_odb_refresh.specs.declared.refresh.Refresh.TheVariants as fronts
 use Rattle.gix_odb_looks.specs.declared.look_up.LookStage.{LookStage}
 use Rattle.gix_odb_looks.specs.declared.look_up.LookStage.TheVariants as stages
 use Rattle.gix_odb_looks.specs.declared.look_up.LookUp.{LookUp}
-use Rattle.gix_odb_looks.proofs.FoundLaws.Lists.{all_longest_first, has_first, has_later}
-use Rattle.gix_odb_looks.proofs.HandedLaws.Differ.{IsDistinct-paths}
-use Rattle.gix_odb_looks.proofs.HandedLaws.Listing.{StepDiffers, listing_differs, starts_apart}
-use Rattle.gix_odb_looks.proofs.HandedLaws.Rows.{row_paths}
+use Rattle.gix_odb_refresh.proofs.ListerLaws.Lists.{has_first, has_later}
+use Rattle.gix_odb_refresh.proofs.ListerLaws.Apart.{StepDiffers, listing_differs, starts_apart}
 use Rattle.gix_odb_looks.proofs.HandedLaws.Stages.{Goes, Stands, Steps, published, stage_stands, start_stands}
 use Rattle.gix_odb_look_laws.specs.ListedFiles.{AreOfTree, IsOfTree, IsToldOfTree, listed_in}
 use Rattle.gix_odb_look_laws.specs.ListerCalls.{AreCalls, AreCallsOfTree, Call, IsRowSeen, WasCalled, behind_calls}
@@ -46,9 +45,9 @@ pub use Rattle.gix_odb_looks.proofs.HandedLaws.{rows_of_a_listing_have_different
 
 -- ---- a lister by itself
 
-module _ (folders : List Path) (objects : Path) where
+module _ (folders : List Path) (objects : Path) (base : ℕ) where
   abbrev start : ListStep
-  start = steps.More (lists.started objects)
+  start = steps.More (lists.started objects base)
 
   differs_behind : IsDistinct same_path (objects ∷ folders) → (step : ListStep) → StepDiffers folders step → (calls : List Call)
       → StepDiffers folders (behind_calls folders step calls)
@@ -56,7 +55,7 @@ module _ (folders : List Path) (objects : Path) where
   differs_behind distinct (steps.More lister) here (call ∷ calls) =
       differs_behind distinct (lists.fed folders lister call.answer)
       (listing_differs folders objects distinct lister.head lister.stage here call.answer) calls
-  differs_behind distinct (steps.Rows rows) here (call ∷ calls) = here
+  differs_behind distinct (steps.Listed listing) here (call ∷ calls) = here
   differs_behind distinct steps.Broken here (call ∷ calls) = tt
 
   sees_behind : (Told : DiskAsk → DiskAnswer → Type 0) (step : ListStep) → SeesStep Told folders step → (calls : List Call)
@@ -67,7 +66,7 @@ module _ (folders : List Path) (objects : Path) where
       (listing_sees Told folders lister.head here.rows lister.stage here.stage call.answer
       (subst (λ (ask : DiskAsk). Told ask call.answer) (sym are.0) (was call (has_first call calls))))
       calls are.1 (λ other among. was other (has_later call calls other among))
-  sees_behind Told (steps.Rows rows) here (call ∷ calls) are was = here
+  sees_behind Told (steps.Listed listing) here (call ∷ calls) are was = here
   sees_behind Told steps.Broken here (call ∷ calls) are was = tt
 
   lists_behind : (tree : Tree) (total : List ListingRow) (coming : List Entry) (step : ListStep) → ListsStep tree folders total coming step → (calls : List Call)
@@ -79,27 +78,26 @@ module _ (folders : List Path) (objects : Path) where
       (listing_lists tree folders total lister.head coming lister.stage here call.answer of.0
       (subst (λ (ask : DiskAsk). IsOfTree tree coming ask call.answer of.0) (sym are.0) of.1))
       calls are.1 of.2
-  lists_behind tree total coming (steps.Rows rows) here (call ∷ calls) are of = absurd are
+  lists_behind tree total coming (steps.Listed listing) here (call ∷ calls) are of = absurd are
   lists_behind tree total coming steps.Broken here (call ∷ calls) are of = absurd are
 
-  module _ (calls : List Call) (rows : List ListingRow) (are : AreCalls folders start calls) (ends : behind_calls folders start calls ≡ steps.Rows rows) where
+  module _ (calls : List Call) (listing : Listing) (are : AreCalls folders start calls) (ends : behind_calls folders start calls ≡ steps.Listed listing) where
     -- No two rows of a listing have the same path.
-    pub listed_rows_have_different_paths : IsDistinct same_path (objects ∷ folders) → HasDifferentPaths rows
+    pub listed_rows_have_different_paths : IsDistinct same_path (objects ∷ folders) → HasDifferentPaths listing.rows
     listed_rows_have_different_paths distinct =
-        IsDistinct-paths (row_paths rows)
-        (subst (StepDiffers folders) ends (differs_behind distinct start (starts_apart folders objects distinct) calls))
+        subst (StepDiffers folders) ends (differs_behind distinct start (starts_apart folders objects distinct base) calls)
 
     -- Each row's index was itself a file in one of its calls, and its pack's path showed a file in one.
-    pub listed_rows_were_seen : All (IsRowSeen (WasCalled calls)) rows
+    pub listed_rows_were_seen : All (IsRowSeen (WasCalled calls)) listing.rows
     listed_rows_were_seen =
         subst (SeesStep (WasCalled calls) folders) ends
-        (sees_behind (WasCalled calls) start (starts_seeing (WasCalled calls) folders objects) calls are (λ call among. among))
+        (sees_behind (WasCalled calls) start (starts_seeing (WasCalled calls) folders objects base) calls are (λ call among. among))
 
-    -- Where one tree answers all its calls, the rows are the tree's listed files, folder by folder.
-    pub listed_rows_are_those_of_the_tree : (tree : Tree) → AreCallsOfTree tree [] calls → rows ≡ listed_in tree (objects ∷ folders)
+    -- Where one tree answers all its calls, the rows are the tree's listed files, in the order in which they are tried.
+    pub listed_rows_are_those_of_the_tree : (tree : Tree) → AreCallsOfTree tree [] calls → listing.rows ≡ longest_first (listed_in tree (objects ∷ folders))
     listed_rows_are_those_of_the_tree tree of =
         let total = listed_in tree (objects ∷ folders) in
-        let lists_so = lists_behind tree total [] start (starts_listing tree folders objects []) calls are of in
+        let lists_so = lists_behind tree total [] start (starts_listing tree folders objects base []) calls are of in
         subst (ListsStep tree folders total lists_so.0) ends lists_so.1
 
 -- ---- listings of look-ups
@@ -125,7 +123,7 @@ module _ (setting : Setting) where
 
     step_seen : (step : ListStep) → SeesStep Told setting.folders step → Steps setting AnyCall OfLister OfRows (Unit {0}) step
     step_seen (steps.More lister) here = here
-    step_seen (steps.Rows rows) here = (tt, all_longest_first (IsRowSeen Told) rows here)
+    step_seen (steps.Listed listing) here = (tt, here)
     step_seen steps.Broken here = tt
 
     goes_seeing : (stage : LookStage) → Sees stage → (ask : Ask) (answer : Answer) → ask_at stage ≡ Some ask → WasTold all ask answer
@@ -133,13 +131,14 @@ module _ (setting : Setting) where
     goes_seeing (stages.Trying trier part) here ask answer is was = tt
     goes_seeing (stages.Loose round call) here ask (told.Disk answer) is was = (tt, tt)
     goes_seeing (stages.Loose round call) here ask (told.Core answer) is was = here
-    goes_seeing (stages.Looking purpose notes) here ask answer is was = tt
-    goes_seeing (stages.Listing lister base notes) here ask (told.Disk answer) is was =
-        step_seen (lister_fed setting lister answer)
+    goes_seeing (stages.Refreshing fronts.Reading purpose notes) here ask answer is was = tt
+    goes_seeing (stages.Checking list_no notes) here ask answer is was = tt
+    goes_seeing (stages.Refreshing (fronts.Listing lister) purpose notes) here ask (told.Disk answer) is was =
+        step_seen (lists.fed setting.folders lister answer)
         (listing_sees Told setting.folders lister.head here.rows lister.stage here.stage answer
         (subst (λ (a : Ask). WasTold all a (told.Disk answer)) (sym (same_Some _ ask is)) was))
-    goes_seeing (stages.Listing lister base notes) here ask (told.Core answer) is was = here
-    goes_seeing (stages.Publishing listing notes) here ask answer is was = here
+    goes_seeing (stages.Refreshing (fronts.Listing lister) purpose notes) here ask (told.Core answer) is was = here
+    goes_seeing (stages.Refreshing (fronts.Publishing listing) purpose notes) here ask answer is was = here
     goes_seeing (stages.Done reply) here ask answer is was = tt
 
     seen_behind : (look : LookUp) → Sees look.stage → (exchanges : List Exchange) → AreAsked setting look exchanges
@@ -147,7 +146,7 @@ module _ (setting : Setting) where
     seen_behind look here [] asked among = here
     seen_behind look here (exchange ∷ exchanges) asked among =
         seen_behind (fed setting look exchange.answer)
-        (stage_stands setting AnyCall OfLister OfRows (Unit {0}) (λ want id folder. tt) (λ here. starts_seeing Told setting.folders setting.objects)
+        (stage_stands setting AnyCall OfLister OfRows (Unit {0}) (λ want id folder. tt) (λ base here. starts_seeing Told setting.folders setting.objects base)
         (seen look.head exchange.answer) look.stage exchange.answer
         (goes_seeing look.stage here exchange.ask exchange.answer asked.0 (among exchange (has_first exchange exchanges))))
         exchanges asked.1 (λ other is. among other (has_later exchange exchanges other is))
@@ -170,7 +169,7 @@ module _ (setting : Setting) where
     step_listed : (coming : List Entry) (step : ListStep) → ListsStep tree setting.folders total coming step
         → Steps setting AnyCall (IsAtLister coming) AreAll (Unit {0}) step
     step_listed coming (steps.More lister) here = here
-    step_listed coming (steps.Rows rows) here = (tt, ap longest_first here)
+    step_listed coming (steps.Listed listing) here = (tt, here)
     step_listed coming steps.Broken here = tt
 
     goes_listing : (coming : List Entry) (stage : LookStage) → Lists coming stage → (ask : Ask) (answer : Answer) (left : List Entry)
@@ -178,14 +177,15 @@ module _ (setting : Setting) where
     goes_listing coming (stages.Trying trier part) here ask answer left is of = tt
     goes_listing coming (stages.Loose round call) here ask (told.Disk answer) left is of = (tt, tt)
     goes_listing coming (stages.Loose round call) here ask (told.Core answer) left is of = here
-    goes_listing coming (stages.Looking purpose notes) here ask answer left is of = tt
-    goes_listing coming (stages.Listing lister base notes) here ask (told.Disk answer) left is of =
-        step_listed left (lister_fed setting lister answer)
+    goes_listing coming (stages.Refreshing fronts.Reading purpose notes) here ask answer left is of = tt
+    goes_listing coming (stages.Checking list_no notes) here ask answer left is of = tt
+    goes_listing coming (stages.Refreshing (fronts.Listing lister) purpose notes) here ask (told.Disk answer) left is of =
+        step_listed left (lists.fed setting.folders lister answer)
         (listing_lists tree setting.folders total lister.head coming lister.stage here answer left
         (subst (λ (a : Ask). IsToldOfTree tree coming a (told.Disk answer) left) (sym (same_Some _ ask is)) of))
-    goes_listing coming (stages.Listing lister base notes) here ask (told.Core answer) left is of =
+    goes_listing coming (stages.Refreshing (fronts.Listing lister) purpose notes) here ask (told.Core answer) left is of =
         absurd (subst (λ (a : Ask). IsToldOfTree tree coming a (told.Core answer) left) (sym (same_Some _ ask is)) of)
-    goes_listing coming (stages.Publishing listing notes) here ask answer left is of = here
+    goes_listing coming (stages.Refreshing (fronts.Publishing listing) purpose notes) here ask answer left is of = here
     goes_listing coming (stages.Done reply) here ask answer left is of = tt
 
     listed_behind : (coming : List Entry) (look : LookUp) → Lists coming look.stage → (exchanges : List Exchange) → AreAsked setting look exchanges
@@ -194,7 +194,7 @@ module _ (setting : Setting) where
     listed_behind coming look here (exchange ∷ exchanges) asked of =
         listed_behind of.0 (fed setting look exchange.answer)
         (stage_stands setting AnyCall (IsAtLister of.0) AreAll (Unit {0}) (λ want id folder. tt)
-        (λ here. starts_listing tree setting.folders setting.objects of.0) (seen look.head exchange.answer) look.stage exchange.answer
+        (λ base here. starts_listing tree setting.folders setting.objects base of.0) (seen look.head exchange.answer) look.stage exchange.answer
         (goes_listing coming look.stage here exchange.ask exchange.answer of.0 asked.0 of.1))
         exchanges asked.1 of.2
 
@@ -212,7 +212,7 @@ module _ (setting : Setting) where
         published setting AnyCall (OfLister exchanges) (OfRows exchanges) (Unit {0}) (behind setting begun exchanges).stage
         (seen_behind exchanges begun
         (start_stands setting AnyCall (OfLister exchanges) (OfRows exchanges) (Unit {0}) (λ want id folder. tt)
-        (λ here. starts_seeing (Told exchanges) setting.folders setting.objects) view want id tt)
+        (λ base here. starts_seeing (Told exchanges) setting.folders setting.objects base) view want id tt)
         exchanges asked (λ exchange among. among))
         listing is
 
@@ -222,6 +222,6 @@ module _ (setting : Setting) where
         let lists_so =
         listed_behind tree [] begun
         (start_stands setting AnyCall (IsAtLister tree []) (AreAll tree) (Unit {0}) (λ want id folder. tt)
-        (λ here. starts_listing tree setting.folders setting.objects []) view want id tt)
+        (λ base here. starts_listing tree setting.folders setting.objects base []) view want id tt)
         exchanges asked of in
         published setting AnyCall (IsAtLister tree lists_so.0) (AreAll tree) (Unit {0}) (behind setting begun exchanges).stage lists_so.1 listing is

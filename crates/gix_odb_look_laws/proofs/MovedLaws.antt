@@ -40,12 +40,17 @@ use Rattle.gix_odb_calls.specs.declared.verdict.Verdict.TheVariants as verdicts
 use Rattle.gix_odb_looks.specs.Exchange.{AreAsked, Exchange, behind}
 use Rattle.gix_odb_looks.specs.Fair.{AreFair, PackedPlace}
 use Rattle.gix_odb_looks.specs.LoadIndex.{of_refusal}
-use Rattle.gix_odb_looks.specs.LookUpOrder.{Setting, after_list, ask_at, at_folder, by_look, by_reply, by_tried, by_verdict, fed, fed_at, find_error, goal_of}
-use Rattle.gix_odb_looks.specs.LookUpOrder.{listing_from, loose_ask, loose_fed, loose_from, new_head, not_found, result_of, seen, started, trier_fed, try_view}
+use Rattle.gix_odb_looks.specs.LookUpOrder.{Setting, after_list, ask_at, at_folder, by_read, by_refresh, by_reply, by_tried, by_verdict, fed, fed_at, find_error, goal_of}
+use Rattle.gix_odb_looks.specs.LookUpOrder.{loose_ask, loose_fed, loose_from, new_head, not_found, result_of, seen, started, trier_fed, try_view}
 use Rattle.gix_odb_looks.specs.LookUpOrder.{view_of, view_shown, without_notes}
 use Rattle.gix_odb_looks.specs.Reply.{IsAnswer}
 use Rattle.gix_odb_looks.specs.Shown.{folders_of}
 use Rattle.gix_odb_looks.specs.Stream.{Stream, stream_by, stream_from, stream_in}
+use Rattle.gix_odb_refresh.specs.RefreshOrder.{by_look}
+use Rattle.gix_odb_refresh.specs.RefreshOrder as refreshes
+use Rattle.gix_odb_refresh.specs.declared.refresh.Refresh.TheVariants as fronts
+use Rattle.gix_odb_refresh.specs.declared.refresh.RefreshStep.{RefreshStep}
+use Rattle.gix_odb_refresh.specs.declared.refresh.RefreshStep.TheVariants as steps
 use Rattle.gix_odb_looks.specs.declared.look_up.LookHead.{LookHead}
 use Rattle.gix_odb_looks.specs.declared.look_up.LookStage.{LookStage}
 use Rattle.gix_odb_looks.specs.declared.look_up.LookStage.TheVariants as stages
@@ -55,7 +60,7 @@ use Rattle.gix_odb_looks.specs.declared.look_up.Part.{Part}
 use Rattle.gix_odb_looks.specs.declared.look_up.Part.TheVariants as parts
 use Rattle.gix_odb_looks.specs.declared.look_up.Purpose.{Purpose}
 use Rattle.gix_odb_looks.specs.declared.look_up.Purpose.TheVariants as purposes
-use Rattle.gix_odb_looks.proofs.FoundLaws.Lists.{has_first, has_later}
+use Rattle.gix_odb_refresh.proofs.ListerLaws.Lists.{has_first, has_later}
 use Rattle.gix_odb_looks.proofs.HandedLaws.Stages.{loose_ask_is}
 use Rattle.gix_odb_looks.proofs.MissLaws.Folders.{folder_replies}
 use Rattle.gix_odb_looks.proofs.MissLaws.Lists.{drop_none, here_or_behind, nothing_ahead}
@@ -83,7 +88,6 @@ IsFirst (parts.Published list_no) = ⊥
 abbrev IsBeforeLoose : Purpose → Type 0
 IsBeforeLoose (purposes.First true) = Unit {0}
 IsBeforeLoose (purposes.First false) = ⊥
-IsBeforeLoose (purposes.Check list_no) = ⊥
 IsBeforeLoose purposes.Again = ⊥
 
 -- ---- what opens no folder
@@ -128,9 +132,9 @@ module _ (setting : Setting) (want : Want) (id : ObjectId) (folder : Path) (amon
   abbrev IsWaiting : LookStage → Type 0
   IsWaiting (stages.Trying trier part) = IsFirst part
   IsWaiting (stages.Loose round call) = IsComing round call
-  IsWaiting (stages.Looking purpose notes) = IsBeforeLoose purpose
-  IsWaiting (stages.Listing lister base notes) = ⊥
-  IsWaiting (stages.Publishing listing notes) = ⊥
+  IsWaiting (stages.Refreshing fronts.Reading purpose notes) = IsBeforeLoose purpose
+  IsWaiting (stages.Refreshing refresh purpose notes) = ⊥
+  IsWaiting (stages.Checking list_no notes) = ⊥
   IsWaiting (stages.Done reply) = ¬ (IsMiss want reply)
 
   -- the look-up wants this of this id
@@ -226,18 +230,20 @@ module _ (setting : Setting) (want : Want) (id : ObjectId) (folder : Path) (amon
 
     -- ---- looks at the core
 
-    first_waits : (b : Bool) → b ≡ true → (view : View) (notes : Notes)
-        → IsWaiting (cond b (try_view setting head (parts.List view.list_no true) view view.todo notes) (listing_from setting view.list_no notes))
-    first_waits true published view notes = view_waits (parts.List view.list_no true) tt view view.todo notes
-    first_waits false published view notes = absurd (cc published)
+    read_waits : (purpose : Purpose) → IsBeforeLoose purpose → (view : View) (notes : Notes) → IsWaiting (by_read setting head purpose view notes)
+    read_waits (purposes.First true) before view notes = view_waits (parts.List view.list_no true) tt view view.todo notes
+    read_waits (purposes.First false) before view notes = absurd before
+    read_waits purposes.Again before view notes = absurd before
 
     look_waits : (purpose : Purpose) → IsBeforeLoose purpose → (notes : Notes) (view : Option View) → ((own : View) → view ≡ Some own → own.read ≡ true)
-        → IsWaiting (by_look setting head purpose notes view)
+        → IsWaiting (by_refresh setting head purpose notes (by_look setting.objects view)).stage
     look_waits purpose before notes None published = before
-    look_waits (purposes.First true) before notes (Some view) published = first_waits view.read (published view refl) view notes
-    look_waits (purposes.First false) before notes (Some view) published = absurd before
-    look_waits (purposes.Check list_no) before notes (Some view) published = absurd before
-    look_waits purposes.Again before notes (Some view) published = absurd before
+    look_waits purpose before notes (Some view) published = by view.read (published view refl)
+      where
+        by : (b : Bool) → b ≡ true
+            → IsWaiting (by_refresh setting head purpose notes (cond b (steps.Read view) (steps.More (refreshes.listing_from setting.objects view.list_no)))).stage
+        by true is = read_waits purpose before view notes
+        by false is = absurd (cc is)
 
     -- ---- an exchange
 
@@ -247,29 +253,36 @@ module _ (setting : Setting) (want : Want) (id : ObjectId) (folder : Path) (amon
     stage_waits (stages.Trying trier part) waits ask answer is published fair = tried_waits part waits (trier_fed trier answer)
     stage_waits (stages.Loose round call) waits ask (told.Disk answer) is published fair = loose_waits round call waits answer ask is fair
     stage_waits (stages.Loose round call) waits ask (told.Core answer) is published fair = waits
-    stage_waits (stages.Looking purpose notes) waits ask (told.Disk answer) is published fair = waits
-    stage_waits (stages.Looking purpose notes) waits ask (told.Core (Ok effect)) is published fair =
+    stage_waits (stages.Refreshing fronts.Reading purpose notes) waits ask (told.Disk answer) is published fair = waits
+    stage_waits (stages.Refreshing fronts.Reading purpose notes) waits ask (told.Core (Ok effect)) is published fair =
         look_waits purpose waits notes (view_shown effect) published
-    stage_waits (stages.Looking purpose notes) waits ask (told.Core (Err refusal)) is published fair =
+    stage_waits (stages.Refreshing fronts.Reading purpose notes) waits ask (told.Core (Err refusal)) is published fair =
         refused_is_no_miss want (call_errors.Find (find_errors.LoadIndex (of_refusal refusal)))
-    stage_waits (stages.Listing lister base notes) waits ask answer is published fair = absurd waits
-    stage_waits (stages.Publishing listing notes) waits ask answer is published fair = absurd waits
+    stage_waits (stages.Refreshing (fronts.Listing lister) purpose notes) waits ask answer is published fair = absurd waits
+    stage_waits (stages.Refreshing (fronts.Publishing listing) purpose notes) waits ask answer is published fair = absurd waits
+    stage_waits (stages.Checking list_no notes) waits ask answer is published fair = absurd waits
     stage_waits (stages.Done reply) waits ask answer is published fair = waits
 
   pub record IsLookWaiting (look : LookUp) : Type 0 where
     pub own : IsFor look.head
     pub stage : IsWaiting look.stage
 
+  own_step : (head : LookHead) → IsFor head → (purpose : Purpose) (notes : Notes) (step : RefreshStep) → IsFor (by_refresh setting head purpose notes step).head
+  own_step head own purpose notes (steps.More refresh) = own
+  own_step head own purpose notes (steps.Read view) = own
+  own_step head own purpose notes (steps.Current view true) = record { want_is = own.want_is; id_is = own.id_is }
+  own_step head own purpose notes (steps.Current view false) = own
+  own_step head own purpose notes (steps.Outdated list_no) = own
+  own_step head own purpose notes (steps.Refused error) = own
+
   -- the head of a look-up that waits keeps what it wants and the id
   own_behind : (stage : LookStage) → IsWaiting stage → (head : LookHead) → IsFor head → (answer : Answer) → IsFor (fed_at setting head stage answer).head
   own_behind (stages.Trying trier part) waits head own answer = own
   own_behind (stages.Loose round call) waits head own (told.Disk answer) = own
   own_behind (stages.Loose round call) waits head own (told.Core answer) = own
-  own_behind (stages.Looking purpose notes) waits head own (told.Disk answer) = own
-  own_behind (stages.Looking purpose notes) waits head own (told.Core (Ok effect)) = own
-  own_behind (stages.Looking purpose notes) waits head own (told.Core (Err refusal)) = own
-  own_behind (stages.Listing lister base notes) waits head own answer = absurd waits
-  own_behind (stages.Publishing listing notes) waits head own answer = absurd waits
+  own_behind (stages.Refreshing refresh purpose notes) waits head own answer =
+      own_step head own purpose notes (refreshes.fed setting.objects setting.folders refresh answer)
+  own_behind (stages.Checking list_no notes) waits head own answer = absurd waits
   own_behind (stages.Done reply) waits head own answer = own
 
   look_waits_on : (look : LookUp) → IsLookWaiting look → (exchange : Exchange) → ask_at look.stage ≡ Some exchange.ask
@@ -290,7 +303,7 @@ module _ (setting : Setting) (want : Want) (id : ObjectId) (folder : Path) (amon
       own = record { want_is = refl; id_is = refl }
 
       by : (b : Bool)
-          → IsWaiting (cond b (try_view setting (new_head want id) parts.Snapshot view [] without_notes) (stages.Looking (purposes.First true) without_notes))
+          → IsWaiting (cond b (try_view setting (new_head want id) parts.Snapshot view [] without_notes) (stages.Refreshing fronts.Reading (purposes.First true) without_notes))
       by true = view_waits (new_head want id) own parts.Snapshot tt view [] without_notes
       by false = tt
 
@@ -299,9 +312,10 @@ module _ (setting : Setting) (want : Want) (id : ObjectId) (folder : Path) (amon
   opens_none : (stage : LookStage) → IsWaiting stage → (path : Path) → ¬ (ask_at stage ≡ Some (asks.Disk (disk_asks.OpenDir path)))
   opens_none (stages.Trying trier part) waits path is = trier_opens_none trier.stage path is
   opens_none (stages.Loose round call) waits path is = loose_opens_none (disk_ask_of call) (call_asks_still call) path is
-  opens_none (stages.Looking purpose notes) waits path is = cc is
-  opens_none (stages.Listing lister base notes) waits path is = waits
-  opens_none (stages.Publishing listing notes) waits path is = waits
+  opens_none (stages.Refreshing fronts.Reading purpose notes) waits path is = cc is
+  opens_none (stages.Refreshing (fronts.Listing lister) purpose notes) waits path is = waits
+  opens_none (stages.Refreshing (fronts.Publishing listing) purpose notes) waits path is = waits
+  opens_none (stages.Checking list_no notes) waits path is = waits
   opens_none (stages.Done reply) waits path is = cc is
 
   none_open : (look : LookUp) → IsLookWaiting look → (before : List Exchange) → AreAsked setting look before → ArePublished before
@@ -341,11 +355,10 @@ module _ (setting : Setting) (hash : Kind) (want : Want) (id : ObjectId) (of_has
       by parts.Snapshot first = tt
       by (parts.List list_no loose) first = tt
       by (parts.Published list_no) first = absurd first
-  on_track stream (stages.Looking (purposes.First loose) notes) waits = tt
-  on_track stream (stages.Looking (purposes.Check list_no) notes) waits = absurd waits
-  on_track stream (stages.Looking purposes.Again notes) waits = absurd waits
-  on_track stream (stages.Listing lister base notes) waits = absurd waits
-  on_track stream (stages.Publishing listing notes) waits = absurd waits
+  on_track stream (stages.Refreshing fronts.Reading purpose notes) waits = tt
+  on_track stream (stages.Refreshing (fronts.Listing lister) purpose notes) waits = absurd waits
+  on_track stream (stages.Refreshing (fronts.Publishing listing) purpose notes) waits = absurd waits
+  on_track stream (stages.Checking list_no notes) waits = absurd waits
   on_track stream (stages.Done reply) waits = waits
 
   not_missed : (past : List Exchange) (look : LookUp) → Waits look → (before after : List Exchange) → AreAsked setting look (before ++ after)

@@ -37,6 +37,7 @@ use Rattle.gix_odb_looks.specs.declared.look_up.LookStage.TheVariants as stages
 use Rattle.gix_odb_looks.specs.declared.look_up.Part.{Part}
 use Rattle.gix_odb_looks.specs.declared.look_up.Part.TheVariants as parts
 use Rattle.gix_odb_looks.specs.declared.look_up.Purpose.TheVariants as purposes
+use Rattle.gix_odb_refresh.specs.declared.refresh.Refresh.TheVariants as fronts
 use Rattle.gix_odb_looks.proofs.MissLaws.Replies.{found_is_no_miss, refused_is_no_miss}
 use Rattle.gix_odb_look_laws.specs.AtHand.{HasId, HasPacks, IsAtHand, IsDone, IsPackLoaded, SaysYes, place_for}
 
@@ -180,6 +181,6 @@ module _ (setting : Setting) where
       let goal : Goal = goal_of setting head in
       let indices = view.snapshot.indices in
       let left : Ahead = record { indices = rest_behind goal [] indices; todo = []; notes = without_notes } in
-      subst (λ (b : Bool). IsDone want (at head (cond b (try_view setting head parts.Snapshot view [] without_notes) (stages.Looking (purposes.First true) without_notes))))
+      subst (λ (b : Bool). IsDone want (at head (cond b (try_view setting head parts.Snapshot view [] without_notes) (stages.Refreshing fronts.Reading (purposes.First true) without_notes))))
       (sym hand.read)
       (done want head parts.Snapshot (seeks goal left indices) (search_ends goal left indices (needs want id view hand.packs) hand.index hand.among hand.has))

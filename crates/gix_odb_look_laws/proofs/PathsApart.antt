@@ -13,7 +13,7 @@ use Rattle.gix_hash.specs.declared.object_id.ObjectId.{ObjectId}
 use Rattle.gix_odb_loose.specs.LooseFile.{loose_path}
 use Rattle.gix_odb_events.specs.PackPath.{folder_of, name_of, pack_in, pack_name, pack_path, stem_of}
 use Rattle.gix_odb_packs.specs.PackFolder.{is_index_name, pack_folder}
-use Rattle.gix_odb_looks.proofs.HandedLaws.Differ.{push_same}
+use Rattle.gix_odb_refresh.proofs.ListerLaws.Differ.{push_same}
 use Rattle.gix_odb_looks.specs.LookUpOrder.{Setting}
 use Rattle.gix_odb_looks.specs.Shown.{IsIndexPath}
 

@@ -47,6 +47,7 @@ use Rattle.gix_odb_looks.specs.Exchange.{AreAsked, Exchange, behind}
 use Rattle.gix_odb_looks.specs.LookUpOrder.{Setting, ask_at, ask_of, by_tried, fed, fed_at, loose_ask, seen, started}
 use Rattle.gix_odb_looks.specs.Shown.{IsIndexPath, IsShownView}
 use Rattle.gix_odb_looks.specs.True.{AreTrue, IsTrue}
+use Rattle.gix_odb_refresh.specs.declared.refresh.Refresh.TheVariants as fronts
 use Rattle.gix_odb_looks.specs.declared.look_up.LookHead.{LookHead}
 use Rattle.gix_odb_looks.specs.declared.look_up.LookStage.{LookStage}
 use Rattle.gix_odb_looks.specs.declared.look_up.LookStage.TheVariants as stages
@@ -163,9 +164,11 @@ module _ (Shown : Path → List ℕ → Type 0) (setting : Setting) (hash : Kind
           index_put head part trier.goal (goal_of_hash trier known) trier.ahead index parsed trier.stage known.stage is
       index_stage index parsed head (stages.Loose round call) known is =
           absurd (no_loose all call known index.folder index.name (is ∙ ap (λ (p : Path). Some (asks.Disk (disk_asks.Read p))) index.is))
-      index_stage index parsed head (stages.Looking purpose notes) known is = absurd (cc is)
-      index_stage index parsed head (stages.Listing lister base notes) known is = absurd (lister_reads_nothing lister.head.folder lister.stage path is)
-      index_stage index parsed head (stages.Publishing listing notes) known is = absurd (cc is)
+      index_stage index parsed head (stages.Refreshing fronts.Reading purpose notes) known is = absurd (cc is)
+      index_stage index parsed head (stages.Refreshing (fronts.Listing lister) purpose notes) known is =
+          absurd (lister_reads_nothing lister.head.folder lister.stage path is)
+      index_stage index parsed head (stages.Refreshing (fronts.Publishing listing) purpose notes) known is = absurd (cc is)
+      index_stage index parsed head (stages.Checking list_no notes) known is = absurd (cc is)
       index_stage index parsed head (stages.Done reply) known is = absurd (cc is)
 
       pack_stage : IsPackPath setting path → is_pack hash bytes ≡ true → (head : LookHead) (stage : LookStage) → Knows stage
@@ -174,9 +177,11 @@ module _ (Shown : Path → List ℕ → Type 0) (setting : Setting) (hash : Kind
           pack_put head part trier.goal (goal_of_hash trier known) trier.ahead pack parsed trier.stage known.stage is
       pack_stage pack parsed head (stages.Loose round call) known is =
           absurd (no_loose all call known pack.folder (pack.stem ++ codes ".pack") (is ∙ ap (λ (p : Path). Some (asks.Disk (disk_asks.Read p))) pack.is))
-      pack_stage pack parsed head (stages.Looking purpose notes) known is = absurd (cc is)
-      pack_stage pack parsed head (stages.Listing lister base notes) known is = absurd (lister_reads_nothing lister.head.folder lister.stage path is)
-      pack_stage pack parsed head (stages.Publishing listing notes) known is = absurd (cc is)
+      pack_stage pack parsed head (stages.Refreshing fronts.Reading purpose notes) known is = absurd (cc is)
+      pack_stage pack parsed head (stages.Refreshing (fronts.Listing lister) purpose notes) known is =
+          absurd (lister_reads_nothing lister.head.folder lister.stage path is)
+      pack_stage pack parsed head (stages.Refreshing (fronts.Publishing listing) purpose notes) known is = absurd (cc is)
+      pack_stage pack parsed head (stages.Checking list_no notes) known is = absurd (cc is)
       pack_stage pack parsed head (stages.Done reply) known is = absurd (cc is)
 
   -- ---- an event that is at hand
@@ -200,9 +205,10 @@ module _ (Shown : Path → List ℕ → Type 0) (setting : Setting) (hash : Kind
     stage_backed : (stage : LookStage) → OfStage (IsRead Read hash) stage → (ask : Ask) → ask_at stage ≡ Some ask → Backed ask
     stage_backed (stages.Trying trier part) here ask is = same_ask Backed ask (tries.ask_of trier) (trier_backed trier.stage here) is
     stage_backed (stages.Loose round call) here ask is = loose_ask_is Backed ask (disk_ask_of call) (λ own same. tt) is
-    stage_backed (stages.Looking purpose notes) here ask is = same_ask Backed ask (asks.Core events.Look) tt is
-    stage_backed (stages.Listing lister base notes) here ask is = same_ask Backed ask (asks.Disk (lists.ask_of lister)) tt is
-    stage_backed (stages.Publishing listing notes) here ask is = same_ask Backed ask (asks.Core (events.Publish listing)) tt is
+    stage_backed (stages.Refreshing fronts.Reading purpose notes) here ask is = same_ask Backed ask (asks.Core events.Look) tt is
+    stage_backed (stages.Refreshing (fronts.Listing lister) purpose notes) here ask is = same_ask Backed ask (asks.Disk (lists.ask_of lister)) tt is
+    stage_backed (stages.Refreshing (fronts.Publishing listing) purpose notes) here ask is = same_ask Backed ask (asks.Core (events.Publish listing)) tt is
+    stage_backed (stages.Checking list_no notes) here ask is = same_ask Backed ask (asks.Core events.Look) tt is
     stage_backed (stages.Done reply) here ask is = absurd (cc is)
 
     module _ (last : Exchange) (just : (path : Path) (own : DiskAnswer) → last ≡ read_of path own → Read path own) where
@@ -216,9 +222,8 @@ module _ (Shown : Path → List ℕ → Type 0) (setting : Setting) (hash : Kind
           let asked : last.ask ≡ asks.Disk (disk_asks.Read path) = sym own_ask ∙ reads in
           just path own (λ i. record { ask = asked i; answer = answered i }))
       goes past (stages.Loose round call) known is truth = tt
-      goes past (stages.Looking purpose notes) known is truth = tt
-      goes past (stages.Listing lister base notes) known is truth = tt
-      goes past (stages.Publishing listing notes) known is truth = tt
+      goes past (stages.Refreshing refresh purpose notes) known is truth = tt
+      goes past (stages.Checking list_no notes) known is truth = tt
       goes past (stages.Done reply) known is truth = tt
 
   -- ---- the laws

@@ -10,26 +10,29 @@ use Rattle.gix_odb_events.specs.declared.answer.Ask.TheVariants as asks
 use Rattle.gix_odb_looks.specs.Exchange.{Exchange}
 use Rattle.gix_odb_looks.specs.LookUpOrder.{Setting}
 use Rattle.gix_odb_looks.specs.Shown.{folders_of}
-use Rattle.gix_odb_refresh.specs.RefreshOrder.{ask_of, started}
+use Rattle.gix_odb_refresh.specs.RefreshOrder.{asked_of, started}
 use Rattle.gix_odb_refresh.specs.Refreshed.{AreAsked, behind}
-use Rattle.gix_odb_refresh.specs.declared.refresh.Refresh.{Refresh}
 use Rattle.gix_odb_refresh.specs.declared.refresh.Refresh.TheVariants as stages
-use Rattle.gix_odb_refresh.proofs.RefreshLaws.Differ.{Differs, refresh_differs}
+use Rattle.gix_odb_refresh.specs.declared.refresh.RefreshStep.{RefreshStep}
+use Rattle.gix_odb_refresh.specs.declared.refresh.RefreshStep.TheVariants as steps
+use Rattle.gix_odb_refresh.proofs.RefreshLaws.Differ.{GoesDiffering, refresh_differs}
 use Rattle.gix_odb_refresh.proofs.RefreshLaws.{HandsOn, handed_on}
 
 module _ (setting : Setting) (snapshot : View) (exchanges : List Exchange) (asked : AreAsked setting (started snapshot) exchanges) where
-  abbrev refresh : Refresh
+  abbrev refresh : RefreshStep
   refresh = behind setting (started snapshot) exchanges
 
   -- what is handed to the core can happen there: the rows of a listing have different paths
-  pub what_a_refresh_hands_on_can_happen : IsDistinct same_path (folders_of setting) → (event : Event) → ask_of refresh ≡ Some (asks.Core event)
+  pub what_a_refresh_hands_on_can_happen : IsDistinct same_path (folders_of setting) → (event : Event) → asked_of refresh ≡ Some (asks.Core event)
       → (shape : Shape) (seat : ℕ) → CanHappen shape seat event
   what_a_refresh_hands_on_can_happen distinct event is shape seat =
       handed_on (CanHappen shape seat) refresh event (by refresh (refresh_differs setting distinct snapshot exchanges asked)) is
     where
-      by : (now : Refresh) → Differs setting distinct now → HandsOn (CanHappen shape seat) now
-      by stages.Looking here = tt
-      by (stages.Listing lister base) here = tt
-      by (stages.Publishing listing) here = here
-      by stages.Ready here = tt
-      by (stages.Refused error) here = tt
+      by : (now : RefreshStep) → GoesDiffering setting distinct now → HandsOn (CanHappen shape seat) now
+      by (steps.More stages.Reading) here = tt
+      by (steps.More (stages.Listing lister)) here = tt
+      by (steps.More (stages.Publishing listing)) here = here
+      by (steps.Read view) here = tt
+      by (steps.Current view own) here = tt
+      by (steps.Outdated list_no) here = tt
+      by (steps.Refused error) here = tt

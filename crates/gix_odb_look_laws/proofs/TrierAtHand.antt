@@ -6,17 +6,12 @@ use Rattle.gix_hash.specs.declared.object_id.ObjectId.{ObjectId}
 use Rattle.gix_odb_loose.specs.LooseOrder.{reply_of}
 use Rattle.gix_odb_loose.specs.declared.call.LooseCall.{LooseCall}
 use Rattle.gix_odb_loose.specs.declared.call.LooseReply.{LooseReply}
-use Rattle.gix_odb_events.specs.declared.event.Effect.{Effect}
-use Rattle.gix_odb_events.specs.declared.event.Effect.TheVariants as effects
 use Rattle.gix_odb_events.specs.declared.view.View.{View}
-use Rattle.gix_odb_events.specs.declared.listing.Listing.{Listing}
 use Rattle.gix_odb_events.specs.declared.loaded.Todo.{Todo}
 use Rattle.gix_odb_packs.specs.TryOrder.{seek}
 use Rattle.gix_odb_events.specs.declared.answer.Answer.{Answer}
 use Rattle.gix_odb_events.specs.declared.answer.Answer.TheVariants as told
 use Rattle.gix_odb_packs.specs.declared.goal.Goal.{Goal}
-use Rattle.gix_odb_packs.specs.declared.lister.ListStep.{ListStep}
-use Rattle.gix_odb_packs.specs.declared.lister.ListStep.TheVariants as listed
 use Rattle.gix_odb_packs.specs.declared.search.Notes.{Notes}
 use Rattle.gix_odb_packs.specs.declared.trier.Ahead.{Ahead}
 use Rattle.gix_odb_packs.specs.declared.trier.Tried.{Tried}
@@ -27,10 +22,14 @@ use Rattle.gix_odb_calls.specs.declared.load_index.Error.TheVariants as load_err
 use Rattle.gix_object.specs.declared.want.Want.{Want}
 use Rattle.gix_odb_calls.specs.declared.verdict.Verdict.{Verdict}
 use Rattle.gix_odb_calls.specs.declared.verdict.Verdict.TheVariants as verdicts
-use Rattle.gix_odb_looks.specs.LookUpOrder.{Setting, after_list, after_loose, at_folder, by_listed, by_look, by_published, by_reply, by_tried}
+use Rattle.gix_odb_looks.specs.LookUpOrder.{Setting, after_list, after_loose, at_folder, by_checked, by_read, by_refresh, by_reply, by_tried}
 use Rattle.gix_odb_looks.specs.LookUpOrder.{by_verdict, counted, ended, fed_at, goal_of, is_unsettled}
-use Rattle.gix_odb_looks.specs.LookUpOrder.{lister_fed, listing_from, load_refused, loose_fed}
-use Rattle.gix_odb_looks.specs.LookUpOrder.{new_head, not_found, started, trier_fed, try_view, unsettled, view_shown, with_own, without_notes}
+use Rattle.gix_odb_looks.specs.LookUpOrder.{listing_from, load_refused, loose_fed, own_by}
+use Rattle.gix_odb_looks.specs.LookUpOrder.{new_head, not_found, started, trier_fed, try_view, unsettled, view_shown, without_absent, without_notes}
+use Rattle.gix_odb_refresh.specs.RefreshOrder as refreshes
+use Rattle.gix_odb_refresh.specs.declared.refresh.Refresh.TheVariants as fronts
+use Rattle.gix_odb_refresh.specs.declared.refresh.RefreshStep.{RefreshStep}
+use Rattle.gix_odb_refresh.specs.declared.refresh.RefreshStep.TheVariants as steps
 use Rattle.gix_odb_looks.specs.declared.look_up.LookHead.{LookHead}
 use Rattle.gix_odb_looks.specs.declared.look_up.LookStage.{LookStage}
 use Rattle.gix_odb_looks.specs.declared.look_up.LookStage.TheVariants as stages
@@ -105,28 +104,24 @@ module _ (OfTrier : Trier → Type 0) where
     of_counted : (head : LookHead) (now : ℕ) (next : LookStage) → OfStage next → OfStage (counted setting head now next)
     of_counted head now next here = chosen (is_unsettled setting head now) (unsettled head now) next tt here
 
-    of_look : (head : LookHead) (purpose : Purpose) (notes : Notes) (view : Option View) → OfStage (by_look setting head purpose notes view)
-    of_look head purpose notes None = tt
-    of_look head (purposes.First loose) notes (Some view) =
-        chosen view.read (try_view setting head (parts.List view.list_no loose) view view.todo notes) (listing_from setting view.list_no notes)
-        (of_view head (parts.List view.list_no loose) view view.todo notes) tt
-    of_look head (purposes.Check list_no) notes (Some view) =
+    of_checked : (head : LookHead) (list_no : ℕ) (notes : Notes) (view : Option View) → OfStage (by_checked setting head list_no notes view)
+    of_checked head list_no notes None = tt
+    of_checked head list_no notes (Some view) =
         chosen (view.list_no == list_no) (ended head.want notes) (counted setting head view.list_no (listing_from setting view.list_no notes))
         (chosen notes.failed (stages.Done (load_refused load_errors.Io)) (stages.Done (not_found head.want)) tt tt)
         (of_counted head view.list_no (listing_from setting view.list_no notes) tt)
-    of_look head purposes.Again notes (Some view) = tt
 
-    of_published : (head : LookHead) (listing : Listing) (notes : Notes) (effect : Effect)
-        → OfStage (by_published setting head listing notes effect).stage
-    of_published head listing notes (effects.Published view) = of_view (with_own head) (parts.Published view.list_no) view view.todo notes
-    of_published head listing notes (effects.Unchanged view) = of_view head (parts.Published view.list_no) view view.todo notes
-    of_published head listing notes (effects.Outdated list_no) = of_counted head list_no (stages.Looking purposes.Again notes) tt
-    of_published head listing notes effect = tt
+    of_read : (head : LookHead) (purpose : Purpose) (view : View) (notes : Notes) → OfStage (by_read setting head purpose view notes)
+    of_read head (purposes.First loose) view notes = of_view head (parts.List view.list_no loose) view view.todo notes
+    of_read head purposes.Again view notes = tt
 
-    of_listed : (base : ℕ) (notes : Notes) (step : ListStep) → OfStage (by_listed base notes step)
-    of_listed base notes (listed.More lister) = tt
-    of_listed base notes (listed.Rows rows) = tt
-    of_listed base notes listed.Broken = tt
+    of_refresh : (head : LookHead) (purpose : Purpose) (notes : Notes) (step : RefreshStep) → OfStage (by_refresh setting head purpose notes step).stage
+    of_refresh head purpose notes (steps.More refresh) = tt
+    of_refresh head purpose notes (steps.Read view) = of_read head purpose view notes
+    of_refresh head purpose notes (steps.Current view own) =
+        of_view (own_by head own) (parts.Published view.list_no) view view.todo (without_absent notes)
+    of_refresh head purpose notes (steps.Outdated list_no) = of_counted head list_no (stages.Refreshing fronts.Reading purposes.Again notes) tt
+    of_refresh head purpose notes (steps.Refused error) = tt
 
     -- ---- an answer
 
@@ -134,18 +129,15 @@ module _ (OfTrier : Trier → Type 0) where
     stage_goes head (stages.Trying trier part) answer here = of_tried head part (trier_fed trier answer) here
     stage_goes head (stages.Loose round call) (told.Disk answer) here = of_reply head round (loose_fed call answer) (reply_of (loose_fed call answer))
     stage_goes head (stages.Loose round call) (told.Core answer) here = tt
-    stage_goes head (stages.Looking purpose notes) (told.Disk answer) here = tt
-    stage_goes head (stages.Looking purpose notes) (told.Core (Ok effect)) here = of_look head purpose notes (view_shown effect)
-    stage_goes head (stages.Looking purpose notes) (told.Core (Err refusal)) here = tt
-    stage_goes head (stages.Listing lister base notes) (told.Disk answer) here = of_listed base notes (lister_fed setting lister answer)
-    stage_goes head (stages.Listing lister base notes) (told.Core answer) here = tt
-    stage_goes head (stages.Publishing listing notes) (told.Disk answer) here = tt
-    stage_goes head (stages.Publishing listing notes) (told.Core (Ok effect)) here = of_published head listing notes effect
-    stage_goes head (stages.Publishing listing notes) (told.Core (Err refusal)) here = tt
+    stage_goes head (stages.Refreshing refresh purpose notes) answer here =
+        of_refresh head purpose notes (refreshes.fed setting.objects setting.folders refresh answer)
+    stage_goes head (stages.Checking list_no notes) (told.Disk answer) here = tt
+    stage_goes head (stages.Checking list_no notes) (told.Core (Ok effect)) here = of_checked head list_no notes (view_shown effect)
+    stage_goes head (stages.Checking list_no notes) (told.Core (Err refusal)) here = tt
     stage_goes head (stages.Done reply) answer here = tt
 
     -- a new look-up
     pub start_has : (view : View) (want : Want) (id : ObjectId) → OfStage (started setting view want id).stage
     start_has view want id =
-        chosen view.read (try_view setting (new_head want id) parts.Snapshot view [] without_notes) (stages.Looking (purposes.First true) without_notes)
+        chosen view.read (try_view setting (new_head want id) parts.Snapshot view [] without_notes) (stages.Refreshing fronts.Reading (purposes.First true) without_notes)
         (of_view (new_head want id) parts.Snapshot view [] without_notes) tt

@@ -25,14 +25,14 @@ pub record Call : Type 0 where
 abbrev pub behind_calls : (folders : List Path) → ListStep → List Call → ListStep
 behind_calls folders step [] = step
 behind_calls folders (steps.More lister) (call ∷ calls) = behind_calls folders (fed folders lister call.answer) calls
-behind_calls folders (steps.Rows rows) (call ∷ calls) = steps.Rows rows
+behind_calls folders (steps.Listed listing) (call ∷ calls) = steps.Listed listing
 behind_calls folders steps.Broken (call ∷ calls) = steps.Broken
 
 -- each call is the one that the lister asks for then
 abbrev pub AreCalls : (folders : List Path) → ListStep → List Call → Type 0
 AreCalls folders step [] = Unit {0}
 AreCalls folders (steps.More lister) (call ∷ calls) = (ask_of lister ≡ call.ask) × AreCalls folders (fed folders lister call.answer) calls
-AreCalls folders (steps.Rows rows) (call ∷ calls) = ⊥
+AreCalls folders (steps.Listed listing) (call ∷ calls) = ⊥
 AreCalls folders steps.Broken (call ∷ calls) = ⊥
 
 -- a call was made and answered so

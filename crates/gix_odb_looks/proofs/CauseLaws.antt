@@ -5,7 +5,6 @@ mod Standing
 pub mod Pasts
 mod Own
 mod Refusals
-pub mod Listers
 mod Known
 mod Step
 use Rattle.std.proofs.Common.{◌≡◌, ℕ, ◌≤◌, ◌<◌, Bool, true, false, List, [], ◌∷◌, ◌++◌, Option, Some}
@@ -45,9 +44,10 @@ use Rattle.gix_odb_looks.specs.Caused.{IsCaused}
 use Rattle.gix_odb_looks.specs.Exchange.{AreAsked, Exchange, IsLast, behind, published_in, HasFailed}
 use Rattle.gix_odb_looks.specs.Laps.{AreNumbered, IsNumbered, number_by}
 use Rattle.gix_odb_looks.specs.LookUpOrder.{Setting, ask_at, ask_of, fed, first_of, loose_ask, new_head}
-use Rattle.gix_odb_looks.specs.LoadIndex.{of_refusal}
+use Rattle.gix_odb_refresh.specs.LoadIndex.{of_refusal}
 use Rattle.gix_odb_looks.specs.LookUpOrder.{load_refused, result_at, result_of, seen, started, try_view, view_of, without_notes}
 use Rattle.gix_odb_looks.specs.True.{AreTrue, IsTrue}
+use Rattle.gix_odb_refresh.specs.declared.refresh.Refresh.TheVariants as fronts
 use Rattle.gix_odb_looks.specs.declared.look_up.LookHead.{LookHead}
 use Rattle.gix_odb_looks.specs.declared.look_up.LookStage.{LookStage}
 use Rattle.gix_odb_looks.specs.declared.look_up.LookStage.TheVariants as stages
@@ -55,13 +55,14 @@ use Rattle.gix_odb_looks.specs.declared.look_up.LookUp.{LookUp}
 use Rattle.gix_odb_looks.specs.declared.look_up.Part.{Part}
 use Rattle.gix_odb_looks.specs.declared.look_up.Part.TheVariants as parts
 use Rattle.gix_odb_looks.specs.declared.look_up.Purpose.TheVariants as purposes
-use Rattle.gix_odb_looks.specs.Shown.{IsShownView}
+use Rattle.gix_odb_refresh.specs.Shown.{IsShownView}
 use Rattle.gix_odb_looks.proofs.FoundLaws.Behind.{IsOfPack, pack_refusal_caused}
 use Rattle.gix_odb_looks.proofs.CauseLaws.Folders.{folder_has_ask}
 use Rattle.gix_odb_looks.proofs.CauseLaws.Known.{Counts, HasBegun, IsListCaused, KnowsAt, ShowedPart}
-use Rattle.gix_odb_looks.proofs.CauseLaws.Listers.{Breaks}
+use Rattle.gix_odb_refresh.proofs.ListerLaws.Tells.{Breaks}
 use Rattle.gix_odb_looks.proofs.CauseLaws.Pasts.{Noted}
-use Rattle.gix_odb_looks.proofs.CauseLaws.Pasts.{HasFailed-more, first_number-push, published_in-push}
+use Rattle.gix_odb_refresh.proofs.ListerLaws.Tells.{HasFailed-more}
+use Rattle.gix_odb_looks.proofs.CauseLaws.Pasts.{first_number-push, published_in-push}
 use Rattle.gix_odb_looks.proofs.CauseLaws.Own.{IsLookOwned, fed_at-owned, own_has_room, started-owned}
 use Rattle.gix_odb_looks.proofs.CauseLaws.Refusals.{refused_event_ends}
 use Rattle.gix_odb_looks.specs.Reply.{IsReplyTo}
@@ -72,9 +73,8 @@ use Rattle.gix_odb_looks.proofs.CauseLaws.Step.{fed_at-known, try_view-known}
 done_with : (head : LookHead) (stage : LookStage) (reply : Reply) → result_at head stage ≡ Ok reply → stage ≡ stages.Done reply
 done_with head (stages.Trying trier part) reply is = absurd (cc is)
 done_with head (stages.Loose round call) reply is = absurd (cc is)
-done_with head (stages.Looking purpose notes) reply is = absurd (cc is)
-done_with head (stages.Listing lister base notes) reply is = absurd (cc is)
-done_with head (stages.Publishing listing notes) reply is = absurd (cc is)
+done_with head (stages.Refreshing refresh purpose notes) reply is = absurd (cc is)
+done_with head (stages.Checking list_no notes) reply is = absurd (cc is)
 done_with head (stages.Done other) reply is = cc is
 
 -- ---- what a look-up replies, and when it asks nothing more
@@ -111,9 +111,8 @@ module _ (setting : Setting) (view : View) (want : Want) (id : ObjectId) (exchan
           let some : disk_ask_of call ≡ Some asks_so.0 = ap disk_ask_of asked ∙ asks_so.1 in
           let same : loose_ask (disk_ask_of call) ≡ loose_ask (Some asks_so.0) = ap loose_ask some in
           absurd (cc (same, is))
-      replied head (stages.Looking purpose notes) stands is = absurd (cc is)
-      replied head (stages.Listing lister base notes) stands is = absurd (cc is)
-      replied head (stages.Publishing listing notes) stands is = absurd (cc is)
+      replied head (stages.Refreshing refresh purpose notes) stands is = absurd (cc is)
+      replied head (stages.Checking list_no notes) stands is = absurd (cc is)
       replied head (stages.Done reply) stands is = (reply, refl)
 
   -- an event that the core refuses ends the look-up with that refusal
@@ -187,9 +186,11 @@ module _ (Shown : Path → List ℕ → Type 0) (setting : Setting) (hash : Kind
       passes-further (HasFailed past) (HasFailed more) (HasFailed-more past (exchange ∷ [])) trier.stage knows.2,
     )
     knows-more (stages.Loose round call) ask asked knows = (noted-more round.notes knows.0, showed-more round.part knows.1)
-    knows-more (stages.Looking purpose notes) ask asked knows = noted-more notes knows
-    knows-more (stages.Listing lister base notes) ask asked knows = (noted-more notes knows.0, has_begun-more knows.1, breaks-more lister.stage knows.2)
-    knows-more (stages.Publishing listing notes) ask asked knows = (noted-more notes knows.0, has_begun-more knows.1)
+    knows-more (stages.Refreshing fronts.Reading purpose notes) ask asked knows = noted-more notes knows
+    knows-more (stages.Refreshing (fronts.Listing lister) purpose notes) ask asked knows =
+        (noted-more notes knows.0, has_begun-more knows.1, breaks-more lister.stage knows.2)
+    knows-more (stages.Refreshing (fronts.Publishing listing) purpose notes) ask asked knows = (noted-more notes knows.0, has_begun-more knows.1)
+    knows-more (stages.Checking list_no notes) ask asked knows = noted-more notes knows
     knows-more (stages.Done reply) ask asked knows = absurd (cc asked)
 
   fed-known : (past : List Exchange) (slots number : ℕ) (look : LookUp) (exchange : Exchange) → IsKnown past look → ask_of look ≡ Some exchange.ask
@@ -254,7 +255,7 @@ module _ (Shown : Path → List ℕ → Type 0) (setting : Setting) (hash : Kind
   started-known view = record { stands = started-stands setting view want id; counts = record { begun = refl; own = refl }; knows = by view.read }
     where
       by : (b : Bool) → KnowsAt Shown setting hash id [] (new_head want id)
-          (if b then try_view setting (new_head want id) parts.Snapshot view [] without_notes else stages.Looking (purposes.First true) without_notes)
+          (if b then try_view setting (new_head want id) parts.Snapshot view [] without_notes else stages.Refreshing fronts.Reading (purposes.First true) without_notes)
       by true = try_view-known Shown setting hash id [] (new_head want id) parts.Snapshot tt view [] without_notes (λ is. absurd (cc is))
       by false = λ is. absurd (cc is)
 

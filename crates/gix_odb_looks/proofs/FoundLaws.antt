@@ -1,12 +1,10 @@
 -- Laws of look-ups: what is handed to the core was shown, and so was what is found in packs.
-pub mod Lists
 mod PackErrors
 pub mod Known
 mod Views
 mod Loading
 mod Indices
 mod Trying
-pub mod Listing
 mod Replies
 mod Looking
 pub mod Behind
@@ -37,7 +35,7 @@ use Rattle.gix_odb_looks.specs.Exchange.{AreAsked, Exchange, HasVerdict, behind}
 use Rattle.gix_odb_looks.specs.Found.{IsFound}
 use Rattle.gix_odb_looks.specs.LookUpOrder.{Setting, ask_at, ask_of, fed, loose_ask, result_at, result_of, seen, started}
 use Rattle.gix_odb_looks.specs.Reply.{IsAnswer}
-use Rattle.gix_odb_looks.specs.Shown.{IsHandedBy, IsShownView, folders_of}
+use Rattle.gix_odb_refresh.specs.Shown.{IsHandedBy, IsShownView, folders_of}
 use Rattle.gix_odb_looks.specs.True.{AreTrue}
 use Rattle.gix_odb_looks.specs.declared.look_up.LookHead.{LookHead}
 use Rattle.gix_odb_looks.specs.declared.look_up.LookStage.TheVariants as stages

@@ -1,10 +1,6 @@
 -- Laws of what a look-up hands to the disk and the core: its events are few, its calls of the disk change nothing, and the streams that it
 -- reads are its own.
-pub mod Differ
-pub mod Rows
 pub mod Stages
-pub mod Listing
-pub mod Streams
 pub mod Reading
 use Rattle.std.proofs.Common.{◌≡◌, ◌⊎◌, inl, inr, ℕ, List, [], ◌∷◌, Some, None, Ok}
 use Rattle.std.specs.List.{IsDistinct}
@@ -36,34 +32,23 @@ use Rattle.gix_odb_packs.specs.declared.trier.Stage.{Stage}
 use Rattle.gix_odb_calls.specs.declared.call.Reply.{Reply}
 use Rattle.gix_object.specs.declared.want.Want.{Want}
 use Rattle.gix_odb_looks.specs.Exchange.{AreAsked, Exchange, behind}
-use Rattle.gix_odb_looks.specs.Stream.{Stream, stream_in}
-use Rattle.gix_odb_looks.specs.LookUpOrder.{Setting, ask_at, ask_of, fed, lister_fed, result_of, seen, started}
-use Rattle.gix_odb_looks.specs.Shown.{folders_of}
+use Rattle.gix_odb_refresh.specs.RefreshOrder as refreshes
+use Rattle.gix_odb_refresh.specs.declared.refresh.Refresh.TheVariants as fronts
+use Rattle.gix_odb_looks.specs.LookUpOrder.{Setting, ask_at, ask_of, fed, result_of, seen, started}
+use Rattle.gix_odb_refresh.specs.Shown.{folders_of}
 use Rattle.gix_odb_looks.specs.declared.look_up.LookStage.TheVariants as stages
 use Rattle.gix_odb_looks.specs.declared.look_up.LookStage.{LookStage}
 use Rattle.gix_odb_looks.specs.declared.look_up.LookUp.{LookUp}
-use Rattle.gix_odb_looks.proofs.HandedLaws.Listing.{ListerDiffers, StepDiffers, listing_differs, starts_apart}
-use Rattle.gix_odb_looks.proofs.HandedLaws.Rows.{HasDifferentPaths-longest_first}
+use Rattle.gix_odb_refresh.proofs.ListerLaws.Apart.{ListerDiffers, StepDiffers, listing_differs, starts_apart}
 use Rattle.gix_odb_looks.proofs.HandedLaws.Stages.{Goes, Stands, Steps, loose_ask_is, published, same_ask, stage_stands, start_stands}
-use Rattle.gix_odb_looks.proofs.HandedLaws.Streams.{IsOpen, Told}
-use Rattle.gix_odb_looks.proofs.HandedLaws.Reading.{IsOwn, done_has_none, none_told, stage_asks_own, stage_changes_nothing, streams_are_own, told_from}
-pub use Rattle.gix_odb_looks.proofs.HandedLaws.Streams.{Opened, left_open, left_open-push, open_by, opened_by, opened_last, opened_last-push}
+use Rattle.gix_odb_refresh.proofs.ListerLaws.Streams.{IsOpen, Told}
+use Rattle.gix_odb_looks.proofs.HandedLaws.Reading.{IsOwn, done_has_none, stage_asks_own, stage_changes_nothing, streams_are_own}
+use Rattle.gix_odb_refresh.proofs.ListerLaws.Reads.{none_told, told_from}
+use Rattle.gix_odb_refresh.proofs.RefreshLaws.{AsksOfLooks, refresh_asks_of_looks}
+pub use Rattle.gix_odb_refresh.proofs.RefreshLaws.{IsOfLooks}
+pub use Rattle.gix_odb_refresh.proofs.ListerLaws.Streams.{IsOwnStream, Opened, left_open, left_open-push, open_by, opened_by, opened_last, opened_last-push}
 
 -- ---- which events
-
--- the events that look-ups ask
-abbrev pub IsOfLooks : Event → Type 0
-IsOfLooks events.Look = Unit {0}
-IsOfLooks (events.PutIndex slot path file) = Unit {0}
-IsOfLooks (events.PutPack pack path file) = Unit {0}
-IsOfLooks (events.PassOver slot path why) = Unit {0}
-IsOfLooks (events.Publish listing) = Unit {0}
-IsOfLooks event = ⊥
-
-abbrev AsksOfLooks : Ask → Type 0
-AsksOfLooks (asks.Disk ask) = Unit {0}
-AsksOfLooks (asks.Core event) = IsOfLooks event
-AsksOfLooks (asks.NewCore slots folders) = ⊥
 
 trier_asks : (stage : Stage) → AsksOfLooks (tries.ask_at stage)
 trier_asks (tries_stages.Loading (loaders.Reading place)) = tt
@@ -76,9 +61,8 @@ trier_asks (tries_stages.PassingPack pack) = tt
 stage_asks : (stage : LookStage) (ask : Ask) → ask_at stage ≡ Some ask → AsksOfLooks ask
 stage_asks (stages.Trying trier part) ask is = same_ask AsksOfLooks ask (tries.ask_of trier) (trier_asks trier.stage) is
 stage_asks (stages.Loose round call) ask is = loose_ask_is AsksOfLooks ask (disk_ask_of call) (λ own same. tt) is
-stage_asks (stages.Looking purpose notes) ask is = same_ask AsksOfLooks ask (asks.Core events.Look) tt is
-stage_asks (stages.Listing lister base notes) ask is = same_ask AsksOfLooks ask (asks.Disk (lists.ask_of lister)) tt is
-stage_asks (stages.Publishing listing notes) ask is = same_ask AsksOfLooks ask (asks.Core (events.Publish listing)) tt is
+stage_asks (stages.Refreshing refresh purpose notes) ask is = same_ask AsksOfLooks ask (refreshes.ask_of refresh) (refresh_asks_of_looks refresh) is
+stage_asks (stages.Checking list_no notes) ask is = same_ask AsksOfLooks ask (asks.Core events.Look) tt is
 stage_asks (stages.Done reply) ask is = absurd (cc is)
 
 -- a look-up asks the core to be looked at, to store a file, to pass one over, and to publish a listing
@@ -103,7 +87,7 @@ module _ (setting : Setting) (distinct : IsDistinct same_path (folders_of settin
 
   step_differs : (step : ListStep) → StepDiffers setting.folders step → Steps setting AnyCall (ListerDiffers setting.folders) RowsDiffer (Unit {0}) step
   step_differs (listed.More lister) here = here
-  step_differs (listed.Rows rows) here = (tt, HasDifferentPaths-longest_first rows here)
+  step_differs (listed.Listed listing) here = (tt, here)
   step_differs listed.Broken here = tt
 
   goes_differing : (stage : LookStage) (answer : Answer) → StageDiffers stage
@@ -111,16 +95,17 @@ module _ (setting : Setting) (distinct : IsDistinct same_path (folders_of settin
   goes_differing (stages.Trying trier part) answer here = tt
   goes_differing (stages.Loose round call) (told.Disk answer) here = here
   goes_differing (stages.Loose round call) (told.Core answer) here = here
-  goes_differing (stages.Looking purpose notes) answer here = tt
-  goes_differing (stages.Listing lister base notes) (told.Disk answer) here =
-      step_differs (lister_fed setting lister answer)
+  goes_differing (stages.Refreshing fronts.Reading purpose notes) answer here = tt
+  goes_differing (stages.Checking list_no notes) answer here = tt
+  goes_differing (stages.Refreshing (fronts.Listing lister) purpose notes) (told.Disk answer) here =
+      step_differs (lists.fed setting.folders lister answer)
       (listing_differs setting.folders setting.objects distinct lister.head lister.stage here answer)
-  goes_differing (stages.Listing lister base notes) (told.Core answer) here = here
-  goes_differing (stages.Publishing listing notes) answer here = here
+  goes_differing (stages.Refreshing (fronts.Listing lister) purpose notes) (told.Core answer) here = here
+  goes_differing (stages.Refreshing (fronts.Publishing listing) purpose notes) answer here = here
   goes_differing (stages.Done reply) answer here = tt
 
-  starts_listing : Unit {0} → ListerDiffers setting.folders (lists.started setting.objects)
-  starts_listing here = starts_apart setting.folders setting.objects distinct
+  starts_listing : (base : ℕ) → Unit {0} → ListerDiffers setting.folders (lists.started setting.objects base)
+  starts_listing base here = starts_apart setting.folders setting.objects distinct base
 
   differs_behind : (look : LookUp) → StageDiffers look.stage → (exchanges : List Exchange) → StageDiffers (behind setting look exchanges).stage
   differs_behind look here [] = here
@@ -146,16 +131,6 @@ module _ (setting : Setting) (distinct : IsDistinct same_path (folders_of settin
         published setting AnyCall (ListerDiffers setting.folders) RowsDiffer (Unit {0}) listing_look.stage differs listing is
 
 -- ---- they change no file, and their streams are their own
-
--- A stream of this number was opened last, in a folder, and is still open; and the exchanges tell what the stream of this folder gave.
-pub record IsOwnStream (exchanges : List Exchange) (dir : ℕ) : Type 0 where
-  pub folder : Path
-  pub last : opened_last exchanges ≡ Some (record { folder = folder; dir = dir })
-  pub left : left_open exchanges ≡ Some (record { folder = folder; dir = dir })
-  pub stream : Stream
-  pub told : stream_in exchanges ≡ Some stream
-  pub of : stream.folder ≡ folder
-  pub number : stream.dir ≡ dir
 
 module _ (setting : Setting) (view : View) (want : Want) (id : ObjectId) (exchanges : List Exchange)
     (asked : AreAsked setting (started setting view want id) exchanges) where

@@ -22,7 +22,7 @@ use Rattle.gix_odb_calls.specs.declared.verdict.Verdict.TheVariants as verdicts
 use Rattle.gix_odb_looks.specs.Exchange.{AreAsked, Exchange, HasFailed, HasVerdict, behind}
 use Rattle.gix_odb_looks.specs.Fair.{AreFair, PackedPlace}
 use Rattle.gix_odb_looks.specs.LookUpOrder.{Setting, ask_of, fed, not_found, result_of, started}
-use Rattle.gix_odb_looks.specs.Shown.{folders_of}
+use Rattle.gix_odb_refresh.specs.Shown.{folders_of}
 use Rattle.gix_odb_looks.specs.True.{AreTrue, IsTrue}
 use Rattle.gix_odb_looks.specs.declared.look_up.LookStage.{LookStage}
 use Rattle.gix_odb_looks.specs.declared.look_up.LookStage.TheVariants as stages

@@ -1,5 +1,5 @@
 -- A law of look-ups: the directories that they open are the folders of packs of the folders.
-use Rattle.std.proofs.Common.{◌≡◌, ℕ, false, List, Contains, Option, Some, None, refl, sym, ap, ◌∙◌}
+use Rattle.std.proofs.Common.{◌≡◌, ℕ, false, List, Option, Some, None, refl, sym, ap, ◌∙◌}
 use Rattle.odb_base.specs.Path.{Path}
 use Rattle.odb_asks.specs.StreamAsks.{is_of_streams}
 use Rattle.odb_asks.specs.declared.ask.DiskAsk.{DiskAsk}
@@ -10,26 +10,26 @@ use Rattle.gix_hash.specs.declared.object_id.ObjectId.{ObjectId}
 use Rattle.gix_odb_events.specs.declared.view.View.{View}
 use Rattle.gix_odb_loose.specs.LooseOrder.{disk_ask_of}
 use Rattle.gix_odb_loose.proofs.StillAskLaws.{call_asks_still}
-use Rattle.gix_odb_packs.specs.PackFolder.{pack_folder}
 use Rattle.gix_odb_packs.specs.ListOrder as lists
 use Rattle.gix_odb_packs.specs.TryOrder as tries
 use Rattle.gix_odb_events.specs.declared.answer.Ask.TheVariants as asks
 use Rattle.gix_odb_packs.specs.declared.index_loader.IndexLoader.TheVariants as loaders
 use Rattle.gix_odb_packs.specs.declared.lister.ListHead.{ListHead}
 use Rattle.gix_odb_packs.specs.declared.lister.ListStage.{ListStage}
-use Rattle.gix_odb_packs.specs.declared.lister.ListStage.TheVariants as list_stages
 use Rattle.gix_odb_packs.specs.declared.trier.Stage.{Stage}
 use Rattle.gix_odb_packs.specs.declared.trier.Stage.TheVariants as tries_stages
 use Rattle.gix_object.specs.declared.want.Want.{Want}
 use Rattle.gix_odb_looks.specs.Exchange.{AreAsked, Exchange, behind}
 use Rattle.gix_odb_looks.specs.LookUpOrder.{Setting, ask_at, ask_of, loose_ask, started}
-use Rattle.gix_odb_looks.specs.Shown.{IsShownView, folders_of}
+use Rattle.gix_odb_refresh.specs.Shown.{IsShownView}
 use Rattle.gix_odb_looks.specs.True.{AreTrue}
 use Rattle.gix_odb_looks.specs.declared.look_up.LookStage.{LookStage}
 use Rattle.gix_odb_looks.specs.declared.look_up.LookStage.TheVariants as stages
-use Rattle.gix_odb_looks.proofs.CauseLaws.Folders.{IsAtFolder}
+use Rattle.gix_odb_refresh.proofs.ListerLaws.Folders.{IsFolderOfPacks, lister_opens_there}
+use Rattle.gix_odb_refresh.specs.declared.refresh.Refresh.TheVariants as fronts
 use Rattle.gix_odb_looks.proofs.FoundLaws.Behind.{look_known}
-use Rattle.gix_odb_looks.proofs.FoundLaws.Known.{KnowsListHead, KnowsLookStage}
+use Rattle.gix_odb_refresh.proofs.ListerLaws.Known.{KnowsListHead}
+use Rattle.gix_odb_looks.proofs.FoundLaws.Known.{KnowsLookStage}
 
 trier_opens_none : (stage : Stage) (path : Path) → ¬ (tries.ask_at stage ≡ asks.Disk (disk_asks.OpenDir path))
 trier_opens_none (tries_stages.Loading (loaders.Reading place)) path is = cc is
@@ -40,22 +40,8 @@ trier_opens_none (tries_stages.StoringPack pack file) path is = cc is
 trier_opens_none (tries_stages.PassingPack pack) path is = cc is
 
 module _ (setting : Setting) (path : Path) where
-  -- a path is that of the folder of packs of one of the folders
-  abbrev pub IsFolderOfPacks : Type 0
-  IsFolderOfPacks = (folder : Path) × Contains (folders_of setting) folder × (path ≡ pack_folder folder)
-
-  -- a lister that is at the folder of packs of one of the folders opens that one
-  pub lister_opens_there : (head : ListHead) → IsAtFolder setting head → (stage : ListStage) → lists.ask_at head.folder stage ≡ disk_asks.OpenDir path
-      → IsFolderOfPacks
-  lister_opens_there head at list_stages.Opening is = let same : head.folder ≡ path = cc is in (at.0, at.1, sym same ∙ at.2)
-  lister_opens_there head at (list_stages.Reading dir entries) is = absurd (cc is)
-  lister_opens_there head at (list_stages.Closing dir entries) is = absurd (cc is)
-  lister_opens_there head at (list_stages.Breaking dir) is = absurd (cc is)
-  lister_opens_there head at (list_stages.Index other left) is = absurd (cc is)
-  lister_opens_there head at (list_stages.Pack row left) is = absurd (cc is)
-
-  lister_opens : (head : ListHead) → KnowsListHead setting head → (stage : ListStage) → lists.ask_at head.folder stage ≡ disk_asks.OpenDir path → IsFolderOfPacks
-  lister_opens head known stage is = lister_opens_there head (known.folder, known.among, known.is) stage is
+  lister_opens : (head : ListHead) → KnowsListHead setting head → (stage : ListStage) → lists.ask_at head.folder stage ≡ disk_asks.OpenDir path → IsFolderOfPacks setting path
+  lister_opens head known stage is = lister_opens_there setting path head (known.folder, known.among, known.is) stage is
 
   loose_opens_none : (call : Option DiskAsk) → ((ask : DiskAsk) → call ≡ Some ask → is_of_streams ask ≡ false)
       → ¬ (loose_ask call ≡ Some (asks.Disk (disk_asks.OpenDir path)))
@@ -66,14 +52,15 @@ module _ (setting : Setting) (path : Path) where
       cc none
 
   module _ (Shown : Path → List ℕ → Type 0) (hash : Kind) (want : Want) (id : ObjectId) (exchanges : List Exchange) where
-    opens_by : (stage : LookStage) → KnowsLookStage Shown setting hash id exchanges want stage → ask_at stage ≡ Some (asks.Disk (disk_asks.OpenDir path)) → IsFolderOfPacks
+    opens_by : (stage : LookStage) → KnowsLookStage Shown setting hash id exchanges want stage → ask_at stage ≡ Some (asks.Disk (disk_asks.OpenDir path)) → IsFolderOfPacks setting path
     opens_by (stages.Trying trier part) known is =
         let same : tries.ask_of trier ≡ asks.Disk (disk_asks.OpenDir path) = cc is in absurd (trier_opens_none trier.stage path same)
     opens_by (stages.Loose round call) known is = absurd (loose_opens_none (disk_ask_of call) (λ ask asked. call_asks_still call ask asked) is)
-    opens_by (stages.Looking purpose notes) known is = absurd (cc is)
-    opens_by (stages.Listing lister base notes) known is =
+    opens_by (stages.Refreshing fronts.Reading purpose notes) known is = absurd (cc is)
+    opens_by (stages.Checking list_no notes) known is = absurd (cc is)
+    opens_by (stages.Refreshing (fronts.Listing lister) purpose notes) known is =
         let same : lists.ask_of lister ≡ disk_asks.OpenDir path = cc is in lister_opens lister.head known.head lister.stage same
-    opens_by (stages.Publishing listing notes) known is = absurd (cc is)
+    opens_by (stages.Refreshing (fronts.Publishing listing) purpose notes) known is = absurd (cc is)
     opens_by (stages.Done reply) known is = absurd (cc is)
 
 -- a directory that a look-up opens is the folder of packs of one of the folders

@@ -1,6 +1,5 @@
 -- A look-up ends: as long as it goes on, it took fewer turns than its bound.
 mod TrierTurns
-pub mod ListerTurns
 mod LapsLeft
 mod TurnsLeft
 mod PartTurns
@@ -14,10 +13,11 @@ use Rattle.gix_odb_events.specs.declared.answer.Ask.{Ask}
 use Rattle.gix_odb_calls.specs.declared.call.Reply.{Reply}
 use Rattle.gix_object.specs.declared.want.Want.{Want}
 use Rattle.gix_odb_looks.specs.Exchange.{AreAnswered, AreAsked, Exchange, behind}
-use Rattle.gix_odb_looks.specs.Stream.{Stream, stream_by}
+use Rattle.gix_odb_refresh.specs.Stream.{Stream, stream_by}
 use Rattle.gix_odb_looks.specs.Laps.{AreNumbered, AreWithin, number_by, turns_of_lap, turns_of_look}
 use Rattle.gix_odb_looks.specs.LookUpOrder.{Setting, ask_at, ask_of, fed, new_head, result_at, result_of, started, try_view, without_notes}
-use Rattle.gix_odb_looks.specs.Shown.{folders_of}
+use Rattle.gix_odb_refresh.specs.Shown.{folders_of}
+use Rattle.gix_odb_refresh.specs.declared.refresh.Refresh.TheVariants as fronts
 use Rattle.gix_odb_looks.specs.declared.look_up.LookHead.{LookHead}
 use Rattle.gix_odb_looks.specs.declared.look_up.LookStage.{LookStage}
 use Rattle.gix_odb_looks.specs.declared.look_up.LookStage.TheVariants as stages
@@ -25,7 +25,7 @@ use Rattle.gix_odb_looks.specs.declared.look_up.LookUp.{LookUp}
 use Rattle.gix_odb_looks.specs.declared.look_up.Part.TheVariants as parts
 use Rattle.gix_odb_looks.specs.declared.look_up.Purpose.TheVariants as purposes
 use Rattle.gix_odb_looks.proofs.TurnLaws.TurnsLeft.{Bounds, HasLeft, HasLeft-pos, LookHasLeft, settling_turns}
-use Rattle.gix_odb_looks.proofs.TurnLaws.ListerTurns.{folder_turns, further}
+use Rattle.gix_odb_refresh.proofs.ListerLaws.Turns.{folder_turns, further}
 use Rattle.gix_odb_looks.proofs.TurnLaws.LookTurns.{IsTold, stream_behind, fed_left}
 use Rattle.gix_odb_looks.proofs.TurnLaws.PartTurns.{view_left}
 
@@ -72,7 +72,7 @@ module _ (bounds : Bounds) where
   started_left : (view : View) (want : Want) (id : ObjectId) (read : Bool) → length view.snapshot.indices ≤ bounds.slots
       → 8 * bounds.slots + 2 * length bounds.setting.folders + 3 ≤ bounds.lap
       → HasLeft bounds (new_head want id)
-      (cond read (try_view bounds.setting (new_head want id) parts.Snapshot view [] without_notes) (stages.Looking (purposes.First true) without_notes))
+      (cond read (try_view bounds.setting (new_head want id) parts.Snapshot view [] without_notes) (stages.Refreshing fronts.Reading (purposes.First true) without_notes))
       0 None ((bounds.setting.most + 2) * bounds.lap)
   started_left view want id true few enough =
       view_left bounds (new_head want id) parts.Snapshot 0 None ((bounds.setting.most + 2) * bounds.lap) view [] without_notes (omega arith)

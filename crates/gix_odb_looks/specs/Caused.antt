@@ -4,7 +4,6 @@ use Rattle.odb_base.specs.Path.{Path}
 use Rattle.odb_asks.specs.declared.ask.DiskAnswer.{DiskAnswer}
 use Rattle.odb_asks.specs.declared.ask.DiskAnswer.TheVariants as disk_answers
 use Rattle.odb_asks.specs.declared.ask.DiskAsk.TheVariants as disk_asks
-use Rattle.odb_nodes.specs.declared.disk_error.DiskError.{DiskError}
 use Rattle.odb_nodes.specs.declared.disk_error.DiskError.TheVariants as disk_errors
 use Rattle.gix_hash.specs.declared.kind.Kind.{Kind}
 use Rattle.gix_hash.specs.declared.object_id.ObjectId.{ObjectId}
@@ -13,10 +12,7 @@ use Rattle.gix_pack_files.specs.declared.data.Error as pack
 use Rattle.gix_pack_files.specs.declared.data.Error.TheVariants as pack_errors
 use Rattle.gix_odb_events.specs.PackPath.{pack_path}
 use Rattle.gix_odb_events.specs.declared.event.Effect.TheVariants as effects
-use Rattle.gix_odb_events.specs.declared.event.Event.{Event}
-use Rattle.gix_odb_events.specs.declared.event.Refusal.{Refusal}
 use Rattle.gix_odb_events.specs.declared.event.Refusal.TheVariants as refusals
-use Rattle.gix_odb_packs.specs.PackFolder.{pack_folder}
 use Rattle.gix_odb_events.specs.declared.answer.Answer.{Answer}
 use Rattle.gix_odb_events.specs.declared.answer.Answer.TheVariants as told
 use Rattle.gix_odb_events.specs.declared.answer.Ask.TheVariants as asks
@@ -32,11 +28,8 @@ use Rattle.gix_odb_calls.specs.Verdict.{refused}
 use Rattle.gix_odb_looks.specs.LookUpOrder.{Setting, view_of}
 use Rattle.gix_odb_looks.specs.Exchange.{Exchange, HasFailed, HasVerdict, IsLast, WasTold, first_number, published_in}
 use Rattle.gix_odb_looks.specs.Found.{IsInIndex, IsInPack}
-use Rattle.gix_odb_looks.specs.Shown.{folders_of}
-
--- the wrong kind stands there, or a part of its way is one or a link loop
-abbrev pub IsBlocked : DiskError → Type 0
-IsBlocked error = (error ≡ disk_errors.WrongKind) ⊎ (error ≡ disk_errors.LinkLoop)
+use Rattle.gix_odb_refresh.specs.Shown.{folders_of}
+pub use Rattle.gix_odb_refresh.specs.Caused.{IsBlocked, IsNoFolder, IsRefused}
 
 -- a pack could not be read, or its bytes are none
 abbrev pub IsNoPack : Kind → DiskAnswer → Type 0
@@ -48,19 +41,6 @@ IsNoPack hash answer = ⊥
 abbrev pub TellsNumber : Answer → ℕ → Type 0
 TellsNumber (told.Core (Ok (effects.Outdated number))) now = number ≡ now
 TellsNumber answer now = (view : View) × (view_of answer ≡ Some view) × (view.list_no ≡ now)
-
--- the folder of packs of one of the folders is none
-pub record IsNoFolder (setting : Setting) (exchanges : List Exchange) : Type 0 where
-  pub folder : Path
-  pub among : Contains (folders_of setting) folder
-  pub error : DiskError
-  pub blocked : IsBlocked error
-  pub told : WasTold exchanges (asks.Disk (disk_asks.OpenDir (pack_folder folder))) (told.Disk (disk_answers.Refused error))
-
--- the core refused an event so
-pub record IsRefused (exchanges : List Exchange) (refusal : Refusal) : Type 0 where
-  pub event : Event
-  pub told : WasTold exchanges (asks.Core event) (told.Core (Err refusal))
 
 -- Here `Shown path bytes` says that a file with these bytes was shown at this path since the store was opened.
 module _ (Shown : Path → List ℕ → Type 0) (setting : Setting) (hash : Kind) (id : ObjectId) where

@@ -1,14 +1,11 @@
 -- What a look-up asked and was answered, one after another.
-use Rattle.std.specs.Prelude.{◌≡◌, ℕ, ◌+◌, List, [], ◌∷◌, ◌++◌, Contains, Option, Some, None, Ok, Err}
+use Rattle.std.specs.Prelude.{◌≡◌, ℕ, ◌+◌, List, [], ◌∷◌, ◌++◌, Option, Some, None, Ok}
 use Rattle.odb_base.specs.Path.{Path}
-use Rattle.odb_nodes.specs.declared.disk_error.DiskError.TheVariants as disk_errors
 use Rattle.odb_asks.specs.declared.ask.DiskAnswer.{DiskAnswer}
-use Rattle.odb_asks.specs.declared.ask.DiskAnswer.TheVariants as disk_answers
 use Rattle.odb_asks.specs.declared.ask.DiskAsk.{DiskAsk}
 use Rattle.gix_hash.specs.declared.object_id.ObjectId.{ObjectId}
 use Rattle.gix_odb_loose.specs.LooseOrder.{disk_ask_of, reply_of}
 use Rattle.gix_odb_loose.specs.declared.call.LooseReply.{LooseReply}
-use Rattle.gix_odb_events.specs.Answers.{view_in}
 use Rattle.gix_odb_events.specs.declared.event.Effect.TheVariants as effects
 use Rattle.gix_odb_events.specs.declared.event.Event.TheVariants as events
 use Rattle.gix_odb_events.specs.declared.view.View.{View}
@@ -19,13 +16,9 @@ use Rattle.gix_odb_events.specs.declared.answer.Ask.TheVariants as asks
 use Rattle.gix_odb_calls.specs.Verdict.{asking, verdict_on}
 use Rattle.gix_object.specs.declared.want.Want.{Want}
 use Rattle.gix_odb_calls.specs.declared.verdict.Verdict.{Verdict}
+pub use Rattle.gix_odb_refresh.specs.Exchange.{Exchange, IsAnswerTo, AreAnswered, HasFailed, WasTold}
 use Rattle.gix_odb_looks.specs.LookUpOrder.{Setting, ask_of, fed, loose_fed, view_of}
 use Rattle.gix_odb_looks.specs.declared.look_up.LookUp.{LookUp}
-
--- one ask and its answer
-pub record Exchange : Type 0 where
-  pub ask : Ask
-  pub answer : Answer
 
 -- the look-up behind exchanges
 abbrev pub behind : Setting → LookUp → List Exchange → LookUp
@@ -37,39 +30,11 @@ abbrev pub AreAsked : Setting → LookUp → List Exchange → Type 0
 AreAsked setting look [] = Unit {0}
 AreAsked setting look (exchange ∷ exchanges) = (ask_of look ≡ Some exchange.ask) × AreAsked setting (fed setting look exchange.answer) exchanges
 
--- an answer is of the kind of its ask: calls of the disk are answered by the disk, events by the core, and a new core by that core; a look
--- by a view and a listing by what it came to, unless the event is refused
-abbrev pub IsAnswerTo : Ask → Answer → Type 0
-IsAnswerTo (asks.Disk ask) (told.Disk answer) = Unit {0}
-IsAnswerTo (asks.Core event) (told.Core (Err refusal)) = Unit {0}
-IsAnswerTo (asks.Core events.Look) (told.Core (Ok effect)) = (view : View) × (view_in (Ok effect) ≡ Some view)
-IsAnswerTo (asks.Core (events.Publish listing)) (told.Core (Ok (effects.Published view))) = Unit {0}
-IsAnswerTo (asks.Core (events.Publish listing)) (told.Core (Ok (effects.Unchanged view))) = Unit {0}
-IsAnswerTo (asks.Core (events.Publish listing)) (told.Core (Ok (effects.Outdated number))) = Unit {0}
-IsAnswerTo (asks.Core (events.Publish listing)) (told.Core (Ok effect)) = ⊥
-IsAnswerTo (asks.Core event) (told.Core (Ok effect)) = Unit {0}
-IsAnswerTo (asks.NewCore slots folders) (told.Core answer) = Unit {0}
-IsAnswerTo ask answer = ⊥
-
-abbrev pub AreAnswered : List Exchange → Type 0
-AreAnswered [] = Unit {0}
-AreAnswered (exchange ∷ exchanges) = IsAnswerTo exchange.ask exchange.answer × AreAnswered exchanges
-
 -- ---- what exchanges tell
 
 -- this one is the last of them
 abbrev pub IsLast : List Exchange → Exchange → Type 0
 IsLast exchanges exchange = (earlier : List Exchange) × (exchanges ≡ earlier ++ exchange ∷ [])
-
--- a call of the disk failed in one of them
-pub record HasFailed (exchanges : List Exchange) : Type 0 where
-  pub exchange : Exchange
-  pub among : Contains exchanges exchange
-  pub failed : exchange.answer ≡ told.Disk (disk_answers.Refused disk_errors.Failed)
-
--- this was asked and answered so in one of them
-abbrev pub WasTold : List Exchange → Ask → Answer → Type 0
-WasTold exchanges ask answer = Contains exchanges (record { ask = ask; answer = answer })
 
 -- the loose objects of a folder were asked for an object in one of them, and the verdict on what they reply to the answer is this one
 pub record HasVerdict (setting : Setting) (want : Want) (id : ObjectId) (exchanges : List Exchange) (folder : Path) (verdict : Verdict) : Type 0 where

@@ -29,7 +29,7 @@ use Rattle.gix_odb_events.specs.declared.answer.Ask.TheVariants as asks
 use Rattle.gix_odb_looks.specs.Exchange.{Exchange, IsAnswerTo}
 use Rattle.gix_odb_looks.specs.Found.{Gives}
 use Rattle.gix_odb_looks.specs.LookUpOrder.{view_of}
-use Rattle.gix_odb_looks.specs.Stream.{Stream, stream_in}
+use Rattle.gix_odb_refresh.specs.Stream.{Stream, stream_in}
 
 -- where an object lies: by the index of a name in the folder of packs of a folder, which gives it an offset
 pub record PackedPlace : Type 0 where

@@ -14,7 +14,7 @@ use Rattle.gix_odb_calls.specs.declared.find.Header.TheVariants as headers
 use Rattle.gix_object.specs.declared.want.Want.{Want}
 use Rattle.gix_object.specs.declared.want.Want.TheVariants.{Object, Header, Presence}
 use Rattle.gix_odb_looks.specs.LookUpOrder.{Setting}
-use Rattle.gix_odb_looks.specs.Shown.{IsIndexPath}
+use Rattle.gix_odb_refresh.specs.Shown.{IsIndexPath}
 
 -- the bytes of an index give an id an offset
 pub record Gives (hash : Kind) (bytes : List ℕ) (id : ObjectId) (offset : ℕ) : Type 0 where

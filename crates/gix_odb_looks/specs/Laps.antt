@@ -12,19 +12,7 @@ use Rattle.gix_odb_events.specs.declared.answer.Ask.{Ask}
 use Rattle.gix_odb_events.specs.declared.answer.Ask.TheVariants as asks
 use Rattle.gix_odb_looks.specs.Exchange.{Exchange}
 use Rattle.gix_odb_looks.specs.LookUpOrder.{view_of}
-use Rattle.gix_odb_looks.specs.Stream.{Stream, stream_by}
-
--- ---- what is told of streams: none gives more entries than so many
-
-abbrev pub HasAtMost : (entries : ℕ) → Option Stream → Type 0
-HasAtMost entries None = Unit {0}
-HasAtMost entries (Some stream) = length stream.entries ≤ entries
-
--- behind a stream that is open, or none
-abbrev pub AreWithin : (entries : ℕ) → Option Stream → List Exchange → Type 0
-AreWithin entries before [] = Unit {0}
-AreWithin entries before (exchange ∷ exchanges) =
-    HasAtMost entries (stream_by before exchange.ask exchange.answer) × AreWithin entries (stream_by before exchange.ask exchange.answer) exchanges
+pub use Rattle.gix_odb_refresh.specs.Laps.{HasAtMost, AreWithin, turns_of_lap}
 
 -- ---- what is told of lists
 
@@ -60,10 +48,6 @@ AreNumbered slots before (exchange ∷ exchanges) =
     IsNumbered slots before exchange.ask exchange.answer × AreNumbered slots (number_by before exchange.answer) exchanges
 
 -- ---- the bound
-
--- the turns of one lap over a store with so many slots and folders, where a folder that is listed has at most so many entries
-abbrev pub turns_of_lap : (slots folders entries : ℕ) → ℕ
-turns_of_lap slots folders entries = 8 + 8 * slots + folders * (8 * entries + 16)
 
 -- two laps more than the changes of the list that the look-up may meet
 abbrev pub turns_of_look : (slots folders most entries : ℕ) → ℕ

@@ -1,12 +1,12 @@
-pub mod LoadIndex
 pub mod LookUpOrder
 pub mod Exchange
-pub mod Shown
 pub mod Found
 pub mod Caused
 pub mod Reply
-pub mod Stream
 pub mod OpenStream
 pub mod Fair
 pub mod Laps
 pub mod True
+pub use Rattle.gix_odb_refresh.specs.LoadIndex
+pub use Rattle.gix_odb_refresh.specs.Shown
+pub use Rattle.gix_odb_refresh.specs.Stream

@@ -7,20 +7,20 @@ pub mod Listing
 pub mod Loose
 pub mod Trying
 pub mod Checking
-pub mod Looking
-pub mod Publishing
+pub mod Refreshing
 use Rattle.std.specs.Prelude.{ℕ, true, false, [], Option, Some, None, if◌then◌else◌, Result, Ok, Err}
 use Rattle.gix_hash.specs.declared.object_id.ObjectId.{ObjectId}
 use Rattle.gix_odb_calls.specs.declared.call.Reply.{Reply}
 use Rattle.gix_object.specs.declared.want.Want.{Want}
-use Rattle.gix_odb_events.specs.Answers.{view_in}
 use Rattle.gix_odb_events.specs.declared.answer.Answer.{Answer}
 use Rattle.gix_odb_events.specs.declared.answer.Answer.TheVariants as told
 use Rattle.gix_odb_events.specs.declared.answer.Ask.{Ask}
 use Rattle.gix_odb_events.specs.declared.answer.Ask.TheVariants as asks
 use Rattle.gix_odb_events.specs.declared.event.Event.TheVariants as events
 use Rattle.gix_odb_events.specs.declared.view.View.{View}
-use Rattle.gix_odb_looks.specs.LoadIndex.{of_refusal}
+use Rattle.gix_odb_refresh.specs.LoadIndex.{of_refusal}
+use Rattle.gix_odb_refresh.specs.RefreshOrder as refreshes
+use Rattle.gix_odb_refresh.specs.declared.refresh.Refresh.TheVariants as fronts
 use Rattle.gix_odb_looks.specs.declared.look_up.LookHead.{LookHead}
 use Rattle.gix_odb_looks.specs.declared.look_up.LookStage.{LookStage}
 use Rattle.gix_odb_looks.specs.declared.look_up.LookStage.TheVariants as stages
@@ -28,19 +28,18 @@ use Rattle.gix_odb_looks.specs.declared.look_up.LookUp.{LookUp}
 use Rattle.gix_odb_looks.specs.declared.look_up.Part.TheVariants as parts
 use Rattle.gix_odb_looks.specs.declared.look_up.Purpose.TheVariants as purposes
 use Rattle.gix_odb_loose.specs.LooseOrder.{disk_ask_of}
-use Rattle.gix_odb_packs.specs.ListOrder as lists
 use Rattle.gix_odb_packs.specs.TryOrder as tries
 use Rattle.gix_odb_packs.specs.declared.search.Notes.{Notes}
 use Rattle.odb_asks.specs.declared.ask.DiskAsk.{DiskAsk}
 use Rattle.odb_base.specs.Path.{Path}
 pub use Rattle.gix_odb_looks.specs.LookUpOrder.Replies.{load_refused, find_error, reply_found, not_found, ended}
 pub use Rattle.gix_odb_looks.specs.LookUpOrder.Store.{Setting, setting_of}
-pub use Rattle.gix_odb_looks.specs.LookUpOrder.Listing.{listing_from, lister_fed, by_listed}
+pub use Rattle.gix_odb_looks.specs.LookUpOrder.Listing.{listing_from}
 pub use Rattle.gix_odb_looks.specs.LookUpOrder.Loose.{loose_from, after_loose, at_folder, by_verdict, by_reply, by_call, loose_fed}
 pub use Rattle.gix_odb_looks.specs.LookUpOrder.Trying.{goal_of, after_list, by_tried, try_view, trier_fed}
-pub use Rattle.gix_odb_looks.specs.LookUpOrder.Checking.{is_unsettled, unsettled, counted, by_check}
-pub use Rattle.gix_odb_looks.specs.LookUpOrder.Looking.{view_shown, by_first, by_look}
-pub use Rattle.gix_odb_looks.specs.LookUpOrder.Publishing.{with_own, by_published}
+pub use Rattle.gix_odb_looks.specs.LookUpOrder.Checking.{is_unsettled, unsettled, counted, by_check, by_checked}
+pub use Rattle.gix_odb_looks.specs.LookUpOrder.Refreshing.{by_read, with_own, own_by, without_absent, by_current, by_refresh}
+pub use Rattle.gix_odb_refresh.specs.RefreshOrder.{view_of, view_shown}
 
 abbrev pub without_notes : Notes
 without_notes = record { failed = false; absent = [] }
@@ -52,7 +51,7 @@ new_head want id = record { want = want; id = id; begun = None; own = 0 }
 abbrev pub started : Setting → View → Want → ObjectId → LookUp
 started setting view want id = record {
   head = new_head want id;
-  stage = if view.read then try_view setting (new_head want id) parts.Snapshot view [] without_notes else stages.Looking (purposes.First true) without_notes;
+  stage = if view.read then try_view setting (new_head want id) parts.Snapshot view [] without_notes else stages.Refreshing fronts.Reading (purposes.First true) without_notes;
 }
 
 abbrev pub loose_ask : Option DiskAsk → Option Ask
@@ -62,9 +61,8 @@ loose_ask (Some ask) = Some (asks.Disk ask)
 abbrev pub ask_at : LookStage → Option Ask
 ask_at (stages.Trying trier part) = Some (tries.ask_of trier)
 ask_at (stages.Loose round call) = loose_ask (disk_ask_of call)
-ask_at (stages.Looking purpose notes) = Some (asks.Core events.Look)
-ask_at (stages.Listing lister base notes) = Some (asks.Disk (lists.ask_of lister))
-ask_at (stages.Publishing listing notes) = Some (asks.Core (events.Publish listing))
+ask_at (stages.Refreshing refresh purpose notes) = Some (refreshes.ask_of refresh)
+ask_at (stages.Checking list_no notes) = Some (asks.Core events.Look)
 ask_at (stages.Done reply) = None
 
 abbrev pub ask_of : LookUp → Option Ask
@@ -72,7 +70,7 @@ ask_of look = ask_at look.stage
 
 -- the path with which the stream was opened that a call of the disk may be on
 abbrev pub opened_at : LookStage → Option Path
-opened_at (stages.Listing lister base notes) = Some lister.head.folder
+opened_at (stages.Refreshing refresh purpose notes) = refreshes.opened_in refresh
 opened_at stage = None
 
 abbrev pub opened_in : LookUp → Option Path
@@ -82,11 +80,6 @@ abbrev pub first_of : Option ℕ → Option View → Option ℕ
 first_of (Some begun) view = Some begun
 first_of None None = None
 first_of None (Some view) = Some view.list_no
-
--- the view that an answer hands over
-abbrev pub view_of : Answer → Option View
-view_of (told.Disk answer) = None
-view_of (told.Core answer) = view_in answer
 
 -- the first view that a call is handed tells where it began
 abbrev pub seen : LookHead → Answer → LookHead
@@ -99,11 +92,10 @@ at head stage = record { head = head; stage = stage }
 abbrev pub fed_at : Setting → LookHead → LookStage → Answer → LookUp
 fed_at setting head (stages.Trying trier part) answer = at head (by_tried setting head part (trier_fed trier answer))
 fed_at setting head (stages.Loose round call) (told.Disk answer) = at head (by_call setting head round (loose_fed call answer))
-fed_at setting head (stages.Listing lister base notes) (told.Disk answer) = at head (by_listed base notes (lister_fed setting lister answer))
-fed_at setting head (stages.Looking purpose notes) (told.Core (Ok effect)) = at head (by_look setting head purpose notes (view_shown effect))
-fed_at setting head (stages.Looking purpose notes) (told.Core (Err refusal)) = at head (stages.Done (load_refused (of_refusal refusal)))
-fed_at setting head (stages.Publishing listing notes) (told.Core (Ok effect)) = by_published setting head listing notes effect
-fed_at setting head (stages.Publishing listing notes) (told.Core (Err refusal)) = at head (stages.Done (load_refused (of_refusal refusal)))
+fed_at setting head (stages.Refreshing refresh purpose notes) answer =
+    by_refresh setting head purpose notes (refreshes.fed setting.objects setting.folders refresh answer)
+fed_at setting head (stages.Checking list_no notes) (told.Core (Ok effect)) = at head (by_checked setting head list_no notes (view_shown effect))
+fed_at setting head (stages.Checking list_no notes) (told.Core (Err refusal)) = at head (stages.Done (load_refused (of_refusal refusal)))
 fed_at setting head stage answer = at head stage
 
 abbrev pub fed : Setting → LookUp → Answer → LookUp

@@ -13,8 +13,6 @@
 //! ```
 #![tactic(auto)]
 
-mod load_index;
 mod look_up;
 
-pub use load_index::of_refusal;
 pub use look_up::{LookHead, LookStage, LookUp, LooseRound, Part, Purpose, Setting};

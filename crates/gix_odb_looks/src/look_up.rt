@@ -10,18 +10,18 @@ ghost use Rattle.gix_odb_looks.specs.LookUpOrder as order;
 mod answered;
 mod checking;
 mod listing;
-mod looking;
 mod loose;
-mod publishing;
+mod refreshing;
 mod replies;
 mod trying;
 
 use gix_hash::ObjectId;
 use gix_object::Want;
 use gix_odb_calls::{Reply, StoreParts};
-use gix_odb_events::{Answer, Ask, Event, Listing, View};
+use gix_odb_events::{Answer, Ask, Event, View};
 use gix_odb_loose::LooseCall;
-use gix_odb_packs::{Lister, Notes, Trier};
+use gix_odb_packs::{Notes, Trier};
+use gix_odb_refresh::Refresh;
 use odb_base::{NoMemory, PathText};
 use std::alloc::Global;
 
@@ -65,13 +65,11 @@ pub enum Part {
     Published { list_no: u64 },
 }
 
-/// What a look at the core is for.
+/// What the core's list is read for.
 #[derive(Clone, Copy)]
 pub enum Purpose {
-    /// The list of the core is to be tried; whether the loose folders are, too.
+    /// A list that was read before is to be tried; whether the loose folders are, too.
     First { loose: bool },
-    /// Whether a list that was tried is still the newest.
-    Check { list_no: u64 },
     /// The folders are to be listed again.
     Again,
 }
@@ -99,20 +97,15 @@ pub enum LookStage {
         round: LooseRound,
         call: LooseCall,
     },
-    /// The core is to be looked at.
-    Looking {
+    /// The list of the core is read, or brought up to date.
+    Refreshing {
+        refresh: Refresh,
         purpose: Purpose,
         notes: Notes,
     },
-    /// The folders of packs are listed, behind a list of a number.
-    Listing {
-        lister: Lister,
-        base: u64,
-        notes: Notes,
-    },
-    /// The listing is to be published.
-    Publishing {
-        listing: Listing,
+    /// The core is to be looked at: whether the list of this number, which was tried, is still the newest.
+    Checking {
+        list_no: u64,
         notes: Notes,
     },
     Done(Reply),
@@ -181,8 +174,11 @@ impl LookUp {
         let stage = if snapshot.read {
             trying::try_snapshot(alloc, setting, head, snapshot, notes)?
         } else {
-            let purpose = Purpose::First { loose: true };
-            LookStage::Looking { purpose, notes }
+            LookStage::Refreshing {
+                refresh: Refresh::Reading,
+                purpose: Purpose::First { loose: true },
+                notes,
+            }
         };
         Ok(LookUp { head, stage })
     }
@@ -194,12 +190,8 @@ impl LookUp {
         match &self.stage {
             LookStage::Trying { trier, .. } => Ok(Some(trier.ask(alloc)?)),
             LookStage::Loose { call, .. } => loose_ask(alloc, call),
-            LookStage::Looking { .. } => Ok(Some(Ask::Core(Event::Look))),
-            LookStage::Listing { lister, .. } => Ok(Some(Ask::Disk(lister.ask(alloc)?))),
-            LookStage::Publishing { listing, .. } => {
-                let listing = listing.try_clone(alloc)?;
-                Ok(Some(Ask::Core(Event::Publish(listing))))
-            }
+            LookStage::Refreshing { refresh, .. } => Ok(Some(refresh.ask(alloc)?)),
+            LookStage::Checking { .. } => Ok(Some(Ask::Core(Event::Look))),
             LookStage::Done(_) => Ok(None),
         }
     }
@@ -209,7 +201,7 @@ impl LookUp {
         ensures opened { option_map (λ path. path.now) result ≡ order.opened_in self.now }
     {
         match &self.stage {
-            LookStage::Listing { lister, .. } => Some(lister.folder()),
+            LookStage::Refreshing { refresh, .. } => refresh.opened(),
             _ => None,
         }
     }

@@ -1,6 +1,6 @@
 pub mod PackFolder
-pub mod ListOrder
 pub mod LongestFirst
+pub mod ListOrder
 pub mod Goal
 pub mod Spot
 pub mod Search

@@ -1,4 +1,5 @@
--- The order of work in which the folders of packs are listed. Packs with an index of their own are found; multi-pack indices are left out.
+-- The order of work in which the folders of packs are listed, for the list that a store is to have after one of a number. Packs with an
+-- index of their own are found; multi-pack indices are left out.
 use Rattle.std.specs.Prelude.{ℕ, ◌+◌, ◌++◌, Bool, true, false, List, [], ◌∷◌, slice_get, Option, Some, None}
 use Rattle.odb_base.specs.Path.{Path}
 use Rattle.odb_asks.specs.declared.ask.DiskAsk.{DiskAsk}
@@ -11,7 +12,9 @@ use Rattle.odb_nodes.specs.declared.meta.Kind.TheVariants as kinds
 use Rattle.odb_nodes.specs.declared.meta.Kind.{Kind}
 use Rattle.odb_nodes.specs.declared.meta.Meta.{Meta}
 use Rattle.gix_odb_events.specs.PackPath.{pack_path}
+use Rattle.gix_odb_events.specs.declared.listing.Listing.{Listing}
 use Rattle.gix_odb_events.specs.declared.listing.ListingRow.{ListingRow}
+use Rattle.gix_odb_packs.specs.LongestFirst.{longest_first}
 use Rattle.gix_odb_packs.specs.PackFolder.{index_paths, pack_folder}
 use Rattle.gix_odb_packs.specs.declared.lister.ListStep.{ListStep}
 use Rattle.gix_odb_packs.specs.declared.lister.ListStep.TheVariants as ends
@@ -45,16 +48,20 @@ ask_of lister = ask_at lister.head.folder lister.stage
 
 -- ---- what comes next
 
--- the objects directory comes first
-abbrev pub started : Path → Lister
-started objects = record { head = record { folder = pack_folder objects; next = 0; rows = [] }; stage = stages.Opening }
+-- the objects directory comes first, after the list of a number
+abbrev pub started : Path → (base : ℕ) → Lister
+started objects base = record { head = record { base = base; folder = pack_folder objects; next = 0; rows = [] }; stage = stages.Opening }
 
 abbrev pub more : ListHead → ListStage → ListStep
 more head stage = ends.More (record { head = head; stage = stage })
 
--- behind a folder the next one is opened; behind the last one the listing has its rows
+-- what was listed: the rows are in the order in which they are tried
+abbrev pub listing_of : ListHead → Listing
+listing_of head = record { base = head.base; rows = longest_first head.rows }
+
+-- after a folder the next one is opened; after the last one all are listed
 abbrev pub behind_folder : ListHead → Option Path → ListStep
-behind_folder head None = ends.Rows head.rows
+behind_folder head None = ends.Listed (listing_of head)
 behind_folder head (Some folder) = more (record head { folder = pack_folder folder; next = head.next + 1 }) stages.Opening
 
 -- the next index of a folder is looked at, if there is one

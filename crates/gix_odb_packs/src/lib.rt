@@ -5,8 +5,8 @@
 //! handle drives them in the order that it has for them. `specs/{ListOrder,LoadOrder,TryOrder}.antt` say in which order they
 //! work, `specs/Goal.antt` what an index and a pack give.
 //! ```rust
-//! let mut lister = Lister::start(alloc, &objects)?;
-//! let rows = loop {
+//! let mut lister = Lister::start(alloc, &objects, base)?;
+//! let listed = loop {
 //!     let answer = lister.ask(alloc)?.carry_out(alloc, &mut disk);
 //!     match lister.feed(alloc, &folders, answer)? {
 //!         ListStep::More(more) => lister = more,

@@ -4,8 +4,9 @@ ghost use Rattle.gix_odb_packs.specs.ListOrder.{ask_of, at_paths, behind_folder,
 ghost use Rattle.gix_odb_packs.specs.ListOrder as order;
 
 use crate::folders::{PathList, index_paths, pack_folder};
+use crate::longest_first::longest_first;
 use crate::rest::Rest;
-use gix_odb_events::{ListingRow, ListingRowList, Shared, pack_path};
+use gix_odb_events::{Listing, ListingRow, ListingRowList, Shared, pack_path};
 use odb_asks::{DirId, DiskAnswer, DiskAsk};
 use odb_base::{NoMemory, PathText, Sequence};
 use odb_nodes::{DiskError, Entry, Kind};
@@ -23,6 +24,8 @@ pub struct Lister {
 /// How far a listing has come.
 #[derive(Drop)]
 pub struct ListHead {
+    /// The number of the list that was the newest when the listing began.
+    base: u64,
     /// The folder of packs that is listed.
     folder: PathText,
     /// The place of the folder that comes next, among those beside the objects directory.
@@ -70,19 +73,20 @@ pub enum ListStage {
 pub enum ListStep {
     /// It goes on.
     More(Lister),
-    /// All folders were listed, and have these rows: in the order of the folders, and of their streams.
-    Rows(ListingRowList),
+    /// All folders were listed: the rows come in the order in which they are tried.
+    Listed(Listing),
     /// A call failed, or what was to be a folder is none.
     Broken,
 }
 
 impl Lister {
-    /// A new listing, which begins with the objects directory.
-    pub fn start(alloc: Global, objects: &PathText) -> Result<Lister, NoMemory>
-        ensures begun { IfOk result (λ lister. lister ≡ started objects.now) }
+    /// A new listing after the list of a number, which begins with the objects directory.
+    pub fn start(alloc: Global, objects: &PathText, base: u64) -> Result<Lister, NoMemory>
+        ensures begun { IfOk result (λ lister. lister ≡ started objects.now base) }
     {
         Ok(Lister {
             head: ListHead {
+                base,
                 folder: pack_folder(alloc, objects)?,
                 next: 0,
                 rows: ListingRowList::new(alloc),
@@ -197,19 +201,30 @@ fn more(head: ListHead, stage: ListStage) -> ListStep
     ListStep::More(Lister { head, stage })
 }
 
-/// The next folder is listed, or the listing has its rows.
+/// The next folder is listed, or all are.
 fn behind_folder(alloc: Global, folders: &[PathText], head: ListHead) -> Result<ListStep, NoMemory>
     ensures behind { IfOk result (λ listed. listed ≡ behind_folder head (slice_get folders.now head.next)) }
 {
-    let ListHead { folder, next, rows } = head;
+    let ListHead {
+        base,
+        folder,
+        next,
+        rows,
+    } = head;
     drop(folder);
     let Some(folder) = folders.get(next) else {
-        return Ok(ListStep::Rows(rows));
+        let rows = longest_first(rows)?;
+        return Ok(ListStep::Listed(Listing { base, rows }));
     };
     match pack_folder(alloc, folder) {
         Ok(folder) => {
-            let next = next + 1;
-            Ok(more(ListHead { folder, next, rows }, ListStage::Opening))
+            let head = ListHead {
+                base,
+                folder,
+                next: next + 1,
+                rows,
+            };
+            Ok(more(head, ListStage::Opening))
         }
         Err(error) => {
             drop(rows);

@@ -1,13 +1,9 @@
 -- What a machine asked and was answered, one after another, for any machine that asks one thing at a time.
-use Rattle.std.specs.Prelude.{◌≡◌, ℕ, ◌+◌, List, [], ◌∷◌, Contains, Option, Some, None}
-use Rattle.odb_asks.specs.declared.ask.DiskAnswer.{DiskAnswer}
-use Rattle.odb_asks.specs.declared.ask.DiskAsk.{DiskAsk}
+use Rattle.std.specs.Prelude.{◌≡◌, ℕ, ◌+◌, List, [], ◌∷◌, Option, Some, None}
 use Rattle.gix_odb_events.specs.declared.answer.Answer.{Answer}
-use Rattle.gix_odb_events.specs.declared.answer.Answer.TheVariants as told
 use Rattle.gix_odb_events.specs.declared.answer.Ask.{Ask}
-use Rattle.gix_odb_events.specs.declared.answer.Ask.TheVariants as asks
-use Rattle.gix_odb_looks.specs.Exchange.{Exchange, IsAnswerTo}
-use Rattle.gix_odb_looks.specs.True.{Suits}
+use Rattle.gix_odb_refresh.specs.Exchange.{Exchange}
+pub use Rattle.gix_odb_refresh.specs.Suited.{IsSuited, AreSuited}
 
 -- one more than later ones, where something is asked
 abbrev pub one_more : Option Ask → (later : ℕ) → ℕ
@@ -30,11 +26,3 @@ module _ {Machine : Type 0} (ask_of : Machine → Option Ask) (fed : Machine →
   abbrev pub turns_of : Machine → List Exchange → ℕ
   turns_of machine [] = 0
   turns_of machine (exchange ∷ exchanges) = one_more (ask_of machine) (turns_of (fed machine exchange.answer) exchanges)
-
--- an answer is one that its call of the disk has, and of the kind of its ask
-abbrev pub IsSuited : Ask → Answer → Type 0
-IsSuited (asks.Disk ask) (told.Disk answer) = Suits ask answer
-IsSuited ask answer = IsAnswerTo ask answer
-
-abbrev pub AreSuited : List Exchange → Type 0
-AreSuited exchanges = (exchange : Exchange) → Contains exchanges exchange → IsSuited exchange.ask exchange.answer

@@ -1,3 +1,11 @@
+pub mod Store
+pub mod LoadIndex
 pub mod RefreshOrder
+pub mod Exchange
+pub mod Suited
 pub mod Asked
+pub mod Stream
+pub mod Shown
+pub mod Caused
 pub mod Refreshed
+pub mod Laps

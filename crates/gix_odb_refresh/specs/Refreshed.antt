@@ -10,24 +10,24 @@ use Rattle.gix_odb_events.specs.declared.answer.Answer.TheVariants as told
 use Rattle.gix_odb_events.specs.declared.answer.Ask.TheVariants as asks
 use Rattle.gix_odb_calls.specs.declared.load_index.Error.{Error}
 use Rattle.gix_odb_calls.specs.declared.load_index.Error.TheVariants as errors
-use Rattle.gix_odb_looks.specs.Caused.{IsNoFolder, IsRefused}
-use Rattle.gix_odb_looks.specs.Exchange.{Exchange, HasFailed, WasTold}
-use Rattle.gix_odb_looks.specs.LookUpOrder.{Setting}
+use Rattle.gix_odb_refresh.specs.Caused.{IsNoFolder, IsRefused}
+use Rattle.gix_odb_refresh.specs.Exchange.{Exchange, HasFailed, WasTold}
+use Rattle.gix_odb_refresh.specs.Store.{Setting}
 use Rattle.gix_odb_refresh.specs.Asked as any
-use Rattle.gix_odb_refresh.specs.RefreshOrder.{ask_of, fed}
-use Rattle.gix_odb_refresh.specs.declared.refresh.Refresh.{Refresh}
+use Rattle.gix_odb_refresh.specs.RefreshOrder.{asked_of, step_fed}
+use Rattle.gix_odb_refresh.specs.declared.refresh.RefreshStep.{RefreshStep}
 
 -- ---- exchanges
 
-abbrev pub behind : Setting → Refresh → List Exchange → Refresh
-behind setting refresh exchanges = any.behind ask_of (fed setting.objects setting.folders) refresh exchanges
+abbrev pub behind : Setting → RefreshStep → List Exchange → RefreshStep
+behind setting step exchanges = any.behind asked_of (step_fed setting.objects setting.folders) step exchanges
 
-abbrev pub AreAsked : Setting → Refresh → List Exchange → Type 0
-AreAsked setting refresh exchanges = any.AreAsked ask_of (fed setting.objects setting.folders) refresh exchanges
+abbrev pub AreAsked : Setting → RefreshStep → List Exchange → Type 0
+AreAsked setting step exchanges = any.AreAsked asked_of (step_fed setting.objects setting.folders) step exchanges
 
--- how many of the exchanges a refresh asked for: those behind which it is ready or refused are another's
-abbrev pub turns_of : Setting → Refresh → List Exchange → ℕ
-turns_of setting refresh exchanges = any.turns_of ask_of (fed setting.objects setting.folders) refresh exchanges
+-- how many of the exchanges a refresh asked for: those after which it has ended are another's
+abbrev pub turns_of : Setting → RefreshStep → List Exchange → ℕ
+turns_of setting step exchanges = any.turns_of asked_of (step_fed setting.objects setting.folders) step exchanges
 
 -- ---- causes
 

@@ -1,176 +1,203 @@
-//! The order of work of a refresh: a look at the store's core, and where its list was never read, a listing of the folders
-//! of packs, which is published.
+//! The order of work of a refresh: the store's core is read, and where its list was never read, the folders of packs are
+//! listed, and the listing is published.
 ghost use Rattle.std.specs.Prelude.{◌≡◌, List, IfOk, Err, Ok};
 ghost use Rattle.std.specs.Option.{option_map};
 ghost use Rattle.odb_base.specs.Path.{Path};
 ghost use Rattle.gix_odb_events.specs.declared.answer.Answer.TheVariants as told;
-ghost use Rattle.gix_odb_refresh.specs.RefreshOrder.{ask_of, opened_in, started};
+ghost use Rattle.gix_odb_refresh.specs.RefreshOrder.{ask_of, opened_in, view_shown};
 ghost use Rattle.gix_odb_refresh.specs.RefreshOrder as order;
 
+use crate::load_index::of_refusal;
 use gix_odb_calls::{StoreParts, load_index};
 use gix_odb_events::{Answer, Ask, Effect, Event, Listing, Refusal, View};
-use gix_odb_looks::of_refusal;
-use gix_odb_packs::longest_first::longest_first;
 use gix_odb_packs::{ListStep, Lister};
 use odb_asks::DiskAnswer;
 use odb_base::{NoMemory, PathText};
 use std::alloc::Global;
 
-/// A refresh on its way.
+/// A refresh on its way, which begins by reading the core.
 ///
-/// `ask` names the next call of the disk or the next event of the store's core, `feed` takes its answer, and so on until
-/// the refresh is ready or refused.
+/// `ask` names the next call of the disk or the next event of the store's core, `feed` takes its answer.
 #[derive(Drop)]
 pub enum Refresh {
-    /// The core is to be looked at.
-    Looking,
-    /// The folders of packs are listed, behind a list of a number.
-    Listing { lister: Lister, base: u64 },
+    /// The core's list is to be read.
+    Reading,
+    /// The folders of packs are listed.
+    Listing(Lister),
     /// The listing is to be published.
     Publishing(Listing),
-    /// The core has a list that was read.
-    Ready,
+}
+
+/// What follows an answer to a refresh.
+#[derive(Drop)]
+pub enum RefreshStep {
+    /// It goes on.
+    More(Refresh),
+    /// The core's list was read before, and this view shows it.
+    Read(View),
+    /// The core's list is the listing; `own` says that the listing made it, which otherwise changed nothing.
+    Current { view: View, own: bool },
+    /// Another list, of this number, was published since the core was read.
+    Outdated { list_no: u64 },
+    /// The folders can't be listed, or the core refused the event.
     Refused(load_index::Error),
 }
 
 impl Refresh {
-    /// A new refresh, from a handle's snapshot. It asks nothing yet; where the snapshot is of a list that was read, it is
-    /// ready.
-    pub fn start(snapshot: &View) -> Refresh
-        ensures begun { result ≡ started snapshot.now }
+    /// A refresh whose core was read, and had the list of this number then.
+    pub fn listing(alloc: Global, parts: &StoreParts, base: u64) -> Result<Refresh, NoMemory>
+        ensures lists { IfOk result (λ refresh. refresh ≡ order.listing_from parts.now.objects base) }
     {
-        if snapshot.read {
-            Refresh::Ready
-        } else {
-            Refresh::Looking
-        }
+        Ok(Refresh::Listing(Lister::start(alloc, &parts.objects, base)?))
     }
 
-    /// What comes next: a call of the disk, or an event of the store's core; there is none where the refresh is ready or
-    /// refused.
-    pub fn ask(&self, alloc: Global) -> Result<Option<Ask>, NoMemory>
+    /// What comes next: a call of the disk, or an event of the store's core.
+    pub fn ask(&self, alloc: Global) -> Result<Ask, NoMemory>
         ensures asked { IfOk result (λ ask. ask ≡ ask_of self.now) }
     {
         match self {
-            Refresh::Looking => Ok(Some(Ask::Core(Event::Look))),
-            Refresh::Listing { lister, .. } => Ok(Some(Ask::Disk(lister.ask(alloc)?))),
+            Refresh::Reading => Ok(Ask::Core(Event::Look)),
+            Refresh::Listing(lister) => Ok(Ask::Disk(lister.ask(alloc)?)),
             Refresh::Publishing(listing) => {
                 let listing = listing.try_clone(alloc)?;
-                Ok(Some(Ask::Core(Event::Publish(listing))))
+                Ok(Ask::Core(Event::Publish(listing)))
             }
-            Refresh::Ready | Refresh::Refused(_) => Ok(None),
         }
     }
 
-    /// The path with which the stream was opened that the next call of the disk is on, where it is on one.
+    /// The directory of the open stream that the next call reads, where it reads one.
     pub fn opened(&self) -> Option<&PathText>
         ensures opened { option_map (λ path. path.now) result ≡ opened_in self.now }
     {
         match self {
-            Refresh::Listing { lister, .. } => Some(lister.folder()),
+            Refresh::Listing(lister) => Some(lister.folder()),
             _ => None,
         }
     }
 
-    /// The refresh after the answer to what it asked for, in a store of these parts. An answer of the other kind, of the
-    /// disk or of the core, leaves it.
+    /// What follows the answer to what it asked for, in a store of these parts. An answer of the other kind, of the disk or
+    /// of the core, leaves it.
     pub fn feed(
         self,
         alloc: Global,
         parts: &StoreParts,
         answer: Answer,
-    ) -> Result<Refresh, NoMemory>
-        ensures fed { IfOk result (λ next. next ≡ order.fed parts.now.objects parts.now.folders self answer) }
+    ) -> Result<RefreshStep, NoMemory>
+        ensures fed { IfOk result (λ step. step ≡ order.fed parts.now.objects parts.now.folders self answer) }
     {
         match answer {
             Answer::Disk(answer) => by_disk(alloc, parts, self, answer),
-            Answer::Core(Ok(effect)) => by_effect(alloc, parts, self, &effect),
+            Answer::Core(Ok(effect)) => by_effect(alloc, parts, self, effect),
             Answer::Core(Err(Refusal::NoMemory)) => Err(NoMemory),
             Answer::Core(Err(refusal)) => Ok(by_refusal(self, refusal)),
         }
     }
 }
 
-/// What comes behind an answer of the disk.
+/// What follows an answer of the disk.
 fn by_disk(
     alloc: Global,
     parts: &StoreParts,
     refresh: Refresh,
     answer: DiskAnswer,
-) -> Result<Refresh, NoMemory>
-    ensures fed { IfOk result (λ next. next ≡ order.fed parts.now.objects parts.now.folders refresh (told.Disk answer)) }
+) -> Result<RefreshStep, NoMemory>
+    ensures fed { IfOk result (λ step. step ≡ order.fed parts.now.objects parts.now.folders refresh (told.Disk answer)) }
 {
     match refresh {
-        Refresh::Listing { lister, base } => {
+        Refresh::Listing(lister) => {
             let step = lister.feed(alloc, parts.folders.as_slice(), answer)?;
-            by_listed(base, step)
+            Ok(by_listed(step))
         }
-        refresh => Ok(refresh),
+        refresh => {
+            drop(answer);
+            Ok(RefreshStep::More(refresh))
+        }
     }
 }
 
-/// What comes behind a step of a listing.
-fn by_listed(base: u64, step: ListStep) -> Result<Refresh, NoMemory>
-    ensures by { IfOk result (λ next. next ≡ order.by_listed base step) }
+/// What follows a step of the listing.
+fn by_listed(step: ListStep) -> RefreshStep
+    ensures by { result ≡ order.by_listed step }
 {
     match step {
-        ListStep::More(lister) => Ok(Refresh::Listing { lister, base }),
-        ListStep::Rows(rows) => {
-            let rows = longest_first(rows)?;
-            Ok(Refresh::Publishing(Listing { base, rows }))
-        }
-        ListStep::Broken => Ok(Refresh::Refused(load_index::Error::Io)),
+        ListStep::More(lister) => RefreshStep::More(Refresh::Listing(lister)),
+        ListStep::Listed(listing) => RefreshStep::More(Refresh::Publishing(listing)),
+        ListStep::Broken => RefreshStep::Refused(load_index::Error::Io),
     }
 }
 
-/// What comes behind an event that wasn't refused.
+/// What follows an event that wasn't refused.
 fn by_effect(
     alloc: Global,
     parts: &StoreParts,
     refresh: Refresh,
-    effect: &Effect,
-) -> Result<Refresh, NoMemory>
-    ensures fed { IfOk result (λ next. next ≡ order.fed parts.now.objects parts.now.folders refresh (told.Core (Ok effect.now))) }
+    effect: Effect,
+) -> Result<RefreshStep, NoMemory>
+    ensures fed { IfOk result (λ step. step ≡ order.fed parts.now.objects parts.now.folders refresh (told.Core (Ok effect))) }
 {
     match refresh {
-        Refresh::Looking => by_look(alloc, parts, effect),
+        Refresh::Reading => by_look(alloc, parts, shown_by(effect)),
         Refresh::Publishing(listing) => Ok(by_published(listing, effect)),
-        refresh => Ok(refresh),
-    }
-}
-
-/// What comes behind a look at the core: the folders are listed where its list was not read.
-fn by_look(alloc: Global, parts: &StoreParts, effect: &Effect) -> Result<Refresh, NoMemory>
-    ensures by { IfOk result (λ next. next ≡ order.by_look parts.now.objects (order.view_shown effect.now)) }
-{
-    match effect.view() {
-        None => Ok(Refresh::Looking),
-        Some(view) if view.read => Ok(Refresh::Ready),
-        Some(view) => {
-            let lister = Lister::start(alloc, &parts.objects)?;
-            let base = view.list_no;
-            Ok(Refresh::Listing { lister, base })
+        refresh => {
+            drop(effect);
+            Ok(RefreshStep::More(refresh))
         }
     }
 }
 
-/// What comes behind a listing that was handed to the core. Where another list was published since the look, the core has
-/// one that was read.
-fn by_published(listing: Listing, effect: &Effect) -> Refresh
-    ensures by { result ≡ order.by_published listing effect.now }
+/// The view that an effect hands over.
+fn shown_by(effect: Effect) -> Option<View>
+    ensures view { result ≡ view_shown effect }
 {
     match effect {
-        Effect::Published(_) | Effect::Unchanged(_) | Effect::Outdated { .. } => Refresh::Ready,
-        _ => Refresh::Publishing(listing),
+        Effect::Seen(view) => Some(view),
+        Effect::Published(view) => Some(view),
+        Effect::Unchanged(view) => Some(view),
+        Effect::Reported {
+            view,
+            report: _report,
+        } => Some(view),
+        Effect::Put {
+            view,
+            stored: _stored,
+        } => Some(view),
+        Effect::Removed => None,
+        Effect::Outdated { list_no: _list_no } => None,
     }
 }
 
-/// What comes behind an event that was refused.
-fn by_refusal(refresh: Refresh, refusal: Refusal) -> Refresh
+/// What follows a look at the core: the folders are listed where its list was never read.
+fn by_look(alloc: Global, parts: &StoreParts, view: Option<View>) -> Result<RefreshStep, NoMemory>
+    ensures by { IfOk result (λ step. step ≡ order.by_look parts.now.objects view) }
+{
+    match view {
+        None => Ok(RefreshStep::More(Refresh::Reading)),
+        Some(view) if view.read => Ok(RefreshStep::Read(view)),
+        Some(view) => Ok(RefreshStep::More(Refresh::listing(alloc, parts, view.list_no)?)),
+    }
+}
+
+/// What follows a listing that was published, or came too late.
+fn by_published(listing: Listing, effect: Effect) -> RefreshStep
+    ensures by { result ≡ order.by_published listing effect }
+{
+    match effect {
+        Effect::Published(view) => RefreshStep::Current { view, own: true },
+        Effect::Unchanged(view) => RefreshStep::Current { view, own: false },
+        Effect::Outdated { list_no } => RefreshStep::Outdated { list_no },
+        effect => {
+            drop(effect);
+            RefreshStep::More(Refresh::Publishing(listing))
+        }
+    }
+}
+
+/// What follows an event that was refused.
+fn by_refusal(refresh: Refresh, refusal: Refusal) -> RefreshStep
     ensures fed { (objects : Path) → (folders : List Path) → result ≡ order.fed objects folders refresh (told.Core (Err refusal)) }
 {
     match refresh {
-        Refresh::Looking | Refresh::Publishing(_) => Refresh::Refused(of_refusal(refusal)),
-        refresh => refresh,
+        Refresh::Reading | Refresh::Publishing(_) => RefreshStep::Refused(of_refusal(refusal)),
+        refresh => RefreshStep::More(refresh),
     }
 }

@@ -21,6 +21,7 @@ use Rattle.odb_nodes.specs.declared.node.Content.{Content}
 use Rattle.odb_nodes.specs.declared.node.Content.TheVariants.{File, Dir, Link}
 use Rattle.gix_odb_events.specs.PackPath.{pack_path}
 use Rattle.gix_odb_events.specs.PackFiles.{same_path}
+use Rattle.gix_odb_events.specs.declared.listing.Listing.{Listing}
 use Rattle.gix_odb_events.specs.declared.listing.ListingRow.{ListingRow}
 use Rattle.gix_odb_packs.specs.ListOrder as lists
 use Rattle.gix_odb_events.specs.declared.answer.Answer.{Answer}
@@ -34,9 +35,9 @@ use Rattle.gix_odb_calls.specs.declared.init.Slots.TheVariants.{AsNeededByDiskSt
 use Rattle.gix_odb_looks.specs.Exchange.{Exchange, WasTold}
 use Rattle.gix_odb_looks.specs.LookUpOrder.{Setting}
 use Rattle.gix_odb_looks.specs.Shown.{IsIndexRow}
-use Rattle.gix_odb_looks.proofs.FoundLaws.Known.{KnowsListStep}
-use Rattle.gix_odb_looks.proofs.FoundLaws.Lists.{has_first, has_later}
-use Rattle.gix_odb_looks.proofs.FoundLaws.Listing.{fed_known, started_known}
+use Rattle.gix_odb_refresh.proofs.ListerLaws.Known.{KnowsListStep}
+use Rattle.gix_odb_refresh.proofs.ListerLaws.Lists.{has_first, has_later}
+use Rattle.gix_odb_refresh.proofs.ListerLaws.Known.{fed_known, started_known}
 use Rattle.gix_odb_refresh.specs.Asked.{AreSuited, IsSuited}
 use Rattle.gix_odb_look_laws.specs.ListedFiles.{AreOfTree}
 use Rattle.gix_odb_look_laws.specs.ListerCalls.{Call, IsRowSeen, WasCalled, behind_calls}
@@ -93,7 +94,7 @@ module _ (setting : Setting) where
   step_known : (step : ListStep) (answer : Answer) → KnowsListStep setting step → KnowsListStep setting (list_by setting.folders step answer)
   step_known (listed.More lister) (told.Disk answer) known = fed_known setting lister answer known
   step_known (listed.More lister) (told.Core answer) known = known
-  step_known (listed.Rows rows) answer known = known
+  step_known (listed.Listed listing) answer known = known
   step_known listed.Broken answer known = known
 
   listing_known : (step : ListStep) (exchanges : List Exchange) → KnowsListStep setting step → KnowsListStep setting (list_behind setting.folders step exchanges)
@@ -105,7 +106,7 @@ module _ (setting : Setting) where
 
 module _ (setting : Setting) (slots : Slots) where
   abbrev start : ListStep
-  start = listed.More (lists.started setting.objects)
+  start = listed.More (lists.started setting.objects 0)
 
   -- behind the look, and with what one tree answered from there on
   pub record HasCounted (look : Exchange) (listing : List Exchange) : Type 0 where
@@ -153,7 +154,7 @@ module _ (first : Volume) (events : List Event) (handle : ℕ) (store : Store) (
         was = ap (λ (t : Tree). looked t path follow) at.shown ∙ look_found at.disk path follow meta at.is;
       }
 
-  module _ (rows : List ListingRow) (has : HasListed setting exchanges (listed.Rows rows)) where
+  module _ (counted : Listing) (has : HasListed setting exchanges (listed.Listed counted)) where
     all_asked : AreAsked setting store.slots opens.Looking (has.look ∷ has.listing)
     all_asked = subst (λ (xs : List Exchange). AreAsked setting store.slots opens.Looking xs) has.are asked
 
@@ -168,7 +169,7 @@ module _ (first : Volume) (events : List Event) (handle : ℕ) (store : Store) (
     abbrev calls : List Call
     calls = looks.has.calls
 
-    ends : behind_calls setting.folders (start setting store.slots) calls ≡ listed.Rows rows
+    ends : behind_calls setting.folders (start setting store.slots) calls ≡ listed.Listed counted
     ends = looks.has.comes ∙ has.comes
 
     -- the calls are among the exchanges
@@ -204,17 +205,17 @@ module _ (first : Volume) (events : List Event) (handle : ℕ) (store : Store) (
           };
         }
 
-    are_counted : AreCounted trees setting begun (length events) rows
+    are_counted : AreCounted trees setting begun (length events) counted.rows
     are_counted =
-        let seen : All (IsRowSeen (WasCalled calls)) rows = listed_rows_were_seen setting.folders setting.objects calls rows looks.has.are ends in
-        let known : All (IsIndexRow setting) rows =
-        subst (KnowsListStep setting) has.comes (listing_known setting (start setting store.slots) has.listing (started_known setting)) in
+        let seen : All (IsRowSeen (WasCalled calls)) counted.rows = listed_rows_were_seen setting.folders setting.objects 0 calls counted looks.has.are ends in
+        let known : All (IsIndexRow setting) counted.rows =
+        subst (KnowsListStep setting) has.comes (listing_known setting (start setting store.slots) has.listing (started_known setting 0)) in
         record {
-          different = listed_rows_have_different_paths setting.folders setting.objects calls rows looks.has.are ends distinct;
-          shown = λ k d within. row_was_shown (slice_index_or rows k d) (seen k d within) (known k d within);
+          different = listed_rows_have_different_paths setting.folders setting.objects 0 calls counted looks.has.are ends distinct;
+          shown = λ k d within. row_was_shown (slice_index_or counted.rows k d) (seen k d within) (known k d within);
           of_tree = λ tree stood.
               let all = given.of_tree tree stood in
-              listed_rows_are_those_of_the_tree setting.folders setting.objects calls rows looks.has.are ends tree
+              listed_rows_are_those_of_the_tree setting.folders setting.objects 0 calls counted looks.has.are ends tree
               (looks.has.of_tree tree []
               (looks.of_tree tree
               (subst (λ (xs : List Exchange). AreOfTree tree [] xs) has.are (of_tree_to tree [] exchanges all.0 all.1))));

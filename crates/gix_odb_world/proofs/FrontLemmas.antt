@@ -2,7 +2,7 @@
 use Rattle.std.proofs.Common.{◌≡◌, ℕ, ◌+◌, ◌≤◌, List, [], ◌∷◌, ◌++◌, length, None, ◌∙◌, ap}
 use Rattle.gix_odb_looks.specs.Exchange.{Exchange}
 use Rattle.gix_odb_looks.specs.LookUpOrder.{Setting}
-use Rattle.gix_odb_refresh.specs.RefreshOrder.{ask_of, fed, started}
+use Rattle.gix_odb_refresh.specs.RefreshOrder.{asked_of, started, step_fed}
 use Rattle.gix_odb_refresh.specs.Refreshed.{AreAsked, behind, turns_of}
 use Rattle.gix_odb_refresh.proofs.AskedLemmas.{behind-push, turns_of-asked, turns_of-ended}
 use Rattle.gix_odb_world.specs.AtWork.{Modes, Store, setting_in}
@@ -15,7 +15,7 @@ pub front_asked : (events : List Event) (handle : ℕ) (store : Store) (modes : 
     → AreAsked (setting_in store) (refresh_begun events handle modes begun) (told_since events handle begun)
     → turns_in_front events handle store modes begun ≡ length (told_since events handle begun)
 front_asked events handle store modes begun asked =
-    turns_of-asked ask_of (fed store.parts.objects store.parts.folders) (refresh_begun events handle modes begun) (told_since events handle begun) asked
+    turns_of-asked asked_of (step_fed store.parts.objects store.parts.folders) (refresh_begun events handle modes begun) (told_since events handle begun) asked
 
 module _ (events : List Event) (e : Event) (handle : ℕ) (store : Store) (modes : Modes) (begun : ℕ) (since : begun ≤ length events) where
   abbrev whole : List Event
@@ -39,16 +39,16 @@ module _ (events : List Event) (e : Event) (handle : ℕ) (store : Store) (modes
   -- ---- behind one exchange more
 
   module _ (exchange : Exchange) (more : told_since whole handle begun ≡ told_since events handle begun ++ exchange ∷ []) where
-    pub now_more : refresh_now whole handle store modes begun ≡ fed store.parts.objects store.parts.folders (refresh_now events handle store modes begun) exchange.answer
+    pub now_more : refresh_now whole handle store modes begun ≡ step_fed store.parts.objects store.parts.folders (refresh_now events handle store modes begun) exchange.answer
     now_more =
         ap (λ refresh. behind setting refresh (told_since whole handle begun)) begun_same
         ∙ (ap (behind setting (refresh_begun events handle modes begun)) more
-        ∙ behind-push ask_of (fed store.parts.objects store.parts.folders) (refresh_begun events handle modes begun) (told_since events handle begun) exchange)
+        ∙ behind-push asked_of (step_fed store.parts.objects store.parts.folders) (refresh_begun events handle modes begun) (told_since events handle begun) exchange)
 
     -- what has ended takes no more turns
-    pub front_ended : ask_of (refresh_now events handle store modes begun) ≡ None
+    pub front_ended : asked_of (refresh_now events handle store modes begun) ≡ None
         → turns_in_front whole handle store modes begun ≡ turns_in_front events handle store modes begun
     front_ended ended =
         ap (λ refresh. turns_of setting refresh (told_since whole handle begun)) begun_same
         ∙ (ap (turns_of setting (refresh_begun events handle modes begun)) more
-        ∙ turns_of-ended ask_of (fed store.parts.objects store.parts.folders) (refresh_begun events handle modes begun) (told_since events handle begun) exchange ended)
+        ∙ turns_of-ended asked_of (step_fed store.parts.objects store.parts.folders) (refresh_begun events handle modes begun) (told_since events handle begun) exchange ended)

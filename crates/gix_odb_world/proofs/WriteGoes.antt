@@ -9,8 +9,8 @@ use Rattle.odb_asks.specs.declared.ask.DiskAsk.{DiskAsk}
 use Rattle.gix_odb_events.specs.declared.answer.Answer.TheVariants as answers
 use Rattle.gix_odb_events.specs.declared.answer.Ask.TheVariants as parts
 use Rattle.gix_odb_looks.specs.Exchange.{Exchange}
-use Rattle.gix_odb_refresh.specs.RefreshOrder as refreshes
-use Rattle.gix_odb_refresh.specs.declared.refresh.Refresh.TheVariants.{Ready}
+use Rattle.gix_odb_refresh.specs.RefreshOrder.{IsReady}
+use Rattle.gix_odb_refresh.proofs.RefreshLaws.{a_ready_refresh_asks_nothing, a_ready_step_stays}
 use Rattle.gix_odb_loose.specs.LooseOrder as loose_order
 use Rattle.gix_odb_loose.specs.LooseOrder.{written_to}
 use Rattle.gix_odb_loose.specs.WriteJobs.{advance_to, next_in, pieces_of, writes_left}
@@ -136,13 +136,17 @@ module _ (first : Volume) (events : List Event) (e : Event) (handle : ℕ) (runn
     more = told_turn events e handle running.begun at.since is.turn (OfDisk ask (answer_now (disk_after first events) ask)) is.asked told refl
 
     -- what stood in front of it is ready still, and took no more turns
-    ready : refresh_now whole handle running.store running.modes running.begun ≡ Ready
+    ready : IsReady (refresh_now whole handle running.store running.modes running.begun)
     ready =
-        now_more events e handle running.store running.modes running.begun at.since told more
-        ∙ ap (λ refresh. refreshes.fed running.store.parts.objects running.store.parts.folders refresh told.answer) at.ready
+        subst IsReady
+        (sym
+        (now_more events e handle running.store running.modes running.begun at.since told more
+        ∙ a_ready_step_stays running.store.parts.objects running.store.parts.folders (refresh_now events handle running.store running.modes running.begun)
+        at.ready told.answer))
+        at.ready
 
     front : turns_in_front whole handle running.store running.modes running.begun ≡ turns_in_front events handle running.store running.modes running.begun
-    front = front_ended events e handle running.store running.modes running.begun at.since told more (ap refreshes.ask_of at.ready)
+    front = front_ended events e handle running.store running.modes running.begun at.since told more (a_ready_refresh_asks_nothing (refresh_now events handle running.store running.modes running.begun) at.ready)
 
     short : (entries : ℕ) → Most entries → turns_in_front events handle running.store running.modes running.begun ≤ lap entries
     short entries most = at.short entries (most_before first events e running.store running.begun entries most)

@@ -19,10 +19,12 @@ use Rattle.gix_odb_events.specs.declared.answer.Ask.TheVariants as parts
 use Rattle.gix_odb_calls.specs.declared.call.Reply.{Reply}
 use Rattle.gix_odb_looks.specs.LookUpOrder.{Setting, loose_ask}
 use Rattle.gix_odb_refresh.proofs.RefreshLaws.{refreshes_have_no_core_made}
+use Rattle.gix_odb_refresh.specs.RefreshOrder.{IsReady}
 use Rattle.gix_odb_refresh.specs.RefreshOrder as refreshes
 use Rattle.gix_odb_refresh.specs.Refreshed.{AreAsked}
 use Rattle.gix_odb_refresh.specs.declared.refresh.Refresh.{Refresh}
-use Rattle.gix_odb_refresh.specs.declared.refresh.Refresh.TheVariants as fronts
+use Rattle.gix_odb_refresh.specs.declared.refresh.RefreshStep.{RefreshStep}
+use Rattle.gix_odb_refresh.specs.declared.refresh.RefreshStep.TheVariants as fronts
 use Rattle.gix_odb.specs.CallOrder as calls
 use Rattle.gix_odb.specs.Contents.{folder_list}
 use Rattle.gix_odb.specs.CallOrder.{fronted, result_of_write, writing_result, written_on}
@@ -66,12 +68,12 @@ own_placed (Ok reply) = refl
 own_placed (Err call) = refl
 
 -- what the code of a write comes to by what stands in front of it then
-front_placed : (call : LooseCall) (refresh : Refresh) → calling_result (calls.result_of (fronted refresh call)) ≡ placed writing (front_result call refresh)
-front_placed call fronts.Ready = own_placed (result_of_write call)
+front_placed : (call : LooseCall) (step : RefreshStep) → calling_result (calls.result_of (fronted step call)) ≡ placed writing (front_result call step)
+front_placed call (fronts.More refresh) = refl
+front_placed call (fronts.Read view) = own_placed (result_of_write call)
+front_placed call (fronts.Current view own) = own_placed (result_of_write call)
+front_placed call (fronts.Outdated list_no) = own_placed (result_of_write call)
 front_placed call (fronts.Refused error) = refl
-front_placed call fronts.Looking = refl
-front_placed call (fronts.Listing lister base) = refl
-front_placed call (fronts.Publishing listing) = refl
 
 write_code_asks : (code : HandleState) (state : WriteState) → ask_on code (work_of state) ≡ write_asks state
 write_code_asks code (InFront refresh call) = refl
@@ -123,21 +125,21 @@ module _ (first : Volume) (events : List Event) (handle : ℕ) (running : Runnin
 
 write_takes : (first : Volume) (events : List Event) (handle : ℕ) (running : Running) (state : WriteState) → KnowsOfWrite first events handle running state
     → TakesTurn first events handle running running.task (write_asks state)
-write_takes first events handle running (InFront refresh call) knows = by knows.more.0 knows.more.1
+write_takes first events handle running (InFront refresh call) knows = by (refreshes.ask_of refresh) refl
   where
-    by : (ask : Ask) → refreshes.ask_of refresh ≡ Some ask → TakesTurn first events handle running running.task (refreshes.ask_of refresh)
-    by (parts.NewCore slots folders) is = absurd (refreshes_have_no_core_made refresh slots folders is)
+    by : (ask : Ask) → write_asks (InFront refresh call) ≡ Some ask → TakesTurn first events handle running running.task (write_asks (InFront refresh call))
+    by (parts.NewCore slots folders) is = absurd (refreshes_have_no_core_made (fronts.More refresh) slots folders is)
     by (parts.Disk ask) is =
         subst (TakesTurn first events handle running running.task) (sym is) (front_takes first events handle running refresh call knows ask is)
     by (parts.Core event) is =
         subst (TakesTurn first events handle running running.task) (sym is)
-        (subst (λ task. TakesTurn first events handle running task (Some (parts.Core event))) (sym knows.of.task) (ap refreshes.ask_of (sym knows.refresh_is) ∙ is))
+        (subst (λ task. TakesTurn first events handle running task (Some (parts.Core event))) (sym knows.of.task) (ap refreshes.asked_of (sym knows.refresh_is) ∙ is))
 write_takes first events handle running (Own call) knows = own_takes first events handle running call knows
 write_takes first events handle running (Unlisted error) knows = absurd knows
 
 write_ends : (first : Volume) (events : List Event) (handle : ℕ) (running : Running) (state : WriteState) → KnowsOfWrite first events handle running state
     → write_asks state ≡ None → (reply : Reply) × (write_fed running.store state None ≡ Ok reply)
-write_ends first events handle running (InFront refresh call) knows none = let both = sym knows.more.1 ∙ none in absurd (cc both)
+write_ends first events handle running (InFront refresh call) knows none = absurd (cc none)
 write_ends first events handle running (Own call) knows none = let both = sym (own_asks first events handle running call knows) ∙ none in absurd (cc both)
 write_ends first events handle running (Unlisted error) knows none = absurd knows
 
@@ -157,9 +159,9 @@ module _ (first : Volume) (events : List Event) (e : Event) (handle : ℕ) (runn
       (write_fed running.store (InFront refresh call) (answered (told_after first events handle running asked)))
 
   front_comes : IsRunning first events handle running → IsInFront first events handle running refresh call → (ask : Ask)
-      → refreshes.ask_of refresh ≡ Some ask → FrontComes (refreshes.ask_of refresh)
+      → write_asks (InFront refresh call) ≡ Some ask → FrontComes (write_asks (InFront refresh call))
   front_comes ran knows (parts.Disk ask) is = subst FrontComes (sym is) (λ turn. front_comes_on_disk first events handle running refresh call knows e ran ask is turn)
-  front_comes ran knows (parts.NewCore slots folders) is = absurd (refreshes_have_no_core_made refresh slots folders is)
+  front_comes ran knows (parts.NewCore slots folders) is = absurd (refreshes_have_no_core_made (fronts.More refresh) slots folders is)
   front_comes ran knows (parts.Core event) is = subst FrontComes (sym is) (λ turn. front_comes_on_core first events handle running refresh call knows e event is turn)
 
 write_comes_to : (first : Volume) (events : List Event) (e : Event) (handle : ℕ) (running : Running) → IsRunning first events handle running
@@ -167,7 +169,7 @@ write_comes_to : (first : Volume) (events : List Event) (e : Event) (handle : �
     → MachineComes first events e handle running writing KnowsOfWrite (told_after first events handle running (write_asks state))
     (write_fed running.store state (answered (told_after first events handle running (write_asks state))))
 write_comes_to first events e handle running ran (InFront refresh call) knows =
-    front_comes first events e handle running refresh call ran knows knows.more.0 knows.more.1
+    front_comes first events e handle running refresh call ran knows (refreshes.ask_of refresh) refl
 write_comes_to first events e handle running ran (Own call) knows = own_comes first events handle running call knows e
 write_comes_to first events e handle running ran (Unlisted error) knows = absurd knows
 
@@ -210,20 +212,23 @@ write_ends_own store (Unlisted error) call answer reply is done = absurd (cc is)
 
 -- a write that begins has made no file
 own_before : (first : Volume) (events : List Event) (handle : ℕ) (running : Running) (refresh : Refresh) (call : LooseCall) → IsInFront first events handle running refresh call
-    → (now : Refresh) (next : WriteState) (own : LooseCall) → front_result call now ≡ Err next → writes_by next ≡ Some own → HasNoFile own
-own_before first events handle running refresh call knows fronts.Ready next own goes writes =
-    let begins : own_result (result_of_write (write_at knows.write (Making 0))) ≡ Err next =
-    ap (λ (c : LooseCall). own_result (result_of_write c)) (sym knows.is) ∙ goes in
-    let left : Own (write_at knows.write (Making 0)) ≡ next = cc begins in
-    let same : Some (write_at knows.write (Making 0)) ≡ Some own = ap writes_by left ∙ writes in
-    record { write = knows.write; number = 0; is = let both : write_at knows.write (Making 0) ≡ own = cc same in sym both }
-own_before first events handle running refresh call knows (fronts.Refused error) next own goes writes = absurd (cc goes)
-own_before first events handle running refresh call knows fronts.Looking next own goes writes =
-    let left : InFront fronts.Looking call ≡ next = cc goes in absurd (cc (ap writes_by left ∙ writes))
-own_before first events handle running refresh call knows (fronts.Listing lister base) next own goes writes =
-    let left : InFront (fronts.Listing lister base) call ≡ next = cc goes in absurd (cc (ap writes_by left ∙ writes))
-own_before first events handle running refresh call knows (fronts.Publishing listing) next own goes writes =
-    let left : InFront (fronts.Publishing listing) call ≡ next = cc goes in absurd (cc (ap writes_by left ∙ writes))
+    → (now : RefreshStep) (next : WriteState) (own : LooseCall) → front_result call now ≡ Err next → writes_by next ≡ Some own → HasNoFile own
+own_before first events handle running refresh call knows now next own = by now
+  where
+    begun_before : own_result (result_of_write call) ≡ Err next → writes_by next ≡ Some own → HasNoFile own
+    begun_before goes writes =
+        let begins : own_result (result_of_write (write_at knows.write (Making 0))) ≡ Err next =
+        ap (λ (c : LooseCall). own_result (result_of_write c)) (sym knows.is) ∙ goes in
+        let left : Own (write_at knows.write (Making 0)) ≡ next = cc begins in
+        let same : Some (write_at knows.write (Making 0)) ≡ Some own = ap writes_by left ∙ writes in
+        record { write = knows.write; number = 0; is = let both : write_at knows.write (Making 0) ≡ own = cc same in sym both }
+
+    by : (now : RefreshStep) → front_result call now ≡ Err next → writes_by next ≡ Some own → HasNoFile own
+    by (fronts.More more) goes writes = let left : InFront more call ≡ next = cc goes in absurd (cc (ap writes_by left ∙ writes))
+    by (fronts.Read view) goes writes = begun_before goes writes
+    by (fronts.Current view mine) goes writes = begun_before goes writes
+    by (fronts.Outdated list_no) goes writes = begun_before goes writes
+    by (fronts.Refused error) goes writes = absurd (cc goes)
 
 write_before : (first : Volume) (events : List Event) (handle : ℕ) (running : Running) (state next : WriteState) (answer : Option Answer) (call : LooseCall)
     → KnowsOfWrite first events handle running state → write_fed running.store state answer ≡ Err next → writes_by next ≡ Some call
@@ -260,7 +265,6 @@ write_kept first events e handle running (InFront refresh call) other knows =
       since = omega (arith, since, longer);
       distinct = knows.distinct;
       refresh_is = knows.refresh_is ∙ sym (now_same events e handle running.store running.modes running.begun knows.since same);
-      more = knows.more;
       asked =
           subst (λ r. AreAsked (setting_in running.store) r (told_since (events ++ e ∷ []) handle running.begun)) (sym begun)
           (subst (AreAsked (setting_in running.store) (refresh_begun events handle running.modes running.begun)) (sym same) knows.asked);
@@ -289,7 +293,7 @@ write_kept first events e handle running (Own call) other knows =
       };
       task = knows.task;
       since = omega (arith, since, longer);
-      ready = now_same events e handle running.store running.modes running.begun knows.since same ∙ knows.ready;
+      ready = subst IsReady (sym (now_same events e handle running.store running.modes running.begun knows.since same)) knows.ready;
       turns = turns ∙ sym (ap (λ n. n + writes.own) front);
       short = λ entries most.
           subst (λ n. n ≤ turns_of_lap running.modes.slots (length (folder_list running.store.parts)) entries) (sym front)

@@ -15,8 +15,8 @@ use Rattle.gix_odb_events.specs.declared.answer.Ask.{Ask}
 use Rattle.gix_odb_events.specs.declared.answer.Ask.TheVariants as parts
 use Rattle.gix_odb.specs.Contents.{folder_list}
 use Rattle.gix_odb.specs.OpenOrder as openings
+use Rattle.gix_odb_refresh.specs.RefreshOrder.{IsReady}
 use Rattle.gix_odb_refresh.specs.RefreshOrder as refreshes
-use Rattle.gix_odb_refresh.specs.declared.refresh.Refresh.TheVariants.{Ready}
 use Rattle.gix_odb_events.specs.PackId.{most_slots}
 use Rattle.gix_odb_world.specs.AtWork.{Modes}
 use Rattle.gix_odb_runs.specs.Event.{CoreEvent, Event}
@@ -37,7 +37,7 @@ AsksAsOpening past handle store begun ask = openings.ask_of store.parts.objects 
 -- What stands in front of a write asks for: what the order of work of refreshes asks for behind all that the handle was told since the write
 -- began.
 abbrev pub AsksAsRefresh : List Event → (handle : ℕ) → Store → (modes : Modes) → (begun : ℕ) → Ask → Type 0
-AsksAsRefresh past handle store modes begun ask = refreshes.ask_of (refresh_now past handle store modes begun) ≡ Some ask
+AsksAsRefresh past handle store modes begun ask = refreshes.asked_of (refresh_now past handle store modes begun) ≡ Some ask
 
 -- What a query asks for: what the order of work of look-ups asks for behind all that the handle was told since the query began.
 abbrev pub AsksAsLook : List Event → (handle : ℕ) → Store → (modes : Modes) → (begun : ℕ) → Query → Option Ask → Type 0
@@ -69,7 +69,7 @@ pub data AsksToWrite (first : Volume) (past : List Event) (handle begun own : �
 abbrev pub AsksAsWrite : Volume → List Event → (handle : ℕ) → Store → (modes : Modes) → (begun turns : ℕ) → ToWrite → DiskAsk → Type 0
 AsksAsWrite first past handle store modes begun turns w ask =
     AsksAsRefresh past handle store modes begun (parts.Disk ask)
-    ⊎ ((refresh_now past handle store modes begun ≡ Ready)
+    ⊎ (IsReady (refresh_now past handle store modes begun)
     × AsksBehind (turns_in_front past handle store modes begun) turns (λ own. AsksToWrite first past handle begun own w ask))
 
 -- Which call of the disk a turn makes, where its handle has had so many turns since the step that set its task: an opening looks at the

@@ -3,7 +3,9 @@ use Rattle.std.specs.Prelude.{◌≡◌, ℕ, List, length, All}
 use Rattle.odb_nodes.specs.Tree.{Tree}
 use Rattle.gix_odb_events.specs.PackPath.{pack_path}
 use Rattle.gix_odb_events.specs.PackFiles.{HasDifferentPaths}
+use Rattle.gix_odb_events.specs.declared.listing.Listing.{Listing}
 use Rattle.gix_odb_events.specs.declared.listing.ListingRow.{ListingRow}
+use Rattle.gix_odb_packs.specs.LongestFirst.{longest_first}
 use Rattle.gix_odb_packs.specs.declared.lister.ListStep.TheVariants as listed
 use Rattle.gix_odb_calls.specs.declared.init.Slots.{Slots}
 use Rattle.gix_odb_calls.specs.declared.init.Slots.TheVariants.{AsNeededByDiskState, Given}
@@ -31,15 +33,15 @@ pub record WasShownRow (trees : ℕ → Tree) (setting : Setting) (begun now : �
   pub pack : Sometime begun now (λ moment. (bytes : List ℕ) × ShowsFile (trees moment) (pack_path row.path) bytes)
 
 -- The files that were counted from `begun` to `now`: their paths are different, each was shown, and where one tree stood at every moment, they are
--- all of its listed files, folder by folder.
+-- all of its listed files, in the order in which they are tried.
 pub record AreCounted (trees : ℕ → Tree) (setting : Setting) (begun now : ℕ) (rows : List ListingRow) : Type 0 where
   pub different : HasDifferentPaths rows
   pub shown : All (WasShownRow trees setting begun now) rows
-  pub of_tree : (tree : Tree) → Throughout begun now (λ moment. trees moment ≡ tree) → rows ≡ listed_in tree (folders_of setting)
+  pub of_tree : (tree : Tree) → Throughout begun now (λ moment. trees moment ≡ tree) → rows ≡ longest_first (listed_in tree (folders_of setting))
 
 -- the number of slots that was given, or the one for as many files as were counted by what the handle of the opening was told
 abbrev pub IsCountedNumber : (ℕ → Tree) → Setting → (told : List Exchange) → (begun now : ℕ) → Slots → ℕ → Type 0
 IsCountedNumber trees setting told begun now (Given slots) number = number ≡ slots
 IsCountedNumber trees setting told begun now (AsNeededByDiskState percent minimum) number =
-    (rows : List ListingRow) × HasListed setting told (listed.Rows rows) × AreCounted trees setting begun now rows
-    × (number ≡ slots_for percent minimum (length rows))
+    (listing : Listing) × HasListed setting told (listed.Listed listing) × AreCounted trees setting begun now listing.rows
+    × (number ≡ slots_for percent minimum (length listing.rows))

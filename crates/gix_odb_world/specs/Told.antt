@@ -13,7 +13,7 @@ use Rattle.gix_odb_looks.specs.LookUpOrder.{started}
 use Rattle.gix_odb_looks.specs.declared.look_up.LookUp.{LookUp}
 use Rattle.gix_odb_refresh.specs.RefreshOrder as refreshes
 use Rattle.gix_odb_refresh.specs.Refreshed as refreshed
-use Rattle.gix_odb_refresh.specs.declared.refresh.Refresh.{Refresh}
+use Rattle.gix_odb_refresh.specs.declared.refresh.RefreshStep.{RefreshStep}
 use Rattle.gix_odb.specs.Contents.{sought}
 use Rattle.gix_odb.specs.HandleState.{unseen}
 use Rattle.gix_odb.specs.OpenExchanges as openings
@@ -60,10 +60,10 @@ opening_now events handle store begun = openings.behind (setting_in store) store
 
 -- what stands in front of a write of a handle that began at the event that has a number, as it begins; and behind all that the handle was told
 -- since
-abbrev pub refresh_begun : List Event → (handle : ℕ) → Modes → (begun : ℕ) → Refresh
+abbrev pub refresh_begun : List Event → (handle : ℕ) → Modes → (begun : ℕ) → RefreshStep
 refresh_begun events handle modes begun = refreshes.started (view_then events handle modes.core begun)
 
-abbrev pub refresh_now : List Event → (handle : ℕ) → Store → Modes → (begun : ℕ) → Refresh
+abbrev pub refresh_now : List Event → (handle : ℕ) → Store → Modes → (begun : ℕ) → RefreshStep
 refresh_now events handle store modes begun = refreshed.behind (setting_in store) (refresh_begun events handle modes begun) (told_since events handle begun)
 
 -- how many turns it took so far

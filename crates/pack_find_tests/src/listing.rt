@@ -2,8 +2,7 @@
 use crate::happening::happen;
 use crate::shown::{put_ask, put_refusal, put_rows, put_todo};
 use crate::text::Text;
-use gix_odb_core::{Core, Effect, Event, Listing, ListingRowList, Refusal};
-use gix_odb_packs::longest_first::longest_first;
+use gix_odb_core::{Core, Effect, Event, Listing, Refusal};
 use gix_odb_packs::{ListStep, Lister};
 use odb_base::{NoMemory, PathText};
 use odb_disk::{DiskAnswer, MemDisk};
@@ -45,18 +44,18 @@ fn step(
     lister.feed(alloc, folders, answer)
 }
 
-/// The rows of a listing, unless it is broken.
-fn rows_of(
+/// What a listing comes to, unless it is broken.
+fn listing_of(
     alloc: Global,
     disk: &mut MemDisk,
     folders: &[PathText],
     mut lister: Lister,
     text: &mut Text,
-) -> Result<Option<ListingRowList>, NoMemory> {
+) -> Result<Option<Listing>, NoMemory> {
     for _ in 0..100 {
         match step(alloc, disk, folders, lister, text)? {
             ListStep::More(more) => lister = more,
-            ListStep::Rows(rows) => return Ok(Some(rows)),
+            ListStep::Listed(listing) => return Ok(Some(listing)),
             ListStep::Broken => return Ok(None),
         }
     }
@@ -64,40 +63,41 @@ fn rows_of(
     Ok(None)
 }
 
-/// The rows of a listing of folders in words, the objects directory first. Its calls are put behind a text.
+/// The listing of folders in words, the objects directory first, after a list of a number. Its calls are put behind a text.
 fn listed(
     alloc: Global,
     disk: &mut MemDisk,
     words: &str,
+    base: u64,
     text: &mut Text,
-) -> Result<Option<ListingRowList>, Fail> {
+) -> Result<Option<Listing>, Fail> {
     let paths = paths_of(alloc, words)?;
     let Some((objects, folders)) = paths.as_slice().split_first() else {
         return Err(Fail::new("no folder"));
     };
-    let lister = Lister::start(alloc, objects)?;
-    Ok(rows_of(alloc, disk, folders, lister, text)?)
+    let lister = Lister::start(alloc, objects, base)?;
+    Ok(listing_of(alloc, disk, folders, lister, text)?)
 }
 
-/// Puts the calls and the rows of a listing behind a text.
+/// Puts the calls and the rows of a listing behind a text, in the order in which they are tried.
 pub fn put_list(
     alloc: Global,
     disk: &mut MemDisk,
     words: &str,
     text: &mut Text,
 ) -> Result<(), Fail> {
-    match listed(alloc, disk, words, text)? {
-        Some(rows) => put_rows(text, rows.as_slice()),
+    match listed(alloc, disk, words, 0, text)? {
+        Some(listing) => put_rows(text, listing.rows.as_slice()),
         None => text.next("broken"),
     }
     Ok(())
 }
 
-/// The rows of a listing in the order in which they are tried.
-fn ordered(alloc: Global, disk: &mut MemDisk, words: &str) -> Result<ListingRowList, Fail> {
+/// A listing that isn't broken.
+fn whole(alloc: Global, disk: &mut MemDisk, words: &str, base: u64) -> Result<Listing, Fail> {
     let mut calls = Text::new(alloc);
-    match listed(alloc, disk, words, &mut calls)? {
-        Some(rows) => Ok(longest_first(rows)?),
+    match listed(alloc, disk, words, base, &mut calls)? {
+        Some(listing) => Ok(listing),
         None => Err(Fail::new("a broken listing")),
     }
 }
@@ -109,8 +109,8 @@ pub fn put_order(
     words: &str,
     text: &mut Text,
 ) -> Result<(), Fail> {
-    let rows = ordered(alloc, disk, words)?;
-    put_rows(text, rows.as_slice());
+    let listing = whole(alloc, disk, words, 0)?;
+    put_rows(text, listing.rows.as_slice());
     Ok(())
 }
 
@@ -122,13 +122,7 @@ fn put_published(text: &mut Text, answer: &Result<Effect, Refusal>) {
     }
 }
 
-fn publish_rows(alloc: Global, core: &mut Core, rows: ListingRowList, text: &mut Text) {
-    let base = core.look().list_no;
-    let answer = happen(alloc, core, Event::Publish(Listing { base, rows }));
-    put_published(text, &answer);
-}
-
-/// Publishes the rows of a listing, and puts what is to be loaded behind a text.
+/// Publishes a listing after the core's list, and puts what is to be loaded behind a text.
 pub fn publish(
     alloc: Global,
     disk: &mut MemDisk,
@@ -136,7 +130,9 @@ pub fn publish(
     words: &str,
     text: &mut Text,
 ) -> Result<(), Fail> {
-    let rows = ordered(alloc, disk, words)?;
-    publish_rows(alloc, core, rows, text);
+    let base = core.look().list_no;
+    let listing = whole(alloc, disk, words, base)?;
+    let answer = happen(alloc, core, Event::Publish(listing));
+    put_published(text, &answer);
     Ok(())
 }

@@ -14,7 +14,7 @@ use Rattle.odb_nodes.specs.declared.meta.Meta.{Meta}
 use Rattle.gix_odb_events.specs.PackId.{most_slots}
 use Rattle.gix_odb_packs.specs.ListOrder as lists
 use Rattle.gix_odb_events.specs.Answers.{Answer as CoreAnswer}
-use Rattle.gix_odb_events.specs.declared.listing.ListingRow.{ListingRow}
+use Rattle.gix_odb_events.specs.declared.listing.Listing.{Listing}
 use Rattle.gix_odb_events.specs.declared.answer.Answer.{Answer}
 use Rattle.gix_odb_events.specs.declared.answer.Answer.TheVariants as told
 use Rattle.gix_odb_events.specs.declared.answer.Ask.{Ask}
@@ -31,9 +31,9 @@ use Rattle.gix_odb_calls.specs.declared.init.Slots.TheVariants.{AsNeededByDiskSt
 use Rattle.gix_odb_looks.specs.Exchange.{Exchange, WasTold}
 use Rattle.gix_odb_looks.specs.LookUpOrder.{Setting}
 use Rattle.gix_odb_looks.specs.Shown.{folders_of}
-use Rattle.gix_odb_looks.proofs.CauseLaws.Folders.{GoesToFolder, IsAtFolder, fed-goes, first_folder}
-use Rattle.gix_odb_looks.proofs.CauseLaws.Listers.{Breaks, ListedTells, fed-tells}
-use Rattle.gix_odb_looks.proofs.HandedLaws.Streams.{HasNone, StreamBehind, StreamOf, Told, listing_streams, told_by}
+use Rattle.gix_odb_refresh.proofs.ListerLaws.Folders.{GoesToFolder, IsAtFolder, fed-goes, first_folder}
+use Rattle.gix_odb_refresh.proofs.ListerLaws.Tells.{Breaks, ListedTells, fed-tells}
+use Rattle.gix_odb_refresh.proofs.ListerLaws.Streams.{HasNone, StreamBehind, StreamOf, Told, listing_streams, told_by}
 use Rattle.gix_odb_refresh.specs.Asked.{AreSuited, IsSuited}
 use Rattle.gix_odb_refresh.proofs.AskedLemmas.{holds_behind}
 use Rattle.gix_odb_refresh.proofs.RefreshLaws.Causes.{Breaks-more}
@@ -146,7 +146,7 @@ module _ (setting : Setting) (slots : Slots) where
         listing = here.has.listing ++ exchange ∷ [];
         are = ap (λ (all : List Exchange). all ++ exchange ∷ []) here.has.are;
         comes =
-            list_behind-push setting (listed.More (lists.started setting.objects)) here.has.listing exchange
+            list_behind-push setting (listed.More (lists.started setting.objects 0)) here.has.listing exchange
             ∙ ap (λ (step : ListStep). list_by setting.folders step (told.Disk answer)) here.has.comes;
       }
 
@@ -154,9 +154,9 @@ module _ (setting : Setting) (slots : Slots) where
           → KnowsAt later more (listed_on percent minimum step)
       step_goes (listed.More next) has at tells stream =
           record { asked = here.asked; has = has; at = at; breaks = tells; stream = stream }
-      step_goes (listed.Rows rows) has at tells stream =
-          number_goes later more stream (slots_for percent minimum (length rows))
-          (subst (λ (s : Slots). IsNumber setting s more (slots_for percent minimum (length rows))) (sym here.asked) (rows, has, refl))
+      step_goes (listed.Listed listing) has at tells stream =
+          number_goes later more stream (slots_for percent minimum (length listing.rows))
+          (subst (λ (s : Slots). IsNumber setting s more (slots_for percent minimum (length listing.rows))) (sym here.asked) (listing, has, refl))
       step_goes listed.Broken has at tells stream = (stream, tells)
 
       lister_goes : KnowsAt later more (listed_on percent minimum (lists.fed setting.folders lister answer))
@@ -189,19 +189,20 @@ module _ (setting : Setting) (slots : Slots) where
       registered = record { ask = asks.NewCore number (length (folders_of setting)); answer = told.Core answer }
 
       -- a listing that is at its end stays there
-      listed_still : (rows : List ListingRow) → HasListed setting past (listed.Rows rows) → HasListed setting (past ++ registered ∷ []) (listed.Rows rows)
-      listed_still rows has = record {
+      listed_still : (listing : Listing) → HasListed setting past (listed.Listed listing)
+          → HasListed setting (past ++ registered ∷ []) (listed.Listed listing)
+      listed_still listing has = record {
         look = has.look;
         listing = has.listing ++ registered ∷ [];
         are = ap (λ (all : List Exchange). all ++ registered ∷ []) has.are;
         comes =
-            list_behind-push setting (listed.More (lists.started setting.objects)) has.listing registered
+            list_behind-push setting (listed.More (lists.started setting.objects 0)) has.listing registered
             ∙ ap (λ (step : ListStep). list_by setting.folders step (told.Core answer)) has.comes;
       }
 
       number_still : (own : Slots) → IsNumber setting own past number → IsNumber setting own (past ++ registered ∷ []) number
       number_still (Given given) is = is
-      number_still (AsNeededByDiskState percent minimum) (rows, has, same) = (rows, listed_still rows has, same)
+      number_still (AsNeededByDiskState percent minimum) (listing, has, same) = (listing, listed_still listing has, same)
 
     register_goes : (number : ℕ) → KnowsAt now past (opens.Registering number) → (answer : Answer)
         → Goes (opens.Registering number) (asks.NewCore number (length (folders_of setting))) answer

@@ -25,7 +25,7 @@ use Rattle.gix_odb_looks.specs.Laps.{AreWithin, HasAtMost}
 use Rattle.gix_odb_looks.specs.LookUpOrder.{Setting}
 use Rattle.gix_odb_looks.specs.Shown.{folders_of}
 use Rattle.gix_odb_looks.specs.Stream.{Stream, stream_by}
-use Rattle.gix_odb_looks.proofs.TurnLaws.ListerTurns.{IsCounted, ListsFor, fed_lists, folder_turns, further, lister_turns, lister_turns-pos}
+use Rattle.gix_odb_refresh.proofs.ListerLaws.Turns.{IsCounted, ListsFor, fed_lists, folder_turns, further, lister_turns, lister_turns-pos}
 use Rattle.gix_odb_refresh.proofs.RefreshLaws.Turns.{listing_turns}
 use Rattle.gix_odb.specs.OpenOrder.{begun, listed_on, looked, numbered, refused, shown, slots_for}
 use Rattle.gix_odb.specs.OpenExchanges.{AreAsked, asks_of, fed_by}
@@ -79,7 +79,7 @@ module _ (setting : Setting) (slots : Slots) (entries : ℕ) where
     listed_goes : (now : Option Stream) (percent minimum : ℕ) (step : ListStep) → ListsFor setting.folders entries (turns - 1) now step → 1 ≤ turns
         → HasTurns now (listed_on percent minimum step) turns
     listed_goes now percent minimum (listed.More lister) left some = (left.0, omega (arith, left.1, some))
-    listed_goes now percent minimum (listed.Rows rows) left some = number_goes now (slots_for percent minimum (length rows)) some
+    listed_goes now percent minimum (listed.Listed listing) left some = number_goes now (slots_for percent minimum (length listing.rows)) some
     listed_goes now percent minimum listed.Broken left some = tt
 
     look_goes : listing + 2 ≤ suc turns → (answer : Answer) → Goes opens.Looking (asks.Disk (disk_asks.Look setting.objects true)) answer

@@ -18,6 +18,7 @@ use Rattle.gix_odb_events.specs.PackPath.{pack_path}
 use Rattle.gix_odb_events.specs.declared.listing.ListingRow.{ListingRow}
 use Rattle.gix_odb_packs.specs.ListOrder.{ask_at, at_paths, behind_folder, by_index, by_kind, by_pack, by_pack_kind, fed_at, opened, read, row_of, started}
 use Rattle.gix_odb_packs.specs.ListOrder.{with_row}
+use Rattle.gix_odb_packs.specs.LongestFirst.{longest_first}
 use Rattle.gix_odb_packs.specs.PackFolder.{index_paths, is_file, is_index_entry, is_index_name, pack_folder}
 use Rattle.gix_odb_packs.specs.declared.lister.ListHead.{ListHead}
 use Rattle.gix_odb_packs.specs.declared.lister.ListStage.{ListStage}
@@ -25,7 +26,7 @@ use Rattle.gix_odb_packs.specs.declared.lister.ListStage.TheVariants as stages
 use Rattle.gix_odb_packs.specs.declared.lister.ListStep.{ListStep}
 use Rattle.gix_odb_packs.specs.declared.lister.ListStep.TheVariants as ends
 use Rattle.gix_odb_looks.specs.OpenStream.{GivesNext, IsListed, entry_from}
-use Rattle.gix_odb_looks.proofs.FoundLaws.Lists.{has_first, has_later}
+use Rattle.gix_odb_refresh.proofs.ListerLaws.Lists.{has_first, has_later}
 use Rattle.gix_odb_looks.proofs.MissLaws.Lists.{drop_here, drop_none, none_ahead}
 use Rattle.gix_odb_looks.proofs.StreamLaws.Directories.{entry_is_told_by_its_name, looked_name_is_listed}
 use Rattle.gix_odb_look_laws.specs.ListedFiles.{IsOfTree, IsOrFails, Opens, finds_file, listed_in, row_at, row_found, row_where, rows_in, rows_opened}
@@ -111,7 +112,7 @@ module _ (tree : Tree) where
 
     abbrev pub ListsStep : (coming : List Entry) → ListStep → Type 0
     ListsStep coming (ends.More lister) = ListsStage coming lister.head lister.stage
-    ListsStep coming (ends.Rows rows) = rows ≡ total
+    ListsStep coming (ends.Listed listing) = listing.rows ≡ longest_first total
     ListsStep coming ends.Broken = Unit {0}
 
     -- ---- folders and paths
@@ -119,7 +120,8 @@ module _ (tree : Tree) where
     behind_lists : (coming : List Entry) (head : ListHead) → Adds head [] → (next : Option Path) → slice_get folders head.next ≡ next
         → ListsStep coming (behind_folder head next)
     behind_lists coming head adds None is =
-        sym (append-nil head.rows) ∙ ap (λ (ahead : List Path). head.rows ++ listed_in tree ahead) (sym (none_ahead folders head.next is)) ∙ adds
+        ap longest_first
+        (sym (append-nil head.rows) ∙ ap (λ (ahead : List Path). head.rows ++ listed_in tree ahead) (sym (none_ahead folders head.next is)) ∙ adds)
     behind_lists coming head adds (Some folder) is =
         ap (λ (ahead : List Path). head.rows ++ listed_in tree ahead) (sym (drop_here folders head.next folder is)) ∙ adds
 
@@ -251,6 +253,6 @@ module _ (tree : Tree) where
       listing_lists coming (stages.Index path paths) adds answer left of = index_lists left path paths adds answer of.0
       listing_lists coming (stages.Pack row paths) adds answer left of = pack_lists left row paths adds answer of.0
 
-  pub starts_listing : (folders : List Path) (objects : Path) (coming : List Entry)
-      → ListsStage folders (listed_in tree (objects ∷ folders)) coming (started objects).head (started objects).stage
-  starts_listing folders objects coming = ap (λ (ahead : List Path). rows_in tree (pack_folder objects) ++ listed_in tree ahead) (drop_none folders)
+  pub starts_listing : (folders : List Path) (objects : Path) (base : ℕ) (coming : List Entry)
+      → ListsStage folders (listed_in tree (objects ∷ folders)) coming (started objects base).head (started objects base).stage
+  starts_listing folders objects base coming = ap (λ (ahead : List Path). rows_in tree (pack_folder objects) ++ listed_in tree ahead) (drop_none folders)

@@ -23,6 +23,7 @@ use Rattle.gix_odb_packs.specs.declared.lister.ListStage.TheVariants as stages
 use Rattle.gix_odb_packs.specs.declared.lister.ListStep.{ListStep}
 use Rattle.gix_odb_packs.specs.declared.lister.ListStep.TheVariants as ends
 use Rattle.gix_odb_packs.specs.declared.lister.Lister.{Lister}
+use Rattle.gix_odb_refresh.proofs.ListerLaws.Lists.{all_longest_first}
 use Rattle.gix_odb_look_laws.specs.ListerCalls.{IsIndexSeen, IsRowSeen}
 
 module _ (Told : DiskAsk → DiskAnswer → Type 0) (folders : List Path) where
@@ -40,14 +41,14 @@ module _ (Told : DiskAsk → DiskAnswer → Type 0) (folders : List Path) where
 
   abbrev pub SeesStep : ListStep → Type 0
   SeesStep (ends.More lister) = SeesLister lister
-  SeesStep (ends.Rows rows) = AreSeen rows
+  SeesStep (ends.Listed listing) = AreSeen listing.rows
   SeesStep ends.Broken = Unit {0}
 
-  pub starts_seeing : (objects : Path) → SeesLister (started objects)
-  starts_seeing objects = record { rows = All-nil (IsRowSeen Told); stage = tt }
+  pub starts_seeing : (objects : Path) (base : ℕ) → SeesLister (started objects base)
+  starts_seeing objects base = record { rows = All-nil (IsRowSeen Told); stage = tt }
 
   folder_sees : (head : ListHead) → AreSeen head.rows → (next : Option Path) → SeesStep (behind_folder head next)
-  folder_sees head seen None = seen
+  folder_sees head seen None = all_longest_first (IsRowSeen Told) head.rows seen
   folder_sees head seen (Some folder) = record { rows = seen; stage = tt }
 
   paths_see : (head : ListHead) → AreSeen head.rows → (left : List Path) → SeesStep (at_paths folders head left)

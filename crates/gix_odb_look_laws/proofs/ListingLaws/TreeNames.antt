@@ -22,8 +22,8 @@ use Rattle.odb_nodes.proofs.TreeLemmas.{own_path, second}
 use Rattle.odb_nodes.proofs.TreeLemmas.Change.{name_in-path}
 use Rattle.gix_odb_packs.specs.PackFolder.{firsts, firsts_without}
 use Rattle.gix_odb_packs.proofs.ReachLemmas.{first_or_later, none_in}
-use Rattle.gix_odb_looks.proofs.FoundLaws.Lists.{has_first, has_later}
-use Rattle.gix_odb_looks.proofs.HandedLaws.Differ.{Differ}
+use Rattle.gix_odb_refresh.proofs.ListerLaws.Lists.{has_first, has_later}
+use Rattle.gix_odb_refresh.proofs.ListerLaws.Differ.{Differ}
 use Rattle.gix_odb_looks.proofs.StreamLaws.Directories.{entries_are_of_the_names}
 
 abbrev Nodes : Type 0

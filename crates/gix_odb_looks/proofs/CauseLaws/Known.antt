@@ -32,17 +32,18 @@ use Rattle.gix_odb_calls.specs.declared.verdict.Verdict.{Verdict}
 use Rattle.gix_odb_calls.specs.declared.verdict.Verdict.TheVariants as verdicts
 use Rattle.gix_odb_looks.specs.Caused.{IsLoadCaused, IsRefused}
 use Rattle.gix_odb_looks.specs.Exchange.{Exchange, HasFailed, HasVerdict, first_number, published_in}
-use Rattle.gix_odb_looks.specs.LoadIndex.{of_refusal}
+use Rattle.gix_odb_refresh.specs.LoadIndex.{of_refusal}
 use Rattle.gix_odb_looks.specs.LookUpOrder.{Setting}
 use Rattle.gix_odb_looks.specs.LookUpOrder.{find_error, loose_fed, not_found}
 use Rattle.gix_odb_looks.specs.LookUpOrder.{reply_found}
-use Rattle.gix_odb_looks.specs.Shown.{folders_of}
+use Rattle.gix_odb_refresh.specs.Shown.{folders_of}
+use Rattle.gix_odb_refresh.specs.declared.refresh.Refresh.TheVariants as fronts
 use Rattle.gix_odb_looks.specs.declared.look_up.LookHead.{LookHead}
 use Rattle.gix_odb_looks.specs.declared.look_up.LookStage.{LookStage}
 use Rattle.gix_odb_looks.specs.declared.look_up.LookStage.TheVariants as stages
 use Rattle.gix_odb_looks.specs.declared.look_up.Part.{Part}
 use Rattle.gix_odb_looks.specs.declared.look_up.Part.TheVariants as parts
-use Rattle.gix_odb_looks.proofs.CauseLaws.Listers.{Breaks}
+use Rattle.gix_odb_refresh.proofs.ListerLaws.Tells.{Breaks}
 use Rattle.gix_odb_looks.proofs.CauseLaws.Pasts.{Noted}
 
 -- a view was handed over
@@ -78,9 +79,10 @@ module _ (Shown : Path → List ℕ → Type 0) (setting : Setting) (hash : Kind
   abbrev pub KnowsAt : LookHead → LookStage → Type 0
   KnowsAt head (stages.Trying trier part) = Noted exchanges trier.ahead.notes × ShowedPart head part × Passes (HasFailed exchanges) trier.stage
   KnowsAt head (stages.Loose round call) = Noted exchanges round.notes × ShowedPart head round.part
-  KnowsAt head (stages.Looking purpose notes) = Noted exchanges notes
-  KnowsAt head (stages.Listing lister base notes) = Noted exchanges notes × HasBegun head × Breaks exchanges lister.stage
-  KnowsAt head (stages.Publishing listing notes) = Noted exchanges notes × HasBegun head
+  KnowsAt head (stages.Refreshing fronts.Reading purpose notes) = Noted exchanges notes
+  KnowsAt head (stages.Refreshing (fronts.Listing lister) purpose notes) = Noted exchanges notes × HasBegun head × Breaks exchanges lister.stage
+  KnowsAt head (stages.Refreshing (fronts.Publishing listing) purpose notes) = Noted exchanges notes × HasBegun head
+  KnowsAt head (stages.Checking list_no notes) = Noted exchanges notes
   KnowsAt head (stages.Done reply) = IsExplained head.want reply
 
   -- ---- replies

@@ -36,9 +36,15 @@ use Rattle.gix_object.specs.declared.want.Want.{Want}
 use Rattle.gix_odb_calls.specs.declared.verdict.Verdict.{Verdict}
 use Rattle.gix_odb_calls.specs.declared.verdict.Verdict.TheVariants as verdicts
 use Rattle.gix_odb_looks.specs.Laps.{Follows, IsNumbered, number_by}
-use Rattle.gix_odb_looks.specs.LookUpOrder.{Setting, after_list, after_loose, ask_at, at_folder, by_check, by_first, by_listed, by_look, by_published}
-use Rattle.gix_odb_looks.specs.LookUpOrder.{by_reply, by_tried, by_verdict, counted, ended, fed_at, goal_of, is_unsettled, lister_fed, listing_from, load_refused, loose_ask}
-use Rattle.gix_odb_looks.specs.LookUpOrder.{loose_fed, new_head, not_found, started, trier_fed, try_view, unsettled, view_shown, with_own, without_notes}
+use Rattle.gix_odb_looks.specs.LookUpOrder.{Setting, after_list, after_loose, ask_at, at_folder, by_check, by_checked, by_read, by_refresh}
+use Rattle.gix_odb_looks.specs.LookUpOrder.{by_reply, by_tried, by_verdict, counted, ended, fed_at, goal_of, is_unsettled, listing_from, load_refused, loose_ask}
+use Rattle.gix_odb_looks.specs.LookUpOrder.{loose_fed, new_head, not_found, started, trier_fed, try_view, unsettled, view_shown, with_own, without_absent, without_notes}
+use Rattle.gix_odb_refresh.specs.RefreshOrder.{by_listed, by_look, by_published, by_view}
+use Rattle.gix_odb_refresh.specs.RefreshOrder as refreshes
+use Rattle.gix_odb_refresh.specs.declared.refresh.Refresh.TheVariants as fronts
+use Rattle.gix_odb_refresh.specs.declared.refresh.RefreshStep.TheVariants as steps
+use Rattle.gix_odb_packs.specs.ListOrder as lists
+use Rattle.gix_odb_refresh.proofs.ListerLaws.Base.{IsFor, listing_keeps_its_base}
 use Rattle.gix_odb_looks.specs.declared.look_up.LookHead.{LookHead}
 use Rattle.gix_odb_looks.specs.declared.look_up.LookStage.{LookStage}
 use Rattle.gix_odb_looks.specs.declared.look_up.LookStage.TheVariants as stages
@@ -56,11 +62,6 @@ of_part now parts.Snapshot = now
 of_part now (parts.List number loose) = number
 of_part now (parts.Published number) = number
 
-abbrev of_purpose : (now : ℕ) → Purpose → ℕ
-of_purpose now (purposes.First loose) = now
-of_purpose now (purposes.Check number) = number
-of_purpose now purposes.Again = now
-
 abbrev IsBelow : (own number now : ℕ) → Type 0
 IsBelow own number now = (own ≤ number) × (number ≤ now)
 
@@ -68,9 +69,10 @@ IsBelow own number now = (own ≤ number) × (number ≤ now)
 abbrev pub IsOwned : (now own : ℕ) → LookStage → Type 0
 IsOwned now own (stages.Trying trier part) = IsBelow own (of_part now part) now
 IsOwned now own (stages.Loose round call) = IsBelow own (of_part now round.part) now
-IsOwned now own (stages.Looking purpose notes) = IsBelow own (of_purpose now purpose) now
-IsOwned now own (stages.Listing lister base notes) = IsBelow own base now
-IsOwned now own (stages.Publishing listing notes) = IsBelow own listing.base now
+IsOwned now own (stages.Refreshing fronts.Reading purpose notes) = IsBelow own now now
+IsOwned now own (stages.Refreshing (fronts.Listing lister) purpose notes) = IsBelow own lister.head.base now
+IsOwned now own (stages.Refreshing (fronts.Publishing listing) purpose notes) = IsBelow own listing.base now
+IsOwned now own (stages.Checking number notes) = IsBelow own number now
 IsOwned now own (stages.Done reply) = Unit {0}
 
 abbrev pub IsLookOwned : (now : ℕ) → LookUp → Type 0
@@ -83,18 +85,13 @@ part_later before now own later parts.Snapshot is = (omega (arith, is.0), omega 
 part_later before now own later (parts.List number loose) is = (is.0, omega (arith, is.1))
 part_later before now own later (parts.Published number) is = (is.0, omega (arith, is.1))
 
-purpose_later : (before now own : ℕ) → before ≤ now → (purpose : Purpose) → IsBelow own (of_purpose before purpose) before
-    → IsBelow own (of_purpose now purpose) now
-purpose_later before now own later (purposes.First loose) is = (omega (arith, is.0), omega arith)
-purpose_later before now own later (purposes.Check number) is = (is.0, omega (arith, is.1))
-purpose_later before now own later purposes.Again is = (omega (arith, is.0), omega arith)
-
 stage_later : (before now own : ℕ) → before ≤ now → (stage : LookStage) → IsOwned before own stage → IsOwned now own stage
 stage_later before now own later (stages.Trying trier part) is = part_later before now own later part is
 stage_later before now own later (stages.Loose round call) is = part_later before now own later round.part is
-stage_later before now own later (stages.Looking purpose notes) is = purpose_later before now own later purpose is
-stage_later before now own later (stages.Listing lister base notes) is = (is.0, omega (arith, is.1))
-stage_later before now own later (stages.Publishing listing notes) is = (is.0, omega (arith, is.1))
+stage_later before now own later (stages.Refreshing fronts.Reading purpose notes) is = (omega (arith, is.0), omega arith)
+stage_later before now own later (stages.Refreshing (fronts.Listing lister) purpose notes) is = (is.0, omega (arith, is.1))
+stage_later before now own later (stages.Refreshing (fronts.Publishing listing) purpose notes) is = (is.0, omega (arith, is.1))
+stage_later before now own later (stages.Checking number notes) is = (is.0, omega (arith, is.1))
 stage_later before now own later (stages.Done reply) is = tt
 
 -- the number that a view tells
@@ -169,14 +166,6 @@ module _ (setting : Setting) (now : ℕ) where
         by true = tt
         by false = tt
 
-    first_owned : (loose : Bool) (view : View) (notes : Notes) → IsBelow head.own view.list_no now → Owned (by_first setting head loose view notes)
-    first_owned loose view notes is = by view.read
-      where
-        by : (b : Bool)
-            → Owned (if b then try_view setting head (parts.List view.list_no loose) view view.todo notes else listing_from setting view.list_no notes)
-        by true = view_owned (parts.List view.list_no loose) view view.todo notes is
-        by false = is
-
     check_owned : (number : ℕ) (view : View) (notes : Notes) → IsBelow head.own view.list_no now → Owned (by_check setting head number view notes)
     check_owned number view notes is = by (view.list_no == number)
       where
@@ -184,19 +173,40 @@ module _ (setting : Setting) (now : ℕ) where
         by true = ended_owned notes
         by false = counted_owned view.list_no (listing_from setting view.list_no notes) is
 
-    look_owned : (purpose : Purpose) (notes : Notes) (view : Option View) → ((shown : View) → view ≡ Some shown → now ≡ shown.list_no)
-        → IsBelow head.own (of_purpose now purpose) now
-        → Owned (by_look setting head purpose notes view)
-    look_owned purpose notes None shows is = is
-    look_owned (purposes.First loose) notes (Some view) shows is = first_owned loose view notes (omega (arith, is.0, shows view refl), omega (arith, shows view refl))
-    look_owned (purposes.Check number) notes (Some view) shows is =
+    checked_owned : (number : ℕ) (notes : Notes) (view : Option View) → ((shown : View) → view ≡ Some shown → now ≡ shown.list_no)
+        → IsBelow head.own number now
+        → Owned (by_checked setting head number notes view)
+    checked_owned number notes None shows is = is
+    checked_owned number notes (Some view) shows is =
         check_owned number view notes (omega (arith, is.0, is.1, shows view refl), omega (arith, shows view refl))
-    look_owned purposes.Again notes (Some view) shows is = (omega (arith, is.0, shows view refl), omega (arith, shows view refl))
 
-    listed_owned : (base : ℕ) (notes : Notes) (step : ListStep) → IsBelow head.own base now → Owned (by_listed base notes step)
-    listed_owned base notes (listed.More lister) is = is
-    listed_owned base notes (listed.Rows rows) is = is
-    listed_owned base notes listed.Broken is = tt
+    -- ---- the list of the core is read, or brought up to date
+
+    read_owned : (purpose : Purpose) (view : View) (notes : Notes) → IsBelow head.own view.list_no now → Owned (by_read setting head purpose view notes)
+    read_owned (purposes.First loose) view notes is = view_owned (parts.List view.list_no loose) view view.todo notes is
+    read_owned purposes.Again view notes is = is
+
+    shown_owned : (purpose : Purpose) (notes : Notes) (view : View) → IsBelow head.own view.list_no now
+        → IsLookOwned now (by_refresh setting head purpose notes (by_view setting.objects view))
+    shown_owned purpose notes view is = by view.read
+      where
+        by : (b : Bool)
+            → IsLookOwned now
+            (by_refresh setting head purpose notes (if b then steps.Read view else steps.More (refreshes.listing_from setting.objects view.list_no)))
+        by true = read_owned purpose view notes is
+        by false = is
+
+    look_owned : (purpose : Purpose) (notes : Notes) (view : Option View) → ((shown : View) → view ≡ Some shown → now ≡ shown.list_no)
+        → IsBelow head.own now now
+        → IsLookOwned now (by_refresh setting head purpose notes (by_look setting.objects view))
+    look_owned purpose notes None shows is = is
+    look_owned purpose notes (Some view) shows is = shown_owned purpose notes view (omega (arith, is.0, shows view refl), omega (arith, shows view refl))
+
+    listed_owned : (purpose : Purpose) (notes : Notes) (base : ℕ) (step : ListStep) → IsFor base step → IsBelow head.own base now
+        → IsLookOwned now (by_refresh setting head purpose notes (by_listed step))
+    listed_owned purpose notes base (listed.More lister) same is = (omega (arith, is.0, same), omega (arith, is.1, same))
+    listed_owned purpose notes base (listed.Listed listing) same is = (omega (arith, is.0, same), omega (arith, is.1, same))
+    listed_owned purpose notes base listed.Broken same is = tt
 
 -- ---- an exchange
 
@@ -204,19 +214,20 @@ module _ (setting : Setting) (slots before : ℕ) (head : LookHead) where
   abbrev behind_effect : Effect → ℕ
   behind_effect effect = number_by before (told.Core (Ok effect))
 
-  published_owned : (listing : Listing) (notes : Notes) (effect : Effect) → Follows before (events.Publish listing) (Ok effect) → before ≤ behind_effect effect
+  published_owned : (listing : Listing) (purpose : Purpose) (notes : Notes) (effect : Effect) → Follows before (events.Publish listing) (Ok effect)
+      → before ≤ behind_effect effect
       → IsBelow head.own listing.base before
-      → IsLookOwned (behind_effect effect) (by_published setting head listing notes effect)
-  published_owned listing notes (effects.Published view) follows later is =
-      view_owned setting view.list_no (with_own head) (parts.Published view.list_no) view view.todo notes (omega (arith, is.0), omega arith)
-  published_owned listing notes (effects.Unchanged view) follows later is =
-      view_owned setting view.list_no head (parts.Published view.list_no) view view.todo notes (omega (arith, is.0), omega arith)
-  published_owned listing notes (effects.Outdated number) follows later is =
-      counted_owned setting number head number (stages.Looking purposes.Again notes) (omega (arith, is.0, is.1), omega arith)
-  published_owned listing notes (effects.Seen view) follows later is = (is.0, omega (arith, is.1))
-  published_owned listing notes (effects.Reported view report) follows later is = (is.0, omega (arith, is.1))
-  published_owned listing notes (effects.Put view stored) follows later is = (is.0, omega (arith, is.1))
-  published_owned listing notes effects.Removed follows later is = is
+      → IsLookOwned (behind_effect effect) (by_refresh setting head purpose notes (by_published listing effect))
+  published_owned listing purpose notes (effects.Published view) follows later is =
+      view_owned setting view.list_no (with_own head) (parts.Published view.list_no) view view.todo (without_absent notes) (omega (arith, is.0), omega arith)
+  published_owned listing purpose notes (effects.Unchanged view) follows later is =
+      view_owned setting view.list_no head (parts.Published view.list_no) view view.todo (without_absent notes) (omega (arith, is.0), omega arith)
+  published_owned listing purpose notes (effects.Outdated number) follows later is =
+      counted_owned setting number head number (stages.Refreshing fronts.Reading purposes.Again notes) (omega (arith, is.0, is.1), omega arith)
+  published_owned listing purpose notes (effects.Seen view) follows later is = (is.0, omega (arith, is.1))
+  published_owned listing purpose notes (effects.Reported view report) follows later is = (is.0, omega (arith, is.1))
+  published_owned listing purpose notes (effects.Put view stored) follows later is = (is.0, omega (arith, is.1))
+  published_owned listing purpose notes effects.Removed follows later is = is
 
   module _ (answer : Answer) (later : before ≤ number_by before answer) where
     abbrev now : ℕ
@@ -235,20 +246,25 @@ module _ (setting : Setting) (slots before : ℕ) (head : LookHead) where
             reply_owned setting before head round (loose_fed call answer) (reply_of (loose_fed call answer)) is
         by (stages.Loose round call) (told.Core answer) later asked numbered is =
             part_later before (number_by before (told.Core answer)) head.own later round.part is
-        by (stages.Looking purpose notes) (told.Disk answer) later asked numbered is = is
-        by (stages.Looking purpose notes) (told.Core (Ok effect)) later asked numbered is =
+        by (stages.Refreshing fronts.Reading purpose notes) (told.Disk answer) later asked numbered is = is
+        by (stages.Refreshing fronts.Reading purpose notes) (told.Core (Ok effect)) later asked numbered is =
             look_owned setting (behind_effect effect) head purpose notes (view_shown effect) (told_number before effect)
-            (purpose_later before (behind_effect effect) head.own later purpose is)
-        by (stages.Looking purpose notes) (told.Core (Err refusal)) later asked numbered is = tt
-        by (stages.Listing lister base notes) (told.Disk answer) later asked numbered is =
-            listed_owned setting before head base notes (lister_fed setting lister answer) is
-        by (stages.Listing lister base notes) (told.Core answer) later asked numbered is = (is.0, omega (arith, is.1))
-        by (stages.Publishing listing notes) (told.Disk answer) later asked numbered is = is
-        by (stages.Publishing listing notes) (told.Core (Ok effect)) later asked numbered is =
+            (omega (arith, is.0, later), omega arith)
+        by (stages.Refreshing fronts.Reading purpose notes) (told.Core (Err refusal)) later asked numbered is = tt
+        by (stages.Refreshing (fronts.Listing lister) purpose notes) (told.Disk answer) later asked numbered is =
+            listed_owned setting before head purpose notes lister.head.base (lists.fed setting.folders lister answer)
+            (listing_keeps_its_base setting.folders lister answer) is
+        by (stages.Refreshing (fronts.Listing lister) purpose notes) (told.Core answer) later asked numbered is = (is.0, omega (arith, is.1))
+        by (stages.Refreshing (fronts.Publishing listing) purpose notes) (told.Disk answer) later asked numbered is = is
+        by (stages.Refreshing (fronts.Publishing listing) purpose notes) (told.Core (Ok effect)) later asked numbered is =
             let own_numbered =
             subst (λ (a : Ask). IsNumbered slots before a (told.Core (Ok effect))) (sym (same_Some (asks.Core (events.Publish listing)) ask asked)) numbered in
-            published_owned listing notes effect own_numbered.1 later is
-        by (stages.Publishing listing notes) (told.Core (Err refusal)) later asked numbered is = tt
+            published_owned listing purpose notes effect own_numbered.1 later is
+        by (stages.Refreshing (fronts.Publishing listing) purpose notes) (told.Core (Err refusal)) later asked numbered is = tt
+        by (stages.Checking number notes) (told.Disk answer) later asked numbered is = is
+        by (stages.Checking number notes) (told.Core (Ok effect)) later asked numbered is =
+            checked_owned setting (behind_effect effect) head number notes (view_shown effect) (told_number before effect) (is.0, omega (arith, is.1, later))
+        by (stages.Checking number notes) (told.Core (Err refusal)) later asked numbered is = tt
         by (stages.Done reply) answer later asked numbered is = tt
 
 try_publishes_none : (stage : TryStage) (listing : Listing) → ¬ (tries.ask_at stage ≡ asks.Core (events.Publish listing))
@@ -268,14 +284,15 @@ pub own_has_room : (setting : Setting) (slots before : ℕ) (head : LookHead) (s
     → IsOwned before head.own stage → ask_at stage ≡ Some (asks.Core (events.Publish listing))
     → IsNumbered slots before (asks.Core (events.Publish listing)) (told.Core (Ok (effects.Published view)))
     → head.own < last_state
-own_has_room setting slots before head (stages.Publishing own notes) listing view is asked numbered =
+own_has_room setting slots before head (stages.Refreshing (fronts.Publishing own) purpose notes) listing view is asked numbered =
     let same : own.base ≡ listing.base = cc asked in
     omega (arith, is.0, same, numbered.1, (numbered.2 view refl).1)
 own_has_room setting slots before head (stages.Trying trier part) listing view is asked numbered =
     absurd (try_publishes_none trier.stage listing (same_Some _ _ asked))
 own_has_room setting slots before head (stages.Loose round call) listing view is asked numbered = absurd (loose_publishes_none (disk_ask_of call) listing asked)
-own_has_room setting slots before head (stages.Looking purpose notes) listing view is asked numbered = absurd (cc asked)
-own_has_room setting slots before head (stages.Listing lister base notes) listing view is asked numbered = absurd (cc asked)
+own_has_room setting slots before head (stages.Refreshing fronts.Reading purpose notes) listing view is asked numbered = absurd (cc asked)
+own_has_room setting slots before head (stages.Refreshing (fronts.Listing lister) purpose notes) listing view is asked numbered = absurd (cc asked)
+own_has_room setting slots before head (stages.Checking number notes) listing view is asked numbered = absurd (cc asked)
 own_has_room setting slots before head (stages.Done reply) listing view is asked numbered = absurd (cc asked)
 
 -- a look-up that is started published none
@@ -284,6 +301,6 @@ started-owned setting view want id number = by view.read
   where
     by : (b : Bool)
         → IsOwned number 0
-        (if b then try_view setting (new_head want id) parts.Snapshot view [] without_notes else stages.Looking (purposes.First true) without_notes)
+        (if b then try_view setting (new_head want id) parts.Snapshot view [] without_notes else stages.Refreshing fronts.Reading (purposes.First true) without_notes)
     by true = view_owned setting number (new_head want id) parts.Snapshot view [] without_notes (omega arith, omega arith)
     by false = (omega arith, omega arith)

@@ -1,25 +1,11 @@
 -- What exchanges tell is told by more of them.
 use Rattle.std.proofs.Common.{◌≡◌, ℕ, true, ◌+◌, ◌<◌, List, [], ◌∷◌, ◌++◌, Option, Some, None, refl, sym, ◌∙◌, ap, arith}
 use Rattle.std.specs.Prelude.{min}
-use Rattle.std.proofs.lemmas.List.Elements.{Contains-append_left}
-use Rattle.odb_asks.specs.declared.ask.DiskAnswer.TheVariants as answers
-use Rattle.odb_nodes.specs.declared.disk_error.DiskError.TheVariants as disk_errors
 use Rattle.gix_odb_events.specs.View.{last_state}
 use Rattle.gix_odb_events.specs.declared.view.View.{View}
-use Rattle.gix_odb_events.specs.declared.answer.Answer.{Answer}
-use Rattle.gix_odb_events.specs.declared.answer.Answer.TheVariants as told
-use Rattle.gix_odb_events.specs.declared.answer.Ask.{Ask}
 use Rattle.gix_odb_packs.specs.declared.search.Notes.{Notes}
-use Rattle.gix_odb_looks.specs.Exchange.{Exchange, HasFailed, WasTold, first_number, is_publish, number_or, published_in}
+use Rattle.gix_odb_looks.specs.Exchange.{Exchange, HasFailed, first_number, is_publish, number_or, published_in}
 use Rattle.gix_odb_looks.specs.LookUpOrder.{first_of, view_of}
-
-pub HasFailed-more : (past more : List Exchange) → HasFailed past → HasFailed (past ++ more)
-HasFailed-more past more is = record { exchange = is.exchange; among = Contains-append_left past more is.exchange is.among; failed = is.failed }
-
-pub HasFailed-from_told : (exchanges : List Exchange) (ask : Ask) (answer : Answer) → WasTold exchanges ask answer
-    → answer ≡ told.Disk (answers.Refused disk_errors.Failed)
-    → HasFailed exchanges
-HasFailed-from_told exchanges ask answer was is = record { exchange = record { ask = ask; answer = answer }; among = was; failed = is }
 
 -- a failure that is noted is told
 abbrev pub Noted : List Exchange → Notes → Type 0

@@ -15,8 +15,9 @@ use Rattle.gix_odb_packs.specs.declared.trier.Ahead.{Ahead}
 use Rattle.gix_odb_packs.specs.declared.trier.Stage.{Stage}
 use Rattle.gix_odb_packs.specs.declared.trier.Stage.TheVariants as try_stages
 use Rattle.gix_odb_looks.specs.Exchange.{AreAsked, Exchange, behind}
-use Rattle.gix_odb_looks.specs.LoadIndex.{of_refusal}
+use Rattle.gix_odb_refresh.specs.LoadIndex.{of_refusal}
 use Rattle.gix_odb_looks.specs.LookUpOrder.{Setting, ask_at, by_tried, fed, fed_at, load_refused, loose_ask, result_of, seen}
+use Rattle.gix_odb_refresh.specs.declared.refresh.Refresh.TheVariants as fronts
 use Rattle.gix_odb_looks.specs.declared.look_up.LookHead.{LookHead}
 use Rattle.gix_odb_looks.specs.declared.look_up.LookStage.{LookStage}
 use Rattle.gix_odb_looks.specs.declared.look_up.LookStage.TheVariants as stages
@@ -44,9 +45,10 @@ module _ (setting : Setting) (event : Event) (refusal : Refusal) where
   stage_ends : (head : LookHead) (stage : LookStage) → ask_at stage ≡ Some (asks.Core event) → Ends (fed_at setting head stage (told.Core (Err refusal)))
   stage_ends head (stages.Trying trier part) asked = trier_ends head part trier.goal trier.ahead trier.stage (same_Some _ _ asked)
   stage_ends head (stages.Loose round call) asked = absurd (loose_asks_disk (disk_ask_of call) asked)
-  stage_ends head (stages.Looking purpose notes) asked = refl
-  stage_ends head (stages.Listing lister base notes) asked = absurd (cc asked)
-  stage_ends head (stages.Publishing listing notes) asked = refl
+  stage_ends head (stages.Refreshing fronts.Reading purpose notes) asked = refl
+  stage_ends head (stages.Refreshing (fronts.Listing lister) purpose notes) asked = absurd (cc asked)
+  stage_ends head (stages.Refreshing (fronts.Publishing listing) purpose notes) asked = refl
+  stage_ends head (stages.Checking list_no notes) asked = refl
   stage_ends head (stages.Done reply) asked = absurd (cc asked)
 
   abbrev refused_event : Exchange

@@ -27,13 +27,20 @@ use Rattle.gix_odb_calls.specs.declared.load_index.Error.TheVariants as load_err
 use Rattle.gix_object.specs.declared.want.Want.{Want}
 use Rattle.gix_odb_calls.specs.declared.verdict.Verdict.{Verdict}
 use Rattle.gix_odb_calls.specs.declared.verdict.Verdict.TheVariants as verdicts
-use Rattle.gix_odb_looks.specs.LoadIndex.{of_refusal}
+use Rattle.gix_odb_refresh.specs.LoadIndex.{of_refusal}
 use Rattle.gix_odb_looks.specs.LookUpOrder.{Setting, after_list, after_loose, at_folder, by_call, by_check}
-use Rattle.gix_odb_looks.specs.LookUpOrder.{by_first, by_listed, by_look, by_published, by_reply, by_tried}
+use Rattle.gix_odb_looks.specs.LookUpOrder.{by_checked, by_read, by_refresh, by_reply, by_tried}
 use Rattle.gix_odb_looks.specs.LookUpOrder.{by_verdict, counted, ended, fed, fed_at, find_error, goal_of}
 use Rattle.gix_odb_looks.specs.LookUpOrder.{is_unsettled, listing_from, load_refused, loose_fed, loose_from, not_found}
-use Rattle.gix_odb_looks.specs.LookUpOrder.{lister_fed, new_head, seen, started, trier_fed, try_view, unsettled, view_shown, with_own, without_notes}
-use Rattle.gix_odb_looks.specs.Shown.{folders_of}
+use Rattle.gix_odb_looks.specs.LookUpOrder.{new_head, seen, started, trier_fed, try_view, unsettled, view_shown, with_own, without_absent, without_notes}
+use Rattle.gix_odb_refresh.specs.Shown.{folders_of}
+use Rattle.gix_odb_refresh.specs.RefreshOrder.{by_listed, by_look, by_published, by_view}
+use Rattle.gix_odb_refresh.specs.RefreshOrder as refreshes
+use Rattle.gix_odb_refresh.specs.declared.refresh.Refresh.{Refresh}
+use Rattle.gix_odb_refresh.specs.declared.refresh.Refresh.TheVariants as fronts
+use Rattle.gix_odb_refresh.specs.declared.refresh.RefreshStep.{RefreshStep}
+use Rattle.gix_odb_refresh.specs.declared.refresh.RefreshStep.TheVariants as steps
+use Rattle.gix_odb_packs.specs.ListOrder as lists
 use Rattle.gix_odb_looks.specs.declared.look_up.LookHead.{LookHead}
 use Rattle.gix_odb_looks.specs.declared.look_up.LookStage.{LookStage}
 use Rattle.gix_odb_looks.specs.declared.look_up.LookStage.TheVariants as stages
@@ -43,7 +50,8 @@ use Rattle.gix_odb_looks.specs.declared.look_up.Part.{Part}
 use Rattle.gix_odb_looks.specs.declared.look_up.Part.TheVariants as parts
 use Rattle.gix_odb_looks.specs.declared.look_up.Purpose.{Purpose}
 use Rattle.gix_odb_looks.specs.declared.look_up.Purpose.TheVariants as purposes
-use Rattle.gix_odb_looks.proofs.CauseLaws.Folders.{GoesToFolder, IsAtFolder, fed-goes, first_folder, folder_has_reply, later_folder}
+use Rattle.gix_odb_refresh.proofs.ListerLaws.Folders.{GoesToFolder, IsAtFolder, fed-goes, first_folder, later_folder}
+use Rattle.gix_odb_looks.proofs.CauseLaws.Folders.{folder_has_reply}
 use Rattle.gix_odb_looks.proofs.CauseLaws.Replies.{EndsWell, found_replies, not_found_replies, refused_replies, verdict_ends_well}
 use Rattle.gix_odb_looks.specs.Reply.{IsReplyTo}
 use Rattle.gix_odb_packs.proofs.TrierLaws.{Comes, Fits, failed-passes, fed-comes, seek-comes}
@@ -58,9 +66,9 @@ module _ (setting : Setting) (want : Want) (id : ObjectId) where
   abbrev pub StandsAt : LookStage → Type 0
   StandsAt (stages.Trying trier part) = trier.goal.want ≡ want
   StandsAt (stages.Loose round call) = IsOfFolder call
-  StandsAt (stages.Looking purpose notes) = Unit {0}
-  StandsAt (stages.Listing lister base notes) = IsAtFolder setting lister.head
-  StandsAt (stages.Publishing listing notes) = Unit {0}
+  StandsAt (stages.Refreshing (fronts.Listing lister) purpose notes) = IsAtFolder setting lister.head
+  StandsAt (stages.Refreshing refresh purpose notes) = Unit {0}
+  StandsAt (stages.Checking list_no notes) = Unit {0}
   StandsAt (stages.Done reply) = IsReplyTo want reply
 
 -- the same of a look-up
@@ -151,14 +159,6 @@ module _ (setting : Setting) (head : LookHead) where
       by true = load_refused-stand (load_errors.Unsettled (unwrap_or head.begun now) head.own now)
       by false = stand
 
-  by_first-stand : (loose : Bool) (view : View) (notes : Notes) → Stand (by_first setting head loose view notes)
-  by_first-stand loose view notes = by view.read
-    where
-      by : (b : Bool)
-          → Stand (if b then try_view setting head (parts.List view.list_no loose) view view.todo notes else listing_from setting view.list_no notes)
-      by true = try_view-stand (parts.List view.list_no loose) view view.todo notes
-      by false = listing_from-stand view.list_no notes
-
   by_check-stand : (list_no : ℕ) (view : View) (notes : Notes) → Stand (by_check setting head list_no view notes)
   by_check-stand list_no view notes = by (view.list_no == list_no)
     where
@@ -166,24 +166,70 @@ module _ (setting : Setting) (head : LookHead) where
       by true = ended-stand notes
       by false = counted-stand view.list_no (listing_from setting view.list_no notes) (listing_from-stand view.list_no notes)
 
-  by_look-stand : (purpose : Purpose) (notes : Notes) (view : Option View) → Stand (by_look setting head purpose notes view)
-  by_look-stand purpose notes None = tt
-  by_look-stand (purposes.First loose) notes (Some view) = by_first-stand loose view notes
-  by_look-stand (purposes.Check list_no) notes (Some view) = by_check-stand list_no view notes
-  by_look-stand purposes.Again notes (Some view) = listing_from-stand view.list_no notes
+  by_checked-stand : (list_no : ℕ) (notes : Notes) (view : Option View) → Stand (by_checked setting head list_no notes view)
+  by_checked-stand list_no notes None = tt
+  by_checked-stand list_no notes (Some view) = by_check-stand list_no view notes
 
-  by_listed-stand : (base : ℕ) (notes : Notes) (step : ListStep) → GoesToFolder setting step → Stand (by_listed base notes step)
-  by_listed-stand base notes (listed.More lister) goes = goes
-  by_listed-stand base notes (listed.Rows rows) goes = tt
-  by_listed-stand base notes listed.Broken goes = load_refused-stand load_errors.Io
+  -- ---- the list of the core is read, or brought up to date
 
-by_published-stand : (setting : Setting) (head : LookHead) (listing : Listing) (notes : Notes) (effect : Effect)
-    → StandsAt setting head.want head.id (by_published setting head listing notes effect).stage
-by_published-stand setting head listing notes (effects.Published view) =
-    try_view-stand setting (with_own head) (parts.Published view.list_no) view view.todo notes
-by_published-stand setting head listing notes (effects.Unchanged view) = try_view-stand setting head (parts.Published view.list_no) view view.todo notes
-by_published-stand setting head listing notes (effects.Outdated list_no) = counted-stand setting head list_no (stages.Looking purposes.Again notes) tt
-by_published-stand setting head listing notes effect = tt
+  by_read-stand : (purpose : Purpose) (view : View) (notes : Notes) → Stand (by_read setting head purpose view notes)
+  by_read-stand (purposes.First loose) view notes = try_view-stand (parts.List view.list_no loose) view view.todo notes
+  by_read-stand purposes.Again view notes = listing_from-stand view.list_no notes
+
+-- a step of a refresh that lists folders is at one of the store
+abbrev StepStands : Setting → RefreshStep → Type 0
+StepStands setting (steps.More (fronts.Listing lister)) = IsAtFolder setting lister.head
+StepStands setting step = Unit {0}
+
+by_refresh-stand : (setting : Setting) (head : LookHead) (purpose : Purpose) (notes : Notes) (step : RefreshStep) → StepStands setting step
+    → StandsAt setting head.want head.id (by_refresh setting head purpose notes step).stage
+by_refresh-stand setting head purpose notes (steps.More fronts.Reading) goes = tt
+by_refresh-stand setting head purpose notes (steps.More (fronts.Listing lister)) goes = goes
+by_refresh-stand setting head purpose notes (steps.More (fronts.Publishing listing)) goes = tt
+by_refresh-stand setting head purpose notes (steps.Read view) goes = by_read-stand setting head purpose view notes
+by_refresh-stand setting head purpose notes (steps.Current view true) goes =
+    try_view-stand setting (with_own head) (parts.Published view.list_no) view view.todo (without_absent notes)
+by_refresh-stand setting head purpose notes (steps.Current view false) goes =
+    try_view-stand setting head (parts.Published view.list_no) view view.todo (without_absent notes)
+by_refresh-stand setting head purpose notes (steps.Outdated list_no) goes =
+    counted-stand setting head list_no (stages.Refreshing fronts.Reading purposes.Again notes) tt
+by_refresh-stand setting head purpose notes (steps.Refused error) goes = load_refused-stand setting head error
+
+module _ (setting : Setting) where
+  view_stands : (view : View) → StepStands setting (by_view setting.objects view)
+  view_stands view = by view.read
+    where
+      by : (b : Bool) → StepStands setting (if b then steps.Read view else steps.More (refreshes.listing_from setting.objects view.list_no))
+      by true = tt
+      by false = (setting.objects, first_folder setting, refl)
+
+  look_stands : (view : Option View) → StepStands setting (by_look setting.objects view)
+  look_stands None = tt
+  look_stands (Some view) = view_stands view
+
+  listed_stands : (step : ListStep) → GoesToFolder setting step → StepStands setting (by_listed step)
+  listed_stands (listed.More lister) goes = goes
+  listed_stands (listed.Listed listing) goes = tt
+  listed_stands listed.Broken goes = tt
+
+  published_stands : (listing : Listing) (effect : Effect) → StepStands setting (by_published listing effect)
+  published_stands listing (effects.Published view) = tt
+  published_stands listing (effects.Unchanged view) = tt
+  published_stands listing (effects.Outdated list_no) = tt
+  published_stands listing effect = tt
+
+  refresh_stands : (head : LookHead) (refresh : Refresh) (purpose : Purpose) (notes : Notes) (answer : Answer)
+      → StandsAt setting head.want head.id (stages.Refreshing refresh purpose notes)
+      → StepStands setting (refreshes.fed setting.objects setting.folders refresh answer)
+  refresh_stands head fronts.Reading purpose notes (told.Disk answer) is = tt
+  refresh_stands head fronts.Reading purpose notes (told.Core (Ok effect)) is = look_stands (view_shown effect)
+  refresh_stands head fronts.Reading purpose notes (told.Core (Err refusal)) is = tt
+  refresh_stands head (fronts.Listing lister) purpose notes (told.Disk answer) is =
+      listed_stands (lists.fed setting.folders lister answer) (fed-goes setting lister is answer)
+  refresh_stands head (fronts.Listing lister) purpose notes (told.Core answer) is = is
+  refresh_stands head (fronts.Publishing listing) purpose notes (told.Disk answer) is = tt
+  refresh_stands head (fronts.Publishing listing) purpose notes (told.Core (Ok effect)) is = published_stands listing effect
+  refresh_stands head (fronts.Publishing listing) purpose notes (told.Core (Err refusal)) is = tt
 
 fed_at-stand : (setting : Setting) (head : LookHead) (stage : LookStage) (answer : Answer) → StandsAt setting head.want head.id stage
     → StandsAt setting head.want head.id (fed_at setting head stage answer).stage
@@ -192,38 +238,34 @@ fed_at-stand setting head (stages.Trying trier part) answer is =
     (fed-comes (Unit {0}) (λ refusal. Unit {0}) trier answer (λ so. tt) (failed-passes (Unit {0}) tt trier.stage) (λ so. tt) (λ event refusal asked so. tt))
 fed_at-stand setting head (stages.Loose round call) (told.Disk answer) is = by_call-stand setting head round call is answer
 fed_at-stand setting head (stages.Loose round call) (told.Core answer) is = is
-fed_at-stand setting head (stages.Listing lister base notes) (told.Disk answer) is =
-    by_listed-stand setting head base notes (lister_fed setting lister answer) (fed-goes setting lister is answer)
-fed_at-stand setting head (stages.Listing lister base notes) (told.Core answer) is = is
-fed_at-stand setting head (stages.Looking purpose notes) (told.Disk answer) is = tt
-fed_at-stand setting head (stages.Looking purpose notes) (told.Core (Ok effect)) is = by_look-stand setting head purpose notes (view_shown effect)
-fed_at-stand setting head (stages.Looking purpose notes) (told.Core (Err refusal)) is = load_refused-stand setting head (of_refusal refusal)
-fed_at-stand setting head (stages.Publishing listing notes) (told.Disk answer) is = tt
-fed_at-stand setting head (stages.Publishing listing notes) (told.Core (Ok effect)) is = by_published-stand setting head listing notes effect
-fed_at-stand setting head (stages.Publishing listing notes) (told.Core (Err refusal)) is = load_refused-stand setting head (of_refusal refusal)
+fed_at-stand setting head (stages.Refreshing refresh purpose notes) answer is =
+    by_refresh-stand setting head purpose notes (refreshes.fed setting.objects setting.folders refresh answer)
+    (refresh_stands setting head refresh purpose notes answer is)
+fed_at-stand setting head (stages.Checking list_no notes) (told.Disk answer) is = tt
+fed_at-stand setting head (stages.Checking list_no notes) (told.Core (Ok effect)) is = by_checked-stand setting head list_no notes (view_shown effect)
+fed_at-stand setting head (stages.Checking list_no notes) (told.Core (Err refusal)) is = load_refused-stand setting head (of_refusal refusal)
 fed_at-stand setting head (stages.Done reply) answer is = is
 
 -- a look-up keeps what it wants and its id
-by_published-head : (setting : Setting) (head : LookHead) (listing : Listing) (notes : Notes) (effect : Effect)
-    → ((by_published setting head listing notes effect).head.want ≡ head.want) × ((by_published setting head listing notes effect).head.id ≡ head.id)
-by_published-head setting head listing notes (effects.Published view) = (refl, refl)
-by_published-head setting head listing notes (effects.Unchanged view) = (refl, refl)
-by_published-head setting head listing notes (effects.Outdated list_no) = (refl, refl)
-by_published-head setting head listing notes effect = (refl, refl)
+by_refresh-head : (setting : Setting) (head : LookHead) (purpose : Purpose) (notes : Notes) (step : RefreshStep)
+    → ((by_refresh setting head purpose notes step).head.want ≡ head.want) × ((by_refresh setting head purpose notes step).head.id ≡ head.id)
+by_refresh-head setting head purpose notes (steps.More refresh) = (refl, refl)
+by_refresh-head setting head purpose notes (steps.Read view) = (refl, refl)
+by_refresh-head setting head purpose notes (steps.Current view true) = (refl, refl)
+by_refresh-head setting head purpose notes (steps.Current view false) = (refl, refl)
+by_refresh-head setting head purpose notes (steps.Outdated list_no) = (refl, refl)
+by_refresh-head setting head purpose notes (steps.Refused error) = (refl, refl)
 
 fed_at-head : (setting : Setting) (head : LookHead) (stage : LookStage) (answer : Answer)
     → ((fed_at setting head stage answer).head.want ≡ head.want) × ((fed_at setting head stage answer).head.id ≡ head.id)
 fed_at-head setting head (stages.Trying trier part) answer = (refl, refl)
 fed_at-head setting head (stages.Loose round call) (told.Disk answer) = (refl, refl)
 fed_at-head setting head (stages.Loose round call) (told.Core answer) = (refl, refl)
-fed_at-head setting head (stages.Listing lister base notes) (told.Disk answer) = (refl, refl)
-fed_at-head setting head (stages.Listing lister base notes) (told.Core answer) = (refl, refl)
-fed_at-head setting head (stages.Looking purpose notes) (told.Disk answer) = (refl, refl)
-fed_at-head setting head (stages.Looking purpose notes) (told.Core (Ok effect)) = (refl, refl)
-fed_at-head setting head (stages.Looking purpose notes) (told.Core (Err refusal)) = (refl, refl)
-fed_at-head setting head (stages.Publishing listing notes) (told.Disk answer) = (refl, refl)
-fed_at-head setting head (stages.Publishing listing notes) (told.Core (Ok effect)) = by_published-head setting head listing notes effect
-fed_at-head setting head (stages.Publishing listing notes) (told.Core (Err refusal)) = (refl, refl)
+fed_at-head setting head (stages.Refreshing refresh purpose notes) answer =
+    by_refresh-head setting head purpose notes (refreshes.fed setting.objects setting.folders refresh answer)
+fed_at-head setting head (stages.Checking list_no notes) (told.Disk answer) = (refl, refl)
+fed_at-head setting head (stages.Checking list_no notes) (told.Core (Ok effect)) = (refl, refl)
+fed_at-head setting head (stages.Checking list_no notes) (told.Core (Err refusal)) = (refl, refl)
 fed_at-head setting head (stages.Done reply) answer = (refl, refl)
 
 -- ---- a look-up of an id
@@ -241,7 +283,7 @@ started-stands setting view want id = record { want_is = refl; id_is = refl; sta
     head = new_head want id
 
     by : (b : Bool)
-        → StandsAt setting want id (if b then try_view setting head parts.Snapshot view [] without_notes else stages.Looking (purposes.First true) without_notes)
+        → StandsAt setting want id (if b then try_view setting head parts.Snapshot view [] without_notes else stages.Refreshing fronts.Reading (purposes.First true) without_notes)
     by true = try_view-stand setting head parts.Snapshot view [] without_notes
     by false = tt
 

@@ -46,11 +46,15 @@ use Rattle.gix_odb_calls.specs.declared.verdict.Verdict.TheVariants as verdicts
 use Rattle.gix_odb_looks.specs.Caused.{IsUnsettled, TellsNumber}
 use Rattle.gix_odb_looks.specs.Exchange.{Exchange, IsLast, WasTold, first_number, is_publish, published_in}
 use Rattle.gix_odb_looks.specs.LookUpOrder.{Setting, after_list, after_loose, ask_at, at_folder, by_check}
-use Rattle.gix_odb_looks.specs.LookUpOrder.{by_first, by_listed, by_look, by_published, by_reply, by_tried}
+use Rattle.gix_odb_looks.specs.LookUpOrder.{by_checked, by_read, by_refresh, by_reply, by_tried}
 use Rattle.gix_odb_looks.specs.LookUpOrder.{by_verdict, counted, ended, fed_at, goal_of, is_unsettled, listing_from, load_refused, loose_fed, not_found}
-use Rattle.gix_odb_looks.specs.LookUpOrder.{lister_fed, loose_ask, trier_fed, try_view, unsettled, view_of, view_shown, with_own}
-use Rattle.gix_odb_looks.specs.Shown.{folders_of}
+use Rattle.gix_odb_looks.specs.LookUpOrder.{loose_ask, trier_fed, try_view, unsettled, view_of, view_shown, with_own, without_absent}
+use Rattle.gix_odb_refresh.specs.Shown.{folders_of}
 use Rattle.gix_odb_looks.specs.True.{IsTrue}
+use Rattle.gix_odb_refresh.specs.RefreshOrder.{by_listed, by_look, by_published, by_view}
+use Rattle.gix_odb_refresh.specs.RefreshOrder as refreshes
+use Rattle.gix_odb_refresh.specs.declared.refresh.Refresh.TheVariants as fronts
+use Rattle.gix_odb_refresh.specs.declared.refresh.RefreshStep.TheVariants as steps
 use Rattle.gix_odb_looks.specs.declared.look_up.LookHead.{LookHead}
 use Rattle.gix_odb_looks.specs.declared.look_up.LookStage.{LookStage}
 use Rattle.gix_odb_looks.specs.declared.look_up.LookStage.TheVariants as stages
@@ -60,10 +64,12 @@ use Rattle.gix_odb_looks.specs.declared.look_up.Part.{Part}
 use Rattle.gix_odb_looks.specs.declared.look_up.Part.TheVariants as parts
 use Rattle.gix_odb_looks.specs.declared.look_up.Purpose.{Purpose}
 use Rattle.gix_odb_looks.specs.declared.look_up.Purpose.TheVariants as purposes
-use Rattle.gix_odb_looks.proofs.CauseLaws.Folders.{IsAtFolder, folder_has_ask, folder_has_reply}
-use Rattle.gix_odb_looks.proofs.CauseLaws.Listers.{ListedTells}
-use Rattle.gix_odb_looks.proofs.CauseLaws.Listers as listers
-use Rattle.gix_odb_looks.proofs.CauseLaws.Pasts.{HasFailed-from_told, Noted, no_more_own, one_more_own}
+use Rattle.gix_odb_refresh.proofs.ListerLaws.Folders.{IsAtFolder}
+use Rattle.gix_odb_looks.proofs.CauseLaws.Folders.{folder_has_ask, folder_has_reply}
+use Rattle.gix_odb_refresh.proofs.ListerLaws.Tells.{ListedTells}
+use Rattle.gix_odb_refresh.proofs.ListerLaws.Tells as listers
+use Rattle.gix_odb_refresh.proofs.ListerLaws.Tells.{HasFailed-from_told}
+use Rattle.gix_odb_looks.proofs.CauseLaws.Pasts.{Noted, no_more_own, one_more_own}
 use Rattle.gix_odb_looks.proofs.CauseLaws.Standing.{IsOfFolder, StandsAt}
 use Rattle.gix_odb_looks.proofs.CauseLaws.Known.{Counts, HasBegun, KnowsAt, ShowedPart, VerdictTells, bad_explained, folder_tells, found_explained}
 use Rattle.gix_odb_looks.proofs.CauseLaws.Known.{not_found_explained, refusal_explained}
@@ -165,29 +171,42 @@ module _ (Shown : Path → List ℕ → Type 0) (setting : Setting) (hash : Kind
           by true = ended-known notes noted
           by false = counted-known view.list_no number (listing_from setting view.list_no notes) (listing_from-known view.list_no notes noted begun)
 
-    by_first-known : (loose : Bool) (view : View) (notes : Notes) → Noted exchanges notes → HasBegun head → Knows head (by_first setting head loose view notes)
-    by_first-known loose view notes noted begun = by view.read
+    by_checked-known : Counts exchanges head → (exchange : Exchange) → IsLast exchanges exchange → (list_no : ℕ) (notes : Notes) → Noted exchanges notes
+        → (view : Option View) → ((v : View) → view ≡ Some v → HasBegun head × TellsNumber exchange.answer v.list_no)
+        → Knows head (by_checked setting head list_no notes view)
+    by_checked-known counts exchange last list_no notes noted None shows = noted
+    by_checked-known counts exchange last list_no notes noted (Some view) shows =
+        by_check-known counts (shows view refl).0 exchange last list_no view notes noted (shows view refl).1
+
+    -- ---- the list of the core is read, or brought up to date
+
+    abbrev KnowsLook : LookUp → Type 0
+    KnowsLook look = Knows look.head look.stage
+
+    by_read-known : HasBegun head → (purpose : Purpose) (view : View) (notes : Notes) → Noted exchanges notes → Knows head (by_read setting head purpose view notes)
+    by_read-known begun (purposes.First loose) view notes noted = try_view-known (parts.List view.list_no loose) begun view view.todo notes noted
+    by_read-known begun purposes.Again view notes noted = listing_from-known view.list_no notes noted begun
+
+    by_view-known : HasBegun head → (purpose : Purpose) (view : View) (notes : Notes) → Noted exchanges notes
+        → KnowsLook (by_refresh setting head purpose notes (by_view setting.objects view))
+    by_view-known begun purpose view notes noted = by view.read
       where
         by : (b : Bool)
-            → Knows head (if b then try_view setting head (parts.List view.list_no loose) view view.todo notes else listing_from setting view.list_no notes)
-        by true = try_view-known (parts.List view.list_no loose) begun view view.todo notes noted
-        by false = listing_from-known view.list_no notes noted begun
+            → KnowsLook (by_refresh setting head purpose notes (if b then steps.Read view else steps.More (refreshes.listing_from setting.objects view.list_no)))
+        by true = by_read-known begun purpose view notes noted
+        by false = (noted, begun, tt)
 
-    by_look-known : Counts exchanges head → (exchange : Exchange) → IsLast exchanges exchange → (purpose : Purpose) (notes : Notes) → Noted exchanges notes
-        → (view : Option View) → ((v : View) → view ≡ Some v → HasBegun head × TellsNumber exchange.answer v.list_no)
-        → Knows head (by_look setting head purpose notes view)
-    by_look-known counts exchange last purpose notes noted None shows = noted
-    by_look-known counts exchange last (purposes.First loose) notes noted (Some view) shows = by_first-known loose view notes noted (shows view refl).0
-    by_look-known counts exchange last (purposes.Check list_no) notes noted (Some view) shows =
-        by_check-known counts (shows view refl).0 exchange last list_no view notes noted (shows view refl).1
-    by_look-known counts exchange last purposes.Again notes noted (Some view) shows = listing_from-known view.list_no notes noted (shows view refl).0
+    by_look-known : (purpose : Purpose) (notes : Notes) → Noted exchanges notes → (view : Option View) → ((v : View) → view ≡ Some v → HasBegun head)
+        → KnowsLook (by_refresh setting head purpose notes (by_look setting.objects view))
+    by_look-known purpose notes noted None shows = noted
+    by_look-known purpose notes noted (Some view) shows = by_view-known (shows view refl) purpose view notes noted
 
-    by_listed-known : (base : ℕ) (notes : Notes) → Noted exchanges notes → HasBegun head → (step : ListStep)
+    by_listed-known : (purpose : Purpose) (notes : Notes) → Noted exchanges notes → HasBegun head → (step : ListStep)
         → ListedTells setting exchanges step
-        → Knows head (by_listed base notes step)
-    by_listed-known base notes noted begun (listed.More lister) tells = (noted, begun, tells)
-    by_listed-known base notes noted begun (listed.Rows rows) tells = (noted, begun)
-    by_listed-known base notes noted begun listed.Broken tells = tells
+        → KnowsLook (by_refresh setting head purpose notes (by_listed step))
+    by_listed-known purpose notes noted begun (listed.More lister) tells = (noted, begun, tells)
+    by_listed-known purpose notes noted begun (listed.Listed listing) tells = (noted, begun)
+    by_listed-known purpose notes noted begun listed.Broken tells = tells
 
   -- ---- an exchange
 
@@ -300,19 +319,25 @@ module _ (Shown : Path → List ℕ → Type 0) (setting : Setting) (hash : Kind
 
     -- ---- a listing
 
-    listing-known : (lister : Lister) (base : ℕ) (notes : Notes) → IsAtFolder setting lister.head → Knows head (stages.Listing lister base notes)
+    listing-known : (lister : Lister) (purpose : Purpose) (notes : Notes) → IsAtFolder setting lister.head
+        → Knows head (stages.Refreshing (fronts.Listing lister) purpose notes)
         → (answer : Answer)
-        → Answered before head (stages.Listing lister base notes) answer
-        → Knowing (fed_at setting head (stages.Listing lister base notes) answer)
-    listing-known lister base notes at knows (told.Disk answer) t =
-        let truth = is_true (stages.Listing lister base notes) (told.Disk answer) t (asks.Disk (lists.ask_of lister)) refl in (
-          quiet (stages.Listing lister base notes) (told.Disk answer) t (asks.Disk (lists.ask_of lister)) refl refl,
-          by_listed-known head base notes knows.0 knows.1 (lister_fed setting lister answer)
-              (listers.fed-tells setting exchanges lister at knows.2 answer truth.0
-              (was_told (stages.Listing lister base notes) (told.Disk answer) t (asks.Disk (lists.ask_of lister)) refl)),
-        )
-    listing-known lister base notes at knows (told.Core answer) t =
-        (quiet (stages.Listing lister base notes) (told.Core answer) t (asks.Disk (lists.ask_of lister)) refl refl, knows)
+        → Answered before head (stages.Refreshing (fronts.Listing lister) purpose notes) answer
+        → Knowing (fed_at setting head (stages.Refreshing (fronts.Listing lister) purpose notes) answer)
+    listing-known lister purpose notes at knows (told.Disk answer) t =
+        let stage : LookStage = stages.Refreshing (fronts.Listing lister) purpose notes in
+        let truth = is_true stage (told.Disk answer) t (asks.Disk (lists.ask_of lister)) refl in
+        listing_counts (lists.fed setting.folders lister answer) (quiet stage (told.Disk answer) t (asks.Disk (lists.ask_of lister)) refl refl)
+        (listers.fed-tells setting exchanges lister at knows.2 answer truth.0
+        (was_told stage (told.Disk answer) t (asks.Disk (lists.ask_of lister)) refl))
+      where
+        listing_counts : (step : ListStep) → Counts exchanges head → ListedTells setting exchanges step
+            → Knowing (by_refresh setting head purpose notes (by_listed step))
+        listing_counts (listed.More next) counts tells = (counts, by_listed-known head purpose notes knows.0 knows.1 (listed.More next) tells)
+        listing_counts (listed.Listed listing) counts tells = (counts, by_listed-known head purpose notes knows.0 knows.1 (listed.Listed listing) tells)
+        listing_counts listed.Broken counts tells = (counts, by_listed-known head purpose notes knows.0 knows.1 listed.Broken tells)
+    listing-known lister purpose notes at knows (told.Core answer) t =
+        (quiet (stages.Refreshing (fronts.Listing lister) purpose notes) (told.Core answer) t (asks.Disk (lists.ask_of lister)) refl refl, knows)
 
     -- ---- the core
 
@@ -320,26 +345,57 @@ module _ (Shown : Path → List ℕ → Type 0) (setting : Setting) (hash : Kind
     tells_view (effects.Outdated list_no) view is = absurd (cc is)
     tells_view effect view is = (view, is, refl)
 
-    looking-known : (purpose : Purpose) (notes : Notes) → Noted exchanges notes → (answer : Answer) → Answered before head (stages.Looking purpose notes) answer
-        → Knowing (fed_at setting head (stages.Looking purpose notes) answer)
-    looking-known purpose notes noted (told.Disk answer) t =
-        (quiet (stages.Looking purpose notes) (told.Disk answer) t (asks.Core events.Look) refl refl, noted)
-    looking-known purpose notes noted (told.Core (Ok effect)) t =
-        let counts = quiet (stages.Looking purpose notes) (told.Core (Ok effect)) t (asks.Core events.Look) refl refl in
-        let last = last_told (stages.Looking purpose notes) (told.Core (Ok effect)) t (asks.Core events.Look) refl in (
-          counts,
-          by_look-known head counts (record { ask = asks.Core events.Look; answer = told.Core (Ok effect) }) last purpose notes noted (view_shown effect)
-              (λ view is. (t.shows view is, tells_view effect view is)),
+    -- a refresh leaves the counts where nothing is published
+    look_counts : (purpose : Purpose) (notes : Notes) → Counts exchanges head → (view : Option View)
+        → Counts exchanges (by_refresh setting head purpose notes (by_look setting.objects view)).head
+    look_counts purpose notes counts None = counts
+    look_counts purpose notes counts (Some view) = by view.read
+      where
+        by : (b : Bool)
+            → Counts exchanges
+            (by_refresh setting head purpose notes (if b then steps.Read view else steps.More (refreshes.listing_from setting.objects view.list_no))).head
+        by true = counts
+        by false = counts
+
+    reading-known : (purpose : Purpose) (notes : Notes) → Noted exchanges notes → (answer : Answer)
+        → Answered before head (stages.Refreshing fronts.Reading purpose notes) answer
+        → Knowing (fed_at setting head (stages.Refreshing fronts.Reading purpose notes) answer)
+    reading-known purpose notes noted (told.Disk answer) t =
+        (quiet (stages.Refreshing fronts.Reading purpose notes) (told.Disk answer) t (asks.Core events.Look) refl refl, noted)
+    reading-known purpose notes noted (told.Core (Ok effect)) t =
+        let counts = quiet (stages.Refreshing fronts.Reading purpose notes) (told.Core (Ok effect)) t (asks.Core events.Look) refl refl in (
+          look_counts purpose notes counts (view_shown effect),
+          by_look-known head purpose notes noted (view_shown effect) (λ view is. t.shows view is),
         )
-    looking-known purpose notes noted (told.Core (Err refusal)) t = (
-      quiet (stages.Looking purpose notes) (told.Core (Err refusal)) t (asks.Core events.Look) refl refl,
+    reading-known purpose notes noted (told.Core (Err refusal)) t = (
+      quiet (stages.Refreshing fronts.Reading purpose notes) (told.Core (Err refusal)) t (asks.Core events.Look) refl refl,
       refusal_explained Shown setting hash id exchanges head.want refusal
-          (record { event = events.Look; told = was_told (stages.Looking purpose notes) (told.Core (Err refusal)) t (asks.Core events.Look) refl }),
+          (record {
+            event = events.Look;
+            told = was_told (stages.Refreshing fronts.Reading purpose notes) (told.Core (Err refusal)) t (asks.Core events.Look) refl;
+          }),
     )
 
-    module _ (listing : Listing) (notes : Notes) (knows : Noted exchanges notes × HasBegun head) where
+    checking-known : (list_no : ℕ) (notes : Notes) → Noted exchanges notes → (answer : Answer) → Answered before head (stages.Checking list_no notes) answer
+        → Knowing (fed_at setting head (stages.Checking list_no notes) answer)
+    checking-known list_no notes noted (told.Disk answer) t =
+        (quiet (stages.Checking list_no notes) (told.Disk answer) t (asks.Core events.Look) refl refl, noted)
+    checking-known list_no notes noted (told.Core (Ok effect)) t =
+        let counts = quiet (stages.Checking list_no notes) (told.Core (Ok effect)) t (asks.Core events.Look) refl refl in
+        let last = last_told (stages.Checking list_no notes) (told.Core (Ok effect)) t (asks.Core events.Look) refl in (
+          counts,
+          by_checked-known head counts (record { ask = asks.Core events.Look; answer = told.Core (Ok effect) }) last list_no notes noted (view_shown effect)
+              (λ view is. (t.shows view is, tells_view effect view is)),
+        )
+    checking-known list_no notes noted (told.Core (Err refusal)) t = (
+      quiet (stages.Checking list_no notes) (told.Core (Err refusal)) t (asks.Core events.Look) refl refl,
+      refusal_explained Shown setting hash id exchanges head.want refusal
+          (record { event = events.Look; told = was_told (stages.Checking list_no notes) (told.Core (Err refusal)) t (asks.Core events.Look) refl }),
+    )
+
+    module _ (listing : Listing) (purpose : Purpose) (notes : Notes) (knows : Noted exchanges notes × HasBegun head) where
       abbrev at_publish : LookStage
-      at_publish = stages.Publishing listing notes
+      at_publish = stages.Refreshing (fronts.Publishing listing) purpose notes
 
       abbrev publish : Ask
       publish = asks.Core (events.Publish listing)
@@ -348,7 +404,7 @@ module _ (Shown : Path → List ℕ → Type 0) (setting : Setting) (hash : Kind
       counts_so answer t none = quiet at_publish answer t publish refl none
 
       by_published-known : (effect : Effect) → Answered before head at_publish (told.Core (Ok effect))
-          → Knowing (by_published setting head listing notes effect)
+          → Knowing (by_refresh setting head purpose notes (by_published listing effect))
       by_published-known (effects.Published view) t = (
         record {
           begun = t.begun;
@@ -356,18 +412,18 @@ module _ (Shown : Path → List ℕ → Type 0) (setting : Setting) (hash : Kind
               one_more_own head.own before (published_in exchanges) t.own (t.room listing view refl refl)
               (now_published at_publish (told.Core (Ok (effects.Published view))) t publish refl);
         },
-        try_view-known (with_own head) (parts.Published view.list_no) knows.1 view view.todo notes knows.0,
+        try_view-known (with_own head) (parts.Published view.list_no) knows.1 view view.todo (without_absent notes) knows.0,
       )
       by_published-known (effects.Unchanged view) t = (
         counts_so (told.Core (Ok (effects.Unchanged view))) t refl,
-        try_view-known head (parts.Published view.list_no) knows.1 view view.todo notes knows.0,
+        try_view-known head (parts.Published view.list_no) knows.1 view view.todo (without_absent notes) knows.0,
       )
       by_published-known (effects.Outdated list_no) t =
           let counts = counts_so (told.Core (Ok (effects.Outdated list_no))) t refl in
           let last = last_told at_publish (told.Core (Ok (effects.Outdated list_no))) t publish refl in (
             counts,
             counted-known head counts knows.1 (record { ask = publish; answer = told.Core (Ok (effects.Outdated list_no)) }) last list_no refl
-                (stages.Looking purposes.Again notes) knows.0,
+                (stages.Refreshing fronts.Reading purposes.Again notes) knows.0,
           )
       by_published-known (effects.Seen view) t = (counts_so (told.Core (Ok (effects.Seen view))) t refl, knows)
       by_published-known (effects.Reported view report) t = (counts_so (told.Core (Ok (effects.Reported view report))) t refl, knows)
@@ -389,7 +445,8 @@ module _ (Shown : Path → List ℕ → Type 0) (setting : Setting) (hash : Kind
         → Knowing (fed_at setting head stage answer)
     fed_at-known (stages.Trying trier part) answer t stands knows = trying-known trier part answer t knows
     fed_at-known (stages.Loose round call) answer t stands knows = loose-known round knows call stands answer t
-    fed_at-known (stages.Looking purpose notes) answer t stands knows = looking-known purpose notes knows answer t
-    fed_at-known (stages.Listing lister base notes) answer t stands knows = listing-known lister base notes stands knows answer t
-    fed_at-known (stages.Publishing listing notes) answer t stands knows = publishing-known listing notes knows answer t
+    fed_at-known (stages.Refreshing fronts.Reading purpose notes) answer t stands knows = reading-known purpose notes knows answer t
+    fed_at-known (stages.Refreshing (fronts.Listing lister) purpose notes) answer t stands knows = listing-known lister purpose notes stands knows answer t
+    fed_at-known (stages.Refreshing (fronts.Publishing listing) purpose notes) answer t stands knows = publishing-known listing purpose notes knows answer t
+    fed_at-known (stages.Checking list_no notes) answer t stands knows = checking-known list_no notes knows answer t
     fed_at-known (stages.Done reply) answer t stands knows = absurd (cc t.asked)

@@ -8,7 +8,6 @@ use Rattle.gix_hash.specs.declared.object_id.ObjectId.{ObjectId}
 use Rattle.gix_odb_loose.specs.LooseOrder.{disk_ask_of}
 use Rattle.gix_odb_events.specs.declared.event.Event.TheVariants as events
 use Rattle.gix_odb_events.specs.declared.view.View.{View}
-use Rattle.gix_odb_packs.specs.ListOrder as lists
 use Rattle.gix_odb_packs.specs.TryOrder as tries
 use Rattle.gix_odb_events.specs.declared.answer.Ask.TheVariants as asks
 use Rattle.gix_odb_events.specs.declared.answer.Ask.{Ask}
@@ -23,14 +22,17 @@ use Rattle.gix_object.specs.declared.want.Want.{Want}
 use Rattle.gix_odb_looks.specs.Caused.{IsCaused}
 use Rattle.gix_odb_looks.specs.Exchange.{AreAsked, Exchange, behind}
 use Rattle.gix_odb_looks.specs.LookUpOrder.{Setting, ask_at, fed, loose_ask, result_at, result_of, seen, started}
-use Rattle.gix_odb_looks.specs.Shown.{IsHandedBy, IsShownView}
+use Rattle.gix_odb_refresh.specs.Shown.{IsHandedBy, IsShownView}
 use Rattle.gix_odb_looks.specs.True.{AreTrue}
+use Rattle.gix_odb_refresh.specs.RefreshOrder as refreshes
+use Rattle.gix_odb_refresh.specs.declared.refresh.Refresh.{Refresh}
+use Rattle.gix_odb_refresh.specs.declared.refresh.Refresh.TheVariants as fronts
 use Rattle.gix_odb_looks.specs.declared.look_up.LookHead.{LookHead}
 use Rattle.gix_odb_looks.specs.declared.look_up.LookStage.TheVariants as stages
 use Rattle.gix_odb_looks.specs.declared.look_up.LookStage.{LookStage}
 use Rattle.gix_odb_looks.specs.declared.look_up.LookUp.{LookUp}
-use Rattle.gix_odb_looks.proofs.FoundLaws.Known.{KnowsLook, KnowsLookStage, KnowsReply, KnowsStage}
-use Rattle.gix_odb_looks.proofs.FoundLaws.Lists.{has_first, has_later}
+use Rattle.gix_odb_looks.proofs.FoundLaws.Known.{KnowsLook, KnowsLookStage, KnowsRefresh, KnowsReply, KnowsStage}
+use Rattle.gix_odb_refresh.proofs.ListerLaws.Lists.{has_first, has_later}
 use Rattle.gix_odb_looks.proofs.FoundLaws.Looking.{begun_known, stage_known}
 pub use Rattle.gix_odb_looks.proofs.FoundLaws.Known.{IsOfPack}
 
@@ -45,6 +47,11 @@ module _ (Shown : Path → List ℕ → Type 0) (setting : Setting) (hash : Kind
   trier_hands (tries_stages.Loading (loaders.Storing place file)) here = here
   trier_hands (tries_stages.StoringPack pack file) here = here.1
   trier_hands stage here = tt
+
+  refresh_hands : (refresh : Refresh) → KnowsRefresh setting refresh → IsHandedBy Shown setting hash (refreshes.ask_of refresh)
+  refresh_hands fronts.Reading here = tt
+  refresh_hands (fronts.Listing lister) here = tt
+  refresh_hands (fronts.Publishing listing) here = here
 
   -- ---- behind exchanges
 
@@ -73,15 +80,12 @@ module _ (Shown : Path → List ℕ → Type 0) (setting : Setting) (hash : Kind
         let same : tries.ask_of trier ≡ ask = cc is in
         subst (IsHandedBy Shown setting hash) same (trier_hands trier.stage here.stage)
     stage_hands (stages.Loose round call) ask here is = disk_hands Shown setting hash (disk_ask_of call) ask is
-    stage_hands (stages.Looking purpose notes) ask here is =
+    stage_hands (stages.Refreshing refresh purpose notes) ask here is =
+        let same : refreshes.ask_of refresh ≡ ask = cc is in
+        subst (IsHandedBy Shown setting hash) same (refresh_hands refresh here)
+    stage_hands (stages.Checking list_no notes) ask here is =
         let same : asks.Core events.Look ≡ ask = cc is in
         subst (IsHandedBy Shown setting hash) same tt
-    stage_hands (stages.Listing lister base notes) ask here is =
-        let same : asks.Disk (lists.ask_of lister) ≡ ask = cc is in
-        subst (IsHandedBy Shown setting hash) same tt
-    stage_hands (stages.Publishing listing notes) ask here is =
-        let same : asks.Core (events.Publish listing) ≡ ask = cc is in
-        subst (IsHandedBy Shown setting hash) same here
     stage_hands (stages.Done reply) ask here is = absurd (cc is)
 
     -- what is known of the reply of a look-up that is done

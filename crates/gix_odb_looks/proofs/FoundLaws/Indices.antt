@@ -37,9 +37,9 @@ use Rattle.gix_odb_looks.specs.Caused.{IsCaused}
 use Rattle.gix_odb_looks.specs.Exchange.{Exchange}
 use Rattle.gix_odb_looks.specs.Found.{IsEntryReply, IsHeaderReply, IsInIndex, IsInPack}
 use Rattle.gix_odb_looks.specs.LookUpOrder.{Setting, find_error}
-use Rattle.gix_odb_looks.specs.Shown.{IsPackShownAt, IsPackShown, IsIndexShown}
+use Rattle.gix_odb_refresh.specs.Shown.{IsPackShownAt, IsPackShown, IsIndexShown}
 use Rattle.gix_odb_looks.proofs.FoundLaws.Known.{IsCausedHere, IsFoundHere, IsWanted, KnowsGiven, goal_for}
-use Rattle.gix_odb_looks.proofs.FoundLaws.Lists.{find_passes}
+use Rattle.gix_odb_refresh.proofs.ListerLaws.Lists.{find_passes}
 use Rattle.gix_odb_looks.proofs.FoundLaws.PackErrors.{IsOfEntry, IsOfHeader, entry_error, header_error}
 
 equal : (order : Ordering) → is_eq order ≡ true → order ≡ Equal

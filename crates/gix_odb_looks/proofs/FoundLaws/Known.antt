@@ -6,7 +6,6 @@ use Rattle.gix_hash.specs.declared.object_id.ObjectId.{ObjectId}
 use Rattle.gix_odb_loose.specs.declared.call.LooseCall.{LooseCall}
 use Rattle.gix_odb_events.specs.PackPath.{pack_path}
 use Rattle.gix_odb_events.specs.declared.loaded.Todo.{Todo}
-use Rattle.gix_odb_packs.specs.PackFolder.{pack_folder}
 use Rattle.gix_odb_packs.specs.declared.goal.Error as goals
 use Rattle.gix_odb_packs.specs.declared.goal.Found.{Found}
 use Rattle.gix_odb_packs.specs.declared.goal.Goal.{Goal}
@@ -14,12 +13,6 @@ use Rattle.gix_odb_packs.specs.declared.index_loader.IndexLoader.{IndexLoader}
 use Rattle.gix_odb_packs.specs.declared.index_loader.IndexLoader.TheVariants as loaders
 use Rattle.gix_odb_packs.specs.declared.index_loader.LoadStep.{LoadStep}
 use Rattle.gix_odb_packs.specs.declared.index_loader.LoadStep.TheVariants as load_steps
-use Rattle.gix_odb_packs.specs.declared.lister.ListHead.{ListHead}
-use Rattle.gix_odb_packs.specs.declared.lister.ListStage.{ListStage}
-use Rattle.gix_odb_packs.specs.declared.lister.ListStage.TheVariants as list_stages
-use Rattle.gix_odb_packs.specs.declared.lister.ListStep.{ListStep}
-use Rattle.gix_odb_packs.specs.declared.lister.ListStep.TheVariants as list_steps
-use Rattle.gix_odb_packs.specs.declared.lister.Lister.{Lister}
 use Rattle.gix_odb_packs.specs.declared.search.WantedPack.{WantedPack}
 use Rattle.gix_odb_packs.specs.declared.trier.Ahead.{Ahead}
 use Rattle.gix_odb_packs.specs.declared.trier.Stage.{Stage}
@@ -40,7 +33,10 @@ use Rattle.gix_odb_looks.specs.Exchange.{Exchange, HasVerdict}
 use Rattle.gix_odb_looks.specs.Reply.{IsAnswer}
 use Rattle.gix_odb_looks.specs.Found.{IsFound, IsInIndex}
 use Rattle.gix_odb_looks.specs.LookUpOrder.{Setting, find_error, reply_found}
-use Rattle.gix_odb_looks.specs.Shown.{IsIndexPath, IsIndexShownAt, IsIndexRow, IsPackShownAt, IsIndexShown, folders_of}
+use Rattle.gix_odb_refresh.specs.Shown.{IsIndexPath, IsIndexShownAt, IsIndexRow, IsPackShownAt, IsIndexShown, folders_of}
+use Rattle.gix_odb_refresh.specs.declared.refresh.Refresh.{Refresh}
+use Rattle.gix_odb_refresh.specs.declared.refresh.Refresh.TheVariants as fronts
+use Rattle.gix_odb_refresh.proofs.ListerLaws.Known.{KnowsLister}
 use Rattle.gix_odb_looks.specs.declared.look_up.LookHead.{LookHead}
 use Rattle.gix_odb_looks.specs.declared.look_up.LookStage.{LookStage}
 use Rattle.gix_odb_looks.specs.declared.look_up.LookStage.TheVariants as look_stages
@@ -59,32 +55,11 @@ IsOfPack error = ⊥
 abbrev pub goal_for : Setting → Want → ObjectId → Goal
 goal_for setting want id = record { id = id; want = want; limit = setting.limit }
 
--- ---- listings
+-- ---- packs
 
 module _ (setting : Setting) where
   abbrev pub IsIndexTodo : Todo → Type 0
   IsIndexTodo todo = IsIndexPath setting todo.path
-
-  -- the folder of packs of one of the folders is listed, and the rows are of indices
-  pub record KnowsListHead (head : ListHead) : Type 0 where
-    pub folder : Path
-    pub among : Contains (folders_of setting) folder
-    pub is : head.folder ≡ pack_folder folder
-    pub rows : All (IsIndexRow setting) head.rows
-
-  abbrev pub KnowsListStage : ListStage → Type 0
-  KnowsListStage (list_stages.Index path left) = IsIndexPath setting path × All (IsIndexPath setting) left
-  KnowsListStage (list_stages.Pack row left) = IsIndexRow setting row × All (IsIndexPath setting) left
-  KnowsListStage stage = Unit {0}
-
-  pub record KnowsLister (lister : Lister) : Type 0 where
-    pub head : KnowsListHead lister.head
-    pub stage : KnowsListStage lister.stage
-
-  abbrev pub KnowsListStep : ListStep → Type 0
-  KnowsListStep (list_steps.More lister) = KnowsLister lister
-  KnowsListStep (list_steps.Rows rows) = All (IsIndexRow setting) rows
-  KnowsListStep list_steps.Broken = Unit {0}
 
 -- ---- indices
 
@@ -120,6 +95,15 @@ module _ (Shown : Path → List ℕ → Type 0) (setting : Setting) (hash : Kind
   KnowsStage (stages.ReadingPack pack) = IsWanted pack
   KnowsStage (stages.StoringPack pack file) = IsWanted pack × IsPackShownAt Shown setting hash pack.path file
   KnowsStage (stages.PassingPack pack) = Unit {0}
+
+-- ---- refreshes
+
+module _ (setting : Setting) where
+  -- the folders are listed, or rows of indices of the folders are to be published
+  abbrev pub KnowsRefresh : Refresh → Type 0
+  KnowsRefresh fronts.Reading = Unit {0}
+  KnowsRefresh (fronts.Listing lister) = KnowsLister setting lister
+  KnowsRefresh (fronts.Publishing listing) = All (IsIndexRow setting) listing.rows
 
 -- ---- look-ups
 
@@ -164,9 +148,8 @@ module _ (Shown : Path → List ℕ → Type 0) (setting : Setting) (hash : Kind
   abbrev pub KnowsLookStage : LookStage → Type 0
   KnowsLookStage (look_stages.Trying trier part) = KnowsTrier trier
   KnowsLookStage (look_stages.Loose round call) = KnowsLoose call
-  KnowsLookStage (look_stages.Looking purpose notes) = Unit {0}
-  KnowsLookStage (look_stages.Listing lister base notes) = KnowsLister setting lister
-  KnowsLookStage (look_stages.Publishing listing notes) = All (IsIndexRow setting) listing.rows
+  KnowsLookStage (look_stages.Refreshing refresh purpose notes) = KnowsRefresh setting refresh
+  KnowsLookStage (look_stages.Checking list_no notes) = Unit {0}
   KnowsLookStage (look_stages.Done reply) = KnowsReply reply
 
   pub record KnowsHead (head : LookHead) : Type 0 where

@@ -38,13 +38,19 @@ use Rattle.gix_object.specs.declared.want.Want.{Want}
 use Rattle.gix_odb_calls.specs.declared.verdict.Verdict.{Verdict}
 use Rattle.gix_odb_calls.specs.declared.verdict.Verdict.TheVariants as verdicts
 use Rattle.gix_odb_looks.specs.Exchange.{Exchange, HasVerdict, WasTold}
-use Rattle.gix_odb_looks.specs.LoadIndex.{of_refusal}
-use Rattle.gix_odb_looks.specs.LookUpOrder.{Setting, after_list, after_loose, ask_at, at_folder, by_call, by_check, by_first, by_listed, by_look}
-use Rattle.gix_odb_looks.specs.LookUpOrder.{by_published, by_reply, by_tried, by_verdict, counted, ended, fed_at, goal_of, is_unsettled, listing_from}
+use Rattle.gix_odb_refresh.specs.LoadIndex.{of_refusal}
+use Rattle.gix_odb_looks.specs.LookUpOrder.{Setting, after_list, after_loose, ask_at, at_folder, by_call, by_check, by_checked, by_read, by_refresh}
+use Rattle.gix_odb_looks.specs.LookUpOrder.{by_reply, by_tried, by_verdict, counted, ended, fed_at, goal_of, is_unsettled, listing_from}
 use Rattle.gix_odb_looks.specs.LookUpOrder.{load_refused, loose_ask, loose_fed, loose_from, new_head, not_found, started, trier_fed, try_view, unsettled}
-use Rattle.gix_odb_looks.specs.LookUpOrder.{view_shown, with_own, without_notes}
-use Rattle.gix_odb_looks.specs.Shown.{IsIndexRow, IsShownView, folders_of}
+use Rattle.gix_odb_looks.specs.LookUpOrder.{own_by, view_shown, without_absent, without_notes}
+use Rattle.gix_odb_refresh.specs.Shown.{IsIndexRow, IsShownView, folders_of}
 use Rattle.gix_odb_looks.specs.True.{IsTrue}
+use Rattle.gix_odb_refresh.specs.RefreshOrder.{by_listed, by_look, by_published}
+use Rattle.gix_odb_refresh.specs.RefreshOrder as refreshes
+use Rattle.gix_odb_refresh.specs.declared.refresh.Refresh.{Refresh}
+use Rattle.gix_odb_refresh.specs.declared.refresh.Refresh.TheVariants as fronts
+use Rattle.gix_odb_refresh.specs.declared.refresh.RefreshStep.{RefreshStep}
+use Rattle.gix_odb_refresh.specs.declared.refresh.RefreshStep.TheVariants as steps
 use Rattle.gix_odb_looks.specs.declared.look_up.LookHead.{LookHead}
 use Rattle.gix_odb_looks.specs.declared.look_up.LookStage.{LookStage}
 use Rattle.gix_odb_looks.specs.declared.look_up.LookStage.TheVariants as stages
@@ -54,9 +60,10 @@ use Rattle.gix_odb_looks.specs.declared.look_up.Part.{Part}
 use Rattle.gix_odb_looks.specs.declared.look_up.Part.TheVariants as parts
 use Rattle.gix_odb_looks.specs.declared.look_up.Purpose.{Purpose}
 use Rattle.gix_odb_looks.specs.declared.look_up.Purpose.TheVariants as purposes
-use Rattle.gix_odb_looks.proofs.FoundLaws.Known.{IsIndexTodo, KnowsHead, KnowsListStep, KnowsLook, KnowsLookStage, KnowsLoose, KnowsTried, KnowsTrier, goal_for}
-use Rattle.gix_odb_looks.proofs.FoundLaws.Listing.{fed_known, started_known}
-use Rattle.gix_odb_looks.proofs.FoundLaws.Lists.{all_longest_first, at_place, has_first, has_later}
+use Rattle.gix_odb_looks.proofs.FoundLaws.Known.{IsIndexTodo, KnowsHead, KnowsLook, KnowsLookStage, KnowsLoose, KnowsRefresh, KnowsTried, KnowsTrier, goal_for}
+use Rattle.gix_odb_refresh.proofs.ListerLaws.Known.{KnowsListStep}
+use Rattle.gix_odb_refresh.proofs.ListerLaws.Known.{fed_known, started_known}
+use Rattle.gix_odb_refresh.proofs.ListerLaws.Lists.{at_place, has_first, has_later}
 use Rattle.gix_odb_looks.proofs.FoundLaws.Replies.{EndsOther, found_reply, load_reply, loose_ends_other, loose_reply, missed_reply, pack_reply}
 use Rattle.gix_odb_looks.proofs.FoundLaws.Trying.{answer_known, seek_known}
 use Rattle.gix_odb_looks.proofs.FoundLaws.Views.{views_shown}
@@ -106,12 +113,12 @@ module _ (Shown : Path → List ℕ → Type 0) (setting : Setting) (hash : Kind
   after_list_known : (head : LookHead) (part : Part) (notes : Notes) → Heads head → Stands (after_list setting head part notes)
   after_list_known head parts.Snapshot notes known = loose_known head parts.Snapshot notes known
   after_list_known head (parts.List list_no true) notes known = loose_known head (parts.List list_no true) notes known
-  after_list_known head (parts.List list_no false) notes known = started_known setting
+  after_list_known head (parts.List list_no false) notes known = started_known setting list_no
   after_list_known head (parts.Published list_no) notes known = loose_known head (parts.Published list_no) notes known
 
   after_loose_known : (part : Part) (notes : Notes) → Stands (after_loose setting part notes)
   after_loose_known parts.Snapshot notes = tt
-  after_loose_known (parts.List list_no loose) notes = started_known setting
+  after_loose_known (parts.List list_no loose) notes = started_known setting list_no
   after_loose_known (parts.Published list_no) notes = tt
 
   -- ---- a list is tried
@@ -142,7 +149,7 @@ module _ (Shown : Path → List ℕ → Type 0) (setting : Setting) (hash : Kind
         head = head;
         stage =
             chosen_known view.read (try_view setting (new_head want id) parts.Snapshot view [] without_notes)
-            (stages.Looking (purposes.First true) without_notes)
+            (stages.Refreshing fronts.Reading (purposes.First true) without_notes)
             (try_known (new_head want id) parts.Snapshot view [] without_notes head shown (All-nil (IsIndexTodo setting))) tt;
       }
 
@@ -203,11 +210,6 @@ module _ (Shown : Path → List ℕ → Type 0) (setting : Setting) (hash : Kind
   counted_known head now next here =
       chosen_known (is_unsettled setting head now) (unsettled head now) next (load_reply Shown setting hash id exchanges want _) here
 
-  first_known : (head : LookHead) (loose : Bool) (view : View) (notes : Notes) → Heads head → IsView view → Stands (by_first setting head loose view notes)
-  first_known head loose view notes known shown =
-      chosen_known view.read (try_view setting head (parts.List view.list_no loose) view view.todo notes) (listing_from setting view.list_no notes)
-      (try_known head (parts.List view.list_no loose) view view.todo notes known shown shown.todo) (started_known setting)
-
   ended_known : (asked : Want) (notes : Notes) → Stands (ended asked notes)
   ended_known asked notes =
       chosen_known notes.failed (stages.Done (load_refused load_errors.Io)) (stages.Done (not_found asked))
@@ -216,35 +218,73 @@ module _ (Shown : Path → List ℕ → Type 0) (setting : Setting) (hash : Kind
   check_known : (head : LookHead) (list_no : ℕ) (view : View) (notes : Notes) → Stands (by_check setting head list_no view notes)
   check_known head list_no view notes =
       chosen_known (view.list_no == list_no) (ended head.want notes) (counted setting head view.list_no (listing_from setting view.list_no notes))
-      (ended_known head.want notes) (counted_known head view.list_no (listing_from setting view.list_no notes) (started_known setting))
+      (ended_known head.want notes) (counted_known head view.list_no (listing_from setting view.list_no notes) (started_known setting view.list_no))
 
-  look_known : (head : LookHead) (purpose : Purpose) (notes : Notes) (view : Option View) → Heads head → ((own : View) → view ≡ Some own → IsView own)
-      → Stands (by_look setting head purpose notes view)
-  look_known head purpose notes None known views = tt
-  look_known head (purposes.First loose) notes (Some view) known views = first_known head loose view notes known (views view refl)
-  look_known head (purposes.Check list_no) notes (Some view) known views = check_known head list_no view notes
-  look_known head purposes.Again notes (Some view) known views = started_known setting
+  checked_known : (head : LookHead) (list_no : ℕ) (notes : Notes) (view : Option View) → Stands (by_checked setting head list_no notes view)
+  checked_known head list_no notes None = tt
+  checked_known head list_no notes (Some view) = check_known head list_no view notes
 
-  published_known : (head : LookHead) (listing : Listing) (notes : Notes) (effect : Effect) → Heads head → All (IsIndexRow setting) listing.rows
-      → ((own : View) → view_in (Ok effect) ≡ Some own → IsView own)
-      → Knows (by_published setting head listing notes effect)
-  published_known head listing notes (effects.Published view) known rows views =
-      let own : Heads (with_own head) = record { want_is = known.want_is; id_is = known.id_is } in
-      let shown = views view refl in
-      record { head = own; stage = try_known (with_own head) (parts.Published view.list_no) view view.todo notes own shown shown.todo }
-  published_known head listing notes (effects.Unchanged view) known rows views =
-      let shown = views view refl in
-      record { head = known; stage = try_known head (parts.Published view.list_no) view view.todo notes known shown shown.todo }
-  published_known head listing notes (effects.Outdated list_no) known rows views =
-      record { head = known; stage = counted_known head list_no (stages.Looking purposes.Again notes) tt }
-  published_known head listing notes effect known rows views = record { head = known; stage = rows }
+  -- ---- the list of the core is read, or brought up to date
 
-  -- ---- the folders of packs are listed
+  abbrev StepKnown : RefreshStep → Type 0
+  StepKnown (steps.More refresh) = KnowsRefresh setting refresh
+  StepKnown (steps.Read view) = IsView view
+  StepKnown (steps.Current view own) = IsView view
+  StepKnown (steps.Outdated list_no) = Unit {0}
+  StepKnown (steps.Refused error) = Unit {0}
 
-  listed_known : (base : ℕ) (notes : Notes) (step : ListStep) → KnowsListStep setting step → Stands (by_listed base notes step)
-  listed_known base notes (listed.More lister) here = here
-  listed_known base notes (listed.Rows rows) here = all_longest_first (IsIndexRow setting) rows here
-  listed_known base notes listed.Broken here = load_reply Shown setting hash id exchanges want load_errors.Io
+  view_step : (view : View) (read : Bool) → IsView view → StepKnown (cond read (steps.Read view) (steps.More (refreshes.listing_from setting.objects view.list_no)))
+  view_step view true shown = shown
+  view_step view false shown = started_known setting view.list_no
+
+  look_step : (view : Option View) → ((own : View) → view ≡ Some own → IsView own) → StepKnown (by_look setting.objects view)
+  look_step None views = tt
+  look_step (Some view) views = view_step view view.read (views view refl)
+
+  listed_step : (step : ListStep) → KnowsListStep setting step → StepKnown (by_listed step)
+  listed_step (listed.More lister) here = here
+  listed_step (listed.Listed listing) here = here
+  listed_step listed.Broken here = tt
+
+  published_step : (listing : Listing) (effect : Effect) → All (IsIndexRow setting) listing.rows → ((own : View) → view_in (Ok effect) ≡ Some own → IsView own)
+      → StepKnown (by_published listing effect)
+  published_step listing (effects.Published view) rows views = views view refl
+  published_step listing (effects.Unchanged view) rows views = views view refl
+  published_step listing (effects.Outdated list_no) rows views = tt
+  published_step listing effect rows views = rows
+
+  fed_step : (refresh : Refresh) (ask : Ask) (answer : Answer) → KnowsRefresh setting refresh → IsTrue Shown setting hash ask answer
+      → StepKnown (refreshes.fed setting.objects setting.folders refresh answer)
+  fed_step fronts.Reading ask (told.Disk answer) here truth = tt
+  fed_step fronts.Reading ask (told.Core (Ok effect)) here truth = look_step (view_shown effect) (views_shown Shown setting hash ask (Ok effect) truth)
+  fed_step fronts.Reading ask (told.Core (Err refusal)) here truth = tt
+  fed_step (fronts.Listing lister) ask (told.Disk answer) here truth = listed_step (lists.fed setting.folders lister answer) (fed_known setting lister answer here)
+  fed_step (fronts.Listing lister) ask (told.Core answer) here truth = here
+  fed_step (fronts.Publishing listing) ask (told.Disk answer) here truth = here
+  fed_step (fronts.Publishing listing) ask (told.Core (Ok effect)) here truth =
+      published_step listing effect here (views_shown Shown setting hash ask (Ok effect) truth)
+  fed_step (fronts.Publishing listing) ask (told.Core (Err refusal)) here truth = tt
+
+  read_known : (head : LookHead) (purpose : Purpose) (view : View) (notes : Notes) → Heads head → IsView view → Stands (by_read setting head purpose view notes)
+  read_known head (purposes.First loose) view notes known shown =
+      try_known head (parts.List view.list_no loose) view view.todo notes known shown shown.todo
+  read_known head purposes.Again view notes known shown = started_known setting view.list_no
+
+  own_known : (head : LookHead) (own : Bool) → Heads head → Heads (own_by head own)
+  own_known head true known = record { want_is = known.want_is; id_is = known.id_is }
+  own_known head false known = known
+
+  refresh_known : (head : LookHead) (purpose : Purpose) (notes : Notes) (step : RefreshStep) → Heads head → StepKnown step
+      → Knows (by_refresh setting head purpose notes step)
+  refresh_known head purpose notes (steps.More refresh) known here = record { head = known; stage = here }
+  refresh_known head purpose notes (steps.Read view) known here = record { head = known; stage = read_known head purpose view notes known here }
+  refresh_known head purpose notes (steps.Current view own) known here =
+      let mine : Heads (own_by head own) = own_known head own known in
+      record { head = mine; stage = try_known (own_by head own) (parts.Published view.list_no) view view.todo (without_absent notes) mine here here.todo }
+  refresh_known head purpose notes (steps.Outdated list_no) known here =
+      record { head = known; stage = counted_known head list_no (stages.Refreshing fronts.Reading purposes.Again notes) tt }
+  refresh_known head purpose notes (steps.Refused error) known here =
+      record { head = known; stage = load_reply Shown setting hash id exchanges want error }
 
   -- ---- an exchange
 
@@ -273,17 +313,10 @@ module _ (Shown : Path → List ℕ → Type 0) (setting : Setting) (hash : Kind
       }
   stage_known same head (stages.Loose round call) ask (told.Disk answer) known here asks truth asked =
       record { head = known; stage = call_known head round call ask answer known here asks asked }
-  stage_known same head (stages.Listing lister base notes) ask (told.Disk answer) known here asks truth asked =
-      record { head = known; stage = listed_known base notes (lists.fed setting.folders lister answer) (fed_known setting lister answer here) }
-  stage_known same head (stages.Looking purpose notes) ask (told.Core (Ok effect)) known here asks truth asked =
-      record {
-        head = known;
-        stage = look_known head purpose notes (view_shown effect) known (views_shown Shown setting hash ask (Ok effect) truth);
-      }
-  stage_known same head (stages.Looking purpose notes) ask (told.Core (Err refusal)) known here asks truth asked =
-      record { head = known; stage = load_reply Shown setting hash id exchanges want (of_refusal refusal) }
-  stage_known same head (stages.Publishing listing notes) ask (told.Core (Ok effect)) known here asks truth asked =
-      published_known head listing notes effect known here (views_shown Shown setting hash ask (Ok effect) truth)
-  stage_known same head (stages.Publishing listing notes) ask (told.Core (Err refusal)) known here asks truth asked =
+  stage_known same head (stages.Refreshing refresh purpose notes) ask answer known here asks truth asked =
+      refresh_known head purpose notes (refreshes.fed setting.objects setting.folders refresh answer) known (fed_step refresh ask answer here truth)
+  stage_known same head (stages.Checking list_no notes) ask (told.Core (Ok effect)) known here asks truth asked =
+      record { head = known; stage = checked_known head list_no notes (view_shown effect) }
+  stage_known same head (stages.Checking list_no notes) ask (told.Core (Err refusal)) known here asks truth asked =
       record { head = known; stage = load_reply Shown setting hash id exchanges want (of_refusal refusal) }
   stage_known same head stage ask answer known here asks truth asked = record { head = known; stage = here }

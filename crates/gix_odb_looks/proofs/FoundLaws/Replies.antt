@@ -23,7 +23,7 @@ use Rattle.gix_odb_calls.specs.declared.verdict.Verdict.TheVariants as verdicts
 use Rattle.gix_odb_looks.specs.Caused.{IsCaused}
 use Rattle.gix_odb_looks.specs.Exchange.{Exchange, HasVerdict}
 use Rattle.gix_odb_looks.specs.LookUpOrder.{Setting, find_error, load_refused, not_found, reply_found}
-use Rattle.gix_odb_looks.specs.Shown.{folders_of}
+use Rattle.gix_odb_refresh.specs.Shown.{folders_of}
 use Rattle.gix_odb_looks.proofs.FoundLaws.Known.{IsCausedHere, IsFoundHere, IsOfPack, KnowsReply}
 
 -- a reply is no refusal by a pack

@@ -40,7 +40,7 @@ use Rattle.gix_object.specs.declared.want.Want.{Want}
 use Rattle.gix_odb_looks.specs.Caused.{IsNoPack, IsUnloaded}
 use Rattle.gix_odb_looks.specs.Exchange.{Exchange, WasTold}
 use Rattle.gix_odb_looks.specs.LookUpOrder.{Setting}
-use Rattle.gix_odb_looks.specs.Shown.{IsPackShownAt, IsIndexShown, IsShownView}
+use Rattle.gix_odb_refresh.specs.Shown.{IsPackShownAt, IsIndexShown, IsShownView}
 use Rattle.gix_odb_looks.specs.True.{IsTrue}
 use Rattle.gix_odb_looks.proofs.FoundLaws.Known.{IsCausedHere, IsFoundHere, IsIndexTodo, IsWanted, KnowsAhead, KnowsGiven, KnowsLoadStep, KnowsStage, KnowsTried, goal_for}
 use Rattle.gix_odb_looks.proofs.FoundLaws.Indices.{given_known, tried_known}

@@ -22,9 +22,9 @@ use Rattle.gix_odb_events.specs.declared.answer.Ask.TheVariants as asks
 use Rattle.gix_odb_packs.specs.declared.index_loader.IndexPlace.{IndexPlace}
 use Rattle.gix_odb_packs.specs.declared.search.WantedPack.{WantedPack}
 use Rattle.gix_odb_looks.specs.LookUpOrder.{Setting}
-use Rattle.gix_odb_looks.specs.Shown.{IsIndexPath, IsIndexShownAt, IsPackShownAt, IsPackShown, IsIndexShown, IsShownView}
+use Rattle.gix_odb_refresh.specs.Shown.{IsIndexPath, IsIndexShownAt, IsPackShownAt, IsPackShown, IsIndexShown, IsShownView}
 use Rattle.gix_odb_looks.specs.True.{IsTrue}
-use Rattle.gix_odb_looks.proofs.FoundLaws.Lists.{find_passes}
+use Rattle.gix_odb_refresh.proofs.ListerLaws.Lists.{find_passes}
 
 -- an answer of the core that tells the truth hands over only what was shown
 pub views_shown : (Shown : Path → List ℕ → Type 0) (setting : Setting) (hash : Kind)

@@ -1,12 +1,11 @@
 -- A look-up only reads: its calls on loose objects do, and so do those of the trier and the lister. What it is told of streams is of its own.
-use Rattle.std.proofs.Common.{◌≡◌, ℕ, Bool, true, List, [], ◌∷◌, Option, Some, None, Ok, refl, subst}
+use Rattle.std.proofs.Common.{◌≡◌, ℕ, Bool, true, List, [], ◌∷◌, Option, Some, Ok, refl, subst}
 use Rattle.std.proofs.lemmas.Option.{same_Some}
 use Rattle.odb_base.specs.Path.{Path}
 use Rattle.odb_asks.specs.Ask.{change_of_ask}
 use Rattle.odb_asks.specs.declared.ask.DiskAnswer.{DiskAnswer}
 use Rattle.odb_asks.specs.declared.ask.DiskAsk.{DiskAsk}
 use Rattle.odb_asks.specs.declared.ask.DiskAsk.TheVariants as disk_asks
-use Rattle.odb_nodes.specs.Tree.{Tree}
 use Rattle.gix_hash.specs.declared.object_id.ObjectId.{ObjectId}
 use Rattle.gix_odb_loose.specs.LooseOrder.{disk_ask_of, next_stage, stage_ask, want_ask}
 use Rattle.gix_odb_loose.specs.declared.call.LooseCall.{LooseCall}
@@ -22,8 +21,6 @@ use Rattle.gix_odb_events.specs.declared.answer.Answer.TheVariants as told
 use Rattle.gix_odb_events.specs.declared.answer.Ask.{Ask}
 use Rattle.gix_odb_events.specs.declared.answer.Ask.TheVariants as asks
 use Rattle.gix_odb_packs.specs.declared.index_loader.IndexLoader.TheVariants as loaders
-use Rattle.gix_odb_packs.specs.declared.lister.ListStage.{ListStage}
-use Rattle.gix_odb_packs.specs.declared.lister.ListStage.TheVariants as list_stages
 use Rattle.gix_odb_packs.specs.declared.lister.ListStep.{ListStep}
 use Rattle.gix_odb_packs.specs.declared.lister.ListStep.TheVariants as listed
 use Rattle.gix_odb_packs.specs.declared.trier.Stage.{Stage}
@@ -33,21 +30,18 @@ use Rattle.gix_odb_calls.specs.declared.call.Reply.{Reply}
 use Rattle.gix_object.specs.declared.want.Want.{Want}
 use Rattle.gix_object.specs.declared.want.Want.TheVariants.{Object, Header, Presence}
 use Rattle.gix_odb_looks.specs.Exchange.{AreAsked, Exchange, behind}
-use Rattle.gix_odb_looks.specs.Stream.{stream_from}
-use Rattle.gix_odb_looks.specs.LookUpOrder.{Setting, ask_at, fed, lister_fed, loose_ask, result_at, seen, started}
+use Rattle.gix_odb_looks.specs.LookUpOrder.{Setting, ask_at, fed, loose_ask, result_at, seen, started}
+use Rattle.gix_odb_refresh.specs.declared.refresh.Refresh.TheVariants as fronts
+use Rattle.gix_odb_refresh.proofs.ListerLaws.Reads.{AsksOwn, ChangesNothing, lister_own, lister_reads, none_told, told_from}
 use Rattle.gix_odb_looks.specs.declared.look_up.LookHead.{LookHead}
 use Rattle.gix_odb_looks.specs.declared.look_up.LookStage.{LookStage}
 use Rattle.gix_odb_looks.specs.declared.look_up.LookStage.TheVariants as stages
 use Rattle.gix_odb_looks.specs.declared.look_up.LookUp.{LookUp}
 use Rattle.gix_odb_looks.proofs.HandedLaws.Stages.{Goes, Stands, Steps, loose_ask_is, same_ask, stage_stands, start_stands}
-use Rattle.gix_odb_looks.proofs.HandedLaws.Streams.{HasNone, IsOpen, OpensNone, StreamAt, StreamBehind, StreamOf, Told, core_leaves_streams, listing_streams}
-use Rattle.gix_odb_looks.proofs.HandedLaws.Streams.{none_stays_open, open_from, opened_from, told_by}
+use Rattle.gix_odb_refresh.proofs.ListerLaws.Streams.{HasNone, OpensNone, StreamBehind, StreamOf, Told, core_leaves_streams, listing_streams}
+use Rattle.gix_odb_refresh.proofs.ListerLaws.Streams.{none_stays_open, told_by}
 
 -- ---- a call of the disk that changes nothing
-
-abbrev pub ChangesNothing : Ask → Type 0
-ChangesNothing (asks.Disk ask) = (tree : Tree) → change_of_ask tree ask ≡ None
-ChangesNothing ask = Unit {0}
 
 path_is_read : (path : Path) → ChangesNothing (asks.Disk (disk_asks.Read path))
 unfolding change_of_ask
@@ -56,15 +50,6 @@ path_is_read path tree = refl
 pub path_is_looked_at : (path : Path) (follow : Bool) → ChangesNothing (asks.Disk (disk_asks.Look path follow))
 unfolding change_of_ask
 path_is_looked_at path follow tree = refl
-
-pub lister_reads : (folder : Path) (stage : ListStage) → ChangesNothing (asks.Disk (lists.ask_at folder stage))
-unfolding change_of_ask
-lister_reads folder list_stages.Opening tree = refl
-lister_reads folder (list_stages.Reading dir entries) tree = refl
-lister_reads folder (list_stages.Closing dir entries) tree = refl
-lister_reads folder (list_stages.Breaking dir) tree = refl
-lister_reads folder (list_stages.Index path left) tree = refl
-lister_reads folder (list_stages.Pack row left) tree = refl
 
 -- a call that changes nothing and opens no stream
 record IsPlain (ask : Ask) : Type 0 where
@@ -109,14 +94,6 @@ loose_plain (loose_stages.Done reply) here own is = absurd (cc is)
 
 -- ---- a stage
 
--- what is told of streams behind exchanges, and before any
-abbrev pub told_from : Told → List Exchange → Told
-told_from before exchanges =
-    record { last = opened_from before.last exchanges; left = open_from before.left exchanges; stream = stream_from before.stream exchanges }
-
-abbrev pub none_told : Told
-none_told = record { last = None; left = None; stream = None }
-
 module _ (setting : Setting) where
   abbrev AnyRows : List ListingRow → Type 0
   AnyRows rows = Unit {0}
@@ -129,10 +106,11 @@ module _ (setting : Setting) where
   stage_changes_nothing now (stages.Trying trier part) own ask is = same_ask ChangesNothing ask (tries.ask_of trier) (trier_plain trier.stage).changes is
   stage_changes_nothing now (stages.Loose round call) own ask is =
       loose_ask_is ChangesNothing ask (disk_ask_of call) (λ asked same. (loose_plain call.stage own.1 asked same).changes) is
-  stage_changes_nothing now (stages.Looking purpose notes) own ask is = same_ask ChangesNothing ask (asks.Core events.Look) tt is
-  stage_changes_nothing now (stages.Listing lister base notes) own ask is =
+  stage_changes_nothing now (stages.Refreshing fronts.Reading purpose notes) own ask is = same_ask ChangesNothing ask (asks.Core events.Look) tt is
+  stage_changes_nothing now (stages.Checking list_no notes) own ask is = same_ask ChangesNothing ask (asks.Core events.Look) tt is
+  stage_changes_nothing now (stages.Refreshing (fronts.Listing lister) purpose notes) own ask is =
       same_ask ChangesNothing ask (asks.Disk (lists.ask_of lister)) (lister_reads lister.head.folder lister.stage) is
-  stage_changes_nothing now (stages.Publishing listing notes) own ask is = same_ask ChangesNothing ask (asks.Core (events.Publish listing)) tt is
+  stage_changes_nothing now (stages.Refreshing (fronts.Publishing listing) purpose notes) own ask is = same_ask ChangesNothing ask (asks.Core (events.Publish listing)) tt is
   stage_changes_nothing now (stages.Done reply) own ask is = absurd (cc is)
 
   -- ---- an exchange
@@ -153,7 +131,7 @@ module _ (setting : Setting) where
 
   step_on : (now : Told) (step : ListStep) → StreamBehind now step → Steps setting OnlyReads (StreamOf now) AnyRows (HasNone now) step
   step_on now (listed.More lister) here = here
-  step_on now (listed.Rows rows) here = (here, tt)
+  step_on now (listed.Listed listing) here = (here, tt)
   step_on now listed.Broken here = here
 
   looking : IsPlain (asks.Core events.Look)
@@ -164,15 +142,16 @@ module _ (setting : Setting) where
   goes_on now (stages.Loose round call) own ask (told.Disk answer) is =
       (none_by_loose now ask (told.Disk answer) call own.1 own.0 is, reads_on call.stage answer own.1)
   goes_on now (stages.Loose round call) own ask (told.Core answer) is = (none_by_loose now ask (told.Core answer) call own.1 own.0 is, own.1)
-  goes_on now (stages.Looking purpose notes) own ask answer is = none_by now ask answer (asks.Core events.Look) looking own is
-  goes_on now (stages.Listing lister base notes) own ask (told.Disk answer) is =
-      subst (λ (a : Ask). GoesOn now a (told.Disk answer) (stages.Listing lister base notes)) (same_Some _ ask is)
-      (step_on (told_by now (asks.Disk (lists.ask_of lister)) (told.Disk answer)) (lister_fed setting lister answer)
+  goes_on now (stages.Refreshing fronts.Reading purpose notes) own ask answer is = none_by now ask answer (asks.Core events.Look) looking own is
+  goes_on now (stages.Checking list_no notes) own ask answer is = none_by now ask answer (asks.Core events.Look) looking own is
+  goes_on now (stages.Refreshing (fronts.Listing lister) purpose notes) own ask (told.Disk answer) is =
+      subst (λ (a : Ask). GoesOn now a (told.Disk answer) (stages.Refreshing (fronts.Listing lister) purpose notes)) (same_Some _ ask is)
+      (step_on (told_by now (asks.Disk (lists.ask_of lister)) (told.Disk answer)) (lists.fed setting.folders lister answer)
       (listing_streams setting.folders lister.head now lister.stage own answer))
-  goes_on now (stages.Listing lister base notes) own ask (told.Core answer) is =
-      subst (λ (a : Ask). GoesOn now a (told.Core answer) (stages.Listing lister base notes)) (same_Some _ ask is)
+  goes_on now (stages.Refreshing (fronts.Listing lister) purpose notes) own ask (told.Core answer) is =
+      subst (λ (a : Ask). GoesOn now a (told.Core answer) (stages.Refreshing (fronts.Listing lister) purpose notes)) (same_Some _ ask is)
       (core_leaves_streams now lister.head.folder lister.stage answer own)
-  goes_on now (stages.Publishing listing notes) own ask answer is =
+  goes_on now (stages.Refreshing (fronts.Publishing listing) purpose notes) own ask answer is =
       (none_by now ask answer (asks.Core (events.Publish listing)) (record { changes = tt; opens = tt }) own.0 is, tt)
   goes_on now (stages.Done reply) own ask answer is = absurd (cc is)
 
@@ -184,7 +163,7 @@ module _ (setting : Setting) where
   own_behind now look own (exchange ∷ exchanges) asked =
       let then : Told = told_by now exchange.ask exchange.answer in
       own_behind then (fed setting look exchange.answer)
-      (stage_stands setting OnlyReads (StreamOf then) AnyRows (HasNone then) (asking_reads setting.limit) (λ none. none)
+      (stage_stands setting OnlyReads (StreamOf then) AnyRows (HasNone then) (asking_reads setting.limit) (λ base none. none)
       (seen look.head exchange.answer) look.stage exchange.answer (goes_on now look.stage own exchange.ask exchange.answer asked.0))
       exchanges asked.1
 
@@ -192,17 +171,10 @@ module _ (setting : Setting) where
       → IsOwn (told_from none_told exchanges) (behind setting (started setting view want id) exchanges).stage
   streams_are_own view want id exchanges asked =
       own_behind none_told (started setting view want id)
-      (start_stands setting OnlyReads (StreamOf none_told) AnyRows (HasNone none_told) (asking_reads setting.limit) (λ none. none) view want id refl)
+      (start_stands setting OnlyReads (StreamOf none_told) AnyRows (HasNone none_told) (asking_reads setting.limit) (λ base none. none) view want id refl)
       exchanges asked
 
   -- ---- which stream is asked
-
-  -- the stream that a call reads or closes is open, and none is where one is to be opened
-  abbrev pub AsksOwn : Told → Ask → Type 0
-  AsksOwn now (asks.Disk (disk_asks.OpenDir path)) = HasNone now
-  AsksOwn now (asks.Disk (disk_asks.NextEntry dir)) = (folder : Path) × IsOpen now folder dir
-  AsksOwn now (asks.Disk (disk_asks.CloseDir dir)) = (folder : Path) × IsOpen now folder dir
-  AsksOwn now ask = Unit {0}
 
   trier_own : (now : Told) (stage : Stage) → AsksOwn now (tries.ask_at stage)
   trier_own now (tries_stages.Loading (loaders.Reading place)) = tt
@@ -223,22 +195,15 @@ module _ (setting : Setting) where
   loose_own now (loose_stages.Writing job) here own is = absurd here
   loose_own now (loose_stages.Done reply) here own is = absurd (cc is)
 
-  pub lister_own : (now : Told) (folder : Path) (stage : ListStage) → StreamAt now folder stage → AsksOwn now (asks.Disk (lists.ask_at folder stage))
-  lister_own now folder list_stages.Opening own = own
-  lister_own now folder (list_stages.Reading dir entries) own = (folder, own)
-  lister_own now folder (list_stages.Closing dir entries) own = (folder, own)
-  lister_own now folder (list_stages.Breaking dir) own = (folder, own)
-  lister_own now folder (list_stages.Index path left) own = tt
-  lister_own now folder (list_stages.Pack row left) own = tt
-
   pub stage_asks_own : (now : Told) (stage : LookStage) → IsOwn now stage → (ask : Ask) → ask_at stage ≡ Some ask → AsksOwn now ask
   stage_asks_own now (stages.Trying trier part) own ask is = same_ask (AsksOwn now) ask (tries.ask_of trier) (trier_own now trier.stage) is
   stage_asks_own now (stages.Loose round call) own ask is =
       loose_ask_is (AsksOwn now) ask (disk_ask_of call) (λ asked same. loose_own now call.stage own.1 asked same) is
-  stage_asks_own now (stages.Looking purpose notes) own ask is = same_ask (AsksOwn now) ask (asks.Core events.Look) tt is
-  stage_asks_own now (stages.Listing lister base notes) own ask is =
+  stage_asks_own now (stages.Refreshing fronts.Reading purpose notes) own ask is = same_ask (AsksOwn now) ask (asks.Core events.Look) tt is
+  stage_asks_own now (stages.Checking list_no notes) own ask is = same_ask (AsksOwn now) ask (asks.Core events.Look) tt is
+  stage_asks_own now (stages.Refreshing (fronts.Listing lister) purpose notes) own ask is =
       same_ask (AsksOwn now) ask (asks.Disk (lists.ask_of lister)) (lister_own now lister.head.folder lister.stage own) is
-  stage_asks_own now (stages.Publishing listing notes) own ask is = same_ask (AsksOwn now) ask (asks.Core (events.Publish listing)) tt is
+  stage_asks_own now (stages.Refreshing (fronts.Publishing listing) purpose notes) own ask is = same_ask (AsksOwn now) ask (asks.Core (events.Publish listing)) tt is
   stage_asks_own now (stages.Done reply) own ask is = absurd (cc is)
 
   -- none is open behind a look-up that is done

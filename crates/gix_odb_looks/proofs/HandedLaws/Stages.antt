@@ -15,7 +15,6 @@ use Rattle.gix_odb_events.specs.declared.listing.Listing.{Listing}
 use Rattle.gix_odb_events.specs.declared.listing.ListingRow.{ListingRow}
 use Rattle.gix_odb_events.specs.declared.loaded.Todo.{Todo}
 use Rattle.gix_odb_packs.specs.ListOrder as lists
-use Rattle.gix_odb_packs.specs.LongestFirst.{longest_first}
 use Rattle.gix_odb_packs.specs.TryOrder.{seek}
 use Rattle.gix_odb_packs.specs.TryOrder as tries
 use Rattle.gix_odb_events.specs.declared.answer.Answer.{Answer}
@@ -36,10 +35,16 @@ use Rattle.gix_odb_calls.specs.declared.load_index.Error.TheVariants as load_err
 use Rattle.gix_object.specs.declared.want.Want.{Want}
 use Rattle.gix_odb_calls.specs.declared.verdict.Verdict.{Verdict}
 use Rattle.gix_odb_calls.specs.declared.verdict.Verdict.TheVariants as verdicts
-use Rattle.gix_odb_looks.specs.LookUpOrder.{Setting, after_list, after_loose, ask_at, at_folder, by_listed, by_look, by_published, by_reply, by_tried}
+use Rattle.gix_odb_refresh.specs.declared.refresh.Refresh.{Refresh}
+use Rattle.gix_odb_refresh.specs.declared.refresh.Refresh.TheVariants as fronts
+use Rattle.gix_odb_refresh.specs.declared.refresh.RefreshStep.{RefreshStep}
+use Rattle.gix_odb_refresh.specs.declared.refresh.RefreshStep.TheVariants as steps
+use Rattle.gix_odb_refresh.specs.RefreshOrder.{by_listed, by_look, by_published}
+use Rattle.gix_odb_refresh.specs.RefreshOrder as refreshes
+use Rattle.gix_odb_looks.specs.LookUpOrder.{Setting, after_list, after_loose, ask_at, at_folder, by_checked, by_read, by_refresh, by_reply, by_tried}
 use Rattle.gix_odb_looks.specs.LookUpOrder.{by_verdict, counted, ended, fed_at, goal_of, is_unsettled}
-use Rattle.gix_odb_looks.specs.LookUpOrder.{lister_fed, listing_from, load_refused, loose_ask, loose_fed}
-use Rattle.gix_odb_looks.specs.LookUpOrder.{new_head, not_found, started, trier_fed, try_view, unsettled, view_shown, with_own, without_notes}
+use Rattle.gix_odb_looks.specs.LookUpOrder.{listing_from, load_refused, loose_ask, loose_fed, own_by}
+use Rattle.gix_odb_looks.specs.LookUpOrder.{new_head, not_found, started, trier_fed, try_view, unsettled, view_shown, without_absent, without_notes}
 use Rattle.gix_odb_looks.specs.declared.look_up.LookHead.{LookHead}
 use Rattle.gix_odb_looks.specs.declared.look_up.LookStage.{LookStage}
 use Rattle.gix_odb_looks.specs.declared.look_up.LookStage.TheVariants as stages
@@ -67,14 +72,20 @@ module _ (P : Ask → Type 0) (ask : Ask) where
 module _ (setting : Setting) (OfCall : LooseCall → Type 0) (OfLister : Lister → Type 0) (OfRows : List ListingRow → Type 0) (Else : Type 0) where
   abbrev pub Stands : LookStage → Type 0
   Stands (stages.Loose round call) = Else × OfCall call
-  Stands (stages.Listing lister base notes) = OfLister lister
-  Stands (stages.Publishing listing notes) = Else × OfRows listing.rows
+  Stands (stages.Refreshing (fronts.Listing lister) purpose notes) = OfLister lister
+  Stands (stages.Refreshing (fronts.Publishing listing) purpose notes) = Else × OfRows listing.rows
   Stands stage = Else
 
   abbrev pub Steps : ListStep → Type 0
   Steps (listed.More lister) = OfLister lister
-  Steps (listed.Rows rows) = Else × OfRows (longest_first rows)
+  Steps (listed.Listed listing) = Else × OfRows listing.rows
   Steps listed.Broken = Else
+
+  -- a step of a refresh
+  abbrev Refreshes : RefreshStep → Type 0
+  Refreshes (steps.More (fronts.Listing lister)) = OfLister lister
+  Refreshes (steps.More (fronts.Publishing listing)) = Else × OfRows listing.rows
+  Refreshes step = Else
 
   abbrev OfAsk : Ask → Type 0
   OfAsk (asks.Core (events.Publish listing)) = OfRows listing.rows
@@ -91,9 +102,10 @@ module _ (setting : Setting) (OfCall : LooseCall → Type 0) (OfLister : Lister 
   stage_asks_so : (stage : LookStage) → Stands stage → (ask : Ask) → ask_at stage ≡ Some ask → OfAsk ask
   stage_asks_so (stages.Trying trier part) here ask is = same_ask OfAsk ask (tries.ask_of trier) (trier_asks_so trier.stage) is
   stage_asks_so (stages.Loose round call) here ask is = loose_ask_is OfAsk ask (disk_ask_of call) (λ own same. tt) is
-  stage_asks_so (stages.Looking purpose notes) here ask is = same_ask OfAsk ask (asks.Core events.Look) tt is
-  stage_asks_so (stages.Listing lister base notes) here ask is = same_ask OfAsk ask (asks.Disk (lists.ask_of lister)) tt is
-  stage_asks_so (stages.Publishing listing notes) here ask is = same_ask OfAsk ask (asks.Core (events.Publish listing)) here.1 is
+  stage_asks_so (stages.Refreshing fronts.Reading purpose notes) here ask is = same_ask OfAsk ask (asks.Core events.Look) tt is
+  stage_asks_so (stages.Refreshing (fronts.Listing lister) purpose notes) here ask is = same_ask OfAsk ask (asks.Disk (lists.ask_of lister)) tt is
+  stage_asks_so (stages.Refreshing (fronts.Publishing listing) purpose notes) here ask is = same_ask OfAsk ask (asks.Core (events.Publish listing)) here.1 is
+  stage_asks_so (stages.Checking list_no notes) here ask is = same_ask OfAsk ask (asks.Core events.Look) tt is
   stage_asks_so (stages.Done reply) here ask is = absurd (cc is)
 
   -- what holds of the rows that are handed to the core
@@ -103,11 +115,11 @@ module _ (setting : Setting) (OfCall : LooseCall → Type 0) (OfLister : Lister 
   -- what is to hold behind an answer, for the next stage to stand
   abbrev pub Goes : LookStage → Answer → Type 0
   Goes (stages.Loose round call) (told.Disk answer) = Else × OfCall (loose_fed call answer)
-  Goes (stages.Listing lister base notes) (told.Disk answer) = Steps (lister_fed setting lister answer)
+  Goes (stages.Refreshing (fronts.Listing lister) purpose notes) (told.Disk answer) = Steps (lists.fed setting.folders lister answer)
   Goes stage answer = Stands stage
 
   module _ (calls : (want : Want) (id : ObjectId) (folder : Path) → OfCall (asking setting.limit want id folder))
-      (begins : Else → OfLister (lists.started setting.objects)) where
+      (begins : (base : ℕ) → Else → OfLister (lists.started setting.objects base)) where
     -- ---- the parts begin
 
     chosen : (b : Bool) (one other : LookStage) → Stands one → Stands other → Stands (cond b one other)
@@ -117,12 +129,12 @@ module _ (setting : Setting) (OfCall : LooseCall → Type 0) (OfLister : Lister 
     list_stands : (head : LookHead) (part : Part) (notes : Notes) → Else → Stands (after_list setting head part notes)
     list_stands head parts.Snapshot notes here = (here, calls head.want head.id setting.objects)
     list_stands head (parts.List list_no true) notes here = (here, calls head.want head.id setting.objects)
-    list_stands head (parts.List list_no false) notes here = begins here
+    list_stands head (parts.List list_no false) notes here = begins list_no here
     list_stands head (parts.Published list_no) notes here = (here, calls head.want head.id setting.objects)
 
     loose_stands : (part : Part) (notes : Notes) → Else → Stands (after_loose setting part notes)
     loose_stands parts.Snapshot notes here = here
-    loose_stands (parts.List list_no loose) notes here = begins here
+    loose_stands (parts.List list_no loose) notes here = begins list_no here
     loose_stands (parts.Published list_no) notes here = here
 
     -- ---- a list is tried
@@ -143,7 +155,7 @@ module _ (setting : Setting) (OfCall : LooseCall → Type 0) (OfLister : Lister 
     pub start_stands : (view : View) (want : Want) (id : ObjectId) → Else → Stands (started setting view want id).stage
     start_stands view want id here =
         chosen view.read (try_view setting (new_head want id) parts.Snapshot view [] without_notes)
-        (stages.Looking (purposes.First true) without_notes)
+        (stages.Refreshing fronts.Reading (purposes.First true) without_notes)
         (try_stands (new_head want id) parts.Snapshot view [] without_notes here) here
 
     -- ---- a folder has replied
@@ -172,31 +184,60 @@ module _ (setting : Setting) (OfCall : LooseCall → Type 0) (OfLister : Lister 
     ended_stands want notes here =
         chosen notes.failed (stages.Done (load_refused load_errors.Io)) (stages.Done (not_found want)) here here
 
-    look_stands : (head : LookHead) (purpose : Purpose) (notes : Notes) (view : Option View) → Else → Stands (by_look setting head purpose notes view)
-    look_stands head purpose notes None here = here
-    look_stands head (purposes.First loose) notes (Some view) here =
-        chosen view.read (try_view setting head (parts.List view.list_no loose) view view.todo notes) (listing_from setting view.list_no notes)
-        (try_stands head (parts.List view.list_no loose) view view.todo notes here) (begins here)
-    look_stands head (purposes.Check list_no) notes (Some view) here =
+    check_stands : (head : LookHead) (list_no : ℕ) (notes : Notes) (view : Option View) → Else → Stands (by_checked setting head list_no notes view)
+    check_stands head list_no notes None here = here
+    check_stands head list_no notes (Some view) here =
         chosen (view.list_no == list_no) (ended head.want notes) (counted setting head view.list_no (listing_from setting view.list_no notes))
-        (ended_stands head.want notes here) (counted_stands head view.list_no (listing_from setting view.list_no notes) here (begins here))
-    look_stands head purposes.Again notes (Some view) here = begins here
+        (ended_stands head.want notes here)
+        (counted_stands head view.list_no (listing_from setting view.list_no notes) here (begins view.list_no here))
 
-    published_stands : (head : LookHead) (listing : Listing) (notes : Notes) (effect : Effect) → Else → OfRows listing.rows
-        → Stands (by_published setting head listing notes effect).stage
-    published_stands head listing notes (effects.Published view) here own =
-        try_stands (with_own head) (parts.Published view.list_no) view view.todo notes here
-    published_stands head listing notes (effects.Unchanged view) here own = try_stands head (parts.Published view.list_no) view view.todo notes here
-    published_stands head listing notes (effects.Outdated list_no) here own =
-        counted_stands head list_no (stages.Looking purposes.Again notes) here here
-    published_stands head listing notes effect here own = (here, own)
+    -- ---- the list of the core is read, or brought up to date
 
-    -- ---- the folders of packs are listed
+    view_refreshes : (view : View) (read : Bool) → Else → Refreshes (cond read (steps.Read view) (steps.More (refreshes.listing_from setting.objects view.list_no)))
+    view_refreshes view true here = here
+    view_refreshes view false here = begins view.list_no here
 
-    listed_stands : (base : ℕ) (notes : Notes) (step : ListStep) → Steps step → Stands (by_listed base notes step)
-    listed_stands base notes (listed.More lister) here = here
-    listed_stands base notes (listed.Rows rows) here = here
-    listed_stands base notes listed.Broken here = here
+    look_refreshes : (view : Option View) → Else → Refreshes (by_look setting.objects view)
+    look_refreshes None here = here
+    look_refreshes (Some view) here = view_refreshes view view.read here
+
+    listed_refreshes : (step : ListStep) → Steps step → Refreshes (by_listed step)
+    listed_refreshes (listed.More lister) here = here
+    listed_refreshes (listed.Listed listing) here = here
+    listed_refreshes listed.Broken here = here
+
+    published_refreshes : (listing : Listing) (effect : Effect) → Else → OfRows listing.rows → Refreshes (by_published listing effect)
+    published_refreshes listing (effects.Published view) here own = here
+    published_refreshes listing (effects.Unchanged view) here own = here
+    published_refreshes listing (effects.Outdated list_no) here own = here
+    published_refreshes listing effect here own = (here, own)
+
+    read_stands : (head : LookHead) (purpose : Purpose) (view : View) (notes : Notes) → Else → Stands (by_read setting head purpose view notes)
+    read_stands head (purposes.First loose) view notes here = try_stands head (parts.List view.list_no loose) view view.todo notes here
+    read_stands head purposes.Again view notes here = begins view.list_no here
+
+    refresh_stands : (head : LookHead) (purpose : Purpose) (notes : Notes) (step : RefreshStep) → Refreshes step
+        → Stands (by_refresh setting head purpose notes step).stage
+    refresh_stands head purpose notes (steps.More fronts.Reading) here = here
+    refresh_stands head purpose notes (steps.More (fronts.Listing lister)) here = here
+    refresh_stands head purpose notes (steps.More (fronts.Publishing listing)) here = here
+    refresh_stands head purpose notes (steps.Read view) here = read_stands head purpose view notes here
+    refresh_stands head purpose notes (steps.Current view own) here =
+        try_stands (own_by head own) (parts.Published view.list_no) view view.todo (without_absent notes) here
+    refresh_stands head purpose notes (steps.Outdated list_no) here =
+        counted_stands head list_no (stages.Refreshing fronts.Reading purposes.Again notes) here here
+    refresh_stands head purpose notes (steps.Refused error) here = here
+
+    refreshed : (refresh : Refresh) (purpose : Purpose) (notes : Notes) (answer : Answer) → Goes (stages.Refreshing refresh purpose notes) answer
+        → Refreshes (refreshes.fed setting.objects setting.folders refresh answer)
+    refreshed fronts.Reading purpose notes (told.Disk answer) here = here
+    refreshed fronts.Reading purpose notes (told.Core (Ok effect)) here = look_refreshes (view_shown effect) here
+    refreshed fronts.Reading purpose notes (told.Core (Err refusal)) here = here
+    refreshed (fronts.Listing lister) purpose notes (told.Disk answer) here = listed_refreshes (lists.fed setting.folders lister answer) here
+    refreshed (fronts.Listing lister) purpose notes (told.Core answer) here = here
+    refreshed (fronts.Publishing listing) purpose notes (told.Disk answer) here = here
+    refreshed (fronts.Publishing listing) purpose notes (told.Core (Ok effect)) here = published_refreshes listing effect here.0 here.1
+    refreshed (fronts.Publishing listing) purpose notes (told.Core (Err refusal)) here = here.0
 
     -- ---- an answer
 
@@ -205,12 +246,9 @@ module _ (setting : Setting) (OfCall : LooseCall → Type 0) (OfLister : Lister 
     stage_stands head (stages.Loose round call) (told.Disk answer) here =
         reply_stands head round (loose_fed call answer) (reply_of (loose_fed call answer)) here.0 here.1
     stage_stands head (stages.Loose round call) (told.Core answer) here = here
-    stage_stands head (stages.Looking purpose notes) (told.Disk answer) here = here
-    stage_stands head (stages.Looking purpose notes) (told.Core (Ok effect)) here = look_stands head purpose notes (view_shown effect) here
-    stage_stands head (stages.Looking purpose notes) (told.Core (Err refusal)) here = here
-    stage_stands head (stages.Listing lister base notes) (told.Disk answer) here = listed_stands base notes (lister_fed setting lister answer) here
-    stage_stands head (stages.Listing lister base notes) (told.Core answer) here = here
-    stage_stands head (stages.Publishing listing notes) (told.Disk answer) here = here
-    stage_stands head (stages.Publishing listing notes) (told.Core (Ok effect)) here = published_stands head listing notes effect here.0 here.1
-    stage_stands head (stages.Publishing listing notes) (told.Core (Err refusal)) here = here.0
+    stage_stands head (stages.Refreshing refresh purpose notes) answer here =
+        refresh_stands head purpose notes (refreshes.fed setting.objects setting.folders refresh answer) (refreshed refresh purpose notes answer here)
+    stage_stands head (stages.Checking list_no notes) (told.Disk answer) here = here
+    stage_stands head (stages.Checking list_no notes) (told.Core (Ok effect)) here = check_stands head list_no notes (view_shown effect) here
+    stage_stands head (stages.Checking list_no notes) (told.Core (Err refusal)) here = here
     stage_stands head (stages.Done reply) answer here = here

@@ -13,9 +13,6 @@ use Rattle.gix_odb_loose.specs.LooseOrder.Answered.{unreadable}
 use Rattle.gix_odb_loose.specs.declared.call.LooseCall.{LooseCall}
 use Rattle.gix_odb_loose.specs.declared.call.LooseReply.{LooseReply}
 use Rattle.gix_odb_loose.specs.declared.call.LooseReply.TheVariants as loose_replies
-use Rattle.gix_odb_events.specs.declared.listing.Listing.{Listing}
-use Rattle.gix_odb_events.specs.declared.event.Effect.{Effect}
-use Rattle.gix_odb_events.specs.declared.event.Effect.TheVariants as effects
 use Rattle.gix_odb_events.specs.declared.event.Event.TheVariants as events
 use Rattle.gix_odb_events.specs.declared.view.View.{View}
 use Rattle.gix_odb_packs.specs.ListOrder as lists
@@ -28,8 +25,6 @@ use Rattle.gix_odb_events.specs.declared.answer.Ask.TheVariants as asks
 use Rattle.gix_odb_packs.specs.declared.lister.ListHead.{ListHead}
 use Rattle.gix_odb_packs.specs.declared.lister.ListStage.{ListStage}
 use Rattle.gix_odb_packs.specs.declared.lister.ListStage.TheVariants as list_stages
-use Rattle.gix_odb_packs.specs.declared.lister.ListStep.{ListStep}
-use Rattle.gix_odb_packs.specs.declared.lister.ListStep.TheVariants as listed
 use Rattle.gix_odb_packs.specs.declared.search.Notes.{Notes}
 use Rattle.gix_odb_packs.specs.declared.trier.Ahead.{Ahead}
 use Rattle.gix_odb_packs.specs.declared.trier.Tried.{Tried}
@@ -43,13 +38,19 @@ use Rattle.gix_object.specs.declared.want.Want.{Want}
 use Rattle.gix_object.specs.declared.want.Want.TheVariants.{Object, Header, Presence}
 use Rattle.gix_odb_calls.specs.declared.verdict.Verdict.{Verdict}
 use Rattle.gix_odb_calls.specs.declared.verdict.Verdict.TheVariants as verdicts
-use Rattle.gix_odb_looks.specs.LoadIndex.{of_refusal}
-use Rattle.gix_odb_looks.specs.LookUpOrder.{Setting, after_list, after_loose, ask_at, at_folder, by_call, by_listed, by_look, by_published, by_reply}
+use Rattle.gix_odb_refresh.specs.LoadIndex.{of_refusal}
+use Rattle.gix_odb_looks.specs.LookUpOrder.{Setting, after_list, after_loose, ask_at, at_folder, by_call, by_checked, by_read, by_refresh, by_reply}
 use Rattle.gix_odb_looks.specs.LookUpOrder.{by_tried, by_verdict}
-use Rattle.gix_odb_looks.specs.LookUpOrder.{counted, ended, fed, fed_at, find_error, goal_of, is_unsettled, lister_fed, listing_from, load_refused}
+use Rattle.gix_odb_looks.specs.LookUpOrder.{counted, ended, fed, fed_at, find_error, goal_of, is_unsettled, listing_from, load_refused}
 use Rattle.gix_odb_looks.specs.LookUpOrder.{loose_fed, not_found}
 use Rattle.gix_odb_looks.specs.True.{Suits}
-use Rattle.gix_odb_looks.specs.LookUpOrder.{result_at, seen, trier_fed, try_view, unsettled, view_shown, with_own}
+use Rattle.gix_odb_looks.specs.LookUpOrder.{result_at, seen, trier_fed, try_view, unsettled, view_shown, with_own, without_absent}
+use Rattle.gix_odb_refresh.specs.RefreshOrder.{by_listed}
+use Rattle.gix_odb_refresh.specs.RefreshOrder as refreshes
+use Rattle.gix_odb_refresh.specs.declared.refresh.Refresh.{Refresh}
+use Rattle.gix_odb_refresh.specs.declared.refresh.Refresh.TheVariants as fronts
+use Rattle.gix_odb_refresh.specs.declared.refresh.RefreshStep.{RefreshStep}
+use Rattle.gix_odb_refresh.specs.declared.refresh.RefreshStep.TheVariants as steps
 use Rattle.gix_odb_looks.specs.declared.look_up.LookHead.{LookHead}
 use Rattle.gix_odb_looks.specs.declared.look_up.LookStage.{LookStage}
 use Rattle.gix_odb_looks.specs.declared.look_up.LookStage.TheVariants as stages
@@ -88,9 +89,10 @@ module _ (setting : Setting) (want : Want) where
   abbrev pub IsMarred : LookStage → Type 0
   IsMarred (stages.Trying trier part) = IsNotedBy trier
   IsMarred (stages.Loose round call) = IsNoted round.notes
-  IsMarred (stages.Looking purpose notes) = IsNoted notes
-  IsMarred (stages.Listing lister base notes) = IsNoted notes ⊎ IsBreaking lister.stage
-  IsMarred (stages.Publishing listing notes) = IsNoted notes
+  IsMarred (stages.Refreshing fronts.Reading purpose notes) = IsNoted notes
+  IsMarred (stages.Refreshing (fronts.Listing lister) purpose notes) = IsNoted notes ⊎ IsBreaking lister.stage
+  IsMarred (stages.Refreshing (fronts.Publishing listing) purpose notes) = IsNoted notes
+  IsMarred (stages.Checking list_no notes) = IsNoted notes
   IsMarred (stages.Done reply) = ¬ (IsMiss want reply)
 
   refused_mars : (error : load_index.Error) → IsMarred (stages.Done (load_refused error))
@@ -155,34 +157,17 @@ module _ (setting : Setting) (want : Want) where
         by true is = refused_mars load_errors.Io
         by false is = absurd (cc is)
 
-    marred_look : (purpose : Purpose) (notes : Notes) → IsNoted notes → (view : Option View) → IsMarred (by_look setting head purpose notes view)
-    marred_look purpose notes noted None = noted
-    marred_look (purposes.First loose) notes noted (Some view) = by view.read
-      where
-        by : (b : Bool)
-            → IsMarred (cond b (try_view setting head (parts.List view.list_no loose) view view.todo notes) (listing_from setting view.list_no notes))
-        by true = marred_view (parts.List view.list_no loose) view notes noted
-        by false = inl noted
-    marred_look (purposes.Check list_no) notes noted (Some view) = by (view.list_no == list_no)
+    marred_check : (list_no : ℕ) (notes : Notes) → IsNoted notes → (view : Option View) → IsMarred (by_checked setting head list_no notes view)
+    marred_check list_no notes noted None = noted
+    marred_check list_no notes noted (Some view) = by (view.list_no == list_no)
       where
         by : (b : Bool) → IsMarred (cond b (ended head.want notes) (counted setting head view.list_no (listing_from setting view.list_no notes)))
         by true = marred_ended notes noted
         by false = marred_counted (is_unsettled setting head view.list_no) view.list_no (listing_from setting view.list_no notes) (inl noted)
-    marred_look purposes.Again notes noted (Some view) = inl noted
 
-    marred_listed : (base : ℕ) (notes : Notes) → IsNoted notes → (step : ListStep) → IsMarred (by_listed base notes step)
-    marred_listed base notes noted (listed.More lister) = inl noted
-    marred_listed base notes noted (listed.Rows rows) = noted
-    marred_listed base notes noted listed.Broken = refused_mars load_errors.Io
-
-    breaking_ends : (base : ℕ) (notes : Notes) (list_head : ListHead) (stage : ListStage) → IsBreaking stage → (answer : DiskAnswer)
-        → IsMarred (by_listed base notes (lists.fed_at setting.folders list_head stage answer))
-    breaking_ends base notes list_head (list_stages.Breaking dir) breaking answer = refused_mars load_errors.Io
-    breaking_ends base notes list_head list_stages.Opening breaking answer = absurd breaking
-    breaking_ends base notes list_head (list_stages.Reading dir entries) breaking answer = absurd breaking
-    breaking_ends base notes list_head (list_stages.Closing dir entries) breaking answer = absurd breaking
-    breaking_ends base notes list_head (list_stages.Index path left) breaking answer = absurd breaking
-    breaking_ends base notes list_head (list_stages.Pack row left) breaking answer = absurd breaking
+    marred_read : (purpose : Purpose) (view : View) (notes : Notes) → IsNoted notes → IsMarred (by_read setting head purpose view notes)
+    marred_read (purposes.First loose) view notes noted = marred_view (parts.List view.list_no loose) view notes noted
+    marred_read purposes.Again view notes noted = inl noted
 
   -- ---- what is marred stays so
 
@@ -190,15 +175,47 @@ module _ (setting : Setting) (want : Want) where
     pub own : look.head.want ≡ want
     pub stage : IsMarred look.stage
 
-  marred_published : (head : LookHead) → head.want ≡ want → (listing : Listing) (notes : Notes) → IsNoted notes → (effect : Effect)
-      → IsLookMarred (by_published setting head listing notes effect)
-  marred_published head own listing notes noted (effects.Published view) =
-      record { own = own; stage = marred_view (with_own head) (parts.Published view.list_no) view notes noted }
-  marred_published head own listing notes noted (effects.Unchanged view) =
-      record { own = own; stage = marred_view head (parts.Published view.list_no) view notes noted }
-  marred_published head own listing notes noted (effects.Outdated list_no) =
-      record { own = own; stage = marred_counted head (is_unsettled setting head list_no) list_no (stages.Looking purposes.Again notes) noted }
-  marred_published head own listing notes noted effect = record { own = own; stage = noted }
+  -- a refresh that goes on with a failure noted, or breaks off
+  module _ (head : LookHead) (own : head.want ≡ want) (purpose : Purpose) (notes : Notes) where
+    abbrev Marred : RefreshStep → Type 0
+    Marred step = IsLookMarred (by_refresh setting head purpose notes step)
+
+    refused_step : (error : load_index.Error) → Marred (steps.Refused error)
+    refused_step error = record { own = own; stage = refused_mars error }
+
+    marred_step : IsNoted notes → (step : RefreshStep) → Marred step
+    marred_step noted (steps.More fronts.Reading) = record { own = own; stage = noted }
+    marred_step noted (steps.More (fronts.Listing lister)) = record { own = own; stage = inl noted }
+    marred_step noted (steps.More (fronts.Publishing listing)) = record { own = own; stage = noted }
+    marred_step noted (steps.Read view) = record { own = own; stage = marred_read head purpose view notes noted }
+    marred_step noted (steps.Current view true) =
+        record { own = own; stage = marred_view (with_own head) (parts.Published view.list_no) view (without_absent notes) noted }
+    marred_step noted (steps.Current view false) =
+        record { own = own; stage = marred_view head (parts.Published view.list_no) view (without_absent notes) noted }
+    marred_step noted (steps.Outdated list_no) = record {
+      own = own;
+      stage = marred_counted head (is_unsettled setting head list_no) list_no (stages.Refreshing fronts.Reading purposes.Again notes) noted;
+    }
+    marred_step noted (steps.Refused error) = refused_step error
+
+    breaking_ends : (list_head : ListHead) (stage : ListStage) → IsBreaking stage → (answer : DiskAnswer)
+        → Marred (by_listed (lists.fed_at setting.folders list_head stage answer))
+    breaking_ends list_head (list_stages.Breaking dir) breaking answer = refused_step load_errors.Io
+    breaking_ends list_head list_stages.Opening breaking answer = absurd breaking
+    breaking_ends list_head (list_stages.Reading dir entries) breaking answer = absurd breaking
+    breaking_ends list_head (list_stages.Closing dir entries) breaking answer = absurd breaking
+    breaking_ends list_head (list_stages.Index path left) breaking answer = absurd breaking
+    breaking_ends list_head (list_stages.Pack row left) breaking answer = absurd breaking
+
+    marred_refresh : (refresh : Refresh) → IsMarred (stages.Refreshing refresh purpose notes) → (answer : Answer)
+        → Marred (refreshes.fed setting.objects setting.folders refresh answer)
+    marred_refresh fronts.Reading marred answer = marred_step marred (refreshes.fed setting.objects setting.folders fronts.Reading answer)
+    marred_refresh (fronts.Listing lister) (inl noted) answer =
+        marred_step noted (refreshes.fed setting.objects setting.folders (fronts.Listing lister) answer)
+    marred_refresh (fronts.Listing lister) (inr breaking) (told.Disk answer) = breaking_ends lister.head lister.stage breaking answer
+    marred_refresh (fronts.Listing lister) (inr breaking) (told.Core answer) = record { own = own; stage = inr breaking }
+    marred_refresh (fronts.Publishing listing) marred answer =
+        marred_step marred (refreshes.fed setting.objects setting.folders (fronts.Publishing listing) answer)
 
   marred_stage : (head : LookHead) → head.want ≡ want → (stage : LookStage) → IsMarred stage → (answer : Answer)
       → IsLookMarred (fed_at setting head stage answer)
@@ -207,18 +224,11 @@ module _ (setting : Setting) (want : Want) where
   marred_stage head own (stages.Loose round call) marred (told.Disk answer) =
       record { own = own; stage = marred_reply head own round marred (loose_fed call answer) (reply_of (loose_fed call answer)) }
   marred_stage head own (stages.Loose round call) marred (told.Core answer) = record { own = own; stage = marred }
-  marred_stage head own (stages.Looking purpose notes) marred (told.Disk answer) = record { own = own; stage = marred }
-  marred_stage head own (stages.Looking purpose notes) marred (told.Core (Ok effect)) =
-      record { own = own; stage = marred_look head purpose notes marred (view_shown effect) }
-  marred_stage head own (stages.Looking purpose notes) marred (told.Core (Err refusal)) = record { own = own; stage = refused_mars (of_refusal refusal) }
-  marred_stage head own (stages.Listing lister base notes) (inl noted) (told.Disk answer) =
-      record { own = own; stage = marred_listed head base notes noted (lister_fed setting lister answer) }
-  marred_stage head own (stages.Listing lister base notes) (inr breaking) (told.Disk answer) =
-      record { own = own; stage = breaking_ends head base notes lister.head lister.stage breaking answer }
-  marred_stage head own (stages.Listing lister base notes) marred (told.Core answer) = record { own = own; stage = marred }
-  marred_stage head own (stages.Publishing listing notes) marred (told.Disk answer) = record { own = own; stage = marred }
-  marred_stage head own (stages.Publishing listing notes) marred (told.Core (Ok effect)) = marred_published head own listing notes marred effect
-  marred_stage head own (stages.Publishing listing notes) marred (told.Core (Err refusal)) = record { own = own; stage = refused_mars (of_refusal refusal) }
+  marred_stage head own (stages.Refreshing refresh purpose notes) marred answer = marred_refresh head own purpose notes refresh marred answer
+  marred_stage head own (stages.Checking list_no notes) marred (told.Disk answer) = record { own = own; stage = marred }
+  marred_stage head own (stages.Checking list_no notes) marred (told.Core (Ok effect)) =
+      record { own = own; stage = marred_check head list_no notes marred (view_shown effect) }
+  marred_stage head own (stages.Checking list_no notes) marred (told.Core (Err refusal)) = record { own = own; stage = refused_mars (of_refusal refusal) }
   marred_stage head own (stages.Done reply) marred answer = record { own = own; stage = marred }
 
   pub stays_marred : (look : LookUp) → IsLookMarred look → (answer : Answer) → IsLookMarred (fed setting look answer)
@@ -231,15 +241,15 @@ module _ (setting : Setting) (want : Want) where
 
   -- ---- a call that fails
 
-  failed_lister : (head : LookHead) (base : ℕ) (notes : Notes) (list_head : ListHead) (stage : ListStage)
+  failed_lister : (head : LookHead) → head.want ≡ want → (purpose : Purpose) (notes : Notes) (list_head : ListHead) (stage : ListStage)
       → CanFail (asks.Disk (lists.ask_at list_head.folder stage))
-      → IsMarred (by_listed base notes (lists.fed_at setting.folders list_head stage (disk_answers.Refused disk_errors.Failed)))
-  failed_lister head base notes list_head list_stages.Opening can = refused_mars load_errors.Io
-  failed_lister head base notes list_head (list_stages.Reading dir entries) can = inr tt
-  failed_lister head base notes list_head (list_stages.Closing dir entries) can = absurd (cc can)
-  failed_lister head base notes list_head (list_stages.Breaking dir) can = absurd (cc can)
-  failed_lister head base notes list_head (list_stages.Index path left) can = refused_mars load_errors.Io
-  failed_lister head base notes list_head (list_stages.Pack row left) can = refused_mars load_errors.Io
+      → IsLookMarred (by_refresh setting head purpose notes (by_listed (lists.fed_at setting.folders list_head stage (disk_answers.Refused disk_errors.Failed))))
+  failed_lister head own purpose notes list_head list_stages.Opening can = refused_step head own purpose notes load_errors.Io
+  failed_lister head own purpose notes list_head (list_stages.Reading dir entries) can = record { own = own; stage = inr tt }
+  failed_lister head own purpose notes list_head (list_stages.Closing dir entries) can = absurd (cc can)
+  failed_lister head own purpose notes list_head (list_stages.Breaking dir) can = absurd (cc can)
+  failed_lister head own purpose notes list_head (list_stages.Index path left) can = refused_step head own purpose notes load_errors.Io
+  failed_lister head own purpose notes list_head (list_stages.Pack row left) can = refused_step head own purpose notes load_errors.Io
 
   -- the verdict on a folder whose call failed
   failed_says : (q : Want) (id : ObjectId) (asked : Path) → (reply : LooseReply)
@@ -273,16 +283,13 @@ module _ (setting : Setting) (want : Want) where
             (failed_trier trier.goal trier.ahead trier.stage (is_of_disk (tries.ask_of trier) (subst CanFail (sym (same_Some (tries.ask_of trier) ask is)) can)));
       }
   failed_stage head own (stages.Loose round call) at ask is can = record { own = own; stage = failed_folder head own round call at.0 at.1 at.2 }
-  failed_stage head own (stages.Looking purpose notes) at ask is can = absurd (subst CanFail (sym (same_Some (asks.Core events.Look) ask is)) can)
-  failed_stage head own (stages.Listing lister base notes) at ask is can =
-      record {
-        own = own;
-        stage =
-            failed_lister head base notes lister.head lister.stage
-            (subst CanFail (sym (same_Some (asks.Disk (lists.ask_of lister)) ask is)) can);
-      }
-  failed_stage head own (stages.Publishing listing notes) at ask is can =
+  failed_stage head own (stages.Refreshing fronts.Reading purpose notes) at ask is can =
+      absurd (subst CanFail (sym (same_Some (asks.Core events.Look) ask is)) can)
+  failed_stage head own (stages.Refreshing (fronts.Listing lister) purpose notes) at ask is can =
+      failed_lister head own purpose notes lister.head lister.stage (subst CanFail (sym (same_Some (asks.Disk (lists.ask_of lister)) ask is)) can)
+  failed_stage head own (stages.Refreshing (fronts.Publishing listing) purpose notes) at ask is can =
       absurd (subst CanFail (sym (same_Some (asks.Core (events.Publish listing)) ask is)) can)
+  failed_stage head own (stages.Checking list_no notes) at ask is can = absurd (subst CanFail (sym (same_Some (asks.Core events.Look) ask is)) can)
   failed_stage head own (stages.Done reply) at ask is can = absurd (cc is)
 
   -- a look-up whose call failed is marred

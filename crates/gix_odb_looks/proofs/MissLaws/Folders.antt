@@ -12,17 +12,12 @@ use Rattle.gix_odb_loose.specs.LooseOrder.Answered.{found_by, header_by, tested_
 use Rattle.gix_odb_loose.specs.declared.call.LooseCall.{LooseCall}
 use Rattle.gix_odb_loose.specs.declared.call.LooseReply.{LooseReply}
 use Rattle.gix_odb_loose.specs.declared.call.LooseReply.TheVariants as loose_replies
-use Rattle.gix_odb_events.specs.declared.listing.Listing.{Listing}
-use Rattle.gix_odb_events.specs.declared.event.Effect.{Effect}
-use Rattle.gix_odb_events.specs.declared.event.Effect.TheVariants as effects
 use Rattle.gix_odb_events.specs.declared.view.View.{View}
 use Rattle.gix_odb_events.specs.declared.answer.Answer.{Answer}
 use Rattle.gix_odb_events.specs.declared.answer.Answer.TheVariants as told
 use Rattle.gix_odb_events.specs.declared.answer.Ask.{Ask}
 use Rattle.gix_odb_events.specs.declared.answer.Ask.TheVariants as asks
 use Rattle.gix_odb_packs.specs.TryOrder.{seek}
-use Rattle.gix_odb_packs.specs.declared.lister.ListStep.{ListStep}
-use Rattle.gix_odb_packs.specs.declared.lister.ListStep.TheVariants as listed
 use Rattle.gix_odb_packs.specs.declared.search.Notes.{Notes}
 use Rattle.gix_odb_packs.specs.declared.trier.Tried.{Tried}
 use Rattle.gix_odb_packs.specs.declared.trier.Tried.TheVariants as tried
@@ -34,14 +29,18 @@ use Rattle.gix_odb_calls.specs.declared.load_index.Error.TheVariants as load_err
 use Rattle.gix_object.specs.declared.want.Want.{Want}
 use Rattle.gix_odb_calls.specs.declared.verdict.Verdict.{Verdict}
 use Rattle.gix_odb_calls.specs.declared.verdict.Verdict.TheVariants as verdicts
-use Rattle.gix_odb_looks.specs.LoadIndex.{of_refusal}
-use Rattle.gix_odb_looks.specs.LookUpOrder.{Setting, after_list, after_loose, ask_at, at_folder, by_listed, by_look, by_published, by_reply, by_tried}
+use Rattle.gix_odb_refresh.specs.LoadIndex.{of_refusal}
+use Rattle.gix_odb_looks.specs.LookUpOrder.{Setting, after_list, after_loose, ask_at, at_folder, by_checked, by_read, by_refresh, by_reply, by_tried}
 use Rattle.gix_odb_looks.specs.LookUpOrder.{by_verdict}
-use Rattle.gix_odb_looks.specs.LookUpOrder.{counted, ended, fed, fed_at, find_error, goal_of, is_unsettled, lister_fed, listing_from, load_refused}
+use Rattle.gix_odb_looks.specs.LookUpOrder.{counted, ended, fed, fed_at, find_error, goal_of, is_unsettled, listing_from, load_refused}
 use Rattle.gix_odb_looks.specs.LookUpOrder.{loose_ask, loose_fed, loose_from, new_head, not_found}
-use Rattle.gix_odb_looks.specs.LookUpOrder.{result_at, seen, started, trier_fed, try_view, unsettled, view_shown, with_own, without_notes}
-use Rattle.gix_odb_looks.specs.Shown.{folders_of}
+use Rattle.gix_odb_looks.specs.LookUpOrder.{result_at, seen, started, trier_fed, try_view, unsettled, view_shown, with_own, without_absent, without_notes}
+use Rattle.gix_odb_refresh.specs.Shown.{folders_of}
 use Rattle.gix_odb_looks.specs.Exchange.{Exchange, HasVerdict, WasTold}
+use Rattle.gix_odb_refresh.specs.RefreshOrder as refreshes
+use Rattle.gix_odb_refresh.specs.declared.refresh.Refresh.TheVariants as fronts
+use Rattle.gix_odb_refresh.specs.declared.refresh.RefreshStep.{RefreshStep}
+use Rattle.gix_odb_refresh.specs.declared.refresh.RefreshStep.TheVariants as steps
 use Rattle.gix_odb_looks.specs.declared.look_up.LookHead.{LookHead}
 use Rattle.gix_odb_looks.specs.declared.look_up.LookStage.{LookStage}
 use Rattle.gix_odb_looks.specs.declared.look_up.LookStage.TheVariants as stages
@@ -89,11 +88,8 @@ module _ (setting : Setting) (want : Want) (id : ObjectId) (exchanges : List Exc
   abbrev pub IsPassing : LookStage → Type 0
   IsPassing (stages.Trying trier part) = Unit {0}
   IsPassing (stages.Loose round call) = IsAsking round call
-  IsPassing (stages.Looking (purposes.First loose) notes) = Unit {0}
-  IsPassing (stages.Looking (purposes.Check list_no) notes) = notes.failed ≡ false → AllMissed
-  IsPassing (stages.Looking purposes.Again notes) = Unit {0}
-  IsPassing (stages.Listing lister base notes) = Unit {0}
-  IsPassing (stages.Publishing listing notes) = Unit {0}
+  IsPassing (stages.Refreshing refresh purpose notes) = Unit {0}
+  IsPassing (stages.Checking list_no notes) = notes.failed ≡ false → AllMissed
   IsPassing (stages.Done reply) = IsMiss want reply → AllMissed
 
   -- the look-up wants this of this id
@@ -220,51 +216,36 @@ module _ (setting : Setting) (want : Want) (id : ObjectId) (exchanges : List Exc
     check_passes list_no view notes missed false =
         counted_passes (is_unsettled setting head view.list_no) view.list_no (listing_from setting view.list_no notes) tt
 
-    first_passes : (b loose : Bool) (view : View) (notes : Notes)
-        → IsPassing (cond b (try_view setting head (parts.List view.list_no loose) view view.todo notes) (listing_from setting view.list_no notes))
-    first_passes true loose view notes =
-        tried_passes (parts.List view.list_no loose) (seek (goal_of setting head) (record { indices = view.snapshot.indices; todo = view.todo; notes = notes }))
-    first_passes false loose view notes = tt
+    checked_passes : (list_no : ℕ) (notes : Notes) → (notes.failed ≡ false → AllMissed) → (view : Option View)
+        → IsPassing (by_checked setting head list_no notes view)
+    checked_passes list_no notes passes None = passes
+    checked_passes list_no notes passes (Some view) = check_passes list_no view notes passes (view.list_no == list_no)
 
-    look_passes : (purpose : Purpose) (notes : Notes) → IsPassing (stages.Looking purpose notes) → (view : Option View)
-        → IsPassing (by_look setting head purpose notes view)
-    look_passes (purposes.First loose) notes passes None = tt
-    look_passes (purposes.Check list_no) notes passes None = passes
-    look_passes purposes.Again notes passes None = tt
-    look_passes (purposes.First loose) notes passes (Some view) = first_passes view.read loose view notes
-    look_passes (purposes.Check list_no) notes passes (Some view) = check_passes list_no view notes passes (view.list_no == list_no)
-    look_passes purposes.Again notes passes (Some view) = tt
+    view_passes : (part : Part) (view : View) (notes : Notes) → IsPassing (try_view setting head part view view.todo notes)
+    view_passes part view notes =
+        tried_passes part (seek (goal_of setting head) (record { indices = view.snapshot.indices; todo = view.todo; notes = notes }))
 
-    listed_passes : (base : ℕ) (notes : Notes) (step : ListStep) → IsPassing (by_listed base notes step)
-    listed_passes base notes (listed.More lister) = tt
-    listed_passes base notes (listed.Rows rows) = tt
-    listed_passes base notes listed.Broken = refused_passes load_errors.Io
+    read_passes : (purpose : Purpose) (view : View) (notes : Notes) → IsPassing (by_read setting head purpose view notes)
+    read_passes (purposes.First loose) view notes = view_passes (parts.List view.list_no loose) view notes
+    read_passes purposes.Again view notes = tt
     -- ---- an answer
 
   pub record IsLookPassing (look : LookUp) : Type 0 where
     pub own : IsFor look.head
     pub stage : IsPassing look.stage
 
-  published_passes : (head : LookHead) → IsFor head → (listing : Listing) (notes : Notes) (effect : Effect)
-      → IsLookPassing (by_published setting head listing notes effect)
-  published_passes head own listing notes (effects.Published view) =
+  refresh_passes : (head : LookHead) → IsFor head → (purpose : Purpose) (notes : Notes) (step : RefreshStep)
+      → IsLookPassing (by_refresh setting head purpose notes step)
+  refresh_passes head own purpose notes (steps.More refresh) = record { own = own; stage = tt }
+  refresh_passes head own purpose notes (steps.Read view) = record { own = own; stage = read_passes head own purpose view notes }
+  refresh_passes head own purpose notes (steps.Current view true) =
       let own_too : IsFor (with_own head) = record { want_is = own.want_is; id_is = own.id_is } in
-      record {
-        own = own_too;
-        stage =
-            tried_passes (with_own head) own_too (parts.Published view.list_no)
-            (seek (goal_of setting (with_own head)) (record { indices = view.snapshot.indices; todo = view.todo; notes = notes }));
-      }
-  published_passes head own listing notes (effects.Unchanged view) =
-      record {
-        own = own;
-        stage =
-            tried_passes head own (parts.Published view.list_no)
-            (seek (goal_of setting head) (record { indices = view.snapshot.indices; todo = view.todo; notes = notes }));
-      }
-  published_passes head own listing notes (effects.Outdated list_no) =
-      record { own = own; stage = counted_passes head own (is_unsettled setting head list_no) list_no (stages.Looking purposes.Again notes) tt }
-  published_passes head own listing notes effect = record { own = own; stage = tt }
+      record { own = own_too; stage = view_passes (with_own head) own_too (parts.Published view.list_no) view (without_absent notes) }
+  refresh_passes head own purpose notes (steps.Current view false) =
+      record { own = own; stage = view_passes head own (parts.Published view.list_no) view (without_absent notes) }
+  refresh_passes head own purpose notes (steps.Outdated list_no) =
+      record { own = own; stage = counted_passes head own (is_unsettled setting head list_no) list_no (stages.Refreshing fronts.Reading purposes.Again notes) tt }
+  refresh_passes head own purpose notes (steps.Refused error) = record { own = own; stage = refused_passes head own error }
 
   stage_passes : (head : LookHead) → IsFor head → (stage : LookStage) → IsPassing stage → (ask : Ask) (answer : Answer) → ask_at stage ≡ Some ask
       → WasTold exchanges ask answer → IsLookPassing (fed_at setting head stage answer)
@@ -273,17 +254,12 @@ module _ (setting : Setting) (want : Want) (id : ObjectId) (exchanges : List Exc
   stage_passes head own (stages.Loose round call) passes ask (told.Disk answer) is was =
       record { own = own; stage = asked_passes head own round call passes ask answer is was }
   stage_passes head own (stages.Loose round call) passes ask (told.Core answer) is was = record { own = own; stage = passes }
-  stage_passes head own (stages.Looking purpose notes) passes ask (told.Disk answer) is was = record { own = own; stage = passes }
-  stage_passes head own (stages.Looking purpose notes) passes ask (told.Core (Ok effect)) is was =
-      record { own = own; stage = look_passes head own purpose notes passes (view_shown effect) }
-  stage_passes head own (stages.Looking purpose notes) passes ask (told.Core (Err refusal)) is was =
-      record { own = own; stage = refused_passes head own (of_refusal refusal) }
-  stage_passes head own (stages.Listing lister base notes) passes ask (told.Disk answer) is was =
-      record { own = own; stage = listed_passes head own base notes (lister_fed setting lister answer) }
-  stage_passes head own (stages.Listing lister base notes) passes ask (told.Core answer) is was = record { own = own; stage = passes }
-  stage_passes head own (stages.Publishing listing notes) passes ask (told.Disk answer) is was = record { own = own; stage = passes }
-  stage_passes head own (stages.Publishing listing notes) passes ask (told.Core (Ok effect)) is was = published_passes head own listing notes effect
-  stage_passes head own (stages.Publishing listing notes) passes ask (told.Core (Err refusal)) is was =
+  stage_passes head own (stages.Refreshing refresh purpose notes) passes ask answer is was =
+      refresh_passes head own purpose notes (refreshes.fed setting.objects setting.folders refresh answer)
+  stage_passes head own (stages.Checking list_no notes) passes ask (told.Disk answer) is was = record { own = own; stage = passes }
+  stage_passes head own (stages.Checking list_no notes) passes ask (told.Core (Ok effect)) is was =
+      record { own = own; stage = checked_passes head own list_no notes passes (view_shown effect) }
+  stage_passes head own (stages.Checking list_no notes) passes ask (told.Core (Err refusal)) is was =
       record { own = own; stage = refused_passes head own (of_refusal refusal) }
   stage_passes head own (stages.Done reply) passes ask answer is was = record { own = own; stage = passes }
 
@@ -301,7 +277,7 @@ module _ (setting : Setting) (want : Want) (id : ObjectId) (exchanges : List Exc
       own = record { want_is = refl; id_is = refl }
 
       by : (b : Bool)
-          → IsPassing (cond b (try_view setting (new_head want id) parts.Snapshot view [] without_notes) (stages.Looking (purposes.First true) without_notes))
+          → IsPassing (cond b (try_view setting (new_head want id) parts.Snapshot view [] without_notes) (stages.Refreshing fronts.Reading (purposes.First true) without_notes))
       by true =
           tried_passes (new_head want id) own parts.Snapshot
           (seek (goal_of setting (new_head want id)) (record { indices = view.snapshot.indices; todo = []; notes = without_notes }))

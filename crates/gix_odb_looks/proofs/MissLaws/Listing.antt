@@ -26,10 +26,10 @@ use Rattle.gix_odb_packs.specs.declared.lister.ListStep.{ListStep}
 use Rattle.gix_odb_packs.specs.declared.lister.ListStep.TheVariants as ends
 use Rattle.gix_odb_looks.specs.Exchange.{Exchange}
 use Rattle.gix_odb_looks.specs.Fair.{PackedPlace, IsFair, index_at}
-use Rattle.gix_odb_looks.specs.Stream.{Stream, stream_by, stream_in}
+use Rattle.gix_odb_refresh.specs.Stream.{Stream, stream_by, stream_in}
 use Rattle.gix_odb_packs.proofs.ReachLemmas.{first_or_later, none_in}
 use Rattle.gix_odb_looks.proofs.MissLaws.Lists.{drop_none, here_or_behind, nothing_ahead}
-use Rattle.gix_odb_looks.proofs.MissLaws.Rows.{AreFiles, HasName, path_kept}
+use Rattle.gix_odb_looks.proofs.MissLaws.Rows.{AreFiles, HasName, longest_first_has, path_kept}
 
 module _ (hash : Kind) (id : ObjectId) (place : PackedPlace) (folders : List Path) where
   -- ---- what is known of a listing
@@ -67,14 +67,14 @@ module _ (hash : Kind) (id : ObjectId) (place : PackedPlace) (folders : List Pat
 
   abbrev pub StepsOn : Option Stream → ListStep → Type 0
   StepsOn stream (ends.More lister) = IsOnWay stream lister.head lister.stage
-  StepsOn stream (ends.Rows rows) = HasRow rows
+  StepsOn stream (ends.Listed listing) = HasRow listing.rows
   StepsOn stream ends.Broken = Unit {0}
 
   -- ---- folders and paths
 
-  pub begins : (objects : Path) (stream : Option Stream) → Contains (objects ∷ folders) place.folder
-      → IsOnWay stream (started objects).head (started objects).stage
-  begins objects stream among =
+  pub begins : (objects : Path) (base : ℕ) (stream : Option Stream) → Contains (objects ∷ folders) place.folder
+      → IsOnWay stream (started objects base).head (started objects base).stage
+  begins objects base stream among =
       elim (first_or_later objects folders place.folder among) [
         | inl is ↦ inl (ap pack_folder is)
         | inr later ↦ inr (inr (subst (λ (rest : List Path). Contains rest place.folder) (sym (drop_none folders)) later))
@@ -82,7 +82,7 @@ module _ (hash : Kind) (id : ObjectId) (place : PackedPlace) (folders : List Pat
 
   folder_goes : (stream : Option Stream) (head : ListHead) → IsComing head → (next : Option Path) → slice_get folders head.next ≡ next
       → StepsOn stream (behind_folder head next)
-  folder_goes stream head (inl has) None is = has
+  folder_goes stream head (inl has) None is = (has.0, longest_first_has head.rows has.0 has.1, has.2)
   folder_goes stream head (inr ahead) None is = absurd (nothing_ahead folders head.next place.folder is ahead)
   folder_goes stream head (inl has) (Some folder) is = inr (inl has)
   folder_goes stream head (inr ahead) (Some folder) is =

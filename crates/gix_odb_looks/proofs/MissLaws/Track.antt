@@ -43,15 +43,20 @@ use Rattle.gix_odb_calls.specs.declared.verdict.Verdict.{Verdict}
 use Rattle.gix_odb_calls.specs.declared.verdict.Verdict.TheVariants as verdicts
 use Rattle.gix_odb_looks.specs.Exchange.{Exchange, AreAsked, behind}
 use Rattle.gix_odb_looks.specs.Fair.{AreFair, IsFair, IsViewFair, PackedPlace, index_at, pack_at}
-use Rattle.gix_odb_looks.specs.Stream.{Stream, stream_by, stream_in}
-use Rattle.gix_odb_looks.proofs.StreamLaws.Exchanges.{stream_in-push}
-use Rattle.gix_odb_looks.specs.LoadIndex.{of_refusal}
-use Rattle.gix_odb_looks.specs.LookUpOrder.{Setting, after_list, after_loose, ask_at, at_folder, by_listed, by_look, by_published, by_reply, by_tried}
+use Rattle.gix_odb_refresh.specs.Stream.{Stream, stream_by, stream_in}
+use Rattle.gix_odb_refresh.proofs.ListerLaws.Streams.{stream_in-push}
+use Rattle.gix_odb_refresh.specs.LoadIndex.{of_refusal}
+use Rattle.gix_odb_looks.specs.LookUpOrder.{Setting, after_list, after_loose, ask_at, at_folder, by_read, by_refresh, by_reply, by_tried}
 use Rattle.gix_odb_looks.specs.LookUpOrder.{by_verdict}
-use Rattle.gix_odb_looks.specs.LookUpOrder.{fed, fed_at, find_error, goal_of, is_unsettled, lister_fed, listing_from, loose_fed, not_found, result_at}
+use Rattle.gix_odb_looks.specs.LookUpOrder.{fed, fed_at, find_error, goal_of, is_unsettled, listing_from, loose_fed, not_found, result_at}
 use Rattle.gix_odb_looks.specs.LookUpOrder.{result_of, seen, started, trier_fed, try_view}
-use Rattle.gix_odb_looks.specs.LookUpOrder.{unsettled, view_shown, with_own, without_notes, new_head}
-use Rattle.gix_odb_looks.specs.Shown.{folders_of}
+use Rattle.gix_odb_looks.specs.LookUpOrder.{unsettled, view_shown, with_own, without_absent, without_notes, new_head}
+use Rattle.gix_odb_refresh.specs.Shown.{folders_of}
+use Rattle.gix_odb_refresh.specs.RefreshOrder.{by_listed, by_look, by_published, by_view}
+use Rattle.gix_odb_refresh.specs.RefreshOrder as refreshes
+use Rattle.gix_odb_refresh.specs.declared.refresh.Refresh.TheVariants as fronts
+use Rattle.gix_odb_refresh.specs.declared.refresh.RefreshStep.{RefreshStep}
+use Rattle.gix_odb_refresh.specs.declared.refresh.RefreshStep.TheVariants as steps
 use Rattle.gix_odb_looks.specs.declared.look_up.LookHead.{LookHead}
 use Rattle.gix_odb_looks.specs.declared.look_up.LookStage.{LookStage}
 use Rattle.gix_odb_looks.specs.declared.look_up.LookStage.TheVariants as stages
@@ -63,7 +68,6 @@ use Rattle.gix_odb_looks.specs.declared.look_up.Purpose.{Purpose}
 use Rattle.gix_odb_looks.specs.declared.look_up.Purpose.TheVariants as purposes
 use Rattle.gix_odb_looks.proofs.MissLaws.Listing.{HasRow, IsOnWay, StepsOn, begins, listing_goes}
 use Rattle.gix_odb_looks.proofs.MissLaws.Replies.{EndsNoMiss, IsMiss, found_is_no_miss, refused_is_no_miss, verdict_is_no_miss}
-use Rattle.gix_odb_looks.proofs.MissLaws.Rows.{longest_first_has}
 use Rattle.gix_odb_looks.proofs.MissLaws.Trying.{lead_if_fair, try_goes}
 
 -- a list that was tried before any listing
@@ -71,12 +75,6 @@ abbrev pub IsEarly : Part → Type 0
 IsEarly parts.Snapshot = Unit {0}
 IsEarly (parts.List list_no loose) = Unit {0}
 IsEarly (parts.Published list_no) = ⊥
-
--- a look at the core that can't end the look-up
-abbrev pub IsNoCheck : Purpose → Type 0
-IsNoCheck (purposes.First loose) = Unit {0}
-IsNoCheck (purposes.Check list_no) = ⊥
-IsNoCheck purposes.Again = Unit {0}
 
 -- the list of a view, as it is tried
 abbrev tries_view : Setting → LookHead → View → Notes → Tried
@@ -97,10 +95,10 @@ module _ (setting : Setting) (hash : Kind) (want : Want) (id : ObjectId) (of_has
   abbrev pub IsOn : Option Stream → LookStage → Type 0
   IsOn stream (stages.Trying trier part) = TriesOn part trier
   IsOn stream (stages.Loose round call) = IsEarly round.part
-  IsOn stream (stages.Looking purpose notes) = IsNoCheck purpose
-  IsOn stream (stages.Listing lister base notes) =
-      (notes.absent ≡ []) × IsOnWay hash id place setting.folders stream lister.head lister.stage
-  IsOn stream (stages.Publishing listing notes) = (notes.absent ≡ []) × RowThere listing.rows
+  IsOn stream (stages.Refreshing fronts.Reading purpose notes) = Unit {0}
+  IsOn stream (stages.Refreshing (fronts.Listing lister) purpose notes) = IsOnWay hash id place setting.folders stream lister.head lister.stage
+  IsOn stream (stages.Refreshing (fronts.Publishing listing) purpose notes) = RowThere listing.rows
+  IsOn stream (stages.Checking list_no notes) = ⊥
   IsOn stream (stages.Done reply) = ¬ (IsMiss want reply)
 
   -- the look-up wants this of this id
@@ -114,7 +112,7 @@ module _ (setting : Setting) (hash : Kind) (want : Want) (id : ObjectId) (of_has
 
   module _ (stream : Option Stream) (head : LookHead) where
     listing_on : (base : ℕ) (notes : Notes) → IsOn stream (listing_from setting base notes)
-    listing_on base notes = (refl, begins hash id place setting.folders setting.objects stream among)
+    listing_on base notes = begins hash id place setting.folders setting.objects base stream among
 
     -- ---- lists
 
@@ -175,31 +173,37 @@ module _ (setting : Setting) (hash : Kind) (want : Want) (id : ObjectId) (of_has
         verdict_goes round early (verdict_on head.want reply)
         (subst (λ (q : Want). EndsNoMiss q (verdict_on head.want reply)) own.want_is (verdict_is_no_miss head.want reply))
 
-    -- ---- looks at the core
+    -- ---- the list of the core is read, or brought up to date
 
-    first_goes : (b loose : Bool) (view : View) (notes : Notes)
-        → IsOn stream (cond b (try_view setting head (parts.List view.list_no loose) view view.todo notes) (listing_from setting view.list_no notes))
-    first_goes true loose view notes = early_goes (parts.List view.list_no loose) tt (tries_view setting head view notes)
-    first_goes false loose view notes = listing_on view.list_no notes
+    read_goes : (purpose : Purpose) (view : View) (notes : Notes) → IsOn stream (by_read setting head purpose view notes)
+    read_goes (purposes.First loose) view notes = early_goes (parts.List view.list_no loose) tt (tries_view setting head view notes)
+    read_goes purposes.Again view notes = listing_on view.list_no notes
 
-    look_goes : (purpose : Purpose) → IsNoCheck purpose → (notes : Notes) (view : Option View) → IsOn stream (by_look setting head purpose notes view)
-    look_goes purpose no_check notes None = no_check
-    look_goes (purposes.First loose) no_check notes (Some view) = first_goes view.read loose view notes
-    look_goes (purposes.Check list_no) no_check notes (Some view) = absurd no_check
-    look_goes purposes.Again no_check notes (Some view) = listing_on view.list_no notes
-
-    -- ---- listings
-
-    listed_goes : (base : ℕ) (notes : Notes) → notes.absent ≡ [] → (step : ListStep) → StepsOn hash id place setting.folders stream step
-        → IsOn stream (by_listed base notes step)
-    listed_goes base notes none (listed.More lister) on = (none, on)
-    listed_goes base notes none (listed.Rows rows) on = (none, (on.0, longest_first_has rows on.0 on.1, on.2))
-    listed_goes base notes none listed.Broken on = refused_is_no_miss want (call_errors.Find (find_errors.LoadIndex load_errors.Io))
-
-    counted_goes : (b : Bool) (now : ℕ) (notes : Notes) → IsOn stream (cond b (unsettled head now) (stages.Looking purposes.Again notes))
+    counted_goes : (b : Bool) (now : ℕ) (notes : Notes) → IsOn stream (cond b (unsettled head now) (stages.Refreshing fronts.Reading purposes.Again notes))
     counted_goes true now notes =
         refused_is_no_miss want (call_errors.Find (find_errors.LoadIndex (load_errors.Unsettled (unwrap_or head.begun now) head.own now)))
     counted_goes false now notes = tt
+
+    module _ (own : IsFor head) (purpose : Purpose) (notes : Notes) where
+      abbrev StepOn : RefreshStep → Type 0
+      StepOn step = IsLookOn stream (by_refresh setting head purpose notes step)
+
+      view_read_goes : (view : View) → StepOn (by_view setting.objects view)
+      view_read_goes view = by view.read
+        where
+          by : (b : Bool) → StepOn (cond b (steps.Read view) (steps.More (refreshes.listing_from setting.objects view.list_no)))
+          by true = record { own = own; stage = read_goes purpose view notes }
+          by false = record { own = own; stage = listing_on view.list_no notes }
+
+      look_goes : (view : Option View) → StepOn (by_look setting.objects view)
+      look_goes None = record { own = own; stage = tt }
+      look_goes (Some view) = view_read_goes view
+
+      listed_goes : (step : ListStep) → StepsOn hash id place setting.folders stream step → StepOn (by_listed step)
+      listed_goes (listed.More lister) on = record { own = own; stage = on }
+      listed_goes (listed.Listed listing) on = record { own = own; stage = on }
+      listed_goes listed.Broken on =
+          record { own = own; stage = refused_is_no_miss want (call_errors.Find (find_errors.LoadIndex load_errors.Io)) }
 
   -- the view that a publish hands over has the index, loaded or still to be loaded
   view_goes : (stream : Option Stream) (head : LookHead) → IsFor head → (listing : Listing) → RowThere listing.rows → (notes : Notes) → notes.absent ≡ []
@@ -223,20 +227,24 @@ module _ (setting : Setting) (hash : Kind) (want : Want) (id : ObjectId) (of_has
       → (row : ListingRow) → Contains listing.rows row → (slot : ℕ) × IsListed view slot row
   rows_in listing view all row has = All-contains (λ (r : ListingRow). (slot : ℕ) × IsListed view slot r) listing.rows row all has
 
-  publish_goes : (stream : Option Stream) (past : List Exchange) (head : LookHead) → IsFor head → (listing : Listing) (notes : Notes) → notes.absent ≡ []
+  publish_goes : (stream : Option Stream) (past : List Exchange) (head : LookHead) → IsFor head → (listing : Listing) (purpose : Purpose) (notes : Notes)
       → RowThere listing.rows → (effect : Effect) → IsFair hash id place past (asks.Core (events.Publish listing)) (told.Core (Ok effect))
-      → IsLookOn stream (by_published setting head listing notes effect)
-  publish_goes stream past head own listing notes none has (effects.Published view) fair =
+      → IsLookOn stream (by_refresh setting head purpose notes (by_published listing effect))
+  publish_goes stream past head own listing purpose notes has (effects.Published view) fair =
       let own_too : IsFor (with_own head) = record { want_is = own.want_is; id_is = own.id_is } in
       record {
         own = own_too;
-        stage = view_goes stream (with_own head) own_too listing has notes none view (fair.0 view refl) (rows_in listing view (fair.1 view (inl refl)));
+        stage =
+            view_goes stream (with_own head) own_too listing has (without_absent notes) refl view (fair.0 view refl)
+            (rows_in listing view (fair.1 view (inl refl)));
       }
-  publish_goes stream past head own listing notes none has (effects.Unchanged view) fair =
-      record { own = own; stage = view_goes stream head own listing has notes none view (fair.0 view refl) (rows_in listing view (fair.1 view (inr refl))) }
-  publish_goes stream past head own listing notes none has (effects.Outdated list_no) fair =
+  publish_goes stream past head own listing purpose notes has (effects.Unchanged view) fair = record {
+    own = own;
+    stage = view_goes stream head own listing has (without_absent notes) refl view (fair.0 view refl) (rows_in listing view (fair.1 view (inr refl)));
+  }
+  publish_goes stream past head own listing purpose notes has (effects.Outdated list_no) fair =
       record { own = own; stage = counted_goes stream head (is_unsettled setting head list_no) list_no notes }
-  publish_goes stream past head own listing notes none has effect fair = record { own = own; stage = (none, has) }
+  publish_goes stream past head own listing purpose notes has effect fair = record { own = own; stage = has }
 
   -- ---- an exchange
 
@@ -260,31 +268,28 @@ module _ (setting : Setting) (hash : Kind) (want : Want) (id : ObjectId) (of_has
         stage = reply_goes (stream_by (stream_in past) ask (told.Disk answer)) head own round on (loose_fed call answer) (reply_of (loose_fed call answer));
       }
   stage_goes past head own (stages.Loose round call) on ask (told.Core answer) is fair = record { own = own; stage = on }
-  stage_goes past head own (stages.Looking purpose notes) on ask (told.Disk answer) is fair = record { own = own; stage = on }
-  stage_goes past head own (stages.Looking purpose notes) on ask (told.Core (Ok effect)) is fair =
-      record { own = own; stage = look_goes (stream_by (stream_in past) ask (told.Core (Ok effect))) head purpose on notes (view_shown effect) }
-  stage_goes past head own (stages.Looking purpose notes) on ask (told.Core (Err refusal)) is fair =
+  stage_goes past head own (stages.Refreshing fronts.Reading purpose notes) on ask (told.Disk answer) is fair = record { own = own; stage = on }
+  stage_goes past head own (stages.Refreshing fronts.Reading purpose notes) on ask (told.Core (Ok effect)) is fair =
+      look_goes (stream_by (stream_in past) ask (told.Core (Ok effect))) head own purpose notes (view_shown effect)
+  stage_goes past head own (stages.Refreshing fronts.Reading purpose notes) on ask (told.Core (Err refusal)) is fair =
       record { own = own; stage = refused_is_no_miss want (call_errors.Find (find_errors.LoadIndex (of_refusal refusal))) }
-  stage_goes past head own (stages.Listing lister base notes) on ask (told.Disk answer) is fair =
+  stage_goes past head own (stages.Refreshing (fronts.Listing lister) purpose notes) on ask (told.Disk answer) is fair =
       let own_ask = same_Some _ ask is in
-      let then : LookUp = fed_at setting head (stages.Listing lister base notes) (told.Disk answer) in
+      let then : LookUp = fed_at setting head (stages.Refreshing (fronts.Listing lister) purpose notes) (told.Disk answer) in
       subst (λ (a : Ask). IsLookOn (stream_by (stream_in past) a (told.Disk answer)) then) own_ask
-      (record {
-        own = own;
-        stage =
-            listed_goes (stream_by (stream_in past) (asks.Disk (lists.ask_of lister)) (told.Disk answer)) head base notes on.0
-            (lister_fed setting lister answer)
-            (listing_goes hash id place setting.folders past lister.head lister.stage on.1 answer
-            (subst (λ (a : Ask). IsFair hash id place past a (told.Disk answer)) (sym own_ask) fair));
-      })
-  stage_goes past head own (stages.Listing lister base notes) on ask (told.Core answer) is fair =
+      (listed_goes (stream_by (stream_in past) (asks.Disk (lists.ask_of lister)) (told.Disk answer)) head own purpose notes
+      (lists.fed setting.folders lister answer)
+      (listing_goes hash id place setting.folders past lister.head lister.stage on answer
+      (subst (λ (a : Ask). IsFair hash id place past a (told.Disk answer)) (sym own_ask) fair)))
+  stage_goes past head own (stages.Refreshing (fronts.Listing lister) purpose notes) on ask (told.Core answer) is fair =
       absurd (subst (λ (a : Ask). IsFair hash id place past a (told.Core answer)) (sym (same_Some _ ask is)) fair)
-  stage_goes past head own (stages.Publishing listing notes) on ask (told.Disk answer) is fair = record { own = own; stage = on }
-  stage_goes past head own (stages.Publishing listing notes) on ask (told.Core (Ok effect)) is fair =
-      publish_goes (stream_by (stream_in past) ask (told.Core (Ok effect))) past head own listing notes on.0 on.1 effect
+  stage_goes past head own (stages.Refreshing (fronts.Publishing listing) purpose notes) on ask (told.Disk answer) is fair = record { own = own; stage = on }
+  stage_goes past head own (stages.Refreshing (fronts.Publishing listing) purpose notes) on ask (told.Core (Ok effect)) is fair =
+      publish_goes (stream_by (stream_in past) ask (told.Core (Ok effect))) past head own listing purpose notes on effect
       (subst (λ (a : Ask). IsFair hash id place past a (told.Core (Ok effect))) (sym (same_Some _ ask is)) fair)
-  stage_goes past head own (stages.Publishing listing notes) on ask (told.Core (Err refusal)) is fair =
+  stage_goes past head own (stages.Refreshing (fronts.Publishing listing) purpose notes) on ask (told.Core (Err refusal)) is fair =
       record { own = own; stage = refused_is_no_miss want (call_errors.Find (find_errors.LoadIndex (of_refusal refusal))) }
+  stage_goes past head own (stages.Checking list_no notes) on ask answer is fair = absurd on
   stage_goes past head own (stages.Done reply) on ask answer is fair = absurd (cc is)
 
   look_on : (past : List Exchange) (look : LookUp) → IsLookOn (stream_in past) look → (ask : Ask) (answer : Answer) → ask_at look.stage ≡ Some ask
@@ -311,7 +316,7 @@ module _ (setting : Setting) (hash : Kind) (want : Want) (id : ObjectId) (of_has
   starts view = record { own = record { want_is = refl; id_is = refl }; stage = by view.read }
     where
       by : (b : Bool)
-          → IsOn None (cond b (try_view setting (new_head want id) parts.Snapshot view [] without_notes) (stages.Looking (purposes.First true) without_notes))
+          → IsOn None (cond b (try_view setting (new_head want id) parts.Snapshot view [] without_notes) (stages.Refreshing fronts.Reading (purposes.First true) without_notes))
       by true =
           early_goes None (new_head want id) parts.Snapshot tt
           (seek (goal_of setting (new_head want id)) (record { indices = view.snapshot.indices; todo = []; notes = without_notes }))

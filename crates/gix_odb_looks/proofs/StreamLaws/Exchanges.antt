@@ -1,5 +1,5 @@
 -- Laws of what exchanges tell of the stream that is open: they tell what it has given, and its next answer is fair.
-use Rattle.std.proofs.Common.{◌≡◌, ℕ, List, [], ◌∷◌, ◌++◌, length, Option, Some, None, Ok, refl, sym, subst}
+use Rattle.std.proofs.Common.{◌≡◌, ℕ, List, [], ◌∷◌, ◌++◌, length, Some, Ok, refl, sym, subst}
 use Rattle.odb_base.specs.Path.{Name, Path}
 use Rattle.odb_nodes.specs.Tree.{Tree}
 use Rattle.odb_nodes.specs.Tree.Follow.{listed}
@@ -16,22 +16,13 @@ use Rattle.gix_odb_events.specs.declared.answer.Answer.TheVariants as told
 use Rattle.gix_odb_events.specs.declared.answer.Ask.TheVariants as asks
 use Rattle.gix_odb_looks.specs.Exchange.{Exchange}
 use Rattle.gix_odb_looks.specs.Fair.{IsFair, IsStreamFair, PackedPlace}
-use Rattle.gix_odb_looks.specs.Stream.{Stream, reads, stream_by, stream_from, stream_in}
+use Rattle.gix_odb_refresh.specs.Stream.{Stream, reads, stream_by, stream_in}
 use Rattle.gix_odb_looks.specs.Laps.{HasAtMost}
 use Rattle.gix_odb_looks.proofs.StreamLaws.Directories.{name_is_given_before_the_end, next_entry_of_the_name_is_a_file}
 use Rattle.gix_odb_looks.proofs.StreamLaws.Directories.{stream_gives_few_entries, stream_of_a_directory_goes_on}
 use Rattle.gix_odb_looks.specs.OpenStream.{IsStreamOf, ListsFile, given_by}
 
 -- ---- the stream that exchanges tell of
-
--- behind one exchange more
-stream_from-push : (before : Option Stream) (past : List Exchange) (exchange : Exchange)
-    → stream_from before (past ++ exchange ∷ []) ≡ stream_by (stream_from before past) exchange.ask exchange.answer
-stream_from-push before [] exchange = refl
-stream_from-push before (first ∷ past) exchange = stream_from-push (stream_by before first.ask first.answer) past exchange
-
-pub stream_in-push : (past : List Exchange) (exchange : Exchange) → stream_in (past ++ exchange ∷ []) ≡ stream_by (stream_in past) exchange.ask exchange.answer
-stream_in-push past exchange = stream_from-push None past exchange
 
 -- behind an answer to a call for the next entry
 pub reads-given : (folder : Path) (dir : ℕ) (given : List Entry) (answer : DiskAnswer)

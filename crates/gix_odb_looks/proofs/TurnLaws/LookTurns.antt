@@ -1,5 +1,5 @@
 -- A turn of a look-up takes one of the turns that are left.
-use Rattle.std.proofs.Common.{ℕ, suc, ◌+◌, ◌-◌, Option, Some, None, Ok, Err, refl, arith}
+use Rattle.std.proofs.Common.{ℕ, suc, ◌+◌, ◌-◌, Option, Some, None, Ok, Err, refl, sym, subst, arith}
 use Rattle.odb_asks.specs.declared.ask.DiskAsk.{DiskAsk}
 use Rattle.gix_odb_loose.specs.LooseOrder.{disk_ask_of}
 use Rattle.gix_odb_events.specs.Answers as core
@@ -16,15 +16,19 @@ use Rattle.gix_odb_packs.specs.declared.lister.ListStep.TheVariants as listed
 use Rattle.gix_odb_packs.specs.declared.search.Notes.{Notes}
 use Rattle.gix_odb_looks.specs.Laps.{HasAtMost, IsNumbered, number_by}
 use Rattle.gix_odb_looks.specs.Exchange.{IsAnswerTo}
-use Rattle.gix_odb_looks.specs.Stream.{Stream, stream_by}
-use Rattle.gix_odb_looks.specs.LookUpOrder.{ask_at, by_listed, fed_at, lister_fed, loose_ask, loose_fed, seen, trier_fed}
+use Rattle.gix_odb_refresh.specs.Stream.{Stream, stream_by}
+use Rattle.gix_odb_looks.specs.LookUpOrder.{ask_at, by_refresh, fed_at, loose_ask, loose_fed, seen, trier_fed}
+use Rattle.gix_odb_refresh.specs.RefreshOrder.{by_listed}
+use Rattle.gix_odb_refresh.proofs.ListerLaws.Base.{IsFor, listing_keeps_its_base}
+use Rattle.gix_odb_refresh.specs.declared.refresh.Refresh.TheVariants as fronts
+use Rattle.gix_odb_looks.specs.declared.look_up.Purpose.{Purpose}
 use Rattle.gix_odb_looks.specs.declared.look_up.LookHead.{LookHead}
 use Rattle.gix_odb_looks.specs.declared.look_up.LookStage.{LookStage}
 use Rattle.gix_odb_looks.specs.declared.look_up.LookStage.TheVariants as stages
-use Rattle.gix_odb_looks.proofs.TurnLaws.CoreTurns.{looked_left, outdated_left, published_left, unchanged_left}
+use Rattle.gix_odb_looks.proofs.TurnLaws.CoreTurns.{checked_left, read_left, outdated_left, published_left, unchanged_left}
 use Rattle.gix_odb_looks.proofs.TurnLaws.TurnsLeft.{Bounds, HasFurther, HasLeft, LookHasLeft, OfPart-on, folders, settling}
 use Rattle.gix_odb_looks.proofs.TurnLaws.LapsLeft.{IsFurther-less, IsFurther-on, rises}
-use Rattle.gix_odb_looks.proofs.TurnLaws.ListerTurns.{ListsFor, fed_lists, lister_turns, lister_turns-pos}
+use Rattle.gix_odb_refresh.proofs.ListerLaws.Turns.{ListsFor, fed_lists, lister_turns, lister_turns-pos}
 use Rattle.gix_odb_looks.proofs.TurnLaws.PartTurns.{call_left, tried_left}
 use Rattle.gix_odb_looks.proofs.TurnLaws.TrierTurns.{fed_tries}
 
@@ -44,13 +48,21 @@ no_event slots entries before stream None answer is = is
 no_event slots entries before stream (Some ask) answer is = is.1
 
 module _ (bounds : Bounds) where
-  listed_left : (head : LookHead) (base before : ℕ) (stream : Option Stream) (turns room : ℕ) (notes : Notes) (step : ListStep)
+  listed_left : (head : LookHead) (base before : ℕ) (stream : Option Stream) (turns room : ℕ) (purpose : Purpose) (notes : Notes) (step : ListStep)
+      → IsFor base step
       → ListsFor bounds.setting.folders bounds.entries room stream step
       → HasFurther bounds head base before (room + settling bounds) turns
-      → HasLeft bounds head (by_listed base notes step) before stream turns
-  listed_left head base before stream turns room notes (listed.More lister) few has = (few.0, IsFurther-less has (omega (arith, few.1)))
-  listed_left head base before stream turns room notes (listed.Rows rows) few has = IsFurther-less has (omega arith)
-  listed_left head base before stream turns room notes listed.Broken few has = tt
+      → LookHasLeft bounds (by_refresh bounds.setting head purpose notes (by_listed step)) before stream turns
+  listed_left head base before stream turns room purpose notes (listed.More lister) is few has =
+      let enough : HasFurther bounds head base before (lister_turns bounds.setting.folders bounds.entries lister + settling bounds) turns =
+      IsFurther-less has (omega (arith, few.1)) in (
+        few.0,
+        subst (λ (number : ℕ). HasFurther bounds head number before (lister_turns bounds.setting.folders bounds.entries lister + settling bounds) turns) (sym is) enough,
+      )
+  listed_left head base before stream turns room purpose notes (listed.Listed listing) is few has =
+      let enough : HasFurther bounds head base before (settling bounds) turns = IsFurther-less has (omega arith) in
+      subst (λ (number : ℕ). HasFurther bounds head number before (settling bounds) turns) (sym is) enough
+  listed_left head base before stream turns room purpose notes listed.Broken is few has = tt
 
   pub fed_left : (head : LookHead) (stage : LookStage) (before : ℕ) (stream : Option Stream) (turns : ℕ) (answer : Answer)
       → IsTold bounds.slots bounds.entries before stream (ask_at stage) answer
@@ -74,34 +86,48 @@ module _ (bounds : Bounds) where
       (omega arith))
   fed_left head (stages.Loose round call) before stream turns (told.Core answer) is has =
       absurd (no_event bounds.slots bounds.entries before stream (disk_ask_of call) answer is)
-  fed_left head (stages.Looking purpose notes) before stream turns (told.Disk answer) is has = absurd is.1
-  fed_left head (stages.Looking purpose notes) before stream turns (told.Core (Err refusal)) is has = tt
-  fed_left head (stages.Looking purpose notes) before stream turns (told.Core (Ok (effects.Seen view))) is has =
-      looked_left bounds head purpose before stream turns view notes is.0.0 (is.0.2 view refl) has
-  fed_left head (stages.Looking purpose notes) before stream turns (told.Core (Ok (effects.Reported view report))) is has =
-      looked_left bounds head purpose before stream turns view notes is.0.0 (is.0.2 view refl) has
-  fed_left head (stages.Looking purpose notes) before stream turns (told.Core (Ok (effects.Put view stored))) is has =
-      looked_left bounds head purpose before stream turns view notes is.0.0 (is.0.2 view refl) has
-  fed_left head (stages.Looking purpose notes) before stream turns (told.Core (Ok (effects.Published view))) is has =
-      looked_left bounds head purpose before stream turns view notes is.0.0 (is.0.2 view refl) has
-  fed_left head (stages.Looking purpose notes) before stream turns (told.Core (Ok (effects.Unchanged view))) is has =
-      looked_left bounds head purpose before stream turns view notes is.0.0 (is.0.2 view refl) has
-  fed_left head (stages.Looking purpose notes) before stream turns (told.Core (Ok effect)) is has = absurd (cc is.1.1)
-  fed_left head (stages.Listing lister base notes) before stream turns (told.Disk answer) is has =
+  fed_left head (stages.Refreshing fronts.Reading purpose notes) before stream turns (told.Disk answer) is has = absurd is.1
+  fed_left head (stages.Refreshing fronts.Reading purpose notes) before stream turns (told.Core (Err refusal)) is has = tt
+  fed_left head (stages.Refreshing fronts.Reading purpose notes) before stream turns (told.Core (Ok (effects.Seen view))) is has =
+      read_left bounds head purpose before stream turns view notes is.0.0 (is.0.2 view refl) has
+  fed_left head (stages.Refreshing fronts.Reading purpose notes) before stream turns (told.Core (Ok (effects.Reported view report))) is has =
+      read_left bounds head purpose before stream turns view notes is.0.0 (is.0.2 view refl) has
+  fed_left head (stages.Refreshing fronts.Reading purpose notes) before stream turns (told.Core (Ok (effects.Put view stored))) is has =
+      read_left bounds head purpose before stream turns view notes is.0.0 (is.0.2 view refl) has
+  fed_left head (stages.Refreshing fronts.Reading purpose notes) before stream turns (told.Core (Ok (effects.Published view))) is has =
+      read_left bounds head purpose before stream turns view notes is.0.0 (is.0.2 view refl) has
+  fed_left head (stages.Refreshing fronts.Reading purpose notes) before stream turns (told.Core (Ok (effects.Unchanged view))) is has =
+      read_left bounds head purpose before stream turns view notes is.0.0 (is.0.2 view refl) has
+  fed_left head (stages.Refreshing fronts.Reading purpose notes) before stream turns (told.Core (Ok effect)) is has = absurd (cc is.1.1)
+  fed_left head (stages.Refreshing (fronts.Listing lister) purpose notes) before stream turns (told.Disk answer) is has =
       let some = lister_turns-pos bounds.setting.folders bounds.entries lister in
       let room = lister_turns bounds.setting.folders bounds.entries lister - 1 in
       let now = stream_by stream (asks.Disk (lists.ask_of lister)) (told.Disk answer) in
-      listed_left (seen head (told.Disk answer)) base before now turns room notes (lister_fed bounds.setting lister answer)
+      listed_left (seen head (told.Disk answer)) lister.head.base before now turns room purpose notes (lists.fed bounds.setting.folders lister answer)
+      (listing_keeps_its_base bounds.setting.folders lister answer)
       (fed_lists bounds.setting.folders bounds.entries room stream lister answer has.0 is.2 (omega arith))
       (IsFurther-on (told.Disk answer) before has.1 (omega arith) (omega arith))
-  fed_left head (stages.Listing lister base notes) before stream turns (told.Core answer) is has = absurd is.1
-  fed_left head (stages.Publishing rows notes) before stream turns (told.Disk answer) is has = absurd is.1
-  fed_left head (stages.Publishing rows notes) before stream turns (told.Core (Err refusal)) is has = tt
-  fed_left head (stages.Publishing rows notes) before stream turns (told.Core (Ok (effects.Published view))) is has =
-      published_left bounds head rows before stream turns notes has view is.0.0 is.0.1 (is.0.2 view refl)
-  fed_left head (stages.Publishing rows notes) before stream turns (told.Core (Ok (effects.Unchanged view))) is has =
-      unchanged_left bounds head rows before stream turns notes has view is.0.0 is.0.1 (is.0.2 view refl)
-  fed_left head (stages.Publishing rows notes) before stream turns (told.Core (Ok (effects.Outdated number))) is has =
-      outdated_left bounds head rows before stream turns notes has number is.0.0 is.0.1.0
-  fed_left head (stages.Publishing rows notes) before stream turns (told.Core (Ok effect)) is has = absurd is.1
+  fed_left head (stages.Refreshing (fronts.Listing lister) purpose notes) before stream turns (told.Core answer) is has = absurd is.1
+  fed_left head (stages.Refreshing (fronts.Publishing rows) purpose notes) before stream turns (told.Disk answer) is has = absurd is.1
+  fed_left head (stages.Refreshing (fronts.Publishing rows) purpose notes) before stream turns (told.Core (Err refusal)) is has = tt
+  fed_left head (stages.Refreshing (fronts.Publishing rows) purpose notes) before stream turns (told.Core (Ok (effects.Published view))) is has =
+      published_left bounds head rows before stream turns purpose notes has view is.0.0 is.0.1 (is.0.2 view refl)
+  fed_left head (stages.Refreshing (fronts.Publishing rows) purpose notes) before stream turns (told.Core (Ok (effects.Unchanged view))) is has =
+      unchanged_left bounds head rows before stream turns purpose notes has view is.0.0 is.0.1 (is.0.2 view refl)
+  fed_left head (stages.Refreshing (fronts.Publishing rows) purpose notes) before stream turns (told.Core (Ok (effects.Outdated number))) is has =
+      outdated_left bounds head rows before stream turns purpose notes has number is.0.0 is.0.1.0
+  fed_left head (stages.Refreshing (fronts.Publishing rows) purpose notes) before stream turns (told.Core (Ok effect)) is has = absurd is.1
+  fed_left head (stages.Checking number notes) before stream turns (told.Disk answer) is has = absurd is.1
+  fed_left head (stages.Checking number notes) before stream turns (told.Core (Err refusal)) is has = tt
+  fed_left head (stages.Checking number notes) before stream turns (told.Core (Ok (effects.Seen view))) is has =
+      checked_left bounds head number before stream turns view notes is.0.0 has
+  fed_left head (stages.Checking number notes) before stream turns (told.Core (Ok (effects.Reported view report))) is has =
+      checked_left bounds head number before stream turns view notes is.0.0 has
+  fed_left head (stages.Checking number notes) before stream turns (told.Core (Ok (effects.Put view stored))) is has =
+      checked_left bounds head number before stream turns view notes is.0.0 has
+  fed_left head (stages.Checking number notes) before stream turns (told.Core (Ok (effects.Published view))) is has =
+      checked_left bounds head number before stream turns view notes is.0.0 has
+  fed_left head (stages.Checking number notes) before stream turns (told.Core (Ok (effects.Unchanged view))) is has =
+      checked_left bounds head number before stream turns view notes is.0.0 has
+  fed_left head (stages.Checking number notes) before stream turns (told.Core (Ok effect)) is has = absurd (cc is.1.1)
   fed_left head (stages.Done reply) before stream turns answer is has = absurd is

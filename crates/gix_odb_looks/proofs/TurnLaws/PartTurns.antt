@@ -16,7 +16,7 @@ use Rattle.gix_odb_packs.specs.declared.trier.Tried.TheVariants as tried
 use Rattle.gix_odb_calls.specs.Verdict.{verdict_on}
 use Rattle.gix_odb_calls.specs.declared.verdict.Verdict.{Verdict}
 use Rattle.gix_odb_calls.specs.declared.verdict.Verdict.TheVariants as verdicts
-use Rattle.gix_odb_looks.specs.Stream.{Stream}
+use Rattle.gix_odb_refresh.specs.Stream.{Stream}
 use Rattle.gix_odb_looks.specs.LookUpOrder.{after_list, after_loose, at_folder, by_call, by_reply, by_tried}
 use Rattle.gix_odb_looks.specs.LookUpOrder.{by_verdict, goal_of, listing_from, loose_from, try_view}
 use Rattle.gix_odb_looks.specs.declared.look_up.LookHead.{LookHead}

@@ -12,8 +12,9 @@ use Rattle.gix_odb_calls.specs.Verdict.{asking}
 use Rattle.gix_odb_calls.specs.declared.call.Reply.{Reply}
 use Rattle.gix_object.specs.declared.want.Want.{Want}
 use Rattle.gix_odb_looks.specs.Laps.{number_by}
-use Rattle.gix_odb_looks.specs.Stream.{Stream}
+use Rattle.gix_odb_refresh.specs.Stream.{Stream}
 use Rattle.gix_odb_looks.specs.LookUpOrder.{Setting, loose_fed, result_at, seen}
+use Rattle.gix_odb_refresh.specs.declared.refresh.Refresh.TheVariants as fronts
 use Rattle.gix_odb_looks.specs.declared.look_up.LookHead.{LookHead}
 use Rattle.gix_odb_looks.specs.declared.look_up.LookStage.{LookStage}
 use Rattle.gix_odb_looks.specs.declared.look_up.LookStage.TheVariants as stages
@@ -23,7 +24,7 @@ use Rattle.gix_odb_looks.specs.declared.look_up.Part.TheVariants as parts
 use Rattle.gix_odb_looks.specs.declared.look_up.Purpose.{Purpose}
 use Rattle.gix_odb_looks.specs.declared.look_up.Purpose.TheVariants as purposes
 use Rattle.gix_odb_looks.proofs.TurnLaws.LapsLeft.{IsFirst, IsFurther, IsFirst-less, IsFirst-on, IsFurther-less, IsFurther-on}
-use Rattle.gix_odb_looks.proofs.TurnLaws.ListerTurns.{IsCounted, folder_turns, further, lister_turns}
+use Rattle.gix_odb_refresh.proofs.ListerLaws.Turns.{IsCounted, folder_turns, further, lister_turns}
 
 -- the turns behind a listing: the publish, the list, the loose folders, and a look
 abbrev pub settling_turns : (slots folders : ℕ) → ℕ
@@ -74,7 +75,6 @@ module _ (bounds : Bounds) where
 
   abbrev pub OfPurpose : LookHead → Purpose → (before turns : ℕ) → Type 0
   OfPurpose head (purposes.First loose) before turns = HasFirst head before (trying + 1) turns
-  OfPurpose head (purposes.Check number) before turns = HasFurther head number before 1 turns
   OfPurpose head purposes.Again before turns = HasFurther head before before (bounds.lap + 1) turns
 
   -- A look-up that goes on has at most so many turns left. The last number of a list that it was told is `before`, and the stream that it
@@ -82,11 +82,12 @@ module _ (bounds : Bounds) where
   abbrev pub HasLeft : LookHead → LookStage → (before : ℕ) (stream : Option Stream) (turns : ℕ) → Type 0
   HasLeft head (stages.Trying trier part) before stream turns = OfPart head part before (trier_turns trier + folders + 1) turns
   HasLeft head (stages.Loose round call) before stream turns = IsOneAsk call × OfPart head round.part before ((folders - round.next) + 1) turns
-  HasLeft head (stages.Looking purpose notes) before stream turns = OfPurpose head purpose before turns
-  HasLeft head (stages.Listing lister base notes) before stream turns =
+  HasLeft head (stages.Refreshing fronts.Reading purpose notes) before stream turns = OfPurpose head purpose before turns
+  HasLeft head (stages.Refreshing (fronts.Listing lister) purpose notes) before stream turns =
       IsCounted bounds.setting.folders bounds.entries stream lister
-      × HasFurther head base before (lister_turns bounds.setting.folders bounds.entries lister + settling) turns
-  HasLeft head (stages.Publishing listing notes) before stream turns = HasFurther head listing.base before settling turns
+      × HasFurther head lister.head.base before (lister_turns bounds.setting.folders bounds.entries lister + settling) turns
+  HasLeft head (stages.Refreshing (fronts.Publishing listing) purpose notes) before stream turns = HasFurther head listing.base before settling turns
+  HasLeft head (stages.Checking number notes) before stream turns = HasFurther head number before 1 turns
   HasLeft head (stages.Done reply) before stream turns = Unit {0}
 
   abbrev pub LookHasLeft : LookUp → (before : ℕ) (stream : Option Stream) (turns : ℕ) → Type 0
@@ -101,7 +102,6 @@ module _ (bounds : Bounds) where
 
   OfPurpose-pos : (head : LookHead) (purpose : Purpose) (before turns : ℕ) → OfPurpose head purpose before turns → 0 < turns
   OfPurpose-pos head (purposes.First loose) before turns has = omega (arith, has.enough)
-  OfPurpose-pos head (purposes.Check number) before turns has = omega (arith, has.enough)
   OfPurpose-pos head purposes.Again before turns has = omega (arith, has.enough)
 
   pub HasLeft-pos : (head : LookHead) (stage : LookStage) (before : ℕ) (stream : Option Stream) (turns : ℕ) → HasLeft head stage before stream turns
@@ -109,9 +109,10 @@ module _ (bounds : Bounds) where
       → 0 < turns
   HasLeft-pos head (stages.Trying trier part) before stream turns has on = OfPart-pos head part before (trier_turns trier + folders) turns has
   HasLeft-pos head (stages.Loose round call) before stream turns has on = OfPart-pos head round.part before (folders - round.next) turns has.1
-  HasLeft-pos head (stages.Looking purpose notes) before stream turns has on = OfPurpose-pos head purpose before turns has
-  HasLeft-pos head (stages.Listing lister base notes) before stream turns has on = omega (arith, has.1.enough)
-  HasLeft-pos head (stages.Publishing listing notes) before stream turns has on = omega (arith, has.enough)
+  HasLeft-pos head (stages.Refreshing fronts.Reading purpose notes) before stream turns has on = OfPurpose-pos head purpose before turns has
+  HasLeft-pos head (stages.Refreshing (fronts.Listing lister) purpose notes) before stream turns has on = omega (arith, has.1.enough)
+  HasLeft-pos head (stages.Refreshing (fronts.Publishing listing) purpose notes) before stream turns has on = omega (arith, has.enough)
+  HasLeft-pos head (stages.Checking number notes) before stream turns has on = omega (arith, has.enough)
   HasLeft-pos head (stages.Done reply) before stream turns has on = absurd (on reply refl)
 
   -- ---- fewer turns are wanted, behind an answer or not

@@ -1,5 +1,5 @@
 -- Whether the list that was tried is the newest, and how many lists of others a look-up met.
-use Rattle.std.specs.Prelude.{ℕ, ◌-◌, Bool, nat_lt, unwrap_or, if◌then◌else◌, ◌==◌}
+use Rattle.std.specs.Prelude.{ℕ, ◌-◌, Bool, nat_lt, Option, Some, None, unwrap_or, if◌then◌else◌, ◌==◌}
 use Rattle.gix_odb_calls.specs.declared.load_index.Error.TheVariants as load_errors
 use Rattle.gix_odb_events.specs.declared.view.View.{View}
 use Rattle.gix_odb_looks.specs.declared.look_up.LookHead.{LookHead}
@@ -26,3 +26,8 @@ counted setting head now next = if is_unsettled setting head now then unsettled 
 abbrev pub by_check : Setting → LookHead → (list_no : ℕ) → View → Notes → LookStage
 by_check setting head list_no view notes =
     if view.list_no == list_no then ended head.want notes else counted setting head view.list_no (listing_from setting view.list_no notes)
+
+-- a look at the core that is for this
+abbrev pub by_checked : Setting → LookHead → (list_no : ℕ) → Notes → Option View → LookStage
+by_checked setting head list_no notes None = stages.Checking list_no notes
+by_checked setting head list_no notes (Some view) = by_check setting head list_no view notes

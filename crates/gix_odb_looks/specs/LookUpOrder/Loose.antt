@@ -10,6 +10,7 @@ use Rattle.gix_odb_looks.specs.declared.look_up.LooseRound.{LooseRound}
 use Rattle.gix_odb_looks.specs.declared.look_up.Part.{Part}
 use Rattle.gix_odb_looks.specs.declared.look_up.Part.TheVariants as parts
 use Rattle.gix_odb_looks.specs.declared.look_up.Purpose.TheVariants as purposes
+use Rattle.gix_odb_refresh.specs.declared.refresh.Refresh.TheVariants as fronts
 use Rattle.gix_odb_loose.specs.LooseOrder.{reply_of}
 use Rattle.gix_odb_loose.specs.LooseOrder as loose_order
 use Rattle.gix_odb_loose.specs.declared.call.LooseCall.{LooseCall}
@@ -27,9 +28,9 @@ loose_from setting head part notes =
 
 -- behind the loose folders: the core's list, a listing, or a look at whether the list that was tried is still the newest
 abbrev pub after_loose : Setting → Part → Notes → LookStage
-after_loose setting parts.Snapshot notes = stages.Looking (purposes.First false) notes
+after_loose setting parts.Snapshot notes = stages.Refreshing fronts.Reading (purposes.First false) notes
 after_loose setting (parts.List list_no loose) notes = listing_from setting list_no notes
-after_loose setting (parts.Published list_no) notes = stages.Looking (purposes.Check list_no) notes
+after_loose setting (parts.Published list_no) notes = stages.Checking list_no notes
 
 -- the next folder is asked; behind the last one the look-up goes on
 abbrev pub at_folder : Setting → LookHead → LooseRound → Option Path → LookStage

@@ -1,15 +1,6 @@
 -- The store that a look-up is made in.
-use Rattle.std.specs.Prelude.{ℕ, List, Option}
 use Rattle.gix_odb_looks.specs.declared.look_up.Setting as declared
-use Rattle.odb_base.specs.Path.{Path}
-
--- what a look-up is told of the store that it is made in: the objects directory, the other folders, the limit on found objects, and how
--- many lists of others it may meet
-pub record Setting : Type 0 where
-  pub objects : Path
-  pub folders : List Path
-  pub limit : Option ℕ
-  pub most : ℕ
+pub use Rattle.gix_odb_refresh.specs.Store.{Setting}
 
 abbrev pub setting_of : declared.Setting → Setting
 setting_of setting = record {

@@ -3,10 +3,9 @@ ghost use Rattle.std.specs.Prelude.{◌≡◌, IfOk};
 ghost use Rattle.gix_odb_looks.specs.LookUpOrder.{setting_of};
 ghost use Rattle.gix_odb_looks.specs.LookUpOrder as order;
 
-use super::listing::by_lister;
-use super::looking::looked;
+use super::checking::checked;
 use super::loose::by_call;
-use super::publishing::published;
+use super::refreshing::by_answer;
 use super::trying::by_trier;
 use super::{LookHead, LookStage, LookUp, Setting, at};
 use gix_odb_events::Answer;
@@ -26,18 +25,13 @@ pub(super) fn fed(
     match stage {
         LookStage::Trying { trier, part } => by_trier(alloc, setting, head, trier, part, answer),
         LookStage::Loose { round, call } => by_call(alloc, setting, head, round, call, answer),
-        LookStage::Listing {
-            lister,
-            base,
+        LookStage::Refreshing {
+            refresh,
+            purpose,
             notes,
-        } => by_lister(alloc, setting, head, lister, base, notes, answer),
-        LookStage::Looking { purpose, notes } => {
-            let look = looked(alloc, setting, head, purpose, notes, &answer);
-            drop(answer);
-            look
-        }
-        LookStage::Publishing { listing, notes } => {
-            let look = published(alloc, setting, head, listing, notes, &answer);
+        } => by_answer(alloc, setting, head, refresh, purpose, notes, answer),
+        LookStage::Checking { list_no, notes } => {
+            let look = checked(alloc, setting, head, list_no, notes, &answer);
             drop(answer);
             look
         }

@@ -4,15 +4,56 @@ ghost use Rattle.gix_odb_looks.specs.LookUpOrder.{setting_of};
 ghost use Rattle.gix_odb_looks.specs.LookUpOrder as order;
 
 use super::listing::listing_from;
-use super::replies::{ended, load_refused};
-use super::{LookHead, LookStage, Setting};
+use super::replies::{ended, load_refused, refused};
+use super::{LookHead, LookStage, LookUp, Setting, at};
 use gix_odb_calls::load_index;
-use gix_odb_events::View;
+use gix_odb_events::{Answer, Effect, View};
 use gix_odb_packs::Notes;
 use odb_base::NoMemory;
 use std::alloc::Global;
 
-pub(super) fn by_check(
+/// What comes behind an answer to a look at the core. One of the disk leaves the stage.
+pub(super) fn checked(
+    alloc: Global,
+    setting: &Setting<'_>,
+    head: LookHead,
+    list_no: u64,
+    notes: Notes,
+    answer: &Answer,
+) -> Result<LookUp, NoMemory>
+    ensures by { IfOk result (λ look. look ≡ order.fed_at (setting_of setting.now) head (LookStage.Checking list_no notes) answer.now) }
+{
+    match answer {
+        Answer::Core(Ok(effect)) => Ok(at(
+            head,
+            by_checked(alloc, setting, head, list_no, notes, effect)?,
+        )),
+        Answer::Core(Err(refusal)) => {
+            drop(notes);
+            Ok(at(head, refused(*refusal)?))
+        }
+        Answer::Disk(_) => Ok(at(head, LookStage::Checking { list_no, notes })),
+    }
+}
+
+/// What comes behind a look at the core that showed something.
+fn by_checked(
+    alloc: Global,
+    setting: &Setting<'_>,
+    head: LookHead,
+    list_no: u64,
+    notes: Notes,
+    effect: &Effect,
+) -> Result<LookStage, NoMemory>
+    ensures by { IfOk result (λ stage. stage ≡ order.by_checked (setting_of setting.now) head list_no notes (order.view_shown effect.now)) }
+{
+    match effect.view() {
+        None => Ok(LookStage::Checking { list_no, notes }),
+        Some(view) => by_check(alloc, setting, head, list_no, view, notes),
+    }
+}
+
+fn by_check(
     alloc: Global,
     setting: &Setting<'_>,
     head: LookHead,

@@ -10,6 +10,7 @@ use gix_odb_calls::verdict::{Verdict, folder_call, verdict_on};
 use gix_odb_events::Answer;
 use gix_odb_loose::LooseCall;
 use gix_odb_packs::Notes;
+use gix_odb_refresh::Refresh;
 use odb_asks::DiskAnswer;
 use odb_base::{NoMemory, PathText};
 use std::alloc::Global;
@@ -180,10 +181,13 @@ fn after_loose(
 ) -> Result<LookStage, NoMemory>
     ensures after { IfOk result (λ stage. stage ≡ order.after_loose (setting_of setting.now) part notes) }
 {
-    let purpose = match part {
-        Part::Snapshot => Purpose::First { loose: false },
-        Part::List { list_no, .. } => return listing_from(alloc, setting, list_no, notes),
-        Part::Published { list_no } => Purpose::Check { list_no },
-    };
-    Ok(LookStage::Looking { purpose, notes })
+    match part {
+        Part::Snapshot => Ok(LookStage::Refreshing {
+            refresh: Refresh::Reading,
+            purpose: Purpose::First { loose: false },
+            notes,
+        }),
+        Part::List { list_no, .. } => listing_from(alloc, setting, list_no, notes),
+        Part::Published { list_no } => Ok(LookStage::Checking { list_no, notes }),
+    }
 }

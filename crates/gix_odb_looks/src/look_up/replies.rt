@@ -1,14 +1,14 @@
 //! What a look-up replies.
 ghost use Rattle.std.specs.Prelude.{◌≡◌, IfOk};
-ghost use Rattle.gix_odb_looks.specs.LoadIndex.{of_refusal};
+ghost use Rattle.gix_odb_refresh.specs.LoadIndex.{of_refusal};
 ghost use Rattle.gix_odb_looks.specs.LookUpOrder as order;
 
 use super::LookStage;
-use crate::load_index::of_refusal;
 use gix_object::Want;
 use gix_odb_calls::{CallError, Reply, find, load_index};
 use gix_odb_events::Refusal;
 use gix_odb_packs::{self as packs, Found, Notes};
+use gix_odb_refresh::of_refusal;
 use odb_base::NoMemory;
 
 pub(super) fn load_refused(error: load_index::Error) -> Reply

@@ -7,10 +7,10 @@ use super::listing::listing_from;
 use super::loose::loose_from;
 use super::replies::{find_error, load_refused, reply_found};
 use super::{LookHead, LookStage, LookUp, Part, Setting, at};
-use crate::load_index::of_refusal;
 use gix_odb_calls::{CallError, Reply};
 use gix_odb_events::{Answer, TodoRest, View};
 use gix_odb_packs::{Goal, Notes, Tried, Trier};
+use gix_odb_refresh::of_refusal;
 use odb_base::NoMemory;
 use std::alloc::Global;
 

@@ -17,21 +17,22 @@ use Rattle.gix_odb_events.specs.declared.answer.Ask.TheVariants as asks
 use Rattle.gix_odb_packs.specs.declared.lister.ListStep.{ListStep}
 use Rattle.gix_odb_packs.specs.declared.lister.ListStep.TheVariants as listed
 use Rattle.gix_odb_packs.specs.declared.lister.Lister.{Lister}
-use Rattle.gix_odb_looks.specs.Exchange.{Exchange}
-use Rattle.gix_odb_looks.specs.LookUpOrder.{Setting}
-use Rattle.gix_odb_looks.specs.Shown.{IsIndexRow}
-use Rattle.gix_odb_looks.specs.Stream.{Stream, stream_in}
-use Rattle.gix_odb_looks.proofs.FoundLaws.Known.{KnowsListStep, KnowsLister}
-use Rattle.gix_odb_looks.proofs.FoundLaws.Listing.{fed_known, started_known}
-use Rattle.gix_odb_looks.proofs.FoundLaws.Lists.{all_longest_first}
-use Rattle.gix_odb_looks.proofs.HandedLaws.Reading.{none_told, told_from}
-use Rattle.gix_odb_looks.proofs.HandedLaws.Streams.{HasNone, Opened, StreamBehind, StreamOf, Told, core_leaves_streams, left_open, left_open-push, open_by, opened_by}
-use Rattle.gix_odb_looks.proofs.HandedLaws.Streams.{listing_streams, opened_last, opened_last-push, told_by}
-use Rattle.gix_odb_looks.proofs.StreamLaws.Exchanges.{stream_in-push}
-use Rattle.gix_odb_refresh.specs.RefreshOrder.{ask_of, by_listed, by_look, fed, started, view_shown}
+use Rattle.gix_odb_refresh.specs.Exchange.{Exchange}
+use Rattle.gix_odb_refresh.specs.Store.{Setting}
+use Rattle.gix_odb_refresh.specs.Shown.{IsIndexRow}
+use Rattle.gix_odb_refresh.specs.Stream.{Stream, stream_in}
+use Rattle.gix_odb_refresh.proofs.ListerLaws.Known.{KnowsListStep, KnowsLister}
+use Rattle.gix_odb_refresh.proofs.ListerLaws.Known.{fed_known, started_known}
+use Rattle.gix_odb_refresh.proofs.ListerLaws.Reads.{none_told, told_from}
+use Rattle.gix_odb_refresh.proofs.ListerLaws.Streams.{HasNone, Opened, StreamBehind, StreamOf, Told, core_leaves_streams, left_open, left_open-push, open_by, opened_by}
+use Rattle.gix_odb_refresh.proofs.ListerLaws.Streams.{listing_streams, opened_last, opened_last-push, told_by}
+use Rattle.gix_odb_refresh.proofs.ListerLaws.Streams.{stream_in-push}
+use Rattle.gix_odb_refresh.specs.RefreshOrder.{ask_of, asked_of, by_listed, by_look, fed, listing_from, started, step_fed, view_shown}
 use Rattle.gix_odb_refresh.specs.Refreshed.{AreAsked, LookRefused, ShowedUnread, behind}
 use Rattle.gix_odb_refresh.specs.declared.refresh.Refresh.{Refresh}
 use Rattle.gix_odb_refresh.specs.declared.refresh.Refresh.TheVariants as stages
+use Rattle.gix_odb_refresh.specs.declared.refresh.RefreshStep.{RefreshStep}
+use Rattle.gix_odb_refresh.specs.declared.refresh.RefreshStep.TheVariants as steps
 use Rattle.gix_odb_refresh.proofs.AskedLemmas.{holds_behind}
 
 -- all that exchanges tell of streams
@@ -62,17 +63,20 @@ ShowedUnread-more past exchange was = record {
 }
 
 module _ (setting : Setting) where
-  -- what is told of streams is of the listing at hand, whose rows are of indices; a listing is made, or an error is told, only behind a
-  -- look at an unread list
+  -- what is told of streams is of the listing at hand, whose rows are of indices; a listing is made only after a look at an unread list
   abbrev pub KnowsAt : Told → List Exchange → Refresh → Type 0
-  KnowsAt now past stages.Looking = HasNone now
-  KnowsAt now past (stages.Listing lister base) = KnowsLister setting lister × StreamOf now lister × ShowedUnread past
+  KnowsAt now past stages.Reading = HasNone now
+  KnowsAt now past (stages.Listing lister) = KnowsLister setting lister × StreamOf now lister × ShowedUnread past
   KnowsAt now past (stages.Publishing listing) = HasNone now × All (IsIndexRow setting) listing.rows × ShowedUnread past
-  KnowsAt now past stages.Ready = HasNone now
-  KnowsAt now past (stages.Refused error) = HasNone now × (ShowedUnread past ⊎ LookRefused past)
 
-  abbrev pub Knows : List Exchange → Refresh → Type 0
-  Knows past refresh = KnowsAt (told_of past) past refresh
+  -- no stream is open at the end, and an error comes only after such a look, or where the look itself was refused
+  abbrev pub StepKnowsAt : Told → List Exchange → RefreshStep → Type 0
+  StepKnowsAt now past (steps.More refresh) = KnowsAt now past refresh
+  StepKnowsAt now past (steps.Refused error) = HasNone now × (ShowedUnread past ⊎ LookRefused past)
+  StepKnowsAt now past step = HasNone now
+
+  abbrev pub Knows : List Exchange → RefreshStep → Type 0
+  Knows past step = StepKnowsAt (told_of past) past step
 
   -- ---- one exchange more
 
@@ -81,7 +85,7 @@ module _ (setting : Setting) where
     with_one ask answer = past ++ record { ask = ask; answer = answer } ∷ []
 
     abbrev Goes : Refresh → Ask → Answer → Type 0
-    Goes refresh ask answer = KnowsAt (told_by now ask answer) (with_one ask answer) (fed setting.objects setting.folders refresh answer)
+    Goes refresh ask answer = StepKnowsAt (told_by now ask answer) (with_one ask answer) (fed setting.objects setting.folders refresh answer)
 
     -- the core was looked at
     module _ (effect : Effect) (none : HasNone now) where
@@ -92,42 +96,42 @@ module _ (setting : Setting) where
       later = told_by now (asks.Core events.Look) (told.Core (Ok effect))
 
       view_goes : (view : View) → view_in (Ok effect) ≡ Some view → (read : Bool) → view.read ≡ read
-          → KnowsAt later looked (if read then stages.Ready else stages.Listing (lists.started setting.objects) view.list_no)
+          → StepKnowsAt later looked (if read then steps.Read view else steps.More (listing_from setting.objects view.list_no))
       view_goes view shown true is = none
       view_goes view shown false is = (
-        started_known setting,
+        started_known setting view.list_no,
         none,
         record { effect = effect; view = view; shown = shown; unread = is; told = Contains-push past (record { ask = asks.Core events.Look; answer = told.Core (Ok effect) }) },
       )
 
-      shown_goes : (shown : Option View) → view_in (Ok effect) ≡ shown → KnowsAt later looked (by_look setting.objects shown)
+      shown_goes : (shown : Option View) → view_in (Ok effect) ≡ shown → StepKnowsAt later looked (by_look setting.objects shown)
       shown_goes None is = none
       shown_goes (Some view) is = view_goes view is view.read refl
 
-    look_goes : HasNone now → (answer : Answer) → Goes stages.Looking (asks.Core events.Look) answer
+    look_goes : HasNone now → (answer : Answer) → Goes stages.Reading (asks.Core events.Look) answer
     look_goes none (told.Disk answer) = none
     look_goes none (told.Core (Ok effect)) = shown_goes effect none (view_shown effect) refl
     look_goes none (told.Core (Err refusal)) =
         (none, inr (refusal, Contains-push past (record { ask = asks.Core events.Look; answer = told.Core (Err refusal) })))
 
     -- a folder is listed on
-    listed_goes : (later : Told) (more : List Exchange) (base : ℕ) (step : ListStep) → KnowsListStep setting step → StreamBehind later step → ShowedUnread more
-        → KnowsAt later more (by_listed base step)
-    listed_goes later more base (listed.More lister) known stream unread = (known, stream, unread)
-    listed_goes later more base (listed.Rows rows) known stream unread = (stream, all_longest_first (IsIndexRow setting) rows known, unread)
-    listed_goes later more base listed.Broken known stream unread = (stream, inl unread)
+    listed_goes : (following : Told) (more : List Exchange) (step : ListStep) → KnowsListStep setting step → StreamBehind following step → ShowedUnread more
+        → StepKnowsAt following more (by_listed step)
+    listed_goes following more (listed.More lister) known stream unread = (known, stream, unread)
+    listed_goes following more (listed.Listed listing) known stream unread = (stream, known, unread)
+    listed_goes following more listed.Broken known stream unread = (stream, inl unread)
 
-    listing_goes : (lister : Lister) (base : ℕ) → KnowsAt now past (stages.Listing lister base) → (answer : Answer)
-        → Goes (stages.Listing lister base) (asks.Disk (lists.ask_of lister)) answer
-    listing_goes lister base known (told.Disk answer) =
-        listed_goes (told_by now (asks.Disk (lists.ask_of lister)) (told.Disk answer)) (with_one (asks.Disk (lists.ask_of lister)) (told.Disk answer)) base
+    listing_goes : (lister : Lister) → KnowsAt now past (stages.Listing lister) → (answer : Answer)
+        → Goes (stages.Listing lister) (asks.Disk (lists.ask_of lister)) answer
+    listing_goes lister known (told.Disk answer) =
+        listed_goes (told_by now (asks.Disk (lists.ask_of lister)) (told.Disk answer)) (with_one (asks.Disk (lists.ask_of lister)) (told.Disk answer))
         (lists.fed setting.folders lister answer) (fed_known setting lister answer known.0)
         (listing_streams setting.folders lister.head now lister.stage known.1 answer)
         (ShowedUnread-more past _ known.2)
-    listing_goes lister base known (told.Core answer) =
+    listing_goes lister known (told.Core answer) =
         (known.0, core_leaves_streams now lister.head.folder lister.stage answer known.1, ShowedUnread-more past _ known.2)
 
-    -- the listing was handed to the core
+    -- the listing was published
     published_goes : (listing : Listing) → KnowsAt now past (stages.Publishing listing) → (effect : Effect)
         → Goes (stages.Publishing listing) (asks.Core (events.Publish listing)) (told.Core (Ok effect))
     published_goes listing known (effects.Published view) = known.0
@@ -144,33 +148,35 @@ module _ (setting : Setting) where
     publish_goes listing known (told.Core (Ok effect)) = published_goes listing known effect
     publish_goes listing known (told.Core (Err refusal)) = (known.0, inl (ShowedUnread-more past _ known.2))
 
-    goes : (refresh : Refresh) → KnowsAt now past refresh → (ask : Ask) (answer : Answer) → ask_of refresh ≡ Some ask → Goes refresh ask answer
-    goes stages.Looking known ask answer is =
-        subst (λ (own : Ask). Goes stages.Looking own answer) (same_Some (asks.Core events.Look) ask is) (look_goes known answer)
-    goes (stages.Listing lister base) known ask answer is =
-        subst (λ (own : Ask). Goes (stages.Listing lister base) own answer) (same_Some (asks.Disk (lists.ask_of lister)) ask is)
-        (listing_goes lister base known answer)
-    goes (stages.Publishing listing) known ask answer is =
-        subst (λ (own : Ask). Goes (stages.Publishing listing) own answer) (same_Some (asks.Core (events.Publish listing)) ask is)
-        (publish_goes listing known answer)
-    goes stages.Ready known ask answer is = absurd (cc is)
-    goes (stages.Refused error) known ask answer is = absurd (cc is)
+    goes : (refresh : Refresh) → KnowsAt now past refresh → (answer : Answer) → Goes refresh (ask_of refresh) answer
+    goes stages.Reading known answer = look_goes known answer
+    goes (stages.Listing lister) known answer = listing_goes lister known answer
+    goes (stages.Publishing listing) known answer = publish_goes listing known answer
 
-  kept : (past : List Exchange) (refresh : Refresh) (exchange : Exchange) → Knows past refresh → ask_of refresh ≡ Some exchange.ask → Unit {0}
-      → Knows (past ++ exchange ∷ []) (fed setting.objects setting.folders refresh exchange.answer)
-  kept past refresh exchange known asked meets =
-      subst (λ (now : Told). KnowsAt now (past ++ exchange ∷ []) (fed setting.objects setting.folders refresh exchange.answer))
+    step_goes : (step : RefreshStep) → StepKnowsAt now past step → (ask : Ask) (answer : Answer) → asked_of step ≡ Some ask
+        → StepKnowsAt (told_by now ask answer) (with_one ask answer) (step_fed setting.objects setting.folders step answer)
+    step_goes (steps.More refresh) known ask answer is =
+        subst (λ (own : Ask). Goes refresh own answer) (same_Some (ask_of refresh) ask is) (goes refresh known answer)
+    step_goes (steps.Read view) known ask answer is = absurd (cc is)
+    step_goes (steps.Current view own) known ask answer is = absurd (cc is)
+    step_goes (steps.Outdated list_no) known ask answer is = absurd (cc is)
+    step_goes (steps.Refused error) known ask answer is = absurd (cc is)
+
+  kept : (past : List Exchange) (step : RefreshStep) (exchange : Exchange) → Knows past step → asked_of step ≡ Some exchange.ask → Unit {0}
+      → Knows (past ++ exchange ∷ []) (step_fed setting.objects setting.folders step exchange.answer)
+  kept past step exchange known asked meets =
+      subst (λ (now : Told). StepKnowsAt now (past ++ exchange ∷ []) (step_fed setting.objects setting.folders step exchange.answer))
       (sym (told_of-push past exchange))
-      (goes (told_of past) past refresh known exchange.ask exchange.answer asked)
+      (step_goes (told_of past) past step known exchange.ask exchange.answer asked)
 
   -- ---- all exchanges
 
-  start_knows : (read : Bool) → Knows [] (if read then stages.Ready else stages.Looking)
-  start_knows true = refl
-  start_knows false = refl
+  start_knows : (view : View) (read : Bool) → Knows [] (if read then steps.Read view else steps.More stages.Reading)
+  start_knows view true = refl
+  start_knows view false = refl
 
   pub refresh_knows : (snapshot : View) (exchanges : List Exchange) → AreAsked setting (started snapshot) exchanges
       → Knows exchanges (behind setting (started snapshot) exchanges)
   refresh_knows snapshot exchanges asked =
-      holds_behind ask_of (fed setting.objects setting.folders) Knows (λ exchange. Unit {0}) kept (started snapshot) exchanges
-      (start_knows snapshot.read) asked (λ exchange among. tt)
+      holds_behind asked_of (step_fed setting.objects setting.folders) Knows (λ exchange. Unit {0}) kept (started snapshot) exchanges
+      (start_knows snapshot snapshot.read) asked (λ exchange among. tt)

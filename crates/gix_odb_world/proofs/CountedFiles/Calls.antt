@@ -11,7 +11,7 @@ use Rattle.odb_nodes.specs.declared.entry.Entry.{Entry}
 use Rattle.odb_nodes.specs.declared.meta.Kind.{Kind}
 use Rattle.odb_nodes.specs.declared.meta.Kind.TheVariants as kinds
 use Rattle.gix_odb_events.specs.PackId.{most_slots}
-use Rattle.gix_odb_events.specs.declared.listing.ListingRow.{ListingRow}
+use Rattle.gix_odb_events.specs.declared.listing.Listing.{Listing}
 use Rattle.gix_odb_packs.specs.ListOrder as lists
 use Rattle.gix_odb_events.specs.declared.answer.Answer.{Answer}
 use Rattle.gix_odb_events.specs.declared.answer.Answer.TheVariants as told
@@ -28,7 +28,7 @@ use Rattle.gix_odb_calls.specs.declared.init.Slots.{Slots}
 use Rattle.gix_odb_calls.specs.declared.init.Slots.TheVariants.{AsNeededByDiskState, Given}
 use Rattle.gix_odb_looks.specs.Exchange.{Exchange, WasTold}
 use Rattle.gix_odb_looks.specs.LookUpOrder.{Setting}
-use Rattle.gix_odb_looks.proofs.FoundLaws.Lists.{has_first, has_later}
+use Rattle.gix_odb_refresh.proofs.ListerLaws.Lists.{has_first, has_later}
 use Rattle.gix_odb_look_laws.specs.ListedFiles.{AreOfTree}
 use Rattle.gix_odb_refresh.specs.Asked.{AreSuited, IsSuited}
 use Rattle.gix_odb_look_laws.specs.ListerCalls.{AreCalls, AreCallsOfTree, Call, behind_calls}
@@ -58,9 +58,9 @@ module _ (setting : Setting) (slots : Slots) where
     pub of_tree : (tree : Tree) (coming : List Entry) → AreOfTree tree coming exchanges → AreCallsOfTree tree coming calls
 
   -- a listing that has ended stays so, and makes no call
-  rows_stay : (rows : List ListingRow) (exchanges : List Exchange) → list_behind folders (listed.Rows rows) exchanges ≡ listed.Rows rows
-  rows_stay rows [] = refl
-  rows_stay rows (exchange ∷ exchanges) = rows_stay rows exchanges
+  listing_stays : (listing : Listing) (exchanges : List Exchange) → list_behind folders (listed.Listed listing) exchanges ≡ listed.Listed listing
+  listing_stays listing [] = refl
+  listing_stays listing (exchange ∷ exchanges) = listing_stays listing exchanges
 
   broken_stays : (exchanges : List Exchange) → list_behind folders listed.Broken exchanges ≡ listed.Broken
   broken_stays [] = refl
@@ -116,17 +116,18 @@ module _ (setting : Setting) (slots : Slots) where
         subst (λ (ask : Ask). HasCalls (listed.More lister) (record { ask = ask; answer = exchange.answer } ∷ exchanges))
         (same_Some (asks.Disk (lists.ask_of lister)) exchange.ask asked.0)
         (one_call lister exchange.answer exchanges (λ step further. calls_of_listing step exchanges further) asked.1)
-    calls_of_listing (listed.Rows rows) (exchange ∷ exchanges) asked = no_calls (listed.Rows rows) (exchange ∷ exchanges) (rows_stay rows (exchange ∷ exchanges))
+    calls_of_listing (listed.Listed listing) (exchange ∷ exchanges) asked =
+        no_calls (listed.Listed listing) (exchange ∷ exchanges) (listing_stays listing (exchange ∷ exchanges))
     calls_of_listing listed.Broken (exchange ∷ exchanges) asked = no_calls listed.Broken (exchange ∷ exchanges) (broken_stays (exchange ∷ exchanges))
 
   -- ---- where the listing begins
 
   abbrev start : ListStep
-  start = listed.More (lists.started setting.objects)
+  start = listed.More (lists.started setting.objects 0)
 
   -- the listing of the folders begins
   abbrev BeginsListing : OpenState → Type 0
-  BeginsListing state = (percent : ℕ) × (minimum : ℕ) × (state ≡ opens.Listing (lists.started setting.objects) percent minimum)
+  BeginsListing state = (percent : ℕ) × (minimum : ℕ) × (state ≡ opens.Listing (lists.started setting.objects 0) percent minimum)
 
   -- none begins: what an opening asks for from there on leaves a listing where it was
   abbrev ListsNothing : OpenState → Type 0

@@ -17,8 +17,8 @@ use Rattle.gix_odb_looks.specs.Exchange.{AreAsked, behind}
 use Rattle.gix_odb_looks.specs.LookUpOrder as looks
 use Rattle.gix_odb_looks.specs.declared.look_up.LookUp.{LookUp}
 use Rattle.gix_odb_refresh.specs.RefreshOrder as refreshes
-use Rattle.gix_odb_refresh.specs.declared.refresh.Refresh.TheVariants as fronts
-use Rattle.gix_odb_refresh.specs.declared.refresh.Refresh.TheVariants.{Ready}
+use Rattle.gix_odb_refresh.specs.declared.refresh.Refresh.TheVariants.{Reading}
+use Rattle.gix_odb_refresh.specs.declared.refresh.RefreshStep.TheVariants as fronts
 use Rattle.gix_odb.specs.Contents.{or_itself, replacement_in, sought, sought_for}
 use Rattle.gix_odb.specs.CallOrder as calls
 use Rattle.gix_odb.specs.CallOrder.{fronted, writing}
@@ -106,7 +106,7 @@ module _ (first : Volume) (events : List Event) (e : Event) (handle : ℕ) (stor
       → ¬ (begun_with store modes (MakeCall (call_kinds.Write kind size bytes known)) ≡ Calling (Looking look))
   begins_no_write kind size bytes known look is = never (view_in_modes modes).read is
     where
-      never : (read : Bool) → ¬ (Calling (fronted (if read then Ready else fronts.Looking) (writing store.parts.objects store.hash kind size bytes known)) ≡ Calling (Looking look))
+      never : (read : Bool) → ¬ (Calling (fronted (if read then fronts.Read (view_in_modes modes) else fronts.More Reading) (writing store.parts.objects store.hash kind size bytes known)) ≡ Calling (Looking look))
       never true is = cc is
       never false is = cc is
 

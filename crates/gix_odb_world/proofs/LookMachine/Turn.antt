@@ -63,9 +63,8 @@ left_is : (head : LookHead) (stage : LookStage) (next : LookUp) → result_at he
 left_is head (stages.Done reply) next is = absurd (cc is)
 left_is head (stages.Trying trier part) next is = cc is
 left_is head (stages.Loose round call) next is = cc is
-left_is head (stages.Looking purpose notes) next is = cc is
-left_is head (stages.Listing lister base notes) next is = cc is
-left_is head (stages.Publishing listing notes) next is = cc is
+left_is head (stages.Refreshing refresh purpose notes) next is = cc is
+left_is head (stages.Checking list_no notes) next is = cc is
 
 module _ (first : Volume) (events : List Event) (handle : ℕ) (running : Running) (look : LookUp) (knows : IsLooking first events handle running look) where
   abbrev store : Store

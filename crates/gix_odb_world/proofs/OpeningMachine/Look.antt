@@ -64,7 +64,7 @@ module _ (trees : ℕ → Tree) (Failed : Type 0) (store : Store) (begun now : �
 
   pub listing_keeps : Directory → (percent minimum : ℕ) (step : ListStep) → Looks (listed_on percent minimum step)
   listing_keeps shown percent minimum (listed.More lister) = shown
-  listing_keeps shown percent minimum (listed.Rows rows) = by_number shown (slots_for percent minimum (length rows))
+  listing_keeps shown percent minimum (listed.Listed listing) = by_number shown (slots_for percent minimum (length listing.rows))
   listing_keeps shown percent minimum listed.Broken = tt
 
   -- ---- the look

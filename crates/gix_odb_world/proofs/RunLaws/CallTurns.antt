@@ -101,8 +101,8 @@ module _ (first : Volume) (events : List Event) (is : IsKnownRun first events) (
       }
   by (Calling (Refreshing refresh call)) knows asks =
       let setting = setting_in running.store in
-      let here : refreshes.ask_of (refresh_now past handle running.store running.modes running.begun) ≡ Some (parts.Core (events_of.Publish listing)) =
-      ap refreshes.ask_of (sym knows.refresh_is) ∙ asks in
+      let here : refreshes.asked_of (refresh_now past handle running.store running.modes running.begun) ≡ Some (parts.Core (events_of.Publish listing)) =
+      ap refreshes.asked_of (sym knows.refresh_is) ∙ asks in
       record {
         different = what_a_refresh_hands_on_can_happen setting view told knows.asked knows.distinct (events_of.Publish listing) here (present (opened 0 0 0 0)) 0;
         at = rows_are_of_the_folders setting view told knows.asked listing here;

@@ -38,11 +38,18 @@ use Rattle.gix_object.specs.declared.want.Want.{Want}
 use Rattle.gix_odb_calls.specs.declared.verdict.Verdict.{Verdict}
 use Rattle.gix_odb_calls.specs.declared.verdict.Verdict.TheVariants as verdicts
 use Rattle.gix_odb_looks.specs.Exchange.{AreAsked, Exchange, behind}
-use Rattle.gix_odb_looks.specs.LoadIndex.{of_refusal}
-use Rattle.gix_odb_looks.specs.LookUpOrder.{Setting, after_list, after_loose, ask_at, ask_of, at_folder, by_call, by_listed, by_look, by_published, by_reply, by_tried}
-use Rattle.gix_odb_looks.specs.LookUpOrder.{by_verdict, counted, ended, fed, fed_at, find_error, goal_of, is_unsettled, lister_fed, listing_from, load_refused}
+use Rattle.gix_odb_refresh.specs.LoadIndex.{of_refusal}
+use Rattle.gix_odb_refresh.specs.RefreshOrder.{by_listed, by_look, by_published}
+use Rattle.gix_odb_refresh.specs.RefreshOrder as refreshes
+use Rattle.gix_odb_packs.specs.ListOrder as lists
+use Rattle.gix_odb_refresh.specs.declared.refresh.Refresh.{Refresh}
+use Rattle.gix_odb_refresh.specs.declared.refresh.Refresh.TheVariants as fronts
+use Rattle.gix_odb_refresh.specs.declared.refresh.RefreshStep.{RefreshStep}
+use Rattle.gix_odb_refresh.specs.declared.refresh.RefreshStep.TheVariants as steps
+use Rattle.gix_odb_looks.specs.LookUpOrder.{Setting, after_list, after_loose, ask_at, ask_of, at_folder, by_call, by_checked, by_read, by_refresh, by_reply, by_tried}
+use Rattle.gix_odb_looks.specs.LookUpOrder.{by_verdict, counted, ended, fed, fed_at, find_error, goal_of, is_unsettled, listing_from, load_refused}
 use Rattle.gix_odb_looks.specs.LookUpOrder.{loose_ask, loose_fed, new_head, not_found, result_at, result_of, seen, started, trier_fed, try_view, unsettled, view_shown}
-use Rattle.gix_odb_looks.specs.LookUpOrder.{with_own, without_notes}
+use Rattle.gix_odb_looks.specs.LookUpOrder.{with_own, without_absent, without_notes}
 use Rattle.gix_odb_looks.specs.declared.look_up.LookHead.{LookHead}
 use Rattle.gix_odb_looks.specs.declared.look_up.LookStage.{LookStage}
 use Rattle.gix_odb_looks.specs.declared.look_up.LookStage.TheVariants as stages
@@ -78,18 +85,12 @@ PartAt number parts.Snapshot = Unit {0}
 PartAt number (parts.List own loose) = Unit {0}
 PartAt number (parts.Published own) = number ≡ Some own
 
-abbrev PurposeAt : Option ℕ → Purpose → Type 0
-PurposeAt number (purposes.First loose) = Unit {0}
-PurposeAt number (purposes.Check own) = number ≡ Some own
-PurposeAt number purposes.Again = Unit {0}
-
 module _ (setting : Setting) (want : Want) where
   abbrev IsAt : Option ℕ → LookStage → Type 0
   IsAt number (stages.Trying trier part) = PartAt number part
   IsAt number (stages.Loose round call) = PartAt number round.part
-  IsAt number (stages.Looking purpose notes) = PurposeAt number purpose
-  IsAt number (stages.Listing lister base notes) = Unit {0}
-  IsAt number (stages.Publishing listing notes) = Unit {0}
+  IsAt number (stages.Refreshing refresh purpose notes) = Unit {0}
+  IsAt number (stages.Checking own notes) = number ≡ Some own
   IsAt number (stages.Done reply) = ¬ (IsMiss want reply)
 
   record IsLookAt (number : Option ℕ) (look : LookUp) : Type 0 where
@@ -139,24 +140,11 @@ module _ (setting : Setting) (want : Want) where
         verdict_at round at (verdict_on head.want reply)
         (subst (λ (q : Want). EndsNoMiss q (verdict_on head.want reply)) own (verdict_is_no_miss head.want reply))
 
-    -- ---- listings
-
-    listed_at : (base : ℕ) (notes : Notes) (step : ListStep) → IsAt number (by_listed base notes step)
-    listed_at base notes (listed.More lister) = tt
-    listed_at base notes (listed.Rows rows) = tt
-    listed_at base notes listed.Broken = refused_at load_errors.Io
+    -- ---- looks at the core
 
     counted_at : (now : ℕ) (next : LookStage) → IsAt number next → (b : Bool) → IsAt number (cond b (unsettled head now) next)
     counted_at now next at true = refused_at _
     counted_at now next at false = at
-
-    -- ---- looks at the core
-
-    first_at : (loose : Bool) (view : View) (notes : Notes) (b : Bool)
-        → IsAt number (cond b (try_view setting head (parts.List view.list_no loose) view view.todo notes) (listing_from setting view.list_no notes))
-    first_at loose view notes true =
-        tried_at (parts.List view.list_no loose) tt (seek (goal_of setting head) (record { indices = view.snapshot.indices; todo = view.todo; notes = notes }))
-    first_at loose view notes false = tt
 
     -- a look-up that ended at a look whose view has the list
     record IsChecked (effect : Effect) (next : LookStage) : Type 0 where
@@ -183,12 +171,17 @@ module _ (setting : Setting) (want : Want) where
     check_at effect own at notes view shown false same =
         inl (counted_at view.list_no (listing_from setting view.list_no notes) tt (is_unsettled setting head view.list_no))
 
-    look_at : (effect : Effect) (purpose : Purpose) → PurposeAt number purpose → (notes : Notes) (view : Option View) → view_shown effect ≡ view
-        → IsAt number (by_look setting head purpose notes view) ⊎ IsChecked effect (by_look setting head purpose notes view)
-    look_at effect purpose at notes None shown = inl at
-    look_at effect (purposes.First loose) at notes (Some view) shown = inl (first_at loose view notes view.read)
-    look_at effect (purposes.Check own) at notes (Some view) shown = check_at effect own at notes view shown (view.list_no == own) refl
-    look_at effect purposes.Again at notes (Some view) shown = inl tt
+    look_at : (effect : Effect) (own : ℕ) → number ≡ Some own → (notes : Notes) (view : Option View) → view_shown effect ≡ view
+        → IsAt number (by_checked setting head own notes view) ⊎ IsChecked effect (by_checked setting head own notes view)
+    look_at effect own at notes None shown = inl at
+    look_at effect own at notes (Some view) shown = check_at effect own at notes view shown (view.list_no == own) refl
+
+    -- ---- the list of the core is read, or brought up to date
+
+    read_at : (purpose : Purpose) (view : View) (notes : Notes) → IsAt number (by_read setting head purpose view notes)
+    read_at (purposes.First loose) view notes =
+        tried_at (parts.List view.list_no loose) tt (seek (goal_of setting head) (record { indices = view.snapshot.indices; todo = view.todo; notes = notes }))
+    read_at purposes.Again view notes = tt
 
   -- ---- a publish
 
@@ -197,16 +190,44 @@ module _ (setting : Setting) (want : Want) where
       tried_at (Some view.list_no) head (parts.Published view.list_no) refl
       (seek (goal_of setting head) (record { indices = view.snapshot.indices; todo = view.todo; notes = notes }))
 
-  published_at : (number : Option ℕ) (head : LookHead) → head.want ≡ want → (listing : Listing) (notes : Notes) (effect : Effect)
-      → IsLookAt (list_by number (asks.Core (events.Publish listing)) (told.Core (Ok effect))) (by_published setting head listing notes effect)
-  published_at number head own listing notes (effects.Published view) = record { own = own; stage = viewed_at (with_own head) view notes }
-  published_at number head own listing notes (effects.Unchanged view) = record { own = own; stage = viewed_at head view notes }
-  published_at number head own listing notes (effects.Outdated list_no) =
-      record { own = own; stage = counted_at number head list_no (stages.Looking purposes.Again notes) tt (is_unsettled setting head list_no) }
-  published_at number head own listing notes (effects.Seen view) = record { own = own; stage = tt }
-  published_at number head own listing notes (effects.Reported view report) = record { own = own; stage = tt }
-  published_at number head own listing notes effects.Removed = record { own = own; stage = tt }
-  published_at number head own listing notes (effects.Put view stored) = record { own = own; stage = tt }
+  -- a step that hands on no list
+  abbrev IsNoList : RefreshStep → Type 0
+  IsNoList (steps.Current view own) = ⊥
+  IsNoList step = Unit {0}
+
+  step_at : (number : Option ℕ) (head : LookHead) → head.want ≡ want → (purpose : Purpose) (notes : Notes) (step : RefreshStep) → IsNoList step
+      → IsLookAt number (by_refresh setting head purpose notes step)
+  step_at number head own purpose notes (steps.More refresh) none = record { own = own; stage = tt }
+  step_at number head own purpose notes (steps.Read view) none = record { own = own; stage = read_at number head purpose view notes }
+  step_at number head own purpose notes (steps.Current view mine) none = absurd none
+  step_at number head own purpose notes (steps.Outdated list_no) none = record {
+    own = own;
+    stage = counted_at number head list_no (stages.Refreshing fronts.Reading purposes.Again notes) tt (is_unsettled setting head list_no);
+  }
+  step_at number head own purpose notes (steps.Refused error) none = record { own = own; stage = refused_at error }
+
+  published_at : (number : Option ℕ) (head : LookHead) → head.want ≡ want → (listing : Listing) (purpose : Purpose) (notes : Notes) (effect : Effect)
+      → IsLookAt (list_by number (asks.Core (events.Publish listing)) (told.Core (Ok effect))) (by_refresh setting head purpose notes (by_published listing effect))
+  published_at number head own listing purpose notes (effects.Published view) = record { own = own; stage = viewed_at (with_own head) view (without_absent notes) }
+  published_at number head own listing purpose notes (effects.Unchanged view) = record { own = own; stage = viewed_at head view (without_absent notes) }
+  published_at number head own listing purpose notes (effects.Outdated list_no) = step_at number head own purpose notes (steps.Outdated list_no) tt
+  published_at number head own listing purpose notes (effects.Seen view) = record { own = own; stage = tt }
+  published_at number head own listing purpose notes (effects.Reported view report) = record { own = own; stage = tt }
+  published_at number head own listing purpose notes effects.Removed = record { own = own; stage = tt }
+  published_at number head own listing purpose notes (effects.Put view stored) = record { own = own; stage = tt }
+
+  view_is_no_list : (view : View) (b : Bool) → IsNoList (cond b (steps.Read view) (steps.More (refreshes.listing_from setting.objects view.list_no)))
+  view_is_no_list view true = tt
+  view_is_no_list view false = tt
+
+  look_is_no_list : (view : Option View) → IsNoList (by_look setting.objects view)
+  look_is_no_list None = tt
+  look_is_no_list (Some view) = view_is_no_list view view.read
+
+  listed_is_no_list : (step : ListStep) → IsNoList (by_listed step)
+  listed_is_no_list (listed.More lister) = tt
+  listed_is_no_list (listed.Listed listing) = tt
+  listed_is_no_list listed.Broken = tt
 
   -- ---- an exchange
 
@@ -251,22 +272,35 @@ module _ (setting : Setting) (want : Want) where
         own = own;
         stage = subst (λ (n : Option ℕ). PartAt n round.part) (loose_lists_nothing number (disk_ask_of call) ask (told.Core answer) is) at;
       })
-  goes_at number head own (stages.Looking purpose notes) at ask answer is =
-      subst (λ (a : Ask). Goes number a answer (fed_at setting head (stages.Looking purpose notes) answer)) (same_Some (asks.Core events.Look) ask is) (by answer)
+  goes_at number head own (stages.Refreshing fronts.Reading purpose notes) at ask answer is =
+      subst (λ (a : Ask). Goes number a answer (fed_at setting head (stages.Refreshing fronts.Reading purpose notes) answer))
+      (same_Some (asks.Core events.Look) ask is) (inl (by answer))
     where
-      by : (told_it : Answer) → Goes number (asks.Core events.Look) told_it (fed_at setting head (stages.Looking purpose notes) told_it)
+      by : (told_it : Answer)
+          → IsLookAt (list_by number (asks.Core events.Look) told_it) (fed_at setting head (stages.Refreshing fronts.Reading purpose notes) told_it)
+      by (told.Disk own_answer) = record { own = own; stage = tt }
+      by (told.Core (Ok effect)) = step_at number head own purpose notes (by_look setting.objects (view_shown effect)) (look_is_no_list (view_shown effect))
+      by (told.Core (Err refusal)) = record { own = own; stage = refused_at (of_refusal refusal) }
+  goes_at number head own (stages.Refreshing (fronts.Listing lister) purpose notes) at ask (told.Disk answer) is =
+      inl
+      (step_at (list_by number ask (told.Disk answer)) head own purpose notes (by_listed (lists.fed setting.folders lister answer))
+      (listed_is_no_list (lists.fed setting.folders lister answer)))
+  goes_at number head own (stages.Refreshing (fronts.Listing lister) purpose notes) at ask (told.Core answer) is = inl (record { own = own; stage = tt })
+  goes_at number head own (stages.Refreshing (fronts.Publishing listing) purpose notes) at ask (told.Disk answer) is = inl (record { own = own; stage = tt })
+  goes_at number head own (stages.Refreshing (fronts.Publishing listing) purpose notes) at ask (told.Core (Ok effect)) is =
+      subst (λ (a : Ask). Goes number a (told.Core (Ok effect)) (by_refresh setting head purpose notes (by_published listing effect)))
+      (same_Some (asks.Core (events.Publish listing)) ask is)
+      (inl (published_at number head own listing purpose notes effect))
+  goes_at number head own (stages.Refreshing (fronts.Publishing listing) purpose notes) at ask (told.Core (Err refusal)) is =
+      inl (record { own = own; stage = refused_at (of_refusal refusal) })
+  goes_at number head own (stages.Checking list_no notes) at ask answer is =
+      subst (λ (a : Ask). Goes number a answer (fed_at setting head (stages.Checking list_no notes) answer)) (same_Some (asks.Core events.Look) ask is) (by answer)
+    where
+      by : (told_it : Answer) → Goes number (asks.Core events.Look) told_it (fed_at setting head (stages.Checking list_no notes) told_it)
       by (told.Disk own_answer) = inl (record { own = own; stage = at })
       by (told.Core (Ok effect)) =
-          looked number head own effect (by_look setting head purpose notes (view_shown effect)) (look_at number head effect purpose at notes (view_shown effect) refl)
+          looked number head own effect (by_checked setting head list_no notes (view_shown effect)) (look_at number head effect list_no at notes (view_shown effect) refl)
       by (told.Core (Err refusal)) = inl (record { own = own; stage = refused_at (of_refusal refusal) })
-  goes_at number head own (stages.Listing lister base notes) at ask (told.Disk answer) is =
-      inl (record { own = own; stage = listed_at (list_by number ask (told.Disk answer)) head base notes (lister_fed setting lister answer) })
-  goes_at number head own (stages.Listing lister base notes) at ask (told.Core answer) is = inl (record { own = own; stage = tt })
-  goes_at number head own (stages.Publishing listing notes) at ask (told.Disk answer) is = inl (record { own = own; stage = tt })
-  goes_at number head own (stages.Publishing listing notes) at ask (told.Core (Ok effect)) is =
-      subst (λ (a : Ask). Goes number a (told.Core (Ok effect)) (by_published setting head listing notes effect)) (same_Some (asks.Core (events.Publish listing)) ask is)
-      (inl (published_at number head own listing notes effect))
-  goes_at number head own (stages.Publishing listing notes) at ask (told.Core (Err refusal)) is = inl (record { own = own; stage = refused_at (of_refusal refusal) })
   goes_at number head own (stages.Done reply) at ask answer is = absurd (cc is)
 
   -- ---- a whole look-up
@@ -275,9 +309,8 @@ module _ (setting : Setting) (want : Want) where
   no_miss_at number head (stages.Done reply) at is = at (cc is)
   no_miss_at number head (stages.Trying trier part) at is = cc is
   no_miss_at number head (stages.Loose round call) at is = cc is
-  no_miss_at number head (stages.Looking purpose notes) at is = cc is
-  no_miss_at number head (stages.Listing lister base notes) at is = cc is
-  no_miss_at number head (stages.Publishing listing notes) at is = cc is
+  no_miss_at number head (stages.Refreshing refresh purpose notes) at is = cc is
+  no_miss_at number head (stages.Checking list_no notes) at is = cc is
 
   -- the same behind a list that had this number
   record Ends (number : Option ℕ) (exchanges : List Exchange) : Type 0 where
@@ -336,7 +369,7 @@ module _ (setting : Setting) (want : Want) where
 
   module _ (id : ObjectId) (snapshot : View) where
     starts_at : (b : Bool)
-        → IsAt None (cond b (try_view setting (new_head want id) parts.Snapshot snapshot [] without_notes) (stages.Looking (purposes.First true) without_notes))
+        → IsAt None (cond b (try_view setting (new_head want id) parts.Snapshot snapshot [] without_notes) (stages.Refreshing fronts.Reading (purposes.First true) without_notes))
     starts_at true =
         tried_at None (new_head want id) parts.Snapshot tt
         (seek (goal_of setting (new_head want id)) (record { indices = snapshot.snapshot.indices; todo = []; notes = without_notes }))

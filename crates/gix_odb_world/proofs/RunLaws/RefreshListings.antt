@@ -23,26 +23,27 @@ use Rattle.gix_odb_packs.specs.declared.lister.ListStep.TheVariants as steps
 use Rattle.gix_odb_looks.specs.Exchange.{Exchange, WasTold}
 use Rattle.gix_odb_looks.specs.LookUpOrder.{Setting}
 use Rattle.gix_odb_looks.specs.Shown.{folders_of}
-use Rattle.gix_odb_looks.proofs.FoundLaws.Lists.{all_longest_first, has_first, has_later}
+use Rattle.gix_odb_refresh.proofs.ListerLaws.Lists.{has_first, has_later}
 use Rattle.gix_odb_look_laws.specs.ListedFiles.{AreOfTree, IsToldOfTree, listed_in}
 use Rattle.gix_odb_look_laws.specs.ListerCalls.{IsRowSeen}
 use Rattle.gix_odb_look_laws.proofs.ListingLaws.OfTree.{ListsStage, ListsStep, listing_lists, starts_listing}
 use Rattle.gix_odb_look_laws.proofs.ListingLaws.Seen.{SeesLister, SeesStep, listing_sees, starts_seeing}
-use Rattle.gix_odb_refresh.specs.RefreshOrder.{ask_of, by_listed, by_look, by_published, fed, started, view_shown}
+use Rattle.gix_odb_refresh.specs.RefreshOrder.{asked_of, by_listed, by_look, by_published, listing_from, started, step_fed, view_shown}
 use Rattle.gix_odb_refresh.specs.Refreshed.{AreAsked, behind}
-use Rattle.gix_odb_refresh.specs.declared.refresh.Refresh.{Refresh}
+use Rattle.gix_odb_refresh.specs.declared.refresh.RefreshStep.{RefreshStep}
+use Rattle.gix_odb_refresh.specs.declared.refresh.RefreshStep.TheVariants as ends
 use Rattle.gix_odb_refresh.specs.declared.refresh.Refresh.TheVariants as stages
 
 same_part : (one other : Ask) → ◌≡◌ {A = Option Ask} (Some one) (Some other) → one ≡ other
 same_part one other is = same_Some one other is
 
 -- what holds of the rows of a listing that is at hand holds of those that are handed on
-published : (P : List ListingRow → Type 0) (own listing : Listing) → P own.rows → ask_of (stages.Publishing own) ≡ Some (parts.Core (events_of.Publish listing)) → P listing.rows
+published : (P : List ListingRow → Type 0) (own listing : Listing) → P own.rows → asked_of (ends.More (stages.Publishing own)) ≡ Some (parts.Core (events_of.Publish listing)) → P listing.rows
 published P own listing here is = let same : own ≡ listing = cc is in subst (λ (l : Listing). P l.rows) same here
 
 module _ (setting : Setting) where
-  abbrev fed_by : Refresh → Answer → Refresh
-  fed_by refresh answer = fed setting.objects setting.folders refresh answer
+  abbrev fed_by : RefreshStep → Answer → RefreshStep
+  fed_by step answer = step_fed setting.objects setting.folders step answer
 
   -- ---- what was seen
 
@@ -53,19 +54,19 @@ module _ (setting : Setting) where
     abbrev AreSeen : List ListingRow → Type 0
     AreSeen rows = All (IsRowSeen Told) rows
 
-    abbrev Sees : Refresh → Type 0
-    Sees (stages.Listing lister base) = SeesLister Told setting.folders lister
-    Sees (stages.Publishing listing) = AreSeen listing.rows
-    Sees refresh = Unit {0}
+    abbrev Sees : RefreshStep → Type 0
+    Sees (ends.More (stages.Listing lister)) = SeesLister Told setting.folders lister
+    Sees (ends.More (stages.Publishing listing)) = AreSeen listing.rows
+    Sees step = Unit {0}
 
-    listed_seen : (base : ℕ) (step : ListStep) → SeesStep Told setting.folders step → Sees (by_listed base step)
-    listed_seen base (steps.More lister) here = here
-    listed_seen base (steps.Rows rows) here = all_longest_first (IsRowSeen Told) rows here
-    listed_seen base steps.Broken here = tt
+    listed_seen : (step : ListStep) → SeesStep Told setting.folders step → Sees (by_listed step)
+    listed_seen (steps.More lister) here = here
+    listed_seen (steps.Listed listing) here = here
+    listed_seen steps.Broken here = tt
 
-    view_seen : (view : View) (b : Bool) → Sees (cond b stages.Ready (stages.Listing (lists.started setting.objects) view.list_no))
+    view_seen : (view : View) (b : Bool) → Sees (cond b (ends.Read view) (ends.More (listing_from setting.objects view.list_no)))
     view_seen view true = tt
-    view_seen view false = starts_seeing Told setting.folders setting.objects
+    view_seen view false = starts_seeing Told setting.folders setting.objects view.list_no
 
     look_seen : (view : Option View) → Sees (by_look setting.objects view)
     look_seen None = tt
@@ -77,39 +78,43 @@ module _ (setting : Setting) where
     published_seen listing here (effects.Outdated number) = tt
     published_seen listing here effect = here
 
-    fed_seen : (refresh : Refresh) → Sees refresh → (ask : Ask) (answer : Answer) → ask_of refresh ≡ Some ask → WasTold all ask answer → Sees (fed_by refresh answer)
-    fed_seen (stages.Listing lister base) here ask (told.Disk answer) is was =
-        listed_seen base (lists.fed setting.folders lister answer)
+    fed_seen : (step : RefreshStep) → Sees step → (ask : Ask) (answer : Answer) → asked_of step ≡ Some ask → WasTold all ask answer → Sees (fed_by step answer)
+    fed_seen (ends.More (stages.Listing lister)) here ask (told.Disk answer) is was =
+        listed_seen (lists.fed setting.folders lister answer)
         (listing_sees Told setting.folders lister.head here.rows lister.stage here.stage answer
         (subst (λ (a : Ask). WasTold all a (told.Disk answer)) (sym (same_part (parts.Disk (lists.ask_of lister)) ask is)) was))
-    fed_seen (stages.Listing lister base) here ask (told.Core answer) is was = here
-    fed_seen stages.Looking here ask (told.Disk answer) is was = tt
-    fed_seen stages.Looking here ask (told.Core (Ok effect)) is was = look_seen (view_shown effect)
-    fed_seen stages.Looking here ask (told.Core (Err refusal)) is was = tt
-    fed_seen (stages.Publishing listing) here ask (told.Disk answer) is was = here
-    fed_seen (stages.Publishing listing) here ask (told.Core (Ok effect)) is was = published_seen listing here effect
-    fed_seen (stages.Publishing listing) here ask (told.Core (Err refusal)) is was = tt
-    fed_seen stages.Ready here ask answer is was = tt
-    fed_seen (stages.Refused error) here ask answer is was = tt
+    fed_seen (ends.More (stages.Listing lister)) here ask (told.Core answer) is was = here
+    fed_seen (ends.More stages.Reading) here ask (told.Disk answer) is was = tt
+    fed_seen (ends.More stages.Reading) here ask (told.Core (Ok effect)) is was = look_seen (view_shown effect)
+    fed_seen (ends.More stages.Reading) here ask (told.Core (Err refusal)) is was = tt
+    fed_seen (ends.More (stages.Publishing listing)) here ask (told.Disk answer) is was = here
+    fed_seen (ends.More (stages.Publishing listing)) here ask (told.Core (Ok effect)) is was = published_seen listing here effect
+    fed_seen (ends.More (stages.Publishing listing)) here ask (told.Core (Err refusal)) is was = tt
+    fed_seen (ends.Read view) here ask answer is was = tt
+    fed_seen (ends.Current view own) here ask answer is was = tt
+    fed_seen (ends.Outdated list_no) here ask answer is was = tt
+    fed_seen (ends.Refused error) here ask answer is was = tt
 
-    seen_behind : (refresh : Refresh) → Sees refresh → (exchanges : List Exchange) → AreAsked setting refresh exchanges
-        → ((exchange : Exchange) → Contains exchanges exchange → Contains all exchange) → Sees (behind setting refresh exchanges)
-    seen_behind refresh here [] asked among = here
-    seen_behind refresh here (exchange ∷ exchanges) asked among =
-        seen_behind (fed_by refresh exchange.answer)
-        (fed_seen refresh here exchange.ask exchange.answer asked.0 (among exchange (has_first exchange exchanges)))
+    seen_behind : (step : RefreshStep) → Sees step → (exchanges : List Exchange) → AreAsked setting step exchanges
+        → ((exchange : Exchange) → Contains exchanges exchange → Contains all exchange) → Sees (behind setting step exchanges)
+    seen_behind step here [] asked among = here
+    seen_behind step here (exchange ∷ exchanges) asked among =
+        seen_behind (fed_by step exchange.answer)
+        (fed_seen step here exchange.ask exchange.answer asked.0 (among exchange (has_first exchange exchanges)))
         exchanges asked.1 (λ other is. among other (has_later exchange exchanges other is))
 
-    start_seen : (b : Bool) → Sees (cond b stages.Ready stages.Looking)
-    start_seen true = tt
-    start_seen false = tt
+    start_seen : (view : View) (b : Bool) → Sees (cond b (ends.Read view) (ends.More stages.Reading))
+    start_seen view true = tt
+    start_seen view false = tt
 
-    handed_seen : (refresh : Refresh) → Sees refresh → (listing : Listing) → ask_of refresh ≡ Some (parts.Core (events_of.Publish listing)) → AreSeen listing.rows
-    handed_seen stages.Looking here listing is = absurd (cc is)
-    handed_seen (stages.Listing lister base) here listing is = absurd (cc is)
-    handed_seen (stages.Publishing own) here listing is = published AreSeen own listing here is
-    handed_seen stages.Ready here listing is = absurd (cc is)
-    handed_seen (stages.Refused error) here listing is = absurd (cc is)
+    handed_seen : (step : RefreshStep) → Sees step → (listing : Listing) → asked_of step ≡ Some (parts.Core (events_of.Publish listing)) → AreSeen listing.rows
+    handed_seen (ends.More stages.Reading) here listing is = absurd (cc is)
+    handed_seen (ends.More (stages.Listing lister)) here listing is = absurd (cc is)
+    handed_seen (ends.More (stages.Publishing own)) here listing is = published AreSeen own listing here is
+    handed_seen (ends.Read view) here listing is = absurd (cc is)
+    handed_seen (ends.Current view own) here listing is = absurd (cc is)
+    handed_seen (ends.Outdated list_no) here listing is = absurd (cc is)
+    handed_seen (ends.Refused error) here listing is = absurd (cc is)
 
   -- ---- what one tree lists
 
@@ -120,19 +125,19 @@ module _ (setting : Setting) where
     abbrev AreAll : List ListingRow → Type 0
     AreAll rows = rows ≡ longest_first total
 
-    abbrev Lists : List Entry → Refresh → Type 0
-    Lists coming (stages.Listing lister base) = ListsStage tree setting.folders total coming lister.head lister.stage
-    Lists coming (stages.Publishing listing) = AreAll listing.rows
-    Lists coming refresh = Unit {0}
+    abbrev Lists : List Entry → RefreshStep → Type 0
+    Lists coming (ends.More (stages.Listing lister)) = ListsStage tree setting.folders total coming lister.head lister.stage
+    Lists coming (ends.More (stages.Publishing listing)) = AreAll listing.rows
+    Lists coming step = Unit {0}
 
-    listed_so : (coming : List Entry) (base : ℕ) (step : ListStep) → ListsStep tree setting.folders total coming step → Lists coming (by_listed base step)
-    listed_so coming base (steps.More lister) here = here
-    listed_so coming base (steps.Rows rows) here = ap longest_first here
-    listed_so coming base steps.Broken here = tt
+    listed_so : (coming : List Entry) (step : ListStep) → ListsStep tree setting.folders total coming step → Lists coming (by_listed step)
+    listed_so coming (steps.More lister) here = here
+    listed_so coming (steps.Listed listing) here = here
+    listed_so coming steps.Broken here = tt
 
-    view_listed : (coming : List Entry) (view : View) (b : Bool) → Lists coming (cond b stages.Ready (stages.Listing (lists.started setting.objects) view.list_no))
+    view_listed : (coming : List Entry) (view : View) (b : Bool) → Lists coming (cond b (ends.Read view) (ends.More (listing_from setting.objects view.list_no)))
     view_listed coming view true = tt
-    view_listed coming view false = starts_listing tree setting.folders setting.objects coming
+    view_listed coming view false = starts_listing tree setting.folders setting.objects view.list_no coming
 
     look_listed : (coming : List Entry) (view : Option View) → Lists coming (by_look setting.objects view)
     look_listed coming None = tt
@@ -144,53 +149,57 @@ module _ (setting : Setting) where
     published_listed coming listing here (effects.Outdated number) = tt
     published_listed coming listing here effect = here
 
-    fed_listed : (coming : List Entry) (refresh : Refresh) → Lists coming refresh → (ask : Ask) (answer : Answer) (left : List Entry) → ask_of refresh ≡ Some ask
-        → IsToldOfTree tree coming ask answer left → Lists left (fed_by refresh answer)
-    fed_listed coming (stages.Listing lister base) here ask (told.Disk answer) left is of =
-        listed_so left base (lists.fed setting.folders lister answer)
+    fed_listed : (coming : List Entry) (step : RefreshStep) → Lists coming step → (ask : Ask) (answer : Answer) (left : List Entry) → asked_of step ≡ Some ask
+        → IsToldOfTree tree coming ask answer left → Lists left (fed_by step answer)
+    fed_listed coming (ends.More (stages.Listing lister)) here ask (told.Disk answer) left is of =
+        listed_so left (lists.fed setting.folders lister answer)
         (listing_lists tree setting.folders total lister.head coming lister.stage here answer left
         (subst (λ (a : Ask). IsToldOfTree tree coming a (told.Disk answer) left) (sym (same_part (parts.Disk (lists.ask_of lister)) ask is)) of))
-    fed_listed coming (stages.Listing lister base) here ask (told.Core answer) left is of =
+    fed_listed coming (ends.More (stages.Listing lister)) here ask (told.Core answer) left is of =
         absurd (subst (λ (a : Ask). IsToldOfTree tree coming a (told.Core answer) left) (sym (same_part (parts.Disk (lists.ask_of lister)) ask is)) of)
-    fed_listed coming stages.Looking here ask (told.Disk answer) left is of = tt
-    fed_listed coming stages.Looking here ask (told.Core (Ok effect)) left is of = look_listed left (view_shown effect)
-    fed_listed coming stages.Looking here ask (told.Core (Err refusal)) left is of = tt
-    fed_listed coming (stages.Publishing listing) here ask (told.Disk answer) left is of = here
-    fed_listed coming (stages.Publishing listing) here ask (told.Core (Ok effect)) left is of = published_listed left listing here effect
-    fed_listed coming (stages.Publishing listing) here ask (told.Core (Err refusal)) left is of = tt
-    fed_listed coming stages.Ready here ask answer left is of = tt
-    fed_listed coming (stages.Refused error) here ask answer left is of = tt
+    fed_listed coming (ends.More stages.Reading) here ask (told.Disk answer) left is of = tt
+    fed_listed coming (ends.More stages.Reading) here ask (told.Core (Ok effect)) left is of = look_listed left (view_shown effect)
+    fed_listed coming (ends.More stages.Reading) here ask (told.Core (Err refusal)) left is of = tt
+    fed_listed coming (ends.More (stages.Publishing listing)) here ask (told.Disk answer) left is of = here
+    fed_listed coming (ends.More (stages.Publishing listing)) here ask (told.Core (Ok effect)) left is of = published_listed left listing here effect
+    fed_listed coming (ends.More (stages.Publishing listing)) here ask (told.Core (Err refusal)) left is of = tt
+    fed_listed coming (ends.Read view) here ask answer left is of = tt
+    fed_listed coming (ends.Current view own) here ask answer left is of = tt
+    fed_listed coming (ends.Outdated list_no) here ask answer left is of = tt
+    fed_listed coming (ends.Refused error) here ask answer left is of = tt
 
-    listed_behind : (coming : List Entry) (refresh : Refresh) → Lists coming refresh → (exchanges : List Exchange) → AreAsked setting refresh exchanges
-        → AreOfTree tree coming exchanges → (left : List Entry) × Lists left (behind setting refresh exchanges)
-    listed_behind coming refresh here [] asked of = (coming, here)
-    listed_behind coming refresh here (exchange ∷ exchanges) asked of =
-        listed_behind of.0 (fed_by refresh exchange.answer) (fed_listed coming refresh here exchange.ask exchange.answer of.0 asked.0 of.1) exchanges asked.1 of.2
+    listed_behind : (coming : List Entry) (step : RefreshStep) → Lists coming step → (exchanges : List Exchange) → AreAsked setting step exchanges
+        → AreOfTree tree coming exchanges → (left : List Entry) × Lists left (behind setting step exchanges)
+    listed_behind coming step here [] asked of = (coming, here)
+    listed_behind coming step here (exchange ∷ exchanges) asked of =
+        listed_behind of.0 (fed_by step exchange.answer) (fed_listed coming step here exchange.ask exchange.answer of.0 asked.0 of.1) exchanges asked.1 of.2
 
-    start_listed : (b : Bool) → Lists [] (cond b stages.Ready stages.Looking)
-    start_listed true = tt
-    start_listed false = tt
+    start_listed : (view : View) (b : Bool) → Lists [] (cond b (ends.Read view) (ends.More stages.Reading))
+    start_listed view true = tt
+    start_listed view false = tt
 
-    handed_listed : (left : List Entry) (refresh : Refresh) → Lists left refresh → (listing : Listing) → ask_of refresh ≡ Some (parts.Core (events_of.Publish listing))
+    handed_listed : (left : List Entry) (step : RefreshStep) → Lists left step → (listing : Listing) → asked_of step ≡ Some (parts.Core (events_of.Publish listing))
         → AreAll listing.rows
-    handed_listed left stages.Looking here listing is = absurd (cc is)
-    handed_listed left (stages.Listing lister base) here listing is = absurd (cc is)
-    handed_listed left (stages.Publishing own) here listing is = published AreAll own listing here is
-    handed_listed left stages.Ready here listing is = absurd (cc is)
-    handed_listed left (stages.Refused error) here listing is = absurd (cc is)
+    handed_listed left (ends.More stages.Reading) here listing is = absurd (cc is)
+    handed_listed left (ends.More (stages.Listing lister)) here listing is = absurd (cc is)
+    handed_listed left (ends.More (stages.Publishing own)) here listing is = published AreAll own listing here is
+    handed_listed left (ends.Read view) here listing is = absurd (cc is)
+    handed_listed left (ends.Current view own) here listing is = absurd (cc is)
+    handed_listed left (ends.Outdated list_no) here listing is = absurd (cc is)
+    handed_listed left (ends.Refused error) here listing is = absurd (cc is)
 
   -- ---- the laws
 
   module _ (snapshot : View) (exchanges : List Exchange) (asked : AreAsked setting (started snapshot) exchanges) (listing : Listing)
-      (is : ask_of (behind setting (started snapshot) exchanges) ≡ Some (parts.Core (events_of.Publish listing))) where
+      (is : asked_of (behind setting (started snapshot) exchanges) ≡ Some (parts.Core (events_of.Publish listing))) where
     -- Each row's index was itself a file in one of the exchanges, and its pack's path showed a file in one.
     pub rows_of_a_refresh_were_seen : All (IsRowSeen (λ ask answer. WasTold exchanges (parts.Disk ask) (told.Disk answer))) listing.rows
     rows_of_a_refresh_were_seen =
         handed_seen exchanges (behind setting (started snapshot) exchanges)
-        (seen_behind exchanges (started snapshot) (start_seen exchanges snapshot.read) exchanges asked (λ exchange among. among)) listing is
+        (seen_behind exchanges (started snapshot) (start_seen exchanges snapshot snapshot.read) exchanges asked (λ exchange among. among)) listing is
 
     -- Where one tree answered all calls of the disk, the rows are the tree's listed files, in the order in which they are tried.
     pub rows_of_a_refresh_are_those_of_the_tree : (tree : Tree) → AreOfTree tree [] exchanges → listing.rows ≡ longest_first (listed_in tree (folders_of setting))
     rows_of_a_refresh_are_those_of_the_tree tree of =
-        let lists_so = listed_behind tree [] (started snapshot) (start_listed tree snapshot.read) exchanges asked of in
+        let lists_so = listed_behind tree [] (started snapshot) (start_listed tree snapshot snapshot.read) exchanges asked of in
         handed_listed tree lists_so.0 (behind setting (started snapshot) exchanges) lists_so.1 listing is

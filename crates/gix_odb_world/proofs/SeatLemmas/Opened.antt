@@ -108,7 +108,7 @@ module _ (reply : Reply) where
 
   by_listing : (percent minimum : ℕ) (step : ListStep) → listed_on percent minimum step ≡ opens.Done reply → refuses_opening reply ≡ true
   by_listing percent minimum (listed.More lister) is = absurd (cc is)
-  by_listing percent minimum (listed.Rows rows) is = by_number (slots_for percent minimum (length rows)) is
+  by_listing percent minimum (listed.Listed listing) is = by_number (slots_for percent minimum (length listing.rows)) is
   by_listing percent minimum listed.Broken is = by_error (opening_errors.LoadIndex load_errors.Io) is
 
 pub answered_refuses : (objects : Path) (folders : List Path) (slots : Slots) (state : OpenState) (answer : DiskAnswer) (reply : Reply) → IsOn state

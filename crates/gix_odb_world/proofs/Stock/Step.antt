@@ -196,7 +196,7 @@ module _ (first : Volume) (past : List Event) (e : Event) (lawful : IsLawful fir
       handed_by (Opening (opens.Done reply)) is knows = absurd (cc is)
       handed_by (Calling (Refused error)) is knows = absurd (cc is)
       handed_by (Calling (Refreshing refresh call)) is knows =
-          let asked = ap refreshes.ask_of (sym knows.refresh_is) ∙ is in
+          let asked = ap refreshes.asked_of (sym knows.refresh_is) ∙ is in
           let setting = setting_in running.store in
           let snapshot = view_then past number running.modes.core running.begun in
           let exchanges = told_since past number running.begun in (

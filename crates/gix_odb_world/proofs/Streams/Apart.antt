@@ -104,13 +104,13 @@ asks_own first events handle running (Calling (Refreshing refresh call)) knows a
     let setting = setting_in running.store in
     let exchanges = told_since events handle running.begun in
     let snapshot = view_then events handle running.modes.core running.begun in
-    let asked : refreshes.ask_of (refresh_now events handle running.store running.modes running.begun) ≡ Some (parts.Disk ask) =
-    ap refreshes.ask_of (sym knows.refresh_is) ∙ is in
+    let asked : refreshes.asked_of (refresh_now events handle running.store running.modes running.begun) ≡ Some (parts.Disk ask) =
+    ap refreshes.asked_of (sym knows.refresh_is) ∙ is in
     record {
       opens = λ path same. refreshes_open_folders_of_packs setting snapshot exchanges knows.asked knows.well.suited path (asked ∙ ap (λ a. Some (parts.Disk a)) same);
       on = λ dir on_it.
           let own = streams_of_refreshes_are_their_own setting snapshot exchanges knows.asked dir
-          (on_stream (refreshes.ask_of (refresh_now events handle running.store running.modes running.begun)) ask asked dir on_it) in
+          (on_stream (refreshes.asked_of (refresh_now events handle running.store running.modes running.begun)) ask asked dir on_it) in
           (own.stream, own.told, own.number);
     }
 asks_own first events handle running (Calling (Writing call)) knows ask is =

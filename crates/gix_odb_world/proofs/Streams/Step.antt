@@ -22,7 +22,8 @@ use Rattle.gix_odb_looks.specs.Exchange.{Exchange}
 use Rattle.gix_odb_looks.specs.OpenStream.{IsOnStream, IsStreamOf, given_by}
 use Rattle.gix_odb_looks.specs.Stream.{Stream, opens, reads, stream_by, stream_in}
 use Rattle.gix_odb_looks.proofs.StreamLaws.Calls.{new_stream_is_another}
-use Rattle.gix_odb_looks.proofs.StreamLaws.Exchanges.{reads-given, stream_in-push}
+use Rattle.gix_odb_looks.proofs.StreamLaws.Exchanges.{reads-given}
+use Rattle.gix_odb_refresh.proofs.ListerLaws.Streams.{stream_in-push}
 use Rattle.gix_odb_looks.proofs.StreamLaws.Directories.{stream_of_a_directory_begins, stream_of_a_directory_goes_on, stream_of_a_directory_is_kept_by_another_state}
 use Rattle.gix_odb.specs.Contents.{folder_list}
 use Rattle.gix_odb_world.specs.AtWork.{Running, Store}

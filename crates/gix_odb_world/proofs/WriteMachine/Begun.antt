@@ -15,10 +15,11 @@ use Rattle.gix_odb_calls.specs.declared.query.Query.{Query}
 use Rattle.gix_odb_looks.specs.LookUpOrder as looks
 use Rattle.gix_odb_looks.specs.declared.look_up.LookUp.{LookUp}
 use Rattle.gix_odb_looks.specs.LookUpOrder.{Setting}
-use Rattle.gix_odb_refresh.specs.RefreshOrder.{started}
+use Rattle.gix_odb_refresh.specs.RefreshOrder.{IsReady, started}
 use Rattle.gix_odb_refresh.specs.Refreshed.{AreAsked, behind, turns_of}
 use Rattle.gix_odb_refresh.specs.declared.refresh.Refresh.{Refresh}
-use Rattle.gix_odb_refresh.specs.declared.refresh.Refresh.TheVariants as fronts
+use Rattle.gix_odb_refresh.specs.declared.refresh.Refresh.TheVariants.{Reading}
+use Rattle.gix_odb_refresh.specs.declared.refresh.RefreshStep.TheVariants as fronts
 use Rattle.gix_odb_refresh.proofs.RefreshLaws.{a_read_snapshot_is_ready}
 use Rattle.gix_odb.specs.CallOrder as calls
 use Rattle.gix_odb.specs.CallOrder.{fronted}
@@ -82,7 +83,7 @@ module _ (first : Volume) (events : List Event) (e : Event) (handle : ℕ) (stor
     no_turns = ap (turns_of setting (refresh_begun whole handle modes number)) none
 
     -- the list was not read
-    begins_in_front : started (view_in_modes modes) ≡ fronts.Looking → IsInFront first whole handle running fronts.Looking write
+    begins_in_front : started (view_in_modes modes) ≡ fronts.More Reading → IsInFront first whole handle running Reading write
     begins_in_front unread = record {
       write = w;
       of = record { into = refl; hashed = refl; fits = start.sized; task = refl };
@@ -90,7 +91,6 @@ module _ (first : Volume) (events : List Event) (e : Event) (handle : ℕ) (stor
       since = since;
       distinct = start.distinct;
       refresh_is = sym (now_is ∙ unread);
-      more = (_, refl);
       asked = subst (AreAsked setting (refresh_begun whole handle modes number)) (sym none) tt;
       turns = ap length (sym none);
       well = answered_at_first first events e handle store;
@@ -99,7 +99,7 @@ module _ (first : Volume) (events : List Event) (e : Event) (handle : ℕ) (stor
     }
 
     -- or it was
-    begins_itself : started (view_in_modes modes) ≡ fronts.Ready → IsAtOwnWrite first whole handle running write
+    begins_itself : started (view_in_modes modes) ≡ fronts.Read (view_in_modes modes) → IsAtOwnWrite first whole handle running write
     begins_itself ready = record {
       writing = record {
         write = w;
@@ -113,13 +113,13 @@ module _ (first : Volume) (events : List Event) (e : Event) (handle : ℕ) (stor
       };
       task = refl;
       since = since;
-      ready = now_is ∙ ready;
+      ready = subst IsReady (sym (now_is ∙ ready)) tt;
       turns = sym (ap (λ n. n + 0) no_turns);
       short = λ entries most. subst (λ n. n ≤ turns_of_lap modes.slots (length (folder_list store.parts)) entries) (sym no_turns) (omega arith);
     }
 
     by_read : (read : Bool) → (view_in_modes modes).read ≡ read → (state : WriteState)
-        → Calling (fronted (if read then fronts.Ready else fronts.Looking) write) ≡ work_of state → KnowsOfWrite first whole handle running state
+        → Calling (fronted (if read then fronts.Read (view_in_modes modes) else fronts.More Reading) write) ≡ work_of state → KnowsOfWrite first whole handle running state
     by_read true is (Own call) at =
         let same : write ≡ call = cc at in
         subst (IsAtOwnWrite first whole handle running) same (begins_itself (a_read_snapshot_is_ready (view_in_modes modes) is))
@@ -127,10 +127,10 @@ module _ (first : Volume) (events : List Event) (e : Event) (handle : ℕ) (stor
     by_read true is (Unlisted error) at = absurd (cc at)
     by_read false is (InFront refresh call) at =
         let same : write ≡ call = cc at in
-        let looks : fronts.Looking ≡ refresh = cc at in
+        let looks : Reading ≡ refresh = cc at in
         subst (λ (r : Refresh). IsInFront first whole handle running r call) looks
-        (subst (IsInFront first whole handle running fronts.Looking) same
-        (begins_in_front (ap (λ (b : Bool). if b then fronts.Ready else fronts.Looking) is)))
+        (subst (IsInFront first whole handle running Reading) same
+        (begins_in_front (ap (λ (b : Bool). if b then fronts.Read (view_in_modes modes) else fronts.More Reading) is)))
     by_read false is (Own call) at = absurd (cc at)
     by_read false is (Unlisted error) at = absurd (cc at)
 

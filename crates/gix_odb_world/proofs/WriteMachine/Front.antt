@@ -1,5 +1,5 @@
 -- A turn of what stands in front of a write: what it asks for, and what it comes to.
-use Rattle.std.proofs.Common.{◌≡◌, inl, ℕ, ◌+◌, ◌*◌, ◌<◌, ◌≤◌, List, [], ◌∷◌, ◌++◌, length, Some, None, Err, refl, sym, ◌∙◌, ap, subst, arith}
+use Rattle.std.proofs.Common.{◌≡◌, inl, ℕ, ◌+◌, ◌*◌, ◌<◌, ◌≤◌, List, [], ◌∷◌, ◌++◌, length, Option, Some, None, Err, refl, sym, ◌∙◌, ap, subst, arith}
 use Rattle.std.proofs.lemmas.List.{length_push}
 use Rattle.odb_asks.specs.MemDisk.{Volume}
 use Rattle.odb_asks.specs.Ask.{answer_now}
@@ -20,10 +20,12 @@ use Rattle.gix_odb_events.specs.declared.event.Refusal.TheVariants as refusals
 use Rattle.gix_odb_looks.specs.Exchange.{Exchange}
 use Rattle.gix_odb_looks.specs.LookUpOrder.{Setting}
 use Rattle.gix_odb_looks.proofs.HandedLaws.{IsOwnStream}
+use Rattle.gix_odb_refresh.specs.RefreshOrder.{IsReady}
 use Rattle.gix_odb_refresh.specs.RefreshOrder as refreshes
 use Rattle.gix_odb_refresh.specs.Refreshed.{AreAsked, IsCaused}
 use Rattle.gix_odb_refresh.specs.declared.refresh.Refresh.{Refresh}
-use Rattle.gix_odb_refresh.specs.declared.refresh.Refresh.TheVariants as fronts
+use Rattle.gix_odb_refresh.specs.declared.refresh.RefreshStep.{RefreshStep}
+use Rattle.gix_odb_refresh.specs.declared.refresh.RefreshStep.TheVariants as fronts
 use Rattle.gix_odb_refresh.proofs.AskedLemmas.{asked-push}
 use Rattle.gix_odb_refresh.proofs.RefreshLaws.{a_refresh_takes_at_most_a_lap, only_unread_stores_are_refused, refreshes_change_no_file, refused_refreshes_have_causes}
 use Rattle.gix_odb_refresh.proofs.RefreshLaws.{streams_of_refreshes_are_their_own}
@@ -71,31 +73,35 @@ module _ (first : Volume) (events : List Event) (handle : ℕ) (running : Runnin
   abbrev exchanges : List Exchange
   exchanges = told_since events handle running.begun
 
-  abbrev begun_at : Refresh
+  abbrev begun_at : RefreshStep
   begun_at = refresh_begun events handle running.modes running.begun
 
   -- ---- what it asks for
 
-  module _ (ask : Ask) (is : refreshes.ask_of refresh ≡ Some ask) where
-    asks_now : refreshes.ask_of (refresh_now events handle store running.modes running.begun) ≡ Some ask
-    asks_now = ap refreshes.ask_of (sym knows.refresh_is) ∙ is
+  -- it asks this
+  abbrev pub Asks : Ask → Type 0
+  Asks ask = ◌≡◌ {A = Option Ask} (Some (refreshes.ask_of refresh)) (Some ask)
 
-  pub front_quiet : (ask : DiskAsk) → refreshes.ask_of refresh ≡ Some (parts.Disk ask) → change_by (disk_after first events) ask ≡ None
+  module _ (ask : Ask) (is : Asks ask) where
+    asks_now : refreshes.asked_of (refresh_now events handle store running.modes running.begun) ≡ Some ask
+    asks_now = ap refreshes.asked_of (sym knows.refresh_is) ∙ is
+
+  pub front_quiet : (ask : DiskAsk) → Asks (parts.Disk ask) → change_by (disk_after first events) ask ≡ None
   front_quiet ask is =
       change_by-quiet (disk_after first events) ask
       (refreshes_change_no_file setting snapshot exchanges knows.asked ask (asks_now (parts.Disk ask) is) (tree_of (disk_after first events).state))
 
-  pub front_takes : (ask : DiskAsk) → refreshes.ask_of refresh ≡ Some (parts.Disk ask) → HasTurn first events handle running running.task ask
+  pub front_takes : (ask : DiskAsk) → Asks (parts.Disk ask) → HasTurn first events handle running running.task ask
   front_takes ask is =
       subst (λ task. HasTurn first events handle running task ask) (sym knows.of.task)
       (quiet_turn first events handle running (MakeCall (call_to_write knows.write)) ask (inl (asks_now (parts.Disk ask) is)) (front_quiet ask is))
 
-  pub front_happens : (event : CoreEvent) → refreshes.ask_of refresh ≡ Some (parts.Core event) → (shape : Shape) (seat : ℕ) → CanHappen shape seat event
+  pub front_happens : (event : CoreEvent) → Asks (parts.Core event) → (shape : Shape) (seat : ℕ) → CanHappen shape seat event
   front_happens event is shape seat =
       what_a_refresh_hands_on_can_happen setting snapshot exchanges knows.asked knows.distinct event (asks_now (parts.Core event) is) shape seat
 
   -- a stream that it reads on is its own
-  own_stream : (ask : DiskAsk) → refreshes.ask_of refresh ≡ Some (parts.Disk ask) → (dir : ℕ) → ask ≡ asks.NextEntry dir → IsOwnStream exchanges dir
+  own_stream : (ask : DiskAsk) → Asks (parts.Disk ask) → (dir : ℕ) → ask ≡ asks.NextEntry dir → IsOwnStream exchanges dir
   own_stream ask is dir same =
       streams_of_refreshes_are_their_own setting snapshot exchanges knows.asked dir
       (inl (asks_now (parts.Disk ask) is ∙ ap (λ a. Some (parts.Disk a)) same))
@@ -106,18 +112,18 @@ module _ (first : Volume) (events : List Event) (handle : ℕ) (running : Runnin
     abbrev whole : List Event
     whole = events ++ e ∷ []
 
-    abbrev Comes : Asked → Refresh → Type 0
+    abbrev Comes : Asked → RefreshStep → Type 0
     Comes asked next = MachineComes first events e handle running writing KnowsOfWrite asked (front_result call next)
 
     -- a turn in which it was told something, and which changed nothing
-    module _ (exchange : Exchange) (asked_it : refreshes.ask_of refresh ≡ Some exchange.ask)
+    module _ (exchange : Exchange) (asked_it : Asks exchange.ask)
         (told_is : told_since whole handle running.begun ≡ exchanges ++ exchange ∷ [])
         (well : IsAnsweredWell first whole handle store running.begun) (refused : AreRefused whole handle running.modes.core running.begun)
         (nothing : IsTurnOf handle e → e.entry.change ≡ None) where
-      abbrev next : Refresh
+      abbrev next : RefreshStep
       next = refreshes.fed store.parts.objects store.parts.folders refresh exchange.answer
 
-      abbrev begun_now : Refresh
+      abbrev begun_now : RefreshStep
       begun_now = refresh_begun whole handle running.modes running.begun
 
       abbrev all : List Exchange
@@ -128,14 +134,14 @@ module _ (first : Volume) (events : List Event) (handle : ℕ) (running : Runnin
 
       stands : next ≡ refresh_now whole handle store running.modes running.begun
       stands =
-          ap (λ r. refreshes.fed store.parts.objects store.parts.folders r exchange.answer) knows.refresh_is
+          ap (λ r. refreshes.step_fed store.parts.objects store.parts.folders r exchange.answer) knows.refresh_is
           ∙ sym (now_more events e handle store running.modes running.begun knows.since exchange told_is)
 
       all_asked : AreAsked setting begun_now all
       all_asked =
           subst (λ r. AreAsked setting r all) (sym begins)
           (subst (AreAsked setting begun_at) (sym told_is)
-          (asked-push refreshes.ask_of (refreshes.fed store.parts.objects store.parts.folders) begun_at exchanges exchange knows.asked (asks_now exchange.ask asked_it)))
+          (asked-push refreshes.asked_of (refreshes.step_fed store.parts.objects store.parts.folders) begun_at exchanges exchange knows.asked (asks_now exchange.ask asked_it)))
 
       longer : length all ≡ running.turns + 1
       longer = let had = knows.turns in let more = length_push exchanges exchange in ap length told_is ∙ omega (arith, had, more)
@@ -167,9 +173,9 @@ module _ (first : Volume) (events : List Event) (handle : ℕ) (running : Runnin
       -- with the modes that the turn left, which have the same core
       module _ (asked : Asked) (core : (modes_after asked running.modes).core ≡ running.modes.core) (slots : (modes_after asked running.modes).slots ≡ running.modes.slots) where
         -- it goes on
-        goes_on : (own : Refresh) → next ≡ own → ((ask : Ask) × (refreshes.ask_of own ≡ Some ask))
+        goes_on : (own : Refresh) → next ≡ fronts.More own
             → MachineComes first events e handle running writing KnowsOfWrite asked (Err (InFront own call))
-        goes_on own same more = (
+        goes_on own same = (
           record {
             write = knows.write;
             of = record { into = knows.of.into; hashed = knows.of.hashed; fits = knows.of.fits; task = knows.of.task };
@@ -177,8 +183,7 @@ module _ (first : Volume) (events : List Event) (handle : ℕ) (running : Runnin
             since = since;
             distinct = knows.distinct;
             refresh_is =
-                subst (λ n. own ≡ refresh_now whole handle store (record running.modes { core = n }) running.begun) (sym core) (sym same ∙ stands);
-            more = more;
+                subst (λ n. fronts.More own ≡ refresh_now whole handle store (record running.modes { core = n }) running.begun) (sym core) (sym same ∙ stands);
             asked = subst (λ n. AreAsked setting (refresh_begun whole handle (record running.modes { core = n }) running.begun) all) (sym core) all_asked;
             turns = sym longer;
             well = record { suited = well.suited; answered = well.answered; within = well.within };
@@ -189,8 +194,8 @@ module _ (first : Volume) (events : List Event) (handle : ℕ) (running : Runnin
         )
 
         -- the write begins
-        ready : next ≡ fronts.Ready → MachineComes first events e handle running writing KnowsOfWrite asked (Err (Own (write_at knows.write (Making 0))))
-        ready same =
+        ready : (own : RefreshStep) → IsReady own → next ≡ own → MachineComes first events e handle running writing KnowsOfWrite asked (Err (Own (write_at knows.write (Making 0))))
+        ready own is_ready same =
             let front : turns_in_front whole handle store running.modes running.begun ≡ length all = front_asked whole handle store running.modes running.begun all_asked in
             let long = longer in
             let counted : running.turns + 1 ≡ turns_in_front whole handle store running.modes running.begun + 0 = omega (arith, front, long) in (
@@ -207,7 +212,9 @@ module _ (first : Volume) (events : List Event) (handle : ℕ) (running : Runnin
                 };
                 task = knows.of.task;
                 since = since;
-                ready = subst (λ n. refresh_now whole handle store (record running.modes { core = n }) running.begun ≡ fronts.Ready) (sym core) (sym stands ∙ same);
+                ready =
+                    subst (λ n. IsReady (refresh_now whole handle store (record running.modes { core = n }) running.begun)) (sym core)
+                    (subst IsReady (sym same ∙ stands) is_ready);
                 turns = subst (λ n. running.turns + 1 ≡ turns_in_front whole handle store (record running.modes { core = n }) running.begun + 0) (sym core) counted;
                 short = λ entries most.
                     subst (λ n. turns_in_front whole handle store (record running.modes { core = n }) running.begun
@@ -240,17 +247,23 @@ module _ (first : Volume) (events : List Event) (handle : ℕ) (running : Runnin
               cause = caused error (refused_refreshes_have_causes setting seen all all_asked well.suited error (sym stands ∙ same));
             })
 
-        goes : (own : Refresh) → next ≡ own → Comes asked own
-        goes fronts.Looking same = goes_on fronts.Looking same (_, refl)
-        goes (fronts.Listing lister base) same = goes_on (fronts.Listing lister base) same (_, refl)
-        goes (fronts.Publishing listing) same = goes_on (fronts.Publishing listing) same (_, refl)
-        goes fronts.Ready same =
-            subst (λ (c : LooseCall). MachineComes first events e handle running writing KnowsOfWrite asked (own_result (result_of_write c))) (sym knows.is) (ready same)
+        -- its own turns begin
+        begins_own : (own : RefreshStep) → IsReady own → next ≡ own
+            → MachineComes first events e handle running writing KnowsOfWrite asked (own_result (result_of_write call))
+        begins_own own is_ready same =
+            subst (λ (c : LooseCall). MachineComes first events e handle running writing KnowsOfWrite asked (own_result (result_of_write c))) (sym knows.is)
+            (ready own is_ready same)
+
+        goes : (own : RefreshStep) → next ≡ own → Comes asked own
+        goes (fronts.More more) same = goes_on more same
+        goes (fronts.Read view) same = begins_own (fronts.Read view) tt same
+        goes (fronts.Current view mine) same = begins_own (fronts.Current view mine) tt same
+        goes (fronts.Outdated list_no) same = begins_own (fronts.Outdated list_no) tt same
         goes (fronts.Refused error) same = ends error same
 
     -- ---- a call of the disk, and an event of the core of its store
 
-    pub front_comes_on_disk : IsRunning first events handle running → (ask : DiskAsk) → refreshes.ask_of refresh ≡ Some (parts.Disk ask)
+    pub front_comes_on_disk : IsRunning first events handle running → (ask : DiskAsk) → Asks (parts.Disk ask)
         → IsTurnAsking first events e handle running (Some (parts.Disk ask))
         → Comes (OfDisk ask (answer_now (disk_after first events) ask))
         (refreshes.fed store.parts.objects store.parts.folders refresh (told.Disk (answer_now (disk_after first events) ask)))
@@ -264,7 +277,7 @@ module _ (first : Volume) (events : List Event) (handle : ℕ) (running : Runnin
         (λ turn_it. turn.change ∙ front_quiet ask is) (OfDisk ask answer) refl refl
         (refreshes.fed store.parts.objects store.parts.folders refresh (told.Disk answer)) refl
 
-    pub front_comes_on_core : (event : CoreEvent) → refreshes.ask_of refresh ≡ Some (parts.Core event)
+    pub front_comes_on_core : (event : CoreEvent) → Asks (parts.Core event)
         → IsTurnAsking first events e handle running (Some (parts.Core event))
         → Comes (OfCore running.modes.core handle event (answer_behind (history_at (cores_after events) running.modes.core) handle event))
         (refreshes.fed store.parts.objects store.parts.folders refresh (told.Core (answer_behind (history_at (cores_after events) running.modes.core) handle event)))

@@ -9,8 +9,8 @@ use Rattle.gix_odb_events.specs.declared.answer.Ask.{Ask}
 use Rattle.gix_odb_looks.specs.LookUpOrder.{loose_ask}
 use Rattle.gix_odb_refresh.specs.RefreshOrder as refreshes
 use Rattle.gix_odb_refresh.specs.declared.refresh.Refresh.{Refresh}
-use Rattle.gix_odb_refresh.specs.declared.refresh.Refresh.TheVariants as fronts
-use Rattle.gix_odb_refresh.specs.declared.refresh.Refresh.TheVariants.{Ready}
+use Rattle.gix_odb_refresh.specs.declared.refresh.RefreshStep.{RefreshStep}
+use Rattle.gix_odb_refresh.specs.declared.refresh.RefreshStep.TheVariants as fronts
 use Rattle.gix_odb.specs.CallOrder.{result_of_write, unlisted, written_on}
 use Rattle.gix_odb.specs.declared.call_state.CallState.TheVariants.{Refreshing, Refused, Writing}
 use Rattle.gix_odb_world.specs.declared.work.Work.{Work}
@@ -32,7 +32,7 @@ work_of (Own call) = Calling (Writing call)
 work_of (Unlisted error) = Calling (Refused error)
 
 abbrev pub write_asks : WriteState → Option Ask
-write_asks (InFront refresh call) = refreshes.ask_of refresh
+write_asks (InFront refresh call) = Some (refreshes.ask_of refresh)
 write_asks (Own call) = loose_ask (disk_ask_of call)
 write_asks (Unlisted error) = None
 
@@ -40,11 +40,11 @@ abbrev pub own_result : Result Reply LooseCall → Result Reply WriteState
 own_result (Ok reply) = Ok reply
 own_result (Err call) = Err (Own call)
 
--- what a write comes to by what stands in front of it then
-abbrev pub front_result : LooseCall → Refresh → Result Reply WriteState
-front_result call Ready = own_result (result_of_write call)
+-- what a write comes to by a step of the refresh before it
+abbrev pub front_result : LooseCall → RefreshStep → Result Reply WriteState
+front_result call (fronts.More refresh) = Err (InFront refresh call)
 front_result call (fronts.Refused error) = Ok (unlisted error)
-front_result call refresh = Err (InFront refresh call)
+front_result call step = own_result (result_of_write call)
 
 abbrev pub write_fed : Store → WriteState → Option Answer → Result Reply WriteState
 write_fed store (InFront refresh call) None = Err (InFront refresh call)

@@ -16,12 +16,11 @@ use Rattle.gix_odb_loose.specs.declared.write_at_hand.Onward.TheVariants.{Stage}
 use Rattle.gix_odb_loose.specs.declared.write_at_hand.WriteJob.{WriteJob}
 use Rattle.gix_odb_loose.specs.declared.write_order.WriteStage.{WriteStage}
 use Rattle.gix_odb_loose.specs.declared.write_order.WriteStage.TheVariants as write_stages
-use Rattle.gix_odb_events.specs.declared.answer.Ask.{Ask}
 use Rattle.gix_odb_events.specs.PackFiles.{same_path}
-use Rattle.gix_odb_refresh.specs.RefreshOrder as refreshes
+use Rattle.gix_odb_refresh.specs.RefreshOrder.{IsReady}
 use Rattle.gix_odb_refresh.specs.Refreshed.{AreAsked}
 use Rattle.gix_odb_refresh.specs.declared.refresh.Refresh.{Refresh}
-use Rattle.gix_odb_refresh.specs.declared.refresh.Refresh.TheVariants.{Ready}
+use Rattle.gix_odb_refresh.specs.declared.refresh.RefreshStep.TheVariants.{More}
 use Rattle.gix_odb.specs.Contents.{folder_list}
 use Rattle.gix_odb_runs.specs.Event.{Event}
 pub use Rattle.gix_odb_world.specs.Machines.Writes.{InFront, Own, Unlisted, WriteState, front_result, own_result, work_of, write_asks, write_fed, writes_by, writing}
@@ -100,15 +99,14 @@ pub record IsTask (running : Running) (w : ToWrite) : Type 0 where
 -- ---- what stands in front of a write
 
 -- The refresh in front of a write stands behind what its handle was told since the write began, each of which answered what it asked then, and
--- had a turn for each. It has more to ask, and has changed nothing.
+-- had a turn for each. It has changed nothing.
 pub record IsInFront (first : Volume) (events : List Event) (handle : ℕ) (running : Running) (refresh : Refresh) (call : LooseCall) : Type 0 where
   pub write : ToWrite
   pub of : IsTask running write
   pub is : call ≡ write_at write (write_stages.Making 0)
   pub since : running.begun ≤ length events
   pub distinct : IsDistinct same_path (folder_list running.store.parts)
-  pub refresh_is : refresh ≡ refresh_now events handle running.store running.modes running.begun
-  pub more : (ask : Ask) × (refreshes.ask_of refresh ≡ Some ask)
+  pub refresh_is : More refresh ≡ refresh_now events handle running.store running.modes running.begun
   pub asked : AreAsked (setting_in running.store) (refresh_begun events handle running.modes running.begun) (told_since events handle running.begun)
   pub turns : running.turns ≡ length (told_since events handle running.begun)
   pub well : IsAnsweredWell first events handle running.store running.begun
@@ -120,7 +118,7 @@ pub record IsAtOwnWrite (first : Volume) (events : List Event) (handle : ℕ) (r
   pub writing : IsWriting first events handle running call
   pub task : running.task ≡ MakeCall (call_to_write writing.write)
   pub since : running.begun ≤ length events
-  pub ready : refresh_now events handle running.store running.modes running.begun ≡ Ready
+  pub ready : IsReady (refresh_now events handle running.store running.modes running.begun)
   pub turns : running.turns ≡ turns_in_front events handle running.store running.modes running.begun + writing.own
   pub short : (entries : ℕ) → HasAtMost (tree_at first events) running.store.parts running.begun (length events) entries
       → turns_in_front events handle running.store running.modes running.begun ≤ turns_of_lap running.modes.slots (length (folder_list running.store.parts)) entries

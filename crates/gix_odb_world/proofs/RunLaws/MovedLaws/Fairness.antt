@@ -24,7 +24,8 @@ use Rattle.gix_odb_looks.specs.Stream.{Stream, stream_by, stream_in}
 use Rattle.gix_odb_look_laws.proofs.CoreLaws.{core_answers_are_fair}
 use Rattle.gix_odb_looks.proofs.FoundLaws.{what_is_handed_was_shown}
 use Rattle.gix_odb_looks.proofs.StreamLaws.Directories.{looked_file_is_listed}
-use Rattle.gix_odb_looks.proofs.StreamLaws.Exchanges.{next_answer_is_fair, stream_in-push}
+use Rattle.gix_odb_looks.proofs.StreamLaws.Exchanges.{next_answer_is_fair}
+use Rattle.gix_odb_refresh.proofs.ListerLaws.Streams.{stream_in-push}
 use Rattle.gix_odb_refresh.specs.RefreshOrder as refreshes
 use Rattle.gix_odb_refresh.proofs.RefreshLaws.{what_a_refresh_hands_on_is_of_the_folders}
 use Rattle.gix_odb.specs.Contents.{folder_list, sought}
@@ -256,7 +257,7 @@ module _ (first : Volume) (events : List Event) (is : IsKnownRun first events) (
                 stock = stock_at (MakeCall (call_to_write knows.write)) knows.of.task;
                 handed =
                     what_a_refresh_hands_on_is_of_the_folders (setting_in was.store) (view_then past handle was.modes.core was.begun) (told_since past handle was.begun) knows.asked
-                    (ShownSince first past was.store) was.store.hash event (ap refreshes.ask_of (sym knows.refresh_is) ∙ asked);
+                    (ShownSince first past was.store) was.store.hash event (ap refreshes.asked_of (sym knows.refresh_is) ∙ asked);
               }
           by (Calling (Writing call)) knows asked = absurd (no_event (disk_ask_of call) event asked)
           by (Calling (Refused error)) knows asked = absurd knows

@@ -1,11 +1,11 @@
-//! What a look-up tells whose event was refused by the core of its store.
+//! The error of a call whose event was refused by the core of its store.
 ghost use Rattle.std.specs.Prelude.{◌≡◌};
-ghost use Rattle.gix_odb_looks.specs.LoadIndex.{of_refusal};
+ghost use Rattle.gix_odb_refresh.specs.LoadIndex.{of_refusal};
 
 use gix_odb_calls::load_index::Error;
 use gix_odb_events::Refusal;
 
-/// The error of a look-up whose event was refused.
+/// The error of a call whose event was refused.
 pub fn of_refusal(refusal: Refusal) -> Error
     ensures error { result ≡ of_refusal refusal }
 {

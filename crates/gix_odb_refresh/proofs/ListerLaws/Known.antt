@@ -1,5 +1,5 @@
 -- A listing of the folders of packs has only rows of indices of the folders.
-use Rattle.std.proofs.Common.{◌≡◌, ◌++◌, ℕ, List, [], ◌∷◌, All, slice_get, Option, Some, None, refl, ap}
+use Rattle.std.proofs.Common.{◌≡◌, ◌++◌, ℕ, List, [], ◌∷◌, All, Contains, slice_get, Option, Some, None, refl, ap}
 use Rattle.std.proofs.lemmas.Bool.{and_parts}
 use Rattle.std.proofs.lemmas.List.Elements.{All-head, All-nil, All-push, All-tail}
 use Rattle.odb_base.specs.Path.{Path}
@@ -13,16 +13,40 @@ use Rattle.odb_asks.specs.declared.ask.DiskAnswer.TheVariants as answers
 use Rattle.gix_odb_events.specs.declared.listing.ListingRow.{ListingRow}
 use Rattle.gix_odb_packs.specs.ListOrder.{at_paths, behind_folder, by_index, by_kind, by_pack, by_pack_kind, fed, fed_at, more, opened, read, row_of}
 use Rattle.gix_odb_packs.specs.ListOrder.{started, with_row}
-use Rattle.gix_odb_packs.specs.PackFolder.{firsts, index_paths, is_file, is_index_entry, is_index_name}
+use Rattle.gix_odb_packs.specs.PackFolder.{firsts, index_paths, is_file, is_index_entry, is_index_name, pack_folder}
 use Rattle.gix_odb_packs.specs.declared.lister.ListHead.{ListHead}
 use Rattle.gix_odb_packs.specs.declared.lister.ListStage.{ListStage}
 use Rattle.gix_odb_packs.specs.declared.lister.ListStage.TheVariants as stages
 use Rattle.gix_odb_packs.specs.declared.lister.ListStep.{ListStep}
+use Rattle.gix_odb_packs.specs.declared.lister.ListStep.TheVariants as steps
 use Rattle.gix_odb_packs.specs.declared.lister.Lister.{Lister}
-use Rattle.gix_odb_looks.specs.LookUpOrder.{Setting}
-use Rattle.gix_odb_looks.specs.Shown.{IsIndexPath, IsIndexRow}
-use Rattle.gix_odb_looks.proofs.FoundLaws.Known.{KnowsListHead, KnowsListStage, KnowsListStep, KnowsLister}
-use Rattle.gix_odb_looks.proofs.FoundLaws.Lists.{all_kept, at_place, has_first, has_later}
+use Rattle.gix_odb_refresh.specs.Store.{Setting}
+use Rattle.gix_odb_refresh.specs.Shown.{IsIndexPath, IsIndexRow, folders_of}
+use Rattle.gix_odb_refresh.proofs.ListerLaws.Lists.{all_kept, all_longest_first, at_place, has_first, has_later}
+
+module _ (setting : Setting) where
+  -- the folder of packs of one of the folders is listed, and the rows are of indices
+  pub record KnowsListHead (head : ListHead) : Type 0 where
+    pub folder : Path
+    pub among : Contains (folders_of setting) folder
+    pub is : head.folder ≡ pack_folder folder
+    pub rows : All (IsIndexRow setting) head.rows
+
+  abbrev pub KnowsListStage : ListStage → Type 0
+  KnowsListStage (stages.Index path left) = IsIndexPath setting path × All (IsIndexPath setting) left
+  KnowsListStage (stages.Pack row left) = IsIndexRow setting row × All (IsIndexPath setting) left
+  KnowsListStage stage = Unit {0}
+
+  pub record KnowsLister (lister : Lister) : Type 0 where
+    pub head : KnowsListHead lister.head
+    pub stage : KnowsListStage lister.stage
+
+  abbrev pub KnowsListStep : ListStep → Type 0
+  KnowsListStep (steps.More lister) = KnowsLister lister
+  KnowsListStep (steps.Listed listing) = All (IsIndexRow setting) listing.rows
+  KnowsListStep steps.Broken = Unit {0}
+
+-- ---- what goes on
 
 module _ (setting : Setting) where
   abbrev Knows : ListStep → Type 0
@@ -41,8 +65,8 @@ module _ (setting : Setting) where
       })
       (firsts entries)
 
-  pub started_known : KnowsLister setting (started setting.objects)
-  started_known = record {
+  pub started_known : (base : ℕ) → KnowsLister setting (started setting.objects base)
+  started_known base = record {
     head = record {
       folder = setting.objects;
       among = has_first setting.objects setting.folders;
@@ -57,7 +81,7 @@ module _ (setting : Setting) where
     more_known stage here = record { head = known; stage = here }
 
     behind_known : (next : Option Path) → slice_get setting.folders head.next ≡ next → Knows (behind_folder head next)
-    behind_known None is = known.rows
+    behind_known None is = all_longest_first (IsIndexRow setting) head.rows known.rows
     behind_known (Some folder) is = record {
       head = record {
         folder = folder;

@@ -9,7 +9,7 @@ use Rattle.gix_odb_events.specs.declared.answer.Answer.{Answer}
 use Rattle.gix_odb_events.specs.declared.answer.Answer.TheVariants as told
 use Rattle.gix_odb_events.specs.declared.answer.Ask.{Ask}
 use Rattle.gix_odb_events.specs.declared.answer.Ask.TheVariants as asks
-use Rattle.gix_odb_looks.specs.Exchange.{Exchange}
+use Rattle.gix_odb_refresh.specs.Exchange.{Exchange}
 
 -- the folder that was opened last, the number of its stream, and the entries that it gave since
 pub record Stream : Type 0 where

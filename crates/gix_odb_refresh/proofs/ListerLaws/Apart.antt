@@ -12,7 +12,7 @@ use Rattle.odb_nodes.specs.declared.entry.Entry.{Entry}
 use Rattle.odb_nodes.specs.declared.meta.Kind.{Kind}
 use Rattle.odb_nodes.specs.declared.meta.Kind.TheVariants as kinds
 use Rattle.odb_nodes.specs.declared.meta.Meta.{Meta}
-use Rattle.gix_odb_events.specs.PackFiles.{same_path}
+use Rattle.gix_odb_events.specs.PackFiles.{HasDifferentPaths, same_path}
 use Rattle.gix_odb_events.specs.declared.listing.ListingRow.{ListingRow}
 use Rattle.gix_odb_packs.specs.ListOrder.{at_paths, behind_folder, by_index, by_kind, by_pack, by_pack_kind, fed_at, opened, read, started}
 use Rattle.gix_odb_packs.specs.ListOrder.{with_row}
@@ -24,8 +24,8 @@ use Rattle.gix_odb_packs.specs.declared.lister.ListStep.{ListStep}
 use Rattle.gix_odb_packs.specs.declared.lister.ListStep.TheVariants as ends
 use Rattle.gix_odb_packs.specs.declared.lister.Lister.{Lister}
 use Rattle.gix_odb_packs.proofs.ReachLemmas.{none_in}
-use Rattle.gix_odb_looks.proofs.HandedLaws.Differ.{Contains-without, Differ, Differ-append, Differ-without, places_differ, push_same}
-use Rattle.gix_odb_looks.proofs.HandedLaws.Rows.{index_paths_differ, index_paths_of_folder, row_paths}
+use Rattle.gix_odb_refresh.proofs.ListerLaws.Differ.{Contains-without, Differ, Differ-append, Differ-without, places_differ, push_same}
+use Rattle.gix_odb_refresh.proofs.ListerLaws.Rows.{HasDifferentPaths-longest_first, index_paths_differ, index_paths_of_folder, row_paths}
 
 module _ (folders : List Path) where
   -- a folder that is still to be opened, from a place on
@@ -65,7 +65,7 @@ module _ (folders : List Path) where
 
   abbrev pub StepDiffers : ListStep → Type 0
   StepDiffers (ends.More lister) = ListerDiffers lister
-  StepDiffers (ends.Rows rows) = Differ (row_paths rows)
+  StepDiffers (ends.Listed listing) = HasDifferentPaths listing.rows
   StepDiffers ends.Broken = Unit {0}
 
   -- ---- paths that stay apart
@@ -114,8 +114,8 @@ module _ (folders : List Path) where
     folders_differ i j folder other before first later same =
         places_differ (objects ∷ folders) distinct i j folder other (omega arith) first later (push_same folder other _ _ same).0
 
-    pub starts_apart : ListerDiffers (started objects)
-    starts_apart = record {
+    pub starts_apart : (base : ℕ) → ListerDiffers (started objects base)
+    starts_apart base = record {
       apart = record {
         differ = tt;
         other = λ path folder name among ahead same. none_in path among;
@@ -126,7 +126,7 @@ module _ (folders : List Path) where
 
     behind_differs : (head : ListHead) → IsApart head.folder head.next (row_paths head.rows) → (next : Option Path) → slice_get folders head.next ≡ next
         → StepDiffers (behind_folder head next)
-    behind_differs head apart None is = apart.differ
+    behind_differs head apart None is = HasDifferentPaths-longest_first head.rows apart.differ
     behind_differs head apart (Some folder) is = record {
       apart = record {
         differ = apart.differ;

@@ -8,7 +8,7 @@ use Rattle.std.proofs.lemmas.Option.{get_or_from_slice_get, slice_get_within}
 use Rattle.odb_base.specs.Path.{Path}
 use Rattle.gix_odb_events.specs.PackFiles.{same_path}
 use Rattle.gix_odb_events.proofs.SamePathLaws.{same_path-true, same_path-self}
-use Rattle.gix_odb_looks.proofs.FoundLaws.Lists.{has_first, has_later}
+use Rattle.gix_odb_refresh.proofs.ListerLaws.Lists.{has_first, has_later}
 
 abbrev pub Differ : {A : Type 0} → List A → Type 0
 Differ [] = Unit {0}

@@ -24,8 +24,8 @@ use Rattle.gix_odb_packs.specs.declared.lister.ListStage.TheVariants as stages
 use Rattle.gix_odb_packs.specs.declared.lister.ListStep.{ListStep}
 use Rattle.gix_odb_packs.specs.declared.lister.ListStep.TheVariants as ends
 use Rattle.gix_odb_packs.specs.declared.lister.Lister.{Lister}
-use Rattle.gix_odb_looks.specs.Laps.{HasAtMost}
-use Rattle.gix_odb_looks.specs.Stream.{Stream, opens, stream_by}
+use Rattle.gix_odb_refresh.specs.Laps.{HasAtMost}
+use Rattle.gix_odb_refresh.specs.Stream.{Stream, opens, stream_by}
 
 -- ---- the indices of a folder are no more than its entries
 

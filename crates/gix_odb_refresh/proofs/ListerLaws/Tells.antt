@@ -1,5 +1,6 @@
 -- Why a listing of the folders of packs breaks.
-use Rattle.std.proofs.Common.{ℕ, List, [], ◌∷◌, slice_get, Option, Some, None, ◌⊎◌, refl, subst, inl, inr}
+use Rattle.std.proofs.Common.{◌≡◌, ℕ, List, [], ◌∷◌, ◌++◌, slice_get, Option, Some, None, ◌⊎◌, refl, subst, inl, inr}
+use Rattle.std.proofs.lemmas.List.Elements.{Contains-append_left}
 use Rattle.odb_base.specs.Path.{Path}
 use Rattle.odb_asks.specs.declared.ask.DiskAnswer.{DiskAnswer}
 use Rattle.odb_asks.specs.declared.ask.DiskAnswer.TheVariants as answers
@@ -14,7 +15,9 @@ use Rattle.gix_odb_events.specs.declared.listing.ListingRow.{ListingRow}
 use Rattle.gix_odb_packs.specs.ListOrder.{ask_at, ask_of, at_paths, behind_folder, by_index, by_kind, by_pack}
 use Rattle.gix_odb_packs.specs.ListOrder.{by_pack_kind, fed, fed_at, opened, read, with_row}
 use Rattle.gix_odb_packs.specs.PackFolder.{index_paths}
+use Rattle.gix_odb_events.specs.declared.answer.Answer.{Answer}
 use Rattle.gix_odb_events.specs.declared.answer.Answer.TheVariants as told
+use Rattle.gix_odb_events.specs.declared.answer.Ask.{Ask}
 use Rattle.gix_odb_events.specs.declared.answer.Ask.TheVariants as asks
 use Rattle.gix_odb_packs.specs.declared.lister.ListHead.{ListHead}
 use Rattle.gix_odb_packs.specs.declared.lister.ListStage.{ListStage}
@@ -22,12 +25,23 @@ use Rattle.gix_odb_packs.specs.declared.lister.ListStage.TheVariants as stages
 use Rattle.gix_odb_packs.specs.declared.lister.ListStep.{ListStep}
 use Rattle.gix_odb_packs.specs.declared.lister.ListStep.TheVariants as ends
 use Rattle.gix_odb_packs.specs.declared.lister.Lister.{Lister}
-use Rattle.gix_odb_looks.specs.Caused.{IsBlocked, IsNoFolder}
-use Rattle.gix_odb_looks.specs.Exchange.{Exchange, HasFailed, WasTold}
-use Rattle.gix_odb_looks.specs.LookUpOrder.{Setting}
-use Rattle.gix_odb_looks.specs.True.{Suits}
-use Rattle.gix_odb_looks.proofs.CauseLaws.Folders.{IsAtFolder}
-use Rattle.gix_odb_looks.proofs.CauseLaws.Pasts.{HasFailed-from_told}
+use Rattle.gix_odb_refresh.specs.Caused.{IsBlocked, IsNoFolder}
+use Rattle.gix_odb_refresh.specs.Exchange.{Exchange, HasFailed, WasTold}
+use Rattle.gix_odb_refresh.specs.Store.{Setting}
+use Rattle.gix_odb_refresh.specs.Suited.{Suits}
+use Rattle.gix_odb_refresh.proofs.ListerLaws.Folders.{IsAtFolder}
+
+-- ---- failures that exchanges tell
+
+pub HasFailed-more : (past more : List Exchange) → HasFailed past → HasFailed (past ++ more)
+HasFailed-more past more is = record { exchange = is.exchange; among = Contains-append_left past more is.exchange is.among; failed = is.failed }
+
+pub HasFailed-from_told : (exchanges : List Exchange) (ask : Ask) (answer : Answer) → WasTold exchanges ask answer
+    → answer ≡ told.Disk (answers.Refused disk_errors.Failed)
+    → HasFailed exchanges
+HasFailed-from_told exchanges ask answer was is = record { exchange = record { ask = ask; answer = answer }; among = was; failed = is }
+
+-- ---- why a listing breaks
 
 -- a stream that is closed since it could not be read on tells a failure
 abbrev pub Breaks : List Exchange → ListStage → Type 0
@@ -41,7 +55,7 @@ Breaks exchanges (stages.Pack row left) = Unit {0}
 module _ (setting : Setting) (exchanges : List Exchange) where
   abbrev pub ListedTells : ListStep → Type 0
   ListedTells (ends.More lister) = Breaks exchanges lister.stage
-  ListedTells (ends.Rows rows) = Unit {0}
+  ListedTells (ends.Listed listing) = Unit {0}
   ListedTells ends.Broken = HasFailed exchanges ⊎ IsNoFolder setting exchanges
 
   module _ (folders : List Path) where

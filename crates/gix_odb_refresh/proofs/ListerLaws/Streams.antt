@@ -22,8 +22,8 @@ use Rattle.gix_odb_packs.specs.declared.lister.ListStage.TheVariants as stages
 use Rattle.gix_odb_packs.specs.declared.lister.ListStep.{ListStep}
 use Rattle.gix_odb_packs.specs.declared.lister.ListStep.TheVariants as ends
 use Rattle.gix_odb_packs.specs.declared.lister.Lister.{Lister}
-use Rattle.gix_odb_looks.specs.Exchange.{Exchange}
-use Rattle.gix_odb_looks.specs.Stream.{Stream, reads, stream_by}
+use Rattle.gix_odb_refresh.specs.Exchange.{Exchange}
+use Rattle.gix_odb_refresh.specs.Stream.{Stream, reads, stream_by, stream_from, stream_in}
 
 -- ---- which stream exchanges opened
 
@@ -77,6 +77,15 @@ pub left_open-push : (past : List Exchange) (exchange : Exchange)
     → left_open (past ++ exchange ∷ []) ≡ open_by (left_open past) exchange.ask exchange.answer
 left_open-push past exchange = open_from-push None past exchange
 
+-- behind one exchange more
+stream_from-push : (before : Option Stream) (past : List Exchange) (exchange : Exchange)
+    → stream_from before (past ++ exchange ∷ []) ≡ stream_by (stream_from before past) exchange.ask exchange.answer
+stream_from-push before [] exchange = refl
+stream_from-push before (first ∷ past) exchange = stream_from-push (stream_by before first.ask first.answer) past exchange
+
+pub stream_in-push : (past : List Exchange) (exchange : Exchange) → stream_in (past ++ exchange ∷ []) ≡ stream_by (stream_in past) exchange.ask exchange.answer
+stream_in-push past exchange = stream_from-push None past exchange
+
 -- all that exchanges tell of streams
 pub record Told : Type 0 where
   pub last : Option Opened
@@ -98,6 +107,16 @@ pub record IsOpen (now : Told) (folder : Path) (dir : ℕ) : Type 0 where
   pub of : stream.folder ≡ folder
   pub number : stream.dir ≡ dir
 
+-- A stream of this number was opened last, in a folder, and is still open; and the exchanges tell what the stream of this folder gave.
+pub record IsOwnStream (exchanges : List Exchange) (dir : ℕ) : Type 0 where
+  pub folder : Path
+  pub last : opened_last exchanges ≡ Some (record { folder = folder; dir = dir })
+  pub left : left_open exchanges ≡ Some (record { folder = folder; dir = dir })
+  pub stream : Stream
+  pub told : stream_in exchanges ≡ Some stream
+  pub of : stream.folder ≡ folder
+  pub number : stream.dir ≡ dir
+
 abbrev pub HasNone : Told → Type 0
 HasNone now = now.left ≡ None
 
@@ -112,7 +131,7 @@ StreamOf now lister = StreamAt now lister.head.folder lister.stage
 
 abbrev pub StreamBehind : Told → ListStep → Type 0
 StreamBehind now (ends.More lister) = StreamOf now lister
-StreamBehind now (ends.Rows rows) = HasNone now
+StreamBehind now (ends.Listed listing) = HasNone now
 StreamBehind now ends.Broken = HasNone now
 
 -- ---- a call that opens no stream

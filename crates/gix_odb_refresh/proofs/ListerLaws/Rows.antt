@@ -14,8 +14,8 @@ use Rattle.gix_odb_events.specs.declared.listing.ListingRow.{ListingRow}
 use Rattle.gix_odb_packs.specs.LongestFirst.{longest_first, put_row, put_rows}
 use Rattle.gix_odb_packs.specs.PackFolder.{firsts, firsts_without, index_paths, is_index_entry}
 use Rattle.gix_odb_packs.proofs.ReachLemmas.{first_or_later, none_in}
-use Rattle.gix_odb_looks.proofs.FoundLaws.Lists.{has_first, has_later}
-use Rattle.gix_odb_looks.proofs.HandedLaws.Differ.{Differ, IsDistinct-paths, push_same}
+use Rattle.gix_odb_refresh.proofs.ListerLaws.Lists.{has_first, has_later}
+use Rattle.gix_odb_refresh.proofs.ListerLaws.Differ.{Differ, IsDistinct-paths, push_same}
 
 -- ---- the entries of a folder, each by its first name
 
