@@ -30,7 +30,7 @@ Answers-front text rest written ending whole a =
       ends = subst P (sym same) a.ends;
       play = a.play;
       played = let Q : List Item → Type 0 = λ i.
-          IsPlayed (disk_of (reading_from i 1 (Faults [])).script) (lines_of (reading_from i 1 (Faults [])).script) a.play.run a.play.last in subst Q (sym same) a.played;
+          IsPlayed (disk_of (reading_from i 1 (Faults [])).script) (lines_of (reading_from i 1 (Faults [])).script) a.play in subst Q (sym same) a.played;
       written_is = a.written_is;
     }
 

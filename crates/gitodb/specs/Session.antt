@@ -44,7 +44,7 @@ pub record Says (script : List ℕ) (disk : Volume) (lines : List Line) (ending 
 pub record Answers (script written : List ℕ) (ending : Ending) : Type 0 where
   pub ends : (reading_of script).ending ≡ ending
   pub play : Play
-  pub played : IsPlayed (disk_of (reading_of script).script) (lines_of (reading_of script).script) play.run play.last
+  pub played : IsPlayed (disk_of (reading_of script).script) (lines_of (reading_of script).script) play
   pub written_is : written ≡ printed_at play.run.outcomes play.last ++ ending_text ending
 
 -- the status of a script that ends so, of which this is told

@@ -53,7 +53,7 @@ fn answer_lines(
 
 /// The play of lines on a disk.
 fn played(alloc: Global, disk: MemDisk, lines: Sequence<Line>) -> Result<Play, NoMemory>
-    ensures played { IfOk result (λ play. IsPlayed disk lines play.run play.last) }
+    ensures played { IfOk result (IsPlayed disk lines) }
 {
     World::play(alloc, disk, lines.as_slice())
 }

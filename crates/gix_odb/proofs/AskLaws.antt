@@ -36,8 +36,8 @@ use Rattle.gix_odb_refresh.specs.declared.refresh.RefreshStep.{RefreshStep}
 use Rattle.gix_odb_refresh.specs.declared.refresh.RefreshStep.TheVariants as fronts
 use Rattle.gix_odb.specs.CallOrder.{ask_of, asked_by, asked_of, fed, fronted, looking, looking_result, replied_by, result_of, started, unlisted, writing, writing_result, wrote_as}
 use Rattle.gix_odb.specs.declared.ask.Ask.TheVariants as own
-use Rattle.gix_odb.specs.declared.call_state.CallState.{CallState}
-use Rattle.gix_odb.specs.declared.call_state.CallState.TheVariants.{Looking, Refreshing, Refused, Writing}
+use Rattle.gix_odb.specs.declared.call_state.CallStage.{CallStage}
+use Rattle.gix_odb.specs.declared.call_state.CallStage.TheVariants.{Looking, Refreshing, Refused, Writing}
 
 -- ---- a call with a reply asks nothing
 
@@ -54,7 +54,7 @@ write_asks_none call (loose_stages.Asking want path limit) reply is = absurd (cc
 write_asks_none call (loose_stages.Writing job) reply is = absurd (cc is)
 write_asks_none call (loose_stages.Done other) reply is = refl
 
-pub a_call_with_a_reply_asks_nothing : (state : CallState) (reply : Reply) → result_of state ≡ Ok reply → ask_of state ≡ None
+pub a_call_with_a_reply_asks_nothing : (state : CallStage) (reply : Reply) → result_of state ≡ Ok reply → ask_of state ≡ None
 a_call_with_a_reply_asks_nothing (Looking look) reply is = look_asks_none look.head look.stage reply is
 a_call_with_a_reply_asks_nothing (Refreshing refresh write) reply is = absurd (cc is)
 a_call_with_a_reply_asks_nothing (Writing call) reply is = write_asks_none call call.stage reply is
@@ -66,7 +66,7 @@ loose_asks_no_core : (ask : Option DiskAsk) (slots folders : ℕ) → ¬ (loose_
 loose_asks_no_core None slots folders is = cc is
 loose_asks_no_core (Some ask) slots folders is = cc is
 
-pub calls_have_no_core_made : (state : CallState) (slots folders : ℕ) → ¬ (ask_of state ≡ Some (asks.NewCore slots folders))
+pub calls_have_no_core_made : (state : CallStage) (slots folders : ℕ) → ¬ (ask_of state ≡ Some (asks.NewCore slots folders))
 calls_have_no_core_made (Looking look) slots folders is = look_ups_have_no_core_made look slots folders is
 calls_have_no_core_made (Refreshing refresh write) slots folders is = refreshes_have_no_core_made (fronts.More refresh) slots folders is
 calls_have_no_core_made (Writing call) slots folders is = loose_asks_no_core (disk_ask_of call) slots folders is
@@ -74,7 +74,7 @@ calls_have_no_core_made (Refused error) slots folders is = cc is
 
 -- ---- it is done
 
-done_by : (ask : Option Ask) (result : Result Reply CallState) (reply : Reply) → asked_by ask (result_ok result) ≡ own.Done reply → result ≡ Ok reply
+done_by : (ask : Option Ask) (result : Result Reply CallStage) (reply : Reply) → asked_by ask (result_ok result) ≡ own.Done reply → result ≡ Ok reply
 done_by (Some (asks.Disk ask)) result reply is = absurd (cc is)
 done_by (Some (asks.Core event)) result reply is = absurd (cc is)
 done_by (Some (asks.NewCore slots folders)) result reply is = absurd (cc is)
@@ -82,17 +82,17 @@ done_by None (Ok other) reply is = let same : other ≡ reply = cc is in ap Ok s
 done_by None (Err state) reply is = absurd (cc is)
 
 -- a call says that it is done, with a reply, exactly where this is its reply
-pub calls_are_done_with_their_reply : (state : CallState) (reply : Reply) → (asked_of state ≡ own.Done reply) ↔ (result_of state ≡ Ok reply)
+pub calls_are_done_with_their_reply : (state : CallStage) (reply : Reply) → (asked_of state ≡ own.Done reply) ↔ (result_of state ≡ Ok reply)
 calls_are_done_with_their_reply state reply = (
   done_by (ask_of state) (result_of state) reply,
   λ is. ap (λ (ask : Option Ask). asked_by ask (result_ok (result_of state))) (a_call_with_a_reply_asks_nothing state reply is)
-      ∙ ap (λ (result : Result Reply CallState). asked_by None (result_ok result)) is,
+      ∙ ap (λ (result : Result Reply CallStage). asked_by None (result_ok result)) is,
 )
 
 -- ---- a call without a reply asks for something
 
 -- a call that writes
-abbrev Stands : CallState → Type 0
+abbrev Stands : CallStage → Type 0
 Stands (Looking look) = ⊥
 Stands state = Unit {0}
 
@@ -103,17 +103,17 @@ fronted-stands (fronts.Current view own) write = tt
 fronted-stands (fronts.Outdated list_no) write = tt
 fronted-stands (fronts.Refused error) write = tt
 
-fed-stands : (setting : Setting) (state : CallState) (answer : Answer) → Stands state → Stands (fed setting state answer)
+fed-stands : (setting : Setting) (state : CallStage) (answer : Answer) → Stands state → Stands (fed setting state answer)
 fed-stands setting (Looking look) answer stands = absurd stands
 fed-stands setting (Refreshing refresh write) answer stands = fronted-stands (refreshes.fed setting.objects setting.folders refresh answer) write
 fed-stands setting (Writing call) answer stands = tt
 fed-stands setting (Refused error) answer stands = tt
 
 -- a call behind exchanges
-abbrev pub behind : Setting → CallState → List Exchange → CallState
+abbrev pub behind : Setting → CallStage → List Exchange → CallStage
 behind setting state exchanges = any.behind ask_of (fed setting) state exchanges
 
-behind-stands : (setting : Setting) (state : CallState) (exchanges : List Exchange) → Stands state → Stands (behind setting state exchanges)
+behind-stands : (setting : Setting) (state : CallStage) (exchanges : List Exchange) → Stands state → Stands (behind setting state exchanges)
 behind-stands setting state [] stands = stands
 behind-stands setting state (exchange ∷ exchanges) stands =
     behind-stands setting (fed setting state exchange.answer) exchanges (fed-stands setting state exchange.answer stands)
@@ -123,7 +123,7 @@ behind-look setting look [] = refl
 behind-look setting look (exchange ∷ exchanges) = behind-look setting (looks.fed setting look exchange.answer) exchanges
 
 -- what a call has that asks nothing
-abbrev HasReply : CallState → Type 0
+abbrev HasReply : CallStage → Type 0
 HasReply state = ask_of state ≡ None → (reply : Reply) × (result_of state ≡ Ok reply)
 
 write_has_reply : (call : LooseCall) (stage : loose.Stage) → loose_ask (stage_ask stage) ≡ None
@@ -132,7 +132,7 @@ write_has_reply call (loose_stages.Asking want path limit) is = absurd (cc is)
 write_has_reply call (loose_stages.Writing job) is = absurd (cc is)
 write_has_reply call (loose_stages.Done reply) is = (wrote_as reply, refl)
 
-standing_has_reply : (state : CallState) → Stands state → HasReply state
+standing_has_reply : (state : CallStage) → Stands state → HasReply state
 standing_has_reply (Looking look) stands is = absurd stands
 standing_has_reply (Refreshing refresh write) stands is = absurd (cc is)
 standing_has_reply (Writing call) stands is = write_has_reply call call.stage is
@@ -153,7 +153,7 @@ module _ (setting : Setting) (hash : HashKind) (view : View) (sought : Query →
 
   has_reply : (call : Call) → HasReply (behind setting (started setting hash view sought call) exchanges)
   has_reply call =
-      by_call-all (λ (state : CallState). HasReply (behind setting state exchanges)) (λ query. looking setting view sought query)
+      by_call-all (λ (state : CallStage). HasReply (behind setting state exchanges)) (λ query. looking setting view sought query)
       (λ kind size bytes known. fronted (refreshes.started view) (writing setting.objects hash kind size bytes known))
       query_has_reply new_write_has_reply call
 

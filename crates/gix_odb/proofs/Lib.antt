@@ -1,6 +1,6 @@
 -- Laws of openings that other crates may cite; and the lemmas of this crate.
 pub mod AskLaws
 pub mod OpenLaws
+mod HandleLemmas
 mod SlotsLemmas
-mod UnseenLemmas
 mod WriteLemmas

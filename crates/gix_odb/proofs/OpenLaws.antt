@@ -34,13 +34,13 @@ use Rattle.gix_odb_refresh.specs.Asked.{AreSuited}
 use Rattle.gix_odb_refresh.proofs.RefreshLaws.Known.{told_of}
 use Rattle.gix_odb.specs.OpenOrder.{ask_of}
 use Rattle.gix_odb.specs.OpenExchanges.{AreAsked, IsCaused, IsNumber, asks_of, behind}
-use Rattle.gix_odb.specs.declared.open_state.OpenState.{OpenState}
-use Rattle.gix_odb.specs.declared.open_state.OpenState.TheVariants as opens
+use Rattle.gix_odb.specs.declared.open_state.OpenStage.{OpenStage}
+use Rattle.gix_odb.specs.declared.open_state.OpenStage.TheVariants as opens
 use Rattle.gix_odb.proofs.OpenLaws.Known.{IsExplained, Knows, WasRegistered, opening_knows}
 use Rattle.gix_odb.proofs.OpenLaws.Turns.{turns_taken}
 
 -- an opening asks for no event of a core
-pub openings_ask_no_event : (setting : Setting) (state : OpenState) (event : Event) → ¬ (asks_of setting state ≡ Some (asks.Core event))
+pub openings_ask_no_event : (setting : Setting) (state : OpenStage) (event : Event) → ¬ (asks_of setting state ≡ Some (asks.Core event))
 openings_ask_no_event setting opens.Looking event is = cc is
 openings_ask_no_event setting (opens.Listing lister percent minimum) event is = cc is
 openings_ask_no_event setting (opens.Registering number) event is = cc is
@@ -48,7 +48,7 @@ openings_ask_no_event setting (opens.Done reply) event is = cc is
 
 module _ (setting : Setting) (slots : Slots) (exchanges : List Exchange) (asked : AreAsked setting slots opens.Looking exchanges)
     (suited : AreSuited exchanges) where
-  abbrev state : OpenState
+  abbrev state : OpenStage
   state = behind setting slots opens.Looking exchanges
 
   knows : Knows setting slots exchanges state
@@ -95,7 +95,7 @@ module _ (setting : Setting) (slots : Slots) (exchanges : List Exchange) (asked 
   pub openings_change_no_file : (ask : DiskAsk) → asks_of setting state ≡ Some (asks.Disk ask) → (tree : Tree) → change_of_ask tree ask ≡ None
   openings_change_no_file ask is = by state is
     where
-      by : (now : OpenState) → asks_of setting now ≡ Some (asks.Disk ask) → ChangesNothing (asks.Disk ask)
+      by : (now : OpenStage) → asks_of setting now ≡ Some (asks.Disk ask) → ChangesNothing (asks.Disk ask)
       by opens.Looking is =
           subst ChangesNothing (same_Some (asks.Disk (disk_asks.Look setting.objects true)) (asks.Disk ask) is) (path_is_looked_at setting.objects true)
       by (opens.Listing lister percent minimum) is =
@@ -103,7 +103,7 @@ module _ (setting : Setting) (slots : Slots) (exchanges : List Exchange) (asked 
       by (opens.Registering number) is = absurd (cc is)
       by (opens.Done reply) is = absurd (cc is)
 
-  asks_own : (now : OpenState) → Knows setting slots exchanges now → (ask : DiskAsk) → asks_of setting now ≡ Some (asks.Disk ask)
+  asks_own : (now : OpenStage) → Knows setting slots exchanges now → (ask : DiskAsk) → asks_of setting now ≡ Some (asks.Disk ask)
       → AsksOwn (told_of exchanges) (asks.Disk ask)
   asks_own opens.Looking known ask is =
       subst (AsksOwn (told_of exchanges)) (same_Some (asks.Disk (disk_asks.Look setting.objects true)) (asks.Disk ask) is) tt
@@ -132,7 +132,7 @@ module _ (setting : Setting) (slots : Slots) (exchanges : List Exchange) (asked 
   pub openings_open_folders_of_packs : (path : Path) → asks_of setting state ≡ Some (asks.Disk (disk_asks.OpenDir path)) → IsFolderOfPacks setting path
   openings_open_folders_of_packs path is = by state knows is
     where
-      by : (now : OpenState) → Knows setting slots exchanges now → asks_of setting now ≡ Some (asks.Disk (disk_asks.OpenDir path)) → IsFolderOfPacks setting path
+      by : (now : OpenStage) → Knows setting slots exchanges now → asks_of setting now ≡ Some (asks.Disk (disk_asks.OpenDir path)) → IsFolderOfPacks setting path
       by opens.Looking known is = absurd (cc is)
       by (opens.Listing lister percent minimum) known is =
           let same : lists.ask_of lister ≡ disk_asks.OpenDir path = cc is in lister_opens_there setting path lister.head known.at lister.stage same
@@ -143,7 +143,7 @@ module _ (setting : Setting) (slots : Slots) (exchanges : List Exchange) (asked 
   pub openings_leave_no_stream_open : ((ask : DiskAsk) → ¬ (asks_of setting state ≡ Some (asks.Disk ask))) → left_open exchanges ≡ None
   openings_leave_no_stream_open none = by state knows none
     where
-      by : (now : OpenState) → Knows setting slots exchanges now → ((ask : DiskAsk) → ¬ (asks_of setting now ≡ Some (asks.Disk ask)))
+      by : (now : OpenStage) → Knows setting slots exchanges now → ((ask : DiskAsk) → ¬ (asks_of setting now ≡ Some (asks.Disk ask)))
           → left_open exchanges ≡ None
       by opens.Looking known none = absurd (none (disk_asks.Look setting.objects true) refl)
       by (opens.Listing lister percent minimum) known none = absurd (none (lists.ask_of lister) refl)

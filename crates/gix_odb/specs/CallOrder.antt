@@ -3,7 +3,6 @@
 use Rattle.std.specs.Prelude.{◌≡◌, ℕ, ◌<◌, ◌^◌, true, List, Option, Some, None, Result, Ok, Err}
 use Rattle.std.specs.Result.{result_ok}
 use Rattle.odb_base.specs.Path.{Path}
-use Rattle.odb_asks.specs.declared.ask.DiskAsk.{DiskAsk}
 use Rattle.gix_hash.specs.declared.kind.Kind.{Kind as HashKind}
 use Rattle.gix_hash.specs.declared.object_id.ObjectId.{ObjectId}
 use Rattle.gix_object.specs.declared.kind.Kind.{Kind}
@@ -23,8 +22,11 @@ use Rattle.gix_odb_calls.specs.declared.call.Reply.{Reply}
 use Rattle.gix_odb_calls.specs.declared.call.Reply.TheVariants as replies
 use Rattle.gix_odb.specs.declared.ask.Ask as published
 use Rattle.gix_odb.specs.declared.ask.Ask.TheVariants as own
+use Rattle.gix_odb.specs.HandleState.{setting_at, told_by}
+use Rattle.gix_odb.specs.declared.call_state.CallStage.{CallStage}
+use Rattle.gix_odb.specs.declared.call_state.CallStage.TheVariants.{Looking, Refreshing, Refused, Writing}
 use Rattle.gix_odb.specs.declared.call_state.CallState.{CallState}
-use Rattle.gix_odb.specs.declared.call_state.CallState.TheVariants.{Looking, Refreshing, Refused, Writing}
+use Rattle.gix_odb.specs.declared.handle_state.HandleState.{HandleState}
 use Rattle.gix_odb_looks.specs.declared.look_up.LookUp.{LookUp}
 use Rattle.gix_odb_looks.specs.LookUpOrder as looks
 use Rattle.gix_odb_looks.specs.LookUpOrder.{Setting, loose_ask}
@@ -81,12 +83,12 @@ abbrev pub IsOfHash : HashKind → Call → Type 0
 IsOfHash hash call = is_of_hash hash call ≡ true
 
 -- a new query from a snapshot, where `sought` tells the id that is sought
-abbrev pub looking : Setting → View → (sought : Query → ObjectId) → Query → CallState
+abbrev pub looking : Setting → View → (sought : Query → ObjectId) → Query → CallStage
 looking setting view sought query = Looking (looks.started setting view query.want (sought query))
 
 -- A write and the refresh before it. It begins where the core has a list that was read, also where the listing came too late: another list
 -- was read then.
-abbrev pub fronted : RefreshStep → LooseCall → CallState
+abbrev pub fronted : RefreshStep → LooseCall → CallStage
 fronted (fronts.More refresh) write = Refreshing refresh write
 fronted (fronts.Read view) write = Writing write
 fronted (fronts.Current view own) write = Writing write
@@ -94,7 +96,7 @@ fronted (fronts.Outdated list_no) write = Writing write
 fronted (fronts.Refused error) write = Refused error
 
 -- a new call in a store of a hash
-abbrev pub started : Setting → HashKind → View → (sought : Query → ObjectId) → Call → CallState
+abbrev pub started : Setting → HashKind → View → (sought : Query → ObjectId) → Call → CallStage
 started setting hash view sought call =
     by_call
     (λ query. looking setting view sought query)
@@ -102,22 +104,22 @@ started setting hash view sought call =
     call
 
 -- what is asked for next, if anything is: of the disk, or of the store's core
-abbrev pub ask_of : CallState → Option Ask
+abbrev pub ask_of : CallStage → Option Ask
 ask_of (Looking look) = looks.ask_of look
 ask_of (Refreshing refresh write) = Some (refreshes.ask_of refresh)
 ask_of (Writing call) = loose_ask (disk_ask_of call)
 ask_of (Refused error) = None
 
-abbrev pub looking_result : Result Reply LookUp → Result Reply CallState
+abbrev pub looking_result : Result Reply LookUp → Result Reply CallStage
 looking_result (Ok reply) = Ok reply
 looking_result (Err look) = Err (Looking look)
 
-abbrev pub writing_result : Result Reply LooseCall → Result Reply CallState
+abbrev pub writing_result : Result Reply LooseCall → Result Reply CallStage
 writing_result (Ok reply) = Ok reply
 writing_result (Err call) = Err (Writing call)
 
 -- the reply of a call that is done, or the call
-abbrev pub result_of : CallState → Result Reply CallState
+abbrev pub result_of : CallStage → Result Reply CallStage
 result_of (Looking look) = looking_result (looks.result_of look)
 result_of (Refreshing refresh write) = Err (Refreshing refresh write)
 result_of (Writing call) = writing_result (result_of_write call)
@@ -132,7 +134,7 @@ asked_by (Some (asks.NewCore slots folders)) reply = own.Core events.Look
 asked_by None (Some reply) = own.Done reply
 asked_by None None = own.Core events.Look
 
-abbrev pub asked_of : CallState → published.Ask
+abbrev pub asked_of : CallStage → published.Ask
 asked_of state = asked_by (ask_of state) (result_ok (result_of state))
 
 -- a write after an answer. One of the core leaves it
@@ -140,8 +142,8 @@ abbrev pub written_on : LooseCall → Answer → LooseCall
 written_on call (told.Disk answer) = loose_order.fed call answer
 written_on call (told.Core answer) = call
 
--- a call after the answer to what it asked for
-abbrev pub fed : Setting → CallState → Answer → CallState
+-- the stage of a call after the answer to what it asked for
+abbrev pub fed : Setting → CallStage → Answer → CallStage
 fed setting (Looking look) answer = Looking (looks.fed setting look answer)
 fed setting (Refreshing refresh write) answer = fronted (refreshes.fed setting.objects setting.folders refresh answer) write
 fed setting (Writing call) answer = Writing (written_on call answer)
@@ -149,8 +151,19 @@ fed setting (Refused error) answer = Refused error
 
 -- the path with which the stream was opened that the next call of the disk is on, where it is on one: a look-up lists folders, and so does what
 -- stands in front of a write
-abbrev pub opened_in : CallState → Option Path
+abbrev pub opened_in : CallStage → Option Path
 opened_in (Looking look) = looks.opened_in look
 opened_in (Refreshing refresh write) = refreshes.opened_in refresh
 opened_in (Writing call) = None
 opened_in (Refused error) = None
+
+-- ---- a call with its handle
+
+-- a call after the answer to what it asked for: its handle has the view that the answer passes
+abbrev pub after_answer : CallState → Answer → CallState
+after_answer call answer = record { handle = told_by call.handle answer; stage = fed (setting_at call.handle) call.stage answer }
+
+-- the reply of a call that is done, with its handle, or the call
+abbrev pub ends_with : HandleState → Result Reply CallStage → Result (Reply × HandleState) CallState
+ends_with handle (Ok reply) = Ok (reply, handle)
+ends_with handle (Err stage) = Err (record { handle = handle; stage = stage })

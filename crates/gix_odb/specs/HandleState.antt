@@ -1,73 +1,67 @@
 -- What a handle of the code knows of its store, and what it seeks for a query.
-use Rattle.std.specs.Prelude.{false, List, [], Option, Some, unwrap_or}
-use Rattle.std.specs.BTreeMap.{BTreeMap, get}
+use Rattle.std.specs.Prelude.{◌≡◌, false, List, [], Option, Some, None}
+use Rattle.std.specs.BTreeMap.{get}
 use Rattle.odb_base.specs.Path.{Path}
 use Rattle.gix_hash.specs.declared.kind.Kind.{Kind as HashKind}
 use Rattle.gix_hash.specs.declared.object_id.ObjectId.{ObjectId}
 use Rattle.gix_hash.specs.ObjectId.{id_cmp}
+use Rattle.gix_odb_events.specs.declared.answer.Answer.{Answer}
 use Rattle.gix_odb_events.specs.declared.view.Snapshot.{Snapshot}
 use Rattle.gix_odb_events.specs.declared.view.View.{View}
-use Rattle.gix_odb_calls.specs.declared.init.Options.{Options}
-use Rattle.gix_odb_calls.specs.declared.init.Slots.{Slots}
-use Rattle.gix_odb_calls.specs.declared.store_parts.StoreParts.{StoreParts}
-use Rattle.gix_odb_looks.specs.LookUpOrder.{Setting}
+use Rattle.gix_odb_calls.specs.declared.query.Query.{Query}
+use Rattle.gix_odb_looks.specs.LookUpOrder.{Setting, view_of}
 use Rattle.gix_odb.specs.Contents.{replaced, sought_with}
 use Rattle.gix_odb.specs.declared.handle_state.HandleState.{HandleState}
-use Rattle.gix_odb_calls.specs.declared.query.Query.{Query}
 
 -- the objects directory and the hash of a handle's store
 abbrev pub objects_of : HandleState → Path
-objects_of handle = handle.store.value.objects
+objects_of handle = handle.info.value.objects
 
 abbrev pub hash_of : HandleState → HashKind
-hash_of handle = handle.store.value.object_hash
+hash_of handle = handle.info.value.object_hash
 
 abbrev pub folders_of : HandleState → List Path
-folders_of handle = handle.store.value.folders
+folders_of handle = handle.info.value.folders
 
--- the parts of a store that is opened with these
-abbrev pub parts_of : (objects : Path) → (folders : List Path) → HashKind → BTreeMap ObjectId ObjectId → Options → StoreParts
-parts_of objects folders hash replacements options = record {
-  objects = objects;
-  folders = folders;
-  object_hash = hash;
-  replacements = replacements;
-  alloc_limit_bytes = options.alloc_limit_bytes;
-  slots = options.slots;
-  max_changes = options.max_changes;
-}
-
--- how many slots the store is to have
-abbrev pub slots_of : HandleState → Slots
-slots_of handle = handle.store.value.slots
-
--- what a look-up is told of the store
+-- what a look-up is told of the store, and of how many changes it tolerates
 abbrev pub setting_at : HandleState → Setting
 setting_at handle = record {
-  objects = handle.store.value.objects;
-  folders = handle.store.value.folders;
-  limit = handle.store.value.alloc_limit_bytes;
-  most = handle.store.value.max_changes;
+  objects = handle.info.value.objects;
+  folders = handle.info.value.folders;
+  limit = handle.info.value.alloc_limit_bytes;
+  most = handle.max_changes;
 }
 
--- what a handle sees that has no snapshot yet: nothing, of a list that was not read
+-- what a handle would see that has no snapshot yet: nothing, of a list that was not read
 abbrev pub nothing_loaded : Snapshot
 nothing_loaded = record { indices = []; kept = []; marker = record { generation = 0; state_id = 0 }; entry = 0 }
 
 abbrev pub unseen : View
 unseen = record { snapshot = nothing_loaded; list_no = 0; read = false; todo = [] }
 
--- what a handle sees: its snapshot, if it has one
-abbrev pub view_at : HandleState → View
-view_at handle = unwrap_or handle.view unseen
-
 -- a handle that sees this
 abbrev pub with_view : HandleState → View → HandleState
-with_view handle view = record handle { view = Some view }
+with_view handle view = record handle { view = view }
+
+-- a handle to which a view was handed over, if one was
+abbrev pub seeing : HandleState → Option View → HandleState
+seeing handle None = handle
+seeing handle (Some view) = with_view handle view
+
+-- a handle after an answer: it has the view that this hands over
+abbrev pub told_by : HandleState → Answer → HandleState
+told_by handle answer = seeing handle (view_of answer)
+
+-- handles that are alike: of one store, in one mode, with one snapshot
+pub record IsAlike (one other : HandleState) : Type 0 where
+  pub info : one.info.value ≡ other.info.value
+  pub ignoring : one.ignore_replacements ≡ other.ignore_replacements
+  pub changes : one.max_changes ≡ other.max_changes
+  pub view : one.view ≡ other.view
 
 -- the id that replaces another
 abbrev pub replacement_of : HandleState → ObjectId → Option ObjectId
-replacement_of handle id = get id_cmp handle.store.value.replacements id
+replacement_of handle id = get id_cmp handle.info.value.replacements id
 
 -- the id that is sought in the place of another
 abbrev pub replaced_by : HandleState → ObjectId → ObjectId

@@ -2,6 +2,8 @@ pub mod Contents
 pub mod Moments
 pub mod Held
 pub mod HandleState
+pub mod Answers
 pub mod CallOrder
 pub mod OpenOrder
 pub mod OpenExchanges
+pub mod OpenState

@@ -1,5 +1,5 @@
 -- What an opening asked and was answered, which number of slots that comes to, and why one is refused.
-use Rattle.std.specs.Prelude.{◌≡◌, ℕ, ◌<◌, true, List, [], ◌∷◌, length, Option, Some, None}
+use Rattle.std.specs.Prelude.{◌≡◌, ℕ, ◌<◌, true, List, [], ◌∷◌, length, Option}
 use Rattle.odb_base.specs.Path.{Path}
 use Rattle.odb_asks.specs.declared.ask.DiskAnswer.{DiskAnswer}
 use Rattle.odb_asks.specs.declared.ask.DiskAnswer.TheVariants as answers
@@ -26,22 +26,22 @@ use Rattle.gix_odb_looks.specs.LookUpOrder.{Setting}
 use Rattle.gix_odb_refresh.specs.Asked as any
 use Rattle.gix_odb_refresh.specs.Refreshed.{HasBroken}
 use Rattle.gix_odb.specs.OpenOrder.{ask_of, fed, slots_for}
-use Rattle.gix_odb.specs.declared.open_state.OpenState.{OpenState}
+use Rattle.gix_odb.specs.declared.open_state.OpenStage.{OpenStage}
 
 -- ---- exchanges
 
 -- what an opening asks for
-abbrev pub asks_of : Setting → OpenState → Option Ask
+abbrev pub asks_of : Setting → OpenStage → Option Ask
 asks_of setting state = ask_of setting.objects setting.folders state
 
 -- an opening after the answer
-abbrev pub fed_by : Setting → Slots → OpenState → Answer → OpenState
+abbrev pub fed_by : Setting → Slots → OpenStage → Answer → OpenStage
 fed_by setting slots state answer = fed setting.objects setting.folders slots state answer
 
-abbrev pub behind : Setting → Slots → OpenState → List Exchange → OpenState
+abbrev pub behind : Setting → Slots → OpenStage → List Exchange → OpenStage
 behind setting slots state exchanges = any.behind (asks_of setting) (fed_by setting slots) state exchanges
 
-abbrev pub AreAsked : Setting → Slots → OpenState → List Exchange → Type 0
+abbrev pub AreAsked : Setting → Slots → OpenStage → List Exchange → Type 0
 AreAsked setting slots state exchanges = any.AreAsked (asks_of setting) (fed_by setting slots) state exchanges
 
 -- ---- the listing among them

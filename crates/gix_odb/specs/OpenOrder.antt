@@ -26,15 +26,15 @@ use Rattle.gix_odb_calls.specs.declared.init.Slots.TheVariants.{AsNeededByDiskSt
 use Rattle.gix_odb_calls.specs.declared.load_index.Error.TheVariants as load_errors
 use Rattle.gix_odb.specs.declared.ask.OpenAsk.{OpenAsk}
 use Rattle.gix_odb.specs.declared.ask.OpenAsk.TheVariants as own
-use Rattle.gix_odb.specs.declared.open_state.OpenState.{OpenState}
-use Rattle.gix_odb.specs.declared.open_state.OpenState.TheVariants as opens
+use Rattle.gix_odb.specs.declared.open_state.OpenStage.{OpenStage}
+use Rattle.gix_odb.specs.declared.open_state.OpenStage.TheVariants as opens
 
 -- a new opening
-abbrev pub started : OpenState
+abbrev pub started : OpenStage
 started = opens.Looking
 
 -- the reply of an opening that is done, or the opening
-abbrev pub result_of : OpenState → Result Reply OpenState
+abbrev pub result_of : OpenStage → Result Reply OpenStage
 result_of (opens.Done reply) = Ok reply
 result_of state = Err state
 
@@ -42,19 +42,19 @@ result_of state = Err state
 
 -- An opening looks at the objects directory, links followed, and lists the folders of packs. Then it asks for a core for its store, the
 -- objects directory being one of the folders, at which its handle is registered.
-abbrev pub ask_of : (objects : Path) → (folders : List Path) → OpenState → Option Ask
+abbrev pub ask_of : (objects : Path) → (folders : List Path) → OpenStage → Option Ask
 ask_of objects folders opens.Looking = Some (asks.Disk (disk_asks.Look objects true))
 ask_of objects folders (opens.Listing lister percent minimum) = Some (asks.Disk (lists.ask_of lister))
 ask_of objects folders (opens.Registering slots) = Some (asks.NewCore slots (length (objects ∷ folders)))
 ask_of objects folders (opens.Done reply) = None
 
 -- the path with which the stream was opened that a call of the disk may be on
-abbrev pub opened_in : OpenState → Option Path
+abbrev pub opened_in : OpenStage → Option Path
 opened_in (opens.Listing lister percent minimum) = Some lister.head.folder
 opened_in state = None
 
 -- what an opening does next: it makes its call of the disk, or has a core made, or has its reply
-abbrev pub IsAskOf : (objects : Path) → (folders : List Path) → OpenState → OpenAsk → Type 0
+abbrev pub IsAskOf : (objects : Path) → (folders : List Path) → OpenStage → OpenAsk → Type 0
 IsAskOf objects folders state (own.Disk ask) = ask_of objects folders state ≡ Some (asks.Disk ask)
 IsAskOf objects folders state (own.Register slots) = ask_of objects folders state ≡ Some (asks.NewCore slots (length (objects ∷ folders)))
 IsAskOf objects folders state (own.Done reply) = result_of state ≡ Ok reply
@@ -69,39 +69,39 @@ slots_within indices slots = if nat_le slots most_slots then slots else indices
 abbrev pub slots_for : (percent minimum indices : ℕ) → ℕ
 slots_for percent minimum indices = slots_within indices (max (indices * percent / 100) minimum)
 
-abbrev pub refused : opening.Error → OpenState
+abbrev pub refused : opening.Error → OpenStage
 refused error = opens.Done (replies.Refused (call_errors.Open error))
 
 -- the handle is to be registered, unless a store may not have so many slots
-abbrev pub numbered : ℕ → OpenState
+abbrev pub numbered : ℕ → OpenStage
 numbered slots = if nat_le slots most_slots then opens.Registering slots else refused (opening_errors.TooManySlots slots)
 
 -- ---- answers
 
 -- the objects directory is there
-abbrev pub begun : Path → Slots → OpenState
+abbrev pub begun : Path → Slots → OpenStage
 begun objects (Given slots) = numbered slots
 begun objects (AsNeededByDiskState percent minimum) = opens.Listing (lists.started objects 0) percent minimum
 
-abbrev pub shown : Path → Slots → Kind → OpenState
+abbrev pub shown : Path → Slots → Kind → OpenStage
 shown objects slots kinds.Dir = begun objects slots
 shown objects slots kind = refused opening_errors.NotADirectory
 
 -- a failed call is an error of its own; whatever else a look is refused by, there is no directory
-abbrev pub looked : Path → Slots → DiskAnswer → OpenState
+abbrev pub looked : Path → Slots → DiskAnswer → OpenStage
 looked objects slots (answers.Meta meta) = shown objects slots meta.kind
 looked objects slots (answers.Refused disk_errors.Failed) = refused opening_errors.Io
 looked objects slots answer = refused opening_errors.NotADirectory
 
 -- the slots are for the rows of the listing
-abbrev pub listed_on : (percent minimum : ℕ) → ListStep → OpenState
+abbrev pub listed_on : (percent minimum : ℕ) → ListStep → OpenStage
 listed_on percent minimum (listed.More lister) = opens.Listing lister percent minimum
 listed_on percent minimum (listed.Listed listing) = numbered (slots_for percent minimum (length listing.rows))
 listed_on percent minimum listed.Broken = refused (opening_errors.LoadIndex load_errors.Io)
 
 -- An opening after the answer to what it asked for, in a store of these folders that is to have these slots. One whose handle was
 -- registered has opened its store. An answer of the other kind, of the disk or of the core, leaves it.
-abbrev pub fed : (objects : Path) → (folders : List Path) → Slots → OpenState → Answer → OpenState
+abbrev pub fed : (objects : Path) → (folders : List Path) → Slots → OpenStage → Answer → OpenStage
 fed objects folders slots opens.Looking (told.Disk answer) = looked objects slots answer
 fed objects folders slots (opens.Listing lister percent minimum) (told.Disk answer) = listed_on percent minimum (lists.fed folders lister answer)
 fed objects folders slots (opens.Registering number) (told.Core answer) = opens.Done (replies.Opened number)

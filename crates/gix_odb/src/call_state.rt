@@ -1,88 +1,78 @@
 //! The order of work of a call on a handle: an object is looked for, or written.
-ghost use Rattle.std.specs.Prelude.{◌≡◌, ◌<◌, ◌^◌, IfOk};
+ghost use Rattle.std.specs.Prelude.{◌≡◌, ◌<◌, ◌^◌, IfOk, OnErr, OnOk};
 ghost use Rattle.std.specs.Option.{option_map};
 ghost use Rattle.std.specs.Result.{result_ok};
+ghost use Rattle.gix_odb_calls.specs.declared.load_index.Error.TheVariants as load_errors;
 ghost use Rattle.gix_odb_loose.specs.LooseOrder.{disk_ask_of};
-ghost use Rattle.gix_odb.specs.CallOrder.{HasSize, IsOfHash, ask_of, asked_of, fronted, opened_in, result_of, result_of_write, started, writing, wrote_as};
+ghost use Rattle.gix_odb.specs.Answers.{IsAnswerOf};
+ghost use Rattle.gix_odb.specs.CallOrder.{HasSize, IsOfHash, after_answer, ask_of, asked_of, ends_with, fronted, opened_in, result_of, result_of_write, started, writing, wrote_as};
 ghost use Rattle.gix_odb.specs.CallOrder as calls;
 ghost use Rattle.gix_odb_looks.specs.LookUpOrder as looks;
 ghost use Rattle.gix_odb_looks.specs.LookUpOrder.{loose_ask};
 ghost use Rattle.gix_odb_refresh.specs.RefreshOrder as refreshes;
-ghost use Rattle.gix_odb.specs.HandleState.{hash_of, setting_at, sought_by, view_at};
+ghost use Rattle.gix_odb.specs.HandleState.{IsAlike, hash_of, setting_at, sought_by, told_by};
 
 use crate::ask::Ask as CallAsk;
 use crate::handle_state::HandleState;
-use crate::unseen::unseen;
+use crate::see::see;
 use gix_hash::ObjectId;
 use gix_object::Kind;
 use gix_odb_calls::{Call, CallError, Query, Reply, load_index, write};
-use gix_odb_events::{Answer, Ask, Event, View};
+use gix_odb_events::{Answer, Ask, Event};
 use gix_odb_looks::{LookUp, Setting};
 use gix_odb_loose::{LooseAsk, LooseCall, LooseJob, LooseReply};
 use gix_odb_refresh::{Refresh, RefreshStep};
 use odb_base::{ByteList, NoMemory, PathText};
 use std::alloc::Global;
+use std::mem::replace;
 
 /// A call on a handle on its way.
 ///
 /// `ask` names the next call of the disk or the next event of the store's core, `feed` takes its answer, and so on until the
-/// call has its reply.
+/// call has its reply. Meanwhile the handle is the call's: each view that an answer passes is its snapshot from then on.
 #[derive(Drop)]
-pub enum CallState {
+pub struct CallState {
+    handle: HandleState,
+    stage: CallStage,
+}
+
+/// The stage of a call.
+#[derive(Drop)]
+pub enum CallStage {
     /// An object is looked for in the store.
     Looking(LookUp),
     /// The list of the store is read, so that the write can begin.
     Refreshing { refresh: Refresh, write: LooseCall },
     /// An object is being written, by a call of the objects directory, whose reply is that of the write.
     Writing(LooseCall),
-    /// The list of the store could not be read, so nothing is written.
+    /// The list of the store could not be read, so nothing is written; or memory ran out in any call.
     Refused(load_index::Error),
 }
 
 impl CallState {
-    /// A new call, whose ids are of the store's hash. It asks for nothing yet; where the handle's snapshot has all that a
-    /// query takes, the query is done.
-    pub fn start(alloc: Global, handle: &HandleState, call: &Call) -> Result<CallState, NoMemory>
-        requires of_hash { IsOfHash (hash_of handle.now) call.now }
-        ensures begun { IfOk result (λ state. state ≡ started (setting_at handle.now) (hash_of handle.now) (view_at handle.now) (sought_by handle.now) call.now) }
-        ensures sized { HasSize call.now }
+    /// A new call on a copy of a handle, whose ids are of the store's hash. It asks for nothing yet; where the handle's
+    /// snapshot has all that a query takes, the query is done.
+    pub fn start(alloc: Global, handle: &HandleState, call: Call) -> Result<CallState, NoMemory>
+        requires of_hash { IsOfHash (hash_of handle.now) call }
+        ensures handle { IfOk result (λ state. IsAlike state.handle handle.now) }
+        ensures begun { IfOk result (λ state. state.stage ≡ started (setting_at handle.now) (hash_of handle.now) handle.now.view (sought_by handle.now) call) }
+        ensures sized { HasSize call }
     {
-        match call {
-            Call::Write {
-                kind,
-                size,
-                bytes,
-                id,
-            } => {
-                let parts = handle.parts();
-                let write = begun(
-                    alloc,
-                    &parts.objects,
-                    parts.object_hash,
-                    *kind,
-                    *size,
-                    bytes,
-                    *id,
-                )?;
-                Ok(refreshed(handle, write))
-            }
-            call => match call.query() {
-                Some(query) => looking(alloc, handle, query),
-                None => unreachable!("a call that writes nothing asks"),
-            },
-        }
+        let stage = first_stage(alloc, handle, call)?;
+        let handle = handle.try_clone()?;
+        Ok(CallState { handle, stage })
     }
 
     /// What the call does next. A reply is copied: `into_reply` moves it out.
     pub fn ask(&self, alloc: Global) -> Result<CallAsk, NoMemory>
-        ensures asked { IfOk result (λ ask. ask ≡ asked_of self.now) }
+        ensures asked { IfOk result (λ ask. ask ≡ asked_of self.now.stage) }
     {
         match self.next_ask(alloc)? {
             Some(Ask::Disk(ask)) => Ok(CallAsk::Disk(ask)),
             Some(Ask::Core(event)) => Ok(CallAsk::Core(event)),
             // No call has a core made.
             Some(Ask::NewCore { .. }) => Ok(CallAsk::Core(Event::Look)),
-            None => match self.reply_copy(alloc)? {
+            None => match self.stage.reply_copy(alloc)? {
                 Some(reply) => Ok(CallAsk::Done(reply)),
                 // No call comes to such a state.
                 None => Ok(CallAsk::Core(Event::Look)),
@@ -90,90 +80,163 @@ impl CallState {
         }
     }
 
-    // A copy of the reply of a call that is done.
-    fn reply_copy(&self, alloc: Global) -> Result<Option<Reply>, NoMemory>
-        ensures copied { IfOk result (λ reply. reply ≡ result_ok (result_of self.now)) }
-    {
-        match self {
-            CallState::Looking(look) => match look.reply() {
-                Some(reply) => Ok(Some(reply.try_clone(alloc)?)),
-                None => Ok(None),
-            },
-            CallState::Refreshing { .. } => Ok(None),
-            CallState::Writing(call) => write_reply(alloc, call),
-            CallState::Refused(error) => Ok(Some(unlisted(*error))),
-        }
-    }
-
     /// What comes next: a call of the disk, or an event of the store's core; there is none where the call is done.
     /// It copies no reply, which `into_reply` gives then.
     pub fn next_ask(&self, alloc: Global) -> Result<Option<Ask>, NoMemory>
-        ensures asked { IfOk result (λ ask. ask ≡ ask_of self.now) }
+        ensures asked { IfOk result (λ ask. ask ≡ ask_of self.now.stage) }
     {
-        match self {
-            CallState::Looking(look) => look.ask(alloc),
-            CallState::Refreshing { refresh, .. } => Ok(Some(refresh.ask(alloc)?)),
-            CallState::Writing(call) => write_ask(alloc, call),
-            CallState::Refused(_) => Ok(None),
+        match &self.stage {
+            CallStage::Looking(look) => look.ask(alloc),
+            CallStage::Refreshing { refresh, .. } => Ok(Some(refresh.ask(alloc)?)),
+            CallStage::Writing(call) => write_ask(alloc, call),
+            CallStage::Refused(_) => Ok(None),
         }
     }
 
     /// The path with which the stream was opened that the next call of the disk is on, where it is on one.
     pub fn opened(&self) -> Option<&PathText>
-        ensures opened { option_map (λ path. path.now) result ≡ opened_in self.now }
+        ensures opened { option_map (λ path. path.now) result ≡ opened_in self.now.stage }
     {
-        match self {
-            CallState::Looking(look) => look.opened(),
-            CallState::Refreshing { refresh, .. } => refresh.opened(),
-            CallState::Writing(_) | CallState::Refused(_) => None,
+        match &self.stage {
+            CallStage::Looking(look) => look.opened(),
+            CallStage::Refreshing { refresh, .. } => refresh.opened(),
+            CallStage::Writing(_) | CallStage::Refused(_) => None,
         }
     }
 
-    /// The call after the answer to what it asked for, on the handle that it was started on. An answer of the core leaves a
-    /// write as it was.
-    pub fn feed(
-        self,
-        alloc: Global,
-        handle: &HandleState,
-        answer: Answer,
-    ) -> Result<CallState, NoMemory>
-        ensures fed { IfOk result (λ state. state ≡ calls.fed (setting_at handle.now) self answer) }
+    /// Takes the answer to what the call asked for. The handle has the view that the answer passes, even where memory runs
+    /// out; the call is refused then.
+    #[tactic(auto, using(crate::proofs::HandleLemmas::after_answer_by))]
+    pub fn feed(&mut self, alloc: Global, answer: Answer) -> Result<(), NoMemory>
+        requires answers { IsAnswerOf (asked_of self.old.stage) answer }
+        ensures fed { OnOk result (self.new ≡ after_answer self.old answer) }
+        ensures handle { self.new.handle ≡ told_by self.old.handle answer }
+        ensures refused { OnErr result (self.new.stage ≡ CallStage.Refused load_errors.NoMemory) }
+    {
+        let refused = CallStage::Refused(load_index::Error::NoMemory);
+        let stage = replace(&mut self.stage, refused);
+        match see(&mut self.handle, answer) {
+            Ok(answer) => {
+                let next = stage.fed(alloc, &self.handle, answer)?;
+                drop(replace(&mut self.stage, next));
+                Ok(())
+            }
+            Err(error) => {
+                drop(stage);
+                Err(error)
+            }
+        }
+    }
+
+    /// The reply of a call that is done, with its handle, or the call that goes on.
+    pub fn into_reply(self) -> Result<(Reply, HandleState), CallState>
+        ensures replied { result ≡ ends_with self.handle (result_of self.stage) }
+    {
+        let CallState { handle, stage } = self;
+        match stage.into_reply() {
+            Ok(reply) => Ok((reply, handle)),
+            Err(stage) => Err(CallState { handle, stage }),
+        }
+    }
+
+    /// The handle as it is now: with the view that was passed to it last.
+    pub fn into_state(self) -> HandleState
+        ensures state { result ≡ self.handle }
+    {
+        let CallState { handle, stage } = self;
+        drop(stage);
+        handle
+    }
+}
+
+impl CallStage {
+    // A copy of the reply of a call that is done.
+    fn reply_copy(&self, alloc: Global) -> Result<Option<Reply>, NoMemory>
+        ensures copied { IfOk result (λ reply. reply ≡ result_ok (result_of self.now)) }
     {
         match self {
-            CallState::Looking(look) => {
+            CallStage::Looking(look) => match look.reply() {
+                Some(reply) => Ok(Some(reply.try_clone(alloc)?)),
+                None => Ok(None),
+            },
+            CallStage::Refreshing { .. } => Ok(None),
+            CallStage::Writing(call) => write_reply(alloc, call),
+            CallStage::Refused(error) => Ok(Some(unlisted(*error))),
+        }
+    }
+
+    // The stage after the answer to what it asked for, on the handle of the call. An answer of the core leaves a write as it
+    // was.
+    fn fed(self, alloc: Global, handle: &HandleState, answer: Answer) -> Result<CallStage, NoMemory>
+        ensures fed { IfOk result (λ stage. stage ≡ calls.fed (setting_at handle.now) self answer) }
+    {
+        match self {
+            CallStage::Looking(look) => {
                 let setting = setting_of(handle);
-                Ok(CallState::Looking(look.feed(alloc, &setting, answer)?))
+                Ok(CallStage::Looking(look.feed(alloc, &setting, answer)?))
             }
-            CallState::Refreshing { refresh, write } => {
+            CallStage::Refreshing { refresh, write } => {
                 refreshed_on(alloc, handle, refresh, write, answer)
             }
-            CallState::Writing(call) => Ok(CallState::Writing(written_on(alloc, call, answer)?)),
-            CallState::Refused(error) => {
+            CallStage::Writing(call) => Ok(CallStage::Writing(written_on(alloc, call, answer)?)),
+            CallStage::Refused(error) => {
                 drop(answer);
-                Ok(CallState::Refused(error))
+                Ok(CallStage::Refused(error))
             }
         }
     }
 
-    /// The reply of a call that is done, or the call that goes on.
-    pub fn into_reply(self) -> Result<Reply, CallState>
+    // The reply of a call that is done, or the stage that it is at.
+    fn into_reply(self) -> Result<Reply, CallStage>
         ensures replied { result ≡ result_of self }
     {
         match self {
-            CallState::Looking(look) => match look.into_reply() {
+            CallStage::Looking(look) => match look.into_reply() {
                 Ok(reply) => Ok(reply),
-                Err(look) => Err(CallState::Looking(look)),
+                Err(look) => Err(CallStage::Looking(look)),
             },
-            CallState::Refreshing { refresh, write } => Err(CallState::Refreshing {
+            CallStage::Refreshing { refresh, write } => Err(CallStage::Refreshing {
                 refresh,
                 write,
             }),
-            CallState::Writing(call) => match call.into_reply() {
+            CallStage::Writing(call) => match call.into_reply() {
                 Ok(reply) => Ok(told(reply)),
-                Err(call) => Err(CallState::Writing(call)),
+                Err(call) => Err(CallStage::Writing(call)),
             },
-            CallState::Refused(error) => Ok(unlisted(error)),
+            CallStage::Refused(error) => Ok(unlisted(error)),
         }
+    }
+}
+
+// The first stage of a call.
+fn first_stage(alloc: Global, handle: &HandleState, call: Call) -> Result<CallStage, NoMemory>
+    requires of_hash { IsOfHash (hash_of handle.now) call }
+    ensures begun { IfOk result (λ stage. stage ≡ started (setting_at handle.now) (hash_of handle.now) handle.now.view (sought_by handle.now) call) }
+    ensures sized { HasSize call }
+{
+    match call {
+        Call::Write {
+            kind,
+            size,
+            bytes,
+            id,
+        } => {
+            let parts = handle.parts();
+            let write = begun(
+                alloc,
+                &parts.objects,
+                parts.object_hash,
+                kind,
+                size,
+                bytes,
+                id,
+            )?;
+            Ok(refreshed(handle, write))
+        }
+        call => match call.query() {
+            Some(query) => looking(alloc, handle, query),
+            None => unreachable!("a call that writes nothing asks"),
+        },
     }
 }
 
@@ -207,8 +270,8 @@ fn refreshed_on(
     refresh: Refresh,
     write: LooseCall,
     answer: Answer,
-) -> Result<CallState, NoMemory>
-    ensures fed { IfOk result (λ state. state ≡ calls.fed (setting_at handle.now) (CallState.Refreshing refresh write) answer) }
+) -> Result<CallStage, NoMemory>
+    ensures fed { IfOk result (λ stage. stage ≡ calls.fed (setting_at handle.now) (CallStage.Refreshing refresh write) answer) }
 {
     match refresh.feed(alloc, handle.parts(), answer) {
         Ok(step) => Ok(fronted(step, write)),
@@ -239,64 +302,47 @@ fn setting_of(handle: &HandleState) -> Setting<'_>
     let parts = handle.parts();
     Setting {
         parts,
-        max_changes: parts.max_changes,
+        max_changes: handle.max_changes,
     }
 }
 
-// A new query. A handle that has no snapshot yet begins as one whose list was not read.
-fn looking(alloc: Global, handle: &HandleState, query: Query) -> Result<CallState, NoMemory>
-    ensures begun { IfOk result (λ state. state ≡ calls.looking (setting_at handle.now) (view_at handle.now) (sought_by handle.now) query) }
-{
-    match &handle.view {
-        Some(view) => looking_from(alloc, handle, view, query),
-        None => {
-            let view = unseen(alloc)?;
-            looking_from(alloc, handle, &view, query)
-        }
-    }
-}
-
-// A new query from a view.
-fn looking_from(
-    alloc: Global,
-    handle: &HandleState,
-    view: &View,
-    query: Query,
-) -> Result<CallState, NoMemory>
-    ensures begun { IfOk result (λ state. state ≡ calls.looking (setting_at handle.now) view.now (sought_by handle.now) query) }
+// A new query, from the snapshot of its handle.
+fn looking(alloc: Global, handle: &HandleState, query: Query) -> Result<CallStage, NoMemory>
+    ensures begun { IfOk result (λ stage. stage ≡ calls.looking (setting_at handle.now) handle.now.view (sought_by handle.now) query) }
 {
     let id = handle.sought(query);
     let setting = setting_of(handle);
-    let look = LookUp::start(alloc, &setting, view, query.want, id)?;
-    Ok(CallState::Looking(look))
+    let look = LookUp::start(alloc, &setting, &handle.view, query.want, id)?;
+    Ok(CallStage::Looking(look))
 }
 
 // A new write, before which the list of the store is read where the handle has seen none that was.
-fn refreshed(handle: &HandleState, write: LooseCall) -> CallState
-    ensures begun { result ≡ fronted (refreshes.started (view_at handle.now)) write }
+fn refreshed(handle: &HandleState, write: LooseCall) -> CallStage
+    ensures begun { result ≡ fronted (refreshes.started handle.now.view) write }
 {
-    match &handle.view {
-        Some(view) if view.read => CallState::Writing(write),
-        _ => CallState::Refreshing {
+    if handle.view.read {
+        CallStage::Writing(write)
+    } else {
+        CallStage::Refreshing {
             refresh: Refresh::Reading,
             write,
-        },
+        }
     }
 }
 
 // A write and the refresh before it: it begins where the core has a list that was read.
-fn fronted(step: RefreshStep, write: LooseCall) -> CallState
+fn fronted(step: RefreshStep, write: LooseCall) -> CallStage
     ensures fronted { result ≡ fronted step write }
 {
     match step {
-        RefreshStep::More(refresh) => CallState::Refreshing { refresh, write },
+        RefreshStep::More(refresh) => CallStage::Refreshing { refresh, write },
         RefreshStep::Refused(error) => {
             drop(write);
-            CallState::Refused(error)
+            CallStage::Refused(error)
         }
         step => {
             drop(step);
-            CallState::Writing(write)
+            CallStage::Writing(write)
         }
     }
 }
@@ -308,14 +354,13 @@ fn begun(
     hash: gix_hash::Kind,
     kind: Kind,
     size: u64,
-    bytes: &ByteList,
+    bytes: ByteList,
     id: Option<ObjectId>,
 ) -> Result<LooseCall, NoMemory>
-    requires of_hash { IsOfHash hash (Call.Write kind size bytes.now id) }
-    ensures begun { IfOk result (λ call. call ≡ writing folder.now hash kind size bytes.now id) }
+    requires of_hash { IsOfHash hash (Call.Write kind size bytes id) }
+    ensures begun { IfOk result (λ call. call ≡ writing folder.now hash kind size bytes id) }
     ensures sized { size < 2 ^ 64 }
 {
-    let bytes = bytes.try_clone(alloc)?;
     let options = gix_odb_loose::Options {
         alloc_limit_bytes: None,
     };

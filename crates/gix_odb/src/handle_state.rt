@@ -1,6 +1,6 @@
 //! A handle on a store without its work.
-ghost use Rattle.std.specs.Prelude.{◌≡◌, IfOk, None, false};
-ghost use Rattle.gix_odb.specs.HandleState.{replaced_by, sought_by, with_view};
+ghost use Rattle.std.specs.Prelude.{◌≡◌, IfOk};
+ghost use Rattle.gix_odb.specs.HandleState.{IsAlike, replaced_by, sought_by, with_view};
 
 use gix_hash::ObjectId;
 use gix_object::Want;
@@ -10,61 +10,44 @@ use odb_base::NoMemory;
 use std::alloc::Global;
 use std::sync::Arc;
 
-/// A handle without its work: its store and its mode, and what it has of the store's core.
+/// A handle that is registered at the core of its store, without its work: its store, its modes and its snapshot.
 #[derive(Drop)]
 pub struct HandleState {
-    pub store: Arc<StoreParts, Global>,
+    /// The parts of its store, which all handles on the store share.
+    pub info: Arc<StoreParts, Global>,
     pub ignore_replacements: bool,
-    /// The number of the store's core, among those of whoever carries out what machines ask for.
-    pub core: usize,
-    /// Its snapshot: what the core last showed it. There is none before it is registered.
-    pub view: Option<View>,
+    /// The most changes of the list of indices that a call of the handle tolerates.
+    pub max_changes: u32,
+    /// Its snapshot: what the store's core last showed it.
+    pub view: View,
 }
 
 impl HandleState {
-    /// A handle on a store of its own, which seeks what replaces an id.
-    pub fn new(alloc: Global, parts: StoreParts) -> Result<HandleState, NoMemory>
-        ensures parts { IfOk result (λ handle. handle.store.value ≡ parts) }
-        ensures mode { IfOk result (λ handle. handle.ignore_replacements ≡ false) }
-        ensures core { IfOk result (λ handle. handle.core ≡ 0) }
-        ensures view { IfOk result (λ handle. handle.view ≡ None) }
+    /// A copy, which shares the parts of the store and the lists of the snapshot.
+    pub fn try_clone(&self) -> Result<HandleState, NoMemory>
+        ensures alike { IfOk result (λ copy. IsAlike copy self.now) }
     {
-        Ok(HandleState {
-            store: Arc::new(alloc, parts)?,
-            ignore_replacements: false,
-            core: 0,
-            view: None,
-        })
+        let view = self.view.try_clone()?;
+        self.sharing(view)
     }
 
-    /// Another handle on the same store, in the same mode, which has no snapshot yet.
-    pub fn sharing(&self) -> Result<HandleState, NoMemory>
-        ensures store { IfOk result (λ other. other.store.value ≡ self.now.store.value) }
-        ensures mode { IfOk result (λ other. other.ignore_replacements ≡ self.now.ignore_replacements) }
-        ensures core { IfOk result (λ other. other.core ≡ self.now.core) }
-        ensures view { IfOk result (λ other. other.view ≡ None) }
+    /// Another handle on the same store, in the same modes, with a snapshot of its own.
+    pub fn sharing(&self, view: View) -> Result<HandleState, NoMemory>
+        ensures alike { IfOk result (λ other. IsAlike other (with_view self.now view)) }
     {
         Ok(HandleState {
-            store: Arc::try_clone(&self.store)?,
+            info: Arc::try_clone(&self.info)?,
             ignore_replacements: self.ignore_replacements,
-            core: self.core,
-            view: None,
+            max_changes: self.max_changes,
+            view,
         })
-    }
-
-    /// The handle with a view that the store's core handed over to it, which is its snapshot from now on.
-    pub fn seeing(mut self, view: View) -> HandleState
-        ensures seeing { result ≡ with_view self view }
-    {
-        self.view = Some(view);
-        self
     }
 
     /// The parts of the handle's store.
     pub fn parts(&self) -> &StoreParts
-        ensures parts { result.now ≡ self.now.store.value }
+        ensures parts { result.now ≡ self.now.info.value }
     {
-        &self.store
+        &self.info
     }
 
     /// The id that a query seeks: the replacement of its own, where there is one and it isn't ignored. A test seeks

@@ -5,14 +5,15 @@
 //! stands in front of a write in `gix_odb_refresh`; what a store holds, and for how long, in
 //! `specs/{Contents,Moments,Held}.antt`. Who drives the machines, over which disk, is the matter of the crates above.
 //! ```rust
-//! let mut state = CallState::start(alloc, &handle, &Call::Find(id))?;
+//! let mut state = CallState::start(alloc, &handle, Call::Find(id))?;
 //! let reply = loop {
-//!     state = match state.ask(alloc)? {
-//!         Ask::Disk(ask) => state.feed(alloc, &handle, ..)?,    // with the answer of the disk
-//!         Ask::Core(event) => state.feed(alloc, &handle, ..)?,  // or with that of the core
+//!     match state.ask(alloc)? {
+//!         Ask::Disk(ask) => state.feed(alloc, Answer::Disk(..))?,    // the answer of the disk
+//!         Ask::Core(event) => state.feed(alloc, Answer::Core(..))?,  // or that of the core
 //!         Ask::Done(reply) => break reply,
-//!     };
+//!     }
 //! };
+//! let handle = state.into_state();
 //! ```
 #![tactic(auto)]
 
@@ -20,10 +21,10 @@ mod ask;
 mod call_state;
 mod handle_state;
 mod open_state;
-mod unseen;
+mod see;
 
 pub use ask::{Ask, OpenAsk};
-pub use call_state::CallState;
+pub use call_state::{CallStage, CallState};
 pub use gix_odb_calls::{
     Call, CallError, IdPairs, Options, PathList, Query, Reply, Slots, StoreParts, copy_of_pairs,
     copy_of_paths, find, init, load_index, write,
@@ -32,4 +33,4 @@ pub use gix_odb_events::Answer;
 pub use gix_odb_looks::LookUp;
 pub use gix_odb_refresh::Refresh;
 pub use handle_state::HandleState;
-pub use open_state::OpenState;
+pub use open_state::{OpenStage, OpenState};

@@ -1,33 +1,47 @@
 //! The order of work of an opening.
-ghost use Rattle.std.specs.Prelude.{◌≡◌, ◌∷◌, List, IfOk, None, false, length, true};
+ghost use Rattle.std.specs.Prelude.{◌≡◌, ◌∷◌, List, IfOk, OnErr, OnOk, ℕ, length, true};
+ghost use Rattle.std.specs.BTreeMap.{IsFromIterResult};
 ghost use Rattle.std.specs.Option.{option_map};
-ghost use Rattle.odb_base.specs.Path.{Path};
-ghost use Rattle.gix_odb_events.specs.Answers.{Answer as CoreAnswer};
-ghost use Rattle.gix_odb.specs.HandleState.{folders_of, objects_of, parts_of, slots_of};
+ghost use Rattle.gix_hash.specs.ObjectId.{id_cmp};
+ghost use Rattle.gix_odb_calls.specs.declared.init.Error.TheVariants as opening_errors;
+ghost use Rattle.gix_odb_events.specs.declared.answer.Answer.TheVariants as told;
+ghost use Rattle.gix_odb.specs.Answers.{IsDiskAsk};
 ghost use Rattle.gix_odb.specs.OpenOrder.{IsAskOf, ask_of, opened_in, result_of};
 ghost use Rattle.gix_odb.specs.OpenOrder as order;
+ghost use Rattle.gix_odb.specs.OpenState.{IsMadeOf, at_stage, ends_with, opened_handle};
 
 use crate::ask::OpenAsk;
 use crate::handle_state::HandleState;
 use gix_hash::ObjectId;
-use gix_odb_calls::{
-    CallError, Options, PathList, Reply, Slots, StoreParts, copy_of_paths, init, load_index,
-};
-use gix_odb_events::{Answer, Ask};
+use gix_odb_calls::{CallError, Options, PathList, Reply, Slots, StoreParts, init, load_index};
+use gix_odb_events::{Ask, View};
 use gix_odb_packs::{ListStep, Lister};
 use odb_asks::{DiskAnswer, DiskAsk};
 use odb_base::{NoMemory, PathText};
 use odb_nodes::{DiskError, Kind};
 use std::alloc::Global;
 use std::collections::BTreeMap;
+use std::mem::replace;
+use std::sync::Arc;
 
 /// The most slots that a store may have: 2^15 - 1. A pack's number has 32 bits, and the lowest 15 of them are the slot
 /// that its index stands in (`PackId::to_intrinsic_pack_id` of `gix_odb_events`).
 const MAX_SLOTS: u64 = 32767;
 
-/// Where an opening stands.
+/// The opening of a store on its way.
+///
+/// `ask` names the next call of the disk, `feed` takes its answer, and so on until the opening is refused, or asks for a
+/// core. Whoever makes that core registers a handle there: `into_state` is the handle.
 #[derive(Drop)]
-pub enum OpenState {
+pub struct OpenState {
+    info: Arc<StoreParts, Global>,
+    max_changes: u32,
+    stage: OpenStage,
+}
+
+/// The stage of an opening.
+#[derive(Drop)]
+pub enum OpenStage {
     /// The objects directory is to be looked at.
     Looking,
     /// The folders of packs are listed, since the store is to have slots for so many in a hundred of its indices, and a
@@ -45,116 +59,162 @@ pub enum OpenState {
 }
 
 impl OpenState {
-    /// The handle on a store of these folders, the objects directory first, and the opening that is to register it, which asks
-    /// for nothing yet.
+    /// The opening of a store of these folders, the objects directory first, which asks for nothing yet.
     ///
     /// The conditions of opening (folders that differ, ids of the hash, few changes) are neither tested nor required here. A
     /// caller that was handed them tests them first.
     pub fn start(
         alloc: Global,
         path: &PathText,
-        folders: &PathList,
+        folders: &[PathText],
         hash: gix_hash::Kind,
-        replacements: BTreeMap<ObjectId, ObjectId>,
+        replacements: &[(ObjectId, ObjectId)],
         options: Options,
-    ) -> Result<(HandleState, OpenState), NoMemory>
-        ensures parts { IfOk result (λ begun. begun.0.store.value ≡ parts_of path.now folders.now hash replacements options) }
-        ensures mode { IfOk result (λ begun. begun.0.ignore_replacements ≡ false) }
-        ensures core { IfOk result (λ begun. begun.0.core ≡ 0) }
-        ensures view { IfOk result (λ begun. begun.0.view ≡ None) }
-        ensures opening { IfOk result (λ begun. begun.1 ≡ order.started) }
+    ) -> Result<OpenState, NoMemory>
+        ensures parts { IfOk result (λ opening. IsMadeOf path.now folders.now hash replacements.now options opening.info.value) }
+        ensures changes { IfOk result (λ opening. opening.max_changes ≡ options.max_changes) }
+        ensures started { IfOk result (λ opening. opening.stage ≡ order.started) }
     {
         let parts = StoreParts {
             objects: path.try_clone(alloc)?,
-            folders: copy_of_paths(alloc, folders)?,
+            folders: list_of(alloc, folders)?,
             object_hash: hash,
-            replacements,
+            replacements: map_of(alloc, replacements)?,
             alloc_limit_bytes: options.alloc_limit_bytes,
             slots: options.slots,
             max_changes: options.max_changes,
         };
-        Ok((HandleState::new(alloc, parts)?, OpenState::Looking))
+        Ok(OpenState {
+            info: Arc::new(alloc, parts)?,
+            max_changes: options.max_changes,
+            stage: OpenStage::Looking,
+        })
     }
 
-    /// What the opening does next, for the handle that it is to register. A reply is copied: `into_reply` moves it out.
-    pub fn ask(&self, alloc: Global, handle: &HandleState) -> Result<OpenAsk, NoMemory>
-        ensures asked { IfOk result (λ ask. IsAskOf (objects_of handle.now) (folders_of handle.now) self.now ask) }
+    /// What the opening does next. A reply is copied: `into_reply` moves it out.
+    pub fn ask(&self, alloc: Global) -> Result<OpenAsk, NoMemory>
+        ensures asked { IfOk result (λ ask. IsAskOf self.now.info.value.objects self.now.info.value.folders self.now.stage ask) }
     {
-        match self {
-            OpenState::Looking => Ok(OpenAsk::Disk(look_at(alloc, handle)?)),
-            OpenState::Listing { lister, .. } => Ok(OpenAsk::Disk(lister.ask(alloc)?)),
-            OpenState::Registering { slots } => Ok(OpenAsk::Register { slots: *slots }),
-            OpenState::Done(reply) => Ok(OpenAsk::Done(reply.try_clone(alloc)?)),
+        match &self.stage {
+            OpenStage::Looking => Ok(OpenAsk::Disk(look_at(alloc, &self.info.objects)?)),
+            OpenStage::Listing { lister, .. } => Ok(OpenAsk::Disk(lister.ask(alloc)?)),
+            OpenStage::Registering { slots } => Ok(OpenAsk::Register { slots: *slots }),
+            OpenStage::Done(reply) => Ok(OpenAsk::Done(reply.try_clone(alloc)?)),
         }
     }
 
     /// What comes next, a call of the disk or the core that is to be made; there is none where the opening is done. It copies
     /// no reply, which `into_reply` gives then.
-    pub fn next_ask(&self, alloc: Global, handle: &HandleState) -> Result<Option<Ask>, NoMemory>
-        ensures asked { IfOk result (λ ask. ask ≡ ask_of (objects_of handle.now) (folders_of handle.now) self.now) }
+    pub fn next_ask(&self, alloc: Global) -> Result<Option<Ask>, NoMemory>
+        ensures asked { IfOk result (λ ask. ask ≡ ask_of self.now.info.value.objects self.now.info.value.folders self.now.stage) }
     {
-        match self {
-            OpenState::Looking => Ok(Some(Ask::Disk(look_at(alloc, handle)?))),
-            OpenState::Listing { lister, .. } => Ok(Some(Ask::Disk(lister.ask(alloc)?))),
-            OpenState::Registering { slots } => Ok(Some(core_for(handle, *slots))),
-            OpenState::Done(_) => Ok(None),
+        match &self.stage {
+            OpenStage::Looking => Ok(Some(Ask::Disk(look_at(alloc, &self.info.objects)?))),
+            OpenStage::Listing { lister, .. } => Ok(Some(Ask::Disk(lister.ask(alloc)?))),
+            OpenStage::Registering { slots } => Ok(Some(core_for(&self.info, *slots))),
+            OpenStage::Done(_) => Ok(None),
         }
     }
 
     /// The path with which the stream was opened that the next call of the disk is on, where it is on one.
     pub fn opened(&self) -> Option<&PathText>
-        ensures opened { option_map (λ path. path.now) result ≡ opened_in self.now }
+        ensures opened { option_map (λ path. path.now) result ≡ opened_in self.now.stage }
     {
-        match self {
-            OpenState::Listing { lister, .. } => Some(lister.folder()),
+        match &self.stage {
+            OpenStage::Listing { lister, .. } => Some(lister.folder()),
             _ => None,
         }
     }
 
-    /// The opening after the answer to what it asked for, for the handle that it is to register. An answer of the other kind,
-    /// of the disk or of the core, leaves it.
-    pub fn feed(
-        self,
-        alloc: Global,
-        handle: &HandleState,
-        answer: Answer,
-    ) -> Result<OpenState, NoMemory>
-        ensures fed { IfOk result (λ next. next ≡ order.fed (objects_of handle.now) (folders_of handle.now) (slots_of handle.now) self answer) }
+    /// Takes the answer to the call of the disk that the opening asked for. Where memory runs out the opening is refused.
+    pub fn feed(&mut self, alloc: Global, answer: DiskAnswer) -> Result<(), NoMemory>
+        requires asks { IsDiskAsk (ask_of self.old.info.value.objects self.old.info.value.folders self.old.stage) }
+        ensures fed { OnOk result (self.new ≡ at_stage self.old (order.fed self.old.info.value.objects self.old.info.value.folders self.old.info.value.slots self.old.stage (told.Disk answer))) }
+        ensures refused { OnErr result (self.new ≡ at_stage self.old (order.refused opening_errors.NoMemory)) }
     {
-        match answer {
-            Answer::Disk(answer) => by_disk(alloc, handle.parts(), self, answer),
-            Answer::Core(answer) => {
-                drop(answer);
-                Ok(by_core(self))
-            }
+        let stage = replace(&mut self.stage, refused(init::Error::NoMemory));
+        let next = by_disk(alloc, &self.info, stage, answer)?;
+        drop(replace(&mut self.stage, next));
+        Ok(())
+    }
+
+    /// The handle, which is registered at the core that the opening asked for, and was passed this view there.
+    pub fn into_state(self, view: View) -> HandleState
+        requires registers { (slots : ℕ) × IsAskOf self.info.value.objects self.info.value.folders self.stage (OpenAsk.Register slots) }
+        ensures state { result ≡ opened_handle self view }
+    {
+        let OpenState {
+            info,
+            max_changes,
+            stage,
+        } = self;
+        drop(stage);
+        HandleState {
+            info,
+            ignore_replacements: false,
+            max_changes,
+            view,
         }
     }
 
     /// The reply of an opening that is done, or the opening that goes on.
     pub fn into_reply(self) -> Result<Reply, OpenState>
-        ensures replied { result ≡ result_of self }
+        ensures replied { result ≡ ends_with self (result_of self.stage) }
     {
-        match self {
-            OpenState::Done(reply) => Ok(reply),
-            state => Err(state),
+        let OpenState {
+            info,
+            max_changes,
+            stage,
+        } = self;
+        match stage {
+            OpenStage::Done(reply) => {
+                drop(info);
+                Ok(reply)
+            }
+            stage => Err(OpenState {
+                info,
+                max_changes,
+                stage,
+            }),
         }
     }
 }
 
-fn look_at(alloc: Global, handle: &HandleState) -> Result<DiskAsk, NoMemory>
-    ensures look { IfOk result (λ ask. ask ≡ DiskAsk.Look (objects_of handle.now) true) }
+/// The list of some paths.
+fn list_of(alloc: Global, paths: &[PathText]) -> Result<PathList, NoMemory>
+    ensures copied { IfOk result (λ list. list ≡ paths.now) }
+{
+    let mut list = PathList::new(alloc);
+    for path in paths {
+        list.push(path.try_clone(alloc)?)?;
+    }
+    Ok(list)
+}
+
+/// The map of pairs.
+fn map_of(
+    alloc: Global,
+    pairs: &[(ObjectId, ObjectId)],
+) -> Result<BTreeMap<ObjectId, ObjectId>, NoMemory>
+    ensures made { IfOk result (IsFromIterResult id_cmp pairs.now) }
+{
+    Ok(pairs.iter().copied().collect(alloc)?)
+}
+
+fn look_at(alloc: Global, objects: &PathText) -> Result<DiskAsk, NoMemory>
+    ensures look { IfOk result (λ ask. ask ≡ DiskAsk.Look objects.now true) }
 {
     Ok(DiskAsk::Look {
-        path: handle.parts().objects.try_clone(alloc)?,
+        path: objects.try_clone(alloc)?,
         follow: true,
     })
 }
 
 /// The core that a store is to have: the objects directory is one of its folders.
-fn core_for(handle: &HandleState, slots: u16) -> Ask
-    ensures core { result ≡ Ask.NewCore slots (length (objects_of handle.now ∷ folders_of handle.now)) }
+fn core_for(parts: &StoreParts, slots: u16) -> Ask
+    ensures core { result ≡ Ask.NewCore slots (length (parts.now.objects ∷ parts.now.folders)) }
 {
-    let folders = handle.parts().folders.as_slice().len() + 1;
+    let folders = parts.folders.as_slice().len() + 1;
     Ask::NewCore { slots, folders }
 }
 
@@ -162,14 +222,14 @@ fn core_for(handle: &HandleState, slots: u16) -> Ask
 fn by_disk(
     alloc: Global,
     parts: &StoreParts,
-    state: OpenState,
+    state: OpenStage,
     answer: DiskAnswer,
-) -> Result<OpenState, NoMemory>
-    ensures fed { IfOk result (λ next. next ≡ order.fed parts.now.objects parts.now.folders parts.now.slots state (Answer.Disk answer)) }
+) -> Result<OpenStage, NoMemory>
+    ensures fed { IfOk result (λ next. next ≡ order.fed parts.now.objects parts.now.folders parts.now.slots state (told.Disk answer)) }
 {
     match state {
-        OpenState::Looking => after_look(alloc, parts, &answer),
-        OpenState::Listing {
+        OpenStage::Looking => after_look(alloc, parts, &answer),
+        OpenStage::Listing {
             lister,
             percent,
             minimum,
@@ -184,24 +244,14 @@ fn by_disk(
     }
 }
 
-/// What comes behind an answer of the core: its handle is registered there.
-fn by_core(state: OpenState) -> OpenState
-    ensures fed { (objects : Path) → (folders : List Path) → (slots : Slots) → (answer : CoreAnswer) → result ≡ order.fed objects folders slots state (Answer.Core answer) }
-{
-    match state {
-        OpenState::Registering { slots } => OpenState::Done(Reply::Opened { slots }),
-        state => state,
-    }
-}
-
-fn refused(error: init::Error) -> OpenState
+fn refused(error: init::Error) -> OpenStage
     ensures refused { result ≡ order.refused error }
 {
-    OpenState::Done(Reply::Refused(CallError::Open(error)))
+    OpenStage::Done(Reply::Refused(CallError::Open(error)))
 }
 
 /// What comes behind the look at the objects directory.
-fn after_look(alloc: Global, parts: &StoreParts, answer: &DiskAnswer) -> Result<OpenState, NoMemory>
+fn after_look(alloc: Global, parts: &StoreParts, answer: &DiskAnswer) -> Result<OpenStage, NoMemory>
     ensures after { IfOk result (λ next. next ≡ order.looked parts.now.objects parts.now.slots answer.now) }
 {
     match answer {
@@ -216,12 +266,12 @@ fn after_look(alloc: Global, parts: &StoreParts, answer: &DiskAnswer) -> Result<
 }
 
 /// What comes where the objects directory is there: its core, or a listing, to count the indices.
-fn begun(alloc: Global, objects: &PathText, slots: Slots) -> Result<OpenState, NoMemory>
+fn begun(alloc: Global, objects: &PathText, slots: Slots) -> Result<OpenStage, NoMemory>
     ensures begun { IfOk result (λ next. next ≡ order.begun objects.now slots) }
 {
     match slots {
         Slots::Given(slots) => Ok(numbered(u64::from(slots))),
-        Slots::AsNeededByDiskState { percent, minimum } => Ok(OpenState::Listing {
+        Slots::AsNeededByDiskState { percent, minimum } => Ok(OpenStage::Listing {
             lister: Lister::start(alloc, objects, 0)?,
             percent,
             minimum,
@@ -230,11 +280,11 @@ fn begun(alloc: Global, objects: &PathText, slots: Slots) -> Result<OpenState, N
 }
 
 /// What comes behind a step of the listing.
-fn listed_on(percent: u32, minimum: u32, step: ListStep) -> OpenState
+fn listed_on(percent: u32, minimum: u32, step: ListStep) -> OpenStage
     ensures listed { result ≡ order.listed_on percent minimum step }
 {
     match step {
-        ListStep::More(lister) => OpenState::Listing {
+        ListStep::More(lister) => OpenStage::Listing {
             lister,
             percent,
             minimum,
@@ -259,12 +309,12 @@ fn slots_for(percent: u32, minimum: u32, indices: usize) -> u64
 }
 
 /// The core is to be made, unless no store may have so many slots.
-fn numbered(slots: u64) -> OpenState
+fn numbered(slots: u64) -> OpenStage
     ensures numbered { result ≡ order.numbered slots }
 {
     if slots <= MAX_SLOTS {
         let slots = slots as u16;
-        OpenState::Registering { slots }
+        OpenStage::Registering { slots }
     } else {
         refused(init::Error::TooManySlots { asked: slots })
     }

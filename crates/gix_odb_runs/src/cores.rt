@@ -11,7 +11,7 @@ ghost use Rattle.gix_odb_runs.specs.Held.{IsHeld};
 ghost use Rattle.gix_odb_runs.specs.JournalKept.{IsJournal};
 ghost use Rattle.gix_odb_runs.specs.Made.{first_answer, joined_answer};
 
-use crate::kept_core::{KeptCore, answered};
+use crate::kept_core::{KeptCore, register};
 use crate::record::Did;
 use gix_odb_core::{Core, Journal};
 use gix_odb_events::{Effect, Event, Refusal, View};
@@ -21,43 +21,41 @@ use std::alloc::Global;
 /// The journals of the cores of a run, one for each store that was opened.
 pub type JournalList = Sequence<Journal>;
 
-/// Makes the core of a store, with so many slots and folders, at which a handle is registered: what that did, and the answer.
+/// Makes the core of a store, with so many slots and folders, at which a handle is registered: what that did, and the view that
+/// it passed to the handle.
 pub fn added(
     alloc: Global,
     cores: &mut Vec<KeptCore>,
     slots: u16,
     folders: usize,
     seat: u32,
-) -> Result<EventDone, NoMemory>
+) -> Result<(Did, View), NoMemory>
     requires few { slots ≤ most_slots }
-    ensures did { IfOk result (λ added. added.did ≡ Did.Core (length cores.old.items) (number_behind [])) }
-    ensures answer { IfOk result (λ added. added.answer ≡ first_answer slots folders seat) }
+    ensures did { IfOk result (λ added. added.0 ≡ Did.Core (length cores.old.items) (number_behind [])) }
+    ensures view { IfOk result (λ added. view_in (first_answer slots folders seat) ≡ Some added.1) }
     ensures cores { OnOk result (cores.new.items ≡ cores_after_asked cores.old.items (OfNewCore slots folders (length cores.old.items) seat (first_answer slots folders seat))) }
 {
     let store = cores.len() as u64;
-    let (core, answer) = core_with(alloc, slots, folders, seat)?;
+    let (core, view) = core_with(alloc, slots, folders, seat)?;
     cores.push(core)?;
-    Ok(EventDone {
-        did: Did::Core { store, entry: 1 },
-        answer,
-    })
+    Ok((Did::Core { store, entry: 1 }, view))
 }
 
-/// A core with so many slots and folders, at which a handle is registered; and the answer to that.
+/// A core with so many slots and folders, at which a handle is registered; and the view that this passes to it.
 fn core_with(
     alloc: Global,
     slots: u16,
     folders: usize,
     seat: u32,
-) -> Result<(KeptCore, Result<Effect, Refusal>), NoMemory>
+) -> Result<(KeptCore, View), NoMemory>
     requires few { slots ≤ most_slots }
     ensures core { IfOk result (λ made. made.0 ≡ entered (opened slots folders 0 0) seat (Event.Register false) (first_answer slots folders seat)) }
-    ensures answer { IfOk result (λ made. made.1 ≡ first_answer slots folders seat) }
+    ensures view { IfOk result (λ made. view_in (first_answer slots folders seat) ≡ Some made.1) }
 {
     let core = Core::new(alloc, slots, folders)?;
     let mut core = Box::new(alloc, core)?;
-    match answered(alloc, &mut core, seat, Event::Register { stable: false }) {
-        Ok(answer) => Ok((KeptCore::held(core), answer)),
+    match register(alloc, &mut core, seat) {
+        Ok(view) => Ok((KeptCore::held(core), view)),
         Err(error) => {
             drop(core);
             Err(error)

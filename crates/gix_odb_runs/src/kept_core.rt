@@ -166,7 +166,7 @@ impl KeptCore {
 }
 
 /// Registers a free seat at a core: the view that this hands over.
-fn register(alloc: Global, core: &mut Core, seat: u32) -> Result<View, NoMemory>
+pub(crate) fn register(alloc: Global, core: &mut Core, seat: u32) -> Result<View, NoMemory>
     requires free { registered (present core.old).handles seat ≡ None }
     ensures view { IfOk result (λ view. view_in (answer_behind core.old seat (Event.Register false)) ≡ Some view) }
     ensures entered { OnOk result (core.new ≡ entered core.old seat (Event.Register false) (answer_behind core.old seat (Event.Register false))) }
@@ -180,7 +180,7 @@ fn register(alloc: Global, core: &mut Core, seat: u32) -> Result<View, NoMemory>
 }
 
 /// The answer of a core to an event, unless memory ran out.
-pub(crate) fn answered(
+fn answered(
     alloc: Global,
     core: &mut Core,
     seat: u32,

@@ -1,128 +1,164 @@
--- The code of a turn carries out what the work asks for: a call of the disk, an event of a core, or a core for its store.
-use Rattle.std.proofs.Common.{◌≡◌, ℕ, List, [], length, Option, Some, None, Result, Ok, Err, refl, sym, ap, ◌∙◌}
-use Rattle.std.specs.Prelude.{IfOk, OnOk}
+-- The code of a turn carries out what the work asks for, a call of the disk, an event of a core, or a core for its store; and its handle is
+-- told so.
+use Rattle.std.proofs.Common.{◌≡◌, ℕ, ◌<◌, ◌≤◌, List, [], length, Option, Some, None, Result, Ok, Err, refl, sym, ap, ◌∙◌, subst}
+use Rattle.std.specs.Prelude.{IfOk, IsSome, OnOk}
+use Rattle.odb_base.specs.Path.{Path}
 use Rattle.odb_base.specs.declared.no_memory.NoMemory.{NoMemory}
-use Rattle.odb_nodes.specs.declared.change.Change.{Change}
 use Rattle.odb_asks.specs.MemDisk.{Volume}
 use Rattle.odb_asks.specs.Ask.{after_ask, answer_now}
 use Rattle.odb_asks.specs.declared.ask.DiskAsk.{DiskAsk}
-use Rattle.gix_odb.specs.declared.handle_state.HandleState.{HandleState}
-use Rattle.gix_odb_core.specs.History.{History}
-use Rattle.gix_odb_events.specs.declared.view.View.{View}
-use Rattle.gix_odb_events.specs.declared.answer.Answer.{Answer}
+use Rattle.gix_odb_calls.specs.declared.call.Reply.TheVariants as replies
+use Rattle.gix_odb.proofs.AskLaws.{calls_have_no_core_made}
+use Rattle.gix_odb.specs.declared.open_state.OpenStage.TheVariants as opens
+use Rattle.gix_odb_core.specs.History.{History, present}
+use Rattle.gix_odb_core.specs.Replay.{CanHappen, number_behind}
+use Rattle.gix_odb_events.specs.PackId.{most_slots}
+use Rattle.gix_odb_events.specs.Answers.{view_in}
 use Rattle.gix_odb_events.specs.declared.answer.Answer.TheVariants as told
 use Rattle.gix_odb_events.specs.declared.answer.Ask.{Ask}
 use Rattle.gix_odb_events.specs.declared.answer.Ask.TheVariants as asks
-use Rattle.gix_odb_core.specs.Replay.{number_behind}
-use Rattle.gix_odb_events.specs.Answers.{view_in}
-use Rattle.gix_odb_runs.specs.Made.{first_answer}
-use Rattle.gix_odb_runs.specs.declared.record.Did.{Did}
-use Rattle.gix_odb_runs.specs.declared.record.Did.TheVariants as done
-use Rattle.gix_odb_world.specs.declared.turn.Carried.{Carried}
-use Rattle.gix_odb_world.specs.declared.work.Work.{Work}
-use Rattle.gix_odb_world.specs.declared.work.Work.TheVariants.{Opening, Calling}
-use Rattle.gix_odb_runs.specs.Cores.{cores_after_asked}
-use Rattle.gix_odb_runs.specs.Event.{CoreAnswer, CoreEvent, OfCore, answered}
-use Rattle.gix_odb_world.specs.Recorded.{opened_in}
-use Rattle.gix_odb_runs.specs.Run.{Stand, change_asked, change_by, did_of_asked, disk_after_asked, stand, told_now}
-use Rattle.gix_odb_world.specs.Table.{Carries, CarriesCore, CarriesEvent, carried_unasked, did_now, new_core, own_answer, seeing, state_after, told_in}
-use Rattle.gix_odb_world.specs.WorkOrder.{ask_on, fed_after, fed_on}
+use Rattle.gix_odb_look_laws.proofs.CoreLaws.{core_answers_suit_their_events}
 use Rattle.gix_odb_runs.proofs.WriteAsk.Quiet.{after_ask-change}
+use Rattle.gix_odb_runs.specs.Cores.{answer_behind, cores_after_asked, history_at, or_before, registered_at}
+use Rattle.gix_odb_runs.specs.Event.{Asked, CoreAnswer, CoreEvent, OfCore, OfDisk, OfNewCore, OfNothing, answered}
+use Rattle.gix_odb_runs.specs.Made.{first_answer}
+use Rattle.gix_odb_runs.specs.Run.{Stand, stand, told_now}
+use Rattle.gix_odb_runs.specs.declared.record.Did.TheVariants as dids
+use Rattle.gix_odb_world.specs.Handle.{HandleParts, seen, seen_at}
+use Rattle.gix_odb_world.specs.declared.handle.Handle.{Handle}
+use Rattle.gix_odb_world.specs.declared.handle.HandleAt.{HandleAt}
+use Rattle.gix_odb_world.specs.declared.handle.HandleAt.TheVariants as stands
+use Rattle.gix_odb_world.specs.Table.{CanHappenAt, CarriesOut, IsTold, IsToldTo, TellsCore, did_now, new_core, opened_by, state_after, state_told, work_told}
+use Rattle.gix_odb_world.specs.Work.{Work, Opening, Calling}
+use Rattle.gix_odb_world.specs.WorkOrder.{ask_on, fed_after, fed_on}
+use Rattle.gix_odb_world.specs.declared.turn.Carried.{Carried}
+use Rattle.gix_odb_world.specs.declared.turn.Told.{Told}
+use Rattle.gix_odb_world.specs.declared.turn.Told.TheVariants as tells
 
--- a view that a handle sees changes nothing of how its work is fed, and no more does the number of its core
-pub fed_seeing : (state : HandleState) (view : Option View) (work : Work) (answer : Answer) → fed_on (seeing state view) work answer ≡ fed_on state work answer
-fed_seeing state view (Opening opening) answer = refl
-fed_seeing state view (Calling call) answer = refl
+-- ---- what a handle is told is what was asked and answered
 
-pub fed_at_core : (state : HandleState) (core : ℕ) (work : Work) (answer : Answer) → fed_on (record state { core = core }) work answer ≡ fed_on state work answer
-fed_at_core state core (Opening opening) answer = refl
-fed_at_core state core (Calling call) answer = refl
+-- a core that was made so
+told_core : (state : HandleParts) (store slots : ℕ) (answer : CoreAnswer) (own : Told) → TellsCore store slots answer own
+    → record state { core = store; view = or_before (view_in answer) state.view } ≡ state_told state own
+told_core state store slots answer tells.Nothing is = absurd is
+told_core state store slots answer (tells.Answer other) is = absurd is
+told_core state store slots answer (tells.Core number own view) is =
+    ap (λ v. record state { core = store; view = or_before v state.view }) is.2 ∙ ap (λ n. record state { core = n; view = Some view }) (sym is.0)
 
--- the answer of a new core takes the work on as it would have without the number of the core and its view
-pub carries_new : (cores : List History) (slots folders seat : ℕ) (state : HandleState) (work : Work) (core : ℕ) (did : Did) (answer : CoreAnswer) (result : Result Carried NoMemory)
-    → core ≡ length cores → did ≡ done.Core (length cores) (number_behind []) → answer ≡ first_answer slots folders seat
-    → IfOk result (λ done. done.did ≡ did) → IfOk result (λ done. done.change ≡ None)
-    → IfOk result (λ done. done.state ≡ seeing (record state { core = core }) (view_in answer))
-    → IfOk result (λ done. done.work ≡ fed_on (record state { core = core }) work (told.Core answer))
-    → IfOk result (CarriesCore cores slots folders seat state work)
-carries_new cores slots folders seat state work core did answer (Ok carried) place made same did_is change_is state_is work_is = record {
-  did = did_is ∙ made;
-  change = change_is;
-  state_is =
-      state_is ∙ (ap (λ n. seeing (record state { core = n }) (view_in answer)) place
-      ∙ ap (λ a. seeing (record state { core = length cores }) (view_in a)) same);
-  work_is = work_is ∙ (fed_at_core state core work (told.Core answer) ∙ ap (λ a. fed_on state work (told.Core a)) same);
-}
-carries_new cores slots folders seat state work core did answer (Err error) place made same did_is change_is state_is work_is = tt
+-- the handle has what it is told
+pub told_state : (state : HandleParts) (asked : Asked) (own : Told) → IsTold asked own → state_after asked state ≡ state_told state own
+told_state state OfNothing own is = sym (ap (state_told state) is)
+told_state state (OfDisk ask answer) own is = sym (ap (state_told state) is)
+told_state state (OfCore store seat event answer) own is = sym (ap (state_told state) is)
+told_state state (OfNewCore slots folders store seat answer) own is = told_core state store slots answer own is
 
-module _ (disk : Volume) (cores : List History) (seat : ℕ) (state : HandleState) (work : Work) where
-  abbrev at : Stand
-  at = stand cores state.core seat
+-- only an opening has a core made, which is opened then
+opened_by_core : (state : HandleParts) (work : Work) (slots folders store : ℕ) (answer : CoreAnswer) → ask_on state work ≡ Some (asks.NewCore slots folders)
+    → (own : Told) → TellsCore store slots answer own → fed_on state work (told.Core answer) ≡ work_told state work own
+opened_by_core state work slots folders store answer is tells.Nothing here = absurd here
+opened_by_core state work slots folders store answer is (tells.Answer other) here = absurd here
+opened_by_core state (Calling stage) slots folders store answer is (tells.Core number own view) here = absurd (calls_have_no_core_made stage slots folders is)
+opened_by_core state (Opening opens.Looking) slots folders store answer is (tells.Core number own view) here = absurd (cc is)
+opened_by_core state (Opening (opens.Listing lister percent minimum)) slots folders store answer is (tells.Core number own view) here = absurd (cc is)
+opened_by_core state (Opening (opens.Done reply)) slots folders store answer is (tells.Core number own view) here = absurd (cc is)
+opened_by_core state (Opening (opens.Registering given)) slots folders store answer is (tells.Core number own view) here =
+    let same : given ≡ slots = cc is in ap (λ n. Opening (opens.Done (replies.Opened n))) (same ∙ sym here.1)
 
-  -- what is told of something that is asked for
-  abbrev IsCarried : Volume → List History → Carried → Type 0
-  IsCarried disk_then cores_then done = Carries disk disk_then cores cores_then state work (told_in cores disk seat state work) done
+-- and its work goes on so
+pub told_work : (place : Stand) (disk : Volume) (state : HandleParts) (work : Work) (ask : Option Ask) → ask_on state work ≡ ask → (own : Told)
+    → IsTold (told_now place disk ask) own → fed_after state work (answered (told_now place disk ask)) ≡ work_told state work own
+told_work place disk state work None asked own is = sym (ap (work_told state work) is)
+told_work place disk state work (Some (asks.Disk ask)) asked own is = sym (ap (work_told state work) is)
+told_work place disk state work (Some (asks.Core event)) asked own is = sym (ap (work_told state work) is)
+told_work place disk state work (Some (asks.NewCore slots folders)) asked own is = opened_by_core state work slots folders _ _ asked own is
 
-  carries_by : (disk_then : Volume) (cores_then : List History) (done : Carried) (ask : Option Ask) → ask ≡ ask_on state work
-      → done.did ≡ did_of_asked (opened_in work) cores (told_now at disk ask)
-      → done.change ≡ change_asked disk ask
-      → done.state ≡ state_after (told_now at disk ask) state
-      → done.work ≡ fed_after state work (answered (told_now at disk ask))
-      → disk_then ≡ disk_after_asked disk (told_now at disk ask) (change_asked disk ask)
-      → cores_then ≡ cores_after_asked cores (told_now at disk ask)
-      → IsCarried disk_then cores_then done
-  carries_by disk_then cores_then done ask same did_is change_is state_is work_is disk_is cores_are = record {
-    did = did_is ∙ ap (λ a. did_of_asked (opened_in work) cores (told_now at disk a)) same;
-    change = change_is ∙ ap (change_asked disk) same;
-    state_is = state_is ∙ ap (λ a. state_after (told_now at disk a) state) same;
-    work_is = work_is ∙ ap (λ a. fed_after state work (answered (told_now at disk a))) same;
-    disk_is = disk_is ∙ ap (λ a. disk_after_asked disk (told_now at disk a) (change_asked disk a)) same;
-    cores_are = cores_are ∙ ap (λ a. cores_after_asked cores (told_now at disk a)) same;
+-- ---- it is carried out
+
+suits_core : (number slots folders : ℕ) (answer : CoreAnswer) (own : Told) → TellsCore number slots answer own → IsToldTo (Some (asks.NewCore slots folders)) own
+suits_core number slots folders answer tells.Nothing is = absurd is
+suits_core number slots folders answer (tells.Answer other) is = absurd is
+suits_core number slots folders answer (tells.Core own given view) is = is.1
+
+-- the number of the core that a handle of the code has
+core_at : (core : ℕ) (at : HandleAt) → (seen_at core at).state.core ≡ core
+core_at core (stands.Opening opening) = refl
+core_at core (stands.Resting state) = refl
+core_at core (stands.Calling call) = refl
+
+pub core_of : (handle : Handle) → (seen handle).state.core ≡ handle.core
+core_of handle = core_at handle.core handle.at
+
+-- an event of its core can happen there
+pub can_at : (cores : List History) (seat : ℕ) (handle : Handle) (ask : Option Ask) (event : CoreEvent) → ask ≡ Some (asks.Core event)
+    → CanHappenAt cores seat (seen handle).state ask
+    → (handle.core < length cores) × CanHappen (present (history_at cores handle.core)) seat event × IsSome (registered_at cores handle.core seat)
+can_at cores seat handle ask event is can =
+    subst (λ core. (core < length cores) × CanHappen (present (history_at cores core)) seat event × IsSome (registered_at cores core seat)) (core_of handle)
+    (subst (CanHappenAt cores seat (seen handle).state) is can)
+
+-- and a core of so many slots can be made
+pub few_at : (cores : List History) (seat : ℕ) (handle : Handle) (ask : Option Ask) (slots folders : ℕ) → ask ≡ Some (asks.NewCore slots folders)
+    → CanHappenAt cores seat (seen handle).state ask → slots ≤ most_slots
+few_at cores seat handle ask slots folders is can = subst (CanHappenAt cores seat (seen handle).state) is can
+
+-- what a handle is told of the core that it has
+pub carried_by : (disk disk_then : Volume) (cores cores_then : List History) (seat : ℕ) (handle : Handle) (opened : Option Path) (ask own : Option Ask) (result : Result Carried NoMemory)
+    → opened ≡ opened_by (seen handle).work → ask ≡ own
+    → IfOk result (CarriesOut disk disk_then cores cores_then opened own (told_now (stand cores handle.core seat) disk own))
+    → IfOk result (CarriesOut disk disk_then cores cores_then (opened_by (seen handle).work) ask (told_now (stand cores (seen handle).state.core seat) disk ask))
+carried_by disk disk_then cores cores_then seat handle opened ask own result path is carried =
+    subst (λ o. IfOk result (CarriesOut disk disk_then cores cores_then o ask (told_now (stand cores (seen handle).state.core seat) disk ask))) path
+    (subst (λ a. IfOk result (CarriesOut disk disk_then cores cores_then opened a (told_now (stand cores (seen handle).state.core seat) disk a))) (sym is)
+    (subst (λ core. IfOk result (CarriesOut disk disk_then cores cores_then opened own (told_now (stand cores core seat) disk own))) (sym (core_of handle)) carried))
+
+module _ (disk : Volume) (cores : List History) (opened : Option Path) (core seat : ℕ) where
+  -- what is asked for so, at the core that has this number
+  abbrev pub IsCarriedOut : Volume → List History → Option Ask → Carried → Type 0
+  IsCarriedOut disk_then cores_then ask done = CarriesOut disk disk_then cores cores_then opened ask (told_now (stand cores core seat) disk ask) done
+
+  pub carries_nothing : IsCarriedOut disk cores None (record { did = dids.Nothing; told = tells.Nothing })
+  carries_nothing = record { did = refl; told_is = refl; suits = refl; disk_is = refl; cores_are = refl }
+
+  -- a call of the disk
+  pub carries_call : (ask : DiskAsk) (disk_then : Volume) (result : Result Carried NoMemory)
+      → IfOk result (λ done. done.did ≡ did_now opened disk ask) → IfOk result (λ done. done.told ≡ tells.Answer (told.Disk (answer_now disk ask)))
+      → OnOk result (disk_then ≡ after_ask disk ask) → IfOk result (IsCarriedOut disk_then cores (Some (asks.Disk ask)))
+  carries_call ask disk_then (Ok done) did_is told_is disk_is = record {
+    did = did_is;
+    told_is = told_is;
+    suits = subst (IsToldTo (Some (asks.Disk ask))) (sym told_is) tt;
+    disk_is = disk_is ∙ after_ask-change disk ask;
+    cores_are = refl;
   }
+  carries_call ask disk_then (Err error) did_is told_is disk_is = tt
 
-  -- ---- nothing
+  -- an event of a core
+  pub carries_event : (event : CoreEvent) (cores_then : List History) (result : Result Carried NoMemory)
+      → IfOk result (λ done. done.did ≡ dids.Core core (number_behind (history_at cores core).entries))
+      → IfOk result (λ done. done.told ≡ tells.Answer (told.Core (answer_behind (history_at cores core) seat event)))
+      → OnOk result (cores_then ≡ cores_after_asked cores (OfCore core seat event (answer_behind (history_at cores core) seat event)))
+      → IfOk result (IsCarriedOut disk cores_then (Some (asks.Core event)))
+  carries_event event cores_then (Ok done) did_is told_is cores_are = record {
+    did = did_is;
+    told_is = told_is;
+    suits = subst (IsToldTo (Some (asks.Core event))) (sym told_is)
+        (core_answers_suit_their_events (history_at cores core).opening (history_at cores core).entries seat event (answer_behind (history_at cores core) seat event) refl);
+    disk_is = refl;
+    cores_are = cores_are;
+  }
+  carries_event event cores_then (Err error) did_is told_is cores_are = tt
 
-  pub carries_nothing : ask_on state work ≡ None → IsCarried disk cores (carried_unasked state work)
-  carries_nothing is = carries_by disk cores (carried_unasked state work) None (sym is) refl refl refl refl refl refl
-
-  -- ---- a call of the disk
-
-  pub carries_call : (ask : DiskAsk) → ask_on state work ≡ Some (asks.Disk ask) → (disk_then : Volume) (done : Carried)
-      → done.did ≡ did_now (opened_in work) disk ask → done.change ≡ change_by disk ask → done.state ≡ state
-      → done.work ≡ fed_on state work (told.Disk (answer_now disk ask))
-      → disk_then ≡ after_ask disk ask
-      → IsCarried disk_then cores done
-  carries_call ask is disk_then done did_is change_is state_is work_is disk_is =
-      carries_by disk_then cores done (Some (asks.Disk ask)) (sym is)
-      did_is change_is state_is work_is (disk_is ∙ after_ask-change disk ask) refl
-
-  -- which failed only where memory ran out, and whose change was told before
-  pub carries_answer : (ask : DiskAsk) → ask_on state work ≡ Some (asks.Disk ask) → (change : Option Change) → change ≡ change_by disk ask
-      → (disk_then : Volume) → (result : Result Carried NoMemory)
-      → IfOk result (λ done. done.did ≡ did_now (opened_in work) disk ask) → IfOk result (λ done. done.change ≡ change)
-      → IfOk result (λ done. done.state ≡ state) → IfOk result (λ done. done.work ≡ fed_on state work (told.Disk (answer_now disk ask)))
-      → OnOk result (disk_then ≡ after_ask disk ask)
-      → IfOk result (λ done. IsCarried disk_then cores done)
-  carries_answer ask is change known disk_then (Ok done) did_is change_is state_is work_is disk_is =
-      carries_call ask is disk_then done did_is (change_is ∙ known) state_is work_is disk_is
-  carries_answer ask is change known disk_then (Err error) did_is change_is state_is work_is disk_is = tt
-
-  -- ---- an event of a core
-
-  pub carries_event : (event : CoreEvent) → ask_on state work ≡ Some (asks.Core event) → (cores_then : List History) (done : Carried)
-      → CarriesEvent cores seat state work event done
-      → cores_then ≡ cores_after_asked cores (OfCore state.core seat event (own_answer cores seat state event))
-      → IsCarried disk cores_then done
-  carries_event event is cores_then done carried cores_are =
-      carries_by disk cores_then done (Some (asks.Core event)) (sym is)
-      carried.did carried.change carried.state_is carried.work_is refl cores_are
-
-  -- ---- a core
-
-  pub carries_core : (slots folders : ℕ) → ask_on state work ≡ Some (asks.NewCore slots folders) → (cores_then : List History) (done : Carried)
-      → CarriesCore cores slots folders seat state work done
-      → cores_then ≡ cores_after_asked cores (new_core cores slots folders seat)
-      → IsCarried disk cores_then done
-  carries_core slots folders is cores_then done carried cores_are =
-      carries_by disk cores_then done (Some (asks.NewCore slots folders)) (sym is)
-      carried.did carried.change carried.state_is carried.work_is refl cores_are
+  -- a core
+  pub carries_core : (slots folders : ℕ) (cores_then : List History) (result : Result Carried NoMemory)
+      → IfOk result (λ done. done.did ≡ dids.Core (length cores) (number_behind []))
+      → IfOk result (λ done. TellsCore (length cores) slots (first_answer slots folders seat) done.told)
+      → OnOk result (cores_then ≡ cores_after_asked cores (new_core cores slots folders seat))
+      → IfOk result (IsCarriedOut disk cores_then (Some (asks.NewCore slots folders)))
+  carries_core slots folders cores_then (Ok done) did_is told_is cores_are = record {
+    did = did_is;
+    told_is = told_is;
+    suits = suits_core (length cores) slots folders (first_answer slots folders seat) done.told told_is;
+    disk_is = refl;
+    cores_are = cores_are;
+  }
+  carries_core slots folders cores_then (Err error) did_is told_is cores_are = tt

@@ -45,7 +45,7 @@ use Rattle.gix_odb_look_laws.proofs.ListingLaws.{listed_rows_are_those_of_the_tr
 use Rattle.gix_odb.specs.Contents.{ShowsFile, folder_list}
 use Rattle.gix_odb.specs.Moments.{Sometime}
 use Rattle.gix_odb.specs.OpenExchanges.{AreAsked, HasListed, IsNumber, fed_by, list_behind, list_by}
-use Rattle.gix_odb.specs.declared.open_state.OpenState.TheVariants as opens
+use Rattle.gix_odb.specs.declared.open_state.OpenStage.TheVariants as opens
 use Rattle.gix_odb_world.specs.AtWork.{Store, setting_in}
 use Rattle.gix_odb_world.specs.Counted.{AreCounted, IsCountedNumber, WasShownRow}
 use Rattle.gix_odb_runs.specs.Event.{Event}

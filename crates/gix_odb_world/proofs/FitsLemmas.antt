@@ -13,7 +13,6 @@ use Rattle.odb_nodes.proofs.TreeLemmas.{cases_path}
 use Rattle.gix_odb_shown.specs.Kept.{Fits, Folders, LiesInOne}
 use Rattle.gix_odb_shown.specs.Watched.{pack_directory}
 use Rattle.gix_odb_world.specs.declared.course.Course.{Course}
-use Rattle.gix_odb_runs.specs.Run.{disk_after, tree_at}
 use Rattle.gix_odb_world.specs.World.{HasHistory, IsExplained}
 use Rattle.gix_odb_world.proofs.HistoryLemmas.{tree_at-all}
 

@@ -18,13 +18,12 @@ use Rattle.gix_odb_calls.specs.declared.step.Outcome.TheVariants as outcomes
 use Rattle.gix_odb_calls.specs.declared.step.Why.{Why}
 use Rattle.gix_odb_calls.specs.declared.step.Why.TheVariants.{BadOpen}
 use Rattle.gix_odb_calls.specs.declared.init.Options.{Options}
+use Rattle.gix_odb.specs.declared.open_state.OpenStage.{OpenStage}
 use Rattle.gix_odb.specs.declared.open_state.OpenState.{OpenState}
 use Rattle.gix_odb_runs.specs.declared.record.Did.{Did}
 use Rattle.gix_odb_runs.specs.declared.record.Did.TheVariants.{Core, Nothing}
-use Rattle.gix_odb_world.specs.declared.handle.Handle.{Handle}
-use Rattle.gix_odb.specs.declared.handle_state.HandleState.{HandleState}
-use Rattle.gix_odb_world.specs.declared.work.Work.{Work}
-use Rattle.gix_odb_world.specs.declared.work.Work.TheVariants.{Opening}
+use Rattle.gix_odb_world.specs.Work.{Work}
+use Rattle.gix_odb_world.specs.Work.{Opening}
 use Rattle.gix_odb_world.specs.declared.course.Course.{Course}
 use Rattle.gix_hash.specs.ObjectId.{id_cmp}
 use Rattle.gix_odb_core.specs.History.{History}
@@ -35,12 +34,13 @@ use Rattle.gix_odb_runs.specs.Cores.{answer_behind, cores_after, cores_after_ask
 use Rattle.gix_odb_runs.specs.Event.{Asked, Event, OfCore}
 use Rattle.gix_odb_world.specs.Headline.{LeavesDisk, asked_applied, asked_by_close}
 use Rattle.gix_odb_world.specs.Status.{OpenStore, Store, Status, Free, Resting, Working, store_at, opening_at, ignoring_from, modes_at_opening, status_of}
-use Rattle.gix_odb_world.specs.Handle.{Begins, IsHandleOf, IsOpened}
+use Rattle.gix_odb_world.specs.Handle.{Begins, IsHandleOf, Seen, opening_parts, seen_at}
+use Rattle.gix_odb_world.specs.declared.handle.HandleAt.TheVariants as stands
 use Rattle.gix_odb_runs.specs.Run.{IsTurnOf, did_of_asked}
 use Rattle.gix_odb_world.specs.Running.{Runs}
-use Rattle.gix_odb_world.specs.Valid.{Phase, NoneThere, Idle, Running, why_not_open, why_not_idle, are_distinct, are_good_folders, are_good_replacements, is_openable}
+use Rattle.gix_odb_world.specs.Valid.{Phase, NoneThere, Idle, Running, why_not_open, why_not_idle, are_distinct, are_good_folders, are_good_replacements}
 use Rattle.gix_odb_world.specs.World.{Continues, Explains, Matches, handle_at}
-use Rattle.gix_odb_world.specs.Table.{SetsHandle, Notes, phase_of_handle, phase_of_work, why_not_now, with_ignoring}
+use Rattle.gix_odb_world.specs.Table.{SetsHandle, Notes, phase_of_handle, phase_of_work, why_not_now, seen_ignoring}
 use Rattle.gix_odb_world.specs.Watch.{Watches}
 use Rattle.gix_odb_world.proofs.DistinctLemmas.{IsDistinct-by_count, ids_equal}
 use Rattle.gix_odb_world.proofs.StepLemmas.{Tells, applied, applied_at_core}
@@ -52,37 +52,38 @@ runs_opening first events e handle store =
     let whole : length (events ++ e ∷ []) ≡ length events + 1 = length_push events e in (omega (arith, whole), begins first events e handle store modes_at_opening OpenStore tt)
 
 -- each pair's first id is replaced by its second, where no id is replaced twice
-replacements_same : (path : Path) (folders : List Path) (hash : HashKind) (replacements : List (ObjectId × ObjectId)) (options : Options) (n : ℕ) (state : HandleState)
-    → is_openable path folders hash replacements options.max_changes ≡ true
-    → IsOpened path folders hash replacements options state → IsHandleOf (store_at n path folders hash replacements options) modes_at_opening state
-replacements_same path folders hash replacements options n state good begun =
-    let conditions = and_parts (are_good_folders path folders) (are_good_replacements hash replacements && nat_le options.max_changes most_changes) good in
+replacements_same : (path : Path) (folders : List Path) (hash : HashKind) (replacements : List (ObjectId × ObjectId)) (options : Options) (n : ℕ) (opening : OpenState)
+    → Begins path folders hash replacements options opening
+    → IsHandleOf (store_at n path folders hash replacements options) modes_at_opening (opening_parts 0 opening)
+replacements_same path folders hash replacements options n opening begun =
+    let conditions = and_parts (are_good_folders path folders) (are_good_replacements hash replacements && nat_le options.max_changes most_changes) begun.good in
     let both = and_parts (are_good_replacements hash replacements) (nat_le options.max_changes most_changes) conditions.1 in
     let distinct = and_parts (are_distinct id_cmp (keys_of replacements)) (list_all (is_pair_of hash) replacements) both.0 in
+    let parts = begun.parts in
     record {
-      objects = begun.objects_are;
-      folders = begun.folders_are;
-      replacements = λ id. begun.replacements_are.0 id ∙ update_all_none ids_equal (eq_by_cmp id_cmp) (λ x y. refl) replacements id (IsDistinct-by_count ids_equal (keys_of replacements) distinct.0);
-      ignoring = begun.ignoring;
-      limit = begun.limit;
-      slots = begun.slots;
-      hash = begun.hash_is;
+      objects = parts.objects_are;
+      folders = parts.folders_are;
+      replacements = λ id. parts.replacements_are.0 id ∙ update_all_none ids_equal (eq_by_cmp id_cmp) (λ x y. refl) replacements id (IsDistinct-by_count ids_equal (keys_of replacements) distinct.0);
+      ignoring = refl;
+      limit = parts.limit;
+      slots = parts.slots;
+      hash = parts.hash_is;
       changes = begun.changes;
-      core = begun.core;
-      view = begun.view;
+      core = refl;
+      view = refl;
     }
 
-pub opened : (old mid new : Course) (shown : Kept) (number : ℕ) (path : Path) (folders : List Path) (hash : HashKind) (replacements : List (ObjectId × ObjectId)) (options : Options) (state : HandleState)
+pub opened : (old mid new : Course) (shown : Kept) (number : ℕ) (path : Path) (folders : List Path) (hash : HashKind) (replacements : List (ObjectId × ObjectId)) (options : Options)
     (opening : OpenState)
-    → why_not_open (phase_of_handle (handle_at old number)) true ≡ None → Begins path folders hash replacements options (state, opening)
+    → why_not_open (phase_of_handle (handle_at old number)) true ≡ None → Begins path folders hash replacements options opening
     → Watches old.shown shown (tree_of old.disk.state) (path ∷ folders)
-    → SetsHandle (record old { shown = shown }) mid number (Some (record { state = state; work = Some (Opening opening) })) → Notes mid new outcomes.Applied Nothing None
+    → SetsHandle (record old { shown = shown }) mid number (Some (seen_at 0 (stands.Opening opening))) → Notes mid new outcomes.Applied Nothing None
     → Continues old (steps.Open number path folders hash replacements options) new
-opened old mid new shown number path folders hash replacements options state opening free begins watches sets notes =
-    applied old mid new shown (steps.Open number path folders hash replacements options) number (Some (record { state = state; work = Some (Opening opening) }))
+opened old mid new shown number path folders hash replacements options opening free begins watches sets notes =
+    applied old mid new shown (steps.Open number path folders hash replacements options) number (Some (seen_at 0 (stands.Opening opening)))
     (λ n status. opening_at n (store_at n path folders hash replacements options))
     (ap (why_not_open (phase_of_handle (handle_at old number))) begins.good ∙ free) sets notes watches (λ turn. turn) refl (λ other turn. cc) (λ n asked table. refl)
-    (λ n status match. (replacements_same path folders hash replacements options n state begins.good begins.handle, ap (λ (own : OpenState). Some (Opening own)) begins.opening))
+    (λ n status match. (replacements_same path folders hash replacements options n opening begins, ap (λ (own : OpenStage). Some (Opening own)) begins.begun))
     (λ first events e explains opens asked no_turn. runs_opening first events e number (store_at (length events + 1) path folders hash replacements options))
     (λ events. refl)
 
@@ -105,13 +106,13 @@ abbrev removal : List History → (core number : ℕ) → Asked
 removal cores core number = OfCore core number core_events.Remove (answer_behind (history_at cores core) number core_events.Remove)
 
 -- a handle at rest is removed from its own core
-removal_is : (cores : List History) (number : ℕ) (status : Status) (handle : Handle) → why_not_idle (phase_of_handle (Some handle)) ≡ None → Matches status (Some handle)
+removal_is : (cores : List History) (number : ℕ) (status : Status) (handle : Seen) → why_not_idle (phase_of_handle (Some handle)) ≡ None → Matches status (Some handle)
     → removal cores handle.state.core number ≡ asked_by_close cores number status
 removal_is cores number Free handle idle match = absurd match
 removal_is cores number (Resting store modes) handle idle match = ap (λ core. removal cores core number) match.0.core
-removal_is cores number (Working running) handle idle match = absurd (cc (subst (λ (w : Option Work). why_not_idle (phase_of_work handle.state.store.value.object_hash w) ≡ None) match.1 idle))
+removal_is cores number (Working running) handle idle match = absurd (cc (subst (λ (w : Option Work). why_not_idle (phase_of_work handle.state.info.object_hash w) ≡ None) match.1 idle))
 
-close_tells : (old : Course) (cores : Vec History Global) (number : ℕ) (handle : Handle) (did : Did) → why_not_now old (steps.Close number) ≡ None → handle_at old number ≡ Some handle
+close_tells : (old : Course) (cores : Vec History Global) (number : ℕ) (handle : Seen) (did : Did) → why_not_now old (steps.Close number) ≡ None → handle_at old number ≡ Some handle
     → did ≡ Core handle.state.core (number_behind (history_at old.cores.items handle.state.core).entries)
     → cores.items ≡ cores_after_asked old.cores.items (removal old.cores.items handle.state.core number)
     → (first : Volume) (events : List Event) → Explains first events old → Tells events old cores (steps.Close number) did
@@ -129,7 +130,7 @@ close_tells old cores number handle did reason there did_is cores_are first even
       leaves = subst LeavesDisk here tt;
     }
 
-pub closed : (old mid new : Course) (cores : Vec History Global) (number : ℕ) (handle : Handle) (did : Did) → why_not_now old (steps.Close number) ≡ None
+pub closed : (old mid new : Course) (cores : Vec History Global) (number : ℕ) (handle : Seen) (did : Did) → why_not_now old (steps.Close number) ≡ None
     → handle_at old number ≡ Some handle
     → did ≡ Core handle.state.core (number_behind (history_at old.cores.items handle.state.core).entries)
     → cores.items ≡ cores_after_asked old.cores.items (removal old.cores.items handle.state.core number)
@@ -143,8 +144,8 @@ closed old mid new cores number handle did reason there did_is cores_are sets no
 
 -- ---- the mode of an idle handle
 
-matches_ignoring : (status : Status) (handle : Option Handle) → why_not_idle (phase_of_handle handle) ≡ None
-    → Matches status handle → Matches (ignoring_from status) (with_ignoring handle)
+matches_ignoring : (status : Status) (handle : Option Seen) → why_not_idle (phase_of_handle handle) ≡ None
+    → Matches status handle → Matches (ignoring_from status) (seen_ignoring handle)
 matches_ignoring Free None idle match = tt
 matches_ignoring Free (Some handle) idle match = absurd match
 matches_ignoring (Resting store modes) None idle match = absurd match
@@ -153,7 +154,7 @@ matches_ignoring (Resting store modes) (Some handle) idle match =
     (record { objects = own.objects; folders = own.folders; replacements = own.replacements; ignoring = refl; limit = own.limit; slots = own.slots; hash = own.hash; changes = own.changes; core = own.core; view = own.view }, match.1)
 matches_ignoring (Working running) None idle match = absurd match
 matches_ignoring (Working running) (Some handle) idle match =
-    absurd (cc (subst (λ (w : Option Work). why_not_idle (phase_of_work handle.state.store.value.object_hash w) ≡ None) match.1 idle))
+    absurd (cc (subst (λ (w : Option Work). why_not_idle (phase_of_work handle.state.info.object_hash w) ≡ None) match.1 idle))
 
 runs_ignoring : (number : ℕ) (first : Volume) (events : List Event) (e : Event) (status : Status) → ((other : ℕ) → ¬ IsTurnOf other e)
     → Runs first events number status → Runs first (events ++ e ∷ []) number (ignoring_from status)
@@ -162,10 +163,10 @@ runs_ignoring number first events e (Resting store modes) no_turn runs = tt
 runs_ignoring number first events e (Working running) no_turn runs = runs-push first events e number (Working running) (no_turn number) runs
 
 pub ignored : (old mid new : Course) (number : ℕ) → why_not_now old (steps.Ignore number) ≡ None
-    → SetsHandle old mid number (with_ignoring (handle_at old number)) → Notes mid new outcomes.Applied Nothing None
+    → SetsHandle old mid number (seen_ignoring (handle_at old number)) → Notes mid new outcomes.Applied Nothing None
     → Continues old (steps.Ignore number) new
 ignored old mid new number reason sets notes =
-    applied old mid new old.shown (steps.Ignore number) number (with_ignoring (handle_at old number)) (λ n status. ignoring_from status)
+    applied old mid new old.shown (steps.Ignore number) number (seen_ignoring (handle_at old number)) (λ n status. ignoring_from status)
     reason
     (record { table = sets.table; disk = sets.disk; cores = sets.cores; shown = sets.shown; outcomes = sets.outcomes; records = sets.records })
     notes (λ trees since now is begun k. k) (λ turn. turn) refl (λ other turn. cc) (λ n asked table. refl)

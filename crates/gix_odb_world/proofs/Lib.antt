@@ -3,6 +3,7 @@ mod BegunLemmas
 mod BoundLemmas
 mod CarriedLemmas
 mod CloneLemmas
+mod FedLemmas
 mod FolderLemmas
 mod HandleLemmas
 mod DistinctLemmas

@@ -16,14 +16,13 @@ use Rattle.gix_odb_looks.specs.LookUpOrder.{ask_of, fed, result_of}
 use Rattle.gix_odb_looks.specs.declared.look_up.LookUp.{LookUp}
 use Rattle.gix_odb.specs.CallOrder.{looking_result}
 use Rattle.gix_odb.specs.Contents.{sought}
-use Rattle.gix_odb.specs.declared.call_state.CallState.TheVariants.{Looking}
-use Rattle.gix_odb.specs.declared.handle_state.HandleState.{HandleState}
-use Rattle.gix_odb_world.specs.declared.work.Work.TheVariants.{Calling}
+use Rattle.gix_odb.specs.declared.call_state.CallStage.TheVariants.{Looking}
+use Rattle.gix_odb_world.specs.Handle.{HandleParts, IsHandleOf}
+use Rattle.gix_odb_world.specs.Work.{Calling}
 use Rattle.gix_odb_world.specs.AtWork.{Modes, setting_in}
 use Rattle.gix_odb_world.specs.Bound.{bound_of_call, bound_of_task, bytes_to_write}
 use Rattle.gix_odb_runs.specs.Event.{Event}
 use Rattle.gix_odb_events.specs.declared.answer.Answer.{Answer}
-use Rattle.gix_odb_world.specs.Handle.{IsHandleOf}
 use Rattle.gix_odb_world.specs.Machine.{placed}
 use Rattle.gix_odb_runs.specs.Run.{IsTurnOf}
 use Rattle.gix_odb_world.specs.Running.Query.{IsLooking, call_of, looking}
@@ -45,7 +44,7 @@ looking_placed : (result : Result Reply LookUp) → calling_result (looking_resu
 looking_placed (Ok reply) = refl
 looking_placed (Err look) = refl
 
-looking_feeds : (store : Store) (modes : Modes) (code : HandleState) → IsHandleOf store modes code → (look : LookUp) (answer : Option Answer)
+looking_feeds : (store : Store) (modes : Modes) (code : HandleParts) → IsHandleOf store modes code → (look : LookUp) (answer : Option Answer)
     → result_in (fed_after code (Calling (Looking look)) answer) ≡ placed looking (looking.feed store look answer)
 looking_feeds store modes code own look None = looking_placed (result_of look)
 looking_feeds store modes code own look (Some answer) =

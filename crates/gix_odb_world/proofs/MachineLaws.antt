@@ -15,12 +15,12 @@ use Rattle.std.specs.List.{IsDistinct}
 use Rattle.gix_odb_calls.specs.declared.call.Reply.{Reply}
 use Rattle.gix_odb_core.specs.Replay.{CanHappen}
 use Rattle.gix_odb_core.specs.declared.shape.Shape.{Shape}
-use Rattle.gix_odb.specs.declared.handle_state.HandleState.{HandleState}
+use Rattle.gix_odb_world.specs.Handle.{HandleParts, IsHandleOf}
 use Rattle.gix_odb_loose.specs.LooseOrder.{disk_ask_of}
 use Rattle.gix_odb_loose.specs.LooseOrder as loose_order
 use Rattle.gix_odb_loose.specs.declared.call.LooseCall.{LooseCall}
 use Rattle.gix_odb_loose.specs.declared.write_order.WriteStage.TheVariants.{Making}
-use Rattle.gix_odb_world.specs.declared.work.Work.{Work}
+use Rattle.gix_odb_world.specs.Work.{Work}
 use Rattle.gix_odb_world.specs.Asks.{AsksInOrder, MayAskCore, MayAskNewCore, MayEndUnasked}
 use Rattle.gix_odb_world.specs.Bound.{HasAtMost, bound_of_task}
 use Rattle.gix_odb_runs.specs.Cores.{cores_after}
@@ -32,7 +32,6 @@ use Rattle.gix_odb_events.specs.declared.answer.Ask.{Ask}
 use Rattle.gix_odb_events.specs.declared.answer.Ask.TheVariants as work_asks
 use Rattle.gix_odb_events.specs.declared.answer.Answer.TheVariants as given
 use Rattle.gix_odb_looks.specs.LookUpOrder.{loose_ask}
-use Rattle.gix_odb_world.specs.Handle.{IsHandleOf}
 use Rattle.gix_odb_world.specs.Headline.{IsLawful, stand_of}
 use Rattle.gix_odb_world.specs.Machine.{At, Machine, placed}
 use Rattle.gix_odb_world.specs.Machines.{at}
@@ -182,9 +181,9 @@ pub record KeepsLaws (m : Machine) (Known : KnowsAt m) : Type 1 where
   pub knows : (first : Volume) (events : List Event) (handle : ℕ) (running : Running) (state : m.State) → Known first events handle running state
       → Knows first events handle running (m.work state)
   -- the code of the work asks and goes on as the machine does
-  pub asks : (store : Store) (modes : Modes) (code : HandleState) → IsHandleOf store modes code → (state : m.State)
+  pub asks : (store : Store) (modes : Modes) (code : HandleParts) → IsHandleOf store modes code → (state : m.State)
       → ask_on code (m.work state) ≡ m.ask store state
-  pub feeds : (store : Store) (modes : Modes) (code : HandleState) → IsHandleOf store modes code → (state : m.State) (answer : Option Answer)
+  pub feeds : (store : Store) (modes : Modes) (code : HandleParts) → IsHandleOf store modes code → (state : m.State) (answer : Option Answer)
       → result_in (fed_after code (m.work state) answer) ≡ placed m (m.feed store state answer)
   -- where a task begins at a state, that is all that it knows
   pub starts : (first : Volume) (events : List Event) (e : Event) (handle : ℕ) (store : Store) (modes : Modes) (task : Task) (state : m.State)

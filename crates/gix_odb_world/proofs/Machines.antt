@@ -1,7 +1,7 @@
 -- Each work's machine keeps its laws. A further machine has one line here.
-use Rattle.gix_odb.specs.declared.call_state.CallState.TheVariants.{Looking, Refreshing, Refused, Writing}
-use Rattle.gix_odb_world.specs.declared.work.Work.{Work}
-use Rattle.gix_odb_world.specs.declared.work.Work.TheVariants.{Opening, Calling}
+use Rattle.gix_odb.specs.declared.call_state.CallStage.TheVariants.{Looking, Refreshing, Refused, Writing}
+use Rattle.gix_odb_world.specs.Work.{Work}
+use Rattle.gix_odb_world.specs.Work.{Opening, Calling}
 use Rattle.gix_odb_world.specs.Machines.{at}
 use Rattle.gix_odb_world.specs.Running.{known_at}
 use Rattle.gix_odb_world.proofs.LookMachine.{looking_laws}

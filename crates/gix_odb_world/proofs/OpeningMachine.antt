@@ -12,15 +12,14 @@ use Rattle.gix_odb.specs.Contents.{folder_list}
 use Rattle.gix_odb.specs.OpenExchanges.{AreAsked, behind}
 use Rattle.gix_odb.specs.OpenOrder as openings
 use Rattle.gix_odb.proofs.OpenLaws.{openings_ask_no_event, openings_register_few_slots}
-use Rattle.gix_odb.specs.declared.handle_state.HandleState.{HandleState}
-use Rattle.gix_odb.specs.declared.open_state.OpenState.{OpenState}
-use Rattle.gix_odb.specs.declared.open_state.OpenState.TheVariants as opens
-use Rattle.gix_odb_world.specs.declared.work.Work.TheVariants.{Opening}
+use Rattle.gix_odb_world.specs.Handle.{HandleParts, IsHandleOf}
+use Rattle.gix_odb.specs.declared.open_state.OpenStage.{OpenStage}
+use Rattle.gix_odb.specs.declared.open_state.OpenStage.TheVariants as opens
+use Rattle.gix_odb_world.specs.Work.{Opening}
 use Rattle.gix_odb_world.specs.Bound.{bound_of_task, turn_bound}
 use Rattle.gix_odb_runs.specs.Event.{Event, answered}
 use Rattle.gix_odb_events.specs.declared.answer.Answer.{Answer}
 use Rattle.gix_odb_events.specs.declared.answer.Ask.TheVariants as work_asks
-use Rattle.gix_odb_world.specs.Handle.{IsHandleOf}
 use Rattle.gix_odb_world.specs.Machine.{placed}
 use Rattle.gix_odb_runs.specs.Run.{IsTurnOf, change_by, disk_after}
 use Rattle.gix_odb_world.specs.Running.Opening.{HasSeen, IsOpening, opening}
@@ -35,22 +34,22 @@ use Rattle.gix_odb_world.proofs.ToldLemmas.{told_kept}
 
 -- ---- its code
 
-opening_placed : (result : Result Reply OpenState) → opening_result result ≡ placed opening result
+opening_placed : (result : Result Reply OpenStage) → opening_result result ≡ placed opening result
 opening_placed (Ok reply) = refl
 opening_placed (Err state) = refl
 
-opening_asks : (store : Store) (modes : Modes) (code : HandleState) → IsHandleOf store modes code → (state : OpenState)
+opening_asks : (store : Store) (modes : Modes) (code : HandleParts) → IsHandleOf store modes code → (state : OpenStage)
     → ask_on code (Opening state) ≡ opening.ask store state
 opening_asks store modes code own state =
-    ap (λ objects. openings.ask_of objects code.store.value.folders state) own.objects
+    ap (λ objects. openings.ask_of objects code.info.folders state) own.objects
     ∙ ap (λ folders. openings.ask_of store.parts.objects folders state) own.folders
 
-opening_feeds : (store : Store) (modes : Modes) (code : HandleState) → IsHandleOf store modes code → (state : OpenState) (answer : Option Answer)
+opening_feeds : (store : Store) (modes : Modes) (code : HandleParts) → IsHandleOf store modes code → (state : OpenStage) (answer : Option Answer)
     → result_in (fed_after code (Opening state) answer) ≡ placed opening (opening.feed store state answer)
 opening_feeds store modes code own state None = opening_placed (openings.result_of state)
 opening_feeds store modes code own state (Some answer) =
-    ap (λ objects. opening_result (openings.result_of (openings.fed objects code.store.value.folders code.store.value.slots state answer))) own.objects
-    ∙ (ap (λ folders. opening_result (openings.result_of (openings.fed store.parts.objects folders code.store.value.slots state answer))) own.folders
+    ap (λ objects. opening_result (openings.result_of (openings.fed objects code.info.folders code.info.slots state answer))) own.objects
+    ∙ (ap (λ folders. opening_result (openings.result_of (openings.fed store.parts.objects folders code.info.slots state answer))) own.folders
     ∙ (ap (λ slots. opening_result (openings.result_of (openings.fed store.parts.objects store.parts.folders slots state answer))) own.slots
     ∙ opening_placed (openings.result_of (openings.fed store.parts.objects store.parts.folders store.slots state answer))))
 
@@ -75,7 +74,7 @@ module _ (first : Volume) (events : List Event) (e : Event) (handle : ℕ) (stor
         seen = tt;
       }
 
-  opening_starts : (task : Task) (state : OpenState) → BeginsAs first begun_whole handle store modes task → begun_with store modes task ≡ Opening state
+  opening_starts : (task : Task) (state : OpenStage) → BeginsAs first begun_whole handle store modes task → begun_with store modes task ≡ Opening state
       → IsOpening first begun_whole handle (running_from (length events + 1) task store modes) state
   opening_starts OpenStore state start is =
       let same : opens.Looking ≡ state = cc is in
@@ -84,14 +83,14 @@ module _ (first : Volume) (events : List Event) (e : Event) (handle : ℕ) (stor
 
 -- ---- an event that isn't its turn
 
-seen_kept : (first : Volume) (events : List Event) (e : Event) (running : Running) (state : OpenState) → HasSeen first events running state
+seen_kept : (first : Volume) (events : List Event) (e : Event) (running : Running) (state : OpenStage) → HasSeen first events running state
     → HasSeen first (events ++ e ∷ []) running state
 seen_kept first events e running opens.Looking seen = tt
 seen_kept first events e running (opens.Listing lister percent minimum) seen = shown_before first events e running.begun running.store.parts.objects seen
 seen_kept first events e running (opens.Registering slots) seen = shown_before first events e running.begun running.store.parts.objects seen
 seen_kept first events e running (opens.Done reply) seen = absurd seen
 
-opening_kept : (first : Volume) (events : List Event) (e : Event) (handle : ℕ) (running : Running) (state : OpenState) → ¬ (IsTurnOf handle e)
+opening_kept : (first : Volume) (events : List Event) (e : Event) (handle : ℕ) (running : Running) (state : OpenStage) → ¬ (IsTurnOf handle e)
     → IsOpening first events handle running state → IsOpening first (events ++ e ∷ []) handle running state
 opening_kept first events e handle running state other knows =
     let same = told_kept events e handle running.begun knows.since other in
@@ -111,7 +110,7 @@ opening_kept first events e handle running state other knows =
 
 -- ---- its turns
 
-opening_takes : (first : Volume) (events : List Event) (handle : ℕ) (running : Running) (state : OpenState) → IsOpening first events handle running state
+opening_takes : (first : Volume) (events : List Event) (handle : ℕ) (running : Running) (state : OpenStage) → IsOpening first events handle running state
     → TakesTurn first events handle running running.task (opening.ask running.store state)
 opening_takes first events handle running opens.Looking knows = takes_call first events handle running opens.Looking knows (asks.Look running.store.parts.objects true) refl
 opening_takes first events handle running (opens.Listing lister percent minimum) knows =
@@ -124,7 +123,7 @@ opening_takes first events handle running (opens.Registering slots) knows =
     )
 opening_takes first events handle running (opens.Done reply) knows = absurd knows.seen
 
-opening_ends : (first : Volume) (events : List Event) (handle : ℕ) (running : Running) (state : OpenState) → IsOpening first events handle running state
+opening_ends : (first : Volume) (events : List Event) (handle : ℕ) (running : Running) (state : OpenStage) → IsOpening first events handle running state
     → opening.ask running.store state ≡ None → (reply : Reply) × (opening.feed running.store state None ≡ Ok reply)
 opening_ends first events handle running opens.Looking knows none = absurd (cc none)
 opening_ends first events handle running (opens.Listing lister percent minimum) knows none = absurd (cc none)
@@ -132,7 +131,7 @@ opening_ends first events handle running (opens.Registering slots) knows none = 
 opening_ends first events handle running (opens.Done reply) knows none = absurd knows.seen
 
 opening_comes : (first : Volume) (events : List Event) (e : Event) (handle : ℕ) (running : Running) → IsRunning first events handle running
-    → (state : OpenState) → IsOpening first events handle running state → IsTurnAsking first events e handle running (opening.ask running.store state)
+    → (state : OpenStage) → IsOpening first events handle running state → IsTurnAsking first events e handle running (opening.ask running.store state)
     → MachineComes first events e handle running opening IsOpening (told_after first events handle running (opening.ask running.store state))
     (opening.feed running.store state (answered (told_after first events handle running (opening.ask running.store state))))
 opening_comes first events e handle running ran opens.Looking knows turn = look_comes first events e handle running ran knows turn
@@ -157,7 +156,7 @@ opening_bounded store modes task is entries =
     subst (λ t. turn_bound 0 (length (folder_list store.parts)) 0 entries None ≡ bound_of_task store modes t entries) (sym is) refl
 
 -- its call of the disk changes nothing
-opening_quiet : (first : Volume) (events : List Event) (handle : ℕ) (running : Running) (state : OpenState) (ask : DiskAsk)
+opening_quiet : (first : Volume) (events : List Event) (handle : ℕ) (running : Running) (state : OpenStage) (ask : DiskAsk)
     → IsOpening first events handle running state → opening.ask running.store state ≡ Some (work_asks.Disk ask)
     → change_by (disk_after first events) ask ≡ None
 opening_quiet first events handle running opens.Looking ask knows is =

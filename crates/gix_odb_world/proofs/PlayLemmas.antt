@@ -19,16 +19,21 @@ use Rattle.gix_odb_world.proofs.StepLemmas.{IsRunOf-push}
 
 -- ---- steps made one after another
 
-makes_none : (world : Course) → Makes world world []
-makes_none world =
+makes_none : (world : Course) (steps : List Step) → Makes world world steps steps []
+makes_none world made =
     record {
       outcomes = sym (append-nil world.outcomes);
+      steps = sym (append-nil made);
       runs = λ first before run. subst (λ steps. IsRunOf first steps world) (sym (append-nil before)) run;
     }
 
-makes_more : (old mid new : Course) (own other : List Made) → Makes old mid own → Makes mid new other → Makes old new (own ++ other)
-makes_more old mid new own other one two =
+makes_more : (old mid new : Course) (begun between made : List Step) (own other : List Made) → Makes old mid begun between own → Makes mid new between made other
+    → Makes old new begun made (own ++ other)
+makes_more old mid new begun between made own other one two =
     record {
+      steps = two.steps ∙ (ap (λ s. s ++ map (λ (m : Made). m.step) other) one.steps
+          ∙ (append_assoc begun (map (λ (m : Made). m.step) own) (map (λ (m : Made). m.step) other)
+          ∙ ap (λ s. begun ++ s) (sym (map-append (λ (m : Made). m.step) own other))));
       outcomes = two.outcomes ∙ (ap (λ s. s ++ map (λ (m : Made). m.outcome) other) one.outcomes
           ∙ (append_assoc old.outcomes (map (λ (m : Made). m.outcome) own) (map (λ (m : Made). m.outcome) other)
           ∙ ap (λ s. old.outcomes ++ s) (sym (map-append (λ (m : Made). m.outcome) own other))));
@@ -41,40 +46,42 @@ all_push : {A : Type 0} (P : A → Type 0) (xs : List A) (x : A) → AllByRecurs
 all_push P [] x all here = (here, tt)
 all_push P (y ∷ xs) x all here = (all.0, all_push P xs x all.1 here)
 
-pub turns_none : (world : Course) (handle : ℕ) → PlaysTurns world world handle
-turns_none world handle = record { own = []; pending = tt; makes = makes_none world }
+pub turns_none : (world : Course) (steps : List Step) (handle : ℕ) → PlaysTurns world world steps steps handle
+turns_none world steps handle = record { own = []; pending = tt; makes = makes_none world steps }
 
 -- a pending turn more
-pub turns_more : (old mid new : Course) (handle : ℕ) → PlaysTurns old mid handle → (one : MakesOne mid new (Turn handle)) → one.outcome ≡ Pending
-    → PlaysTurns old new handle
-turns_more old mid new handle turns one pending =
+pub turns_more : (old mid new : Course) (begun between made : List Step) (handle : ℕ) → PlaysTurns old mid begun between handle
+    → (one : MakesOne mid new between made (Turn handle)) → one.outcome ≡ Pending → PlaysTurns old new begun made handle
+turns_more old mid new begun between made handle turns one pending =
     record {
       own = turns.own ++ record { step = Turn handle; outcome = one.outcome } ∷ [];
       pending = all_push (λ (m : Made). (m.step ≡ Turn handle) × (m.outcome ≡ Pending)) turns.own (record { step = Turn handle; outcome = one.outcome }) turns.pending (refl, pending);
-      makes = makes_more old mid new turns.own (record { step = Turn handle; outcome = one.outcome } ∷ []) turns.makes one.makes;
+      makes = makes_more old mid new begun between made turns.own (record { step = Turn handle; outcome = one.outcome } ∷ []) turns.makes one.makes;
     }
 
 -- the last turn
-pub turns_end : (old mid new : Course) (handle : ℕ) → PlaysTurns old mid handle → (one : MakesOne mid new (Turn handle)) → one.outcome ≢ Pending
-    → PlaysLine old new (Finish handle)
-turns_end old mid new handle turns one ended =
+pub turns_end : (old mid new : Course) (begun between made : List Step) (handle : ℕ) → PlaysTurns old mid begun between handle
+    → (one : MakesOne mid new between made (Turn handle)) → one.outcome ≢ Pending → PlaysLine old new begun made (Finish handle)
+turns_end old mid new begun between made handle turns one ended =
     record {
       own = turns.own ++ record { step = Turn handle; outcome = one.outcome } ∷ [];
       stands = (turns.own, one.outcome, refl, turns.pending, ended);
-      makes = makes_more old mid new turns.own (record { step = Turn handle; outcome = one.outcome } ∷ []) turns.makes one.makes;
+      makes = makes_more old mid new begun between made turns.own (record { step = Turn handle; outcome = one.outcome } ∷ []) turns.makes one.makes;
     }
 
-pub plays_one : (old new : Course) (step : Step) → MakesOne old new step → PlaysLine old new (One step)
-plays_one old new step one =
+pub plays_one : (old new : Course) (begun made : List Step) (step : Step) → MakesOne old new begun made step → PlaysLine old new begun made (One step)
+plays_one old new begun made step one =
     record { own = record { step = step; outcome = one.outcome } ∷ []; stands = (one.outcome, refl); makes = one.makes }
 
 -- a step that was made
-pub makes_one : (old new : Course) (step : Step) → HasOneMore old new → Continues old step new → MakesOne old new step
-makes_one old new step more continues =
+pub makes_one : (old new : Course) (begun made : List Step) (step : Step) → made ≡ begun ++ step ∷ [] → HasOneMore old new → Continues old step new
+    → MakesOne old new begun made step
+makes_one old new begun made step pushed more continues =
     record {
       outcome = more.0;
       makes = record {
         outcomes = more.1;
+        steps = pushed;
         runs = λ first before run. IsRunOf-push first old new before step continues run;
       };
     }
@@ -130,18 +137,17 @@ run_even : (first : Volume) (steps : List Step) (world : Course) → IsRunOf fir
 run_even first steps world run =
     ap length (sym run.steps_are) ∙ (length-map run.events (λ (e : Event). e.step) ∙ (sym (length-map run.events (λ (e : Event). e.outcome)) ∙ ap length run.explains.outcomes))
 
-pub has_played_none : (first : Volume) (world : Course) (last : List ℕ) → last ≡ [] → Explains first [] world → HasPlayed first [] last world
+pub has_played_none : (first : Volume) (world : Course) (last : List ℕ) → last ≡ [] → Explains first [] world → HasPlayed first [] [] last world
 unfolding made_of
 has_played_none first world last no_last explains =
     record {
-      steps = [];
       run = record { events = []; steps_are = refl; explains = explains };
       plays = (refl, no_last);
     }
 
 -- a line has one outcome at least
-pub some_outcome : (old new : Course) (line : Line) → PlaysLine old new line → 0 < length new.outcomes
-some_outcome old new line own =
+pub some_outcome : (old new : Course) (begun made : List Step) (line : Line) → PlaysLine old new begun made line → 0 < length new.outcomes
+some_outcome old new begun made line own =
     omega (
       arith,
       ap length own.makes.outcomes,
@@ -150,11 +156,10 @@ some_outcome old new line own =
       some_made line own.own own.stands,
     )
 
-pub has_played_more : (first : Volume) (old new : Course) (line : Line) (lines : List Line) (index : ℕ) (last : List ℕ) (at : ℕ)
-    → index < length lines → line ≡ get_or lines index line → at ≡ length new.outcomes - 1 → PlaysLine old new line
-    → HasPlayed first (take index lines) last old → HasPlayed first (take (index + 1) lines) (last ++ at ∷ []) new
-has_played_more first old new line lines index last at within is at_is own played =
-    let before : List Step = played.steps in
+pub has_played_more : (first : Volume) (old new : Course) (before now : List Step) (line : Line) (lines : List Line) (index : ℕ) (last : List ℕ) (at : ℕ)
+    → index < length lines → line ≡ get_or lines index line → at ≡ length new.outcomes - 1 → PlaysLine old new before now line
+    → HasPlayed first (take index lines) before last old → HasPlayed first (take (index + 1) lines) now (last ++ at ∷ []) new
+has_played_more first old new before now line lines index last at within is at_is own played =
     let after : List Step = before ++ map (λ (m : Made). m.step) own.own in
     let even : length before ≡ length old.outcomes = run_even first before old played.run in
     let longer : length new.outcomes ≡ length old.outcomes + length own.own = ap length own.makes.outcomes
@@ -163,10 +168,9 @@ has_played_more first old new line lines index last at within is at_is own playe
     let made : made_of after new.outcomes ≡ made_of before old.outcomes ++ own.own =
     ap (λ o. made_of after o) own.makes.outcomes ∙ made_of-append before old.outcomes own.own even in
     let seen : take (index + 1) lines ≡ take index lines ++ line ∷ [] = take_more lines index line within ∙ ap (λ l. take index lines ++ l ∷ []) (sym is) in
-    record {
-      steps = after;
+    subst (λ s. HasPlayed first (take (index + 1) lines) s (last ++ at ∷ []) new) (sym own.makes.steps) (record {
       run = own.makes.runs first before played.run;
       plays = subst (λ ls. Plays 0 ls (made_of after new.outcomes) (last ++ at ∷ [])) (sym seen)
           (subst (λ ms. Plays 0 (take index lines ++ line ∷ []) ms (last ++ at ∷ [])) (sym made)
           (plays_more 0 (take index lines) line (made_of before old.outcomes) own.own last at place played.plays own.stands));
-    }
+    })

@@ -63,16 +63,16 @@ headline_of first made steps world run all own is =
     record { events = own.events; steps_are = own.steps_are ∙ all; is_run = is first own.events own.explains }
 
 -- the lines are played by the run that the world comes to, and those that finish what a handle is at end in time
-pub is_played : (first : Volume) (lines : List Line) (last : List ℕ) (world : Course) (run : Run) → HasPlayed first lines last world
-    → ((events : List Event) → Explains first events world → IsRun first events run) → IsPlayed first lines run last
-is_played first lines last world run played ends =
+pub is_played : (first : Volume) (lines : List Line) (steps : List Step) (last : List ℕ) (world : Course) (run : Run) → HasPlayed first lines steps last world
+    → ((events : List Event) → Explains first events world → IsRun first events run)
+    → IsPlayed first lines (record { run = run; steps = steps; last = last })
+is_played first lines steps last world run played ends =
     let events : List Event = played.run.events in
     let is_run : IsRun first events run = ends events played.run.explains in
     let same : world.outcomes ≡ run.outcomes = sym played.run.explains.outcomes ∙ is_run.outcomes_are in
-    let plays : Plays 0 lines (made_of played.steps run.outcomes) last = subst (λ o. Plays 0 lines (made_of played.steps o) last) same played.plays in
+    let plays : Plays 0 lines (made_of steps run.outcomes) last = subst (λ o. Plays 0 lines (made_of steps o) last) same played.plays in
     record {
-      steps = played.steps;
       headline = record { events = events; steps_are = played.run.steps_are; is_run = is_run };
       plays = plays;
-      in_time = lines_are_finished_in_time first events is_run.lawful played.steps played.run.steps_are run.outcomes is_run.outcomes_are lines last plays;
+      in_time = lines_are_finished_in_time first events is_run.lawful steps played.run.steps_are run.outcomes is_run.outcomes_are lines last plays;
     }

@@ -22,8 +22,8 @@ use Rattle.gix_odb_calls.specs.declared.call.Call.{Call}
 use Rattle.gix_odb_calls.specs.declared.call.CallError.TheVariants as call_errors
 use Rattle.gix_odb_calls.specs.declared.call.Reply.{Reply}
 use Rattle.gix_odb_calls.specs.declared.call.Reply.TheVariants as replies
-use Rattle.gix_odb.specs.declared.open_state.OpenState.{OpenState}
-use Rattle.gix_odb.specs.declared.open_state.OpenState.TheVariants as opens
+use Rattle.gix_odb.specs.declared.open_state.OpenStage.{OpenStage}
+use Rattle.gix_odb.specs.declared.open_state.OpenStage.TheVariants as opens
 use Rattle.gix_odb_core.specs.Handles.{registered}
 use Rattle.gix_odb_core.specs.History.{History, opened, present}
 use Rattle.gix_odb_core.specs.Replay.{number_behind}
@@ -36,8 +36,8 @@ use Rattle.gix_odb_calls.specs.declared.step.Step.{Step}
 use Rattle.gix_odb_calls.specs.declared.step.Step.TheVariants as steps
 use Rattle.gix_odb_calls.specs.declared.step.Outcome.{Outcome}
 use Rattle.gix_odb_calls.specs.declared.step.Outcome.TheVariants as outcomes
-use Rattle.gix_odb_world.specs.declared.work.Work.{Work}
-use Rattle.gix_odb_world.specs.declared.work.Work.TheVariants.{Opening}
+use Rattle.gix_odb_world.specs.Work.{Work}
+use Rattle.gix_odb_world.specs.Work.{Opening}
 use Rattle.gix_odb_world.specs.Asks.{AsksAsTask}
 use Rattle.gix_odb_runs.specs.Cores.{answer_behind, cores_after, history_at, registered_at}
 use Rattle.gix_odb_runs.specs.Event.{Asked, Event, answered}
@@ -145,17 +145,17 @@ module _ (past : List Event) (e : Event) where
       abbrev new_core : (slots : ℕ) → Ask
       new_core slots = work_asks.NewCore slots (length (folder_list running.store.parts))
 
-      asked_by : (state : OpenState) (ask : Ask) → running.work ≡ Opening state → ask_in running.store (Opening state) ≡ Some ask → e.asked ≡ told (Some ask)
+      asked_by : (state : OpenStage) (ask : Ask) → running.work ≡ Opening state → ask_in running.store (Opening state) ≡ Some ask → e.asked ≡ told (Some ask)
       asked_by state ask at asks_it = works.told ∙ ap told (sym works.asks ∙ (ap (ask_in running.store) at ∙ asks_it))
 
-      fed_by : (state : OpenState) (ask : Ask) → running.work ≡ Opening state → ask_in running.store (Opening state) ≡ Some ask
+      fed_by : (state : OpenStage) (ask : Ask) → running.work ≡ Opening state → ask_in running.store (Opening state) ≡ Some ask
           → fed_in running.store running.work (answered e.asked) ≡ fed_in running.store (Opening state) (answered (told (Some ask)))
       fed_by state ask at asks_it =
           ap (λ a. fed_in running.store running.work (answered a)) (asked_by state ask at asks_it)
           ∙ ap (λ w. fed_in running.store w (answered (told (Some ask)))) at
 
       -- a call of the disk registers nothing, and where an opening registers its handle it ends with that
-      out_still : (state : OpenState) → running.work ≡ Opening state → IsOn state → IsNowhere before_it number
+      out_still : (state : OpenStage) → running.work ≡ Opening state → IsOn state → IsNowhere before_it number
           → ((slots : ℕ) → ¬ (fed_in running.store running.work (answered e.asked) ≡ Ok (replies.Opened slots))) → IsNowhere (cores_after now) number
       out_still opens.Looking at on nowhere other = nowhere_now past e _ (asked_by opens.Looking (work_asks.Disk look) at refl) number nowhere
       out_still (opens.Listing lister percent minimum) at on nowhere other =
@@ -164,7 +164,7 @@ module _ (past : List Event) (e : Event) where
       out_still (opens.Done own) at on nowhere other = absurd on
 
       -- an opening that ends with a call of the disk is refused
-      refused_by_call : (state : OpenState) (ask : DiskAsk) → running.work ≡ Opening state → ask_in running.store (Opening state) ≡ Some (work_asks.Disk ask) → IsOn state
+      refused_by_call : (state : OpenStage) (ask : DiskAsk) → running.work ≡ Opening state → ask_in running.store (Opening state) ≡ Some (work_asks.Disk ask) → IsOn state
           → (reply : Reply) → e.outcome ≡ outcomes.Reply reply → refuses_opening reply ≡ true
       refused_by_call state ask at asks_it on reply out =
           let given = answer_now (disk_after first past) ask in
@@ -175,7 +175,7 @@ module _ (past : List Event) (e : Event) where
           (opened_by (openings.fed parts.objects parts.folders running.store.slots state (work_answers.Disk given)) reply fed)
 
       -- the turn that registers a handle seats it, and any other turn with which an opening ends refuses it
-      opened_seat : (state : OpenState) → running.work ≡ Opening state → IsOn state → IsNowhere before_it number → (reply : Reply) → e.outcome ≡ outcomes.Reply reply
+      opened_seat : (state : OpenStage) → running.work ≡ Opening state → IsOn state → IsNowhere before_it number → (reply : Reply) → e.outcome ≡ outcomes.Reply reply
           → refuses_opening reply ≡ false → IsSeated (cores_after now) number (modes_after e.asked running.modes)
       opened_seat opens.Looking at on nowhere reply out sound =
           let refuses = refused_by_call opens.Looking look at refl on reply out in absurd (cc (refuses, sound))

@@ -7,23 +7,26 @@ use Rattle.gix_odb_calls.specs.declared.step.Step.TheVariants as steps
 use Rattle.gix_odb_calls.specs.declared.step.Outcome.TheVariants as outcomes
 use Rattle.gix_odb_calls.specs.declared.call.Call.{Call}
 use Rattle.gix_odb_runs.specs.declared.record.Did.TheVariants.{Nothing}
-use Rattle.gix_odb_world.specs.declared.handle.Handle.{Handle}
-use Rattle.gix_odb.specs.declared.handle_state.HandleState.{HandleState}
-use Rattle.gix_odb_world.specs.declared.work.Work.{Work}
-use Rattle.gix_odb_world.specs.declared.work.Work.TheVariants.{Calling}
+use Rattle.gix_odb_world.specs.Work.{Work}
+use Rattle.gix_odb_world.specs.Work.{Calling}
 use Rattle.gix_odb_world.specs.declared.course.Course.{Course}
 use Rattle.gix_odb.specs.CallOrder as calls
 use Rattle.gix_odb.specs.CallOrder.{HasSize}
+use Rattle.std.specs.Option.{option_map}
+use Rattle.gix_odb_world.specs.declared.handle.Handle.{Handle}
+use Rattle.gix_odb_world.specs.declared.handle.HandleAt.TheVariants as stands
+use Rattle.gix_odb.specs.declared.call_state.CallState.{CallState}
+use Rattle.gix_odb.specs.declared.handle_state.HandleState.{HandleState}
 use Rattle.gix_odb.specs.Contents.{sought, sought_with}
 use Rattle.gix_odb_runs.specs.Event.{Event, OfNothing}
 use Rattle.gix_odb_world.specs.Status.{MakeCall, Store, Status, Free, Resting, Working, begun_with, setting_in, started, status_of, view_in_modes, Modes}
-use Rattle.gix_odb_world.specs.Handle.{IsHandleOf}
-use Rattle.gix_odb.specs.HandleState.{replacement_of, setting_at, sought_by, unseen, view_at}
+use Rattle.gix_odb_world.specs.Handle.{HandleParts, IsHandleOf, Seen, replacement_of, seen, setting_at, sought_by, view_at}
+use Rattle.gix_odb.specs.HandleState.{IsAlike, unseen}
 use Rattle.gix_odb_runs.specs.Run.{IsTurnOf}
 use Rattle.gix_odb_world.specs.Running.{Runs, RunsThroughout}
 use Rattle.gix_odb_world.specs.Valid.{phase_of, why_not_of_hash, why_not_start}
 use Rattle.gix_odb_world.specs.World.{Continues, Explains, Matches, handle_at}
-use Rattle.gix_odb_world.specs.Table.{SetsHandle, Notes, phase_of_handle, phase_of_work, why_not_now, with_work}
+use Rattle.gix_odb_world.specs.Table.{SetsHandle, Notes, phase_of_handle, phase_of_work, why_not_now, with_call, with_work}
 use Rattle.std.specs.Prelude.{slice_get, unwrap_or}
 use Rattle.odb_nodes.specs.Tree.{IsTree, tree_of}
 use Rattle.gix_odb_calls.specs.Hashes.{is_of_hash}
@@ -37,7 +40,7 @@ use Rattle.gix_odb_world.proofs.HistoryLemmas.{cores_after-push}
 use Rattle.gix_odb_world.proofs.MachineLaws.{IsStarted}
 use Rattle.gix_odb_world.proofs.OpenFacts.{openable}
 use Rattle.gix_odb_world.proofs.SeatLemmas.{seats_now}
-use Rattle.gix_odb_world.proofs.SettingLemmas.{setting_same}
+use Rattle.gix_odb_world.proofs.SettingLemmas.{parts_alike, setting_same}
 use Rattle.gix_odb_world.proofs.Stock.{HasStock}
 use Rattle.gix_odb_world.proofs.Stock as stocks
 use Rattle.gix_odb_world.proofs.Stock.OneCore.{IsStocked, of_store_later}
@@ -45,10 +48,10 @@ use Rattle.gix_odb_world.proofs.StepLemmas.{applied, why_not-same}
 use Rattle.gix_odb_world.proofs.KnowsLemmas.{begins, runs-push}
 
 -- the work of the code is that of the store
-work_started : (store : Store) (modes : Modes) (state : HandleState) (call : Call) → IsHandleOf store modes state
-    → Calling (calls.started (setting_at state) state.store.value.object_hash (view_at state) (sought_by state) call) ≡ begun_with store modes (MakeCall call)
+work_started : (store : Store) (modes : Modes) (state : HandleParts) (call : Call) → IsHandleOf store modes state
+    → Calling (calls.started (setting_at state) state.info.object_hash (view_at state) (sought_by state) call) ≡ begun_with store modes (MakeCall call)
 work_started store modes state call own =
-    ap (λ setting. Calling (calls.started setting state.store.value.object_hash (view_at state) (sought_by state) call)) (setting_same store modes state own)
+    ap (λ setting. Calling (calls.started setting state.info.object_hash (view_at state) (sought_by state) call)) (setting_same store modes state own)
     ∙ (ap (λ hash. Calling (calls.started (setting_in store) hash (view_at state) (sought_by state) call)) own.hash
     ∙ (ap (λ view. Calling (calls.started (setting_in store) store.hash (unwrap_or view unseen) (sought_by state) call)) own.view
     ∙ ap (λ seeks. Calling (calls.started (setting_in store) store.hash (view_in_modes modes) seeks call)) sought_same))
@@ -57,13 +60,20 @@ work_started store modes state call own =
     sought_same : sought_by state ≡ sought store.parts modes.ignoring
     sought_same = ap (λ ignoring. sought_with (replacement_of state) ignoring) own.ignoring ∙ ap (λ replacement. sought_with replacement modes.ignoring) (fun_ext own.replacements)
 
-matches_started : (n : ℕ) (call : Call) (status : Status) (handle : Handle) (work : Work) → why_not_start (phase_of_handle (Some handle)) call ≡ None
-    → work ≡ Calling (calls.started (setting_at handle.state) handle.state.store.value.object_hash (view_at handle.state) (sought_by handle.state) call)
+matches_started : (n : ℕ) (call : Call) (status : Status) (handle : Seen) (work : Work) → why_not_start (phase_of_handle (Some handle)) call ≡ None
+    → work ≡ Calling (calls.started (setting_at handle.state) handle.state.info.object_hash (view_at handle.state) (sought_by handle.state) call)
     → Matches status (Some handle) → Matches (started n call status) (with_work (Some work) (Some handle))
 matches_started n call Free handle work idle is match = absurd match
 matches_started n call (Resting store modes) handle work idle is match = (match.0, ap Some (is ∙ work_started store modes handle.state call match.0))
 matches_started n call (Working running) handle work idle is match =
-    absurd (cc (subst (λ (w : Option Work). why_not_start (phase_of_work handle.state.store.value.object_hash w) call ≡ None) match.1 idle))
+    absurd (cc (subst (λ (w : Option Work). why_not_start (phase_of_work handle.state.info.object_hash w) call ≡ None) match.1 idle))
+
+-- a call on a copy of a handle is one on the handle
+pub on_a_copy : (core : ℕ) (state : HandleState) (call : CallState) (handle : Option Handle) → handle ≡ Some (record { core = core; at = stands.Resting state })
+    → IsAlike call.handle state → option_map seen (with_call call handle) ≡ with_work (Some (Calling call.stage)) (option_map seen handle)
+on_a_copy core state call handle is alike =
+    ap (λ h. option_map seen (with_call call h)) is ∙ (ap (λ parts. Some (record { state = parts; work = Some (Calling call.stage) })) (parts_alike core call.handle state alike)
+    ∙ sym (ap (λ h. with_work (Some (Calling call.stage)) (option_map seen h)) is))
 
 -- ---- what holds where a call begins
 
@@ -118,9 +128,9 @@ runs_started old number call sized reason first events e explains starts asked n
         )
     by (Working running) is runs = runs-push first events e number (Working running) (no_turn number) runs
 
-pub begun : (old mid new : Course) (number : ℕ) (call : Call) (handle : Handle) (work : Work) → HasSize call
+begun : (old mid new : Course) (number : ℕ) (call : Call) (handle : Seen) (work : Work) → HasSize call
     → why_not_now old (steps.Start number call) ≡ None → handle_at old number ≡ Some handle
-    → work ≡ Calling (calls.started (setting_at handle.state) handle.state.store.value.object_hash (view_at handle.state) (sought_by handle.state) call)
+    → work ≡ Calling (calls.started (setting_at handle.state) handle.state.info.object_hash (view_at handle.state) (sought_by handle.state) call)
     → SetsHandle old mid number (with_work (Some work) (handle_at old number)) → Notes mid new outcomes.Applied Nothing None
     → Continues old (steps.Start number call) new
 begun old mid new number call handle work sized reason there is sets notes =
@@ -129,7 +139,17 @@ begun old mid new number call handle work sized reason there is sets notes =
     (record { table = sets.table; disk = sets.disk; cores = sets.cores; shown = sets.shown; outcomes = sets.outcomes; records = sets.records })
     notes (λ trees since now is begun k. k) (λ turn. turn) refl (λ other turn. cc) (λ n asked table. refl)
     (λ n status match.
-    subst (λ (h : Option Handle). Matches (started n call status) (with_work (Some work) h)) (sym there)
-    (matches_started n call status handle work (subst (λ (h : Option Handle). why_not_start (phase_of_handle h) call ≡ None) there reason) is (subst (Matches status) there match)))
+    subst (λ (h : Option Seen). Matches (started n call status) (with_work (Some work) h)) (sym there)
+    (matches_started n call status handle work (subst (λ (h : Option Seen). why_not_start (phase_of_handle h) call ≡ None) there reason) is (subst (Matches status) there match)))
     (λ first events e explains is asked others. runs_started old number call sized reason first events e explains is asked others)
     (λ events. refl)
+
+-- the same where the call is a copy
+pub begun_by : (old mid new : Course) (number : ℕ) (copy call : Call) (handle : Seen) (work : Work) → copy ≡ call → HasSize copy
+    → why_not_now old (steps.Start number call) ≡ None → handle_at old number ≡ Some handle
+    → work ≡ Calling (calls.started (setting_at handle.state) handle.state.info.object_hash (view_at handle.state) (sought_by handle.state) copy)
+    → SetsHandle old mid number (with_work (Some work) (handle_at old number)) → Notes mid new outcomes.Applied Nothing None
+    → Continues old (steps.Start number call) new
+begun_by old mid new number copy call handle work same sized reason there is sets notes =
+    begun old mid new number call handle work (subst HasSize same sized) reason there
+    (is ∙ ap (λ own. Calling (calls.started (setting_at handle.state) handle.state.info.object_hash (view_at handle.state) (sought_by handle.state) own)) same) sets notes

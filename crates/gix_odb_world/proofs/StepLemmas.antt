@@ -19,7 +19,7 @@ use Rattle.gix_odb_calls.specs.declared.step.Outcome.TheVariants as outcomes
 use Rattle.gix_odb_calls.specs.declared.step.Why.{Why}
 use Rattle.gix_odb_runs.specs.declared.record.Did.{Did}
 use Rattle.gix_odb_runs.specs.declared.record.Did.TheVariants.{Nothing}
-use Rattle.gix_odb_world.specs.declared.handle.Handle.{Handle}
+use Rattle.gix_odb_world.specs.Handle.{Seen}
 use Rattle.gix_odb_world.specs.declared.course.Course.{Course}
 use Rattle.gix_odb_core.specs.History.{History}
 use Rattle.gix_odb_runs.specs.Cores.{cores_after, cores_after_asked}
@@ -44,14 +44,14 @@ use Rattle.gix_odb_world.proofs.WorldLemmas.{matches_set, throughout-push}
 
 -- ---- the reason for misuse, by the history and by the world
 
-phase_of-matched : (status : Status) (handle : Option Handle) → Matches status handle → phase_of status ≡ phase_of_handle handle
+phase_of-matched : (status : Status) (handle : Option Seen) → Matches status handle → phase_of status ≡ phase_of_handle handle
 phase_of-matched Free None match = refl
 phase_of-matched Free (Some handle) match = absurd match
 phase_of-matched (Resting store modes) None match = absurd match
 phase_of-matched (Resting store modes) (Some handle) match =
-    ap Idle (sym match.0.hash) ∙ ap (phase_of_work handle.state.store.value.object_hash) (sym match.1)
+    ap Idle (sym match.0.hash) ∙ ap (phase_of_work handle.state.info.object_hash) (sym match.1)
 phase_of-matched (Working running) None match = absurd match
-phase_of-matched (Working running) (Some handle) match = ap (phase_of_work handle.state.store.value.object_hash) (sym match.1)
+phase_of-matched (Working running) (Some handle) match = ap (phase_of_work handle.state.info.object_hash) (sym match.1)
 
 -- the phases of a handle by the history and by the world are the same
 phase_same : (first : Volume) (events : List Event) (world : Course) (handle : ℕ) → Explains first events world
@@ -72,7 +72,7 @@ why_not-same first events world (steps.Turn handle) explains = ap why_not_runnin
 why_not-same first events world (steps.Disk change) explains = ap (λ disk. why_not_change disk change) (sym explains.disk)
 
 -- the change that a step would make is the same, too
-change-matched : (disk : Volume) (status : Status) (handle : Option Handle) → Matches status handle → would_change_in disk status ≡ change_by_handle disk handle
+change-matched : (disk : Volume) (status : Status) (handle : Option Seen) → Matches status handle → would_change_in disk status ≡ change_by_handle disk handle
 change-matched disk Free None match = refl
 change-matched disk Free (Some handle) match = absurd match
 change-matched disk (Resting store modes) None match = absurd match
@@ -204,7 +204,7 @@ misused old new step why reason notes =
 -- ---- an applied step of one handle
 
 -- the table after a handle is set and the step is noted
-pub table_noted : (old mid new : Course) (number : ℕ) (handle : Option Handle) (outcome : Outcome) (did : Did) (change : Option Change)
+pub table_noted : (old mid new : Course) (number : ℕ) (handle : Option Seen) (outcome : Outcome) (did : Did) (change : Option Change)
     → SetsHandle old mid number handle → Notes mid new outcome did change → (other : ℕ)
     → handle_at new other ≡ (if other == number then handle else handle_at old other)
 table_noted old mid new number handle outcome did change sets notes other =
@@ -217,7 +217,7 @@ pub record Tells (events : List Event) (old : Course) (cores : Vec History Globa
   pub leaves : LeavesDisk (asked_applied events step)
 
 -- A step sets one handle, and its status goes on as the handle does. It may have made an event of a core.
-pub applied_at_core : (old mid new : Course) (cores : Vec History Global) (shown : Kept) (did : Did) (step : Step) (number : ℕ) (handle : Option Handle)
+pub applied_at_core : (old mid new : Course) (cores : Vec History Global) (shown : Kept) (did : Did) (step : Step) (number : ℕ) (handle : Option Seen)
     (next : ℕ → Asked → (ℕ → Status) → Status)
     → why_not_now old step ≡ None → SetsHandle (record old { cores = cores; shown = shown }) mid number handle → Notes mid new outcomes.Applied did None
     → ((trees : ℕ → Tree) (since : Since) (now : ℕ) → trees now ≡ tree_of old.disk.state → AreBegun since now → Keeps trees since now old.shown
@@ -256,7 +256,7 @@ applied_at_core old mid new cores shown did step number handle next reason sets 
     )
 
 -- the same of a step that asks for nothing
-pub applied : (old mid new : Course) (shown : Kept) (step : Step) (number : ℕ) (handle : Option Handle) (next : ℕ → Status → Status)
+pub applied : (old mid new : Course) (shown : Kept) (step : Step) (number : ℕ) (handle : Option Seen) (next : ℕ → Status → Status)
     → why_not_now old step ≡ None → SetsHandle (record old { shown = shown }) mid number handle → Notes mid new outcomes.Applied Nothing None
     → ((trees : ℕ → Tree) (since : Since) (now : ℕ) → trees now ≡ tree_of old.disk.state → AreBegun since now → Keeps trees since now old.shown
     → Keeps trees (watched_by now step outcomes.Applied since) now shown)

@@ -11,14 +11,13 @@ use Rattle.odb_asks.specs.MemDisk.{Volume}
 use Rattle.gix_odb_calls.specs.declared.step.Step.TheVariants as steps
 use Rattle.gix_odb_calls.specs.declared.step.Outcome.TheVariants as outcomes
 use Rattle.gix_odb_calls.specs.declared.call.Reply.{Reply}
-use Rattle.gix_odb.specs.declared.handle_state.HandleState.{HandleState}
-use Rattle.gix_odb_world.specs.declared.work.Work.{Work}
+use Rattle.gix_odb_world.specs.Handle.{HandleParts, IsHandleOf}
+use Rattle.gix_odb_world.specs.Work.{Work}
 use Rattle.gix_odb_world.specs.declared.course.Course.{Course}
 use Rattle.gix_odb_world.specs.Bound.{HasAtMost, bound_of_task}
 use Rattle.gix_odb_runs.specs.Event.{Asked, OfNothing, Event, answered}
 use Rattle.gix_odb_events.specs.declared.answer.Ask.{Ask}
 use Rattle.gix_odb_world.specs.Status.{Free, Resting, Running, Status, Task, Working, come_to, modes_after, refuses_opening, replied, status_of, turned}
-use Rattle.gix_odb_world.specs.Handle.{IsHandleOf}
 use Rattle.gix_odb_runs.specs.Run.{Stand, change_asked, did_asked, did_of_asked, disk_after, disk_after_asked, told_now, tree_at}
 use Rattle.gix_odb_world.specs.Begun.{BegunAs}
 use Rattle.gix_odb_world.specs.Recorded.{opened_in}
@@ -202,12 +201,12 @@ module _ (first : Volume) (events : List Event) (old : Course) (number : ℕ) (r
     status_next (Ok reply) = replied told reply (Working running)
     status_next (Err left) = turned told (Working running)
 
-    matches_rest : (state : HandleState) → IsHandleOf running.store (modes_after told running.modes) state → (frees : Bool)
+    matches_rest : (state : HandleParts) → IsHandleOf running.store (modes_after told running.modes) state → (frees : Bool)
         → Matches (if frees then Free else Resting running.store (modes_after told running.modes)) (if frees then None else Some (record { state = state; work = None }))
     matches_rest state own true = tt
     matches_rest state own false = (own, refl)
 
-    pub matches_next : (state : HandleState) → IsHandleOf running.store (modes_after told running.modes) state → (result : Result Reply Work) → after ≡ result
+    pub matches_next : (state : HandleParts) → IsHandleOf running.store (modes_after told running.modes) state → (result : Result Reply Work) → after ≡ result
         → Matches (status_next result) (after_turn state result)
     matches_next state own (Ok reply) is = matches_rest state own (refuses_opening reply)
     matches_next state own (Err left) is = subst (λ r. Matches (come_to told running r) (Some (record { state = state; work = Some left }))) (sym is) (own, refl)

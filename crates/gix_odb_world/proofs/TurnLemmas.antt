@@ -11,25 +11,26 @@ use Rattle.odb_nodes.specs.declared.change.Change.{Change}
 use Rattle.gix_odb_calls.specs.declared.step.Step.TheVariants as steps
 use Rattle.gix_odb_calls.specs.declared.step.Outcome.{Outcome}
 use Rattle.gix_odb_calls.specs.declared.call.Reply.{Reply}
-use Rattle.gix_odb_world.specs.declared.handle.Handle.{Handle}
-use Rattle.gix_odb.specs.declared.handle_state.HandleState.{HandleState}
-use Rattle.gix_odb_world.specs.declared.work.Work.{Work}
+use Rattle.gix_odb_world.specs.Handle.{HandleParts, IsHandleOf, Seen, seen}
+use Rattle.gix_odb_world.specs.Work.{Work}
 use Rattle.gix_odb_world.specs.declared.course.Course.{Course}
 use Rattle.gix_odb_core.specs.History.{History}
 use Rattle.gix_odb_events.specs.Answers.{view_in}
-use Rattle.gix_odb_world.specs.declared.turn.Carried.{Carried}
 use Rattle.gix_odb_runs.specs.Cores.{cores_after, cores_after_asked, or_before}
 use Rattle.gix_odb_runs.specs.Event.{Asked, OfCore, OfDisk, OfNewCore, OfNothing, Event, answered}
 use Rattle.gix_odb_events.specs.declared.answer.Ask.{Ask}
 use Rattle.gix_odb_world.specs.Machines.{ask_in, fed_in}
 use Rattle.gix_odb_world.specs.Status.{Modes, Running, Store, Status, Free, Resting, Working, modes_after, replied, status_of, turned}
 use Rattle.gix_odb_world.specs.Status as statuses
-use Rattle.gix_odb_world.specs.Handle.{IsHandleOf}
 use Rattle.gix_odb_world.specs.Running.{Runs}
 use Rattle.gix_odb_world.specs.Headline.{outcome_of, stand_of}
-use Rattle.gix_odb_world.specs.WorkOrder.{ask_on, result_in}
+use Rattle.gix_odb_world.specs.WorkOrder.{ask_on, fed_after, result_in}
+use Rattle.gix_odb_world.specs.declared.turn.Carried.{Carried as Done}
+use Rattle.gix_odb_runs.specs.declared.record.Did.{Did}
+use Rattle.gix_odb_world.proofs.CarriedLemmas.{told_state, told_work}
+use Rattle.std.specs.Option.{option_map}
 use Rattle.gix_odb_world.specs.World.{Explains, Continues, GoesOn, Matches, handle_at}
-use Rattle.gix_odb_world.specs.Table.{Carries, IsReasonNow, KeepsTurn, SetsHandle, Settles, Notes, TakesTurn, after_turn, change_by_handle, state_after, told_in, would_change_now}
+use Rattle.gix_odb_world.specs.Table.{Carried, Carries, IsReasonNow, CarriesOut, FeedsTurn, IsTold, IsTurned, KeepsTurn, SetsHandle, Settles, Notes, TakesTurnOf, after_turn, ask_by_handle, ask_by_work, change_by_handle, opened_by, phase_of_handle, phase_of_work, state_after, state_told, told_in, work_told, would_change_now}
 use Rattle.gix_odb_world.proofs.KnowsLemmas.{runs_set}
 use Rattle.gix_odb_world.specs.TwoContents.{watched_after}
 use Rattle.gix_odb_world.specs.Watch.{NotesMade, ShowsSecondBy, TellsChange}
@@ -39,6 +40,7 @@ use Rattle.gix_odb_world.specs.Recorded.{opened_in}
 use Rattle.gix_odb_runs.specs.Run.{Stand, change_asked, did_of_asked, disk_after_asked, stand, told_now, tree_at}
 use Rattle.gix_odb_world.proofs.WorkLaws.{code_asks, code_feeds}
 use Rattle.gix_odb_world.proofs.ValidLaws.{breaks_not}
+use Rattle.gix_odb_world.specs.Valid.{why_not_running}
 use Rattle.gix_odb_world.proofs.WatchLemmas.{keeps_made, turn_left}
 use Rattle.gix_odb_world.proofs.WorldLemmas.{matches_set}
 use Rattle.gix_odb_world.proofs.TurnLaw.{come, event, law, matches_next, runs_next}
@@ -58,12 +60,12 @@ next_is : (asked : Asked) (running : Running) (status : Status) (result : Result
 next_is asked running status result is = ap (λ s. next_from asked s result) is
 
 -- a handle that is taken out and put back
-set_twice : (b : Bool) (handle before : Option Handle) → (if b then handle else (if b then None else before)) ≡ (if b then handle else before)
+set_twice : (b : Bool) (handle before : Option Seen) → (if b then handle else (if b then None else before)) ≡ (if b then handle else before)
 set_twice true handle before = refl
 set_twice false handle before = refl
 
 -- the handle of the code goes on as its modes do
-handle_after : (store : Store) (modes : Modes) (state : HandleState) (asked : Asked) → IsHandleOf store modes state
+handle_after : (store : Store) (modes : Modes) (state : HandleParts) (asked : Asked) → IsHandleOf store modes state
     → IsHandleOf store (modes_after asked modes) (state_after asked state)
 handle_after store modes state OfNothing own = own
 handle_after store modes state (OfDisk ask answer) own = own
@@ -93,8 +95,8 @@ handle_after store modes state (OfNewCore slots folders number seat answer) own 
 }
 
 -- what the code did in a turn of a handle
-record Took (old took mid new : Course) (disk : Volume) (cores : Vec History Global) (shown : Kept) (number : ℕ) (state : HandleState) (work : Work) (done : Carried) (outcome : Outcome)
-    (handle : Option Handle) : Type 0 where
+record Took (old took mid new : Course) (disk : Volume) (cores : Vec History Global) (shown : Kept) (number : ℕ) (state : HandleParts) (work : Work) (done : Carried) (outcome : Outcome)
+    (handle : Option Seen) : Type 0 where
   there : handle_at old number ≡ Some (record { state = state; work = Some work })
   takes : SetsHandle old took number None
   carries : Carries took.disk disk took.cores.items cores.items state work (told_in took.cores.items took.disk number state work) done
@@ -106,7 +108,7 @@ record Took (old took mid new : Course) (disk : Volume) (cores : Vec History Glo
   sets : SetsHandle (record took { disk = disk; cores = cores; shown = shown }) mid number handle
   notes : Notes mid new outcome done.did done.change
 
-module _ (old took mid new : Course) (disk : Volume) (cores : Vec History Global) (shown : Kept) (number : ℕ) (state : HandleState) (work : Work) (done : Carried) (outcome : Outcome) (handle : Option Handle)
+module _ (old took mid new : Course) (disk : Volume) (cores : Vec History Global) (shown : Kept) (number : ℕ) (state : HandleParts) (work : Work) (done : Carried) (outcome : Outcome) (handle : Option Seen)
     (took_it : Took old took mid new disk cores shown number state work done outcome handle) (first : Volume) (events : List Event) (explains : Explains first events old) where
   -- by the store of the handle, and the work that it is at
   goes_at : (running : Running) → status_of events number ≡ Working running → running.work ≡ work → IsHandleOf running.store running.modes state
@@ -199,8 +201,8 @@ noted_by old took number shown revealed change would takes same fits tells first
     (λ second. first (subst (ShowsSecondBy old.shown (tree_of old.disk.state)) same second))
 
 -- each history goes on by the turn
-pub turned_on : (old took mid new : Course) (disk : Volume) (cores : Vec History Global) (shown : Kept) (number : ℕ) (state : HandleState) (work : Work) (done : Carried) (outcome : Outcome)
-    (handle : Option Handle) (revealed : Option Revealed)
+pub turned_on : (old took mid new : Course) (disk : Volume) (cores : Vec History Global) (shown : Kept) (number : ℕ) (state : HandleParts) (work : Work) (done : Carried) (outcome : Outcome)
+    (handle : Option Seen) (revealed : Option Revealed)
     → handle_at old number ≡ Some (record { state = state; work = Some work }) → SetsHandle old took number None
     → IsTree (tree_of took.disk.state)
     → Carries took.disk disk took.cores.items cores.items state work (told_in took.cores.items took.disk number state work) done
@@ -230,15 +232,57 @@ turned_on old took mid new disk cores shown number state work done outcome handl
 
 -- ---- a turn in its parts
 
-pub keeps_turn : (old new : Course) (number : ℕ) (done : Carried) (revealed : Option Revealed) (shown : Kept)
-    → ((tree : Tree) → Fits old.shown tree → TellsChange old.shown.folders tree done.change revealed → (ShowsSecondBy old.shown tree done.change → ⊥)
-    → NotesMade old.shown tree done.change shown)
-    → Settles (record old { shown = shown }) new number (after_turn done.state (result_in done.work)) (outcome_of (result_in done.work)) done.did done.change
-    → KeepsTurn old new number done revealed
-keeps_turn old new number done revealed shown keeps settles = record { shown = shown; keeps = keeps; settles = settles }
+-- a handle that may turn is at work
+pub at_work : (handle : Option Seen) (own : Seen) → None ≡ why_not_running (phase_of_handle handle) → handle ≡ Some own → (work : Work) × (own.work ≡ Some work)
+at_work handle own valid is = by own.work refl
+  where
+    by : (work : Option Work) → own.work ≡ work → (w : Work) × (own.work ≡ Some w)
+    by None same = absurd (cc (valid ∙ (ap (λ h. why_not_running (phase_of_handle h)) is ∙ ap (λ w. why_not_running (phase_of_work own.state.info.object_hash w)) same)))
+    by (Some work) same = (work, same)
 
-pub takes_turn : (old new : Course) (number : ℕ) (state : HandleState) (work : Work) (revealed : Option Revealed) (disk : Volume) (cores : Vec History Global) (done : Carried)
+pub taken_at : (handle : Option Seen) (own : Seen) (work : Work) → own.work ≡ Some work → handle ≡ Some own → handle ≡ Some (record { state = own.state; work = Some work })
+taken_at handle own work at is = is ∙ ap (λ w. Some (record { state = own.state; work = w })) at
+
+pub keeps_turn : (old new : Course) (number : ℕ) (handle : Option Seen) (outcome : Outcome) (did : Did) (change : Option Change) (revealed : Option Revealed) (shown : Kept)
+    → ((tree : Tree) → Fits old.shown tree → TellsChange old.shown.folders tree change revealed → (ShowsSecondBy old.shown tree change → ⊥)
+    → NotesMade old.shown tree change shown)
+    → Settles (record old { shown = shown }) new number handle outcome did change
+    → KeepsTurn old new number handle outcome did change revealed
+keeps_turn old new number handle outcome did change revealed shown keeps settles = record { shown = shown; keeps = keeps; settles = settles }
+
+-- what the code made of a turn of a handle is what the history has of it
+pub takes_turn : (old new : Course) (number : ℕ) (handle : Seen) (ask : Option Ask) (change : Option Change) (revealed : Option Revealed) (disk : Volume) (cores : Vec History Global) (done : Done)
+    → ask ≡ ask_by_handle (Some handle) → change ≡ change_asked old.disk ask
     → IsTree (tree_of old.disk.state)
-    → Carries old.disk disk old.cores.items cores.items state work (told_in old.cores.items old.disk number state work) done
-    → KeepsTurn (record old { disk = disk; cores = cores }) new number done revealed → TakesTurn old new number state work revealed
-takes_turn old new number state work revealed disk cores done tree carries keeps = record { disk = disk; cores = cores; done = done; tree = tree; carries = carries; keeps = keeps }
+    → CarriesOut old.disk disk old.cores.items cores.items (opened_by handle.work) ask (told_now (stand old.cores.items handle.state.core number) old.disk ask) done
+    → FeedsTurn (record old { disk = disk; cores = cores }) new number handle done change revealed → TakesTurnOf old new number handle revealed
+takes_turn old new number handle ask change revealed disk cores done asked changed tree carries feeds work at =
+    let state : HandleParts = handle.state in
+    let place : Stand = stand old.cores.items state.core number in
+    let asks_it : ask ≡ ask_on state work = asked ∙ ap (ask_by_work state) at in
+    let told : Asked = told_in old.cores.items old.disk number state work in
+    let told_is : told_now place old.disk ask ≡ told = ap (told_now place old.disk) asks_it in
+    let tells : IsTold told done.told = subst (λ a. IsTold a done.told) told_is carries.told_is in
+    let turns : IsTurned state work done.told feeds.turned = feeds.turns work at in
+    let state_is : state_told state done.told ≡ state_after told state = sym (told_state state told done.told tells) in
+    let work_is : work_told state work done.told ≡ fed_after state work (answered told) = sym (told_work place old.disk state work (ask_on state work) refl done.told tells) in
+    let handle_is : option_map seen feeds.turned.handle ≡ after_turn (state_after told state) (result_in (fed_after state work (answered told))) =
+    turns.handle ∙ (ap (λ s. after_turn s (result_in (work_told state work done.told))) state_is ∙ ap (λ w. after_turn (state_after told state) (result_in w)) work_is) in
+    let outcome_is : feeds.turned.outcome ≡ outcome_of (result_in (fed_after state work (answered told))) =
+    turns.outcome ∙ ap (λ w. outcome_of (result_in w)) work_is in
+    record {
+      disk = disk;
+      cores = cores;
+      done = record { did = done.did; change = change; state = state_after told state; work = fed_after state work (answered told) };
+      tree = tree;
+      carries = record {
+        did = carries.did ∙ (ap (λ o. did_of_asked (opened_by o) old.cores.items (told_now place old.disk ask)) at ∙ ap (did_of_asked (opened_in work) old.cores.items) told_is);
+        change = changed ∙ ap (change_asked old.disk) asks_it;
+        state_is = refl;
+        work_is = refl;
+        disk_is = carries.disk_is ∙ ap (λ a. disk_after_asked old.disk (told_now place old.disk a) (change_asked old.disk a)) asks_it;
+        cores_are = carries.cores_are ∙ ap (cores_after_asked old.cores.items) told_is;
+      };
+      keeps = subst (λ h. KeepsTurn (record old { disk = disk; cores = cores }) new number h (outcome_of (result_in (fed_after state work (answered told)))) done.did change revealed) handle_is
+          (subst (λ o. KeepsTurn (record old { disk = disk; cores = cores }) new number (option_map seen feeds.turned.handle) o done.did change revealed) outcome_is feeds.keeps);
+    }

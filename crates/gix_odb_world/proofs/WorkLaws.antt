@@ -5,17 +5,16 @@ use Rattle.odb_asks.specs.declared.ask.DiskAsk.{DiskAsk}
 use Rattle.odb_asks.specs.declared.ask.DiskAnswer.{DiskAnswer}
 use Rattle.gix_odb.specs.CallOrder.{result_of_write}
 use Rattle.gix_odb_calls.specs.declared.call.Reply.{Reply}
-use Rattle.gix_odb.specs.declared.handle_state.HandleState.{HandleState}
+use Rattle.gix_odb_world.specs.Handle.{HandleParts, IsHandleOf}
 use Rattle.gix_odb_loose.specs.LooseOrder.{disk_ask_of}
 use Rattle.gix_odb_loose.specs.LooseOrder as loose_order
 use Rattle.gix_odb_loose.specs.declared.call.LooseCall.{LooseCall}
-use Rattle.gix_odb_world.specs.declared.work.Work.{Work}
+use Rattle.gix_odb_world.specs.Work.{Work}
 use Rattle.gix_odb_runs.specs.Event.{Event}
 use Rattle.gix_odb_events.specs.declared.answer.Answer.{Answer}
 use Rattle.gix_odb_events.specs.declared.answer.Ask.TheVariants as parts
 use Rattle.gix_odb_events.specs.declared.answer.Answer.TheVariants as told
 use Rattle.gix_odb_looks.specs.LookUpOrder.{loose_ask}
-use Rattle.gix_odb_world.specs.Handle.{IsHandleOf}
 use Rattle.gix_odb_world.specs.Machine.{At, Machine, placed}
 use Rattle.gix_odb_world.specs.Machines.{at, ask_in, fed_in, write_in}
 use Rattle.gix_odb_runs.specs.Run.{change_by, disk_after}
@@ -29,12 +28,12 @@ use Rattle.gix_odb_world.proofs.Machines.{laws_at}
 -- ---- its code
 
 -- the code of a handle asks what the work names
-pub code_asks : (store : Store) (modes : Modes) (code : HandleState) → IsHandleOf store modes code → (work : Work)
+pub code_asks : (store : Store) (modes : Modes) (code : HandleParts) → IsHandleOf store modes code → (work : Work)
     → ask_on code work ≡ ask_in store work
 code_asks store modes code own work = ap (ask_on code) (sym (at work).is) ∙ (laws_at work).asks store modes code own (at work).state
 
 -- and goes on as the work does
-pub code_feeds : (store : Store) (modes : Modes) (code : HandleState) → IsHandleOf store modes code → (work : Work) (answer : Option Answer)
+pub code_feeds : (store : Store) (modes : Modes) (code : HandleParts) → IsHandleOf store modes code → (work : Work) (answer : Option Answer)
     → result_in (fed_after code work answer) ≡ fed_in store work answer
 code_feeds store modes code own work answer =
     ap (λ w. result_in (fed_after code w answer)) (sym (at work).is) ∙ (laws_at work).feeds store modes code own (at work).state answer

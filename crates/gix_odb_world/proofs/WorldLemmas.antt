@@ -7,7 +7,7 @@ use Rattle.odb_asks.specs.MemDisk.{Volume}
 use Rattle.odb_nodes.specs.Tree.{IsTree, tree_of}
 use Rattle.gix_odb_shown.specs.HasShown.{Keeps}
 use Rattle.gix_odb_shown.specs.Kept.{nothing_kept}
-use Rattle.gix_odb_world.specs.declared.handle.Handle.{Handle}
+use Rattle.gix_odb_world.specs.Handle.{Seen}
 use Rattle.gix_odb_world.specs.declared.course.Course.{Course}
 use Rattle.gix_odb_runs.specs.Cores.{cores_after}
 use Rattle.gix_odb_runs.specs.Event.{Event}
@@ -42,11 +42,11 @@ explains_none world is_tree handles cores shown outcomes records =
       throughout = λ now handle within. throughout_none world.disk now handle;
     }
 
-matches_either : (b : Bool) (s t : Status) (h k : Option Handle) → Matches s h → Matches t k → Matches (if b then s else t) (if b then h else k)
+matches_either : (b : Bool) (s t : Status) (h k : Option Seen) → Matches s h → Matches t k → Matches (if b then s else t) (if b then h else k)
 matches_either true s t h k here there = here
 matches_either false s t h k here there = there
 
-pub matches_set : (old new : Course) (table : ℕ → Status) (number : ℕ) (status : Status) (handle : Option Handle)
+pub matches_set : (old new : Course) (table : ℕ → Status) (number : ℕ) (status : Status) (handle : Option Seen)
     → ((other : ℕ) → Matches (table other) (handle_at old other))
     → ((other : ℕ) → handle_at new other ≡ (if other == number then handle else handle_at old other)) → Matches status handle
     → (other : ℕ) → Matches (with_status table number status other) (handle_at new other)

@@ -28,13 +28,12 @@ use Rattle.gix_odb_refresh.specs.declared.refresh.RefreshStep.TheVariants as fro
 use Rattle.gix_odb.specs.CallOrder as calls
 use Rattle.gix_odb.specs.Contents.{folder_list}
 use Rattle.gix_odb.specs.CallOrder.{fronted, result_of_write, writing_result, written_on}
-use Rattle.gix_odb.specs.declared.call_state.CallState.TheVariants.{Refused}
-use Rattle.gix_odb.specs.declared.handle_state.HandleState.{HandleState}
+use Rattle.gix_odb.specs.declared.call_state.CallStage.TheVariants.{Refused}
+use Rattle.gix_odb_world.specs.Handle.{HandleParts, IsHandleOf}
 use Rattle.gix_odb_world.specs.AtWork.{Modes, setting_in}
 use Rattle.gix_odb_looks.specs.Laps.{turns_of_lap}
 use Rattle.gix_odb_runs.specs.Event.{CoreEvent, Event, answered}
 use Rattle.gix_odb_events.specs.declared.answer.Answer.{Answer}
-use Rattle.gix_odb_world.specs.Handle.{IsHandleOf}
 use Rattle.gix_odb_world.specs.Machine.{placed}
 use Rattle.gix_odb_world.specs.Machines.{at}
 use Rattle.gix_odb_runs.specs.Run.{IsTurnOf, change_by, disk_after}
@@ -75,12 +74,12 @@ front_placed call (fronts.Current view own) = own_placed (result_of_write call)
 front_placed call (fronts.Outdated list_no) = own_placed (result_of_write call)
 front_placed call (fronts.Refused error) = refl
 
-write_code_asks : (code : HandleState) (state : WriteState) → ask_on code (work_of state) ≡ write_asks state
+write_code_asks : (code : HandleParts) (state : WriteState) → ask_on code (work_of state) ≡ write_asks state
 write_code_asks code (InFront refresh call) = refl
 write_code_asks code (Own call) = refl
 write_code_asks code (Unlisted error) = refl
 
-write_feeds : (store : Store) (modes : Modes) (code : HandleState) → IsHandleOf store modes code → (state : WriteState) (answer : Option Answer)
+write_feeds : (store : Store) (modes : Modes) (code : HandleParts) → IsHandleOf store modes code → (state : WriteState) (answer : Option Answer)
     → result_in (fed_after code (work_of state) answer) ≡ placed writing (write_fed store state answer)
 write_feeds store modes code own (InFront refresh call) None = refl
 write_feeds store modes code own (InFront refresh call) (Some answer) =

@@ -10,7 +10,7 @@ use Rattle.gix_odb_calls.specs.declared.init.Slots.{Slots}
 use Rattle.gix_odb_events.specs.Answers.{view_in}
 use Rattle.gix_odb_runs.specs.Cores.{or_before}
 use Rattle.gix_odb_runs.specs.Event.{Asked, OfCore, OfDisk, OfNewCore, OfNothing}
-use Rattle.gix_odb_world.specs.declared.work.Work.{Work}
+use Rattle.gix_odb_world.specs.Work.{Work}
 
 -- a store that was opened, or whose opening runs: the number of its open step, how many slots it was to have, the hash of its ids, the most
 -- changes of the list that a call bears, and its parts

@@ -1,47 +1,98 @@
--- How a handle of the code stands for a store, and how its opening begins.
-use Rattle.std.specs.Prelude.{◌≡◌, true, false, List, None}
-use Rattle.std.specs.BTreeMap.{IsFromIterResult}
+-- What a handle of the code has and is at, how it stands for a store, and how its opening begins.
+use Rattle.std.specs.Prelude.{◌≡◌, ℕ, Bool, true, false, List, Option, Some, None, unwrap_or}
+use Rattle.std.specs.BTreeMap.{get}
 use Rattle.odb_base.specs.Path.{Path}
 use Rattle.gix_hash.specs.declared.kind.Kind.{Kind as HashKind}
 use Rattle.gix_hash.specs.declared.object_id.ObjectId.{ObjectId}
 use Rattle.gix_hash.specs.ObjectId.{id_cmp}
-use Rattle.gix_odb.specs.Contents.{replacement_in}
-use Rattle.gix_odb.specs.HandleState.{replacement_of}
+use Rattle.gix_odb.specs.Contents.{replacement_in, sought_with}
+use Rattle.gix_odb.specs.HandleState.{unseen}
 use Rattle.gix_odb.specs.OpenOrder.{started}
+use Rattle.gix_odb.specs.OpenState.{IsMadeOf}
 use Rattle.gix_odb.specs.declared.handle_state.HandleState.{HandleState}
 use Rattle.gix_odb.specs.declared.open_state.OpenState.{OpenState}
+use Rattle.gix_odb_calls.specs.declared.init.Options.{Options}
+use Rattle.gix_odb_calls.specs.declared.query.Query.{Query}
+use Rattle.gix_odb_calls.specs.declared.store_parts.StoreParts.{StoreParts}
+use Rattle.gix_odb_events.specs.declared.view.View.{View}
+use Rattle.gix_odb_looks.specs.LookUpOrder.{Setting}
 use Rattle.gix_odb_world.specs.Status.{Store, Modes}
 use Rattle.gix_odb_world.specs.Valid.{is_openable}
-use Rattle.gix_odb_calls.specs.declared.init.Options.{Options}
+use Rattle.gix_odb_world.specs.Work.{Work, Opening, Calling}
+use Rattle.gix_odb_world.specs.declared.handle.Handle.{Handle}
+use Rattle.gix_odb_world.specs.declared.handle.HandleAt.{HandleAt}
+use Rattle.gix_odb_world.specs.declared.handle.HandleAt.TheVariants as stands
 
--- the handle has what its open step was handed
-pub record IsOpened (objects : Path) (folders : List Path) (hash : HashKind) (replacements : List (ObjectId × ObjectId)) (options : Options) (handle : HandleState) : Type 0 where
-  pub objects_are : handle.store.value.objects ≡ objects
-  pub folders_are : handle.store.value.folders ≡ folders
-  pub replacements_are : IsFromIterResult id_cmp replacements handle.store.value.replacements
-  pub ignoring : handle.ignore_replacements ≡ false
-  pub limit : handle.store.value.alloc_limit_bytes ≡ options.alloc_limit_bytes
-  pub slots : handle.store.value.slots ≡ options.slots
-  pub hash_is : handle.store.value.object_hash ≡ hash
-  pub changes : handle.store.value.max_changes ≡ options.max_changes
-  pub core : handle.core ≡ 0
-  pub view : handle.view ≡ None
+-- ---- what a handle of the code has, and what it is at
 
--- an opening begins: the conditions hold, the handle has what its open step was handed, and nothing was asked
-pub record Begins (objects : Path) (folders : List Path) (hash : HashKind) (replacements : List (ObjectId × ObjectId)) (options : Options) (begun : HandleState × OpenState) : Type 0 where
+-- What a handle has, whatever it is at: the parts of its store, its modes, the number of the core of its store, and its snapshot. While its
+-- store is opening the number is 0, and there is no snapshot.
+pub record HandleParts : Type 0 where
+  pub info : StoreParts
+  pub ignoring : Bool
+  pub max_changes : ℕ
+  pub core : ℕ
+  pub view : Option View
+
+-- a handle as proofs see it: what it has, and the work that it is at, if it is at any
+pub record Seen : Type 0 where
+  pub state : HandleParts
+  pub work : Option Work
+
+abbrev pub opening_parts : (core : ℕ) → OpenState → HandleParts
+opening_parts core opening = record { info = opening.info.value; ignoring = false; max_changes = opening.max_changes; core = core; view = None }
+
+abbrev pub parts_of : (core : ℕ) → HandleState → HandleParts
+parts_of core state = record { info = state.info.value; ignoring = state.ignore_replacements; max_changes = state.max_changes; core = core; view = Some state.view }
+
+abbrev pub seen_at : (core : ℕ) → HandleAt → Seen
+seen_at core (stands.Opening opening) = record { state = opening_parts core opening; work = Some (Opening opening.stage) }
+seen_at core (stands.Resting state) = record { state = parts_of core state; work = None }
+seen_at core (stands.Calling call) = record { state = parts_of core call.handle; work = Some (Calling call.stage) }
+
+abbrev pub seen : Handle → Seen
+seen handle = seen_at handle.core handle.at
+
+-- ---- what a look-up and a query are told of it
+
+abbrev pub setting_at : HandleParts → Setting
+setting_at handle = record {
+  objects = handle.info.objects;
+  folders = handle.info.folders;
+  limit = handle.info.alloc_limit_bytes;
+  most = handle.max_changes;
+}
+
+-- what a handle sees: its snapshot, if it has one
+abbrev pub view_at : HandleParts → View
+view_at handle = unwrap_or handle.view unseen
+
+-- the id that replaces another
+abbrev pub replacement_of : HandleParts → ObjectId → Option ObjectId
+replacement_of handle id = get id_cmp handle.info.replacements id
+
+-- the id that a query seeks
+abbrev pub sought_by : HandleParts → Query → ObjectId
+sought_by handle query = sought_with (replacement_of handle) handle.ignoring query
+
+-- ---- a store
+
+-- an opening begins: the conditions hold, it has what its open step was passed, and nothing was asked
+pub record Begins (objects : Path) (folders : List Path) (hash : HashKind) (replacements : List (ObjectId × ObjectId)) (options : Options) (opening : OpenState) : Type 0 where
   pub good : is_openable objects folders hash replacements options.max_changes ≡ true
-  pub handle : IsOpened objects folders hash replacements options begun.0
-  pub opening : begun.1 ≡ started
+  pub parts : IsMadeOf objects folders hash replacements options opening.info.value
+  pub changes : opening.max_changes ≡ options.max_changes
+  pub begun : opening.stage ≡ started
 
 -- the handle is one of the store, in these modes
-pub record IsHandleOf (store : Store) (modes : Modes) (handle : HandleState) : Type 0 where
-  pub objects : handle.store.value.objects ≡ store.parts.objects
-  pub folders : handle.store.value.folders ≡ store.parts.folders
+pub record IsHandleOf (store : Store) (modes : Modes) (handle : HandleParts) : Type 0 where
+  pub objects : handle.info.objects ≡ store.parts.objects
+  pub folders : handle.info.folders ≡ store.parts.folders
   pub replacements : (id : ObjectId) → replacement_of handle id ≡ replacement_in store.parts id
-  pub ignoring : handle.ignore_replacements ≡ modes.ignoring
-  pub limit : handle.store.value.alloc_limit_bytes ≡ store.parts.limit
-  pub slots : handle.store.value.slots ≡ store.slots
-  pub hash : handle.store.value.object_hash ≡ store.hash
-  pub changes : handle.store.value.max_changes ≡ store.max_changes
+  pub ignoring : handle.ignoring ≡ modes.ignoring
+  pub limit : handle.info.alloc_limit_bytes ≡ store.parts.limit
+  pub slots : handle.info.slots ≡ store.slots
+  pub hash : handle.info.object_hash ≡ store.hash
+  pub changes : handle.max_changes ≡ store.max_changes
   pub core : handle.core ≡ modes.core
   pub view : handle.view ≡ modes.view

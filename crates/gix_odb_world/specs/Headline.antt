@@ -17,7 +17,7 @@ use Rattle.gix_odb_calls.specs.declared.step.Outcome.{Outcome}
 use Rattle.gix_odb_calls.specs.declared.step.Outcome.TheVariants as outcomes
 use Rattle.gix_odb_runs.specs.declared.record.Did.{Did}
 use Rattle.gix_odb_runs.specs.declared.record.Run.{Run}
-use Rattle.gix_odb_world.specs.declared.work.Work.{Work}
+use Rattle.gix_odb_world.specs.Work.{Work}
 use Rattle.gix_odb_runs.specs.Event.{Asked, OfNothing, OfDisk, OfCore, OfNewCore, Event, answered}
 use Rattle.gix_odb_events.specs.declared.answer.Ask.{Ask}
 use Rattle.gix_odb_runs.specs.Cores.{answer_behind, cores_after, history_at}

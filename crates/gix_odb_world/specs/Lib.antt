@@ -1,3 +1,4 @@
+pub mod Work
 pub use Rattle.gix_odb_runs.specs.Event
 pub use Rattle.gix_odb_runs.specs.Cores
 pub use Rattle.gix_odb_runs.specs.JournalKept

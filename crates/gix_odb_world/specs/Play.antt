@@ -8,7 +8,7 @@ use Rattle.gix_odb_calls.specs.declared.step.Outcome.TheVariants as comes
 use Rattle.gix_odb_calls.specs.declared.line.Line.{Line}
 use Rattle.gix_odb_calls.specs.declared.line.Line.TheVariants.{One, Finish}
 use Rattle.odb_asks.specs.MemDisk.{Volume}
-use Rattle.gix_odb_runs.specs.declared.record.Run.{Run}
+use Rattle.gix_odb_world.specs.declared.play.Play.{Play}
 use Rattle.gix_odb_world.specs.Headline.{Headline}
 use Rattle.gix_odb_world.specs.RunLaws.Pending.{AreLinesInTime}
 
@@ -38,9 +38,9 @@ Plays place (line ∷ lines) made last =
     (own : List Made) × (others : List Made) × (rest : List ℕ) × StandsFor line own × (made ≡ own ++ others)
     × (last ≡ (place + length own - 1) ∷ rest) × Plays (place + length own) lines others rest
 
--- The lines stand for some steps, from this disk on, and what those came to is the run. Each line that finishes what a handle is at ends in time.
-pub record IsPlayed (first : Volume) (lines : List Line) (run : Run) (last : List ℕ) : Type 0 where
-  pub steps : List Step
-  pub headline : Headline first steps run
-  pub plays : Plays 0 lines (made_of steps run.outcomes) last
-  pub in_time : AreLinesInTime first headline.events 0 lines last
+-- The lines stand for the steps of a play, from this disk on, and what those came to is its run. Each line that finishes what a handle is at ends
+-- in time.
+pub record IsPlayed (first : Volume) (lines : List Line) (play : Play) : Type 0 where
+  pub headline : Headline first play.steps play.run
+  pub plays : Plays 0 lines (made_of play.steps play.run.outcomes) play.last
+  pub in_time : AreLinesInTime first headline.events 0 lines play.last

@@ -3,8 +3,8 @@ use Rattle.std.specs.Prelude.{Option}
 use Rattle.odb_base.specs.Path.{Path}
 use Rattle.gix_odb.specs.CallOrder as calls
 use Rattle.gix_odb.specs.OpenOrder as openings
-use Rattle.gix_odb_world.specs.declared.work.Work.{Work}
-use Rattle.gix_odb_world.specs.declared.work.Work.TheVariants.{Opening, Calling}
+use Rattle.gix_odb_world.specs.Work.{Work}
+use Rattle.gix_odb_world.specs.Work.{Opening, Calling}
 
 -- The path with which the stream was opened that the next call of work is on, where it is on one: whoever opened a stream knows it.
 abbrev pub opened_in : Work → Option Path

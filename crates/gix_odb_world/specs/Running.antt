@@ -8,9 +8,9 @@ pub mod Refused
 pub mod Write
 use Rattle.std.specs.Prelude.{ℕ, ◌≤◌, List, take, length}
 use Rattle.odb_asks.specs.MemDisk.{Volume}
-use Rattle.gix_odb.specs.declared.call_state.CallState.TheVariants as calls
-use Rattle.gix_odb_world.specs.declared.work.Work.{Work}
-use Rattle.gix_odb_world.specs.declared.work.Work.TheVariants as works
+use Rattle.gix_odb.specs.declared.call_state.CallStage.TheVariants as calls
+use Rattle.gix_odb_world.specs.Work.{Work}
+use Rattle.gix_odb_world.specs.Work as works
 use Rattle.gix_odb_runs.specs.Event.{Event}
 use Rattle.gix_odb_world.specs.Machine.{Machine}
 use Rattle.gix_odb_world.specs.Machines.{at}

@@ -17,8 +17,8 @@ use Rattle.gix_odb_refresh.specs.declared.refresh.RefreshStep.{RefreshStep}
 use Rattle.gix_odb.specs.Contents.{sought}
 use Rattle.gix_odb.specs.HandleState.{unseen}
 use Rattle.gix_odb.specs.OpenExchanges as openings
-use Rattle.gix_odb.specs.declared.open_state.OpenState.{OpenState}
-use Rattle.gix_odb.specs.declared.open_state.OpenState.TheVariants as opens
+use Rattle.gix_odb.specs.declared.open_state.OpenStage.{OpenStage}
+use Rattle.gix_odb.specs.declared.open_state.OpenStage.TheVariants as opens
 use Rattle.gix_odb_world.specs.AtWork.{Modes, Store, setting_in}
 use Rattle.gix_odb_runs.specs.Cores.{cores_after, history_at}
 use Rattle.gix_odb_runs.specs.Event.{Asked, Event, OfCore, OfDisk, OfNewCore, OfNothing}
@@ -55,7 +55,7 @@ look_now events handle store modes begun query =
     behind (setting_in store) (look_begun events handle store modes begun query) (told_since events handle begun)
 
 -- where an opening stands that began at the event that has a number: behind all that its handle was told since
-abbrev pub opening_now : List Event → (handle : ℕ) → Store → (begun : ℕ) → OpenState
+abbrev pub opening_now : List Event → (handle : ℕ) → Store → (begun : ℕ) → OpenStage
 opening_now events handle store begun = openings.behind (setting_in store) store.slots opens.Looking (told_since events handle begun)
 
 -- what stands in front of a write of a handle that began at the event that has a number, as it begins; and behind all that the handle was told

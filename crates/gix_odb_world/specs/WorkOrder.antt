@@ -3,37 +3,36 @@ use Rattle.std.specs.Prelude.{Option, Some, None, Result, Ok, Err}
 use Rattle.gix_odb_events.specs.declared.answer.Answer.{Answer}
 use Rattle.gix_odb_events.specs.declared.answer.Ask.{Ask}
 use Rattle.gix_odb.specs.CallOrder as calls
-use Rattle.gix_odb.specs.HandleState.{setting_at}
 use Rattle.gix_odb.specs.OpenOrder as openings
 use Rattle.gix_odb_calls.specs.declared.call.Reply.{Reply}
-use Rattle.gix_odb.specs.declared.call_state.CallState.{CallState}
-use Rattle.gix_odb.specs.declared.handle_state.HandleState.{HandleState}
-use Rattle.gix_odb.specs.declared.open_state.OpenState.{OpenState}
-use Rattle.gix_odb_world.specs.declared.work.Work.{Work}
-use Rattle.gix_odb_world.specs.declared.work.Work.TheVariants.{Opening, Calling}
+use Rattle.gix_odb.specs.declared.call_state.CallStage.{CallStage}
+use Rattle.gix_odb_world.specs.Handle.{HandleParts, setting_at}
+use Rattle.gix_odb.specs.declared.open_state.OpenStage.{OpenStage}
+use Rattle.gix_odb_world.specs.Work.{Work}
+use Rattle.gix_odb_world.specs.Work.{Opening, Calling}
 
 -- what the work of a handle asks for, if it asks for anything: a call of the disk, an event of the core of its store, or a core for its
 -- store
-abbrev pub ask_on : HandleState → Work → Option Ask
-ask_on handle (Opening state) = openings.ask_of handle.store.value.objects handle.store.value.folders state
+abbrev pub ask_on : HandleParts → Work → Option Ask
+ask_on handle (Opening state) = openings.ask_of handle.info.objects handle.info.folders state
 ask_on handle (Calling state) = calls.ask_of state
 
 -- the work of a handle after the answer to what it asked for
-abbrev pub fed_on : HandleState → Work → Answer → Work
+abbrev pub fed_on : HandleParts → Work → Answer → Work
 fed_on handle (Opening state) answer =
-    Opening (openings.fed handle.store.value.objects handle.store.value.folders handle.store.value.slots state answer)
+    Opening (openings.fed handle.info.objects handle.info.folders handle.info.slots state answer)
 fed_on handle (Calling state) answer = Calling (calls.fed (setting_at handle) state answer)
 
 -- the work of a handle after a turn, where it asked for nothing or had its answer
-abbrev pub fed_after : HandleState → Work → Option Answer → Work
+abbrev pub fed_after : HandleParts → Work → Option Answer → Work
 fed_after handle work None = work
 fed_after handle work (Some answer) = fed_on handle work answer
 
-abbrev pub opening_result : Result Reply OpenState → Result Reply Work
+abbrev pub opening_result : Result Reply OpenStage → Result Reply Work
 opening_result (Ok reply) = Ok reply
 opening_result (Err state) = Err (Opening state)
 
-abbrev pub calling_result : Result Reply CallState → Result Reply Work
+abbrev pub calling_result : Result Reply CallStage → Result Reply Work
 calling_result (Ok reply) = Ok reply
 calling_result (Err state) = Err (Calling state)
 

@@ -1,5 +1,6 @@
 -- How the code of a world stands for a history. No public clause needs more of it than its name.
 use Rattle.std.specs.Prelude.{◌≡◌, ℕ, List, [], ◌∷◌, ◌++◌, map, length, Option, Some, None}
+use Rattle.std.specs.Option.{option_map}
 use Rattle.std.specs.Ordering.{nat_cmp}
 use Rattle.std.specs.BTreeMap.{get}
 use Rattle.odb_asks.specs.MemDisk.{Volume}
@@ -7,23 +8,27 @@ use Rattle.odb_nodes.specs.Tree.{IsTree, tree_of}
 use Rattle.gix_odb_shown.specs.HasShown.{Keeps}
 use Rattle.gix_odb_calls.specs.declared.step.Step.{Step}
 use Rattle.gix_odb_calls.specs.declared.step.Outcome.{Outcome}
-use Rattle.gix_odb_world.specs.declared.handle.Handle.{Handle}
 use Rattle.gix_odb_world.specs.declared.course.Course.{Course}
+use Rattle.gix_odb_world.specs.declared.handle.Handle.{Handle}
 use Rattle.gix_odb_runs.specs.Event.{Event}
 use Rattle.gix_odb_world.specs.Status.{Status, Free, Resting, Working, status_of}
-use Rattle.gix_odb_world.specs.Handle.{IsHandleOf}
+use Rattle.gix_odb_world.specs.Handle.{IsHandleOf, Seen, seen}
 use Rattle.gix_odb_runs.specs.Cores.{cores_after}
 use Rattle.gix_odb_runs.specs.Run.{disk_after, tree_at}
 use Rattle.gix_odb_world.specs.TwoContents.{watched_after}
 use Rattle.gix_odb_world.specs.Running.{Runs, RunsThroughout}
 use Rattle.gix_odb_world.specs.Headline.{Law, IsLawful}
 
--- the handle of a world that has a number
-abbrev pub handle_at : Course → ℕ → Option Handle
-handle_at world number = get nat_cmp world.handles number
+-- the handle in the table of a world that has a number
+abbrev pub stored_at : Course → ℕ → Option Handle
+stored_at world number = get nat_cmp world.handles number
+
+-- the same as proofs see it
+abbrev pub handle_at : Course → ℕ → Option Seen
+handle_at world number = option_map seen (stored_at world number)
 
 -- a handle of the code does what a status says
-abbrev pub Matches : Status → Option Handle → Type 0
+abbrev pub Matches : Status → Option Seen → Type 0
 Matches Free None = Unit {0}
 Matches Free (Some handle) = ⊥
 Matches (Resting store modes) None = ⊥

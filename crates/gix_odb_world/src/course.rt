@@ -1,26 +1,21 @@
 //! How far a world has come: its disk, its handles and cores, and what its steps came to; and what each step makes of it.
 ghost use Rattle.std.specs.Prelude.{◌≡◌, ◌≢◌, ◌<◌, ◌^◌, ◌↔◌, ℕ, IsTrue, ◌++◌, ◌∷◌, [], List, IfOk, OnOk, length, None, Some};
 ghost use Rattle.odb_asks.specs.MemDisk.{Volume};
-ghost use Rattle.odb_nodes.specs.Tree.{tree_of};
 ghost use Rattle.gix_odb_runs.specs.Event.{Event};
-ghost use Rattle.gix_odb_runs.specs.Run.{change_asked};
-ghost use Rattle.gix_odb_world.specs.Valid.{IsReason};
-ghost use Rattle.gix_odb_world.specs.Headline.{IsRun, outcome_of};
-ghost use Rattle.gix_odb_world.specs.Watch.{TellsChange};
-ghost use Rattle.gix_odb_world.specs.WorkOrder.{ask_on, result_in};
+ghost use Rattle.gix_odb_world.specs.Valid.{IsReason, why_not_idle};
+ghost use Rattle.gix_odb_world.specs.Headline.{IsRun};
 ghost use Rattle.gix_odb_world.specs.World.{Continues, Explains, IsExplained, handle_at};
-ghost use Rattle.gix_odb_world.specs.Table.{CanHappenAt, HasOneMore, IsReasonNow, KeepsTurn, Notes, SetsHandle, Settles, TakesTurn, after_turn, ask_by_handle, would_change_now};
+ghost use Rattle.gix_odb_world.specs.Table.{HasOneMore, Notes, SetsHandle, phase_of_handle, shared_with};
 
-use crate::handle::Handle;
+use crate::handle::{Handle, HandleAt};
 use crate::opening;
-use crate::turn::{Carried, carried_out, settled};
-use crate::watch::{Judged, keep, watch_store};
-use crate::work::Work;
-use gix_odb::{CallState, HandleState};
+use crate::watch::watch_store;
+use gix_odb::CallState;
 use gix_odb_calls::{Call, IdPairs, Options, Outcome, PathList, Step, Why};
+use gix_odb_events::View;
 use gix_odb_runs::cores::{joined, journals_of, removed};
 use gix_odb_runs::{ChangeMade, Did, KeptCore, OutcomeList, Record, RecordList, Run};
-use gix_odb_shown::{Revealed, Shown};
+use gix_odb_shown::Shown;
 use odb_base::NoMemory;
 use odb_disk::{MemDisk, PathText};
 use std::alloc::Global;
@@ -29,6 +24,7 @@ use std::collections::BTreeMap;
 mod handles;
 mod outside;
 mod reason;
+mod turning;
 
 /// A disk, the handles on it, the cores of their stores, what watched paths have shown, and what has come of the steps so far.
 ///
@@ -177,12 +173,15 @@ impl Course {
             return self.misuse(why);
         }
         let begun = opening::begun(alloc, path, folders, hash, replacements, options)?;
-        let Some((state, opening)) = begun else {
+        let Some(opening) = begun else {
             return self.misuse(Why::BadOpen);
         };
         watch_store(alloc, &mut self.shown, self.disk.tree(), path, folders)?;
-        let work = Some(Work::Opening(opening));
-        self.put(number, Handle { state, work })?;
+        let handle = Handle {
+            core: 0,
+            at: HandleAt::Opening(opening),
+        };
+        self.put(number, handle)?;
         self.note(Outcome::Applied, Did::Nothing, None)
     }
 
@@ -195,14 +194,28 @@ impl Course {
         if let Some(why) = self.why_not_free(number) {
             return self.misuse(why);
         }
-        let mut state = match self.idle(from) {
-            Ok(parent) => parent.state.sharing()?,
+        let core = match self.idle(from) {
+            Ok(parent) => parent.core,
             Err(why) => return self.misuse(why),
         };
-        let (did, view) = joined(alloc, &mut self.cores, state.core, number)?;
-        state.view = Some(view);
-        self.put(number, Handle { state, work: None })?;
+        let (did, view) = joined(alloc, &mut self.cores, core, number)?;
+        self.put_shared(number, from, view)?;
         self.note(Outcome::Applied, did, None)
+    }
+
+    /// Puts a handle under a number that shares the store of an idle one, in its modes, with a snapshot of its own.
+    fn put_shared(&mut self, number: u32, from: u32, view: View) -> Result<(), NoMemory>
+        requires idle { why_not_idle (phase_of_handle (handle_at self.old from)) ≡ None }
+        ensures sets { OnOk result (SetsHandle self.old self.new number (shared_with view (handle_at self.old from))) }
+    {
+        let handle = match self.idle(from) {
+            Ok(parent) => Handle {
+                core: parent.core,
+                at: HandleAt::Resting(parent.state.sharing(view)?),
+            },
+            Err(_) => unreachable!("the other handle is idle"),
+        };
+        self.put(number, handle)
     }
 
     /// Closes an idle handle: the core of its store removes it.
@@ -212,7 +225,7 @@ impl Course {
         ensures noted { OnOk result (HasOneMore self.old self.new) }
     {
         let core = match self.idle(number) {
-            Ok(handle) => handle.state.core,
+            Ok(handle) => handle.core,
             Err(why) => return self.misuse(why),
         };
         let did = removed(alloc, &mut self.cores, core, number);
@@ -241,134 +254,9 @@ impl Course {
             Ok(handle) => handle,
             Err(why) => return self.misuse(why),
         };
-        let state = CallState::start(alloc, &handle.state, call)?;
-        self.set_work(number, Some(Work::Calling(state)));
+        let call = CallState::start(alloc, handle.state, call.try_clone(alloc)?)?;
+        self.set_call(number, call);
         self.note(Outcome::Applied, Did::Nothing, None)
-    }
-
-    /// Lets a handle carry out the one thing that its work asks for.
-    fn turn(&mut self, alloc: Global, number: u32) -> Result<(), NoMemory>
-        requires explained { IsExplained self.old }
-        ensures continues { OnOk result (Continues self.old (Step.Turn number) self.new) }
-        ensures noted { OnOk result (HasOneMore self.old self.new) }
-    {
-        let judged = self.judged(alloc, number)?;
-        match judged {
-            Ok(judged) => self.make_turn(alloc, number, judged),
-            Err(why) => self.misuse(why),
-        }
-    }
-
-    /// Makes a turn that is valid, and of which was told what its work asks for, the change that this makes, and what watched paths
-    /// show by it.
-    fn make_turn(&mut self, alloc: Global, number: u32, judged: Judged) -> Result<(), NoMemory>
-        requires explained { IsExplained self.old }
-        requires valid { IsReasonNow self.old (Step.Turn number) None }
-        requires asked { judged.ask ≡ ask_by_handle (handle_at self.old number) }
-        requires change { judged.change ≡ change_asked self.old.disk judged.ask }
-        requires tells { TellsChange self.old.shown.folders (tree_of self.old.disk.state) (would_change_now self.old (Step.Turn number)) judged.revealed }
-        ensures continues { OnOk result (Continues self.old (Step.Turn number) self.new) }
-        ensures noted { OnOk result (HasOneMore self.old self.new) }
-    {
-        match self.take_work(number) {
-            Ok((state, work)) => self.carry_out(alloc, number, state, work, judged),
-            Err(why) => {
-                drop(judged);
-                self.misuse(why)
-            }
-        }
-    }
-
-    /// Carries out what the work of a handle asked for that was taken out of the table, and puts the handle back.
-    fn carry_out(
-        &mut self,
-        alloc: Global,
-        number: u32,
-        state: HandleState,
-        work: Work,
-        judged: Judged,
-    ) -> Result<(), NoMemory>
-        requires asked { judged.ask ≡ ask_on state work }
-        requires change { judged.change ≡ change_asked self.old.disk judged.ask }
-        requires can_happen { CanHappenAt self.old.cores.items number state judged.ask }
-        requires free { handle_at self.old number ≡ None }
-        ensures takes { OnOk result (TakesTurn self.old self.new number state work judged.revealed) }
-    {
-        // The proof takes from this call that the disk shows a tree, each node of which lies in a directory: what a call of
-        // the disk changes and what it leaves alone is told of trees.
-        let _ = self.disk.tree();
-        let Judged {
-            ask,
-            change,
-            revealed,
-        } = judged;
-        match carried_out(
-            alloc,
-            &mut self.disk,
-            &mut self.cores,
-            number,
-            state,
-            work,
-            ask,
-            change,
-        ) {
-            Ok(carried) => self.keep_and_settle(alloc, number, carried, revealed),
-            Err(error) => {
-                drop(revealed);
-                Err(error)
-            }
-        }
-    }
-
-    /// Keeps what a turn made watched paths show, puts its handle back, and adds its outcome and its record.
-    fn keep_and_settle(
-        &mut self,
-        alloc: Global,
-        number: u32,
-        carried: Carried,
-        revealed: Option<Revealed>,
-    ) -> Result<(), NoMemory>
-        requires free { handle_at self.old number ≡ None }
-        ensures keeps { OnOk result (KeepsTurn self.old self.new number carried revealed) }
-    {
-        match keep(&mut self.shown, revealed, &carried.change) {
-            Ok(()) => {
-                let Carried {
-                    did,
-                    change,
-                    state,
-                    work,
-                } = carried;
-                self.settle(alloc, number, state, work, did, change)
-            }
-            Err(error) => {
-                drop(carried);
-                Err(error)
-            }
-        }
-    }
-
-    /// Puts a handle back after its turn, and adds the outcome and the record of the turn.
-    fn settle(
-        &mut self,
-        alloc: Global,
-        number: u32,
-        state: HandleState,
-        work: Work,
-        did: Did,
-        change: ChangeMade,
-    ) -> Result<(), NoMemory>
-        requires free { handle_at self.old number ≡ None }
-        ensures settles { OnOk result (Settles self.old self.new number (after_turn state (result_in work)) (outcome_of (result_in work)) did change) }
-    {
-        let (outcome, handle) = settled(alloc, state, work)?;
-        match self.set(number, handle) {
-            Ok(()) => self.note(outcome, did, change),
-            Err(error) => {
-                drop((outcome, did, change));
-                Err(error)
-            }
-        }
     }
 
     fn misuse(&mut self, why: Why) -> Result<(), NoMemory>

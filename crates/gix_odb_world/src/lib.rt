@@ -18,7 +18,6 @@ mod opening;
 mod play;
 mod turn;
 mod watch;
-mod work;
 mod world;
 
 pub use bound::bound_of;

@@ -8,7 +8,7 @@ ghost use Rattle.gix_odb_world.specs.Handle.{Begins};
 ghost use Rattle.gix_odb_world.specs.Valid.{are_distinct, are_good_replacements, is_openable};
 
 use gix_hash::{Kind, ObjectId};
-use gix_odb::{HandleState, OpenState};
+use gix_odb::OpenState;
 use gix_odb_calls::{IdPairs, Options, PathList, are_pairs_of};
 use odb_base::{NoMemory, PathText};
 use std::alloc::Global;
@@ -22,7 +22,7 @@ const MAX_FOLDERS: usize = 255;
 /// then.
 const MAX_CHANGES: u32 = 1_000_000;
 
-/// A handle and its opening, which begins, or nothing where a condition of opening doesn't hold.
+/// An opening that begins, or nothing where a condition of opening doesn't hold.
 pub fn begun(
     alloc: Global,
     path: &PathText,
@@ -30,18 +30,22 @@ pub fn begun(
     hash: Kind,
     replacements: &IdPairs,
     options: Options,
-) -> Result<Option<(HandleState, OpenState)>, NoMemory>
+) -> Result<Option<OpenState>, NoMemory>
     ensures begun { IfOk result (λ begun. MatchOption begun (is_openable path.now folders.now hash replacements.now options.max_changes ≡ false)
         (Begins path.now folders.now hash replacements.now options)) }
 {
-    if options.max_changes > MAX_CHANGES || !are_good_folders(alloc, path, folders)? {
+    if !is_good(alloc, path, folders, hash, replacements, options)? {
         return Ok(None);
     }
-    let Some(replacements) = good_replacements(alloc, hash, replacements)? else {
-        return Ok(None);
-    };
-    let begun = OpenState::start(alloc, path, folders, hash, replacements, options)?;
-    Ok(Some(begun))
+    let opening = OpenState::start(
+        alloc,
+        path,
+        folders.as_slice(),
+        hash,
+        replacements.as_slice(),
+        options,
+    )?;
+    Ok(Some(opening))
 }
 
 /// Whether the conditions of opening hold.

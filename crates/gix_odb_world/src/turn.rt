@@ -1,238 +1,109 @@
-//! A turn of a handle: the one thing that its work asks for, of the disk or of the cores, and what the turn comes to.
-ghost use Rattle.std.specs.Prelude.{◌≡◌, ◌<◌, ◌≤◌, length, IfOk, IsSome, OnOk, None, Some};
+//! A turn of a handle: the one thing that its work asks for is carried out, of the disk or of the cores, the work is fed the
+//! answer, and where it is done the handle rests or is gone.
+ghost use Rattle.std.specs.Prelude.{◌≡◌, ◌<◌, ◌≤◌, [], length, IfOk, IsSome, OnOk, None, Some, true};
 ghost use Rattle.std.specs.Option.{option_map};
 ghost use Rattle.odb_asks.specs.Ask.{after_ask, answer_now};
+ghost use Rattle.gix_odb.specs.CallOrder as calls;
+ghost use Rattle.gix_odb.specs.OpenOrder as openings;
+ghost use Rattle.gix_odb.specs.OpenState.{opened_handle};
+ghost use Rattle.gix_odb.specs.declared.open_state.OpenStage.TheVariants as opens;
 ghost use Rattle.gix_odb_core.specs.History.{present};
-ghost use Rattle.gix_odb_core.specs.Replay.{CanHappen};
-ghost use Rattle.gix_odb_events.specs.Answers.{view_in};
+ghost use Rattle.gix_odb_core.specs.Replay.{CanHappen, number_behind};
 ghost use Rattle.gix_odb_events.specs.PackId.{most_slots};
 ghost use Rattle.gix_odb_events.specs.declared.answer.Answer.TheVariants as told;
 ghost use Rattle.gix_odb_runs.specs.Cores.{answer_behind, cores_after_asked, history_at, registered_at};
 ghost use Rattle.gix_odb_runs.specs.Event.{OfCore};
-ghost use Rattle.gix_odb_world.specs.Recorded.{opened_in};
-ghost use Rattle.gix_odb_runs.specs.Run.{change_asked};
-ghost use Rattle.gix_odb_world.specs.Status.{after_reply};
+ghost use Rattle.gix_odb_runs.specs.Made.{first_answer};
+ghost use Rattle.gix_odb_runs.specs.Run.{stand, told_now};
+ghost use Rattle.gix_odb_world.specs.Handle.{opening_parts, parts_of, seen};
 ghost use Rattle.gix_odb_world.specs.Headline.{outcome_of};
-ghost use Rattle.gix_odb_world.specs.WorkOrder.{ask_on, fed_on, result_in};
+ghost use Rattle.gix_odb_world.specs.Status.{after_reply, refuses_opening};
 ghost use Rattle.gix_odb_world.specs.Table as tables;
-ghost use Rattle.gix_odb_world.specs.Table.{CanHappenAt, Carries, CarriesCore, CarriesEvent, after_turn, carried_unasked, did_now, new_core, told_in};
+ghost use Rattle.gix_odb_world.specs.Table.{CanHappenAt, CarriesOut, IsToldTo, IsTurned, IsUnderWay, TurnsHandle, after_turn, ask_by_handle, did_now, new_core, opened_by};
+ghost use Rattle.gix_odb_world.specs.Work.{Calling, Opening};
+ghost use Rattle.gix_odb_world.specs.WorkOrder.{result_in};
 
-use crate::handle::Handle;
-use crate::work::Work;
-use gix_odb::HandleState;
+use crate::handle::{Handle, HandleAt};
+use gix_odb::{CallState, HandleState, OpenState};
 use gix_odb_calls::{CallError, Outcome, Reply};
-use gix_odb_events::{Answer, Ask, Effect, Event, Refusal, View};
+use gix_odb_events::{Answer, Ask, Event, View};
 use gix_odb_runs::cores::{EventDone, added, applied};
-use gix_odb_runs::{ChangeMade, Did, KeptCore};
+use gix_odb_runs::{Did, KeptCore};
 use odb_asks::{DiskAnswer, DiskAsk};
 use odb_base::{Boxed, NoMemory};
 use odb_disk::{MemDisk, PathText};
 use std::alloc::Global;
 
-/// What a turn came to: what it did, the change that it made, and its handle and the work after it.
+/// What a turn did, and what its handle is told for it.
 #[derive(Drop)]
 pub struct Carried {
     pub did: Did,
-    pub change: ChangeMade,
-    pub state: HandleState,
-    pub work: Work,
+    pub told: Told,
 }
 
-/// Carries out the one thing that a piece of work asked for, of the disk or of the cores, by the handle that has a seat. The change
-/// that this makes was told before.
+/// What a handle is told in a turn.
+#[derive(Drop)]
+pub enum Told {
+    /// Nothing, since its work asked for nothing.
+    Nothing,
+    /// The answer of the disk, or of the core of its store.
+    Answer(Answer),
+    /// That a core with so many slots was made for its store, which has this number and passed this view to the handle.
+    Core {
+        number: usize,
+        slots: u16,
+        view: View,
+    },
+}
+
+/// What a turn comes to: its outcome, and its handle after it, if it is not gone.
+#[derive(Drop)]
+pub struct Turned {
+    pub outcome: Outcome,
+    pub handle: Option<Handle>,
+}
+
+// ---- what is asked for is carried out
+
+/// Carries out the one thing that the work of a handle asked for, of the disk or of the cores. The handle has a seat there.
 pub fn carried_out(
     alloc: Global,
     disk: &mut MemDisk,
     cores: &mut Vec<KeptCore>,
     seat: u32,
-    state: HandleState,
-    work: Work,
+    handle: &Handle,
     ask: Option<Ask>,
-    change: ChangeMade,
 ) -> Result<Carried, NoMemory>
-    requires asked { ask ≡ ask_on state work }
-    requires change { change ≡ change_asked disk.old ask }
-    requires can_happen { CanHappenAt cores.old.items seat state ask }
-    ensures carried { IfOk result (Carries disk.old disk.new cores.old.items cores.new.items state work (told_in cores.old.items disk.old seat state work)) }
+    requires can_happen { CanHappenAt cores.old.items seat (seen handle.now).state ask }
+    ensures carried { IfOk result (CarriesOut disk.old disk.new cores.old.items cores.new.items (opened_by (seen handle.now).work) ask (told_now (stand cores.old.items (seen handle.now).state.core seat) disk.old ask)) }
 {
     match ask {
-        None => {
-            drop(change);
-            Ok(unasked(state, work))
-        }
-        Some(Ask::Disk(ask)) => on_disk(alloc, disk, state, work, &ask, change),
-        Some(Ask::Core(event)) => {
-            drop(change);
-            at_own_core(alloc, cores, seat, state, work, event)
-        }
-        Some(Ask::NewCore { slots, folders }) => {
-            drop(change);
-            at_new_core(alloc, cores, seat, state, work, slots, folders)
-        }
+        None => Ok(Carried {
+            did: Did::Nothing,
+            told: Told::Nothing,
+        }),
+        Some(Ask::Disk(ask)) => on_disk(alloc, disk, handle.opened(), &ask),
+        Some(Ask::Core(event)) => at_own_core(alloc, cores, handle.core, seat, event),
+        Some(Ask::NewCore { slots, folders }) => at_new_core(alloc, cores, slots, folders, seat),
     }
 }
 
-/// A turn whose work asks for nothing.
-fn unasked(state: HandleState, work: Work) -> Carried
-    ensures same { result ≡ carried_unasked state work }
-{
-    Carried {
-        did: Did::Nothing,
-        change: None,
-        state,
-        work,
-    }
-}
-
-/// Carries out the call of the disk that a piece of work asks for. Its record has the change that was told of it.
+/// Makes a call of the disk.
 fn on_disk(
     alloc: Global,
     disk: &mut MemDisk,
-    state: HandleState,
-    work: Work,
+    opened: Option<&PathText>,
     ask: &DiskAsk,
-    change: ChangeMade,
 ) -> Result<Carried, NoMemory>
-    ensures did { IfOk result (λ done. done.did ≡ did_now (opened_in work) disk.old ask.now) }
-    ensures change { IfOk result (λ done. done.change ≡ change) }
-    ensures state { IfOk result (λ done. done.state ≡ state) }
-    ensures work { IfOk result (λ done. done.work ≡ fed_on state work (told.Disk (answer_now disk.old ask.now))) }
+    ensures did { IfOk result (λ carried. carried.did ≡ did_now (option_map (λ path. path.now) opened.entry) disk.old ask.now) }
+    ensures told { IfOk result (λ carried. carried.told ≡ Told.Answer (told.Disk (answer_now disk.old ask.now))) }
     ensures left { OnOk result (disk.new ≡ after_ask disk.old ask.now) }
 {
-    match answered(alloc, disk, work.opened(), ask) {
-        Ok((did, answer)) => fed(alloc, state, work, did, change, Answer::Disk(answer)),
-        Err(error) => {
-            drop((state, work, change));
-            Err(error)
-        }
-    }
-}
-
-/// What a turn comes to whose work was answered.
-fn fed(
-    alloc: Global,
-    state: HandleState,
-    work: Work,
-    did: Did,
-    change: ChangeMade,
-    answer: Answer,
-) -> Result<Carried, NoMemory>
-    ensures did { IfOk result (λ done. done.did ≡ did) }
-    ensures change { IfOk result (λ done. done.change ≡ change) }
-    ensures state { IfOk result (λ done. done.state ≡ state) }
-    ensures work { IfOk result (λ done. done.work ≡ fed_on state work answer) }
-{
-    match work.feed(alloc, &state, answer) {
-        Ok(work) => Ok(Carried {
-            did,
-            change,
-            state,
-            work,
-        }),
-        Err(error) => {
-            drop((state, did, change));
-            Err(error)
-        }
-    }
-}
-
-/// Carries out the event of the core of its handle's store that a piece of work asks for.
-fn at_own_core(
-    alloc: Global,
-    cores: &mut Vec<KeptCore>,
-    seat: u32,
-    state: HandleState,
-    work: Work,
-    event: Event,
-) -> Result<Carried, NoMemory>
-    requires there { state.core < length cores.old.items }
-    requires registered { IsSome (registered_at cores.old.items state.core seat) }
-    requires can_happen { CanHappen (present (history_at cores.old.items state.core)) seat event }
-    ensures carried { IfOk result (CarriesEvent cores.old.items seat state work event) }
-    ensures cores { OnOk result (cores.new.items ≡ cores_after_asked cores.old.items (OfCore state.core seat event (answer_behind (history_at cores.old.items state.core) seat event))) }
-{
-    match applied(alloc, cores, state.core, seat, event) {
-        Ok(applied) => answered_by_core(alloc, state, work, applied),
-        Err(error) => {
-            drop((state, work));
-            Err(error)
-        }
-    }
-}
-
-/// Makes the core that a piece of work asks for its handle's store, at which the handle is registered.
-fn at_new_core(
-    alloc: Global,
-    cores: &mut Vec<KeptCore>,
-    seat: u32,
-    mut state: HandleState,
-    work: Work,
-    slots: u16,
-    folders: usize,
-) -> Result<Carried, NoMemory>
-    requires few { slots ≤ most_slots }
-    ensures carried { IfOk result (CarriesCore cores.old.items slots folders seat state work) }
-    ensures cores { OnOk result (cores.new.items ≡ cores_after_asked cores.old.items (new_core cores.old.items slots folders seat)) }
-{
-    let store = cores.len();
-    match added(alloc, cores, slots, folders, seat) {
-        Ok(added) => {
-            state.core = store;
-            answered_by_core(alloc, state, work, added)
-        }
-        Err(error) => {
-            drop((state, work));
-            Err(error)
-        }
-    }
-}
-
-/// What a turn comes to whose work was answered by a core: the handle has the view that was handed over.
-fn answered_by_core(
-    alloc: Global,
-    state: HandleState,
-    work: Work,
-    applied: EventDone,
-) -> Result<Carried, NoMemory>
-    ensures did { IfOk result (λ done. done.did ≡ applied.did) }
-    ensures change { IfOk result (λ done. done.change ≡ None) }
-    ensures state { IfOk result (λ done. done.state ≡ tables.seeing state (view_in applied.answer)) }
-    ensures work { IfOk result (λ done. done.work ≡ fed_on state work (told.Core applied.answer)) }
-{
-    let EventDone { did, answer } = applied;
-    match shown(&answer) {
-        Ok(view) => {
-            let state = seeing(state, view);
-            fed(alloc, state, work, did, None, Answer::Core(answer))
-        }
-        Err(error) => {
-            drop((state, work, did, answer));
-            Err(error)
-        }
-    }
-}
-
-/// The view that the answer of a core hands over.
-fn shown(answer: &Result<Effect, Refusal>) -> Result<Option<View>, NoMemory>
-    ensures shown { IfOk result (λ view. view ≡ view_in answer.now) }
-{
-    match answer {
-        Ok(effect) => match effect.view() {
-            Some(view) => Ok(Some(view.try_clone()?)),
-            None => Ok(None),
-        },
-        Err(_) => Ok(None),
-    }
-}
-
-/// A handle with a view, if one was handed over.
-fn seeing(state: HandleState, view: Option<View>) -> HandleState
-    ensures seeing { result ≡ tables.seeing state view }
-{
-    match view {
-        None => state,
-        Some(view) => state.seeing(view),
-    }
+    let (did, answer) = answered(alloc, disk, opened, ask)?;
+    Ok(Carried {
+        did,
+        told: Told::Answer(Answer::Disk(answer)),
+    })
 }
 
 /// Makes a call of the disk: what it did, and the answer.
@@ -251,37 +122,182 @@ fn answered(
     Ok((did, answer))
 }
 
-/// What a turn came to that left its work so, and the handle after it.
-pub fn settled(
+/// Makes an event of the core that has a number, at which the seat is registered.
+fn at_own_core(
     alloc: Global,
-    state: HandleState,
-    work: Work,
-) -> Result<(Outcome, Option<Handle>), NoMemory>
-    ensures outcome { IfOk result (λ settled. settled.0 ≡ outcome_of (result_in work)) }
-    ensures handle { IfOk result (λ settled. settled.1 ≡ after_turn state (result_in work)) }
+    cores: &mut Vec<KeptCore>,
+    core: usize,
+    seat: u32,
+    event: Event,
+) -> Result<Carried, NoMemory>
+    requires there { core < length cores.old.items }
+    requires registered { IsSome (registered_at cores.old.items core seat) }
+    requires can_happen { CanHappen (present (history_at cores.old.items core)) seat event }
+    ensures did { IfOk result (λ carried. carried.did ≡ Did.Core core (number_behind (history_at cores.old.items core).entries)) }
+    ensures told { IfOk result (λ carried. carried.told ≡ Told.Answer (told.Core (answer_behind (history_at cores.old.items core) seat event))) }
+    ensures cores { OnOk result (cores.new.items ≡ cores_after_asked cores.old.items (OfCore core seat event (answer_behind (history_at cores.old.items core) seat event))) }
 {
-    match work.into_reply() {
-        Ok(reply) => replied(alloc, state, reply),
-        Err(work) => {
-            let work = Some(work);
-            Ok((Outcome::Pending, Some(Handle { state, work })))
-        }
+    let EventDone { did, answer } = applied(alloc, cores, core, seat, event)?;
+    Ok(Carried {
+        did,
+        told: Told::Answer(Answer::Core(answer)),
+    })
+}
+
+/// Makes a core, at which the seat is registered.
+fn at_new_core(
+    alloc: Global,
+    cores: &mut Vec<KeptCore>,
+    slots: u16,
+    folders: usize,
+    seat: u32,
+) -> Result<Carried, NoMemory>
+    requires few { slots ≤ most_slots }
+    ensures did { IfOk result (λ carried. carried.did ≡ Did.Core (length cores.old.items) (number_behind [])) }
+    ensures told { IfOk result (λ carried. tables.TellsCore (length cores.old.items) slots (first_answer slots folders seat) carried.told) }
+    ensures cores { OnOk result (cores.new.items ≡ cores_after_asked cores.old.items (new_core cores.old.items slots folders seat)) }
+{
+    let number = cores.len();
+    let (did, view) = added(alloc, cores, slots, folders, seat)?;
+    Ok(Carried {
+        did,
+        told: Told::Core {
+            number,
+            slots,
+            view,
+        },
+    })
+}
+
+// ---- the handle is told of it
+
+/// What a turn comes to in which a handle is told this.
+pub fn fed(alloc: Global, handle: Handle, told: Told) -> Result<Turned, NoMemory>
+    requires under_way { IsUnderWay (seen handle).work }
+    requires answers { IsToldTo (ask_by_handle (Some (seen handle))) told }
+    ensures turned { IfOk result (TurnsHandle (seen handle) told) }
+{
+    let Handle { core, at } = handle;
+    match at {
+        HandleAt::Opening(opening) => fed_opening(alloc, core, opening, told),
+        HandleAt::Calling(call) => fed_call(alloc, core, call, told),
+        HandleAt::Resting(_) => unreachable!("the handle is at work"),
     }
 }
 
-/// What a turn came to that left its work done, and the handle after it.
-fn replied(
+/// What a turn of an opening comes to that is told this.
+fn fed_opening(
     alloc: Global,
-    state: HandleState,
-    reply: Reply,
-) -> Result<(Outcome, Option<Handle>), NoMemory>
-    ensures outcome { IfOk result (λ replied. replied.0 ≡ Outcome.Reply reply) }
-    ensures handle { IfOk result (λ replied. replied.1 ≡ after_reply None (tables.at_rest state) reply) }
+    core: usize,
+    mut opening: OpenState,
+    told: Told,
+) -> Result<Turned, NoMemory>
+    requires under_way { IsUnderWay (Some (Opening opening.stage)) }
+    requires answers { IsToldTo (openings.ask_of opening.info.value.objects opening.info.value.folders opening.stage) told }
+    ensures turned { IfOk result (IsTurned (opening_parts core opening) (Opening opening.stage) told) }
+{
+    match told {
+        Told::Answer(Answer::Disk(answer)) => {
+            opening.feed(alloc, answer)?;
+            finished_opening(alloc, core, opening)
+        }
+        Told::Core {
+            number,
+            slots,
+            view,
+        } => opened(alloc, number, opening, slots, view),
+        _ => unreachable!("an opening asks for a call of the disk, or for a core"),
+    }
+}
+
+/// What a turn of a call comes to that is told this.
+fn fed_call(alloc: Global, core: usize, mut call: CallState, told: Told) -> Result<Turned, NoMemory>
+    requires answers { IsToldTo (calls.ask_of call.stage) told }
+    ensures turned { IfOk result (IsTurned (parts_of core call.handle) (Calling call.stage) told) }
+{
+    match told {
+        Told::Nothing => finished_call(alloc, core, call),
+        Told::Answer(answer) => {
+            call.feed(alloc, answer)?;
+            finished_call(alloc, core, call)
+        }
+        Told::Core { .. } => unreachable!("no call has a core made"),
+    }
+}
+
+// ---- where the work is done, the handle rests or is gone
+
+/// What a turn comes to by which a store was opened: its handle rests.
+fn opened(
+    alloc: Global,
+    core: usize,
+    opening: OpenState,
+    slots: u16,
+    view: View,
+) -> Result<Turned, NoMemory>
+    requires registers { opening.stage ≡ opens.Registering slots }
+    ensures outcome { IfOk result (λ turned. turned.outcome ≡ Outcome.Reply (Reply.Opened slots)) }
+    ensures handle { IfOk result (λ turned. option_map seen turned.handle ≡ Some (record { state = parts_of core (opened_handle opening view); work = None })) }
+{
+    let reply = Boxed::new(alloc, Reply::Opened { slots })?;
+    Ok(Turned {
+        outcome: Outcome::Reply(reply),
+        handle: Some(Handle {
+            core,
+            at: HandleAt::Resting(opening.into_state(view)),
+        }),
+    })
+}
+
+/// What a turn of an opening comes to that left it so. Where it is done it was refused, and the handle is gone.
+fn finished_opening(alloc: Global, core: usize, opening: OpenState) -> Result<Turned, NoMemory>
+    requires refused { (reply : Reply) → opening.stage ≡ opens.Done reply → refuses_opening reply ≡ true }
+    ensures outcome { IfOk result (λ turned. turned.outcome ≡ outcome_of (result_in (Opening opening.stage))) }
+    ensures handle { IfOk result (λ turned. option_map seen turned.handle ≡ after_turn (opening_parts core opening) (result_in (Opening opening.stage))) }
+{
+    match opening.into_reply() {
+        Ok(reply) => Ok(Turned {
+            outcome: Outcome::Reply(Boxed::new(alloc, reply)?),
+            handle: None,
+        }),
+        Err(opening) => Ok(going_on(core, HandleAt::Opening(opening))),
+    }
+}
+
+/// What a turn of a call comes to that left it so.
+fn finished_call(alloc: Global, core: usize, call: CallState) -> Result<Turned, NoMemory>
+    ensures outcome { IfOk result (λ turned. turned.outcome ≡ outcome_of (result_in (Calling call.stage))) }
+    ensures handle { IfOk result (λ turned. option_map seen turned.handle ≡ after_turn (parts_of core call.handle) (result_in (Calling call.stage))) }
+{
+    match call.into_reply() {
+        Ok((reply, state)) => replied(alloc, core, state, reply),
+        Err(call) => Ok(going_on(core, HandleAt::Calling(call))),
+    }
+}
+
+/// What a turn comes to after which the work goes on.
+fn going_on(core: usize, at: HandleAt) -> Turned
+    ensures outcome { result.outcome ≡ Outcome.Pending }
+    ensures handle { result.handle ≡ Some (record { core = core; at = at }) }
+{
+    Turned {
+        outcome: Outcome::Pending,
+        handle: Some(Handle { core, at }),
+    }
+}
+
+/// What a turn comes to that left a call done.
+fn replied(alloc: Global, core: usize, state: HandleState, reply: Reply) -> Result<Turned, NoMemory>
+    ensures outcome { IfOk result (λ turned. turned.outcome ≡ Outcome.Reply reply) }
+    ensures handle { IfOk result (λ turned. option_map seen turned.handle ≡ after_reply None (tables.at_rest (parts_of core state)) reply) }
 {
     match Boxed::new(alloc, reply) {
         Ok(reply) => {
-            let handle = at_rest(state, reply.get());
-            Ok((Outcome::Reply(reply), handle))
+            let handle = at_rest(core, state, reply.get());
+            Ok(Turned {
+                outcome: Outcome::Reply(reply),
+                handle,
+            })
         }
         Err(error) => {
             drop(state);
@@ -291,11 +307,14 @@ fn replied(
 }
 
 /// A handle after the reply to its work: none after a refused opening, else at rest.
-fn at_rest(state: HandleState, reply: &Reply) -> Option<Handle>
-    ensures rests { result ≡ after_reply None (tables.at_rest state) reply.now }
+fn at_rest(core: usize, state: HandleState, reply: &Reply) -> Option<Handle>
+    ensures rests { option_map seen result ≡ after_reply None (tables.at_rest (parts_of core state)) reply.now }
 {
     match reply {
         Reply::Refused(CallError::Open(_)) => None,
-        _ => Some(Handle { state, work: None }),
+        _ => Some(Handle {
+            core,
+            at: HandleAt::Resting(state),
+        }),
     }
 }

@@ -9,10 +9,10 @@ ghost use Rattle.gix_odb_shown.specs.Kept.{Fits};
 ghost use Rattle.gix_odb_runs.specs.Run.{change_asked, change_by};
 ghost use Rattle.gix_odb_world.specs.Valid.{IsFirstReason};
 ghost use Rattle.gix_odb_world.specs.Watch.{NotesMade, ShowsSecondBy, TellsChange, Watches};
-ghost use Rattle.gix_odb_world.specs.WorkOrder.{ask_on};
+ghost use Rattle.gix_odb_world.specs.Handle.{seen};
+ghost use Rattle.gix_odb_world.specs.Table.{ask_by_handle};
 
-use crate::work::Work;
-use gix_odb::HandleState;
+use crate::handle::Handle;
 use gix_odb_calls::{PathList, Why};
 use gix_odb_events::Ask;
 use gix_odb_runs::{ChangeMade, boxed_change};
@@ -61,22 +61,21 @@ fn watch_each(
     Ok(())
 }
 
-/// What a piece of work asks for, the change that this would make, and what watched paths would show by it; or that this would be a
-/// second content.
+/// What the work of a handle asks for, the change that this would make, and what watched paths would show by it; or that this would be
+/// a second content.
 pub fn judged_work(
     alloc: Global,
     disk: &MemDisk,
     shown: &Shown,
-    handle: &HandleState,
-    work: &Work,
+    handle: &Handle,
 ) -> Result<Result<Judged, Why>, NoMemory>
     requires fits { Fits shown.now (tree_of disk.now.state) }
-    ensures why { IfOk result (λ judged. IsFirstReason None (ShowsSecondBy shown.now (tree_of disk.now.state) (change_asked disk.now (ask_on handle.now work.now))) (result_err judged)) }
-    ensures asked { IfOk result (λ judged. IfOk judged (λ told. told.ask ≡ ask_on handle.now work.now)) }
+    ensures why { IfOk result (λ judged. IsFirstReason None (ShowsSecondBy shown.now (tree_of disk.now.state) (change_asked disk.now (ask_by_handle (Some (seen handle.now))))) (result_err judged)) }
+    ensures asked { IfOk result (λ judged. IfOk judged (λ told. told.ask ≡ ask_by_handle (Some (seen handle.now)))) }
     ensures change { IfOk result (λ judged. IfOk judged (λ told. told.change ≡ change_asked disk.now told.ask)) }
-    ensures tells { IfOk result (λ judged. IfOk judged (λ told. TellsChange shown.now.folders (tree_of disk.now.state) (change_asked disk.now (ask_on handle.now work.now)) told.revealed)) }
+    ensures tells { IfOk result (λ judged. IfOk judged (λ told. TellsChange shown.now.folders (tree_of disk.now.state) (change_asked disk.now (ask_by_handle (Some (seen handle.now)))) told.revealed)) }
 {
-    let ask = work.ask(alloc, handle)?;
+    let ask = handle.ask(alloc)?;
     judged_ask(alloc, disk, shown, ask)
 }
 

@@ -1,64 +1,52 @@
 //! Calls on a handle are driven by what they ask for.
 use crate::files::{bytes_of, id_of};
-use crate::happening::happen;
-use crate::openings::begun;
+use crate::happening::happen_for;
+use crate::openings::first_view;
 use crate::shown::{put_ask, put_event, put_reply};
 use crate::text::Text;
 use crate::words::cut;
-use gix_odb::{Answer, Ask, Call, CallState, HandleState, Options};
+use gix_hash::Kind;
+use gix_odb::{Answer, Ask, Call, CallState, HandleState, PathList, Slots, StoreParts};
 use gix_odb_core::Core;
 use odb_base::{NoMemory, PathText};
-use odb_disk::{DiskAsk, MemDisk};
+use odb_disk::{DiskAnswer, DiskAsk, MemDisk};
 use std::alloc::Global;
+use std::collections::BTreeMap;
+use std::sync::Arc;
 use std::test::Fail;
 
-fn disk_answer(alloc: Global, disk: &mut MemDisk, ask: DiskAsk, text: &mut Text) -> Answer {
+fn disk_answer(alloc: Global, disk: &mut MemDisk, ask: DiskAsk, text: &mut Text) -> DiskAnswer {
     put_ask(text, &ask);
     let answer = ask.carry_out(alloc, disk);
     drop(ask);
-    Answer::Disk(answer)
+    answer
 }
 
-/// The answer to what a call asks for, unless it is done.
-fn answered(
+/// Feeds a call the answer to what it asks for, unless it is done: whether it goes on.
+fn step(
     alloc: Global,
     disk: &mut MemDisk,
     core: &mut Core,
-    state: &CallState,
+    state: &mut CallState,
     text: &mut Text,
-) -> Result<Option<Answer>, NoMemory> {
+) -> Result<bool, NoMemory> {
     match state.ask(alloc)? {
-        Ask::Disk(ask) => Ok(Some(disk_answer(alloc, disk, ask, text))),
+        Ask::Disk(ask) => {
+            let answer = disk_answer(alloc, disk, ask, text);
+            state.feed(alloc, Answer::Disk(answer))?;
+            Ok(true)
+        }
         Ask::Core(event) => {
             put_event(text, &event);
-            Ok(Some(Answer::Core(happen(alloc, core, event))))
+            let answer = happen_for(alloc, core, event);
+            state.feed(alloc, Answer::Core(answer))?;
+            Ok(true)
         }
         Ask::Done(reply) => {
             let told = put_reply(alloc, text, &reply);
             drop(reply);
             told?;
-            Ok(None)
-        }
-    }
-}
-
-fn step(
-    alloc: Global,
-    disk: &mut MemDisk,
-    core: &mut Core,
-    handle: &HandleState,
-    state: CallState,
-    text: &mut Text,
-) -> Result<Option<CallState>, NoMemory> {
-    match answered(alloc, disk, core, &state, text) {
-        Ok(Some(answer)) => Ok(Some(state.feed(alloc, handle, answer)?)),
-        Ok(None) => {
-            drop(state);
-            Ok(None)
-        }
-        Err(no_memory) => {
-            drop(state);
-            Err(no_memory)
+            Ok(false)
         }
     }
 }
@@ -67,18 +55,14 @@ fn finish(
     alloc: Global,
     disk: &mut MemDisk,
     core: &mut Core,
-    handle: &HandleState,
-    state: CallState,
+    state: &mut CallState,
     text: &mut Text,
 ) -> Result<(), NoMemory> {
-    let mut state = state;
     for _ in 0..100 {
-        match step(alloc, disk, core, handle, state, text)? {
-            Some(next) => state = next,
-            None => return Ok(()),
+        if !step(alloc, disk, core, state, text)? {
+            return Ok(());
         }
     }
-    drop(state);
     text.next("no end");
     Ok(())
 }
@@ -115,30 +99,47 @@ fn put_on(
     disk: &mut MemDisk,
     core: &mut Core,
     handle: &HandleState,
-    call: &Call,
+    call: Call,
     text: &mut Text,
 ) -> Result<(), NoMemory> {
     if !call.is_of_hash(handle.parts().object_hash) {
         text.next("another hash");
+        drop(call);
         return Ok(());
     }
-    let state = CallState::start(alloc, handle, call)?;
-    finish(alloc, disk, core, handle, state, text)
+    let mut state = CallState::start(alloc, handle, call)?;
+    finish(alloc, disk, core, &mut state, text)
+}
+
+fn store_parts(alloc: Global) -> Result<StoreParts, Fail> {
+    Ok(StoreParts {
+        objects: PathText::parse(alloc, "/o")?,
+        folders: PathList::new(alloc),
+        object_hash: Kind::Sha1,
+        replacements: BTreeMap::new(alloc),
+        alloc_limit_bytes: None,
+        slots: Slots::Given(1),
+        max_changes: 16,
+    })
 }
 
 /// A handle on `/o` that has seen nothing yet.
 fn new_handle(alloc: Global) -> Result<HandleState, Fail> {
-    let path = PathText::parse(alloc, "/o")?;
-    let (handle, opening) = begun(alloc, &path, Options::default())?;
-    drop(opening);
-    Ok(handle)
+    let parts = store_parts(alloc)?;
+    let view = first_view(alloc)?;
+    Ok(HandleState {
+        info: Arc::new(alloc, parts)?,
+        ignore_replacements: false,
+        max_changes: 16,
+        view,
+    })
 }
 
 fn put_on_new(
     alloc: Global,
     disk: &mut MemDisk,
     core: &mut Core,
-    call: &Call,
+    call: Call,
     text: &mut Text,
 ) -> Result<(), Fail> {
     let handle = new_handle(alloc)?;
@@ -154,5 +155,5 @@ pub fn put_call(
     text: &mut Text,
 ) -> Result<(), Fail> {
     let call = call_of(alloc, words)?;
-    put_on_new(alloc, disk, core, &call, text)
+    put_on_new(alloc, disk, core, call, text)
 }

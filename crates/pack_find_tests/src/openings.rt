@@ -4,87 +4,83 @@ use crate::shown::{put_ask, put_numbered, put_reply};
 use crate::text::Text;
 use crate::words::cut;
 use gix_hash::Kind;
-use gix_odb::{Answer, HandleState, OpenAsk, OpenState, Options, PathList, Slots};
-use gix_odb_core::{Core, Event};
+use gix_odb::{OpenAsk, OpenState, Options, Reply, Slots};
+use gix_odb_core::{Core, Event, View};
 use odb_base::{NoMemory, PathText};
-use odb_disk::{DiskAsk, MemDisk};
+use odb_disk::{DiskAnswer, DiskAsk, MemDisk};
 use std::alloc::Global;
-use std::collections::BTreeMap;
 use std::test::Fail;
 
-fn disk_answer(alloc: Global, disk: &mut MemDisk, ask: DiskAsk, text: &mut Text) -> Answer {
+fn disk_answer(alloc: Global, disk: &mut MemDisk, ask: DiskAsk, text: &mut Text) -> DiskAnswer {
     put_ask(text, &ask);
     let answer = ask.carry_out(alloc, disk);
     drop(ask);
-    Answer::Disk(answer)
+    answer
 }
 
-/// What a core answers at which a handle is registered. No opening looks at how many slots it has.
-fn core_answer(alloc: Global) -> Result<Answer, NoMemory> {
+/// The view of a core that has read nothing yet. No opening looks at how many slots a core has.
+pub fn first_view(alloc: Global) -> Result<View, Fail> {
     let mut core = Core::new(alloc, 1, 1)?;
-    Ok(Answer::Core(happen(alloc, &mut core, Event::Register { stable: false })))
+    let answer = happen(alloc, &mut core, Event::Register { stable: false });
+    drop(core);
+    match answer?.view() {
+        Some(view) => Ok(view.try_clone()?),
+        None => Err(Fail::new("no view")),
+    }
 }
 
-/// What an opening is answered, unless it is done.
-fn answered(
+/// Feeds an opening the answer to what it asks for, unless it is done or its core is to be made: how many slots this is to
+/// have, if it is.
+fn opening_step(
     alloc: Global,
     disk: &mut MemDisk,
-    handle: &HandleState,
-    state: &OpenState,
+    state: &mut OpenState,
     text: &mut Text,
-) -> Result<Option<Answer>, NoMemory> {
-    match state.ask(alloc, handle)? {
-        OpenAsk::Disk(ask) => Ok(Some(disk_answer(alloc, disk, ask, text))),
-        OpenAsk::Register { slots } => {
-            put_numbered(text, "register", u64::from(slots));
-            Ok(Some(core_answer(alloc)?))
+) -> Result<Next, NoMemory> {
+    match state.ask(alloc)? {
+        OpenAsk::Disk(ask) => {
+            let answer = disk_answer(alloc, disk, ask, text);
+            state.feed(alloc, answer)?;
+            Ok(Next::More)
         }
+        OpenAsk::Register { slots } => Ok(Next::Register(slots)),
         OpenAsk::Done(reply) => {
             let told = put_reply(alloc, text, &reply);
             drop(reply);
             told?;
-            Ok(None)
+            Ok(Next::Done)
         }
     }
 }
 
-fn opening_step(
-    alloc: Global,
-    disk: &mut MemDisk,
-    handle: &HandleState,
-    state: OpenState,
-    text: &mut Text,
-) -> Result<Option<OpenState>, NoMemory> {
-    match answered(alloc, disk, handle, &state, text) {
-        Ok(Some(answer)) => Ok(Some(state.feed(alloc, handle, answer)?)),
-        Ok(None) => {
-            drop(state);
-            Ok(None)
-        }
-        Err(no_memory) => {
-            drop(state);
-            Err(no_memory)
-        }
-    }
+/// What comes next of an opening.
+enum Next {
+    More,
+    Register(u16),
+    Done,
 }
 
 fn finish_opening(
     alloc: Global,
     disk: &mut MemDisk,
-    handle: &HandleState,
-    state: OpenState,
+    state: &mut OpenState,
     text: &mut Text,
 ) -> Result<(), NoMemory> {
-    let mut state = state;
     for _ in 0..100 {
-        match opening_step(alloc, disk, handle, state, text)? {
-            Some(next) => state = next,
-            None => return Ok(()),
+        match opening_step(alloc, disk, state, text)? {
+            Next::More => {}
+            Next::Register(slots) => return put_opened(alloc, slots, text),
+            Next::Done => return Ok(()),
         }
     }
-    drop(state);
     text.next("no end");
     Ok(())
+}
+
+/// Puts the registration of a handle, and the reply that comes of it.
+fn put_opened(alloc: Global, slots: u16, text: &mut Text) -> Result<(), NoMemory> {
+    put_numbered(text, "register", u64::from(slots));
+    put_reply(alloc, text, &Reply::Opened { slots })
 }
 
 // The slots that a store has: so many in a hundred of its indices, and a number at least.
@@ -97,23 +93,6 @@ fn options_of(words: &str) -> Options {
     options
 }
 
-/// A handle, and the opening that is to register it.
-pub fn begun(
-    alloc: Global,
-    path: &PathText,
-    options: Options,
-) -> Result<(HandleState, OpenState), NoMemory> {
-    let folders = PathList::new(alloc);
-    OpenState::start(
-        alloc,
-        path,
-        &folders,
-        Kind::Sha1,
-        BTreeMap::new(alloc),
-        options,
-    )
-}
-
 /// Puts the calls of an opening, the slots with which it registers its handle, and its reply behind a text.
 pub fn put_opening(
     alloc: Global,
@@ -123,6 +102,6 @@ pub fn put_opening(
 ) -> Result<(), Fail> {
     let (word, slots) = cut(words);
     let path = PathText::parse(alloc, word)?;
-    let (handle, state) = begun(alloc, &path, options_of(slots))?;
-    Ok(finish_opening(alloc, disk, &handle, state, text)?)
+    let mut state = OpenState::start(alloc, &path, &[], Kind::Sha1, &[], options_of(slots))?;
+    Ok(finish_opening(alloc, disk, &mut state, text)?)
 }

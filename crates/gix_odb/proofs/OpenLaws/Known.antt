@@ -1,16 +1,14 @@
 -- What is known at each stage of an opening: of its listing and its stream, of its number of slots, and of why it is refused.
-use Rattle.std.proofs.Common.{◌≡◌, ◌⊎◌, inl, inr, ℕ, ◌≤◌, Bool, true, false, nat_le, List, [], ◌∷◌, ◌++◌, length, Contains, Option, Some, None, refl, sym, ap, ◌∙◌, subst, arith}
+use Rattle.std.proofs.Common.{◌≡◌, ℕ, ◌≤◌, Bool, true, false, nat_le, List, [], ◌∷◌, ◌++◌, length, Some, refl, sym, ap, ◌∙◌, subst, arith}
 use Rattle.std.specs.Prelude.{if◌then◌else◌}
 use Rattle.std.proofs.lemmas.List.Elements.{Contains-push}
 use Rattle.std.proofs.lemmas.Option.{same_Some}
 use Rattle.odb_asks.specs.declared.ask.DiskAnswer.{DiskAnswer}
 use Rattle.odb_asks.specs.declared.ask.DiskAnswer.TheVariants as answers
-use Rattle.odb_asks.specs.declared.ask.DiskAsk.{DiskAsk}
 use Rattle.odb_asks.specs.declared.ask.DiskAsk.TheVariants as disk_asks
 use Rattle.odb_nodes.specs.declared.disk_error.DiskError.TheVariants as disk_errors
 use Rattle.odb_nodes.specs.declared.meta.Kind.{Kind}
 use Rattle.odb_nodes.specs.declared.meta.Kind.TheVariants as kinds
-use Rattle.odb_nodes.specs.declared.meta.Meta.{Meta}
 use Rattle.gix_odb_events.specs.PackId.{most_slots}
 use Rattle.gix_odb_packs.specs.ListOrder as lists
 use Rattle.gix_odb_events.specs.Answers.{Answer as CoreAnswer}
@@ -38,10 +36,10 @@ use Rattle.gix_odb_refresh.specs.Asked.{AreSuited, IsSuited}
 use Rattle.gix_odb_refresh.proofs.AskedLemmas.{holds_behind}
 use Rattle.gix_odb_refresh.proofs.RefreshLaws.Causes.{Breaks-more}
 use Rattle.gix_odb_refresh.proofs.RefreshLaws.Known.{told_of, told_of-push}
-use Rattle.gix_odb.specs.OpenOrder.{ask_of, begun, fed, listed_on, looked, numbered, refused, shown, slots_for}
+use Rattle.gix_odb.specs.OpenOrder.{begun, listed_on, looked, numbered, refused, shown, slots_for}
 use Rattle.gix_odb.specs.OpenExchanges.{AreAsked, HasListed, IsCaused, IsNoDir, IsNumber, ShowsNoDirectory, asks_of, behind, fed_by, list_behind, list_by}
-use Rattle.gix_odb.specs.declared.open_state.OpenState.{OpenState}
-use Rattle.gix_odb.specs.declared.open_state.OpenState.TheVariants as opens
+use Rattle.gix_odb.specs.declared.open_state.OpenStage.{OpenStage}
+use Rattle.gix_odb.specs.declared.open_state.OpenStage.TheVariants as opens
 
 -- behind one exchange more
 list_behind-push : (setting : Setting) (step : ListStep) (past : List Exchange) (exchange : Exchange)
@@ -68,13 +66,13 @@ module _ (setting : Setting) (slots : Slots) where
     pub breaks : Breaks past lister.stage
     pub stream : StreamOf now lister
 
-  abbrev pub KnowsAt : Told → List Exchange → OpenState → Type 0
+  abbrev pub KnowsAt : Told → List Exchange → OpenStage → Type 0
   KnowsAt now past opens.Looking = HasNone now × (past ≡ [])
   KnowsAt now past (opens.Listing lister percent minimum) = Lists now past lister percent minimum
   KnowsAt now past (opens.Registering number) = HasNone now × IsNumber setting slots past number × (number ≤ most_slots)
   KnowsAt now past (opens.Done reply) = HasNone now × IsExplained setting slots past reply
 
-  abbrev pub Knows : List Exchange → OpenState → Type 0
+  abbrev pub Knows : List Exchange → OpenStage → Type 0
   Knows past state = KnowsAt (told_of past) past state
 
   -- ---- a number
@@ -167,7 +165,7 @@ module _ (setting : Setting) (slots : Slots) where
 
     -- ---- one exchange more
 
-    abbrev Goes : OpenState → Ask → Answer → Type 0
+    abbrev Goes : OpenStage → Ask → Answer → Type 0
     Goes state ask answer = IsSuited ask answer → KnowsAt (told_by now ask answer) (with_one ask answer) (fed_by setting slots state answer)
 
     look_goes : HasNone now × (past ≡ []) → (answer : Answer) → Goes opens.Looking (asks.Disk (disk_asks.Look setting.objects true)) answer
@@ -210,7 +208,7 @@ module _ (setting : Setting) (slots : Slots) where
     register_goes number (none, is, few) (told.Core answer) suits =
         (none, ((answer, Contains-push past (registered number answer)), number_still number answer slots is, few))
 
-    goes : (state : OpenState) → KnowsAt now past state → (ask : Ask) (answer : Answer) → asks_of setting state ≡ Some ask → Goes state ask answer
+    goes : (state : OpenStage) → KnowsAt now past state → (ask : Ask) (answer : Answer) → asks_of setting state ≡ Some ask → Goes state ask answer
     goes opens.Looking known ask answer is =
         subst (λ (own : Ask). Goes opens.Looking own answer) (same_Some (asks.Disk (disk_asks.Look setting.objects true)) ask is) (look_goes known answer)
     goes (opens.Listing lister percent minimum) known ask answer is =
@@ -221,7 +219,7 @@ module _ (setting : Setting) (slots : Slots) where
         (register_goes number known answer)
     goes (opens.Done reply) known ask answer is = absurd (cc is)
 
-  kept : (past : List Exchange) (state : OpenState) (exchange : Exchange) → Knows past state → asks_of setting state ≡ Some exchange.ask
+  kept : (past : List Exchange) (state : OpenStage) (exchange : Exchange) → Knows past state → asks_of setting state ≡ Some exchange.ask
       → IsSuited exchange.ask exchange.answer
       → Knows (past ++ exchange ∷ []) (fed_by setting slots state exchange.answer)
   kept past state exchange known asked suits =

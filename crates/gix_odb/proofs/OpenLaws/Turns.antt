@@ -1,5 +1,5 @@
 -- How many turns an opening takes.
-use Rattle.std.proofs.Common.{◌≡◌, ℕ, zero, suc, ◌+◌, ◌-◌, ◌*◌, ◌≤◌, Bool, true, false, nat_le, List, [], ◌∷◌, length, Option, Some, None, refl, subst, arith}
+use Rattle.std.proofs.Common.{◌≡◌, ℕ, zero, suc, ◌+◌, ◌-◌, ◌≤◌, Bool, true, false, nat_le, List, [], ◌∷◌, length, Option, Some, subst, arith}
 use Rattle.std.specs.Prelude.{if◌then◌else◌}
 use Rattle.std.proofs.lemmas.Option.{same_Some}
 use Rattle.odb_asks.specs.declared.ask.DiskAnswer.{DiskAnswer}
@@ -25,33 +25,33 @@ use Rattle.gix_odb_looks.specs.Laps.{AreWithin, HasAtMost}
 use Rattle.gix_odb_looks.specs.LookUpOrder.{Setting}
 use Rattle.gix_odb_looks.specs.Shown.{folders_of}
 use Rattle.gix_odb_looks.specs.Stream.{Stream, stream_by}
-use Rattle.gix_odb_refresh.proofs.ListerLaws.Turns.{IsCounted, ListsFor, fed_lists, folder_turns, further, lister_turns, lister_turns-pos}
+use Rattle.gix_odb_refresh.proofs.ListerLaws.Turns.{IsCounted, ListsFor, fed_lists, lister_turns, lister_turns-pos}
 use Rattle.gix_odb_refresh.proofs.RefreshLaws.Turns.{listing_turns}
 use Rattle.gix_odb.specs.OpenOrder.{begun, listed_on, looked, numbered, refused, shown, slots_for}
 use Rattle.gix_odb.specs.OpenExchanges.{AreAsked, asks_of, fed_by}
-use Rattle.gix_odb.specs.declared.open_state.OpenState.{OpenState}
-use Rattle.gix_odb.specs.declared.open_state.OpenState.TheVariants as opens
+use Rattle.gix_odb.specs.declared.open_state.OpenStage.{OpenStage}
+use Rattle.gix_odb.specs.declared.open_state.OpenStage.TheVariants as opens
 
 module _ (setting : Setting) (slots : Slots) (entries : ℕ) where
   abbrev listing : ℕ
   listing = listing_turns setting.objects setting.folders entries
 
   -- so many turns are enough, where the stream that is open gave what the listing has: a look, a listing, and the registration
-  abbrev pub HasTurns : Option Stream → OpenState → (turns : ℕ) → Type 0
+  abbrev pub HasTurns : Option Stream → OpenStage → (turns : ℕ) → Type 0
   HasTurns stream opens.Looking turns = listing + 2 ≤ turns
   HasTurns stream (opens.Listing lister percent minimum) turns =
       IsCounted setting.folders entries stream lister × (lister_turns setting.folders entries lister + 1 ≤ turns)
   HasTurns stream (opens.Registering number) turns = 1 ≤ turns
   HasTurns stream (opens.Done reply) turns = Unit {0}
 
-  asking_has_turns : (stream : Option Stream) (state : OpenState) (ask : Ask) → asks_of setting state ≡ Some ask → ¬ (HasTurns stream state 0)
+  asking_has_turns : (stream : Option Stream) (state : OpenStage) (ask : Ask) → asks_of setting state ≡ Some ask → ¬ (HasTurns stream state 0)
   asking_has_turns stream opens.Looking ask is enough = omega arith
   asking_has_turns stream (opens.Listing lister percent minimum) ask is enough = omega (arith, enough.1)
   asking_has_turns stream (opens.Registering number) ask is enough = omega arith
   asking_has_turns stream (opens.Done reply) ask is enough = cc is
 
   module _ (stream : Option Stream) (turns : ℕ) where
-    abbrev Goes : OpenState → Ask → Answer → Type 0
+    abbrev Goes : OpenStage → Ask → Answer → Type 0
     Goes state ask answer =
         IsAnswerTo ask answer → HasAtMost entries (stream_by stream ask answer) → HasTurns (stream_by stream ask answer) (fed_by setting slots state answer) turns
 
@@ -99,7 +99,7 @@ module _ (setting : Setting) (slots : Slots) (entries : ℕ) where
     register_goes number (told.Disk answer) is fits = absurd is
     register_goes number (told.Core answer) is fits = tt
 
-    goes : (state : OpenState) → HasTurns stream state (suc turns) → (ask : Ask) (answer : Answer) → asks_of setting state ≡ Some ask → Goes state ask answer
+    goes : (state : OpenStage) → HasTurns stream state (suc turns) → (ask : Ask) (answer : Answer) → asks_of setting state ≡ Some ask → Goes state ask answer
     goes opens.Looking enough ask answer is =
         subst (λ (own : Ask). Goes opens.Looking own answer) (same_Some (asks.Disk (disk_asks.Look setting.objects true)) ask is) (look_goes enough answer)
     goes (opens.Listing lister percent minimum) enough ask answer is =
@@ -110,7 +110,7 @@ module _ (setting : Setting) (slots : Slots) (entries : ℕ) where
         (register_goes number answer)
     goes (opens.Done reply) enough ask answer is = absurd (cc is)
 
-  pub turns_taken : (stream : Option Stream) (turns : ℕ) (state : OpenState) (exchanges : List Exchange) → HasTurns stream state turns
+  pub turns_taken : (stream : Option Stream) (turns : ℕ) (state : OpenStage) (exchanges : List Exchange) → HasTurns stream state turns
       → AreAsked setting slots state exchanges
       → AreWithin entries stream exchanges
       → AreAnswered exchanges

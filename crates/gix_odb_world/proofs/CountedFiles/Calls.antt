@@ -34,8 +34,8 @@ use Rattle.gix_odb_refresh.specs.Asked.{AreSuited, IsSuited}
 use Rattle.gix_odb_look_laws.specs.ListerCalls.{AreCalls, AreCallsOfTree, Call, behind_calls}
 use Rattle.gix_odb.specs.OpenExchanges.{AreAsked, fed_by, list_behind, list_by}
 use Rattle.gix_odb.specs.OpenOrder.{begun, listed_on, looked, numbered, refused, shown}
-use Rattle.gix_odb.specs.declared.open_state.OpenState.{OpenState}
-use Rattle.gix_odb.specs.declared.open_state.OpenState.TheVariants as opens
+use Rattle.gix_odb.specs.declared.open_state.OpenStage.{OpenStage}
+use Rattle.gix_odb.specs.declared.open_state.OpenStage.TheVariants as opens
 use Rattle.gix_odb_world.proofs.ToldLists.{nothing_among}
 
 -- what is among elements is the first or among those behind it
@@ -126,11 +126,11 @@ module _ (setting : Setting) (slots : Slots) where
   start = listed.More (lists.started setting.objects 0)
 
   -- the listing of the folders begins
-  abbrev BeginsListing : OpenState → Type 0
+  abbrev BeginsListing : OpenStage → Type 0
   BeginsListing state = (percent : ℕ) × (minimum : ℕ) × (state ≡ opens.Listing (lists.started setting.objects 0) percent minimum)
 
   -- none begins: what an opening asks for from there on leaves a listing where it was
-  abbrev ListsNothing : OpenState → Type 0
+  abbrev ListsNothing : OpenStage → Type 0
   ListsNothing state = (exchanges : List Exchange) → AreAsked setting slots state exchanges → AreSuited exchanges → list_behind folders start exchanges ≡ start
 
   done_lists_nothing : (reply : Reply) → ListsNothing (opens.Done reply)
@@ -181,6 +181,6 @@ module _ (setting : Setting) (slots : Slots) where
       elim (looked_goes answer) [
         | inl begins ↦
             calls_of_listing begins.0 begins.1 start exchanges
-            (subst (λ (state : OpenState). AreAsked setting slots state exchanges) begins.2 asked)
+            (subst (λ (state : OpenStage). AreAsked setting slots state exchanges) begins.2 asked)
         | inr nothing ↦ no_calls start exchanges (nothing exchanges asked suited)
       ]

@@ -22,9 +22,9 @@ use Rattle.gix_odb_refresh.specs.declared.refresh.RefreshStep.TheVariants as fro
 use Rattle.gix_odb.specs.Contents.{or_itself, replacement_in, sought, sought_for}
 use Rattle.gix_odb.specs.CallOrder as calls
 use Rattle.gix_odb.specs.CallOrder.{fronted, writing}
-use Rattle.gix_odb.specs.declared.call_state.CallState.{CallState}
-use Rattle.gix_odb.specs.declared.call_state.CallState.TheVariants.{Looking}
-use Rattle.gix_odb_world.specs.declared.work.Work.TheVariants.{Calling}
+use Rattle.gix_odb.specs.declared.call_state.CallStage.{CallStage}
+use Rattle.gix_odb.specs.declared.call_state.CallStage.TheVariants.{Looking}
+use Rattle.gix_odb_world.specs.Work.{Calling}
 use Rattle.gix_odb_world.specs.AtWork.{Modes, setting_in, view_in_modes}
 use Rattle.gix_odb_runs.specs.Event.{Event}
 use Rattle.gix_odb_world.specs.Running.Query.{IsLooking, call_of}
@@ -97,7 +97,7 @@ module _ (first : Volume) (events : List Event) (e : Event) (handle : ℕ) (stor
       → IsLooking first begun_whole handle (running_from number (MakeCall (call_of query)) store modes) look
   begins_call query look start is =
       let same : Calling (Looking (looks.started (setting_in store) (view_in_modes modes) query.want (sought store.parts modes.ignoring query))) ≡ Calling (Looking look) =
-      ap (λ (s : CallState). Calling s)
+      ap (λ (s : CallStage). Calling s)
       (sym (by_call-call_of (λ (q : Query). calls.looking (setting_in store) (view_in_modes modes) (sought store.parts modes.ignoring) q)
       (λ kind size bytes known. fronted (refreshes.started (view_in_modes modes)) (writing store.parts.objects store.hash kind size bytes known)) query)) ∙ is in
       begins query start look (cc same)

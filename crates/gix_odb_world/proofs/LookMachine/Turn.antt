@@ -28,8 +28,8 @@ use Rattle.gix_odb_looks.proofs.HandedLaws.{look_ups_change_no_file, look_ups_ha
 use Rattle.gix_odb_look_laws.proofs.HappenLaws.{what_is_handed_can_happen}
 use Rattle.gix_odb_looks.proofs.TurnLaws.{a_look_up_ends_in_time}
 use Rattle.gix_odb.specs.Contents.{sought}
-use Rattle.gix_odb.specs.declared.call_state.CallState.TheVariants.{Looking}
-use Rattle.gix_odb_world.specs.declared.work.Work.TheVariants.{Calling}
+use Rattle.gix_odb.specs.declared.call_state.CallStage.TheVariants.{Looking}
+use Rattle.gix_odb_world.specs.Work.{Calling}
 use Rattle.gix_odb_world.specs.Asks.{AsksAsLook, AsksAsRefresh, AsksAsWrite, AsksInOrder}
 use Rattle.gix_odb_world.specs.AtWork.{setting_in}
 use Rattle.gix_odb_world.specs.Bound.{HasAtMost, bound_of_call}

@@ -15,8 +15,8 @@ use Rattle.gix_odb_events.specs.PackId.{most_slots}
 use Rattle.gix_odb_packs.specs.declared.lister.ListStep.{ListStep}
 use Rattle.gix_odb_packs.specs.declared.lister.ListStep.TheVariants as listed
 use Rattle.gix_odb.specs.OpenOrder.{begun as with_slots, listed_on, looked as after_look, numbered, refused, shown as after_kind, slots_for}
-use Rattle.gix_odb.specs.declared.open_state.OpenState.{OpenState}
-use Rattle.gix_odb.specs.declared.open_state.OpenState.TheVariants as opens
+use Rattle.gix_odb.specs.declared.open_state.OpenStage.{OpenStage}
+use Rattle.gix_odb.specs.declared.open_state.OpenStage.TheVariants as opens
 use Rattle.gix_odb_calls.specs.declared.call.CallError.TheVariants as call_errors
 use Rattle.gix_odb_calls.specs.declared.call.Reply.TheVariants as replies
 use Rattle.gix_odb_calls.specs.declared.init.Error as opening
@@ -42,7 +42,7 @@ module _ (trees : ℕ → Tree) (Failed : Type 0) (store : Store) (begun now : �
   Says opening_errors.NoMemory = ⊥
 
   -- of what an opening comes to
-  abbrev pub Looks : OpenState → Type 0
+  abbrev pub Looks : OpenStage → Type 0
   Looks opens.Looking = ⊥
   Looks (opens.Done (replies.Refused (call_errors.Open error))) = Says error
   Looks (opens.Done reply) = ⊥

@@ -32,8 +32,8 @@ use Rattle.gix_odb_refresh.proofs.AskedLemmas.{asked-push, behind-push}
 use Rattle.gix_odb.specs.Contents.{folder_list}
 use Rattle.gix_odb.specs.OpenExchanges.{AreAsked, IsCaused, IsNumber, asks_of, behind, fed_by}
 use Rattle.gix_odb.specs.OpenOrder as openings
-use Rattle.gix_odb.specs.declared.open_state.OpenState.{OpenState}
-use Rattle.gix_odb.specs.declared.open_state.OpenState.TheVariants as opens
+use Rattle.gix_odb.specs.declared.open_state.OpenStage.{OpenStage}
+use Rattle.gix_odb.specs.declared.open_state.OpenStage.TheVariants as opens
 use Rattle.gix_odb.proofs.OpenLaws.{an_opening_takes_at_most_a_lap, openings_change_no_file, openings_register_few_slots, openings_register_their_number}
 use Rattle.gix_odb.proofs.OpenLaws.{refused_openings_have_causes, streams_of_openings_are_their_own}
 use Rattle.gix_odb_world.specs.AtWork.{OpenStore, Running, Store, setting_in}
@@ -79,7 +79,7 @@ shown_before first events e begun objects was =
 within_laps : (turns lap : ℕ) → turns + 2 ≤ lap → turns + 1 < (0 + laps_without_change) * lap + 0
 within_laps turns lap few = omega arith
 
-module _ (first : Volume) (events : List Event) (handle : ℕ) (running : Running) (state : OpenState) (knows : IsOpening first events handle running state) where
+module _ (first : Volume) (events : List Event) (handle : ℕ) (running : Running) (state : OpenStage) (knows : IsOpening first events handle running state) where
   abbrev store : Store
   store = running.store
 
@@ -136,7 +136,7 @@ module _ (first : Volume) (events : List Event) (handle : ℕ) (running : Runnin
     now_is = let since = knows.since in let more = length_push events e in omega (arith, since, more)
 
     -- of what it comes to, at the moment behind its turn
-    abbrev LooksNow : OpenState → Type 0
+    abbrev LooksNow : OpenStage → Type 0
     LooksNow next = Looks (tree_at first whole) Failed store running.begun (length whole) now_is next
 
     -- ---- a call of the disk
@@ -148,7 +148,7 @@ module _ (first : Volume) (events : List Event) (handle : ℕ) (running : Runnin
       abbrev call : Exchange
       call = record { ask = parts.Disk ask; answer = told.Disk answer }
 
-      abbrev next : OpenState
+      abbrev next : OpenStage
       next = openings.fed objects store.parts.folders slots state (told.Disk answer)
 
       told_is : told_since whole handle running.begun ≡ exchanges ++ call ∷ []
@@ -198,7 +198,7 @@ module _ (first : Volume) (events : List Event) (handle : ℕ) (running : Runnin
       refused (opening_errors.LoadIndex error) same looks = caused (opening_errors.LoadIndex error) same
       refused opening_errors.NoMemory same looks = absurd looks
 
-      goes : (own : OpenState) → next ≡ own → LooksNow own → MachineComes first events e handle running opening IsOpening (OfDisk ask answer) (openings.result_of own)
+      goes : (own : OpenStage) → next ≡ own → LooksNow own → MachineComes first events e handle running opening IsOpening (OfDisk ask answer) (openings.result_of own)
       goes opens.Looking same looks = absurd looks
       goes (opens.Listing lister percent minimum) same looks = (
         record { task = knows.task; since = now_is; is = sym same ∙ stands; asked = all_asked; turns = sym longer; well = record { suited = well.suited; answered = well.answered; within = well.within }; given = record { given = gives.given; of_tree = gives.of_tree }; seen = looks },

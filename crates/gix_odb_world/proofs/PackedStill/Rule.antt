@@ -1,5 +1,5 @@
 -- What a run says of the indices of a store: none shows two contents while its store is open.
-use Rattle.std.proofs.Common.{◌≡◌, ℕ, Bool, true, false, List, length, take, Some, refl, subst}
+use Rattle.std.proofs.Common.{◌≡◌, ℕ, Bool, true, false, List, length, take, refl, subst}
 use Rattle.std.specs.Prelude.{◌&&◌, ◌||◌, codes, nat_eq, nat_lt}
 use Rattle.std.specs.List.{ends_with}
 use Rattle.std.proofs.lemmas.Bool.{false≢true}

@@ -27,9 +27,9 @@ use Rattle.gix_odb_refresh.proofs.RefreshLaws.{rows_are_of_the_folders}
 use Rattle.gix_odb_look_laws.proofs.RefreshHappenLaws.{what_a_refresh_hands_on_can_happen}
 use Rattle.gix_odb.specs.Contents.{folder_list, sought}
 use Rattle.gix_odb.proofs.OpenLaws.{openings_ask_no_event}
-use Rattle.gix_odb.specs.declared.call_state.CallState.TheVariants.{Looking, Refreshing, Refused, Writing}
-use Rattle.gix_odb_world.specs.declared.work.Work.{Work}
-use Rattle.gix_odb_world.specs.declared.work.Work.TheVariants.{Calling, Opening}
+use Rattle.gix_odb.specs.declared.call_state.CallStage.TheVariants.{Looking, Refreshing, Refused, Writing}
+use Rattle.gix_odb_world.specs.Work.{Work}
+use Rattle.gix_odb_world.specs.Work.{Calling, Opening}
 use Rattle.gix_odb_world.specs.AtWork.{Running, Store, setting_in}
 use Rattle.gix_odb_runs.specs.Event.{CoreEvent, Event}
 use Rattle.gix_odb_looks.specs.LookUpOrder.{loose_ask}

@@ -36,11 +36,11 @@ use Rattle.gix_odb_looks.proofs.HandedLaws.{look_ups_have_no_core_made}
 use Rattle.gix_odb_look_laws.proofs.CoreLaws.{core_answers_suit_their_events}
 use Rattle.gix_odb.specs.Contents.{folder_list, sought}
 use Rattle.gix_odb.specs.Held.{InLooseFile, InPackFile, LiesAt}
-use Rattle.gix_odb.specs.declared.call_state.CallState.TheVariants.{Looking}
+use Rattle.gix_odb.specs.declared.call_state.CallStage.TheVariants.{Looking}
 use Rattle.gix_odb_look_laws.specs.Moved.{AreLooseFair, ArePublished, HasLoose, IsLooseFair}
 use Rattle.gix_odb_look_laws.proofs.MovedLaws.{no_stream_is_open_before_the_loose_folder_is_asked, objects_that_move_into_packs_are_not_missed}
-use Rattle.gix_odb_world.specs.declared.work.Work.{Work}
-use Rattle.gix_odb_world.specs.declared.work.Work.TheVariants.{Calling}
+use Rattle.gix_odb_world.specs.Work.{Work}
+use Rattle.gix_odb_world.specs.Work.{Calling}
 use Rattle.gix_odb_world.specs.AtWork.{MakeCall, Modes, Running, Store, setting_in}
 use Rattle.gix_odb_world.specs.Begun.{BegunAs}
 use Rattle.gix_odb_runs.specs.Cores.{answer_behind, cores_after, history_at}

@@ -10,7 +10,7 @@ use Rattle.gix_odb_looks.specs.declared.look_up.LookUp.{LookUp}
 use Rattle.gix_odb.specs.Contents.{sought}
 use Rattle.gix_odb_look_laws.specs.AtHand.{IsAtHand, IsDone}
 use Rattle.gix_odb_look_laws.proofs.OnceLaws.{object_at_hand_is_found_at_once}
-use Rattle.gix_odb_world.specs.declared.work.Work.{Work}
+use Rattle.gix_odb_world.specs.Work.{Work}
 use Rattle.gix_odb_world.specs.AtWork.{Running, setting_in}
 use Rattle.gix_odb_runs.specs.Event.{Asked, Event, OfNothing, answered}
 use Rattle.gix_odb_world.specs.Headline.{outcome_of, stand_of}

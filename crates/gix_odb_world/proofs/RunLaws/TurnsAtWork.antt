@@ -10,7 +10,7 @@ use Rattle.gix_odb_calls.specs.declared.step.Outcome.TheVariants as outcomes
 use Rattle.gix_odb_calls.specs.declared.step.Why.{Why}
 use Rattle.gix_odb_runs.specs.Event.{Event, answered}
 use Rattle.gix_odb_runs.specs.Turned.{is_done}
-use Rattle.gix_odb_world.specs.declared.work.Work.{Work}
+use Rattle.gix_odb_world.specs.Work.{Work}
 use Rattle.gix_odb_world.specs.AtWork.{Running}
 use Rattle.gix_odb_world.specs.Headline.{Law, Turns, Works, outcome_of}
 use Rattle.gix_odb_world.specs.Machines.{fed_in}

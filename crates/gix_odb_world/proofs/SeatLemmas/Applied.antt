@@ -9,8 +9,8 @@ use Rattle.gix_odb_events.specs.declared.answer.Ask.TheVariants as parts
 use Rattle.gix_odb_looks.proofs.HandedLaws.{IsOfLooks, look_ups_ask_these_events_alone}
 use Rattle.gix_odb_refresh.proofs.RefreshLaws.{refreshes_ask_events_of_looks_alone}
 use Rattle.gix_odb_world.specs.Told.{look_now, refresh_now}
-use Rattle.gix_odb.specs.declared.open_state.OpenState.{OpenState}
-use Rattle.gix_odb.specs.declared.open_state.OpenState.TheVariants as opens
+use Rattle.gix_odb.specs.declared.open_state.OpenStage.{OpenStage}
+use Rattle.gix_odb.specs.declared.open_state.OpenStage.TheVariants as opens
 use Rattle.gix_odb_core.specs.History.{History, present}
 use Rattle.gix_odb_core.specs.Replay.{number_behind}
 use Rattle.gix_odb_core.specs.Steps.{after}
@@ -22,8 +22,8 @@ use Rattle.gix_odb_events.specs.declared.view.View.{View}
 use Rattle.gix_odb_calls.specs.declared.step.Step.{Step}
 use Rattle.gix_odb_calls.specs.declared.step.Step.TheVariants as steps
 use Rattle.gix_odb_calls.specs.declared.step.Outcome.TheVariants as outcomes
-use Rattle.gix_odb_world.specs.declared.work.Work.{Work}
-use Rattle.gix_odb_world.specs.declared.work.Work.TheVariants.{Opening}
+use Rattle.gix_odb_world.specs.Work.{Work}
+use Rattle.gix_odb_world.specs.Work.{Opening}
 use Rattle.gix_odb_world.specs.Asks.{AsksAsLook, AsksAsRefresh, MayAskCore}
 use Rattle.gix_odb_runs.specs.Cores.{cores_after, cores_after_asked, history_at}
 use Rattle.gix_odb_runs.specs.Event.{Asked, CoreEvent, Event, OfCore, OfNothing}
@@ -39,7 +39,7 @@ use Rattle.gix_odb_world.proofs.SeatLemmas.Opened.{IsOn}
 
 -- where a handle at work stands: one that opens its store is at an opening, and registered nowhere; one at a call is registered
 abbrev pub StandsAt : List History → (handle : ℕ) → Modes → Work → Task → Type 0
-StandsAt cores handle modes work OpenStore = (state : OpenState) × (work ≡ Opening state) × IsOn state × IsNowhere cores handle
+StandsAt cores handle modes work OpenStore = (state : OpenStage) × (work ≡ Opening state) × IsOn state × IsNowhere cores handle
 StandsAt cores handle modes work (MakeCall call) = IsSeated cores handle modes
 
 abbrev pub Stands : List Event → (handle : ℕ) → Status → Type 0

@@ -20,11 +20,11 @@ use Rattle.gix_odb_calls.specs.declared.init.Error.TheVariants as opening_errors
 use Rattle.gix_odb_calls.specs.declared.init.Slots.{Slots}
 use Rattle.gix_odb_calls.specs.declared.init.Slots.TheVariants.{AsNeededByDiskState, Given}
 use Rattle.gix_odb_calls.specs.declared.load_index.Error.TheVariants as load_errors
-use Rattle.gix_odb.specs.declared.open_state.OpenState.{OpenState}
-use Rattle.gix_odb.specs.declared.open_state.OpenState.TheVariants as opens
+use Rattle.gix_odb.specs.declared.open_state.OpenStage.{OpenStage}
+use Rattle.gix_odb.specs.declared.open_state.OpenStage.TheVariants as opens
 use Rattle.gix_odb_calls.specs.declared.step.Outcome.TheVariants as outcomes
-use Rattle.gix_odb_world.specs.declared.work.Work.{Work}
-use Rattle.gix_odb_world.specs.declared.work.Work.TheVariants.{Opening}
+use Rattle.gix_odb_world.specs.Work.{Work}
+use Rattle.gix_odb_world.specs.Work.{Opening}
 use Rattle.gix_odb_events.specs.declared.answer.Answer.{Answer}
 use Rattle.gix_odb_events.specs.declared.answer.Answer.TheVariants as told
 use Rattle.gix_odb_world.specs.Headline.{outcome_of}
@@ -34,7 +34,7 @@ use Rattle.gix_odb_world.specs.Running.Opening.{opening, opening_fed}
 use Rattle.gix_odb_world.specs.Status.{Store, refuses_opening}
 
 -- an opening that isn't done
-abbrev pub IsOn : OpenState → Type 0
+abbrev pub IsOn : OpenStage → Type 0
 IsOn opens.Looking = Unit {0}
 IsOn (opens.Listing lister percent minimum) = Unit {0}
 IsOn (opens.Registering slots) = Unit {0}
@@ -49,22 +49,22 @@ pub left_of : (result : Result Reply Work) → outcome_of result ≡ outcomes.Pe
 left_of (Ok reply) is = absurd (cc is)
 left_of (Err left) is = (left, refl)
 
-pub opened_by : (state : OpenState) (reply : Reply) → placed opening (result_of state) ≡ Ok reply → state ≡ opens.Done reply
+pub opened_by : (state : OpenStage) (reply : Reply) → placed opening (result_of state) ≡ Ok reply → state ≡ opens.Done reply
 opened_by opens.Looking reply is = absurd (cc is)
 opened_by (opens.Listing lister percent minimum) reply is = absurd (cc is)
 opened_by (opens.Registering slots) reply is = absurd (cc is)
 opened_by (opens.Done own) reply is = let same : own ≡ reply = cc is in ap opens.Done same
 
 -- what is left of an opening is one that isn't done
-on_at : (state : OpenState) (left : Work) → placed opening (result_of state) ≡ Err left → (next : OpenState) × (left ≡ Opening next) × IsOn next
+on_at : (state : OpenStage) (left : Work) → placed opening (result_of state) ≡ Err left → (next : OpenStage) × (left ≡ Opening next) × IsOn next
 on_at opens.Looking left is = let same : Opening opens.Looking ≡ left = cc is in (opens.Looking, sym same, tt)
 on_at (opens.Listing lister percent minimum) left is =
     let same : Opening (opens.Listing lister percent minimum) ≡ left = cc is in (opens.Listing lister percent minimum, sym same, tt)
 on_at (opens.Registering slots) left is = let same : Opening (opens.Registering slots) ≡ left = cc is in (opens.Registering slots, sym same, tt)
 on_at (opens.Done own) left is = absurd (cc is)
 
-pub on_by : (store : Store) (state : OpenState) (answer : Option Answer) (left : Work) → fed_in store (Opening state) answer ≡ Err left
-    → (next : OpenState) × (left ≡ Opening next) × IsOn next
+pub on_by : (store : Store) (state : OpenStage) (answer : Option Answer) (left : Work) → fed_in store (Opening state) answer ≡ Err left
+    → (next : OpenStage) × (left ≡ Opening next) × IsOn next
 on_by store state answer left is = on_at (opening_fed store state answer) left is
 
 -- an opening that ends with a call of the disk is refused
@@ -111,7 +111,7 @@ module _ (reply : Reply) where
   by_listing percent minimum (listed.Listed listing) is = by_number (slots_for percent minimum (length listing.rows)) is
   by_listing percent minimum listed.Broken is = by_error (opening_errors.LoadIndex load_errors.Io) is
 
-pub answered_refuses : (objects : Path) (folders : List Path) (slots : Slots) (state : OpenState) (answer : DiskAnswer) (reply : Reply) → IsOn state
+pub answered_refuses : (objects : Path) (folders : List Path) (slots : Slots) (state : OpenStage) (answer : DiskAnswer) (reply : Reply) → IsOn state
     → fed objects folders slots state (told.Disk answer) ≡ opens.Done reply → refuses_opening reply ≡ true
 answered_refuses objects folders slots opens.Looking answer reply on is = by_look reply objects slots answer is
 answered_refuses objects folders slots (opens.Listing lister percent minimum) answer reply on is =

@@ -1,11 +1,11 @@
 -- What a handle sees of the core of its store: what was read since the store was opened, and no more than there are slots.
-use Rattle.std.proofs.Common.{◌≡◌, ℕ, zero, suc, ◌+◌, ◌≤◌, List, [], ◌∷◌, ◌++◌, length, take, Contains, Option, Some, None, refl, sym, ◌∙◌, ap, subst, arith}
+use Rattle.std.proofs.Common.{◌≡◌, ℕ, zero, suc, ◌≤◌, List, [], ◌∷◌, ◌++◌, length, take, Contains, Option, Some, None, refl, sym, ◌∙◌, ap, subst, arith}
 use Rattle.std.specs.Prelude.{slice_get, unwrap_or}
 use Rattle.std.specs.List.{All}
 use Rattle.std.proofs.lemmas.List.{length-replicate}
 use Rattle.std.proofs.lemmas.List.Elements.{Contains-append_left}
 use Rattle.odb_asks.specs.MemDisk.{Volume}
-use Rattle.gix_odb_core.specs.History.{History, opened}
+use Rattle.gix_odb_core.specs.History.{History}
 use Rattle.gix_odb_core.specs.Possible.{IsOpened, IsPossible}
 use Rattle.gix_odb_core.specs.Replay.{IsLegal, IsNext, number_behind, replay, snapshot_of}
 use Rattle.gix_odb_events.specs.Answers.{view_in}

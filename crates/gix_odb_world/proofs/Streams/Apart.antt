@@ -21,10 +21,10 @@ use Rattle.gix_odb_refresh.proofs.RefreshLaws.{refreshes_open_folders_of_packs, 
 use Rattle.gix_odb.specs.Contents.{folder_list, sought}
 use Rattle.gix_odb.specs.OpenExchanges.{asks_of as opening_asks}
 use Rattle.gix_odb.proofs.OpenLaws.{openings_open_folders_of_packs, streams_of_openings_are_their_own}
-use Rattle.gix_odb.specs.declared.call_state.CallState.TheVariants.{Looking, Refreshing, Refused, Writing}
-use Rattle.gix_odb.specs.declared.open_state.OpenState.TheVariants as opens
-use Rattle.gix_odb_world.specs.declared.work.Work.{Work}
-use Rattle.gix_odb_world.specs.declared.work.Work.TheVariants.{Opening, Calling}
+use Rattle.gix_odb.specs.declared.call_state.CallStage.TheVariants.{Looking, Refreshing, Refused, Writing}
+use Rattle.gix_odb.specs.declared.open_state.OpenStage.TheVariants as opens
+use Rattle.gix_odb_world.specs.Work.{Work}
+use Rattle.gix_odb_world.specs.Work.{Opening, Calling}
 use Rattle.gix_odb_world.specs.AtWork.{Running, setting_in}
 use Rattle.gix_odb_runs.specs.Event.{Event}
 use Rattle.gix_odb_looks.specs.LookUpOrder.{loose_ask}

@@ -19,7 +19,7 @@ use Rattle.gix_odb_looks.specs.OpenStream.{IsOnStream, IsStreamOf}
 use Rattle.gix_odb_looks.specs.Stream.{Stream}
 use Rattle.gix_odb_looks.proofs.StreamLaws.Directories.{stream_of_a_directory_is_kept_by_another_state, stream_of_a_directory_is_kept_by_other_calls, stream_of_a_directory_is_kept_by_outside_changes}
 use Rattle.gix_odb.specs.Contents.{folder_list}
-use Rattle.gix_odb_world.specs.declared.work.Work.{Work}
+use Rattle.gix_odb_world.specs.Work.{Work}
 use Rattle.gix_odb_world.specs.AtWork.{Running, Store}
 use Rattle.gix_odb_runs.specs.Event.{Asked, Event, OfCore, OfDisk, OfNewCore, OfNothing, answered}
 use Rattle.gix_odb_world.specs.Machines.{fed_in}

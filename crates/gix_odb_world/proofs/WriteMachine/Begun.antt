@@ -24,9 +24,9 @@ use Rattle.gix_odb_refresh.proofs.RefreshLaws.{a_read_snapshot_is_ready}
 use Rattle.gix_odb.specs.CallOrder as calls
 use Rattle.gix_odb.specs.CallOrder.{fronted}
 use Rattle.gix_odb.specs.Contents.{folder_list, sought}
-use Rattle.gix_odb.specs.declared.call_state.CallState.{CallState}
-use Rattle.gix_odb.specs.declared.call_state.CallState.TheVariants.{Looking}
-use Rattle.gix_odb_world.specs.declared.work.Work.TheVariants.{Calling}
+use Rattle.gix_odb.specs.declared.call_state.CallStage.{CallStage}
+use Rattle.gix_odb.specs.declared.call_state.CallStage.TheVariants.{Looking}
+use Rattle.gix_odb_world.specs.Work.{Calling}
 use Rattle.gix_odb_world.specs.AtWork.{Modes, setting_in, view_in_modes}
 use Rattle.gix_odb_looks.specs.Laps.{turns_of_lap}
 use Rattle.gix_odb_runs.specs.Event.{Event}
@@ -143,7 +143,7 @@ module _ (first : Volume) (events : List Event) (e : Event) (handle : ℕ) (stor
   no_query : (query : Query) (state : WriteState) → ¬ (begun_with store modes (MakeCall (call_of query)) ≡ work_of state)
   no_query query state is =
       no_look (looks.started (setting_in store) (view_in_modes modes) query.want (sought store.parts modes.ignoring query)) state
-      (ap (λ (s : CallState). Calling s)
+      (ap (λ (s : CallStage). Calling s)
       (sym (by_call-call_of (λ (q : Query). calls.looking (setting_in store) (view_in_modes modes) (sought store.parts modes.ignoring) q)
       (λ kind size bytes known. fronted (started (view_in_modes modes)) (calls.writing store.parts.objects store.hash kind size bytes known)) query)) ∙ is)
 

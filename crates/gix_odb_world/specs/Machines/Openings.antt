@@ -2,21 +2,21 @@
 use Rattle.std.specs.Prelude.{◌≡◌, length, Option, Some, None}
 use Rattle.gix_odb.specs.Contents.{folder_list}
 use Rattle.gix_odb.specs.OpenOrder as openings
-use Rattle.gix_odb.specs.declared.open_state.OpenState.{OpenState}
+use Rattle.gix_odb.specs.declared.open_state.OpenStage.{OpenStage}
 use Rattle.gix_odb_events.specs.declared.answer.Answer.{Answer}
-use Rattle.gix_odb_world.specs.declared.work.Work.TheVariants.{Opening}
+use Rattle.gix_odb_world.specs.Work.{Opening}
 use Rattle.gix_odb_world.specs.AtWork.{OpenStore, Store}
 use Rattle.gix_odb_world.specs.Bound.{turn_bound}
 use Rattle.gix_odb_world.specs.Machine.{Machine}
 
-abbrev pub opening_fed : Store → OpenState → Option Answer → OpenState
+abbrev pub opening_fed : Store → OpenStage → Option Answer → OpenStage
 opening_fed store state None = state
 opening_fed store state (Some answer) = openings.fed store.parts.objects store.parts.folders store.slots state answer
 
 -- an opening as a machine: one look, a listing where its indices are to be counted, the registration, and then its reply
 abbrev pub opening : Machine
 opening = record {
-  State = OpenState;
+  State = OpenStage;
   work = λ state. Opening state;
   ask = λ store state. openings.ask_of store.parts.objects store.parts.folders state;
   feed = λ store state answer. openings.result_of (opening_fed store state answer);

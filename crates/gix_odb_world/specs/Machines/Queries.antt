@@ -5,8 +5,8 @@ use Rattle.gix_odb_calls.specs.declared.query.Query.{Query}
 use Rattle.gix_odb_events.specs.declared.answer.Answer.{Answer}
 use Rattle.gix_odb_looks.specs.LookUpOrder as looks
 use Rattle.gix_odb_looks.specs.declared.look_up.LookUp.{LookUp}
-use Rattle.gix_odb.specs.declared.call_state.CallState.TheVariants.{Looking}
-use Rattle.gix_odb_world.specs.declared.work.Work.TheVariants.{Calling}
+use Rattle.gix_odb.specs.declared.call_state.CallStage.TheVariants.{Looking}
+use Rattle.gix_odb_world.specs.Work.{Calling}
 use Rattle.gix_odb_world.specs.AtWork.{MakeCall, Store, setting_in}
 use Rattle.gix_odb_world.specs.Bound.{bound_of_call}
 use Rattle.gix_odb_world.specs.Machine.{Machine}

@@ -2,8 +2,8 @@
 use Rattle.std.specs.Prelude.{◌≡◌, ℕ, ◌≤◌, List, length}
 use Rattle.odb_asks.specs.MemDisk.{Volume}
 use Rattle.gix_odb.specs.OpenExchanges.{AreAsked}
-use Rattle.gix_odb.specs.declared.open_state.OpenState.{OpenState}
-use Rattle.gix_odb.specs.declared.open_state.OpenState.TheVariants as opens
+use Rattle.gix_odb.specs.declared.open_state.OpenStage.{OpenStage}
+use Rattle.gix_odb.specs.declared.open_state.OpenStage.TheVariants as opens
 use Rattle.gix_odb_world.specs.AtWork.{OpenStore, Running, setting_in}
 use Rattle.gix_odb_world.specs.Causes.{Sometime, ShowsDirectory}
 use Rattle.gix_odb_runs.specs.Event.{Event}
@@ -14,13 +14,13 @@ use Rattle.gix_odb_world.specs.Running.Listed.{AreGiven}
 use Rattle.gix_odb_world.specs.Told.{opening_now, told_since}
 
 -- behind its look an opening has seen the directory
-abbrev pub HasSeen : Volume → List Event → Running → OpenState → Type 0
+abbrev pub HasSeen : Volume → List Event → Running → OpenStage → Type 0
 HasSeen first events running opens.Looking = Unit {0}
 HasSeen first events running (opens.Done reply) = ⊥
 HasSeen first events running state = Sometime running.begun (length events) (λ moment. ShowsDirectory (tree_at first events moment) running.store.parts.objects)
 
 -- An opening stands behind what its handle was told since it began, each of which answered what it asked then, and had a turn for each.
-pub record IsOpening (first : Volume) (events : List Event) (handle : ℕ) (running : Running) (state : OpenState) : Type 0 where
+pub record IsOpening (first : Volume) (events : List Event) (handle : ℕ) (running : Running) (state : OpenStage) : Type 0 where
   pub task : running.task ≡ OpenStore
   pub since : running.begun ≤ length events
   pub is : state ≡ opening_now events handle running.store running.begun

@@ -4,21 +4,27 @@ ghost use Rattle.std.specs.Result.{result_err};
 ghost use Rattle.gix_odb.specs.CallOrder.{IsOfHash};
 ghost use Rattle.gix_odb.specs.HandleState.{hash_of};
 ghost use Rattle.gix_odb_world.specs.Valid as reasons;
-ghost use Rattle.gix_odb_world.specs.World.{handle_at};
-ghost use Rattle.gix_odb_world.specs.Table.{SetsHandle, phase_of_handle, with_ignoring, with_work};
+ghost use Rattle.gix_odb_world.specs.World.{handle_at, stored_at};
+ghost use Rattle.gix_odb_world.specs.Table.{PutsHandle, phase_of_handle, with_call, with_ignoring};
 
 use super::Course;
-use crate::handle::Handle;
-use crate::work::Work;
-use gix_odb::HandleState;
+use crate::handle::{Handle, HandleAt};
+use gix_odb::{CallState, HandleState};
 use gix_odb_calls::{Call, Why};
 use odb_base::NoMemory;
 use std::mem::replace;
 
+/// A handle at rest: the number of the core of its store, and its state.
+#[derive(Clone, Copy)]
+pub(super) struct Idle<'a> {
+    pub core: usize,
+    pub state: &'a HandleState,
+}
+
 impl Course {
     /// Puts a handle under a number.
     pub(super) fn put(&mut self, number: u32, handle: Handle) -> Result<(), NoMemory>
-        ensures sets { OnOk result (SetsHandle self.old self.new number (Some handle)) }
+        ensures puts { OnOk result (PutsHandle self.old self.new number (Some handle)) }
     {
         let old = self.handles.insert(number, handle)?;
         drop(old);
@@ -26,16 +32,16 @@ impl Course {
     }
 
     pub(super) fn remove(&mut self, number: u32)
-        ensures sets { SetsHandle self.old self.new number None }
+        ensures puts { PutsHandle self.old self.new number None }
     {
         let old = self.handles.remove(&number);
         drop(old);
     }
 
     /// Takes a handle that is at work out of the table. Any other one stays where it is.
-    pub(super) fn take_work(&mut self, number: u32) -> Result<(HandleState, Work), Why>
-        ensures taken { IfOk result (λ taken. handle_at self.old number ≡ Some (record { state = taken.0; work = Some taken.1 })) }
-        ensures sets { OnOk result (SetsHandle self.old self.new number None) }
+    pub(super) fn take_work(&mut self, number: u32) -> Result<Handle, Why>
+        ensures taken { IfOk result (λ handle. stored_at self.old number ≡ Some handle) }
+        ensures puts { OnOk result (PutsHandle self.old self.new number None) }
         ensures why { result_err result ≡ reasons.why_not_running (phase_of_handle (handle_at self.old number)) }
         ensures kept { OnErr result (self.new ≡ self.old) }
     {
@@ -44,17 +50,14 @@ impl Course {
         }
         match self.handles.remove(&number) {
             None => Err(Why::NoHandle),
-            Some(Handle { state, work }) => match work {
-                None => Err(Why::NotRunning),
-                Some(work) => Ok((state, work)),
-            },
+            Some(handle) => Ok(handle),
         }
     }
 
     /// Puts a handle under a number that has none, if there is one to put.
     pub(super) fn set(&mut self, number: u32, handle: Option<Handle>) -> Result<(), NoMemory>
-        requires free { handle_at self.old number ≡ None }
-        ensures sets { OnOk result (SetsHandle self.old self.new number handle) }
+        requires free { stored_at self.old number ≡ None }
+        ensures puts { OnOk result (PutsHandle self.old self.new number handle) }
     {
         match handle {
             Some(handle) => self.put(number, handle),
@@ -62,21 +65,21 @@ impl Course {
         }
     }
 
-    /// Gives a handle other work.
-    pub(super) fn set_work(&mut self, number: u32, work: Option<Work>)
-        ensures sets { SetsHandle self.old self.new number (with_work work (handle_at self.old number)) }
+    /// Begins a call on a handle.
+    pub(super) fn set_call(&mut self, number: u32, call: CallState)
+        ensures puts { PutsHandle self.old self.new number (with_call call (stored_at self.old number)) }
     {
         match self.handles.get_mut(&number) {
-            Some(handle) => drop(replace(&mut handle.work, work)),
-            None => drop(work),
+            Some(handle) => drop(replace(&mut handle.at, HandleAt::Calling(call))),
+            None => drop(call),
         }
     }
 
     pub(super) fn set_ignoring(&mut self, number: u32)
-        ensures sets { SetsHandle self.old self.new number (with_ignoring (handle_at self.old number)) }
+        ensures puts { PutsHandle self.old self.new number (with_ignoring (stored_at self.old number)) }
     {
         if let Some(handle) = self.handles.get_mut(&number) {
-            handle.state.ignore_replacements = true;
+            handle.ignore();
         }
     }
 
@@ -101,28 +104,31 @@ impl Course {
     }
 
     /// The handle that has a number, if it is idle, or why it isn't.
-    pub(super) fn idle(&self, number: u32) -> Result<&Handle, Why>
-        ensures handle { IfOk result (λ handle. handle_at self.now number ≡ Some handle.now) }
+    pub(super) fn idle(&self, number: u32) -> Result<Idle<'_>, Why>
+        ensures handle { IfOk result (λ idle. stored_at self.now number ≡ Some (record { core = idle.core; at = HandleAt.Resting idle.state.now })) }
         ensures why { result_err result ≡ reasons.why_not_idle (phase_of_handle (handle_at self.now number)) }
     {
         match self.handles.get(&number) {
             None => Err(Why::NoHandle),
-            Some(handle) => match handle.work {
-                None => Ok(handle),
-                Some(_) => Err(Why::Busy),
+            Some(handle) => match &handle.at {
+                HandleAt::Resting(state) => Ok(Idle {
+                    core: handle.core,
+                    state,
+                }),
+                HandleAt::Opening(_) | HandleAt::Calling(_) => Err(Why::Busy),
             },
         }
     }
 
     /// The handle that has a number, if a call may start on it: it is idle, and the call's ids are of its store's hash.
-    pub(super) fn ready(&self, number: u32, call: &Call) -> Result<&Handle, Why>
-        ensures handle { IfOk result (λ handle. handle_at self.now number ≡ Some handle.now) }
-        ensures of_hash { IfOk result (λ handle. IsOfHash (hash_of handle.now.state) call.now) }
+    pub(super) fn ready(&self, number: u32, call: &Call) -> Result<Idle<'_>, Why>
+        ensures handle { IfOk result (λ idle. stored_at self.now number ≡ Some (record { core = idle.core; at = HandleAt.Resting idle.state.now })) }
+        ensures of_hash { IfOk result (λ idle. IsOfHash (hash_of idle.state.now) call.now) }
         ensures why { result_err result ≡ reasons.why_not_start (phase_of_handle (handle_at self.now number)) call.now }
     {
-        let handle = self.idle(number)?;
-        if call.is_of_hash(handle.state.parts().object_hash) {
-            Ok(handle)
+        let idle = self.idle(number)?;
+        if call.is_of_hash(idle.state.parts().object_hash) {
+            Ok(idle)
         } else {
             Err(Why::WrongHash)
         }
@@ -146,12 +152,12 @@ impl Course {
     pub(super) fn why_not_running(&self, number: u32) -> Option<Why>
         ensures why { result ≡ reasons.why_not_running (phase_of_handle (handle_at self.now number)) }
     {
-        let Some(handle) = self.handles.get(&number) else {
-            return Some(Why::NoHandle);
-        };
-        match handle.work {
-            None => Some(Why::NotRunning),
-            Some(_) => None,
+        match self.handles.get(&number) {
+            None => Some(Why::NoHandle),
+            Some(handle) => match handle.at {
+                HandleAt::Resting(_) => Some(Why::NotRunning),
+                HandleAt::Opening(_) | HandleAt::Calling(_) => None,
+            },
         }
     }
 }

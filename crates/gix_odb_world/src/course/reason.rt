@@ -13,7 +13,7 @@ ghost use Rattle.gix_odb_world.specs.Watch.{TellsChange};
 ghost use Rattle.gix_odb_world.specs.World.{handle_at};
 
 use super::Course;
-use crate::handle::Handle;
+use crate::handle::HandleAt;
 use crate::opening;
 use crate::watch::{Judged, judged_work};
 use gix_odb_calls::{IdPairs, Options, PathList, Step, Why};
@@ -104,7 +104,11 @@ impl Course {
     }
 
     /// Why a turn isn't valid; or what its work asks for, the change that this would make, and what watched paths would show by it.
-    pub(super) fn judged(&self, alloc: Global, number: u32) -> Result<Result<Judged, Why>, NoMemory>
+    pub(super) fn check_turn(
+        &self,
+        alloc: Global,
+        number: u32,
+    ) -> Result<Result<Judged, Why>, NoMemory>
         requires fits { Fits self.now.shown (tree_of self.now.disk.state) }
         ensures why { IfOk result (λ judged. IsReasonNow self.now (Step.Turn number) (result_err judged)) }
         ensures asked { IfOk result (λ judged. IfOk judged (λ told. told.ask ≡ ask_by_handle (handle_at self.now number))) }
@@ -113,9 +117,11 @@ impl Course {
     {
         match self.handles.get(&number) {
             None => Ok(Err(Why::NoHandle)),
-            Some(Handle { state, work }) => match work {
-                None => Ok(Err(Why::NotRunning)),
-                Some(work) => judged_work(alloc, &self.disk, &self.shown, state, work),
+            Some(handle) => match handle.at {
+                HandleAt::Resting(_) => Ok(Err(Why::NotRunning)),
+                HandleAt::Opening(_) | HandleAt::Calling(_) => {
+                    judged_work(alloc, &self.disk, &self.shown, handle)
+                }
             },
         }
     }
@@ -125,7 +131,7 @@ impl Course {
         requires fits { Fits self.now.shown (tree_of self.now.disk.state) }
         ensures why { IfOk result (IsReasonNow self.now (Step.Turn number)) }
     {
-        match self.judged(alloc, number)? {
+        match self.check_turn(alloc, number)? {
             Ok(judged) => {
                 drop(judged);
                 Ok(None)

@@ -8,6 +8,6 @@ use Rattle.gix_odb.proofs.call_state.begun.Goals as goal
 pub start-requires : goal.start-requires
 start-requires c =
     record {
-      hash = subst (λ hash. kind_of (id_asked hash (jobs.Write c.args.kind c.args.size c.in_ok-bytes.bytes c.args.id)) ≡ hash) (sym c.in_ok-store.ensures.hash)
-          (start_fits c.args.kind c.args.size c.in_ok-bytes.bytes c.args.id c.args.hash c.requires.of_hash);
+      hash = subst (λ hash. kind_of (id_asked hash (jobs.Write c.args.kind c.args.size c.args.bytes c.args.id)) ≡ hash) (sym c.in_ok-store.ensures.hash)
+          (start_fits c.args.kind c.args.size c.args.bytes c.args.id c.args.hash c.requires.of_hash);
     }

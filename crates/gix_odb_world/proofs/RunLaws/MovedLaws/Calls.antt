@@ -9,7 +9,7 @@ use Rattle.gix_odb_calls.specs.declared.step.Step.{Step}
 use Rattle.gix_odb_calls.specs.declared.step.Step.TheVariants as steps
 use Rattle.gix_odb_calls.specs.declared.step.Outcome.{Outcome}
 use Rattle.gix_odb_calls.specs.declared.step.Outcome.TheVariants as outcomes
-use Rattle.gix_odb_world.specs.declared.work.Work.{Work}
+use Rattle.gix_odb_world.specs.Work.{Work}
 use Rattle.gix_odb_world.specs.AtWork.{MakeCall, Modes, Running, Task, modes_after}
 use Rattle.gix_odb_world.specs.Asks.{AsksAsTask}
 use Rattle.gix_odb_runs.specs.Event.{Event, answered}

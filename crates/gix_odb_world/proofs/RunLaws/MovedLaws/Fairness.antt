@@ -31,9 +31,9 @@ use Rattle.gix_odb_refresh.proofs.RefreshLaws.{what_a_refresh_hands_on_is_of_the
 use Rattle.gix_odb.specs.Contents.{folder_list, sought}
 use Rattle.gix_odb.specs.Held.{WasShownAt}
 use Rattle.gix_odb.proofs.OpenLaws.{openings_ask_no_event}
-use Rattle.gix_odb.specs.declared.call_state.CallState.TheVariants.{Looking, Refreshing, Refused, Writing}
-use Rattle.gix_odb_world.specs.declared.work.Work.{Work}
-use Rattle.gix_odb_world.specs.declared.work.Work.TheVariants.{Calling, Opening}
+use Rattle.gix_odb.specs.declared.call_state.CallStage.TheVariants.{Looking, Refreshing, Refused, Writing}
+use Rattle.gix_odb_world.specs.Work.{Work}
+use Rattle.gix_odb_world.specs.Work.{Calling, Opening}
 use Rattle.gix_odb_world.specs.AtWork.{MakeCall, Running, Store, Task, setting_in}
 use Rattle.gix_odb_runs.specs.Cores.{answer_behind, cores_after, history_at}
 use Rattle.gix_odb_runs.specs.Event.{CoreAnswer, CoreEvent, Event, OfCore, OfDisk, OfNothing}

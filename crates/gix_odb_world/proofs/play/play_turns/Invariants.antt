@@ -4,7 +4,7 @@ use Rattle.gix_odb_world.proofs.play.play_turns.Given as goal
 
 -- each turn so far was pending
 abbrev pub invariant-turning : goal.invariant-turning
-invariant-turning l = PlaysTurns l.fn.world l.world l.handle
+invariant-turning l = PlaysTurns l.fn.world l.world l.fn.steps l.steps l.handle
 
 -- there is room for so many more outcomes
 abbrev pub decreases-turning : goal.decreases-turning

@@ -1,4 +1,4 @@
-use Rattle.std.proofs.Common.{None, Result, subst}
+use Rattle.std.proofs.Common.{Result, subst}
 use Rattle.std.specs.Prelude.{IfOk}
 use Rattle.std.specs.Result.{result_err}
 use Rattle.std.proofs.lemmas.Result.{on_ok_weaker}

@@ -1,4 +1,7 @@
-use Rattle.std.proofs.Common.{sym}
+use Rattle.std.proofs.Common.{sym, subst}
+use Rattle.gix_odb_world.specs.Table.{SetsHandle}
+use Rattle.gix_odb_world.specs.World.{stored_at}
+use Rattle.gix_odb_world.proofs.SettingLemmas.{ignoring_seen, sets_seen}
 use Rattle.std.proofs.lemmas.Result.{on_ok_weaker}
 use Rattle.gix_odb_world.proofs.StepLemmas.{misused}
 use Rattle.gix_odb_world.proofs.HandleLemmas.{ignored}
@@ -11,4 +14,6 @@ returns-in-Some-clause-continues c = on_ok_weaker c.misuse.result
 
 pub returns-clause-continues : goal.returns-clause-continues
 returns-clause-continues c =
-    on_ok_weaker c.note.result (ignored c.args.self.now c.set_ignoring.new.self c.note.new.self c.args.number (sym c.in_default.ensures.why) c.set_ignoring.ensures.sets) c.note.ensures.notes
+    on_ok_weaker c.note.result (ignored c.args.self.now c.set_ignoring.new.self c.note.new.self c.args.number (sym c.in_default.ensures.why)
+    (subst (SetsHandle c.args.self.now c.set_ignoring.new.self c.args.number) (ignoring_seen (stored_at c.args.self.now c.args.number) (sym c.in_default.ensures.why))
+    (sets_seen c.args.self.now c.set_ignoring.new.self c.args.number _ c.set_ignoring.ensures.puts))) c.note.ensures.notes

@@ -10,6 +10,7 @@ use Rattle.gix_odb_world.specs.Watch.{Watches}
 use Rattle.gix_odb_world.specs.World.{handle_at}
 use Rattle.gix_odb_world.proofs.DistinctLemmas.{none_of, some_of}
 use Rattle.gix_odb_world.proofs.FitsLemmas.{fits_now}
+use Rattle.gix_odb_world.proofs.SettingLemmas.{sets_seen}
 use Rattle.gix_odb_world.proofs.StepLemmas.{misused}
 use Rattle.gix_odb_world.proofs.HandleLemmas.{opened, bad_open, taken}
 use Rattle.gix_odb_world.proofs.course.Course.open.Goals as goal
@@ -38,11 +39,11 @@ pub returns-clause-continues : goal.returns-clause-continues
 returns-clause-continues c =
     let begins =
     some_of c.in_ok-begun.begun (is_openable c.args.path.now c.args.folders.now c.args.hash c.args.replacements.now c.args.options.max_changes ≡ false)
-    (Begins c.args.path.now c.args.folders.now c.args.hash c.args.replacements.now c.args.options) (c.in-Some-begun.state, c.in-Some-begun.opening) c.in_ok-begun.ensures.begun c.in-Some-begun.is in
+    (Begins c.args.path.now c.args.folders.now c.args.hash c.args.replacements.now c.args.options) c.in-Some-begun.opening c.in_ok-begun.ensures.begun c.in-Some-begun.is in
     on_ok_weaker c.note.result
-    (opened c.args.self.now c.put.new.self c.note.new.self c.watch_store.new.shown c.args.number c.args.path.now c.args.folders.now c.args.hash c.args.replacements.now c.args.options c.in-Some-begun.state
+    (opened c.args.self.now c.put.new.self c.note.new.self c.watch_store.new.shown c.args.number c.args.path.now c.args.folders.now c.args.hash c.args.replacements.now c.args.options
     c.in-Some-begun.opening (sym c.in_default.ensures.why) begins (subst (λ t. Watches c.args.self.now.shown c.watch_store.new.shown t (c.args.path.now ∷ c.args.folders.now)) c.tree.ensures.shown c.in_ok-watch_store.ensures.watches)
-    c.in_ok-put.ensures.sets) c.note.ensures.notes
+    (sets_seen (record c.args.self.now { shown = c.watch_store.new.shown }) c.put.new.self c.args.number _ c.in_ok-put.ensures.puts)) c.note.ensures.notes
 
 -- what is kept fits the disk
 pub watch_store-requires : goal.watch_store-requires

@@ -4,4 +4,4 @@ use Rattle.gix_odb_world.proofs.world.World.play.Given as goal
 
 -- the lines so far are played
 abbrev pub invariant-loop-line : goal.invariant-loop-line
-invariant-loop-line l = HasPlayed l.fn.disk (take l.line-index l.lines) l.last l.world
+invariant-loop-line l = HasPlayed l.fn.disk (take l.line-index l.lines) l.steps l.last l.world
