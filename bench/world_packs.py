@@ -104,12 +104,6 @@ def among_links(count):
     return joined(["mkdir /q", "link /o/pack/pack-z.idx /q/z", *put("pack-a", range(10), 1)], 4, [*changes, found(7)])
 
 
-def linked_in(count):
-    """So many files that other programs put elsewhere and link into the pack directory of an open store, and then one find."""
-    changes = [(["do put /q/pack-%d.idx 1 68" % it, "do link /o/pack/pack-%d.idx /q/pack-%d.idx" % (it, it)], ["applied"] * 2) for it in range(count)]
-    return joined(["mkdir /q", *put("pack-a", range(10), 1)], 4, [*changes, found(7)])
-
-
 def swapped(count):
     """So many times the link at the pack path of an open store is put over from one directory with two packs to another, while the tree grows; and a find after each 25 of them."""
     parts = []
@@ -144,13 +138,6 @@ def moved_away(count):
     return joined(["put /t 1 68", *links], 4, [moved, *changes, found(7)])
 
 
-def middle(count):
-    """So many packs, and a link beside them whose way goes over another link, which is put over so many times; and then one find."""
-    setup = ["mkdir /e", "put /e/x 1 68", "mkdir /f", "put /f/x 1 68", *put("pack-a", range(10), 1), *["put /o/pack/note-%d.pack 1 68" % it for it in range(count)]]
-    changes = [(["do link /d /%s" % "ef"[it % 2]], ["applied"]) for it in range(count)]
-    return joined(setup, 4, [(["do link /o/pack/z.pack /d/x"], ["applied"]), *changes, found(7)])
-
-
 def missed(count):
     """So many packs of one object, all of whose indices one find reads that finds nothing."""
     setup = [line for pack in range(count) for line in put("pack-%05d" % pack, [pack], 1)]
@@ -175,12 +162,10 @@ CASES = {
     "stores in folders of their own": (own_folders, (500, 2000)),
     "links and directories beside": (beside, (2000, 8000)),
     "packs among links": (among_links, (2000, 8000)),
-    "indices linked in": (linked_in, (2000, 8000)),
     "pack links swapped": (swapped, (2000, 8000)),
     "links put and taken away": (taken_away, (2000, 8000)),
     "refused changes behind links": (refused, (2000, 8000)),
     "refused changes behind a moved directory": (moved_away, (2000, 8000)),
-    "a way changed in its middle": (middle, (2000, 8000)),
 }
 
 

@@ -16,7 +16,7 @@ use Rattle.odb_base.specs.Path.{path_cmp, same_name}
 use Rattle.odb_base.specs.PathLaws.{path_order, one_place}
 use Rattle.gix_odb_shown.specs.Kept.{Key, key_cmp, Contents}
 use Rattle.gix_odb_shown.specs.Files.{is_other, differs, first_kept, with_file, with_files}
-use Rattle.gix_odb_shown.specs.Ways.{IsIn}
+use Rattle.gix_odb_shown.specs.Kept.{IsIn}
 use Rattle.gix_odb_shown.specs.declared.shown_file.ShownFile.{ShownFile}
 
 -- ---- keys

@@ -17,7 +17,7 @@ use Rattle.odb_nodes.proofs.TreeLemmas.{same_path}
 use Rattle.odb_nodes.proofs.TreeLemmas.Change.{name_in-push}
 use Rattle.gix_odb_shown.specs.Files.{listed}
 use Rattle.gix_odb_shown.specs.Sight.{HasName}
-use Rattle.gix_odb_shown.specs.Ways.{IsIn}
+use Rattle.gix_odb_shown.specs.Kept.{IsIn}
 use Rattle.gix_odb_shown.proofs.ListLemmas.{in_filter_map}
 
 -- ---- what a directory says of a name in it

@@ -1,5 +1,5 @@
 -- The files that a tree shows in a pack directory, as what its paths show.
-use Rattle.std.proofs.Common.{◌≡◌, ◌⊎◌, inl, inr, ℕ, true, List, [], ◌∷◌, ◌++◌, Option, Some, None, Result, Ok, Err, refl, sym, ap, ◌∙◌, subst}
+use Rattle.std.proofs.Common.{◌≡◌, inl, inr, ℕ, true, List, [], ◌∷◌, ◌++◌, Option, Some, None, Result, Ok, Err, refl, sym, ap, ◌∙◌, subst}
 use Rattle.std.specs.Ordering.{eq_by_cmp}
 use Rattle.std.specs.FinSet as set
 use Rattle.odb_base.specs.Path.{Name, Path, last_name, path_cmp}
@@ -8,11 +8,11 @@ use Rattle.odb_nodes.specs.Tree.{Tree}
 use Rattle.odb_nodes.specs.Tree.Follow.{Refusal, read_of}
 use Rattle.odb_nodes.proofs.TreeLemmas.{same_path, own_path}
 use Rattle.gix_odb_shown.specs.Watched.{Shows, counted, named_kind, pack_directory, watched_kind}
-use Rattle.gix_odb_shown.specs.Files.{AreFilesIn, AreFilesOf, Reveals, file_at, file_read}
-use Rattle.gix_odb_shown.specs.Ways.{IsIn}
+use Rattle.gix_odb_shown.specs.Files.{AreFilesIn, file_at, file_read}
+use Rattle.gix_odb_shown.specs.Kept.{IsIn}
 use Rattle.gix_odb_shown.specs.declared.watched.WatchedKind.{WatchedKind}
 use Rattle.gix_odb_shown.specs.declared.shown_file.ShownFile.{ShownFile}
-use Rattle.gix_odb_shown.proofs.ListLemmas.{in_either, in_flat_map, in_left, in_right, of_flat_map, one_passes, passes_one}
+use Rattle.gix_odb_shown.proofs.ListLemmas.{in_flat_map, of_flat_map, one_passes, passes_one}
 use Rattle.gix_odb_shown.proofs.NameLemmas.{last_name-push}
 use Rattle.gix_odb_shown.proofs.EntryLemmas.{read_has_name}
 
@@ -66,7 +66,7 @@ shown_in folder tree files a path time bytes s =
         a.watched.whole s.name s.kind s.is_watched
         (read_has_name tree s.name (pack_directory folder) (bytes, s.at) (ap (read_of tree) (sym s.path_is) ∙ s.reads))
 
--- ---- the files of several folders
+-- ---- a folder among others
 
 pub among_keys : (keys : List Path) (folder : Path) → IsIn keys folder → set.contains (set.from_list {R = path_cmp} keys) folder ≡ true
 among_keys keys folder one = set.contains-from_list path_order keys folder ∙ passes_one (eq_by_cmp path_cmp folder) keys folder one (own_path folder)
@@ -75,40 +75,3 @@ pub keys_among : (keys : List Path) (folder : Path) → set.contains (set.from_l
 keys_among keys folder among =
     let o = one_passes (eq_by_cmp path_cmp folder) keys (sym (set.contains-from_list path_order keys folder) ∙ among) in
     subst (IsIn keys) (sym (same_path folder o.0 o.2)) o.1
-
--- all that they show is among all that they show, whatever they showed before
-pub all_revealed : (keys : List Path) (before after : Tree) (files : List ShownFile) → AreFilesOf after keys files → Reveals (set.from_list keys) before after files
-all_revealed keys before after files a = record {
-  shown = λ file one. let s = a.shown file one in record { folder = s.0; among = among_keys keys s.0 s.1; shows = s.2 };
-  whole = λ path time bytes s. inr (a.whole s.folder (keys_among keys s.folder s.among) path time bytes s.shows);
-}
-
--- The files so far, where some of the folders are left.
-pub record AreFilesSoFar (tree : Tree) (keys left : List Path) (files : List ShownFile) : Type 0 where
-  pub shown : (file : ShownFile) → IsIn files file → (folder : Path) × IsIn keys folder × Shows folder tree file.key.0 file.key.1 file.bytes
-  pub keyed : (folder : Path) → IsIn left folder → IsIn keys folder
-  pub whole : (folder : Path) → IsIn keys folder → IsIn left folder ⊎ ((path : Path) (time : ℕ) (bytes : List ℕ) → Shows folder tree path time bytes
-      → IsIn files (record { key = (path, time); bytes = bytes }))
-
-files_with : (tree : Tree) (keys : List Path) (folder : Path) (left : List Path) (files more : List ShownFile) → AreFilesSoFar tree keys (folder ∷ left) files
-    → AreFilesIn tree folder more → AreFilesSoFar tree keys left (files ++ more)
-files_with tree keys folder left files more so a = record {
-  shown = λ file one. elim (in_either files more file one) [
-    | inl before ↦ so.shown file before
-    | inr this ↦ (folder, so.keyed folder (inl refl), in_shows folder tree more a file this)
-  ];
-  keyed = λ other one. so.keyed other (inr one);
-  whole = λ other one. elim (so.whole other one) [
-    | inl (inl same) ↦ inr (λ path time bytes s. in_right files more (record { key = (path, time); bytes = bytes })
-        (shown_in folder tree more a path time bytes (subst (λ (f : Path). Shows f tree path time bytes) (sym same) s)))
-    | inl (inr later) ↦ inl later
-    | inr before ↦ inr (λ path time bytes s. in_left files more (record { key = (path, time); bytes = bytes }) (before path time bytes s))
-  ];
-}
-
--- and those of one folder more
-pub files_next : (tree : Tree) (keys : List Path) (folder : Path) (before left : List Path) (files more all : List ShownFile) → AreFilesSoFar tree keys before files
-    → before ≡ folder ∷ left → AreFilesIn tree folder more → all ≡ files ++ more → AreFilesSoFar tree keys left all
-files_next tree keys folder before left files more all so first a are =
-    subst (AreFilesSoFar tree keys left) (sym are)
-    (files_with tree keys folder left files more (subst (λ (l : List Path). AreFilesSoFar tree keys l files) first so) a)

@@ -1,13 +1,13 @@
 -- When a tree shows a second content, and what is kept after a tree was noted.
-use Rattle.std.proofs.Common.{◌≡◌, ◌≢◌, ◌⊎◌, ◌↔◌, ◌||◌, inl, inr, ℕ, Bool, true, false, List, [], ◌∷◌, ◌++◌, codes, Option, Some, None, IsSome, is_some, Result, Ok, Err, OnOk, refl, sym, ap, ◌∙◌, subst}
-use Rattle.std.specs.List.{list_any}
+use Rattle.std.proofs.Common.{◌≡◌, ◌≢◌, ◌⊎◌, ◌↔◌, ◌||◌, ◌&&◌, not, inl, inr, ℕ, Bool, true, false, List, [], ◌∷◌, ◌++◌, codes, Option, Some, None, IsSome, is_some, Result, Ok, refl, sym, ap, ◌∙◌, subst}
+use Rattle.std.specs.List.{list_any, starts_with}
 use Rattle.std.specs.Ordering.{eq_by_cmp}
 use Rattle.std.specs.FinMap as finite
 use Rattle.std.specs.FinSet as set
 use Rattle.std.specs.BTreeSet as tree_set
 use Rattle.std.specs.BTreeSet.{BTreeSet}
 use Rattle.std.specs.Cmp.Lexicographic.{bytes_decides}
-use Rattle.std.proofs.lemmas.Bool.{false≢true, or_right, or_cases, cases_Bool}
+use Rattle.std.proofs.lemmas.Bool.{false≢true, or_left, or_right, or_cases, cases_Bool}
 use Rattle.odb_base.specs.Path.{Name, Path, path_cmp, same_name}
 use Rattle.odb_base.specs.PathLaws.{one_place, path_order, parent_of-push}
 use Rattle.odb_base.specs.Path.{parent_of}
@@ -15,23 +15,19 @@ use Rattle.odb_nodes.specs.Tree.{IsTree, Tree}
 use Rattle.odb_nodes.specs.Tree.Follow.{Refusal}
 use Rattle.odb_nodes.proofs.TreeLemmas.{same_path, own_path}
 use Rattle.gix_odb_shown.specs.Watched.{Shows, pack_directory}
-use Rattle.gix_odb_shown.specs.Led.{AreLed, Learns}
-use Rattle.gix_odb_shown.specs.Stale.{AreStale, Forgets}
-use Rattle.gix_odb_shown.specs.Ways.{IsIn, Knows, Ways}
-use Rattle.gix_odb_shown.specs.declared.led.NewWays.{NewWays}
-use Rattle.gix_odb_shown.specs.Kept.{Kept, Contents, Folders, key_cmp, ShowsInOne, IsSecond, Notes, LiesInOne, Fits, nothing_kept}
+use Rattle.gix_odb_shown.specs.Kept.{Kept, Contents, Folders, IsIn, Knows, key_cmp, ShowsInOne, IsSecond, Notes, LiesInOne, Fits, nothing_kept}
 use Rattle.gix_odb_shown.specs.Files.{AreFilesIn, Reveals, differs, with_files}
+use Rattle.gix_odb_shown.specs.Revealed.{IsRevealed, Learns, LooksAt, Relinks, is_in}
+use Rattle.gix_odb_shown.specs.declared.revealed.Revealed.{Revealed}
 use Rattle.gix_odb_shown.specs.declared.shown_file.ShownFile.{ShownFile}
-use Rattle.gix_odb_shown.proofs.ListLemmas.{one_passes, passes_one}
+use Rattle.gix_odb_shown.proofs.ListLemmas.{one_is_in, one_passes, passes_one}
 use Rattle.gix_odb_shown.proofs.FilesLemmas.{in_shows, shown_in}
-use Rattle.gix_odb_shown.proofs.LedLemmas.{learnt_knows, led_knows}
-use Rattle.gix_odb_shown.proofs.PlacesLemmas.{inserted_keys}
-use Rattle.gix_odb_shown.proofs.StaleLemmas.{forgotten_knows}
+use Rattle.gix_odb_shown.proofs.FolderLemmas.{inserted_keys, is_in_set}
 use Rattle.gix_odb_shown.proofs.ContentsLemmas.{all_stay, all_there, all_only, IsOneOf, differs_from, from_other}
 
 -- ---- what lies in a folder lies in no other
 
-pack_apart : (a b : Path) → pack_directory a ≡ pack_directory b → a ≡ b
+pub pack_apart : (a b : Path) → pack_directory a ≡ pack_directory b → a ≡ b
 pack_apart a b same =
     let both : Some a ≡ Some b = sym (parent_of-push a (codes "pack")) ∙ ap parent_of same ∙ parent_of-push b (codes "pack") in cc
 
@@ -69,12 +65,12 @@ module _ (kept : Kept) (tree : Tree) (files : List ShownFile)
 
 -- ---- what is kept after a tree was noted
 
-module _ (old : Kept) (folders : Folders) (tree : Tree) (files : List ShownFile) (ways : Ways)
+module _ (old : Kept) (folders : Folders) (tree : Tree) (files : List ShownFile) (linked : Folders)
     (show : (file : ShownFile) → IsIn files file → ShowsInOne folders tree file.key.0 file.key.1 file.bytes)
     (shown : (path : Path) (time : ℕ) (bytes : List ℕ) → ShowsInOne folders tree path time bytes
     → (finite.get old.contents (path, time) ≡ Some bytes) ⊎ IsIn files (record { key = (path, time); bytes = bytes })) where
   abbrev noted : Kept
-  noted = record { folders = folders; contents = with_files old.contents files; ways = ways }
+  noted = record { folders = folders; linked = linked; contents = with_files old.contents files }
 
   pub notes_files : Notes old folders tree noted
   notes_files = record {
@@ -107,8 +103,8 @@ module _ (kept : Kept) (before after : Tree) (files : List ShownFile) (fits : Fi
         | inr one ↦ one
       ])
 
-  pub notes_after : (ways : Ways) → Notes kept kept.folders after (record { folders = kept.folders; contents = with_files kept.contents files; ways = ways })
-  notes_after ways = notes_files kept kept.folders after files ways r.shown (λ path time bytes shows.
+  pub notes_after : (linked : Folders) → Notes kept kept.folders after (record { folders = kept.folders; linked = linked; contents = with_files kept.contents files })
+  notes_after linked = notes_files kept kept.folders after files linked r.shown (λ path time bytes shows.
       elim (r.whole path time bytes shows) [
         | inl there ↦ inl (fits.whole path time bytes there)
         | inr one ↦ inr one
@@ -122,7 +118,7 @@ lies_by folders tree path time bytes s = record { folder = s.folder; among = s.a
 module _ (old : Kept) (folders : Folders) (tree : Tree) (new : Kept) (n : Notes old folders tree new)
     (agree : (path : Path) (time : ℕ) (first bytes : List ℕ) → finite.get old.contents (path, time) ≡ Some first → ShowsInOne folders tree path time bytes → first ≡ bytes)
     (lies : (path : Path) (time : ℕ) (bytes : List ℕ) → finite.get old.contents (path, time) ≡ Some bytes → LiesInOne folders path)
-    (knows : (folder : Path) → set.contains folders folder ≡ true → Knows new.ways tree folder) (is_tree : IsTree tree) where
+    (knows : (folder : Path) → set.contains folders folder ≡ true → Knows new.linked tree folder) (is_tree : IsTree tree) where
   some_kept : (o : Option (List ℕ)) → IsSome o → (bytes : List ℕ) × (o ≡ Some bytes)
   some_kept None is = absurd (false≢true is)
   some_kept (Some bytes) is = (bytes, refl)
@@ -165,7 +161,7 @@ first_agrees kept tree first_only path time first bytes known shows = elim (case
 ]
 
 pub fits_after : (old : Kept) (before after : Tree) (new : Kept) → Fits old before → (IsSecond old after → ⊥) → Notes old old.folders after new
-    → ((folder : Path) → set.contains old.folders folder ≡ true → Knows new.ways after folder) → IsTree after → Fits new after
+    → ((folder : Path) → set.contains old.folders folder ≡ true → Knows new.linked after folder) → IsTree after → Fits new after
 fits_after old before after new fits first_only n knows is_tree = fits_noted old old.folders after new n (first_agrees old after first_only) fits.only knows is_tree
 
 -- ---- a folder more
@@ -203,8 +199,8 @@ module _ (old : Kept) (folder : Path) (tree : Tree) (fits : Fits old tree) where
       | inr among ↦ inl (fits.whole path time bytes (record { folder = s.folder; among = among; shows = s.shows }))
     ]
 
-    pub notes_folder : (ways : Ways) → Notes old more tree (record { folders = more; contents = with_files old.contents files; ways = ways })
-    notes_folder ways = notes_files old more tree files ways own_show own_shown
+    pub notes_folder : (linked : Folders) → Notes old more tree (record { folders = more; linked = linked; contents = with_files old.contents files })
+    notes_folder linked = notes_files old more tree files linked own_show own_shown
 
   -- what was kept is of folders that were watched, so it is the same as what they show
   own_agrees : (path : Path) (time : ℕ) (first bytes : List ℕ) → finite.get old.contents (path, time) ≡ Some first → ShowsInOne more tree path time bytes → first ≡ bytes
@@ -219,13 +215,49 @@ module _ (old : Kept) (folder : Path) (tree : Tree) (fits : Fits old tree) where
       let l = fits.only path time bytes known in record { folder = l.folder; among = among_more old.folders folder l.folder l.among; name = l.name; path_is = l.path_is }
 
   -- what was known of those that are watched already is known beside what is looked up of it
-  pub knows_more : (new : Ways) (found : NewWays) → AreLed tree (folder ∷ []) found → Learns old.ways found new → (other : Path) → set.contains more other ≡ true → Knows new tree other
-  knows_more new found led learns other among = elim (among_either old.folders folder other among) [
-    | inl same ↦ led_knows tree (folder ∷ []) found led other (inl (sym same)) old.ways new learns
-    | inr before ↦ learnt_knows old.ways new found tree other learns (fits.knows other before)
-  ]
+  module _ (nothing revealed : Revealed) (none : (nothing.linked.items ≡ []) × (nothing.plain.items ≡ [])) (looks : LooksAt tree folder nothing revealed)
+      (new : Folders) (relinks : Relinks old.linked revealed new) where
+    own_linked : revealed.linked.items ≡ folder ∷ [] → set.contains new folder ≡ true
+    own_linked is =
+        relinks folder
+        ∙ or_left (is_in revealed.linked.items folder) (not (is_in revealed.plain.items folder) && set.contains old.linked folder)
+        (one_is_in revealed.linked.items folder (subst (λ (l : List Path). IsIn l folder) (sym is) (inl refl)))
 
-  pub fits_watched : (new : Kept) → Notes old more tree new → ((other : Path) → set.contains more other ≡ true → Knows new.ways tree other) → Fits new tree
+    own_knows : Knows new tree folder
+    own_knows name kind watched place on = elim looks.sorted [
+      | inl l ↦ or_left (set.contains new folder) (starts_with same_name (pack_directory folder ++ name ∷ []) place) (own_linked (l.linked ∙ ap (λ (i : List Path). i ++ folder ∷ []) none.0))
+      | inr p ↦ or_right (set.contains new folder) (starts_with same_name (pack_directory folder ++ name ∷ []) place) (p.is_plain name kind watched place on)
+    ]
+
+    -- another folder stays as it was
+    stays : (other : Path) → is_in (folder ∷ []) other ≡ false → set.contains new other ≡ set.contains old.linked other
+    stays other apart =
+        let kept : (is_in revealed.linked.items other || (not (is_in revealed.plain.items other) && set.contains old.linked other)) ≡ set.contains old.linked other =
+        elim looks.sorted [
+          | inl l ↦
+              ap (λ (i : List Path). is_in i other || (not (is_in revealed.plain.items other) && set.contains old.linked other)) (l.linked ∙ ap (λ (i : List Path). i ++ folder ∷ []) none.0)
+              ∙ ap (λ (i : List Path). is_in (folder ∷ []) other || (not (is_in i other) && set.contains old.linked other)) (l.plain ∙ none.1)
+              ∙ ap (λ b. b || set.contains old.linked other) apart
+          | inr p ↦
+              ap (λ (i : List Path). is_in i other || (not (is_in revealed.plain.items other) && set.contains old.linked other)) (p.linked ∙ none.0)
+              ∙ ap (λ (i : List Path). not (is_in i other) && set.contains old.linked other) (p.plain ∙ ap (λ (i : List Path). i ++ folder ∷ []) none.1)
+              ∙ ap (λ b. not b && set.contains old.linked other) apart
+        ] in
+        relinks other ∙ kept
+
+    pub knows_more : (other : Path) → set.contains more other ≡ true → Knows new tree other
+    knows_more other among = by (eq_by_cmp path_cmp other folder) refl
+      where
+        by : (b : Bool) → eq_by_cmp path_cmp other folder ≡ b → Knows new tree other
+        by true tied = subst (Knows new tree) (sym (same_path other folder tied)) own_knows
+        by false apart =
+            let before : set.contains old.folders other ≡ true =
+            ap (λ b. b || set.contains old.folders other) (sym apart) ∙ sym (set.contains-insert path_order old.folders folder other) ∙ among in
+            λ name kind watched place on.
+            ap (λ b. b || starts_with same_name (pack_directory other ++ name ∷ []) place) (stays other (ap (λ b. b || false) apart))
+            ∙ fits.knows other before name kind watched place on
+
+  pub fits_watched : (new : Kept) → Notes old more tree new → ((other : Path) → set.contains more other ≡ true → Knows new.linked tree other) → Fits new tree
   fits_watched new n knows = fits_noted old more tree new n own_agrees own_lies knows fits.is_tree
 
   -- a folder that is watched already
@@ -267,60 +299,60 @@ second_answered kept before after files fits r answer is =
     let second = second_after kept before after files fits r in (λ yes. second.0 (sym is ∙ yes), λ s. is ∙ second.1 s)
 
 -- what is kept, of equal parts
-kept_parts : (a b : Folders) (c d : Contents) (ways : Ways) → a ≡ b → c ≡ d
-    → ◌≡◌ {A = Kept} (record { folders = a; contents = c; ways = ways }) (record { folders = b; contents = d; ways = ways })
-kept_parts a b c d ways f g = λ i. record { folders = f i; contents = g i; ways = ways }
+kept_parts : (told : Kept) (folders : Folders) (contents : Contents) → told.folders ≡ folders → told.contents ≡ contents
+    → ◌≡◌ {A = Kept} (record { folders = folders; linked = told.linked; contents = contents }) told
+kept_parts told folders contents f g = λ i. record { folders = sym f i; linked = told.linked; contents = sym g i }
 
-module _ (kept : Kept) (before after : Tree) (fits : Fits kept before) (files : List ShownFile) (r : Reveals kept.folders before after files) (folders : Folders)
-    (own contents : Contents) (was ways : Ways) (view : ◌≡◌ {A = Kept} (record { folders = folders; contents = own; ways = was }) kept) where
-  abbrev told : Kept
-  told = record { folders = folders; contents = contents; ways = ways }
+-- what is found out is kept
+pub learnt : (kept : Kept) (folders : Folders) (was mid now : BTreeSet Path) (own contents : Contents) (revealed : Revealed)
+    → ◌≡◌ {A = Kept} (record { folders = folders; linked = set.from_list was.keys; contents = own }) kept
+    → ((folder : Path) → is_in mid.keys folder ≡ (not (is_in revealed.plain.items folder) && is_in was.keys folder))
+    → ((folder : Path) → is_in now.keys folder ≡ (is_in revealed.linked.items folder || is_in mid.keys folder)) → contents ≡ with_files own revealed.files.items
+    → Learns kept revealed (record { folders = folders; linked = set.from_list now.keys; contents = contents })
+learnt kept folders was mid now own contents revealed view removed added is = record {
+  folders = ap (λ (k : Kept). k.folders) view;
+  linked = λ folder.
+      is_in_set now.keys folder ∙ added folder
+      ∙ ap (λ b. is_in revealed.linked.items folder || b)
+      (removed folder
+      ∙ ap (λ b. not (is_in revealed.plain.items folder) && b) (sym (is_in_set was.keys folder) ∙ ap (λ (k : Kept). set.contains k.linked folder) view));
+  contents = is ∙ ap (λ (k : Kept). with_files k.contents revealed.files.items) view;
+}
 
-  pub keep_notes : contents ≡ with_files own files → Notes kept kept.folders after told
-  keep_notes is =
-      subst (λ (k : Kept). Notes kept kept.folders after k)
-      (kept_parts kept.folders folders (with_files kept.contents files) contents ways (sym (ap (λ (k : Kept). k.folders) view))
-      (ap (λ (k : Kept). with_files k.contents files) (sym view) ∙ sym is))
-      (notes_after kept before after files fits r ways)
+module _ (kept : Kept) (before after : Tree) (fits : Fits kept before) (revealed : Revealed) (r : IsRevealed kept.folders before after revealed) (told : Kept)
+    (learns : Learns kept revealed told) where
+  pub keep_notes : Notes kept kept.folders after told
+  keep_notes =
+      subst (Notes kept kept.folders after) (kept_parts told kept.folders (with_files kept.contents revealed.files.items) learns.folders learns.contents)
+      (notes_after kept before after revealed.files.items fits r.reveals told.linked)
 
-  pub keep_fits : (IsSecond kept after → ⊥) → IsTree after → (stale : List (Path × Path)) → AreStale before stale → (mid : Ways) → Forgets was stale mid → (found : NewWays) (learnt : Ways) → Learns mid found learnt
-      → (left : List (Path × Path)) → AreStale after left → Forgets learnt left ways
-      → ((folder : Path) → set.contains kept.folders folder ≡ true → (old new : Ways) → Knows old before folder → Learns old found new → Knows new after folder)
-      → contents ≡ with_files own files → Fits told after
-  keep_fits first_only is_tree stale are_stale mid forgets found learnt learns left are_left leaves knows is = fits_after kept before after told fits first_only (keep_notes is)
-      (λ folder among.
-      forgotten_knows learnt ways left after folder leaves are_left
-      (knows folder among mid learnt
-      (forgotten_knows kept.ways mid stale before folder (subst (λ (w : Ways). Forgets w stale mid) (ap (λ (k : Kept). k.ways) view) forgets) are_stale (fits.knows folder among)) learns)) is_tree
+  pub keep_fits : (IsSecond kept after → ⊥) → Fits told after
+  keep_fits first_only =
+      fits_after kept before after told fits first_only keep_notes (λ folder among. r.knows folder among kept.linked told.linked (fits.knows folder among) learns.linked) r.is_tree
 
-module _ (kept : Kept) (tree : Tree) (fits : Fits kept tree) (folder : Path) (old : BTreeSet Path) (own : Contents) (was : Ways)
-    (view : ◌≡◌ {A = Kept} (record { folders = set.from_list old.keys; contents = own; ways = was }) kept) where
+module _ (kept : Kept) (tree : Tree) (fits : Fits kept tree) (folder : Path) (old : BTreeSet Path) (linked : Folders) (contents : Contents)
+    (view : ◌≡◌ {A = Kept} (record { folders = set.from_list old.keys; linked = linked; contents = contents }) kept) where
   pub watched_again : list_any (eq_by_cmp path_cmp folder) old.keys ≡ true → Notes kept (set.insert kept.folders folder) tree kept
   watched_again there =
       notes_again kept folder tree fits
       (sym (ap (λ (k : Kept). set.contains k.folders folder) view) ∙ set.contains-from_list path_order old.keys folder ∙ there)
 
-  module _ (new : BTreeSet Path) (added : tree_set.Updates path_cmp old new folder true) (contents : Contents) (ways : Ways) where
-    abbrev watched : Kept
-    watched = record { folders = set.from_list new.keys; contents = contents; ways = ways }
+  module _ (new : BTreeSet Path) (added : tree_set.Updates path_cmp old new folder true) (nothing revealed : Revealed) (files : nothing.files.items ≡ [])
+      (no_linked : nothing.linked.items ≡ []) (no_plain : nothing.plain.items ≡ []) (looks : LooksAt tree folder nothing revealed) (told : Kept)
+      (learns : Learns (record { folders = set.from_list new.keys; linked = linked; contents = contents }) revealed told) where
+    its_files : revealed.files.items ≡ looks.files
+    its_files = looks.added ∙ ap (λ (l : List ShownFile). l ++ looks.files) files
 
-    module _ (files : List ShownFile) (f : AreFilesIn tree folder files) where
-      watched_notes : contents ≡ with_files own files → Notes kept (set.insert kept.folders folder) tree watched
-      watched_notes is =
-          subst (λ (k : Kept). Notes kept (set.insert kept.folders folder) tree k)
-          (kept_parts (set.insert kept.folders folder) (set.from_list new.keys) (with_files kept.contents files) contents ways
-          (ap (λ (k : Kept). set.insert k.folders folder) (sym view) ∙ sym (inserted_keys old new folder added))
-          (ap (λ (k : Kept). with_files k.contents files) (sym view) ∙ sym is))
-          (notes_folder kept folder tree fits files f ways)
+    pub watch_notes : Notes kept (set.insert kept.folders folder) tree told
+    watch_notes =
+        subst (Notes kept (set.insert kept.folders folder) tree)
+        (kept_parts told (set.insert kept.folders folder) (with_files kept.contents looks.files)
+        (learns.folders ∙ inserted_keys old new folder added ∙ ap (λ (k : Kept). set.insert k.folders folder) view)
+        (learns.contents ∙ ap (λ (k : Kept). with_files k.contents revealed.files.items) view ∙ ap (with_files kept.contents) its_files))
+        (notes_folder kept folder tree fits looks.files looks.are_in told.linked)
 
-      pub watch_notes : {A E : Type 0} (answer : Result A E) → OnOk answer (contents ≡ with_files own files)
-          → OnOk answer (Notes kept (set.insert kept.folders folder) tree watched)
-      watch_notes (Ok done) is = watched_notes is
-      watch_notes (Err error) is = tt
-
-      pub watch_fits : {A E : Type 0} (found : NewWays) → AreLed tree (folder ∷ []) found → Learns was found ways → (answer : Result A E)
-          → OnOk answer (contents ≡ with_files own files) → OnOk answer (Fits watched tree)
-      watch_fits found led learns (Ok done) is =
-          fits_watched kept folder tree fits watched (watched_notes is)
-          (knows_more kept folder tree fits ways found led (subst (λ (w : Ways). Learns w found ways) (ap (λ (k : Kept). k.ways) view) learns))
-      watch_fits found led learns (Err error) is = tt
+    pub watch_fits : Fits told tree
+    watch_fits =
+        fits_watched kept folder tree fits told watch_notes
+        (knows_more kept folder tree fits nothing revealed (no_linked, no_plain) looks told.linked
+        (subst (λ (k : Kept). Relinks k.linked revealed told.linked) view learns.linked))

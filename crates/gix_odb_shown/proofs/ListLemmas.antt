@@ -1,9 +1,13 @@
 -- Elements of lists, by cases.
-use Rattle.std.proofs.Common.{◌≡◌, ◌⊎◌, inl, inr, Bool, true, List, [], ◌∷◌, ◌++◌, map, Option, Some, None, refl, sym, ap, ◌∙◌, subst}
-use Rattle.std.specs.List.{list_all, list_any, flat_map, filter_map, cons_option}
-use Rattle.gix_odb_shown.specs.Ways.{IsIn}
-use Rattle.std.proofs.lemmas.Bool.{and_parts, false≢true, or_left, or_right, or_cases}
+use Rattle.std.proofs.Common.{◌≡◌, ◌⊎◌, inl, inr, Bool, true, List, [], ◌∷◌, ◌++◌, Option, Some, None, sym, ap, ◌∙◌, subst, refl}
+use Rattle.std.specs.List.{list_any, flat_map, filter_map, cons_option}
+use Rattle.std.proofs.lemmas.Bool.{false≢true, or_left, or_right, or_cases}
 use Rattle.std.proofs.lemmas.List.Concat.{flat_map-cons}
+use Rattle.std.specs.Ordering.{eq_by_cmp}
+use Rattle.odb_base.specs.Path.{Path, path_cmp}
+use Rattle.odb_nodes.proofs.TreeLemmas.{own_path, same_path}
+use Rattle.gix_odb_shown.specs.Kept.{IsIn}
+use Rattle.gix_odb_shown.specs.Revealed.{is_in}
 
 pub in_left : {X : Type 0} (xs ys : List X) (x : X) → IsIn xs x → IsIn (xs ++ ys) x
 in_left [] ys x one = absurd one
@@ -57,19 +61,32 @@ passes_one test [] x one passes = absurd one
 passes_one test (y ∷ xs) x (inl same) passes = or_left (test y) (list_any test xs) (ap test same ∙ passes)
 passes_one test (y ∷ xs) x (inr more) passes = or_right (test y) (list_any test xs) (passes_one test xs x more passes)
 
--- elements that are turned into others
-pub in_map : {X Y : Type 0} (f : X → Y) (xs : List X) (x : X) → IsIn xs x → IsIn (map f xs) (f x)
-in_map f [] x one = absurd one
-in_map f (y ∷ xs) x (inl same) = inl (ap f same)
-in_map f (y ∷ xs) x (inr more) = inr (in_map f xs x more)
+-- whether a path is one of these
+pub is_in_one : (paths : List Path) (path : Path) → is_in paths path ≡ true → IsIn paths path
+is_in_one paths path is = let o = one_passes (eq_by_cmp path_cmp path) paths is in subst (IsIn paths) (sym (same_path path o.0 o.2)) o.1
 
-pub of_map : {X Y : Type 0} (f : X → Y) (xs : List X) (y : Y) → IsIn (map f xs) y → (x : X) × IsIn xs x × (f x ≡ y)
-of_map f [] y one = absurd one
-of_map f (x ∷ xs) y (inl same) = (x, inl refl, same)
-of_map f (x ∷ xs) y (inr more) = let o = of_map f xs y more in (o.0, inr o.1, o.2)
+pub one_is_in : (paths : List Path) (path : Path) → IsIn paths path → is_in paths path ≡ true
+one_is_in paths path one = passes_one (eq_by_cmp path_cmp path) paths path one (own_path path)
 
--- a test that each passes, one passes
-pub all_in : {X : Type 0} (test : X → Bool) (xs : List X) (x : X) → IsIn xs x → list_all test xs ≡ true → test x ≡ true
-all_in test [] x one all = absurd one
-all_in test (y ∷ xs) x (inl same) all = ap test (sym same) ∙ (and_parts (test y) (list_all test xs) all).0
-all_in test (y ∷ xs) x (inr more) all = all_in test xs x more (and_parts (test y) (list_all test xs) all).1
+-- an element of a list with one more is that or was one before
+pub in_pushed : {X : Type 0} (xs ys : List X) (y x : X) → ys ≡ xs ++ y ∷ [] → IsIn ys x → IsIn xs x ⊎ (y ≡ x)
+in_pushed {X = X} xs ys y x is one = elim (in_either xs (y ∷ []) x (subst (λ (l : List X). IsIn l x) is one)) [
+  | inl before ↦ inl before
+  | inr last ↦ elim last [ inl same ↦ inr same | inr none ↦ absurd none ]
+]
+
+pub old_pushed : {X : Type 0} (xs ys : List X) (y x : X) → ys ≡ xs ++ y ∷ [] → IsIn xs x → IsIn ys x
+old_pushed {X = X} xs ys y x is one = subst (λ (l : List X). IsIn l x) (sym is) (in_left xs (y ∷ []) x one)
+
+pub last_pushed : {X : Type 0} (xs ys : List X) (y : X) → ys ≡ xs ++ y ∷ [] → IsIn ys y
+last_pushed {X = X} xs ys y is = subst (λ (l : List X). IsIn l y) (sym is) (in_right xs (y ∷ []) y (inl refl))
+
+-- the same of a list with more
+pub in_more : {X : Type 0} (xs more ys : List X) (x : X) → ys ≡ xs ++ more → IsIn ys x → IsIn xs x ⊎ IsIn more x
+in_more {X = X} xs more ys x is one = in_either xs more x (subst (λ (l : List X). IsIn l x) is one)
+
+pub old_more : {X : Type 0} (xs more ys : List X) (x : X) → ys ≡ xs ++ more → IsIn xs x → IsIn ys x
+old_more {X = X} xs more ys x is one = subst (λ (l : List X). IsIn l x) (sym is) (in_left xs more x one)
+
+pub new_more : {X : Type 0} (xs more ys : List X) (x : X) → ys ≡ xs ++ more → IsIn more x → IsIn ys x
+new_more {X = X} xs more ys x is one = subst (λ (l : List X). IsIn l x) (sym is) (in_right xs more x one)

@@ -3,28 +3,28 @@ use Rattle.std.proofs.Common.{◌≡◌, ◌≢◌, inl, inr, ℕ, true, false, 
 use lib.Pointwise.{pointwise_decides}
 use Rattle.std.proofs.lemmas.Bool.{and_parts, false≢true, false_from_ne_true}
 use Rattle.std.specs.Cmp.Lexicographic.{bytes_decides}
-use Rattle.odb_base.specs.Path.{Path}
+use Rattle.odb_base.specs.Path.{Name, Path}
 use Rattle.odb_base.specs.PathLaws.{goes_beyond}
 use Rattle.odb_nodes.specs.Tree.{IsTree, Tree, node_at}
 use Rattle.odb_nodes.specs.Tree.Follow.{Pass, Reached, Onward, Missing, Blocked, at_last, beyond, ending, file_of, pass, past}
-use Rattle.odb_nodes.specs.Tree.Change.{changed, is_possible_in, lies_in_directory, link_node, link_over, put_node, put_over, with_moved}
+use Rattle.odb_nodes.specs.Tree.Change.{changed, is_possible_in, least_free, lies_in_directory, link_node, link_over, put_node, put_over, with_moved}
 use Rattle.odb_nodes.specs.Tree.Write.{changed_by}
 use Rattle.odb_nodes.specs.declared.change.Change.{Change}
 use Rattle.odb_nodes.specs.declared.change.Change.TheVariants.{PutFile, MakeDir, PutLink, Rename, Append, Remove, SetTime}
 use Rattle.odb_nodes.specs.declared.node.Content.{Content}
 use Rattle.odb_nodes.specs.declared.node.Content.TheVariants.{File, Dir, Link}
 use Rattle.odb_nodes.specs.declared.node.Node.{Node}
-use Rattle.odb_nodes.proofs.TreeLemmas.{node_at-put, other_path}
-use Rattle.odb_nodes.proofs.TreeLemmas.Change.{lies_in-push, made-put_file, made-put_link, split_last}
+use Rattle.odb_nodes.proofs.TreeLemmas.{cases_path, node_at-put, other_path}
+use Rattle.odb_nodes.proofs.TreeLemmas.Change.{lies_in-push, made-make_dir, made-put_file, made-put_link, split_last}
 use Rattle.odb_nodes.proofs.TreeLemmas.Changed.{IsTree-changed, made-rename}
 use Rattle.odb_nodes.proofs.TreeLemmas.Follow.{IsDir-from, pass_blocked, pass_from, pass_past, pass_to_other}
 use Rattle.odb_nodes.proofs.TreeLemmas.Moved.{begins, begins-append, begins-more, begins-own, moved_away, moved_below, moved_other, moved_target}
-use Rattle.odb_nodes.proofs.TreeLemmas.MovedTree.{CanMove, goes_on, nothing_below, shorter_front}
-use Rattle.odb_nodes.proofs.TreeLemmas.Possible.{below_root-remove}
+use Rattle.odb_nodes.proofs.TreeLemmas.MovedTree.{CanMove, goes_on, none_below, nothing_below, shorter_front}
+use Rattle.odb_nodes.proofs.TreeLemmas.Possible.{below_root-remove, can_make_dir}
 use Rattle.odb_nodes.proofs.MovedNumbersLemmas.{can_rename}
 use Rattle.odb_nodes.proofs.WayLaws.{link_leads_on}
 use Rattle.odb_nodes.proofs.WriteLaws.{removed_away, untouched}
-use Rattle.gix_odb_shown.specs.Sight.{CanSee, GoesAs, IsArrival, IsPut, IsSight, arrival_of, file_arrival, gives_ways, is_place, leads_anew, link_arrival, moved_arrival, removed_arrival}
+use Rattle.gix_odb_shown.specs.Sight.{CanSee, GoesAs, IsArrival, IsEmpty, IsPut, IsSight, arrival_of, empty_arrival, file_arrival, is_place, link_arrival, moved_arrival}
 use Rattle.gix_odb_shown.specs.declared.sight.Arrival.TheVariants.{Like, LedTo, AtFile, Nowhere}
 use Rattle.gix_odb_shown.proofs.WholeLemmas.{same_pass}
 
@@ -53,6 +53,13 @@ past_goes (Link target) names f g goes = refl
 beyond_goes : (o : Option Node) (names : Path) (f g : Pass) → GoesAs f g → GoesAs (beyond o names f) (beyond o names g)
 beyond_goes None names f g goes = refl
 beyond_goes (Some node) names f g goes = past_goes node.content names f g goes
+
+-- nothing stands where a pass misses or is blocked
+missing_empty : (u : Tree) (p : Pass) → p ≡ Missing → IsEmpty u p
+missing_empty u p is = subst (IsEmpty u) (sym is) tt
+
+blocked_empty : (u : Tree) (p : Pass) → p ≡ Blocked → IsEmpty u p
+blocked_empty u p is = subst (IsEmpty u) (sym is) tt
 
 -- ---- whether a path is a place
 
@@ -121,7 +128,7 @@ module _ (t : Tree) (is_tree : IsTree t) (place : Path) (time : ℕ) (bytes : Li
         | true ↦ λ is. at_file (same_place place path is)
         | false ↦ λ other.
             elim (begins path place) as (λ b. begins path place ≡ b → IsArrival t filed (Some put) path (cond b Nowhere (Like path))) [
-              | true ↦ λ is. inr (behind_file is (λ same. false≢true (sym other ∙ own_place place path same)))
+              | true ↦ λ is. blocked_empty filed (pass filed true [] path) (behind_file is (λ same. false≢true (sym other ∙ own_place place path same)))
               | false ↦ λ apart. apart_goes t filed place path file_others apart
             ] refl
       ] refl
@@ -257,7 +264,7 @@ module _ (t : Tree) (is_tree : IsTree t) (from to : Path) (possible : is_possibl
             (target_goes (drop (length to) path))
         | false ↦ λ other.
             elim (begins path from) as (λ b. begins path from ≡ b → IsArrival t after (Some (Rename from to)) path (cond b Nowhere (Like path))) [
-              | true ↦ λ source. inl (goes_nowhere other source)
+              | true ↦ λ source. missing_empty after (pass after true [] path) (goes_nowhere other source)
               | false ↦ λ apart. off_goes other apart
             ] refl
       ] refl
@@ -293,28 +300,66 @@ module _ (t : Tree) (is_tree : IsTree t) (place : Path) (possible : is_possible_
       (record { name = s.name; names = drop (length place) path; whole = whole; lacks = ap (node_at emptied) (sym s.is) ∙ removed_away t is_tree place }) (stays ∙ d.at)
       ∙ ap (λ (c : Content). past c (s.name ∷ drop (length place) path) Missing) d.content
 
-  removed_so : IsArrival t emptied (Some removal) path (removed_arrival place path)
+  removed_so : IsArrival t emptied (Some removal) path (empty_arrival place path)
   removed_so =
       elim (begins path place) as (λ b. begins path place ≡ b → IsArrival t emptied (Some removal) path (cond b Nowhere (Like path))) [
-        | true ↦ λ is. inl (behind_removed is)
+        | true ↦ λ is. missing_empty emptied (pass emptied true [] path) (behind_removed is)
         | false ↦ λ apart. apart_goes t emptied place path emptied_others apart
+      ] refl
+
+-- ---- a directory is made
+
+module _ (t : Tree) (is_tree : IsTree t) (place : Path) (dev : ℕ) (possible : is_possible_in t (MakeDir place dev) ≡ true) (path : Path) where
+  abbrev making : Change
+  making = MakeDir place dev
+
+  abbrev wider : Tree
+  wider = changed t making
+
+  is_wider : IsTree wider
+  is_wider = IsTree-changed t making is_tree possible
+
+  abbrev dir_node : Node
+  dir_node = record { dev = dev; ino = least_free t; content = Dir }
+
+  dir_stands : node_at wider place ≡ Some dir_node
+  dir_stands = ap (λ (v : Tree). node_at v place) (made-make_dir t place dev) ∙ node_at-put t place dir_node
+
+  wider_others : (q : Path) → q ≢ place → node_at wider q ≡ node_at t q
+  wider_others q apart = untouched t making q (other_path q place apart)
+
+  longer_apart : (name : Name) → place ++ name ∷ [] ≢ place
+  longer_apart name same = false≢true (sym (shorter_front place name) ∙ ap (begins place) same ∙ begins-own place)
+
+  nothing_in : (name : Name) → node_at wider (place ++ name ∷ []) ≡ None
+  nothing_in name = wider_others (place ++ name ∷ []) (longer_apart name) ∙ none_below t is_tree place (can_make_dir t place dev possible).no_directory name []
+
+  at_dir : path ≡ place → IsEmpty wider (pass wider true [] path)
+  at_dir same =
+      subst (IsEmpty wider) (sym (pass_to_other wider is_wider path dir_node (ap (node_at wider) same ∙ dir_stands) true (λ target link. let both : Dir ≡ Link target = link in cc)))
+      (record { directory = refl; bare = λ name. ap (λ (p : Path). node_at wider (p ++ name ∷ [])) same ∙ nothing_in name })
+
+  behind_dir : begins path place ≡ true → path ≢ place → pass wider true [] path ≡ Missing
+  behind_dir is apart =
+      let g = goes_on path place is apart in
+      pass_past wider is_wider true path place dir_node (record { name = g.0; names = g.1; whole = g.2; lacks = nothing_in g.0 }) dir_stands
+
+  made_so : IsArrival t wider (Some making) path (empty_arrival place path)
+  made_so =
+      elim (begins path place) as (λ b. begins path place ≡ b → IsArrival t wider (Some making) path (cond b Nowhere (Like path))) [
+        | true ↦ λ is.
+            elim (cases_path path place) [
+              | inl same ↦ at_dir same
+              | inr apart ↦ missing_empty wider (pass wider true [] path) (behind_dir is apart)
+            ]
+        | false ↦ λ apart. apart_goes t wider place path wider_others apart
       ] refl
 
 -- ---- the law
 
--- a change that may give ways may lead paths elsewhere
-pub giving_leads : (change : Change) → gives_ways change ≡ true → leads_anew change ≡ true
-giving_leads (PutFile place time bytes) gives = refl
-giving_leads (MakeDir place dev) gives = absurd (false≢true gives)
-giving_leads (PutLink place target) gives = refl
-giving_leads (Rename from to) gives = refl
-giving_leads (Append place bytes) gives = absurd (false≢true gives)
-giving_leads (Remove place) gives = refl
-giving_leads (SetTime place time) gives = absurd (false≢true gives)
-
 change_so : (t : Tree) (change : Change) → IsTree t → CanSee t (Some change) → (path : Path) → IsArrival t (changed t change) (Some change) path (arrival_of (Some change) path)
 change_so t (PutFile place time bytes) is_tree sees path = file_so t is_tree place time bytes sees.0 path
-change_so t (MakeDir place dev) is_tree sees path = absurd (false≢true sees.1)
+change_so t (MakeDir place dev) is_tree sees path = made_so t is_tree place dev sees.0 path
 change_so t (PutLink place target) is_tree sees path = link_so t is_tree place target sees.0 path
 change_so t (Rename from to) is_tree sees path =
     subst (λ (u : Tree). IsArrival t u (Some (Rename from to)) path (moved_arrival from to path)) (sym (made-rename t from to)) (moved_so t is_tree from to sees.0 path)

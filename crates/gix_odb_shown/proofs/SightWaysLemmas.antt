@@ -1,5 +1,5 @@
--- The paths along which a path is followed in the tree after a change, step by step, and what is read there.
-use Rattle.std.proofs.Common.{◌≡◌, inl, inr, ℕ, zero, suc, ◌<◌, ◌≤◌, true, List, [], ◌∷◌, ◌++◌, length, slice_index_or, Option, Some, None, Result, Ok, Err, OnOk, IfOk, append_assoc, refl, sym, ap, ◌∙◌, subst, arith}
+-- The paths along which a path is followed in the tree after a change, and what is read there.
+use Rattle.std.proofs.Common.{◌≡◌, ℕ, zero, suc, ◌<◌, ◌≤◌, true, List, [], ◌∷◌, length, slice_index_or, Option, Some, None, Result, Err, IfOk, refl, sym, ap, ◌∙◌, subst, arith}
 use Rattle.std.specs.Result.{result_ok}
 use Rattle.odb_base.specs.Path.{Path}
 use Rattle.odb_nodes.specs.Tree.{Tree}
@@ -7,9 +7,10 @@ use Rattle.odb_nodes.specs.Tree.Follow.{Pass, Reached, Onward, Missing, Blocked,
 use Rattle.odb_nodes.specs.Tree.Way.{ways_onward, ways_within}
 use Rattle.odb_nodes.specs.Tree.Write.{changed_by}
 use Rattle.odb_nodes.specs.declared.change.Change.{Change}
+use Rattle.odb_nodes.specs.declared.node.Content.{Content}
 use Rattle.odb_nodes.proofs.TreeLemmas.Follow.{followed_blocked, followed_loop, followed_missing, followed_onward, followed_reached}
 use Rattle.odb_tree.specs.PassCalls.{onward_of}
-use Rattle.gix_odb_shown.specs.Sight.{GoesAs, IsArrival, IsLast, IsPut, IsSight, arrival_of, file_put}
+use Rattle.gix_odb_shown.specs.Sight.{GoesAs, IsArrival, IsEmpty, IsLast, IsPut, IsSight, arrival_of, file_put}
 use Rattle.gix_odb_shown.specs.declared.sight.Arrival.{Arrival}
 use Rattle.gix_odb_shown.specs.declared.sight.Arrival.TheVariants.{Like, LedTo, AtFile, Nowhere}
 use Rattle.gix_odb_shown.proofs.SightLemmas.{arrives_so}
@@ -34,6 +35,19 @@ file_goes (Reached path node) q goes = ap file_at_pass goes.1
 file_goes (Onward path) q goes = ap file_at_pass goes
 file_goes Missing q goes = ap file_at_pass goes
 file_goes Blocked q goes = ap file_at_pass goes
+
+-- where nothing stands, or an empty directory, no link leads on and nothing is read
+empty_onward : (u : Tree) (p : Pass) → IsEmpty u p → None ≡ onward_of p
+empty_onward u (Reached path node) bare = refl
+empty_onward u (Onward path) never = absurd never
+empty_onward u Missing empty = refl
+empty_onward u Blocked empty = refl
+
+empty_file : (u : Tree) (p : Pass) → IsEmpty u p → file_at_pass p ≡ None
+empty_file u (Reached path node) bare = ap (λ (c : Content). result_ok (file_of c)) bare.directory
+empty_file u (Onward path) never = refl
+empty_file u Missing empty = refl
+empty_file u Blocked empty = refl
 
 -- ---- what is read at a path from which no link leads on
 
@@ -137,50 +151,6 @@ module _ (t : Tree) (path : Path) where
   unfolding read_of
   loop_reads last = sym (ap (λ (told : Result Place Refusal). result_ok (file_of_place told)) last)
 
--- ---- the ways so far
-
-pub pushed : (ways new : List Path) (copy path : Path) → new ≡ ways ++ copy ∷ [] → copy ≡ path → new ≡ ways ++ path ∷ []
-pushed ways new copy path is same = is ∙ ap (λ (p : Path). ways ++ p ∷ []) same
-
-none_onward : (further : Path → List Path) (p : Pass) → onward_of p ≡ None → ways_onward further p ≡ []
-none_onward further (Reached path node) is = refl
-none_onward further (Onward path) is = absurd (cc)
-none_onward further Missing is = refl
-none_onward further Blocked is = refl
-
-module _ (t : Tree) (path : Path) where
-  ways_next : (less : ℕ) → ways_within (suc less) t true path ≡ path ∷ ways_onward (ways_within less t true) (pass t true [] path)
-  unfolding ways_within
-  ways_next less = refl
-
-  ways_alone : ways_within 0 t true path ≡ path ∷ []
-  unfolding ways_within
-  ways_alone = refl
-
-  -- no link is left to follow
-  pub added_alone : (links : ℕ) → links ≡ 0 → (ways new : List Path) → new ≡ ways ++ path ∷ [] → new ≡ ways ++ ways_within links t true path
-  added_alone links none ways new is = is ∙ ap (λ (w : List Path). ways ++ w) (sym (ap (λ (n : ℕ). ways_within n t true path) none ∙ ways_alone))
-
-  -- no link leads on
-  pub added_end : (links less : ℕ) → links ≡ suc less → (end : Option Path) → end ≡ onward_of (pass t true [] path) → end ≡ None → (ways new : List Path) → new ≡ ways ++ path ∷ []
-      → new ≡ ways ++ ways_within links t true path
-  added_end links less one end leads none ways new is =
-      is
-      ∙ ap (λ (w : List Path). ways ++ w)
-      (sym (ap (λ (n : ℕ). ways_within n t true path) one ∙ ways_next less
-      ∙ ap (λ (w : List Path). path ∷ w) (none_onward (ways_within less t true) (pass t true [] path) (sym leads ∙ none))))
-
-  -- a link leads on
-  pub added_onward : {A E : Type 0} (links less : ℕ) → links ≡ suc less → (onward : Path) (end : Option Path) → end ≡ onward_of (pass t true [] path) → end ≡ Some onward → (ways pushed new : List Path)
-      → pushed ≡ ways ++ path ∷ [] → (answer : Result A E) → OnOk answer (new ≡ pushed ++ ways_within less t true onward)
-      → OnOk answer (new ≡ ways ++ ways_within links t true path)
-  added_onward links less one onward end leads some ways pushed new is (Ok done) more =
-      more ∙ ap (λ (w : List Path). w ++ ways_within less t true onward) is ∙ append_assoc ways (path ∷ []) (ways_within less t true onward)
-      ∙ ap (λ (w : List Path). ways ++ w)
-      (sym (ap (λ (n : ℕ). ways_within n t true path) one ∙ ways_next less
-      ∙ ap (λ (p : Pass). path ∷ ways_onward (ways_within less t true) p) (onward_is (pass t true [] path) onward (sym leads ∙ some))))
-  added_onward links less one onward end leads some ways pushed new is (Err error) more = tt
-
 -- ---- a path in the tree after a change
 
 module _ (t u : Tree) (change : Option Change) (sight : IsSight t change) (made : changed_by t change ≡ u) (path : Path) where
@@ -200,7 +170,7 @@ module _ (t u : Tree) (change : Option Change) (sight : IsSight t change) (made 
   onward_file is = sym (ap onward_of (comes AtFile is).reached)
 
   pub onward_nowhere : Nowhere ≡ arrival_of change path → None ≡ onward_of (pass u true [] path)
-  onward_nowhere is = elim (comes Nowhere is) [ inl missing ↦ sym (ap onward_of missing) | inr blocked ↦ sym (ap onward_of blocked) ]
+  onward_nowhere is = empty_onward u (pass u true [] path) (comes Nowhere is)
 
   -- what is read there, if no link leads on
   module _ (last : onward_of (pass u true [] path) ≡ None) where
@@ -218,7 +188,4 @@ module _ (t u : Tree) (change : Option Change) (sight : IsSight t change) (made 
         put.put ∙ sym (last_read u path last ∙ ap file_at_pass put.reached ∙ ap result_ok put.content)
 
     pub read_nowhere : Nowhere ≡ arrival_of change path → None ≡ result_ok (read_of u path)
-    read_nowhere is = elim (comes Nowhere is) [
-      | inl missing ↦ sym (last_read u path last ∙ ap file_at_pass missing)
-      | inr blocked ↦ sym (last_read u path last ∙ ap file_at_pass blocked)
-    ]
+    read_nowhere is = sym (last_read u path last ∙ empty_file u (pass u true [] path) (comes Nowhere is))

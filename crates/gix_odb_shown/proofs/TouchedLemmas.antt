@@ -1,30 +1,30 @@
 -- What a change leaves as it was in a folder that it doesn't touch.
-use Rattle.std.proofs.Common.{◌≡◌, inl, inr, ℕ, Bool, true, false, if◌then◌else◌, List, [], ◌∷◌, ◌++◌, codes, Some, Result, Ok, Err, refl, sym, ap, ◌∙◌, subst}
-use Rattle.std.specs.List.{list_any, starts_with}
+use Rattle.std.proofs.Common.{◌≡◌, ◌⊎◌, inl, inr, ℕ, Bool, true, false, ◌||◌, if◌then◌else◌, List, [], ◌∷◌, ◌++◌, Some, Result, Ok, Err, refl, sym, ap, ◌∙◌, subst}
+use Rattle.std.specs.List.{starts_with}
+use Rattle.std.specs.Cmp.Lexicographic.{bytes_decides}
+use Rattle.std.specs.FinSet as set
 use Rattle.std.specs.Ordering.{eq_by_cmp}
-use Rattle.std.proofs.lemmas.Bool.{false≢true, false_from_ne_true, or_cases}
+use Rattle.std.proofs.lemmas.Bool.{and_from, and_parts, false≢true, false_from_ne_true, or_cases}
 use Rattle.odb_base.specs.Path.{Name, Path, path_cmp, same_name}
 use Rattle.odb_nodes.specs.Tree.{Tree}
 use Rattle.odb_nodes.specs.Tree.Follow as following
 use Rattle.odb_nodes.specs.Tree.Follow.{Place, followed, read_of}
 use Rattle.odb_nodes.specs.Tree.Change.{changed, is_file_place, is_possible_in}
-use Rattle.odb_nodes.specs.Tree.Way.{SameOnWay}
+use Rattle.odb_nodes.specs.Tree.Way.{SameOnWay, on_way}
 use Rattle.odb_nodes.specs.Tree.Write as writing
 use Rattle.odb_nodes.specs.Tree.Write.{and_then, file_path, file_spot, from_followed}
 use Rattle.odb_nodes.specs.declared.change.Change.{Change}
 use Rattle.odb_nodes.specs.declared.change.Change.TheVariants.{PutFile, MakeDir, PutLink, Rename, Append, Remove, SetTime}
 use Rattle.odb_nodes.proofs.TreeLemmas.{same_path}
-use Rattle.odb_nodes.proofs.TreeLemmas.Moved.{begins, begins-own}
+use Rattle.odb_nodes.proofs.TreeLemmas.Moved.{begins, begins-append, begins-own}
 use Rattle.odb_nodes.proofs.TreeLemmas.Possible.{possible-append}
-use Rattle.odb_nodes.proofs.WayLaws.{front_on_way, on_way_kept, read_kept, same_directory, same_unfollowed, same_untouched}
+use Rattle.odb_nodes.proofs.WayLaws.{front_on_way, on_way_kept, read_kept, same_untouched}
 use Rattle.odb_nodes.proofs.WriteLaws.{at_place, touches}
-use Rattle.gix_odb_shown.specs.Ways.{IsIn, Knows, Ways, is_touched}
-use Rattle.gix_odb_shown.specs.Led.{place_if, places_of}
+use Rattle.gix_odb_shown.specs.Kept.{IsIn, Knows}
+use Rattle.gix_odb_shown.specs.Touched.{AreTouched, place_if, places_of}
 use Rattle.gix_odb_shown.specs.Watched.{Shows, pack_directory, watched_kind}
 use Rattle.gix_odb_shown.specs.declared.watched.WatchedKind.{WatchedKind}
-use Rattle.gix_odb_shown.specs.declared.watched.WatchedKind.TheVariants.{PackOrIndex}
-use Rattle.gix_odb_shown.proofs.ListLemmas.{passes_one}
-use Rattle.gix_odb_shown.proofs.WholeLemmas.{same_ways_there}
+use Rattle.gix_odb_shown.proofs.FilesLemmas.{among_keys, keys_among}
 
 -- ---- what a change touches lies at one of its places, or below
 
@@ -62,55 +62,67 @@ touched_at t (Append path bytes) q possible tied =
 touched_at t (Remove path) q possible tied = at_own t (Remove path) q path (inl refl) tied
 touched_at t (SetTime path time) q possible tied = at_own t (SetTime path time) q path (inl refl) tied
 
--- ---- a folder that isn't touched
+-- ---- what a path with one name more begins with
 
-module _ (ways : Ways) (t : Tree) (change : Change) (possible : is_possible_in t change ≡ true) (folder : Path) (knows : Knows ways t folder)
-    (apart : list_any (is_touched ways folder) (places_of t change) ≡ false) where
+pub front_or_whole : (path : Path) (name : Name) (q : Path) → begins (path ++ name ∷ []) q ≡ true → (begins path q ≡ true) ⊎ (q ≡ path ++ name ∷ [])
+front_or_whole path name [] is = inl (begins-append [] path)
+front_or_whole [] name (x ∷ []) is = inr (ap (λ (n : Name). n ∷ []) ((bytes_decides x name).0 (and_parts (same_name x name) (begins [] []) is).0))
+front_or_whole [] name (x ∷ y ∷ q) is = absurd (false≢true (and_parts (same_name x name) (begins [] (y ∷ q)) is).1)
+front_or_whole (p ∷ path) name (x ∷ q) is =
+    let parts = and_parts (same_name x p) (begins (path ++ name ∷ []) q) is in
+    let same : x ≡ p = (bytes_decides x p).0 parts.0 in
+    elim (front_or_whole path name q parts.1) [
+      | inl front ↦ inl (and_from (same_name x p) (begins path q) parts.0 front)
+      | inr whole ↦ inr ((λ i. same i ∷ whole i))
+    ]
+
+-- ---- a path of a folder that isn't touched
+
+unlinked : (linked front : Bool) → (linked || front) ≡ true → linked ≡ false → front ≡ true
+unlinked linked front either none = elim (or_cases linked front either) [
+  | inl is ↦ absurd (false≢true (sym none ∙ is))
+  | inr is ↦ is
+]
+
+module _ (t : Tree) (change : Change) (possible : is_possible_in t change ≡ true) (watched linked keys : List Path) (named : List (Path × Path))
+    (touched : AreTouched watched linked (places_of t change) keys named)
+    (knows : (folder : Path) → set.contains (set.from_list {R = path_cmp} watched) folder ≡ true → Knows (set.from_list linked) t folder)
+    (folder : Path) (among : IsIn watched folder) (apart : IsIn keys folder → ⊥) where
   abbrev u : Tree
   u = changed t change
 
-  module _ (name : Name) (kind : WatchedKind) (watched : watched_kind name ≡ Some kind) where
+  -- it isn't linked
+  not_linked : set.contains (set.from_list {R = path_cmp} linked) folder ≡ false
+  not_linked = false_from_ne_true _ (λ is. apart (touched.are_linked folder among (keys_among linked folder is)))
+
+  module _ (name : Name) (kind : WatchedKind) (is_watched : watched_kind name ≡ Some kind) (other : IsIn (places_of t change) (pack_directory folder ++ name ∷ []) → ⊥) where
     abbrev path : Path
     path = pack_directory folder ++ name ∷ []
 
-    -- its watched paths' ways are as they were
+    off_path : (place : Path) → IsIn (places_of t change) place → begins path place ≡ true → ⊥
+    off_path place one front = elim (front_or_whole (pack_directory folder) name place front) [
+      | inl below ↦ apart (touched.below folder place among one below)
+      | inr same ↦ other (subst (IsIn (places_of t change)) same one)
+    ]
+
     same_ways : SameOnWay t u true path
-    same_ways = same_untouched t change true path (λ q on. false_from_ne_true (touches t change q) (λ touched.
-        let a = touched_at t change q possible touched in
-        false≢true (sym apart
-        ∙ passes_one (is_touched ways folder) (places_of t change) a.place a.one (knows.touched name kind watched a.place (front_on_way t true path q a.place a.front on)))))
+    same_ways = same_untouched t change true path (λ q on. false_from_ne_true (touches t change q) (λ touches_it.
+        let a = touched_at t change q possible touches_it in
+        off_path a.place a.one
+        (unlinked (set.contains (set.from_list {R = path_cmp} linked) folder) (begins path a.place) (knows folder (among_keys watched folder among) name kind is_watched a.place (front_on_way t true path q a.place a.front on)) not_linked)))
 
-  -- and so are those of its pack directory
-  index_watched : watched_kind (codes ".idx") ≡ Some PackOrIndex
-  index_watched = refl
+    -- what lies on its way lay there
+    pub way_before : (q : Path) → on_way u true path q ≡ true → on_way t true path q ≡ true
+    way_before q on = sym (on_way_kept t u true path same_ways q) ∙ on
 
-  same_directory_ways : SameOnWay t u true (pack_directory folder)
-  same_directory_ways =
-      same_directory t u (pack_directory folder) (codes ".idx") (same_unfollowed t u (pack_directory folder ++ codes ".idx" ∷ []) (same_ways (codes ".idx") PackOrIndex index_watched))
-
-  -- what it shows it showed
-  pub untouched_shows : (path : Path) (time : ℕ) (bytes : List ℕ) → Shows folder u path time bytes → Shows folder t path time bytes
-  untouched_shows path time bytes s = record {
-    name = s.name;
-    path_is = s.path_is;
-    kind = s.kind;
-    is_watched = s.is_watched;
-    at = s.at;
-    reads =
-        ap (read_of t) s.path_is ∙ sym (read_kept t u (pack_directory folder ++ s.name ∷ []) (same_ways s.name s.kind s.is_watched)) ∙ ap (read_of u) (sym s.path_is) ∙ s.reads;
-    counts = s.counts;
-  }
-
-  -- and what is known of it holds
-  pub untouched_knows : (others : Ways) → Knows others t folder → Knows others u folder
-  untouched_knows others k = record {
-    touched = λ name kind watched q on.
-        k.touched name kind watched q (sym (on_way_kept t u true (pack_directory folder ++ name ∷ []) (same_ways name kind watched) q) ∙ on);
-    directory = λ way q one begins. k.directory way q (subst (λ (ways : List Path). IsIn ways way) (same_ways_there t u (pack_directory folder) same_directory_ways) one) begins;
-    passed = λ name kind watched q step rest one.
-        k.passed name kind watched q step rest
-        (subst (λ (ways : List Path). IsIn ways (q ++ step ∷ rest)) (same_ways_there t u (pack_directory folder ++ name ∷ []) (same_ways name kind watched)) one);
-    links = λ name kind watched q one.
-        k.links name kind watched q
-        (subst (λ (ways : List Path). IsIn ways q) (same_ways_there t u (pack_directory folder ++ name ∷ []) (same_ways name kind watched)) one);
-  }
+    -- and what it shows it showed
+    pub shown_before : (time : ℕ) (bytes : List ℕ) → Shows folder u path time bytes → Shows folder t path time bytes
+    shown_before time bytes s = record {
+      name = s.name;
+      path_is = s.path_is;
+      kind = s.kind;
+      is_watched = s.is_watched;
+      at = s.at;
+      reads = sym (read_kept t u path same_ways) ∙ s.reads;
+      counts = s.counts;
+    }

@@ -20,9 +20,9 @@ use Rattle.odb_nodes.proofs.TreeLemmas.Follow.{followed_reached}
 use Rattle.odb_nodes.proofs.TreeLemmas.Moved.{begins, begins-append, at_after_move, moved_below}
 use Rattle.odb_nodes.proofs.WriteLaws.{removed_away, untouched}
 use Rattle.gix_odb_shown.specs.Files.{listed, listed_paths, paths_like}
-use Rattle.gix_odb_shown.specs.Sight.{AreWatchedIn, CanSee, GoesAs, HasName, IsArrival, IsLast, IsPut, IsSight, arrival_of, is_place, moved, named_path, place_put, put_path, watched_path}
+use Rattle.gix_odb_shown.specs.Sight.{AreWatchedIn, CanSee, GoesAs, HasName, IsArrival, IsBare, IsEmpty, IsLast, IsPut, IsSight, arrival_of, is_place, moved, named_path, place_put, put_path, watched_path}
 use Rattle.gix_odb_shown.specs.Watched.{is_some_kind, watched_kind}
-use Rattle.gix_odb_shown.specs.Ways.{IsIn}
+use Rattle.gix_odb_shown.specs.Kept.{IsIn}
 use Rattle.gix_odb_shown.specs.declared.sight.Arrival.{Arrival}
 use Rattle.gix_odb_shown.specs.declared.sight.Arrival.TheVariants.{Like, LedTo, AtFile, Nowhere}
 use Rattle.gix_odb_shown.specs.declared.watched.WatchedKind.{WatchedKind}
@@ -88,6 +88,12 @@ module _ (t : Tree) (last like : Path) (name : Name) (node : Node) where
     | inr apart ↦ inl (stays_there (PutFile place time bytes) same (untouched t (PutFile place time bytes) own (other_path own place apart)) at)
   ]
 
+  made_there : (place : Path) (dev : ℕ) → last ≡ like → node_at (changed t (MakeDir place dev)) own ≡ Some node → IsThere t (Some (MakeDir place dev)) last like name node
+  made_there place dev same at = elim (cases_path own place) [
+    | inl put ↦ inr (ap Some (sym put))
+    | inr apart ↦ inl (stays_there (MakeDir place dev) same (untouched t (MakeDir place dev) own (other_path own place apart)) at)
+  ]
+
   link_there : (place target : Path) → last ≡ like → node_at (changed t (PutLink place target)) own ≡ Some node → IsThere t (Some (PutLink place target)) last like name node
   link_there place target same at = elim (cases_path own place) [
     | inl put ↦ inr (ap Some (sym put))
@@ -133,6 +139,10 @@ module _ (t : Tree) (last like : Path) (name : Name) (node : Node) where
     rename_by false true outside source is at = absurd (cc)
     rename_by false false outside source is at = move_there outside (ap (liked last) is) at
 
+  empty_like : (b : Bool) → (if b then Nowhere else Like last) ≡ Like like → last ≡ like
+  empty_like true is = absurd (cc)
+  empty_like false is = ap (liked last) is
+
   there_by : IsTree t → (change : Option Change) → CanSee t change → arrival_of change last ≡ Like like → node_at (changed_by t change) own ≡ Some node → IsThere t change last like name node
   there_by is_tree None can is at = inl (ap (λ (p : Path). node_at t (p ++ name ∷ [])) (sym (ap (liked last) is)) ∙ at)
   there_by is_tree (Some (PutFile place time bytes)) can is at = file_there place time bytes (file_like (is_place place last) (starts_with same_name last place) is) at
@@ -147,13 +157,9 @@ module _ (t : Tree) (last like : Path) (name : Name) (node : Node) where
       link_like true is = absurd (cc)
       link_like false is = ap (liked last) is
   there_by is_tree (Some (Rename from to)) can is at = rename_by from to (begins last to) (begins last from) refl refl is (ap (λ (v : Tree). node_at v own) (sym (made-rename t from to)) ∙ at)
-  there_by is_tree (Some (MakeDir place dev)) can is at = absurd (false≢true can.1)
+  there_by is_tree (Some (MakeDir place dev)) can is at = made_there place dev (empty_like (starts_with same_name last place) is) at
   there_by is_tree (Some (Append place bytes)) can is at = absurd (false≢true can.1)
-  there_by is_tree (Some (Remove place)) can is at = removed_there is_tree place (removed_like (starts_with same_name last place) is) at
-    where
-      removed_like : (b : Bool) → (if b then Nowhere else Like last) ≡ Like like → last ≡ like
-      removed_like true is = absurd (cc)
-      removed_like false is = ap (liked last) is
+  there_by is_tree (Some (Remove place)) can is at = removed_there is_tree place (empty_like (starts_with same_name last place) is) at
   there_by is_tree (Some (SetTime place time)) can is at = absurd (false≢true can.1)
 
 -- ---- the paths that are found
@@ -244,9 +250,10 @@ module _ (t : Tree) (change : Option Change) (is_sight : IsSight t change) (dire
     led_lacks : (name : Name) (onward : Path) → pass u true [] last ≡ Onward onward → IsReached name → ⊥
     led_lacks name onward is r = let both : Onward onward ≡ Reached last r.place = sym is ∙ r.reached in absurd (cc)
 
-    nowhere_lacks : (name : Name) → (pass u true [] last ≡ Missing) ⊎ (pass u true [] last ≡ Blocked) → IsReached name → ⊥
-    nowhere_lacks name (inl is) r = let both : Missing ≡ Reached last r.place = sym is ∙ r.reached in absurd (cc)
-    nowhere_lacks name (inr is) r = let both : Blocked ≡ Reached last r.place = sym is ∙ r.reached in absurd (cc)
+    nowhere_lacks : (name : Name) → IsEmpty u (pass u true [] last) → IsReached name → ⊥
+    nowhere_lacks name empty r =
+        let bare : IsBare u last r.place = subst (IsEmpty u) r.reached empty in
+        let both : None ≡ Some r.node = sym (bare.bare name) ∙ r.stands in absurd (cc)
 
     watched_by : (a : Arrival) → arrival_of change last ≡ a → IsArrival t u change last a → AreWatchedIn u directory (paths_by t change directory a)
     watched_by (Like like) is goes = record {

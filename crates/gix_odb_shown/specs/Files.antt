@@ -9,10 +9,9 @@ use Rattle.odb_nodes.specs.Tree.Follow.{Refusal, read_of}
 use Rattle.odb_nodes.specs.Entries.{opened}
 use Rattle.odb_nodes.specs.declared.change.Change.{Change}
 use Rattle.odb_nodes.specs.declared.entry.Entry.{Entry}
-use Rattle.gix_odb_shown.specs.Watched.{Shows, counted, named_kind, pack_directory}
-use Rattle.gix_odb_shown.specs.Kept.{Contents, Folders, ShowsInOne}
+use Rattle.gix_odb_shown.specs.Watched.{counted, named_kind, pack_directory}
+use Rattle.gix_odb_shown.specs.Kept.{Contents, Folders, IsIn, ShowsInOne}
 use Rattle.gix_odb_shown.specs.Sight.{AreWatchedIn, place_put, put_path, watched_path}
-use Rattle.gix_odb_shown.specs.Ways.{IsIn}
 use Rattle.gix_odb_shown.specs.declared.watched.WatchedKind.{WatchedKind}
 use Rattle.gix_odb_shown.specs.declared.shown_file.ShownFile.{ShownFile}
 
@@ -43,12 +42,6 @@ pub record AreFilesIn (tree : Tree) (folder : Path) (files : List ShownFile) : T
   pub paths : List Path
   pub watched : AreWatchedIn tree (pack_directory folder) paths
   pub are : files ≡ flat_map (file_at tree) paths
-
--- They are what it shows in those of several folders.
-pub record AreFilesOf (tree : Tree) (keys : List Path) (files : List ShownFile) : Type 0 where
-  pub shown : (file : ShownFile) → IsIn files file → (folder : Path) × IsIn keys folder × Shows folder tree file.key.0 file.key.1 file.bytes
-  pub whole : (folder : Path) → IsIn keys folder → (path : Path) (time : ℕ) (bytes : List ℕ) → Shows folder tree path time bytes
-      → IsIn files (record { key = (path, time); bytes = bytes })
 
 -- whether other bytes than a file's are kept under its key
 abbrev pub is_other : Option (List ℕ) → List ℕ → Bool

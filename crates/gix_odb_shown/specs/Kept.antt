@@ -1,14 +1,21 @@
--- What is kept: the watched folders, what their paths have shown, and over which places these lead.
-use Rattle.std.specs.Prelude.{◌≡◌, ◌≢◌, ◌⊎◌, ◌++◌, ℕ, true, List, [], ◌∷◌, Some, IsSome, refl}
+-- What is kept: the watched folders, what their paths have shown, and in which folders these follow links.
+use Rattle.std.specs.Prelude.{◌≡◌, ◌≢◌, ◌⊎◌, ◌++◌, ◌||◌, ℕ, true, List, [], ◌∷◌, Some, IsSome, refl}
 use Rattle.std.specs.Coded.{Coded, code_by, coded×, coded_ℕ, coded_list}
 use Rattle.std.specs.FinMap as finite
 use Rattle.std.specs.FinSet as set
+use Rattle.std.specs.List.{starts_with}
 use Rattle.std.specs.Ordering.{nat_cmp, ordering_then}
 use Rattle.std.specs.declared.cmp.Ordering.{Ordering}
-use Rattle.odb_base.specs.Path.{Name, Path, path_cmp}
+use Rattle.odb_base.specs.Path.{Name, Path, path_cmp, same_name}
 use Rattle.odb_nodes.specs.Tree.{IsTree, Tree}
-use Rattle.gix_odb_shown.specs.Watched.{Shows, pack_directory}
-use Rattle.gix_odb_shown.specs.Ways.{Knows, Ways, coded_ways, no_ways}
+use Rattle.odb_nodes.specs.Tree.Way.{on_way}
+use Rattle.gix_odb_shown.specs.Watched.{Shows, pack_directory, watched_kind}
+use Rattle.gix_odb_shown.specs.declared.watched.WatchedKind.{WatchedKind}
+
+-- an element is one of these
+abbrev pub IsIn : {X : Type 0} → List X → X → Type 0
+IsIn [] x = ⊥
+IsIn (y ∷ ys) x = (y ≡ x) ⊎ IsIn ys x
 
 -- a path, and the time under which what it shows counts
 abbrev pub Key : Type 0
@@ -27,19 +34,22 @@ coded_contents = finite.code (coded× (coded_list (coded_list coded_ℕ)) coded_
 abbrev pub Folders : Type 0
 Folders = set.FinSet path_cmp
 
--- the watched folders, what was shown, and what is known of the ways of watched paths
+abbrev pub coded_folders : Coded Folders
+coded_folders = set.code (coded_list (coded_list coded_ℕ))
+
+-- the watched folders, those among them that are linked, and what was shown
 pub record Kept : Type 0 where
   pub folders : Folders
+  pub linked : Folders
   pub contents : Contents
-  pub ways : Ways
 
 abbrev pub coded_kept : Coded Kept
 coded_kept =
-    code_by (Folders × (Contents × Ways)) (coded× (set.code (coded_list (coded_list coded_ℕ))) (coded× coded_contents coded_ways))
-    (λ k. (k.folders, (k.contents, k.ways))) (λ p. record { folders = p.0; contents = p.1.0; ways = p.1.1 }) (λ _. refl)
+    code_by (Folders × (Folders × Contents)) (coded× coded_folders (coded× coded_folders coded_contents))
+    (λ k. (k.folders, (k.linked, k.contents))) (λ p. record { folders = p.0; linked = p.1.0; contents = p.1.1 }) (λ _. refl)
 
 abbrev pub nothing_kept : Kept
-nothing_kept = record { folders = set.empty; contents = finite.empty; ways = no_ways }
+nothing_kept = record { folders = set.empty; linked = set.empty; contents = finite.empty }
 
 -- a tree shows bytes at a path of one of the folders
 pub record ShowsInOne (folders : Folders) (tree : Tree) (path : Path) (time : ℕ) (bytes : List ℕ) : Type 0 where
@@ -72,10 +82,16 @@ pub record LiesInOne (folders : Folders) (path : Path) : Type 0 where
   pub name : Name
   pub path_is : path ≡ pack_directory folder ++ name ∷ []
 
--- What is kept fits a tree: all that the tree shows in the watched folders is kept, nothing else than what such paths showed is, and
--- what is known of the ways in these folders holds. The tree is that of a disk, so that nothing stands where nothing stands above it.
+-- On the way of each watched path of a folder lie only places that the path begins with, unless the folder is kept as linked.
+abbrev pub Knows : (linked : Folders) → Tree → (folder : Path) → Type 0
+Knows linked tree folder =
+    (name : Name) (kind : WatchedKind) → watched_kind name ≡ Some kind → (place : Path) → on_way tree true (pack_directory folder ++ name ∷ []) place ≡ true
+    → (set.contains linked folder || starts_with same_name (pack_directory folder ++ name ∷ []) place) ≡ true
+
+-- What is kept fits a tree: all that the tree shows in the watched folders is kept, nothing else than what such paths showed is, and each folder
+-- in which a path follows a link is kept as linked. The tree is that of a disk, so that nothing stands where nothing stands above it.
 pub record Fits (kept : Kept) (tree : Tree) : Type 0 where
   pub is_tree : IsTree tree
   pub whole : (path : Path) (time : ℕ) (bytes : List ℕ) → ShowsInOne kept.folders tree path time bytes → finite.get kept.contents (path, time) ≡ Some bytes
   pub only : (path : Path) (time : ℕ) (bytes : List ℕ) → finite.get kept.contents (path, time) ≡ Some bytes → LiesInOne kept.folders path
-  pub knows : (folder : Path) → set.contains kept.folders folder ≡ true → Knows kept.ways tree folder
+  pub knows : (folder : Path) → set.contains kept.folders folder ≡ true → Knows kept.linked tree folder

@@ -1,10 +1,10 @@
 -- A tree as it is, or as it will be after a change, told by the tree before the change. No public clause cites this.
-use Rattle.std.specs.Prelude.{◌≡◌, ◌⊎◌, ◌++◌, ℕ, Bool, true, false, List, [], ◌∷◌, length, drop, Option, Some, None, Result, Ok, Err, if◌then◌else◌}
+use Rattle.std.specs.Prelude.{◌≡◌, ◌++◌, ℕ, Bool, true, false, List, [], ◌∷◌, length, drop, Option, Some, None, Result, Ok, Err, if◌then◌else◌}
 use lib.Pointwise.{pointwise}
 use Rattle.std.specs.List.{starts_with}
 use Rattle.odb_base.specs.Path.{Name, Path, last_name, same_name}
 use Rattle.odb_nodes.specs.Tree.{IsTree, Tree, node_at}
-use Rattle.odb_nodes.specs.Tree.Change.{is_possible_in}
+use Rattle.odb_nodes.specs.Tree.Change.{changed, is_possible_in}
 use Rattle.odb_nodes.specs.Tree.Follow.{Pass, Reached, Onward, Missing, Blocked, Place, Refusal, LinkLoop, arrives, file_of, followed, pass}
 use Rattle.odb_nodes.specs.declared.change.Change.{Change}
 use Rattle.odb_nodes.specs.declared.change.Change.TheVariants.{PutFile, MakeDir, PutLink, Rename, Append, Remove, SetTime}
@@ -12,35 +12,25 @@ use Rattle.odb_nodes.specs.declared.node.Content.TheVariants.{Dir}
 use Rattle.odb_nodes.specs.declared.node.Node.{Node}
 use Rattle.odb_tree.specs.PassCalls.{onward_of}
 use Rattle.gix_odb_shown.specs.Watched.{is_some_kind, watched_kind}
-use Rattle.gix_odb_shown.specs.Ways.{IsIn}
+use Rattle.gix_odb_shown.specs.Kept.{IsIn}
 use Rattle.gix_odb_shown.specs.declared.sight.Arrival.{Arrival}
 use Rattle.gix_odb_shown.specs.declared.sight.Arrival.TheVariants.{Like, LedTo, AtFile, Nowhere}
 use Rattle.gix_odb_shown.specs.declared.watched.WatchedKind.{WatchedKind}
 
--- whether a change may give paths other ways, so that its place alone doesn't tell what it makes them show
-abbrev pub gives_ways : Change → Bool
-gives_ways (PutFile path time bytes) = true
-gives_ways (MakeDir path dev) = false
-gives_ways (PutLink path target) = true
-gives_ways (Rename from to) = true
-gives_ways (Append path bytes) = false
-gives_ways (Remove path) = false
-gives_ways (SetTime path time) = false
+-- whether what a change puts somewhere is told by the change and by what stood elsewhere; else it depends on the file that stood there
+abbrev pub is_whole : Change → Bool
+is_whole (PutFile path time bytes) = true
+is_whole (MakeDir path dev) = true
+is_whole (PutLink path target) = true
+is_whole (Rename from to) = true
+is_whole (Append path bytes) = false
+is_whole (Remove path) = true
+is_whole (SetTime path time) = false
 
--- whether a change may lead paths elsewhere: it may give them other ways, or take some of theirs
-abbrev pub leads_anew : Change → Bool
-leads_anew (PutFile path time bytes) = true
-leads_anew (MakeDir path dev) = false
-leads_anew (PutLink path target) = true
-leads_anew (Rename from to) = true
-leads_anew (Append path bytes) = false
-leads_anew (Remove path) = true
-leads_anew (SetTime path time) = false
-
--- a change, if there is one, is possible in a tree and may lead paths elsewhere
+-- a change, if there is one, is possible in a tree and told whole
 abbrev pub CanSee : Tree → Option Change → Type 0
 CanSee tree None = Unit {0}
-CanSee tree (Some change) = (is_possible_in tree change ≡ true) × (leads_anew change ≡ true)
+CanSee tree (Some change) = (is_possible_in tree change ≡ true) × (is_whole change ≡ true)
 
 pub record IsSight (tree : Tree) (change : Option Change) : Type 0 where
   pub is_tree : IsTree tree
@@ -65,18 +55,19 @@ link_arrival place target path = if starts_with same_name path place then LedTo 
 abbrev pub moved_arrival : (from to path : Path) → Arrival
 moved_arrival from to path = if starts_with same_name path to then Like (moved to from path) else (if starts_with same_name path from then Nowhere else Like path)
 
-abbrev pub removed_arrival : (place path : Path) → Arrival
-removed_arrival place path = if starts_with same_name path place then Nowhere else Like path
+-- at a place that is empty after the change, as a removed or a new one, or below it
+abbrev pub empty_arrival : (place path : Path) → Arrival
+empty_arrival place path = if starts_with same_name path place then Nowhere else Like path
 
--- where a path comes after a change that may lead paths elsewhere, or after none
+-- where a path comes after a change that is told whole, or after none
 abbrev pub arrival_of : Option Change → Path → Arrival
 arrival_of None path = Like path
 arrival_of (Some (PutFile place time bytes)) path = file_arrival place path
-arrival_of (Some (MakeDir place dev)) path = Like path
+arrival_of (Some (MakeDir place dev)) path = empty_arrival place path
 arrival_of (Some (PutLink place target)) path = link_arrival place target path
 arrival_of (Some (Rename from to)) path = moved_arrival from to path
 arrival_of (Some (Append place bytes)) path = Like path
-arrival_of (Some (Remove place)) path = removed_arrival place path
+arrival_of (Some (Remove place)) path = empty_arrival place path
 arrival_of (Some (SetTime place time)) path = Like path
 
 -- the file that a change puts
@@ -105,18 +96,29 @@ pub record IsPut (after : Tree) (change : Option Change) (path : Path) : Type 0 
   pub put : file_put change ≡ Some file
   pub content : file_of node.content ≡ Ok file
 
+-- nothing stands there, or a directory with nothing in it
+pub record IsBare (after : Tree) (path : Path) (node : Node) : Type 0 where
+  pub directory : node.content ≡ Dir
+  pub bare : (name : Name) → node_at after (path ++ name ∷ []) ≡ None
+
+abbrev pub IsEmpty : Tree → Pass → Type 0
+IsEmpty after (Reached path node) = IsBare after path node
+IsEmpty after (Onward path) = ⊥
+IsEmpty after Missing = Unit {0}
+IsEmpty after Blocked = Unit {0}
+
 -- a path comes there in the tree after a change, or after none
 abbrev pub IsArrival : (before after : Tree) → Option Change → Path → Arrival → Type 0
 IsArrival before after change path (Like like) = GoesAs (pass after true [] path) (pass before true [] like)
 IsArrival before after change path (LedTo onward) = pass after true [] path ≡ Onward onward
 IsArrival before after change path AtFile = IsPut after change path
-IsArrival before after change path Nowhere = (pass after true [] path ≡ Missing) ⊎ (pass after true [] path ≡ Blocked)
+IsArrival before after change path Nowhere = IsEmpty after (pass after true [] path)
 
--- where a change that may lead paths elsewhere puts something
+-- where a change that is told whole puts something
 abbrev pub place_put : Option Change → Option Path
 place_put None = None
 place_put (Some (PutFile place time bytes)) = Some place
-place_put (Some (MakeDir place dev)) = None
+place_put (Some (MakeDir place dev)) = Some place
 place_put (Some (PutLink place target)) = Some place
 place_put (Some (Rename from to)) = Some to
 place_put (Some (Append place bytes)) = None
@@ -156,3 +158,11 @@ pub record HasName (t : Tree) (name : Name) (told : Result Place Refusal) : Type
 pub record AreWatchedIn (tree : Tree) (directory : Path) (paths : List Path) : Type 0 where
   pub whole : (name : Name) (kind : WatchedKind) → watched_kind name ≡ Some kind → HasName tree name (followed tree true directory) → IsIn paths (directory ++ name ∷ [])
   pub only : (path : Path) → IsIn paths path → (name : Name) × (path ≡ directory ++ name ∷ [])
+
+-- ---- a change of a file, as the put of one
+
+-- the put of a file makes the same of a tree as a change
+pub record IsPutOf (tree : Tree) (change put : Change) : Type 0 where
+  pub possible : is_possible_in tree put ≡ true
+  pub whole : is_whole put ≡ true
+  pub same : changed tree put ≡ changed tree change

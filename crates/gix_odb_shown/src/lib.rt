@@ -12,19 +12,15 @@
 #![tactic(auto)]
 
 mod contents;
-mod led;
-mod places;
-mod rerouted;
+mod linked;
+mod names;
+mod put;
 mod revealed;
-mod seen;
 mod shown;
 mod shown_file;
 mod sight;
-mod stale;
 mod touched;
-mod towards;
 mod watched;
-mod ways;
 
 pub use revealed::Revealed;
 pub use shown::Shown;

@@ -1,16 +1,14 @@
-//! The files that a tree shows in a pack directory.
-ghost use Rattle.std.specs.Prelude.{◌≡◌, ◌∷◌, ◌++◌, [], true, IfOk, OnOk};
+//! The files that a tree shows at watched paths.
+ghost use Rattle.std.specs.Prelude.{◌≡◌, ◌++◌, IfOk, OnOk};
 ghost use Rattle.std.specs.List.{flat_map};
-ghost use Rattle.odb_base.specs.Path.{is_name};
-ghost use Rattle.gix_odb_shown.specs.Files.{AreFilesIn, AreFilesOf, file_at, listed};
+ghost use Rattle.gix_odb_shown.specs.Files.{file_at, listed};
 
 use crate::sight::Sight;
-use crate::watched::{counted, named_kind, pack_directory};
-use odb_base::{BadPath, ByteList, NoMemory, PathName, PathText};
+use crate::watched::{counted, named_kind};
+use odb_base::{ByteList, NoMemory, PathText};
 use odb_nodes::{DiskError, EntryQueue};
 use odb_tree::Tree;
 use std::alloc::Global;
-use std::collections::BTreeSet;
 
 /// What a watched path shows.
 #[derive(Drop)]
@@ -18,19 +16,6 @@ pub(crate) struct ShownFile {
     /// The path, and the time under which the bytes count.
     pub key: (PathText, u64),
     pub bytes: ByteList,
-}
-
-/// What a tree shows in the pack directory of a folder.
-pub(crate) fn files_in(
-    alloc: Global,
-    sight: &Sight<'_>,
-    folder: &PathText,
-) -> Result<Vec<ShownFile>, NoMemory>
-    ensures files { IfOk result (λ files. AreFilesIn sight.now folder.now files.items) }
-{
-    let directory = pack_directory(alloc, folder)?;
-    let paths = sight.watched_paths(alloc, &directory)?;
-    files_read(alloc, sight, paths)
 }
 
 /// What a tree shows at paths.
@@ -49,7 +34,7 @@ pub(crate) fn files_read(
 }
 
 /// Adds what a tree shows at a path, if its name is watched.
-fn add_file(
+pub(crate) fn add_file(
     alloc: Global,
     sight: &Sight<'_>,
     path: PathText,
@@ -67,22 +52,6 @@ fn add_file(
     Ok(())
 }
 
-/// What a tree shows in the pack directories of folders.
-pub(crate) fn files_of_all(
-    alloc: Global,
-    sight: &Sight<'_>,
-    folders: &BTreeSet<PathText>,
-) -> Result<Vec<ShownFile>, NoMemory>
-    ensures files { IfOk result (λ files. AreFilesOf sight.now folders.now.keys files.items) }
-{
-    let mut files = Vec::new(alloc);
-    for folder in folders {
-        let mut more = files_in(alloc, sight, folder)?;
-        files.append(&mut more)?;
-    }
-    Ok(files)
-}
-
 /// The entries of a directory, or none where there is no directory.
 pub(crate) fn listed(
     alloc: Global,
@@ -95,21 +64,5 @@ pub(crate) fn listed(
         Ok(entries) => Ok(entries),
         Err(DiskError::NoMemory) => Err(NoMemory),
         Err(_) => Ok(EntryQueue::new(alloc)),
-    }
-}
-
-/// The path of a name in a directory.
-pub(crate) fn joined(
-    alloc: Global,
-    directory: &PathText,
-    name: &PathName,
-) -> Result<PathText, NoMemory>
-    requires named { is_name name.now ≡ true }
-    ensures path { IfOk result (λ path. path ≡ directory.now ++ name.now ∷ []) }
-{
-    match directory.join(alloc, name.as_str()) {
-        Ok(path) => Ok(path),
-        Err(BadPath::Malformed) => unreachable!("an entry has a name"),
-        Err(BadPath::NoMemory) => Err(NoMemory),
     }
 }

@@ -2,7 +2,7 @@
 //!
 //! After a change each path is followed as some path is in the tree before, or it comes to what the change puts. So a path
 //! is followed in the tree after it by walks in the tree before, one for each link on its way.
-ghost use Rattle.std.specs.Prelude.{◌≡◌, ◌++◌, [], true, Some, None, IfOk, OnOk};
+ghost use Rattle.std.specs.Prelude.{◌≡◌, ◌++◌, [], true, Some, None, is_some, IfOk, OnOk};
 ghost use Rattle.std.specs.List.{starts_with};
 ghost use Rattle.std.specs.Option.{option_copied};
 ghost use Rattle.std.specs.Result.{result_ok};
@@ -10,13 +10,12 @@ ghost use Rattle.odb_base.specs.Path.{same_name};
 ghost use Rattle.odb_nodes.specs.Tree.{IsTree};
 ghost use Rattle.odb_nodes.specs.Tree.Change.{changed, is_possible_in};
 ghost use Rattle.odb_nodes.specs.Tree.Follow.{followed, followed_within, most_links, pass, read_of};
-ghost use Rattle.odb_nodes.specs.Tree.Way.{ways_within};
 ghost use Rattle.odb_tree.specs.PassCalls.{onward_of};
 ghost use Rattle.gix_odb_shown.specs.Files.{listed_paths, paths_like};
-ghost use Rattle.gix_odb_shown.specs.Sight.{AreWatchedIn, IsLast, arrival_of, file_arrival, file_put, leads_anew, link_arrival, moved, moved_arrival, place_put, put_path, removed_arrival};
+ghost use Rattle.gix_odb_shown.specs.Sight.{AreWatchedIn, IsLast, arrival_of, empty_arrival, file_arrival, file_put, is_whole, link_arrival, moved, moved_arrival, place_put, put_path};
 
-use crate::shown_file::{joined, listed};
-use crate::towards::{behind, behind_directory};
+use crate::names::{behind, behind_directory, joined};
+use crate::shown_file::listed;
 use crate::watched::{has_watched_name, watched_kind};
 use odb_base::{ByteList, NoMemory, PathText};
 use odb_nodes::{Change, DiskError};
@@ -27,7 +26,7 @@ use std::marker::Model;
 /// The most links that are followed on the way of a path.
 const MAX_LINKS: u8 = 40;
 
-/// A tree as it is, or as it will be after a change that may lead paths elsewhere.
+/// A tree as it is, or as it will be after a change that is told whole.
 #[derive(Drop)]
 pub(crate) struct Sight<'a> {
     tree: &'a Tree,
@@ -75,7 +74,7 @@ impl<'a> Sight<'a> {
     pub(crate) fn after(tree: &'a Tree, change: &'a Change) -> Sight<'a>
         requires is_tree { IsTree tree.now }
         requires possible { is_possible_in tree.now change.now ≡ true }
-        requires leads_anew { leads_anew change.now ≡ true }
+        requires is_whole { is_whole change.now ≡ true }
         ensures after { result ≡ changed tree.now change.now }
     {
         Sight {
@@ -84,13 +83,11 @@ impl<'a> Sight<'a> {
         }
     }
 
-    /// The paths along which a path is followed: itself, and after each link the path that this leads on to.
-    pub(crate) fn ways(&self, alloc: Global, path: &PathText) -> Result<Vec<PathText>, NoMemory>
-        ensures ways { IfOk result (λ ways. ways.items ≡ ways_within most_links self.now true path.now) }
+    /// Whether a link leads on from a path.
+    pub(crate) fn leads_on(&self, alloc: Global, path: &PathText) -> Result<bool, NoMemory>
+        ensures leads { IfOk result (λ leads. leads ≡ is_some (onward_of (pass self.now true [] path.now))) }
     {
-        let mut ways = Vec::new(alloc);
-        self.add_ways(alloc, path, MAX_LINKS, &mut ways)?;
-        Ok(ways)
+        Ok(self.onward(alloc, path)?.is_some())
     }
 
     /// The bytes and the time of the file that a path leads to, if it leads to one.
@@ -139,26 +136,6 @@ impl<'a> Sight<'a> {
         }
     }
 
-    /// Adds the paths along which a path is followed with so many links left.
-    fn add_ways(
-        &self,
-        alloc: Global,
-        path: &PathText,
-        links: u8,
-        ways: &mut Vec<PathText>,
-    ) -> Result<(), NoMemory>
-        ensures added { OnOk result (ways.new.items ≡ ways.old.items ++ ways_within links self.now true path.now) }
-    {
-        ways.push(path.try_clone(alloc)?)?;
-        if links == 0 {
-            return Ok(());
-        }
-        match self.onward(alloc, path)? {
-            None => Ok(()),
-            Some(onward) => self.add_ways(alloc, &onward, links - 1, ways),
-        }
-    }
-
     /// The last of the paths along which a path is followed with so many links left. None where more come.
     fn last_way(
         &self,
@@ -201,7 +178,7 @@ impl<'a> Sight<'a> {
     }
 }
 
-/// Where a path comes after a change that may lead paths elsewhere, or after none.
+/// Where a path comes after a change that is told whole, or after none.
 fn arrival_after(
     alloc: Global,
     change: Option<&Change>,
@@ -219,7 +196,8 @@ fn arrival_after(
             },
         ) => link_arrival(alloc, place, target, like),
         Some(Change::Rename { from, to }) => moved_arrival(alloc, from, to, like),
-        Some(Change::Remove { path: place }) => Ok(removed_arrival(place, like)),
+        Some(Change::Remove { path: place }) => Ok(empty_arrival(place, like)),
+        Some(Change::MakeDir { path: place, .. }) => Ok(empty_arrival(place, like)),
         _ => Ok(Arrival::Like(like)),
     }
 }
@@ -267,8 +245,8 @@ fn moved_arrival(
     Ok(Arrival::Like(path))
 }
 
-fn removed_arrival(place: &PathText, path: PathText) -> Arrival
-    ensures arrival { result ≡ removed_arrival place.now path }
+fn empty_arrival(place: &PathText, path: PathText) -> Arrival
+    ensures arrival { result ≡ empty_arrival place.now path }
 {
     if path.starts_with(place) {
         return Arrival::Nowhere;
@@ -387,6 +365,7 @@ fn put_place<'a>(change: Option<&'a Change>) -> Option<&'a PathText>
 {
     match change {
         Some(Change::PutFile { path, .. }) => Some(path),
+        Some(Change::MakeDir { path, .. }) => Some(path),
         Some(Change::PutLink { path, .. }) => Some(path),
         Some(Change::Rename { to, .. }) => Some(to),
         _ => None,

@@ -1,15 +1,13 @@
 -- What a world keeps of watched paths fits its tree, since some events lead to the world.
-use Rattle.std.proofs.Common.{◌≡◌, ◌≢◌, ◌⊎◌, inl, inr, Bool, true, false, List, [], ◌∷◌, ◌++◌, codes, Option, Some, None, refl, sym, ap, ◌∙◌, subst}
+use Rattle.std.proofs.Common.{◌≡◌, true, [], ◌∷◌, ◌++◌, codes, Option, Some, None, refl, sym, ap, ◌∙◌, subst}
 use Rattle.std.specs.FinSet as set
 use Rattle.std.proofs.Math.Logic.{∥∥₁_elim}
 use Rattle.std.specs.Coded.{Coded-set, coded_bool, coded_list, coded_option, coded_ℕ}
-use Rattle.std.proofs.lemmas.Bool.{false≢true}
 use Rattle.std.proofs.lemmas.Grind.{not_there}
-use Rattle.odb_base.specs.Path.{Name, Path, last_name, parent_of}
-use Rattle.odb_base.specs.PathLaws.{parent_of-nothing, parent_of-push, parent_of-some}
+use Rattle.odb_base.specs.Path.{Name, Path, parent_of}
+use Rattle.odb_base.specs.PathLaws.{parent_of-push, parent_of-some}
 use Rattle.odb_asks.specs.MemDisk.{Volume}
 use Rattle.odb_nodes.specs.Tree.{Tree, tree_of}
-use Rattle.odb_nodes.proofs.TreeLemmas.{cases_path}
 use Rattle.gix_odb_shown.specs.Kept.{Fits, Folders, LiesInOne}
 use Rattle.gix_odb_shown.specs.Watched.{pack_directory}
 use Rattle.gix_odb_world.specs.declared.course.Course.{Course}
@@ -29,19 +27,6 @@ folder_of_directory folders path directory l is = ap parent_of (directory_is fol
 
 own_folder : (folders : Folders) (path directory folder : Path) (l : LiesInOne folders path) → parent_of path ≡ Some directory → parent_of directory ≡ Some folder → l.folder ≡ folder
 own_folder folders path directory folder l is at = let both : Some l.folder ≡ Some folder = sym (folder_of_directory folders path directory l is) ∙ at in cc both
-
--- ---- last names
-
-no_last : (name : Name) (kept : Bool) → (None ≡ Some name) ⊎ (kept ≡ true) → kept ≡ true
-no_last name kept (inl is) = absurd (cc)
-no_last name kept (inr there) = there
-
-one_name : (last name : Name) → last ∷ [] ≡ name ∷ [] → Some last ≡ Some name
-one_name last name same = cc same
-
-other_last : (last name : Name) (kept : Bool) → last ∷ [] ≢ name ∷ [] → (Some last ≡ Some name) ⊎ (kept ≡ true) → kept ≡ true
-other_last last name kept apart (inl is) = absurd (apart (cc is))
-other_last last name kept apart (inr there) = there
 
 -- ---- of a world of which it is known that some events lead there
 
@@ -75,20 +60,6 @@ module _ (world : Course) (explained : IsExplained world) where
     lies : LiesInOne folders path
     lies = by_directory (parent_of path) refl
 
-  -- a name is the last one of a path or another, and a watched path is kept where it is another
-  kept_link : (name : Name) (kept : Bool) (last : Option Name) → (HasHistory world → (last ≡ Some name) ⊎ (kept ≡ true)) → (last ≡ Some name) ⊎ (kept ≡ true)
-  kept_link name kept None known = inr (∥∥₁_elim explained (Coded-set coded_bool _ _) (λ h. no_last name kept (known h)))
-  kept_link name kept (Some last) known =
-      elim (cases_path (last ∷ []) (name ∷ [])) [
-        | inl same ↦ inl (one_name last name same)
-        | inr apart ↦ inr (∥∥₁_elim explained (Coded-set coded_bool _ _) (λ h. other_last last name kept apart (known h)))
-      ]
-
-  -- one of two holds
-  one_or_other : (one other : Bool) → (HasHistory world → (one ≡ true) ⊎ (other ≡ true)) → (one ≡ true) ⊎ (other ≡ true)
-  one_or_other true other known = inl refl
-  one_or_other false other known = inr (∥∥₁_elim explained (Coded-set coded_bool _ _) (λ h. elim (known h) [ inl never ↦ absurd (false≢true never) | inr is ↦ is ]))
-
   fits_by : HasHistory world → Fits world.shown (tree_of world.disk.state)
   fits_by h =
       subst (λ (d : Volume). Fits world.shown (tree_of d.state)) (sym h.explains.disk)
@@ -104,10 +75,5 @@ module _ (world : Course) (explained : IsExplained world) where
     };
     whole = λ path time bytes shows. ∥∥₁_elim explained (Coded-set (coded_option (coded_list coded_ℕ)) _ _) (λ h. (fits_by h).whole path time bytes shows);
     only = λ path time bytes kept. lies world.shown.folders path (λ h. (fits_by h).only path time bytes kept);
-    knows = λ folder among. record {
-      links = λ name kind is q on. kept_link name _ (last_name q) (λ h. ((fits_by h).knows folder among).links name kind is q on);
-      directory = λ way q one front. ∥∥₁_elim explained (Coded-set coded_bool _ _) (λ h. ((fits_by h).knows folder among).directory way q one front);
-      passed = λ name kind is q step rest way. one_or_other _ _ (λ h. ((fits_by h).knows folder among).passed name kind is q step rest way);
-      touched = λ name kind is q on. ∥∥₁_elim explained (Coded-set coded_bool _ _) (λ h. ((fits_by h).knows folder among).touched name kind is q on);
-    };
+    knows = λ folder among name kind is place on. ∥∥₁_elim explained (Coded-set coded_bool _ _) (λ h. (fits_by h).knows folder among name kind is place on);
   }

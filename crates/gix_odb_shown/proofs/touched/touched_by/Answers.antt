@@ -1,12 +1,11 @@
-use Rattle.gix_odb_shown.specs.Led.{is_in}
-use Rattle.gix_odb_shown.specs.Ways.{is_touched}
 use Rattle.gix_odb_shown.proofs.PlacesLemmas.{touched_first, touched_next}
 use Rattle.gix_odb_shown.proofs.touched.touched_by.Goals as goal
 
 pub loop-place-init : goal.loop-place-init
-loop-place-init c folder = touched_first c.new-touched.result.keys c.args.watched.now.keys folder c.new-touched.ensures.empty
+loop-place-init c =
+    touched_first c.args.watched.now.keys c.args.linked.now.keys c.in_ok-both.field-0.items c.new.result.items c.in_ok-both.ensures.only c.in_ok-both.ensures.whole c.new.ensures.items
 
 pub loop-place-preserved : goal.loop-place-preserved
-loop-place-preserved c folder =
-    touched_next (is_touched c.args.ways.now folder) c.loop-place.yielded c.in-Some.place (is_in c.args.watched.now.keys folder) (is_in c.add_touched.new.touched.keys folder)
-    (is_in c.loop-place.touched.keys folder) (c.loop-place.invariant folder) (c.in_ok-add_touched.ensures.added folder)
+loop-place-preserved c =
+    touched_next c.args.watched.now.keys c.args.linked.now.keys c.loop-place.yielded c.loop-place.touched.folders.items c.add_touched.new.touched.folders.items
+    c.loop-place.touched.named.items c.add_touched.new.touched.named.items c.in-Some.place c.loop-place.invariant c.in_ok-add_touched.ensures.below c.in_ok-add_touched.ensures.named

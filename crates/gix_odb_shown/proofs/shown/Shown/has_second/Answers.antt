@@ -9,7 +9,7 @@ use Rattle.gix_odb_shown.proofs.shown.Shown.has_second.Goals as goal
 pub returns : goal.returns
 returns c = record {
   second = λ before after fits is.
-      second_answered c.args.self.now before after c.args.revealed.now.found.files.items fits is.found.reveals c.differs_from_one.result
+      second_answered c.args.self.now before after c.args.revealed.now.files.items fits is.reveals c.differs_from_one.result
       (c.differs_from_one.ensures.differs ∙ ap (λ (files : List ShownFile). list_any (differs c.self.inside.contents) files) c.deref.ensures.value
-      ∙ ap (λ (k : Kept). list_any (differs k.contents) c.args.revealed.now.found.files.items) c.self.view_is);
+      ∙ ap (λ (k : Kept). list_any (differs k.contents) c.args.revealed.now.files.items) c.self.view_is);
 }
