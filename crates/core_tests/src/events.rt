@@ -5,13 +5,13 @@
 //! multi-pack index), `pass SEAT SLOT PATH WHY`, and `publish SEAT BASE ROW ROW ..`. A row is `PATH` or `PATH+TIME` for a
 //! single index, and `PATH@TIME` for a multi-pack index.
 use crate::files::{index_file, multi_file, pack_file};
-use crate::text::Text;
-use crate::words::{cut, parts_of};
+use crate::words::parts_of;
 use gix_odb_core::{Event, Listing, ListingRow, ListingRowList, PackId, PassWhy, Shared};
 use gix_pack::multi_index;
 use odb_base::PathText;
 use std::alloc::Global;
 use std::test::Fail;
+use test_words::{Text, cut};
 
 /// The event of a verb and the words behind the seat.
 pub fn event_of(alloc: Global, verb: &str, rest: &str) -> Result<Event, Fail> {
@@ -163,8 +163,8 @@ pub fn put_event(text: &mut Text, seat: u32, event: &Event) {
         }
         Event::PassOver { slot, path, why } => {
             text.marked(" ", u64::from(*slot));
-            text.path(" ", path);
-            text.word(" ", word_of_why(*why));
+            text.marked(" ", path);
+            text.marked(" ", word_of_why(*why));
         }
         Event::Publish(listing) => put_listing(text, listing),
         _ => {}
@@ -172,7 +172,7 @@ pub fn put_event(text: &mut Text, seat: u32, event: &Event) {
 }
 
 fn put_file(text: &mut Text, path: &PathText, count: u32) {
-    text.path(" ", path);
+    text.marked(" ", path);
     text.marked(" ", u64::from(count));
 }
 
@@ -186,7 +186,7 @@ fn put_pack_id(text: &mut Text, pack: PackId) {
 fn put_listing(text: &mut Text, listing: &Listing) {
     text.marked(" ", listing.base);
     for row in listing.rows.as_slice() {
-        text.path(" ", &row.path);
+        text.marked(" ", &row.path);
         put_time(text, row.multi.is_some(), row.time);
     }
 }

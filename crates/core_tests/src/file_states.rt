@@ -1,10 +1,9 @@
 //! The states of a file, turned both ways.
-use crate::text::Text;
-use crate::words::{compare, halves};
 use gix_odb_core::{FileState, OnDiskFile, Shared};
 use odb_base::PathText;
 use std::alloc::Global;
 use std::test::Fail;
+use test_words::{Text, wide_halves};
 
 /// States of a file in which 7 was read if something was, and what it answers as it is, once it is trashed, and once it is put back then.
 const ROWS: &[&str] = &[
@@ -30,7 +29,7 @@ fn put_answers(text: &mut Text, mark: &str, file: &OnDiskFile<u8>) {
     } else {
         "unloaded"
     };
-    text.word(mark, loaded);
+    text.marked(mark, loaded);
     if let Some(read) = file.loaded() {
         text.marked(" ", u64::from(*read));
     }
@@ -48,12 +47,12 @@ fn put_turns(text: &mut Text, file: &mut OnDiskFile<u8>) {
 }
 
 fn check(alloc: Global, row: &str) -> Result<(), Fail> {
-    let (state, want) = halves(row);
+    let (state, want) = wide_halves(row);
     let path = Shared::new(alloc, PathText::parse(alloc, "/o/pack/pack-a.idx")?)?;
     let mut file = OnDiskFile::new(path, state_of(state));
     let mut text = Text::new(alloc);
     put_turns(&mut text, &mut file);
-    compare(state, &text, want)
+    text.check(state, want)
 }
 
 // A file that is trashed twice, or put back as something else.

@@ -2,7 +2,7 @@
 use crate::events::put_time;
 use crate::model::Model;
 use crate::shelf::Place;
-use crate::text::Text;
+use test_words::Text;
 
 /// How events are made up: how often of 16 times a new handle is stable, a handle that isn't stable is upgraded, and a handle is removed.
 pub struct Ways {
@@ -159,7 +159,7 @@ fn put_index(text: &mut Text, numbers: &mut Numbers, model: &Model, seat: u64) {
     let slot = slot_of(numbers, model, true);
     text.marked("index ", seat);
     text.marked(" ", slot as u64);
-    text.word(" ", index_path(numbers, model.shelf.at(slot)));
+    text.marked(" ", index_path(numbers, model.shelf.at(slot)));
     text.marked(" ", numbers.below(4));
 }
 
@@ -170,7 +170,7 @@ fn put_pack(text: &mut Text, numbers: &mut Numbers, model: &Model, seat: u64) {
     if numbers.happens(6) {
         text.marked(".", numbers.below(2));
     }
-    text.word(" ", pack_path(numbers, model.shelf.at(slot)));
+    text.marked(" ", pack_path(numbers, model.shelf.at(slot)));
     text.marked(" ", numbers.below(4));
 }
 
@@ -186,8 +186,8 @@ fn put_pass(text: &mut Text, numbers: &mut Numbers, model: &Model, seat: u64) {
     let slot = any_slot(numbers, model);
     text.marked("pass ", seat);
     text.marked(" ", slot as u64);
-    text.word(" ", file_path(numbers, model.shelf.at(slot)));
-    text.word(" ", numbers.word(REASONS));
+    text.marked(" ", file_path(numbers, model.shelf.at(slot)));
+    text.marked(" ", numbers.word(REASONS));
 }
 
 /// A listing: mostly a new one on the newest list, now and then the same again, or one that began before.
@@ -210,7 +210,7 @@ fn put_publish(text: &mut Text, numbers: &mut Numbers, ways: &Ways, model: &Mode
 }
 
 fn put_row(text: &mut Text, path: &str, multi: bool, time: u64) {
-    text.word(" ", path);
+    text.marked(" ", path);
     put_time(text, multi, time);
 }
 

@@ -6,11 +6,10 @@ ghost use Rattle.gix_odb_core.specs.Replay.{CanHappen};
 use crate::apart::can_be_published;
 use crate::events::event_of;
 use crate::shown::put_answer;
-use crate::text::Text;
-use crate::words::cut;
 use gix_odb_core::{Core, Event};
 use std::alloc::Global;
 use std::test::Fail;
+use test_words::{Text, cut};
 
 /// Whether an event can happen.
 fn can_happen(core: &Core, seat: u32, event: &Event) -> bool

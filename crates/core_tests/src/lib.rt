@@ -42,6 +42,4 @@ mod shown;
 #[cfg(test)]
 mod table;
 #[cfg(test)]
-mod text;
-#[cfg(test)]
 mod words;

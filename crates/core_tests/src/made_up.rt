@@ -2,11 +2,10 @@
 use crate::generator::{Numbers, Ways, put_made_up};
 use crate::model::{Model, Opening};
 use crate::table::{check_core, core_of};
-use crate::text::Text;
-use crate::words::cut;
 use gix_odb_core::Core;
 use std::alloc::Global;
 use std::test::Fail;
+use test_words::{Text, cut};
 
 const EVENTS: usize = 2_000;
 
@@ -88,8 +87,8 @@ fn check_newest(
 ) -> Result<(), Fail> {
     let mut want = Text::new(alloc);
     want.marked("", number);
-    want.word(" ", line);
-    want.word(": ", answer);
+    want.marked(" ", line);
+    want.marked(": ", answer);
     check_core(alloc, core, "newest", want.as_str())
 }
 

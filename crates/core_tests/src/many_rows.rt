@@ -1,15 +1,15 @@
 //! A listing of many rows.
 use crate::table::{check_core, core_of};
-use crate::text::Text;
 use std::alloc::Global;
 use std::test::Fail;
+use test_words::Text;
 
 const ROWS: u64 = 50;
 
 /// A publish of many rows over a list.
 fn publish_over(alloc: Global, base: &str) -> Text {
     let mut text = Text::new(alloc);
-    text.word("publish 0 ", base);
+    text.marked("publish 0 ", base);
     for row in 0..ROWS {
         text.marked(" /", row);
         text.put(".idx");
@@ -20,7 +20,7 @@ fn publish_over(alloc: Global, base: &str) -> Text {
 /// An answer, with each row in the slot of its number.
 fn all_listed(alloc: Global, answer: &str) -> Text {
     let mut text = Text::new(alloc);
-    text.word(answer, " [] [] [");
+    text.marked(answer, " [] [] [");
     for row in 0..ROWS {
         text.comma();
         text.marked("", row);

@@ -2,9 +2,8 @@
 //! events in words, and tells what is to come of them. It shares nothing with the core.
 use crate::model_files::Turn;
 use crate::shelf::{Listed, Shelf};
-use crate::text::Text;
-use crate::words::cut;
 use std::alloc::Global;
+use test_words::{Text, cut};
 
 /// The second model.
 #[derive(Drop)]
@@ -112,7 +111,7 @@ impl Model {
         let (slot, path, why) = file_of(words);
         self.passed.comma();
         self.passed.put(path);
-        self.passed.word(" ", why);
+        self.passed.marked(" ", why);
         self.shelf.turn(slot, Turn::Missed(path));
         self.put_view(text, "seen #");
     }

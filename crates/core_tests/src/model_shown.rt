@@ -2,7 +2,7 @@
 use crate::model::Model;
 use crate::model_files::{File, Held, State};
 use crate::shelf::Place;
-use crate::text::Text;
+use test_words::Text;
 
 /// A sum over slots.
 #[derive(Clone, Copy)]
@@ -58,7 +58,7 @@ fn put_pack(text: &mut Text, file: File) {
     if file.path.is_empty() {
         return;
     }
-    text.word(" ", file.path);
+    text.marked(" ", file.path);
     match file.state {
         State::Unread => text.put("-"),
         State::Here(count) => text.marked("=", count),
@@ -85,7 +85,7 @@ fn put_index(text: &mut Text, slot: usize, place: Place, read: bool) {
     if held.index.count().is_some() == read {
         text.comma();
         text.marked("", slot as u64);
-        text.word(":", held.row.path);
+        text.marked(":", held.row.path);
         put_loaded(text, held);
     }
 }
@@ -97,13 +97,13 @@ fn put_state(text: &mut Text, held: Held) {
         ""
     };
     let waste = if held.is_waste() { "!" } else { "" };
-    text.word(read, waste);
+    text.marked(read, waste);
 }
 
 fn put_marks(text: &mut Text, place: Place) {
     if let Some(held) = place {
         text.comma();
-        text.word(held.row.path, if held.row.multi { "*" } else { "" });
+        text.marked(held.row.path, if held.row.multi { "*" } else { "" });
         put_state(text, held);
     }
 }
@@ -185,7 +185,7 @@ impl Model {
         self.put_counts(text);
         text.put(" [");
         self.put_all_marks(text);
-        text.word("]", self.passed.as_str());
+        text.marked("]", self.passed.as_str());
         text.put("]");
     }
 

@@ -1,9 +1,8 @@
 //! Counts over a core, and what it reports.
 use crate::shown::put_metrics;
-use crate::text::Text;
-use crate::words::compare;
 use gix_odb_core::{Metrics, SlotIndexMarker};
 use std::test::Fail;
+use test_words::Text;
 
 // Ten slots, nine folders. The counts stand behind the view: handles, refreshes, loaded and listed indices, their loaded packs and all their packs,
 // empty slots, slots with garbage or a missing file, the loaded packs of these, folders.
@@ -40,7 +39,7 @@ pub const REPORTS: &[&str] = &[
 fn zeros(rt: HostRuntime) -> Result<(), Fail> {
     let mut counts = Text::new(rt.alloc());
     put_metrics(&mut counts, &Metrics::default());
-    compare("no counts", &counts, " 0 0 0 0 0 0 0 0 0 0")?;
+    counts.check("no counts", " 0 0 0 0 0 0 0 0 0 0")?;
     let marker = SlotIndexMarker::default();
     assert!(rt; marker.generation == 0 && marker.state_id == 0);
     Ok(())

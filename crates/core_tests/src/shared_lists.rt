@@ -1,9 +1,8 @@
 //! A list that goes on beside an older copy of it, with which it shares blocks of 64 places.
-use crate::text::Text;
-use crate::words::compare;
 use odb_shared::{Shared, SharedList};
 use std::alloc::Global;
 use std::test::Fail;
+use test_words::Text;
 
 /// In which turn an item was put into a list, and where.
 #[derive(Drop)]
@@ -25,7 +24,7 @@ fn check(alloc: Global, list: &SharedList<Mark>, want: &str) -> Result<(), Fail>
             text.marked(":", mark.value().1 as u64);
         }
     }
-    compare("list", &text, want)
+    text.check("list", want)
 }
 
 // An older copy that changes with the list.

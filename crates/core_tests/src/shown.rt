@@ -5,13 +5,13 @@
 //! `=COUNT` for a single one and `*COUNT` for a multi-pack index of so many objects, and its packs behind it: `-` is
 //! unloaded, `!` missing, `=COUNT` loaded and `~COUNT` garbage.
 use crate::events::{put_event, word_of_why};
-use crate::text::Text;
 use gix_odb_core::{
     Core, Effect, Entry, KeptList, Listed, LoadedIndex, LoadedRest, Metrics, OnDiskFile, Passed,
     Refusal, Report, Shared, SnapshotIndex, Todo, TodoRest, View,
 };
 use gix_pack::data;
 use odb_base::NoMemory;
+use test_words::Text;
 
 /// Puts an answer behind a text.
 pub fn put_answer(text: &mut Text, answer: &Result<Effect, Refusal>) {
@@ -91,7 +91,7 @@ fn put_index(text: &mut Text, index: Result<Option<SnapshotIndex>, NoMemory>) {
     };
     text.comma();
     text.marked("", u64::from(index.slot));
-    text.path(":", index.path.value());
+    text.marked(":", index.path.value());
     put_loaded(text, &index.index);
     put_packs(text, index.packs.value().as_slice());
 }
@@ -105,7 +105,7 @@ fn put_loaded(text: &mut Text, index: &LoadedIndex) {
 
 fn put_packs(text: &mut Text, packs: &[OnDiskFile<Shared<data::File>>]) {
     for pack in packs {
-        text.path(" ", pack.path());
+        text.marked(" ", pack.path());
         put_state(text, pack);
     }
 }
@@ -135,7 +135,7 @@ fn put_unloaded(text: &mut Text, todo: Result<Option<Todo>, NoMemory>) {
     };
     text.comma();
     text.marked("", u64::from(todo.slot));
-    text.path(":", todo.path.value());
+    text.marked(":", todo.path.value());
 }
 
 /// A report behind a view: the counts, the listed slots, with `*` for multi-pack indices, `=` for loaded ones and `!`
@@ -169,7 +169,7 @@ pub fn put_metrics(text: &mut Text, metrics: &Metrics) {
 fn put_listed(text: &mut Text, listed: &[Listed]) {
     for row in listed {
         text.comma();
-        text.path("", row.path.value());
+        text.marked("", row.path.value());
         text.put(if row.multi { "*" } else { "" });
         text.put(if row.loaded { "=" } else { "" });
         text.put(if row.disposable { "!" } else { "" });
@@ -179,7 +179,7 @@ fn put_listed(text: &mut Text, listed: &[Listed]) {
 fn put_passed(text: &mut Text, passed: &[Passed]) {
     for file in passed {
         text.comma();
-        text.path("", file.path.value());
+        text.marked("", file.path.value());
         text.put(" ");
         text.put(word_of_why(file.why));
     }

@@ -5,11 +5,10 @@
 use crate::happening::happen;
 use crate::model::{Model, Opening};
 use crate::shown::{put_entry_at, put_present};
-use crate::text::Text;
-use crate::words::{compare, cut, halves};
 use gix_odb_core::Core;
 use std::alloc::Global;
 use std::test::Fail;
+use test_words::{Text, cut, wide_halves};
 
 /// Puts what a core tells of a row, or what its event answers, behind a text.
 fn put_told(alloc: Global, core: &mut Core, line: &str, text: &mut Text) -> Result<(), Fail> {
@@ -29,7 +28,7 @@ fn put_told(alloc: Global, core: &mut Core, line: &str, text: &mut Text) -> Resu
 pub fn check_core(alloc: Global, core: &mut Core, line: &str, want: &str) -> Result<(), Fail> {
     let mut found = Text::new(alloc);
     put_told(alloc, core, line, &mut found)?;
-    compare(line, &found, want)
+    found.check(line, want)
 }
 
 /// Compares what the second model tells of a row, unless the row is of the journal.
@@ -43,11 +42,11 @@ fn check_model(alloc: Global, model: &mut Model, line: &str, want: &str) -> Resu
     } else {
         model.play(line, &mut told);
     }
-    compare("the second model", &told, want)
+    told.check("the second model", want)
 }
 
 fn check_row(alloc: Global, core: &mut Core, model: &mut Model, row: &str) -> Result<(), Fail> {
-    let (line, want) = halves(row);
+    let (line, want) = wide_halves(row);
     check_core(alloc, core, line, want)?;
     check_model(alloc, model, line, want)
 }

@@ -7,8 +7,8 @@ use std::test::Fail;
 // Catches a look or a read at the wrong path, an error in place of another, a device not taken from the folder, and
 // bytes or a time of another file.
 const LOOKS: &str = "\
-    make /o|done\n\
-    put /o/f|done\n\
+    make /o 3|done\n\
+    put /o/f 7 hi|done\n\
     follow /|Dir 0 1 0 0\n\
     follow /o|Dir 3 2 0 0\n\
     follow /o/f|File 3 3 2 7\n\
@@ -24,32 +24,32 @@ const LOOKS: &str = "\
 
 // Catches a fault at the wrong call, and a change that is counted.
 const FAULTS: &str = "\
-    make /o|done\n\
-    put /o/f|done\n\
-    put /o/f|done\n\
+    make /o 3|done\n\
+    put /o/f 7 hi|done\n\
+    put /o/f 7 hi|done\n\
     follow /o/f|File 3 3 2 7\n\
-    put /o/f|done\n\
+    put /o/f 7 hi|done\n\
     follow /x|Failed\n\
-    put /o/f|done\n\
+    put /o/f 7 hi|done\n\
     follow /x|Absent\n\
-    put /o/f|done\n\
+    put /o/f 7 hi|done\n\
     follow /o/f|Failed\n\
     counts|4 2";
 
 // Catches a piece that is put before the old bytes, and a call that fails and appends nevertheless.
 const APPENDS: &str = "\
-    make /o|done\n\
-    put /o/f|done\n\
+    make /o 3|done\n\
+    put /o/f 7 hi|done\n\
     append /o/f there|done\n\
     append /o/f nobody|Failed\n\
     append /o/f|done\n\
-    lengthen /o/f !|done\n\
+    more /o/f !|done\n\
     read /o/f|hithere! 7";
 
 // Catches a call that writes otherwise than it says.
 const WRITES: &str = "\
-    make /o|done\n\
-    put /o/f|done\n\
+    make /o 3|done\n\
+    put /o/f 7 hi|done\n\
     mkdir /p|done\n\
     mkdir /p|Exists\n\
     new /p/f|done\n\
@@ -61,8 +61,8 @@ const WRITES: &str = "\
 
 // Catches a call as a value that is carried out as another one, and a tree that isn't the disk's.
 const VALUES: &str = "\
-    make /o|done\n\
-    put /o/f|done\n\
+    make /o 3|done\n\
+    put /o/f 7 hi|done\n\
     value follow /o/f|Look File 3 3 2 7\n\
     value read /o/f|Read hi 7\n\
     value mkdir /p|MakeDir done\n\
@@ -98,7 +98,7 @@ fn check_copy(alloc: Global, disk: &mut MemDisk, rows: &str, copied: &str) -> Re
 }
 
 fn check_copies(alloc: Global, disk: &mut MemDisk) -> Result<(), Fail> {
-    check(alloc, disk, "make /o|done\nput /o/f|done")?;
+    check(alloc, disk, "make /o 3|done\nput /o/f 7 hi|done")?;
     let copied = "follow /o/f|Failed\nfollow /o/f|File 3 3 2 7";
     check_copy(alloc, disk, "take /o/f|done", copied)?;
     check(alloc, disk, "counts|0 0")

@@ -1,8 +1,8 @@
 //! What lists are given stands in them.
-use crate::words::{compare, cut};
 use odb_base::{ByteList, NoMemory, Sequence};
 use std::alloc::{AllocError, Global};
 use std::test::Fail;
+use test_words::{compare, cut};
 
 /// A list of a word's bytes, a blank, and the bytes of the rest.
 fn bytes_of(alloc: Global, text: &str) -> Result<ByteList, NoMemory> {

@@ -1,7 +1,6 @@
 //! A disk in memory in words: what calls, changes and counts give.
 use crate::words::{
-    add, answer_shown, ask_of, change_of, change_shown, compare, cut, error_shown, file_shown,
-    halves, meta_shown, next_shown,
+    answer_shown, ask_of, change_shown, error_shown, file_shown, meta_shown, next_shown,
 };
 use odb_disk::{
     ByteList, Change, DirId, Disk, DiskAnswer, DiskAsk, DiskError, MemDisk, Meta, Op, PathText,
@@ -9,11 +8,12 @@ use odb_disk::{
 };
 use std::alloc::{AllocError, Global};
 use std::test::Fail;
+use test_words::{add, change_of, compare, cut, halves};
 
 fn told(alloc: Global, disk: &mut MemDisk, text: &str) -> Result<String, Fail> {
     let (verb, rest) = cut(text);
     match verb {
-        "put" | "make" | "move" | "lengthen" | "link" | "time" | "take" => {
+        "put" | "make" | "move" | "more" | "link" | "time" | "take" => {
             changed(alloc, disk, verb, rest)
         }
         "open" => opened(alloc, disk, rest),

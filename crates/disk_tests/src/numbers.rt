@@ -1,8 +1,8 @@
 //! What is read as a decimal number.
-use crate::words::{compare, halves};
 use odb_base::parse_decimal;
 use std::alloc::{AllocError, Global};
 use std::test::Fail;
+use test_words::{compare, halves};
 
 fn shown(alloc: Global, text: &str) -> Result<String, AllocError> {
     match parse_decimal(text) {

@@ -1,8 +1,8 @@
 //! Which texts are paths, and what their calls give.
-use crate::words::{compare, cut, halves};
 use odb_base::{BadPath, NoMemory, PathName, PathText};
 use std::alloc::{AllocError, Global};
 use std::test::Fail;
+use test_words::{compare, cut, halves};
 
 /// What a call of paths gives, in words.
 fn told(alloc: Global, text: &str) -> Result<String, Fail> {

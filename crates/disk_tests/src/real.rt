@@ -1,12 +1,11 @@
 //! A real disk in words: what its calls give in a folder, without what the system chooses.
-use crate::words::{
-    answer_shown, ask_of, compare, cut, error_shown, halves, kind_word, next_shown,
-};
+use crate::words::{answer_shown, ask_of, error_shown, kind_word, next_shown};
 use odb_disk::{DirId, Disk, DiskAnswer, DiskAsk, Entry, Meta, PathText};
 use odb_host::HostDisk;
 use std::alloc::{AllocError, Global};
 use std::test::Fail;
 use std::{env, fs, io};
+use test_words::{compare, cut, halves};
 
 /// Makes an empty folder and goes there.
 pub(crate) fn enter(rt: &HostRuntime, folder: &str) -> io::Result<()> {

@@ -1,11 +1,11 @@
 //! What a real disk tells of large and odd directories.
 use crate::real::{count, enter, listed_there, path_here};
-use crate::words::compare;
 use odb_disk::{DirId, Disk, Entry, PathText};
 use odb_host::HostDisk;
 use std::alloc::{AllocError, Global};
 use std::fs;
 use std::test::Fail;
+use test_words::compare;
 
 // Catches a device that is passed over in silence, or that hides the entries beside it.
 #[test]

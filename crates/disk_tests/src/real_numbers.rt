@@ -1,6 +1,5 @@
 //! The numbers and times that a real disk tells.
 use crate::real::{enter, here, path_here, path_of};
-use crate::words::{compare, cut, halves};
 use odb_disk::{Disk, DiskError, Entry, Meta, PathText};
 use odb_host::HostDisk;
 use std::alloc::{AllocError, Global};
@@ -9,6 +8,7 @@ use std::io;
 use std::os::unix::fs::{MetadataExt, symlink};
 use std::test::Fail;
 use std::time::{Duration, UNIX_EPOCH};
+use test_words::{compare, cut, halves};
 
 /// The time that the bytes of the file are given: nanoseconds since 1970, in September 2001. Its other times are those of
 /// the test.

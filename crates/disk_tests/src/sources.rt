@@ -2,11 +2,11 @@
 ghost use Rattle.std.specs.Prelude.{◌≤◌, IfOk};
 
 use crate::real::count;
-use crate::words::{compare, halves};
 use odb_disk::{Failed, MemSink, MemSource, Sink, Source, StdSink, StdSource};
 use std::alloc::{AllocError, Global};
 use std::io::{self, ErrorKind, Read, Write};
 use std::test::Fail;
+use test_words::{compare, halves};
 
 /// What a read gives, and what the buffer then holds.
 fn read_shown(

@@ -5,13 +5,13 @@ use std::test::Fail;
 // Catches a stream that sees later changes or forgets its order, an entry that is given twice or lost by a failed
 // call, a number that isn't the least free one, and a close that is counted.
 const ROWS: &str = "\
-    make /a|done\n\
-    make /a/b|done\n\
-    put /a/b/c|done\n\
-    put /a/b.x|done\n\
-    put /a/b0|done\n\
+    make /a 3|done\n\
+    make /a/b 3|done\n\
+    put /a/b/c 7 hi|done\n\
+    put /a/b.x 7 hi|done\n\
+    put /a/b0 7 hi|done\n\
     link /l /a|done\n\
-    put /f|done\n\
+    put /f 7 hi|done\n\
     open /f|WrongKind\n\
     open /x|Absent\n\
     open /f/x|WrongKind\n\
@@ -20,7 +20,7 @@ const ROWS: &str = "\
     open /a/b|2\n\
     next 0|b Dir 3\n\
     take /a/b0|done\n\
-    put /a/z|done\n\
+    put /a/z 7 hi|done\n\
     next 0|b.x File 5\n\
     next 1|a Dir 2\n\
     close 1|done\n\
@@ -59,7 +59,7 @@ const MADE_BY_CALLS: &str = "\
 
 // Catches a file that is taken for a directory.
 const AT_A_FILE: &str = "\
-    put /a|done\n\
+    put /a 7 hi|done\n\
     read /a|hi 7\n\
     open /a|WrongKind\n\
     follow /a/b|WrongKind\n\
@@ -68,8 +68,8 @@ const AT_A_FILE: &str = "\
 
 // Catches a call of streams as a value that is another call, tells another number, or is counted where it closes.
 const VALUES: &str = "\
-    make /a|done\n\
-    put /a/f|done\n\
+    make /a 3|done\n\
+    put /a/f 7 hi|done\n\
     value open /x|OpenDir Absent\n\
     value open /a|OpenDir 0\n\
     value open /|OpenDir 1\n\

@@ -1,80 +1,8 @@
 //! The rows of the tests, and calls, changes and answers of disks in words.
-use odb_disk::{
-    ByteList, Change, DiskAnswer, DiskAsk, DiskError, Entry, Impossible, Kind, Meta, PathText,
-};
+use odb_disk::{ByteList, DiskAnswer, DiskAsk, DiskError, Entry, Impossible, Kind, Meta, PathText};
 use std::alloc::{AllocError, Global};
 use std::test::Fail;
-
-/// The first word of a text and what stands behind it, which is empty where there is one word alone.
-pub(crate) fn cut(text: &str) -> (&str, &str) {
-    text.split_once(' ').unwrap_or((text, ""))
-}
-
-/// What a row does, and what is to come of it.
-pub(crate) fn halves(row: &str) -> (&str, &str) {
-    row.split_once('|').unwrap_or((row, ""))
-}
-
-/// Fails where a row gives something else than is wanted.
-pub(crate) fn compare(text: &str, found: &str, want: &str) -> Result<(), Fail> {
-    if found == want {
-        return Ok(());
-    }
-    Err(Fail::new(format_args!("{text}: {found} in place of {want}")))
-}
-
-/// Adds a text to a list of texts with commas between them.
-pub(crate) fn add(all: &mut String, text: &str) -> Result<(), AllocError> {
-    if !all.is_empty() {
-        all.push_str(", ")?;
-    }
-    all.push_str(text)
-}
-
-/// A change in words: `put` of a file of two bytes and time 7, `make` of a directory on device 3, `move` of
-/// one path to another, `lengthen` of a file by a text, `link` to another path, `time` 9 of a file, or `take` of what
-/// is there.
-pub(crate) fn change_of(alloc: Global, verb: &str, rest: &str) -> Result<Change, Fail> {
-    match verb {
-        "move" | "link" => two_paths_change(alloc, verb, rest),
-        "lengthen" => lengthen_of(alloc, rest),
-        "put" => put_of(alloc, PathText::parse(alloc, rest)?),
-        _ => Ok(path_change(verb, PathText::parse(alloc, rest)?)),
-    }
-}
-
-fn put_of(alloc: Global, path: PathText) -> Result<Change, Fail> {
-    let bytes = ByteList::from_slice(alloc, b"hi")?;
-    Ok(Change::PutFile {
-        path,
-        time: 7,
-        bytes,
-    })
-}
-
-fn path_change(verb: &str, path: PathText) -> Change {
-    match verb {
-        "make" => Change::MakeDir { path, dev: 3 },
-        "time" => Change::SetTime { path, time: 9 },
-        _ => Change::Remove { path },
-    }
-}
-
-fn two_paths_change(alloc: Global, verb: &str, ends: &str) -> Result<Change, Fail> {
-    let (from, to) = two_paths(alloc, ends)?;
-    Ok(match verb {
-        "move" => Change::Rename { from, to },
-        _ => Change::PutLink {
-            path: from,
-            target: to,
-        },
-    })
-}
-
-fn lengthen_of(alloc: Global, rest: &str) -> Result<Change, Fail> {
-    let (path, bytes) = path_and_bytes(alloc, rest)?;
-    Ok(Change::Append { path, bytes })
-}
+use test_words::cut;
 
 /// Two paths with a blank between them.
 fn two_paths(alloc: Global, ends: &str) -> Result<(PathText, PathText), Fail> {

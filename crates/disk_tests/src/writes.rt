@@ -5,13 +5,13 @@ use std::test::Fail;
 /// The folder `/o`, the file `/o/f`, links to both, to nowhere and to itself, an empty folder `/e` and a link
 /// to it.
 const MADE: &str = "\
-    make /o|done\n\
-    put /o/f|done\n\
+    make /o 3|done\n\
+    put /o/f 7 hi|done\n\
     link /d /o|done\n\
     link /o/l /d/f|done\n\
     link /n /x|done\n\
     link /s /s|done\n\
-    make /e|done\n\
+    make /e 3|done\n\
     link /o/d /e|done";
 
 // Catches a link that isn't followed on the way or in the last place, and a walk along links with no end.
@@ -113,16 +113,16 @@ const MOVES: &str = "\
 const PUTS: &str = "\
     link /d /e; look /d; follow /d/d|done, Link 0 4 0 0, Absent\n\
     link /o/f /e; look /o/f|done, Link 3 10 0 0\n\
-    put /d; look /d|done, File 0 10 2 7\n\
+    put /d 7 hi; look /d|done, File 0 10 2 7\n\
     link /o /e|impossible change\n\
     link / /e|impossible change\n\
     link /x/y /e|impossible change\n\
     link /d/y /e|impossible change\n\
-    time /o/f; look /o/f; new /t; time /t; look /t|done, File 3 3 2 9, done, done, File 0 10 0 9\n\
-    time /d|impossible change\n\
-    time /o|impossible change\n\
-    time /d/f|impossible change\n\
-    time /x|impossible change";
+    time /o/f 9; look /o/f; new /t; time /t 9; look /t|done, File 3 3 2 9, done, done, File 0 10 0 9\n\
+    time /d 9|impossible change\n\
+    time /o 9|impossible change\n\
+    time /d/f 9|impossible change\n\
+    time /x 9|impossible change";
 
 const TABLES: [&str; 8] = [
     LINKS,

@@ -1,11 +1,11 @@
 //! What ends early where a flag is set.
-use crate::words::{add, compare};
 use gix_features_parts::interrupt::{self, AtomicFlag, Flag, Iter, IterWithErr, SetAfter};
 use odb_disk::{MemSink, MemSource};
 use std::alloc::{AllocError, Global};
 use std::fmt::Debug;
 use std::sync::atomic::{AtomicBool, Ordering};
 use std::test::Fail;
+use test_words::{add, compare};
 
 const NUMBERS: [u8; 3] = [1, 2, 3];
 

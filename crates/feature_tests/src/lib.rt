@@ -15,5 +15,3 @@ mod numbers;
 mod orders;
 #[cfg(test)]
 mod turned;
-#[cfg(test)]
-mod words;

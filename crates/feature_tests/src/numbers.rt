@@ -1,13 +1,13 @@
 //! Numbers of variable length, numbers of threads, and sizes of chunks.
 ghost use Rattle.std.specs.Prelude.{◌≡◌, IsSome, IsErrOf};
 
-use crate::words::{add, compare, halves};
 use gix_features_parts::decode::{Error, leb64_from_read};
 use gix_features_parts::iter::Chunks;
 use gix_features_parts::parallel::{num_threads, optimize_chunk_size_and_thread_limit};
 use odb_disk::{MemSource, NoMemory, Source};
 use std::alloc::{AllocError, Global};
 use std::test::Fail;
+use test_words::{add, compare, halves};
 
 /// The bytes that a text of hex digits spells.
 fn bytes_of(alloc: Global, digits: &str) -> Result<Vec<u8>, AllocError> {

@@ -3,11 +3,11 @@ ghost use Rattle.std.specs.Prelude.{ℕ, List, Ok, map, IfOk};
 ghost use Rattle.std.specs.Iterator.{AlwaysYields, IsFinite};
 ghost use Rattle.gix_features_parts.specs.InOrderRuns.{ArriveOnce, GivesInTurn, GivesItems};
 
-use crate::words::{add, compare, halves};
 use gix_features_parts::parallel::reduce::{IdentityWithResult, Reduce};
 use gix_features_parts::parallel::{InOrderError, InOrderIter};
 use std::alloc::{AllocError, Global};
 use std::test::Fail;
+use test_words::{add, compare, halves};
 
 /// The error of an inner iterator.
 #[derive(Clone, Copy, Debug, Drop)]

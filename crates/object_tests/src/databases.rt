@@ -4,13 +4,13 @@ ghost use Rattle.gix_hash.specs.ObjectId.{kind_of};
 
 use crate::front::Front;
 use crate::shelf::Shelf;
-use crate::words::compare;
 use gix_hash::ObjectId;
 use gix_object::{Data, Exists, Find, FindHeader, Header, Kind, Write, WriteTo};
 use odb_disk::{MemSink, MemSource};
 use std::alloc::{AllocError, Global};
 use std::sync::Wait;
 use std::test::Fail;
+use test_words::compare;
 
 // ---- calls through the bounds
 

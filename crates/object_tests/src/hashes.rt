@@ -1,14 +1,14 @@
 //! Hashes of bytes in pieces, and ids, their order and their prefixes, as text.
 ghost use Rattle.std.specs.Prelude.{◌<◌};
 
-use crate::words::{Row, compare, first_word};
 use gix_hash::{Hasher, Kind, ObjectId, Prefix};
 use std::alloc::{AllocError, Global};
 use std::test::Fail;
+use test_words::{compare, cut};
 
 // The answer to a question, whose first word says what is asked.
 fn shown(alloc: Global, asked: &str) -> Result<String, Fail> {
-    let (word, rest) = first_word(asked);
+    let (word, rest) = cut(asked);
     match word {
         "id" => Ok(id_shown(alloc, rest.as_bytes())?),
         "order" => order_shown(alloc, rest),
@@ -18,7 +18,7 @@ fn shown(alloc: Global, asked: &str) -> Result<String, Fail> {
     }
 }
 
-fn check(alloc: Global, rows: &[Row]) -> Result<(), Fail> {
+fn check(alloc: Global, rows: &[(&'static str, &'static str)]) -> Result<(), Fail> {
     for (asked, want) in rows {
         let found = shown(alloc, asked)?;
         compare(asked, found.as_str(), want)?;
@@ -91,7 +91,7 @@ fn reads_and_writes_ids(rt: HostRuntime) -> Result<(), Fail> {
 }
 
 fn order_shown(alloc: Global, ids: &str) -> Result<String, Fail> {
-    let (first, second) = first_word(ids);
+    let (first, second) = cut(ids);
     let a = ObjectId::from_hex(first.as_bytes())?;
     let b = ObjectId::from_hex(second.as_bytes())?;
     let order = a.cmp(&b);

@@ -1,9 +1,9 @@
 //! Headers of loose objects, read and written.
-use crate::words::compare;
 use gix_object::{Kind, decode, encode};
 use std::alloc::{AllocError, Global};
 use std::str;
 use std::test::Fail;
+use test_words::compare;
 
 // What is read at the front of some bytes: the kind, the size and the length of the header.
 fn header_shown(alloc: Global, bytes: &[u8]) -> Result<String, AllocError> {

@@ -1,8 +1,8 @@
 //! Ids of objects, beside those that Git tells.
-use crate::words::compare;
 use gix_object::{Kind, compute_hash};
 use std::alloc::Global;
 use std::test::Fail;
+use test_words::compare;
 
 /// A kind, some data, and the ids that Git told by SHA-1 and by SHA-256.
 const SHORT: &[(Kind, &str, &str, &str)] = &[

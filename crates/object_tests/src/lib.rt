@@ -16,5 +16,3 @@ mod headers;
 mod ids;
 #[cfg(test)]
 mod shelf;
-#[cfg(test)]
-mod words;

@@ -42,12 +42,12 @@ const TABLES: &[(Opening, &[&str], &[&str])] = &[
     // another reply.
     ((&[], 0), ONE, PACKED),
     // A write that doesn't list the store first, or under whose name another object is found.
-    ((&[], 0), &["dir /o", "dir /o/pack"], LOOSE),
+    ((&[], 0), &["make /o", "make /o/pack"], LOOSE),
     // A call that takes a failed listing for an empty one.
     ((&[2], 0), ONE, LISTING_FAILS),
     ((&[1], 0), ONE, FOLDER_FAILS),
     // A refused write that leaves its temporary file.
-    ((&[4], 0), &["dir /o", "dir /o/pack"], HEADER_FAILS),
+    ((&[4], 0), &["make /o", "make /o/pack"], HEADER_FAILS),
 ];
 
 #[test]

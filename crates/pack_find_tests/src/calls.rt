@@ -3,8 +3,6 @@ use crate::files::{bytes_of, id_of};
 use crate::happening::happen_for;
 use crate::openings::first_view;
 use crate::shown::{put_ask, put_event, put_reply};
-use crate::text::Text;
-use crate::words::cut;
 use gix_hash::Kind;
 use gix_odb::{Answer, Ask, Call, CallState, HandleState, PathList, Slots, StoreParts};
 use gix_odb_core::Core;
@@ -14,6 +12,7 @@ use std::alloc::Global;
 use std::collections::BTreeMap;
 use std::sync::Arc;
 use std::test::Fail;
+use test_words::{Text, cut};
 
 fn disk_answer(alloc: Global, disk: &mut MemDisk, ask: DiskAsk, text: &mut Text) -> DiskAnswer {
     put_ask(text, &ask);

@@ -1,8 +1,7 @@
 //! The texts of errors.
-use crate::text::Text;
-use crate::words::compare;
 use gix_odb_packs::Error;
 use std::test::Fail;
+use test_words::Text;
 
 const TEXTS: &[(Error, &str)] = &[
     (Error::LoadPack, "the pack could not be read"),
@@ -20,8 +19,8 @@ const TEXTS: &[(Error, &str)] = &[
 fn texts_of_errors(rt: HostRuntime) -> Result<(), Fail> {
     for (error, want) in TEXTS {
         let mut found = Text::new(rt.alloc());
-        found.error(*error);
-        compare(want, &found, want)?;
+        found.marked("", *error);
+        found.check(want, want)?;
     }
     Ok(())
 }

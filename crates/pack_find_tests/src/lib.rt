@@ -30,10 +30,6 @@ mod shown;
 #[cfg(test)]
 mod table;
 #[cfg(test)]
-mod text;
-#[cfg(test)]
 mod tried_rows;
 #[cfg(test)]
 mod trying;
-#[cfg(test)]
-mod words;

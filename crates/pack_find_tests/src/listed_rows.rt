@@ -2,23 +2,23 @@
 use crate::table::{Opening, check};
 use std::test::Fail;
 
-const BARE: &[&str] = &["dir /o"];
+const BARE: &[&str] = &["make /o"];
 
 const NO_INDICES: &[&str] = &[
     "list /o | open /o/pack; rows",
-    "dir /o/pack",
+    "make /o/pack",
     "list /o | open /o/pack; next; close; rows",
-    "gone /o/pack",
+    "take /o/pack",
     "text /o/pack none",
     "list /o | open /o/pack; broken",
-    "gone /o/pack",
+    "take /o/pack",
     "link /o/pack /o/pack",
     "list /o | open /o/pack; broken",
     "list /absent | open /absent/pack; rows",
 ];
 
 const LINKED: &[&str] = &[
-    "dir /p",
+    "make /p",
     "index /p/a.idx hello",
     "pack /p/a.pack hello",
     "link /o/pack /p",
@@ -26,13 +26,13 @@ const LINKED: &[&str] = &[
 ];
 
 const KINDS_OF_INDICES: &[&str] = &[
-    "dir /o/pack",
+    "make /o/pack",
     "text /o/pack/.idx none",
     "index /o/pack/a.idx hello",
     "pack /o/pack/a.pack hello",
     "index /o/pack/b.idx hello",
     "pack /o/pack/c.pack hello",
-    "dir /o/pack/d.idx",
+    "make /o/pack/d.idx",
     "pack /o/pack/d.pack hello",
     "link /o/pack/l.idx /o/pack/a.idx",
     "pack /o/pack/l.pack hello",
@@ -41,12 +41,12 @@ const KINDS_OF_INDICES: &[&str] = &[
 ];
 
 const KINDS_OF_PACKS: &[&str] = &[
-    "dir /o/pack",
+    "make /o/pack",
     "pack /o/packed hello",
     "index /o/pack/a.idx hello",
     "link /o/pack/a.pack /o/packed",
     "index /o/pack/b.idx hello",
-    "dir /o/pack/b.pack",
+    "make /o/pack/b.pack",
     "index /o/pack/c.idx hello",
     "link /o/pack/c.pack /nowhere",
     "list /o | open /o/pack; next; next; next; next; next; next; next; close; \
@@ -55,13 +55,13 @@ const KINDS_OF_PACKS: &[&str] = &[
 ];
 
 const TWO_FOLDERS: &[&str] = &[
-    "dir /s",
-    "dir /s/pack",
+    "make /s",
+    "make /s/pack",
     "index /s/pack/a.idx hello",
     "pack /s/pack/a.pack hello",
     "list /o /s | open /o/pack; open /s/pack; next; next; next; close; \
     look /s/pack/a.idx; look! /s/pack/a.pack; rows /s/pack/a.idx 1100",
-    "dir /o/pack",
+    "make /o/pack",
     "index /o/pack/b.idx hello",
     "pack /o/pack/b.pack hello",
     "list /o /s | open /o/pack; next; next; next; close; look /o/pack/b.idx; look! /o/pack/b.pack; \
@@ -74,7 +74,7 @@ const TWO_FOLDERS: &[&str] = &[
 ];
 
 const LENGTHS: &[&str] = &[
-    "dir /o/pack",
+    "make /o/pack",
     "index /o/pack/a.idx hello",
     "pack /o/pack/a.pack hello",
     "index /o/pack/b.idx hello world",
@@ -88,8 +88,8 @@ const LENGTHS: &[&str] = &[
 
 /// A disk with one index and its pack.
 pub const ONE: &[&str] = &[
-    "dir /o",
-    "dir /o/pack",
+    "make /o",
+    "make /o/pack",
     "index /o/pack/a.idx hello",
     "pack /o/pack/a.pack hello",
 ];

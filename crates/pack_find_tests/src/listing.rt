@@ -1,13 +1,13 @@
 //! A disk is listed, and its rows are published.
 use crate::happening::happen;
 use crate::shown::{put_ask, put_refusal, put_rows, put_todo};
-use crate::text::Text;
 use gix_odb_core::{Core, Effect, Event, Listing, Refusal};
 use gix_odb_packs::{ListStep, Lister};
 use odb_base::{NoMemory, PathText};
 use odb_disk::{DiskAnswer, MemDisk};
 use std::alloc::Global;
 use std::test::Fail;
+use test_words::Text;
 
 fn push_path(alloc: Global, paths: &mut Vec<PathText>, word: &str) -> Result<(), Fail> {
     Ok(paths.push(PathText::parse(alloc, word)?)?)

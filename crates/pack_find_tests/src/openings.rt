@@ -1,8 +1,6 @@
 //! Openings are driven by what they ask for.
 use crate::happening::happen;
 use crate::shown::{put_ask, put_numbered, put_reply};
-use crate::text::Text;
-use crate::words::cut;
 use gix_hash::Kind;
 use gix_odb::{OpenAsk, OpenState, Options, Reply, Slots};
 use gix_odb_core::{Core, Event, View};
@@ -10,6 +8,7 @@ use odb_base::{NoMemory, PathText};
 use odb_disk::{DiskAnswer, DiskAsk, MemDisk};
 use std::alloc::Global;
 use std::test::Fail;
+use test_words::{Text, cut};
 
 fn disk_answer(alloc: Global, disk: &mut MemDisk, ask: DiskAsk, text: &mut Text) -> DiskAnswer {
     put_ask(text, &ask);

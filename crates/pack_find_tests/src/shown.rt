@@ -1,5 +1,4 @@
 //! Calls, events and ends as words.
-use crate::text::Text;
 use gix_odb::Reply;
 use gix_odb::find::Header;
 use gix_odb_core::{Event, ListingRow, PassWhy, Refusal, Todo, TodoRest};
@@ -8,10 +7,11 @@ use odb_base::{NoMemory, PathText};
 use odb_disk::DiskAsk;
 use std::alloc::Global;
 use std::str;
+use test_words::Text;
 
 fn put_named(text: &mut Text, word: &str, path: &PathText) {
     text.next(word);
-    text.path(" ", path);
+    text.marked(" ", path);
 }
 
 /// Puts a call of the disk behind a text. A look with `!` follows links.
@@ -29,7 +29,7 @@ pub fn put_ask(text: &mut Text, ask: &DiskAsk) {
         DiskAsk::Append { path, .. } => put_named(text, "append", path),
         DiskAsk::Rename { from, to } => {
             put_named(text, "rename", from);
-            text.path(" ", to);
+            text.marked(" ", to);
         }
         DiskAsk::Remove { path } => put_named(text, "remove", path),
     }
@@ -74,7 +74,7 @@ pub fn put_event(text: &mut Text, event: &Event) {
 pub fn put_rows(text: &mut Text, rows: &[ListingRow]) {
     text.next("rows");
     for row in rows {
-        text.path(" ", &row.path);
+        text.marked(" ", &row.path);
         text.marked(" ", row.len);
     }
 }
@@ -96,7 +96,7 @@ fn put_unloaded(text: &mut Text, todo: Result<Option<Todo>, NoMemory>) {
         return;
     };
     text.marked(" ", u64::from(todo.slot));
-    text.path(":", todo.path.value());
+    text.marked(":", todo.path.value());
 }
 
 /// Puts a refusal of the core behind a text.
@@ -141,7 +141,7 @@ fn put_missed(text: &mut Text, notes: &Notes) {
     });
     for file in notes.absent.as_slice() {
         text.marked(" ", u64::from(file.slot));
-        text.path(":", &file.path);
+        text.marked(":", &file.path);
     }
 }
 
@@ -185,7 +185,10 @@ pub fn put_reply(alloc: Global, text: &mut Text, reply: &Reply) -> Result<(), No
             text.next("wrote ");
             text.put(id.to_hex(alloc)?.as_str());
         }
-        Reply::Refused(error) => text.refusal(error),
+        Reply::Refused(error) => {
+            text.next("refused: ");
+            text.marked("", error);
+        }
     }
     Ok(())
 }

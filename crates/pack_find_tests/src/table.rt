@@ -12,13 +12,12 @@ use crate::disks::change;
 use crate::happening::happen;
 use crate::listing::{publish, put_list, put_order};
 use crate::openings::put_opening;
-use crate::text::Text;
 use crate::trying::put_tried;
-use crate::words::{compare, cut, halves};
 use gix_odb_core::{Core, Event};
 use odb_disk::MemDisk;
 use std::alloc::Global;
 use std::test::Fail;
+use test_words::{Text, cut, wide_halves};
 
 fn put_told(
     alloc: Global,
@@ -40,10 +39,10 @@ fn put_told(
 }
 
 fn check_row(alloc: Global, disk: &mut MemDisk, core: &mut Core, row: &str) -> Result<(), Fail> {
-    let (line, want) = halves(row);
+    let (line, want) = wide_halves(row);
     let mut found = Text::new(alloc);
     put_told(alloc, disk, core, line, &mut found)?;
-    compare(line, &found, want)
+    found.check(line, want)
 }
 
 fn check_rows(

@@ -5,8 +5,8 @@ use std::test::Fail;
 
 // A longer index stands before the other.
 const TWO: &[&str] = &[
-    "dir /o",
-    "dir /o/pack",
+    "make /o",
+    "make /o/pack",
     "index /o/pack/a.idx hello",
     "pack /o/pack/a.pack hello",
     "index /o/pack/b.idx hello world",
@@ -52,8 +52,8 @@ const LOADED_FIRST: &[&str] = &[
 ];
 
 const TWO_FOLDERS: &[&str] = &[
-    "dir /s",
-    "dir /s/pack",
+    "make /s",
+    "make /s/pack",
     "index /s/pack/b.idx world",
     "pack /s/pack/b.pack world",
     "publish /o /s | todo 0:/o/pack/a.idx 1:/s/pack/b.idx",
@@ -63,16 +63,16 @@ const TWO_FOLDERS: &[&str] = &[
 
 const NO_PACK: &[&str] = &[
     "publish /o | todo 0:/o/pack/a.idx",
-    "gone /o/pack/a.pack",
+    "take /o/pack/a.pack",
     "find hello | read /o/pack/a.idx; put-index 0; read /o/pack/a.pack; pass-over 0 absent; missed 0:/o/pack/a.pack",
     "has hello | present",
     "header hello | read /o/pack/a.pack; pass-over 0 absent; missed 0:/o/pack/a.pack",
-    "dir /o/pack/a.pack",
+    "make /o/pack/a.pack",
     "find hello | read /o/pack/a.pack; load-pack",
-    "gone /o/pack/a.pack",
+    "take /o/pack/a.pack",
     "link /o/pack/a.pack /o/pack/a.pack",
     "find hello | read /o/pack/a.pack; load-pack",
-    "gone /o/pack/a.pack",
+    "take /o/pack/a.pack",
     "text /o/pack/a.pack PACK",
     "header hello | read /o/pack/a.pack; load-pack",
     "pack /o/pack/a.pack hello",
@@ -81,25 +81,25 @@ const NO_PACK: &[&str] = &[
 
 const ANOTHER_PACK: &[&str] = &[
     "publish /o | todo 0:/o/pack/b.idx 1:/o/pack/a.idx",
-    "gone /o/pack/b.pack",
+    "take /o/pack/b.pack",
     "find hello | read /o/pack/b.idx; put-index 0; read /o/pack/b.pack; pass-over 0 absent; \
     read /o/pack/a.idx; put-index 1; read /o/pack/a.pack; put-pack 1; found blob 6 hello\n",
     "find hello | read /o/pack/b.pack; pass-over 0 absent; found blob 6 hello\n",
     "find world | read /o/pack/b.pack; pass-over 0 absent; missed 0:/o/pack/b.pack",
-    "dir /o/pack/b.pack",
+    "make /o/pack/b.pack",
     "find hello | read /o/pack/b.pack; load-pack",
 ];
 
 const NO_INDEX: &[&str] = &[
     "publish /o | todo 0:/o/pack/a.idx",
-    "gone /o/pack/a.idx",
+    "take /o/pack/a.idx",
     "find hello | read /o/pack/a.idx; pass-over 0 absent; missed",
-    "dir /o/pack/a.idx",
+    "make /o/pack/a.idx",
     "find hello | read /o/pack/a.idx; pass-over 0 kind; missed",
-    "gone /o/pack/a.idx",
+    "take /o/pack/a.idx",
     "link /o/pack/a.idx /o/pack/a.idx",
     "has hello | read /o/pack/a.idx; pass-over 0 link; missed",
-    "gone /o/pack/a.idx",
+    "take /o/pack/a.idx",
     "zeros /o/pack/a.idx",
     "has hello | read /o/pack/a.idx; pass-over 0 bad; missed",
     "index /o/pack/a.idx hello",

@@ -2,14 +2,13 @@
 use crate::files::id_of;
 use crate::happening::happen;
 use crate::shown::{put_ask, put_end, put_event};
-use crate::text::Text;
-use crate::words::cut;
 use gix_object::Want;
 use gix_odb_core::{Core, Refusal, View};
 use gix_odb_packs::{Answer, Ask, Goal, Notes, Tried, Trier};
 use odb_base::NoMemory;
 use odb_disk::MemDisk;
 use std::alloc::Global;
+use test_words::{Text, cut};
 
 fn want_of(verb: &str) -> Want {
     match verb {

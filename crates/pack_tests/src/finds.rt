@@ -2,7 +2,6 @@
 ghost use Rattle.std.specs.Prelude.{◌≡◌, Some, IfOk, IfSome, OnOk};
 ghost use Rattle.gix_hash.specs.ObjectId.{kind_of};
 
-use crate::words::compare;
 use gix_hash::ObjectId;
 use gix_object::{Data, Kind};
 use gix_pack::cache::{DecodeEntry, Never};
@@ -12,6 +11,7 @@ use odb_base::{ByteList, NoMemory};
 use std::alloc::{AllocError, Global};
 use std::sync::Wait;
 use std::test::Fail;
+use test_words::compare;
 
 /// A database of one object, whose entry has one byte of header.
 #[derive(Drop)]

@@ -1,10 +1,11 @@
 //! What is read of indices: those that Git made, and cut, changed and lengthened ones.
-use crate::words::{changed, compare, joined, put_counts, rows_in};
+use crate::words::{changed, joined, put_counts, rows_in};
 use gix_hash::{Kind, ObjectId, Prefix};
 use gix_pack::index::{Entry, File};
 use odb_base::ByteList;
 use std::alloc::{AllocError, Global};
 use std::test::Fail;
+use test_words::compare;
 
 const SIGNATURE: &[u8] = b"\xfftOc\x00\x00\x00\x02";
 

@@ -2,12 +2,13 @@
 use crate::git_multi_indices::{
     NAMES, Parts, SHA1, SHA1_WIDE, SHA256, SHOWN_SHA1, SHOWN_SHA256, SHOWN_TWO, SHOWN_WIDE, TWO,
 };
-use crate::words::{changed, compare, joined, put_counts, rows_in};
+use crate::words::{changed, joined, put_counts, rows_in};
 use gix_hash::{Hasher, Kind, ObjectId, Prefix};
 use gix_pack::multi_index::{Entry, File};
 use odb_base::{ByteList, NoMemory};
 use std::alloc::{AllocError, Global};
 use std::test::Fail;
+use test_words::compare;
 
 fn put_ids(table: &mut ByteList, ids: &[&[u8]]) -> Result<(), Fail> {
     for id in ids {

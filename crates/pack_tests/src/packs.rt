@@ -1,6 +1,6 @@
 //! What is read of packs, the headers of their entries and their objects: Git's, written ones, and damaged ones.
 use crate::git_packs::{GIT_SHA1, GIT_SHA256, HEADERS_SHA1, HEADERS_SHA256, Headers};
-use crate::words::{changed, compare, joined};
+use crate::words::{changed, joined};
 use gix_hash::Kind;
 use gix_object::Kind as Of;
 use gix_pack::Object;
@@ -9,6 +9,7 @@ use odb_base::{ByteList, NoMemory};
 use std::alloc::{AllocError, Global};
 use std::str;
 use std::test::Fail;
+use test_words::compare;
 
 // A pack of `version 1` and `version 2`, each with a line feed, up to its hash.
 const FRONT: &[u8] = b"PACK\x00\x00\x00\x02\x00\x00\x00\x02";

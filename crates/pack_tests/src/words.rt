@@ -6,14 +6,6 @@ use std::alloc::Global;
 use std::ops::Range;
 use std::test::Fail;
 
-/// Fails where the answer is another than is wanted.
-pub fn compare(asked: &str, found: &str, want: &str) -> Result<(), Fail> {
-    if found == want {
-        return Ok(());
-    }
-    Err(Fail::new(format_args!("{asked}: {found} in place of {want}")))
-}
-
 /// Fails where bytes are others than are wanted.
 pub fn compare_bytes(asked: &str, found: &ByteList, want: &ByteList) -> Result<(), Fail> {
     if found == want {

@@ -1,6 +1,7 @@
 //! Which changes show a second content, in the pack directories of folders and through links.
-use crate::words::{chain, compare, cut, halves, made_all};
+use crate::words::{chain, made_all};
 use std::test::Fail;
+use test_words::{compare, cut, halves};
 
 /// In a folder `/o` with its pack directory, which is watched.
 const FOLDER: &str = "\

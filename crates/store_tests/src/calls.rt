@@ -5,8 +5,7 @@ ghost use Rattle.gix_odb_loose.specs.Store.{store_hash};
 
 use crate::machine::machine_reply;
 use crate::words::{
-    HELLO, cut, data_of, found_shown, header_shown, id_of, object_shown, presence_shown,
-    wrote_shown,
+    HELLO, data_of, found_shown, header_shown, id_of, object_shown, presence_shown, wrote_shown,
 };
 use gix_object::{Data, Kind};
 use gix_odb_loose::{Options, Store};
@@ -14,6 +13,7 @@ use odb_base::PathText;
 use odb_disk::{Disk, MemSource};
 use std::alloc::Global;
 use std::test::Fail;
+use test_words::cut;
 
 pub fn store_at(
     alloc: Global,

@@ -1,28 +1,11 @@
 //! Changes of a disk in memory in words, and rows on one.
 use crate::calls::{called, store_at};
-use crate::words::{FILE, compare, cut, halves, word_of};
+use crate::words::{FILE, word_of};
 use gix_odb_loose::Store;
-use odb_base::{ByteList, PathText};
 use odb_disk::{Change, MemDisk};
 use std::alloc::Global;
 use std::test::Fail;
-
-/// A change by another program: `mkdir PATH`, `take PATH` or `put PATH TEXT`.
-fn change_of(alloc: Global, verb: &str, rest: &str) -> Result<Change, Fail> {
-    let (path, text) = cut(rest);
-    let path = PathText::parse(alloc, path)?;
-    match verb {
-        "mkdir" => Ok(Change::MakeDir { path, dev: 0 }),
-        "take" => Ok(Change::Remove { path }),
-        _ => put_of(alloc, path, text),
-    }
-}
-
-fn put_of(alloc: Global, path: PathText, text: &str) -> Result<Change, Fail> {
-    let bytes = ByteList::from_slice(alloc, text.as_bytes())?;
-    let time = 1;
-    Ok(Change::PutFile { path, time, bytes })
-}
+use test_words::{change_of, compare, cut, halves};
 
 fn changed(alloc: Global, disk: &mut MemDisk, verb: &str, rest: &str) -> Result<String, Fail> {
     let change = change_of(alloc, verb, rest)?;
@@ -41,7 +24,7 @@ fn answers_of(
     disk: &mut MemDisk,
     text: &str,
 ) -> Result<String, Fail> {
-    let file = format!(in alloc; "{FILE} {text}")?;
+    let file = format!(in alloc; "{FILE} 1 {text}")?;
     changed(alloc, disk, "put", file.as_str())?;
     called(alloc, store, disk, "hello")
 }
@@ -50,7 +33,7 @@ fn answers_of(
 fn told(alloc: Global, store: &Store, disk: &mut MemDisk, text: &str) -> Result<String, Fail> {
     let (verb, rest) = cut(text);
     match verb {
-        "mkdir" | "take" | "put" => changed(alloc, disk, verb, rest),
+        "make" | "take" | "put" => changed(alloc, disk, verb, rest),
         "file" => answers_of(alloc, store, disk, rest),
         "calls" => Ok(disk.calls().to_string(alloc)?),
         _ => called(alloc, store, disk, text),

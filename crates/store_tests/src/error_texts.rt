@@ -1,10 +1,10 @@
 //! The texts of errors.
-use crate::words::compare;
 use gix_odb_loose::find::{self, Action};
 use gix_odb_loose::write::{self, Message};
 use odb_base::PathText;
 use std::alloc::Global;
 use std::test::Fail;
+use test_words::compare;
 
 /// An error of a find by its word, with 6 bytes of data in place of 5.
 fn find_error(path: PathText, word: &str) -> find::Error {

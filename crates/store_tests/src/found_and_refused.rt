@@ -10,14 +10,14 @@ use std::test::Fail;
 /// Damaged files, other nodes at the object's path or on its way, and none.
 const FINDS: [&str; 32] = [
     "hello|none, none, no",
-    "mkdir /o|done",
+    "make /o|done",
     "hello|none, none, no",
-    "put /o/b6 blob 5\0hello|done",
+    "put /o/b6 1 blob 5\0hello|done",
     "hello|io, io, no",
     "take /o/b6|done",
-    "mkdir /o/b6|done",
+    "make /o/b6|done",
     "hello|none, none, no",
-    "mkdir /o/b6/fc4c620b67d95f953a5c1c1230aaab5db5a1b0|done",
+    "make /o/b6/fc4c620b67d95f953a5c1c1230aaab5db5a1b0|done",
     "hello|io, io, no",
     "take /o/b6/fc4c620b67d95f953a5c1c1230aaab5db5a1b0|done",
     "hello|none, none, no",
@@ -44,9 +44,9 @@ const FINDS: [&str; 32] = [
 ];
 
 const SHA256: [&str; 5] = [
-    "mkdir /o|done",
-    "mkdir /o/8a|done",
-    "put /o/8a/ec4e4876f854f688d0ebfc8f37598f38e5fd6903cccc850ca36591175aeb60 blob 5\0hello|done",
+    "make /o|done",
+    "make /o/8a|done",
+    "put /o/8a/ec4e4876f854f688d0ebfc8f37598f38e5fd6903cccc850ca36591175aeb60 1 blob 5\0hello|done",
     "ask 8aec4e4876f854f688d0ebfc8f37598f38e5fd6903cccc850ca36591175aeb60|blob hello, blob 5, yes",
     "ask 0000000000000000000000000000000000000000000000000000000000000000|none, none, no",
 ];
@@ -62,14 +62,14 @@ fn finds(rt: HostRuntime) -> Result<(), Fail> {
 
 /// What a find leaves in what it was lent: the data, or nothing. The second file has more data than its header says.
 const LEFT: [&str; 11] = [
-    "mkdir /o|done",
+    "make /o|done",
     "left b6fc4c620b67d95f953a5c1c1230aaab5db5a1b0|",
     "into b6fc4c620b67d95f953a5c1c1230aaab5db5a1b0|",
     "write blob hello|b6fc4c620b67d95f953a5c1c1230aaab5db5a1b0",
     "left b6fc4c620b67d95f953a5c1c1230aaab5db5a1b0|hello",
     "into b6fc4c620b67d95f953a5c1c1230aaab5db5a1b0|blob hello",
     "take /o/b6/fc4c620b67d95f953a5c1c1230aaab5db5a1b0|done",
-    "put /o/b6/fc4c620b67d95f953a5c1c1230aaab5db5a1b0 blob 4\0hello|done",
+    "put /o/b6/fc4c620b67d95f953a5c1c1230aaab5db5a1b0 1 blob 4\0hello|done",
     "left b6fc4c620b67d95f953a5c1c1230aaab5db5a1b0|",
     "into b6fc4c620b67d95f953a5c1c1230aaab5db5a1b0|",
     "hello|size, blob 4, yes",
@@ -109,7 +109,7 @@ fn limits(rt: HostRuntime) -> Result<(), Fail> {
         (0, "file |io, io, yes"),
         (0, "file blob|decode, decode, yes"),
     ] {
-        let rows = ["mkdir /o|done", "mkdir /o/b6|done", row];
+        let rows = ["make /o|done", "make /o/b6|done", row];
         check(rt.alloc(), Sha1, Some(limit), &[], &rows)?;
     }
     Ok(())
@@ -137,8 +137,8 @@ fn faults(rt: HostRuntime) -> Result<(), Fail> {
     ] {
         let last = "hello|blob hello, blob 5, yes";
         let rows = [
-            "mkdir /o|done",
-            "mkdir /o/b6|done",
+            "make /o|done",
+            "make /o/b6|done",
             first,
             second,
             last,

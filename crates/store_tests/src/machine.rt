@@ -1,6 +1,6 @@
 //! Calls of a store as machines.
 use crate::words::{
-    HELLO, cut, data_of, find_word, header_shown, id_of, object_shown, presence_shown, word_of,
+    HELLO, data_of, find_word, header_shown, id_of, object_shown, presence_shown, word_of,
     wrote_shown,
 };
 use gix_object::Kind;
@@ -9,6 +9,7 @@ use odb_base::{ByteList, NoMemory};
 use odb_disk::Disk;
 use std::alloc::Global;
 use std::test::Fail;
+use test_words::cut;
 
 pub fn reply_shown(alloc: Global, reply: &LooseReply) -> Result<String, Fail> {
     match reply {

@@ -1,13 +1,14 @@
 //! Calls by hand: what they ask, and what they reply to an answer.
 use crate::calls::store_at;
 use crate::machine::{reply_shown, write_started};
-use crate::words::{HELLO, compare, cut, halves, id_of, word_of};
+use crate::words::{HELLO, id_of, word_of};
 use gix_hash::Kind::Sha1;
 use gix_odb_loose::{LooseAsk, LooseCall, LooseJob, Store};
 use odb_base::{ByteList, NoMemory};
 use odb_disk::{DiskAnswer, DiskAsk, DiskError};
 use std::alloc::Global;
 use std::test::Fail;
+use test_words::{compare, cut, halves};
 
 /// A call that finds the blob `hello`, by its name in words.
 fn started(alloc: Global, store: &Store, word: &str) -> Result<LooseCall, Fail> {

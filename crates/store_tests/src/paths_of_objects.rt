@@ -1,9 +1,10 @@
 //! The paths of objects and of the objects directory.
 use crate::calls::store_at;
-use crate::words::{FILE, HELLO, compare, id_of};
+use crate::words::{FILE, HELLO, id_of};
 use gix_hash::Kind::{Sha1, Sha256};
 use std::alloc::Global;
 use std::test::Fail;
+use test_words::compare;
 
 /// The path of an object of a copy of a store in `/o`, as a text.
 fn path_of(alloc: Global, hash: gix_hash::Kind, hex: &str) -> Result<String, Fail> {

@@ -1,6 +1,5 @@
 //! A real disk.
 use crate::calls::{called, store_at};
-use crate::words::{compare, cut, halves};
 use gix_hash::Kind::Sha1;
 use gix_odb_loose::Store;
 use odb_host::HostDisk;
@@ -8,6 +7,7 @@ use std::os::fd::{AsRawFd, RawFd};
 use std::os::unix::fs::symlink;
 use std::test::Fail;
 use std::{env, fs, io};
+use test_words::{compare, cut, halves};
 
 /// Makes a folder, goes there, and gives the store that lies in it.
 fn enter_folder(rt: &HostRuntime, folder: &str) -> Result<Store, Fail> {

@@ -6,7 +6,7 @@ use std::test::Fail;
 /// Each write comes to its end after as many calls of the disk as the one before it, and ends so too. In the last three
 /// pairs the seventh call fails: the making of the directory, and the removal of the temporary file.
 const PAIRS: [&str; 33] = [
-    "mkdir /o|done",
+    "make /o|done",
     "machine 0 0|b6fc4c620b67d95f953a5c1c1230aaab5db5a1b0",
     "calls|4",
     "streamas 0 0 0|b6fc4c620b67d95f953a5c1c1230aaab5db5a1b0",

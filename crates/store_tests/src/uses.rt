@@ -1,6 +1,6 @@
 //! The calls of `gix_odb_uses`, on a disk in memory and in a real folder.
 use crate::calls::store_at;
-use crate::words::{compare, cut, halves, id_of, word_of};
+use crate::words::{id_of, word_of};
 use gix_hash::Kind::Sha1;
 use gix_odb_loose::Store;
 use gix_odb_uses::{Condition, condition_of, copy, keep, kinds_of, put};
@@ -10,6 +10,7 @@ use odb_host::HostDisk;
 use std::alloc::Global;
 use std::test::Fail;
 use std::{env, fs};
+use test_words::{compare, cut, halves};
 
 /// `keep TEXT`: the id.
 fn kept<D: Disk>(alloc: Global, disk: &mut D, store: &Store, text: &str) -> Result<String, Fail> {

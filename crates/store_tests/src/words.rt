@@ -15,24 +15,6 @@ pub const FILE: &str = "/o/b6/fc4c620b67d95f953a5c1c1230aaab5db5a1b0";
 /// The id of the blob `hello`.
 pub const HELLO: &str = "b6fc4c620b67d95f953a5c1c1230aaab5db5a1b0";
 
-/// The first word of a text and what stands behind it, which is empty where there is one word alone.
-pub fn cut(text: &str) -> (&str, &str) {
-    text.split_once(' ').unwrap_or((text, ""))
-}
-
-/// The call or the change of a row, and what is to come of it.
-pub fn halves(row: &str) -> (&str, &str) {
-    row.split_once('|').unwrap_or((row, ""))
-}
-
-/// Fails where a row gives something else than is wanted.
-pub fn compare(text: &str, found: &str, want: &str) -> Result<(), Fail> {
-    if found == want {
-        return Ok(());
-    }
-    Err(Fail::new(format_args!("{text}: {found} in place of {want}")))
-}
-
 /// An id of the store's hash, by its hex digits.
 pub fn id_of(store: &Store, hex: &str) -> Result<ObjectId, Fail>
     ensures hash { IfOk result (λ id. kind_of id ≡ store_hash store.now) }

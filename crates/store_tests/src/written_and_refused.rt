@@ -5,7 +5,7 @@ use std::test::Fail;
 
 /// Git's example of a blob, and the blob `hello` by each call, under its own id and as a known one.
 const WRITES: [&str; 21] = [
-    "mkdir /o|done",
+    "make /o|done",
     "machine 5 other|b6fc4c620b67d95f953a5c1c1230aaab5db5a1b0",
     "hello|blob other, blob 5, yes",
     "write blob hello\n|ce013625030ba8dba906f756967f9e9ca394464a",
@@ -30,7 +30,7 @@ const WRITES: [&str; 21] = [
 
 /// After so many bytes there were so many calls more: one for each piece and four, and one for the find.
 const PIECES: [&str; 16] = [
-    "mkdir /o|done",
+    "make /o|done",
     "as blob 0|b6fc4c620b67d95f953a5c1c1230aaab5db5a1b0",
     "calls|4",
     "find b6fc4c620b67d95f953a5c1c1230aaab5db5a1b0|blob ",
@@ -49,7 +49,7 @@ const PIECES: [&str; 16] = [
 ];
 
 const STREAMS: [&str; 13] = [
-    "mkdir /o|done",
+    "make /o|done",
     "stream 0 0 |e69de29bb2d1d6434b8b29ae775ad8c2e48c5391",
     "read /o/tmp_obj_0|Absent",
     "stream 6 0 hello|size 5",
@@ -67,23 +67,23 @@ const STREAMS: [&str; 13] = [
 const BLOCKED: [&str; 13] = [
     "write blob hello|io",
     "read /o|Absent",
-    "put /o other|done",
+    "put /o 1 other|done",
     "write blob hello|io",
     "read /o|other",
     "take /o|done",
-    "mkdir /o|done",
-    "put /o/b6 other|done",
+    "make /o|done",
+    "put /o/b6 1 other|done",
     "write blob hello|persist",
     "take /o/b6|done",
-    "mkdir /o/b6|done",
-    "mkdir /o/b6/fc4c620b67d95f953a5c1c1230aaab5db5a1b0|done",
+    "make /o/b6|done",
+    "make /o/b6/fc4c620b67d95f953a5c1c1230aaab5db5a1b0|done",
     "write blob hello|persist",
 ];
 
 // Git 2.39.5 told these ids by `git hash-object --literally -t KIND --stdin`: of nothing, of `hello` and a line feed,
 // and of 70,000 bytes `a`.
 const IDS: [&str; 13] = [
-    "mkdir /o|done",
+    "make /o|done",
     "write commit |dcf5b16e76cce7425d0beaef62d79a7d10fce1f5",
     "write commit hello\n|656d88de433ec9f9c5d4ed9b2c643844127a0fb4",
     "write commit 70000|d3ba4ff38491724dcc06ae5832f3e1924ac59eab",
@@ -100,7 +100,7 @@ const IDS: [&str; 13] = [
 
 // The same in a repository made by `git init --object-format=sha256`.
 const LONG_IDS: [&str; 13] = [
-    "mkdir /o|done",
+    "make /o|done",
     "write commit |9f2a7f3b00f22334f6adc2721fb1f89cd969f02264d37cf6a2c32ba09beb6822",
     "write commit hello\n|0dc599b3b0ab7db2ef28ab7bcd9a37ac991827a78d0d53a1ae438f3731f374d7",
     "write commit 70000|a7e291bd67dd0e7fe8a9dd479c70db7c7de83d259a221d97d01c84e234f8251a",
@@ -152,7 +152,7 @@ fn faults(rt: HostRuntime) -> Result<(), Fail> {
             "read /o/tmp_obj_0|blob 5\0hello",
         ),
     ] {
-        let rows = ["mkdir /o|done", write, left, "hello|none, none, no"];
+        let rows = ["make /o|done", write, left, "hello|none, none, no"];
         check(rt.alloc(), Sha1, None, &failing, &rows)?;
     }
     Ok(())
@@ -160,39 +160,39 @@ fn faults(rt: HostRuntime) -> Result<(), Fail> {
 
 /// The names are taken one after another, and each write finds the first free one; the last finds none.
 const NAMES: [&str; 39] = [
-    "mkdir /o|done",
+    "make /o|done",
     "write blob hello|b6fc4c620b67d95f953a5c1c1230aaab5db5a1b0",
-    "put /o/tmp_obj_0 other|done",
+    "put /o/tmp_obj_0 1 other|done",
     "write blob hello|b6fc4c620b67d95f953a5c1c1230aaab5db5a1b0",
-    "put /o/tmp_obj_1 other|done",
+    "put /o/tmp_obj_1 1 other|done",
     "write blob hello|b6fc4c620b67d95f953a5c1c1230aaab5db5a1b0",
-    "put /o/tmp_obj_2 other|done",
+    "put /o/tmp_obj_2 1 other|done",
     "write blob hello|b6fc4c620b67d95f953a5c1c1230aaab5db5a1b0",
-    "put /o/tmp_obj_3 other|done",
+    "put /o/tmp_obj_3 1 other|done",
     "write blob hello|b6fc4c620b67d95f953a5c1c1230aaab5db5a1b0",
-    "put /o/tmp_obj_4 other|done",
+    "put /o/tmp_obj_4 1 other|done",
     "write blob hello|b6fc4c620b67d95f953a5c1c1230aaab5db5a1b0",
-    "put /o/tmp_obj_5 other|done",
+    "put /o/tmp_obj_5 1 other|done",
     "write blob hello|b6fc4c620b67d95f953a5c1c1230aaab5db5a1b0",
-    "put /o/tmp_obj_6 other|done",
+    "put /o/tmp_obj_6 1 other|done",
     "write blob hello|b6fc4c620b67d95f953a5c1c1230aaab5db5a1b0",
-    "put /o/tmp_obj_7 other|done",
+    "put /o/tmp_obj_7 1 other|done",
     "write blob hello|b6fc4c620b67d95f953a5c1c1230aaab5db5a1b0",
-    "put /o/tmp_obj_8 other|done",
+    "put /o/tmp_obj_8 1 other|done",
     "write blob hello|b6fc4c620b67d95f953a5c1c1230aaab5db5a1b0",
-    "put /o/tmp_obj_9 other|done",
+    "put /o/tmp_obj_9 1 other|done",
     "write blob hello|b6fc4c620b67d95f953a5c1c1230aaab5db5a1b0",
-    "put /o/tmp_obj_10 other|done",
+    "put /o/tmp_obj_10 1 other|done",
     "write blob hello|b6fc4c620b67d95f953a5c1c1230aaab5db5a1b0",
-    "put /o/tmp_obj_11 other|done",
+    "put /o/tmp_obj_11 1 other|done",
     "write blob hello|b6fc4c620b67d95f953a5c1c1230aaab5db5a1b0",
-    "put /o/tmp_obj_12 other|done",
+    "put /o/tmp_obj_12 1 other|done",
     "write blob hello|b6fc4c620b67d95f953a5c1c1230aaab5db5a1b0",
-    "put /o/tmp_obj_13 other|done",
+    "put /o/tmp_obj_13 1 other|done",
     "write blob hello|b6fc4c620b67d95f953a5c1c1230aaab5db5a1b0",
-    "put /o/tmp_obj_14 other|done",
+    "put /o/tmp_obj_14 1 other|done",
     "write blob hello|b6fc4c620b67d95f953a5c1c1230aaab5db5a1b0",
-    "put /o/tmp_obj_15 other|done",
+    "put /o/tmp_obj_15 1 other|done",
     "calls|200",
     "write tree |io",
     "calls|216",

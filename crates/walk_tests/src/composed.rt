@@ -2,7 +2,7 @@
 ghost use Rattle.std.specs.Prelude.{◌≡◌};
 ghost use Rattle.std.specs.Iterator.{IsFinite};
 
-use super::words::{Question, check, cut, tell_error};
+use super::words::{Question, check, tell_error};
 use gix_features::fs::read_dir::Item;
 use gix_features::fs::{
     DirEntry, DirEntryApi, GitOrder, Parallelism, WalkDir, walkdir_new, walkdir_sorted_new,
@@ -11,6 +11,7 @@ use odb_disk::{Disk, Kind, MemDisk, NoMemory, PathText};
 use std::alloc::{AllocError, Global};
 use std::fmt::Write;
 use std::test::Fail;
+use test_words::cut;
 use walkdir::{Sorter, Walk};
 
 fn tell_line(told: &mut String, path: &PathText, name: &str, kind: Kind) -> Result<(), AllocError> {
@@ -132,7 +133,7 @@ impl Question for Ways {
     }
 }
 
-const LOOPED: &str = "dir /t, dir /t/a, file /t/a/x, file /t/a.b, file /t/a0, link /t/l /t";
+const LOOPED: &str = "make /t, make /t/a, put /t/a/x 0, put /t/a.b 0, put /t/a0 0, link /t/l /t";
 
 const SORTED: &str = "sorted /t|\
     /t t Dir; /t/a.b a.b File; /t/a a Dir; /t/a/x x File; /t/a0 a0 File; \
@@ -154,7 +155,7 @@ fn sorted_after(rt: HostRuntime) -> Result<(), Fail> {
     check(rt.alloc(), &Ways, LOOPED, AFTER)
 }
 
-const ACCENTS: &str = "dir /e\u{301}, file /e\u{301}/u\u{308}";
+const ACCENTS: &str = "make /e\u{301}, put /e\u{301}/u\u{308} 0";
 
 const COMPOSED: &str = "\
     composed /e\u{301}|/\u{e9} \u{e9} Dir; /\u{e9}/\u{fc} \u{fc} File;\n\
@@ -210,7 +211,7 @@ fn dropped(rt: HostRuntime) -> Result<(), Fail> {
     check(
         rt.alloc(),
         &AfterDrop,
-        "dir /t, file /t/a",
+        "make /t, put /t/a 0",
         "begins|0\nwaits|0",
     )
 }
@@ -249,5 +250,5 @@ const READ: &str = "/t|/t/u\u{308} u\u{308} File; /t/\u{fc} \u{fc} File;";
 // Catches a path without its directory, and a name that is composed in the entry itself.
 #[test]
 fn read(rt: HostRuntime) -> Result<(), Fail> {
-    check(rt.alloc(), &FirstEntry, "dir /t, file /t/u\u{308}", READ)
+    check(rt.alloc(), &FirstEntry, "make /t, put /t/u\u{308} 0", READ)
 }

@@ -105,7 +105,7 @@ impl Question for Told {
 }
 
 const NODES: &str = "\
-    dir /t, dir /t/b, dir /t/a, file /t/z, file /t/y, link /t/c /t/z, link /t/n /none, link /t/l /t";
+    make /t, make /t/b, make /t/a, put /t/z 0, put /t/y 0, link /t/c /t/z, link /t/n /none, link /t/l /t";
 
 const ENTRIES: &str = "\
     /t|t Dir 0 true, c Link 1 true, l Link 1 true, n Link 1 true, y File 1 true, z File 1 true, a Dir 1 true, b Dir 1 true,\n\
@@ -166,7 +166,7 @@ fn parts(rt: HostRuntime) -> Result<(), Fail> {
     check(
         rt.alloc(),
         &TakenApart,
-        "dir /t, link /t/n /none",
+        "make /t, link /t/n /none",
         "/t|/t Some(Absent)",
     )
 }

@@ -7,7 +7,7 @@ use std::test::Fail;
 use walkdir::{DirEntry, IntoIter, NoSort, WalkDir};
 
 const TREE: &str =
-    "dir /t, dir /t/a, dir /t/a/b, file /t/a/b/x, file /t/a/c, dir /t/d, file /t/d/e, file /t/f";
+    "make /t, make /t/a, make /t/a/b, put /t/a/b/x 0, put /t/a/c 0, make /t/d, put /t/d/e 0, put /t/f 0";
 
 const SKIPS: &str = "\
     /t; open 3; skip|/t /t/a /t/a/b /t/a/b/x /t/a/c /t/d /t/d/e /t/f\n\
@@ -65,7 +65,7 @@ const AFTER_LOOKS: &str = "\
     fail 7 /t; same; next next next skip skip|/t /t/a [IO error for operation on /t/a: Failed 1]";
 
 const LOOPED: &str = "\
-    dir /t, link /t/a /t, dir /t/b, file /t/b/x, link /t/b/y /t, file /t/b/z, link /t/c /none, file /t/d";
+    make /t, link /t/a /t, make /t/b, put /t/b/x 0, link /t/b/y /t, put /t/b/z 0, link /t/c /none, put /t/d 0";
 
 const AFTER_LINKS: &str = "\
     /t; follow; next next skip|/t [File system loop found: /t/a points to an ancestor /t 1]\n\
@@ -96,7 +96,7 @@ fn filters(rt: HostRuntime) -> Result<(), Fail> {
     check(rt.alloc(), &Led, TREE, FILTERED)
 }
 
-const VISIBLE: &str = "dir /t, dir /t/b, file /t/b/x, dir /t/d, file /t/d/e, file /t/d/g";
+const VISIBLE: &str = "make /t, make /t/b, put /t/b/x 0, make /t/d, put /t/d/e 0, put /t/d/g 0";
 
 const FILTERED_SKIPS: &str = "\
     /t; filter; next next skip|/t /t/b /t/d /t/d/g\n\

@@ -12,7 +12,7 @@ use std::test::Fail;
 use walkdir::{NoSort, Stack, Steps, WalkDir};
 
 const TREE: &str =
-    "dir /t, dir /t/a, dir /t/a/b, file /t/a/b/x, file /t/a/c, dir /t/d, file /t/d/e, file /t/f";
+    "make /t, make /t/a, make /t/a/b, put /t/a/b/x 0, put /t/a/c 0, make /t/d, put /t/d/e 0, put /t/f 0";
 
 /// The number of the next stream that a disk opens: 0 where none is open.
 fn next_stream(alloc: Global, disk: &mut MemDisk) -> Result<u64, DiskError> {
@@ -118,7 +118,7 @@ impl Question for Most {
     }
 }
 
-const LOOPED: &str = "dir /t, dir /t/a, file /t/a/x, file /t/a.b, file /t/a0, link /t/l /t";
+const LOOPED: &str = "make /t, make /t/a, put /t/a/x 0, put /t/a.b 0, put /t/a0 0, link /t/l /t";
 
 // Catches a second stream that stays open between two items, and 0 that is not taken for 1.
 #[test]

@@ -1,15 +1,16 @@
 //! What callers of walks find on a disk in memory.
-use super::words::{Question, check, check_call, cut, tell_error};
+use super::words::{Question, check, check_call, tell_error};
 use odb_disk::{MemDisk, PathText};
 use std::alloc::{AllocError, Global};
 use std::fmt::Write;
 use std::test::Fail;
+use test_words::cut;
 use walkdir::{DirEntry, WalkDir};
 use walkdir_uses::{entries_of, files_below, size_below, visible_below, visible_names_in};
 
 /// A folder with a hidden file, a folder with a file, a file and a link to another folder.
 const NODES: &str = "\
-    dir /t, dir /t/a, dir /u, file /t/.h hello, file /t/a/x abc, file /t/b four, file /u/y far away, link /t/l /u";
+    make /t, make /t/a, make /u, put /t/.h 0 hello, put /t/a/x 0 abc, put /t/b 0 four, put /u/y 0 far away, link /t/l /u";
 
 fn tell_entries(told: &mut String, entries: &[DirEntry]) -> Result<(), AllocError> {
     for entry in entries {

@@ -3,7 +3,7 @@ use super::led::Led;
 use super::words::check;
 use std::test::Fail;
 
-const NESTED: &str = "dir /t, dir /t/a, file /t/a/x, file /t/a.b, file /t/a0, link /t/l /t";
+const NESTED: &str = "make /t, make /t/a, put /t/a/x 0, put /t/a.b 0, put /t/a0 0, link /t/l /t";
 
 const LOOPS: &str = "\
     /t; sort, follow|/t /t/a /t/a/x /t/a.b /t/a0 [File system loop found: /t/l points to an ancestor /t 1]\n\
@@ -32,7 +32,7 @@ fn links_and_depths(rt: HostRuntime) -> Result<(), Fail> {
 }
 
 const TARGETS: &str =
-    "dir /t, link /t/d /u, link /t/f /u/x, link /t/n /none, link /t/o /t/o, dir /u, file /u/x, \
+    "make /t, link /t/d /u, link /t/f /u/x, link /t/n /none, link /t/o /t/o, make /u, put /u/x 0, \
     link /u/b /u, link /r /u, link /s /none";
 
 const FOLLOWED: &str = "\
@@ -58,7 +58,7 @@ fn targets(rt: HostRuntime) -> Result<(), Fail> {
     check(rt.alloc(), &Led, TARGETS, FOLLOWED)
 }
 
-const NEAREST: &str = "dir /t, dir /t/a, link /t/a/d /t, link /t/a/e /t/a";
+const NEAREST: &str = "make /t, make /t/a, link /t/a/d /t, link /t/a/e /t/a";
 
 const NEAREST_NAMED: &str = "\
     /t/a; follow|/t/a /t/a/d@ /t/a/d/a \
@@ -73,8 +73,8 @@ fn nearest(rt: HostRuntime) -> Result<(), Fail> {
 }
 
 const DEVICES: &str =
-    "dir /t, dev 7 /t/m, file /t/m/x, dir /t/n, link /t/o /t/m, file /t/n/y, dev 7 /v, \
-    link /v/t /t, dev 7 /v/w, file /v/w/q, link /z /v";
+    "make /t, make /t/m 7, put /t/m/x 0, make /t/n, link /t/o /t/m, put /t/n/y 0, make /v 7, \
+    link /v/t /t, make /v/w 7, put /v/w/q 0, link /z /v";
 
 const STAYING: &str = "\
     /t; same|/t /t/m /t/n /t/n/y /t/o@\n\
@@ -92,7 +92,7 @@ fn devices(rt: HostRuntime) -> Result<(), Fail> {
     check(rt.alloc(), &Led, DEVICES, STAYING)
 }
 
-const SMALL: &str = "dir /t, dir /t/a, file /t/a/x, file /t/b";
+const SMALL: &str = "make /t, make /t/a, put /t/a/x 0, put /t/b 0";
 
 const FAULTS: &str = "\
     fail 1 /t|[IO error for operation on /t: Failed 0]\n\
@@ -118,7 +118,7 @@ const FAULTS: &str = "\
     fail 4 /t; open 0|/t /t/a /t/a/x [Failed 1]\n\
     fail 6 /t; open 0|/t /t/a [IO error for operation on /t/a: Failed 1] /t/b";
 
-const LINKED: &str = "dir /t, link /t/l /u, file /t/m, dir /u, file /u/x, link /r /u";
+const LINKED: &str = "make /t, link /t/l /u, put /t/m 0, make /u, put /u/x 0, link /r /u";
 
 const LINK_FAULTS: &str = "\
     fail 5 /t; follow|/t [IO error for operation on /t/l: Failed 1] /t/m\n\

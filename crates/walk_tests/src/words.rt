@@ -1,14 +1,10 @@
 //! Disks, walks and items in words.
-use odb_disk::{ByteList, Change, MemDisk, PathText};
+use odb_disk::MemDisk;
 use std::alloc::{AllocError, Global};
 use std::fmt::Write;
 use std::test::Fail;
+use test_words::{change_of, compare, cut, halves};
 use walkdir::{DirEntry, Error, NoSort, WalkDir};
-
-/// The first word of a text and what stands behind it, which is empty where there is one word alone.
-pub fn cut(text: &str) -> (&str, &str) {
-    text.split_once(' ').unwrap_or((text, ""))
-}
 
 /// What a table asks of a disk.
 pub trait Question {
@@ -37,7 +33,7 @@ pub fn check<Q: Question>(
 }
 
 fn check_row<Q: Question>(alloc: Global, question: &Q, nodes: &str, row: &str) -> Result<(), Fail> {
-    let (text, want) = row.split_once('|').unwrap_or((row, ""));
+    let (text, want) = halves(row);
     let (number, asked) = match text.strip_prefix("fail ") {
         Some(rest) => cut(rest),
         None => ("0", text),
@@ -60,20 +56,11 @@ pub fn check_call<Q: Question>(
     let mut disk = MemDisk::with_faults(alloc, &[number])?;
     put_all(alloc, &mut disk, nodes)?;
     question.tell(alloc, &mut told, &mut disk, asked)?;
-    compare(asked, told.as_str(), want)?;
+    compare(asked, told.as_str().trim_end(), want)?;
     Ok(disk.calls())
 }
 
-/// Fails where something else is told than is wanted. A blank at the end doesn't count.
-fn compare(asked: &str, told: &str, want: &str) -> Result<(), Fail> {
-    if told.trim_end() == want {
-        return Ok(());
-    }
-    Err(Fail::new(format_args!("{asked}: {told} in place of {want}")))
-}
-
-/// Puts these nodes on a disk: `dir PATH`, `dev NUMBER PATH` for a directory on a device, `file PATH TEXT`,
-/// `link PATH TARGET`.
+/// Puts these nodes on a disk, each a change in words.
 fn put_all(alloc: Global, disk: &mut MemDisk, nodes: &str) -> Result<(), Fail> {
     for node in nodes.split(", ") {
         put(alloc, disk, node)?;
@@ -82,39 +69,10 @@ fn put_all(alloc: Global, disk: &mut MemDisk, nodes: &str) -> Result<(), Fail> {
 }
 
 fn put(alloc: Global, disk: &mut MemDisk, node: &str) -> Result<(), Fail> {
-    let change = change_of(alloc, node)?;
+    let (verb, rest) = cut(node);
+    let change = change_of(alloc, verb, rest)?;
     disk.change(alloc, &change)?;
     Ok(())
-}
-
-fn change_of(alloc: Global, node: &str) -> Result<Change, Fail> {
-    let (verb, rest) = cut(node);
-    let (first, second) = cut(rest);
-    match verb {
-        "dir" => dir_of(alloc, first, "0"),
-        "dev" => dir_of(alloc, second, first),
-        "link" => link_of(alloc, first, second),
-        _ => file_of(alloc, first, second),
-    }
-}
-
-fn dir_of(alloc: Global, path: &str, dev: &str) -> Result<Change, Fail> {
-    let dev = dev.parse::<u64>()?;
-    let path = PathText::parse(alloc, path)?;
-    Ok(Change::MakeDir { path, dev })
-}
-
-fn link_of(alloc: Global, path: &str, target: &str) -> Result<Change, Fail> {
-    let path = PathText::parse(alloc, path)?;
-    let target = PathText::parse(alloc, target)?;
-    Ok(Change::PutLink { path, target })
-}
-
-fn file_of(alloc: Global, path: &str, text: &str) -> Result<Change, Fail> {
-    let path = PathText::parse(alloc, path)?;
-    let bytes = ByteList::from_slice(alloc, text.as_bytes())?;
-    let time = 0;
-    Ok(Change::PutFile { path, time, bytes })
 }
 
 /// A walk with options: `follow`, `noroot`, `first` for contents first, `same` for one file system, `min N`, `max N`,

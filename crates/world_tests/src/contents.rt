@@ -1,10 +1,10 @@
 //! The bytes of the files that a script puts.
-use crate::words::compare;
 use gix_hash::{Hasher, Kind};
 use odb_disk::Change;
 use odb_script::{Item, item_of};
 use std::alloc::{AllocError, Global};
 use std::test::Fail;
+use test_words::compare;
 
 /// What a file holds that a line puts.
 fn content_shown(alloc: Global, content: &str) -> Result<String, Fail> {
@@ -82,7 +82,7 @@ const CONTENTS: &str = "\
     @midx:a-=blob:-;a=blob:->1160 cb132223a08fb0c01500b91a0904aeaf26029249";
 
 // Objects that are left out, turned round or of another kind, a header with another size, a pack's index for a pack,
-// or packs under each other's names: no step of a script reads packs yet, so no output would tell.
+// or packs under each other's names. An output shows single objects of packs alone.
 #[test]
 fn spells_contents(rt: HostRuntime) -> Result<(), Fail> {
     for row in CONTENTS.split('\n') {

@@ -1,8 +1,6 @@
-//! What no clause of a world says: that steps succeed while there is memory, values from outside, printed texts.
+//! What no clause of a world says and no script shows: records and journals, texts of errors, counts of turns, bytes of files.
 //!
-//! It has tests alone. Each is a table of steps in words and what they come to: `words` reads the steps, `played` makes
-//! them and tells what they come to, `tables` has the tests over the tables of the other modules. `contents` has the
-//! files that scripts put.
+//! It has tests alone. Steps are lines of scripts, which `steps` reads; `played` makes them and tells their outcomes.
 #![tactic(auto)]
 
 #[cfg(test)]
@@ -10,22 +8,18 @@ mod bounds;
 #[cfg(test)]
 mod contents;
 #[cfg(test)]
-mod finds;
+mod counts;
 #[cfg(test)]
 mod lines;
 #[cfg(test)]
 mod misuse;
 #[cfg(test)]
-mod openings;
-#[cfg(test)]
-mod others;
-#[cfg(test)]
 mod played;
 #[cfg(test)]
 mod records;
 #[cfg(test)]
-mod tables;
+mod steps;
 #[cfg(test)]
-mod words;
+mod taken_names;
 #[cfg(test)]
-mod writes;
+mod texts;

@@ -1,10 +1,11 @@
 //! Lines that are played, of which one may take several steps.
 use crate::played::outcome_shown;
-use crate::words::{compare, step_of};
+use crate::steps::line_of;
 use gix_odb_world::{Line, OutcomeList, Play, World};
 use odb_disk::MemDisk;
 use std::alloc::Global;
 use std::test::Fail;
+use test_words::compare;
 
 /// The outcomes of a run, in a row.
 fn outcomes_shown(alloc: Global, outcomes: &OutcomeList) -> Result<String, Fail> {
@@ -15,18 +16,6 @@ fn outcomes_shown(alloc: Global, outcomes: &OutcomeList) -> Result<String, Fail>
         text.push_str("; ")?;
     }
     Ok(text)
-}
-
-fn line_of(alloc: Global, text: &str) -> Result<Line, Fail> {
-    match text.strip_prefix("finish ") {
-        Some(handle) => finish_of(handle),
-        None => Ok(Line::One(step_of(alloc, text)?)),
-    }
-}
-
-fn finish_of(text: &str) -> Result<Line, Fail> {
-    let handle = text.parse::<u32>()?;
-    Ok(Line::Finish { handle })
 }
 
 fn lines_of(alloc: Global, rows: &str) -> Result<Vec<Line>, Fail> {
@@ -52,13 +41,13 @@ fn places_shown(alloc: Global, play: &Play) -> Result<String, Fail> {
 
 // There are two folders and no packs, so that a find that misses takes seven turns.
 const LINES: &str = "\
-    make /o\n\
-    open 0 /o folder=/p\n\
+    do mkdir /o\n\
+    open 0 /o slots=32 folder=/p\n\
     finish 0\n\
-    find 0 Z\n\
+    find 0 0000000000000000000000000000000000000001\n\
     finish 0\n\
     finish 0\n\
-    write 0 0 -\n\
+    write 0 blob -\n\
     finish 0\n\
     close 0";
 

@@ -1,9 +1,10 @@
-//! Rows of steps that are made in a world, and what they come to in words.
-use crate::words::{compare, halves, step_of};
+//! Rows of steps that are made in a world, and their outcomes.
+use crate::steps::step_of;
 use gix_odb_world::{Did, Outcome, Record, Reply, Run, Step, World, is_valid};
 use odb_disk::MemDisk;
 use std::alloc::{AllocError, Global};
 use std::test::Fail;
+use test_words::{compare, halves};
 
 pub(crate) fn outcome_shown(alloc: Global, outcome: &Outcome) -> Result<String, AllocError> {
     match outcome {
@@ -31,7 +32,7 @@ fn found_shown(alloc: Global, kind: gix_object::Kind, bytes: &[u8]) -> Result<St
     format!(in alloc; "{kind:?} {text}")
 }
 
-/// The misuse that a step is told to be beforehand, or nothing.
+/// The misuse that `is_valid` finds in a step, or nothing.
 fn judged(alloc: Global, world: &World, step: &Step) -> Result<String, Fail> {
     match is_valid(alloc, world, step)? {
         Some(why) => Ok(format!(in alloc; "misuse {why:?}")?),
@@ -44,7 +45,7 @@ fn made(alloc: Global, world: &mut World, step: &Step) -> Result<String, Fail> {
     Ok(outcome_shown(alloc, &outcome)?)
 }
 
-/// Makes a step, and compares the misuse that it is with what was told beforehand.
+/// Makes a step, and compares its misuse with what `is_valid` found before.
 fn stepped(alloc: Global, world: &mut World, step: &Step) -> Result<String, Fail> {
     let judged = judged(alloc, world, step)?;
     let told = made(alloc, world, step)?;
@@ -60,7 +61,7 @@ fn turned(alloc: Global, world: &mut World, handle: u32) -> Result<String, Fail>
     stepped(alloc, world, &Step::Turn { handle })
 }
 
-/// Makes turns of a handle up to the first that isn't pending: how many, and what the last one comes to.
+/// Makes turns of a handle up to the first that isn't pending: how many, and the outcome of the last one.
 fn finished(alloc: Global, world: &mut World, handle: u32) -> Result<String, Fail> {
     for count in 1..50_u8 {
         let told = turned(alloc, world, handle)?;
@@ -80,7 +81,7 @@ fn done_step(alloc: Global, world: &mut World, text: &str) -> Result<String, Fai
     stepped(alloc, world, &step)
 }
 
-/// What a step in words comes to, or what `finish` of a handle does.
+/// The outcome of a step, or the number of turns of a `finish` and the last one's outcome.
 fn done(alloc: Global, world: &mut World, text: &str) -> Result<String, Fail> {
     match text.strip_prefix("finish ") {
         Some(handle) => finished(alloc, world, handle.parse::<u32>()?),
@@ -88,7 +89,7 @@ fn done(alloc: Global, world: &mut World, text: &str) -> Result<String, Fail> {
     }
 }
 
-/// What steps come to, and one more, but for `applied`.
+/// The outcomes so far and one more, unless it is `applied`.
 pub(crate) fn joined(alloc: Global, before: &str, told: &str) -> Result<String, AllocError> {
     match (before, told) {
         (_, "applied") => before.to_string(alloc),
@@ -97,7 +98,7 @@ pub(crate) fn joined(alloc: Global, before: &str, told: &str) -> Result<String, 
     }
 }
 
-/// Makes steps, between which stand semicolons, and tells what they come to but for `applied`.
+/// Makes steps, with semicolons between them, and tells their outcomes but for `applied`.
 pub(crate) fn told(alloc: Global, world: &mut World, steps: &str) -> Result<String, Fail> {
     let mut out = String::new(alloc);
     for text in steps.split(';') {
@@ -113,7 +114,7 @@ pub(crate) fn check_row(alloc: Global, world: &mut World, row: &str) -> Result<(
     compare(steps, found.as_str(), want)
 }
 
-/// Makes the steps of each row, in turn, and compares what they come to.
+/// Makes the steps of each row, in turn, and compares their outcomes.
 fn check(alloc: Global, world: &mut World, rows: &str) -> Result<(), Fail> {
     for row in rows.split('\n') {
         check_row(alloc, world, row)?;
@@ -146,7 +147,7 @@ fn check_behind(alloc: Global, world: &mut World, front: &str, row: &str) -> Res
     check_row(alloc, world, row)
 }
 
-/// Each row has numbers of calls that fail, and what the steps come to then.
+/// Each row has numbers of calls that fail, and the outcomes of the steps then.
 pub(crate) fn check_faults(alloc: Global, steps: &str, rows: &str) -> Result<(), Fail> {
     for row in rows.split('\n') {
         check_failing(alloc, steps, row)?;
@@ -160,7 +161,7 @@ fn check_failing(alloc: Global, steps: &str, row: &str) -> Result<(), Fail> {
     compare(calls, found.as_str(), want)
 }
 
-/// What steps come to where the calls with these numbers fail.
+/// The outcomes of steps where the calls with these numbers fail.
 fn told_with(alloc: Global, calls: &str, steps: &str) -> Result<String, Fail> {
     let mut world = World::new(alloc, failing(alloc, calls)?);
     told(alloc, &mut world, steps)

@@ -1,11 +1,12 @@
 //! What each step of a run did to the disk.
 use crate::played::{joined, record_shown};
-use crate::words::{compare, halves, step_of};
+use crate::steps::step_of;
 use gix_odb_core::{Effect, Entry, Event, Journal, PackId, Refusal};
 use gix_odb_world::{Run, Step, World};
 use odb_disk::{MemDisk, PathText};
 use std::alloc::{AllocError, Global};
 use std::test::Fail;
+use test_words::{compare, halves};
 
 /// Compares what each step of a run did with the second half of its row.
 fn check_records(alloc: Global, run: &Run, rows: &str) -> Result<(), Fail> {
@@ -34,30 +35,30 @@ fn run_of(alloc: Global, faults: &[u64], rows: &str) -> Result<Run, Fail> {
 }
 
 const RECORDS: &str = "\
-    make /o|- true 0\n\
-    open 0 /o|- false 0\n\
+    do mkdir /o|- true 0\n\
+    open 0 /o slots=32|- false 0\n\
     turn 0|Look /o true false 1\n\
-    open 0 /o|- false 1\n\
+    open 0 /o slots=32|- false 1\n\
     turn 0|Look /o false false 1\n\
     turn 0|core 0 1 false 1\n\
-    open 1 /o|- false 1\n\
+    open 1 /o slots=32|- false 1\n\
     turn 1|Look /o false false 1\n\
     turn 1|core 1 1 false 1\n\
-    find 0 E|- false 1\n\
+    find 0 e69de29bb2d1d6434b8b29ae775ad8c2e48c5391|- false 1\n\
     turn 0|core 0 2 false 1\n\
     turn 0|OpenDir /o/pack true false 2\n\
-    write 0 0 -|- false 2\n\
+    write 0 blob -|- false 2\n\
     turn 0|core 0 3 false 2\n\
     turn 0|OpenDir /o/pack false false 2\n\
     turn 0|core 0 4 false 2\n\
-    write 1 1 - x|- false 2\n\
+    write 1 blob 78|- false 2\n\
     turn 1|core 1 2 false 2\n\
     turn 1|OpenDir /o/pack false false 2\n\
     turn 1|core 1 3 false 2\n\
     turn 0|NewFile /o/tmp_obj_0 false true 2\n\
     turn 1|NewFile /o/tmp_obj_0 false false 2\n\
     turn 1|NewFile /o/tmp_obj_1 false true 2\n\
-    take /x|- false 2\n\
+    do remove /x|- false 2\n\
     turn 0|Append /o/tmp_obj_0 false true 2\n\
     turn 0|MakeDir /o/e6 true false 3\n\
     turn 0|Remove /o/tmp_obj_0 false true 3\n\
@@ -65,8 +66,8 @@ const RECORDS: &str = "\
     turn 1|Append /o/tmp_obj_1 false true 3\n\
     turn 1|MakeDir /o/c1 false true 3\n\
     turn 1|Rename /o/tmp_obj_1 false true 3\n\
-    make /o/pack|- true 3\n\
-    find 1 Z|- false 3\n\
+    do mkdir /o/pack|- true 3\n\
+    find 1 0000000000000000000000000000000000000001|- false 3\n\
     turn 1|Read /o/00/00000000000000000000000000000000000001 false false 3\n\
     turn 1|core 1 4 false 3\n\
     turn 1|OpenDir /o/pack false false 3\n\
@@ -88,11 +89,11 @@ const JOURNALS: &str = "\
 // A store with one pack, up to where a find has listed it. Its object is the blob of `version 1` and a line feed, with the id that
 // `git hash-object` tells.
 const LISTED: &str = "\
-    make /o|- true 0\n\
-    make /o/pack|- true 0\n\
-    put /o/pack/pack-a.idx @idx:blob:76657273696f6e20310a|- true 0\n\
-    put /o/pack/pack-a.pack @pack:blob:76657273696f6e20310a|- true 0\n\
-    open 0 /o|- false 0\n\
+    do mkdir /o|- true 0\n\
+    do mkdir /o/pack|- true 0\n\
+    do put /o/pack/pack-a.idx 1 @idx:blob:76657273696f6e20310a|- true 0\n\
+    do put /o/pack/pack-a.pack 1 @pack:blob:76657273696f6e20310a|- true 0\n\
+    open 0 /o slots=32|- false 0\n\
     turn 0|Look /o false false 0\n\
     turn 0|core 0 1 false 0\n\
     find 0 83baae61804e65cc73a7201a7252750c76066a30|- false 0\n\
@@ -118,7 +119,7 @@ const FOUND_JOURNAL: &str = "\
 
 // The index vanishes before it is read, and nothing else has the object.
 const VANISHED: &str = "\
-    take /o/pack/pack-a.idx|- true 0\n\
+    do remove /o/pack/pack-a.idx|- true 0\n\
     turn 0|Read /o/pack/pack-a.idx false false 0\n\
     turn 0|core 0 4 false 0\n\
     turn 0|Read /o/83/baae61804e65cc73a7201a7252750c76066a30 false false 0\n\
