@@ -1,18 +1,20 @@
 -- The order of work of a call: an object is looked for in the store, or written into the objects directory. In front of a write the list
 -- of the store is read, where it was not.
-use Rattle.std.specs.Prelude.{◌≡◌, ℕ, ◌<◌, ◌^◌, true, List, Option, Some, None, Result, Ok, Err}
-use Rattle.std.specs.Result.{result_ok}
+use Rattle.std.specs.Prelude.{◌≡◌, ℕ, ◌<◌, ◌^◌, Bool, true, false, List, Option, Some, None, Result, Ok, Err}
 use Rattle.odb_base.specs.Path.{Path}
 use Rattle.gix_hash.specs.declared.kind.Kind.{Kind as HashKind}
 use Rattle.gix_hash.specs.declared.object_id.ObjectId.{ObjectId}
 use Rattle.gix_object.specs.declared.kind.Kind.{Kind}
-use Rattle.gix_odb_loose.specs.LooseOrder.{disk_ask_of, reply_of}
+use Rattle.gix_odb_loose.specs.LooseOrder.{disk_ask_of}
 use Rattle.gix_odb_loose.specs.LooseOrder as loose_order
 use Rattle.gix_odb_loose.specs.declared.call.LooseCall.{LooseCall}
 use Rattle.gix_odb_loose.specs.declared.call.LooseJob.TheVariants as jobs
 use Rattle.gix_odb_loose.specs.declared.call.LooseReply.{LooseReply}
 use Rattle.gix_odb_loose.specs.declared.call.LooseReply.TheVariants as loose_replies
+use Rattle.gix_odb_loose.specs.declared.call.Stage as loose_calls
+use Rattle.gix_odb_loose.specs.declared.call.Stage.TheVariants as loose_stages
 use Rattle.gix_odb_loose.specs.declared.store.Store as loose
+use Rattle.gix_odb_loose.specs.declared.write.Error as loose_write
 use Rattle.gix_odb_calls.specs.Hashes.{is_of_hash}
 use Rattle.gix_odb_calls.specs.Query.{by_call}
 use Rattle.gix_odb_calls.specs.declared.call.Call.{Call}
@@ -22,14 +24,11 @@ use Rattle.gix_odb_calls.specs.declared.call.Reply.{Reply}
 use Rattle.gix_odb_calls.specs.declared.call.Reply.TheVariants as replies
 use Rattle.gix_odb.specs.declared.ask.Ask as published
 use Rattle.gix_odb.specs.declared.ask.Ask.TheVariants as own
-use Rattle.gix_odb.specs.HandleState.{setting_at, told_by}
 use Rattle.gix_odb.specs.declared.call_state.CallStage.{CallStage}
 use Rattle.gix_odb.specs.declared.call_state.CallStage.TheVariants.{Looking, Refreshing, Refused, Writing}
-use Rattle.gix_odb.specs.declared.call_state.CallState.{CallState}
-use Rattle.gix_odb.specs.declared.handle_state.HandleState.{HandleState}
 use Rattle.gix_odb_looks.specs.declared.look_up.LookUp.{LookUp}
 use Rattle.gix_odb_looks.specs.LookUpOrder as looks
-use Rattle.gix_odb_looks.specs.LookUpOrder.{Setting, loose_ask}
+use Rattle.gix_odb_looks.specs.LookUpOrder.{Setting}
 use Rattle.gix_odb_refresh.specs.RefreshOrder as refreshes
 use Rattle.gix_odb_refresh.specs.declared.refresh.RefreshStep.{RefreshStep}
 use Rattle.gix_odb_refresh.specs.declared.refresh.RefreshStep.TheVariants as fronts
@@ -38,7 +37,6 @@ use Rattle.gix_odb_events.specs.declared.answer.Answer.{Answer}
 use Rattle.gix_odb_events.specs.declared.answer.Answer.TheVariants as told
 use Rattle.gix_odb_events.specs.declared.answer.Ask.{Ask}
 use Rattle.gix_odb_events.specs.declared.answer.Ask.TheVariants as asks
-use Rattle.gix_odb_events.specs.declared.event.Event.TheVariants as events
 use Rattle.gix_odb_calls.specs.declared.query.Query.{Query}
 use Rattle.gix_odb_calls.specs.declared.load_index.Error as load
 use Rattle.gix_odb_calls.specs.declared.write.Error.TheVariants as write_errors
@@ -53,19 +51,45 @@ write_store objects hash = record { path = objects; object_hash = hash; options 
 abbrev pub writing : Path → HashKind → Kind → (size : ℕ) → List ℕ → (known : Option ObjectId) → LooseCall
 writing objects hash kind size bytes known = loose_order.started (write_store objects hash) (jobs.Write kind size bytes known)
 
--- what a write came to. It comes to nothing but the first two
-abbrev pub wrote_as : LooseReply → Reply
-wrote_as (loose_replies.Wrote (Ok id)) = replies.Wrote id
-wrote_as (loose_replies.Wrote (Err error)) = replies.Refused (call_errors.Write (write_errors.LooseWrite error))
-wrote_as reply = replies.NotFound
+-- a call of the objects directory that writes: it is under way, or done with what it came to
+abbrev pub is_written : LooseReply → Bool
+is_written (loose_replies.Wrote answer) = true
+is_written reply = false
 
-abbrev pub replied_by : LooseCall → Option LooseReply → Result Reply LooseCall
+abbrev pub is_write_at : loose_calls.Stage → Bool
+is_write_at (loose_stages.Asking want path limit) = false
+is_write_at (loose_stages.Writing job) = true
+is_write_at (loose_stages.Done reply) = is_written reply
+
+abbrev pub is_write : LooseCall → Bool
+is_write call = is_write_at call.stage
+
+-- what it came to, where it is done
+abbrev pub written_in : LooseReply → Option (Result ObjectId loose_write.Error)
+written_in (loose_replies.Wrote answer) = Some answer
+written_in reply = None
+
+abbrev pub written_at : loose_calls.Stage → Option (Result ObjectId loose_write.Error)
+written_at (loose_stages.Done reply) = written_in reply
+written_at stage = None
+
+-- its reply
+abbrev pub wrote_as : Result ObjectId loose_write.Error → Reply
+wrote_as (Ok id) = replies.Wrote id
+wrote_as (Err error) = replies.Refused (call_errors.Write (write_errors.LooseWrite error))
+
+abbrev pub replied_by : LooseCall → Option (Result ObjectId loose_write.Error) → Result Reply LooseCall
 replied_by call None = Err call
-replied_by call (Some reply) = Ok (wrote_as reply)
+replied_by call (Some answer) = Ok (wrote_as answer)
 
 -- the reply of a write that is done, or the write
 abbrev pub result_of_write : LooseCall → Result Reply LooseCall
-result_of_write call = replied_by call (reply_of call)
+result_of_write call = replied_by call (written_at call.stage)
+
+-- what the objects directory asks for
+abbrev pub loose_ask : Option DiskAsk → Option Ask
+loose_ask None = None
+loose_ask (Some ask) = Some (asks.Disk ask)
 
 -- a write whose store could not be listed
 abbrev pub unlisted : load.Error → Reply
@@ -125,17 +149,18 @@ result_of (Refreshing refresh write) = Err (Refreshing refresh write)
 result_of (Writing call) = writing_result (result_of_write call)
 result_of (Refused error) = Ok (unlisted error)
 
--- What a call does next: it waits for what it asks for, or has its reply. One that neither asks nor is done, or has a core made, as no
--- call on its way does, looks at the core.
-abbrev pub asked_by : Option Ask → Option Reply → published.Ask
-asked_by (Some (asks.Disk ask)) reply = own.Disk ask
-asked_by (Some (asks.Core event)) reply = own.Core event
-asked_by (Some (asks.NewCore slots folders)) reply = own.Core events.Look
-asked_by None (Some reply) = own.Done reply
-asked_by None None = own.Core events.Look
+-- what a call does next: it waits for what it asks for, or asks for nothing and has its reply
+abbrev pub Asks : CallStage → published.Ask → Type 0
+Asks state (own.Disk ask) = ask_of state ≡ Some (asks.Disk ask)
+Asks state (own.Core event) = ask_of state ≡ Some (asks.Core event)
+Asks state (own.Done reply) = (ask_of state ≡ None) × (result_of state ≡ Ok reply)
 
-abbrev pub asked_of : CallStage → published.Ask
-asked_of state = asked_by (ask_of state) (result_ok (result_of state))
+-- what a call writes with is a call that writes
+abbrev pub is_for_writes : CallStage → Bool
+is_for_writes (Looking look) = true
+is_for_writes (Refreshing refresh write) = is_write write
+is_for_writes (Writing call) = is_write call
+is_for_writes (Refused error) = true
 
 -- a write after an answer. One of the core leaves it
 abbrev pub written_on : LooseCall → Answer → LooseCall
@@ -156,14 +181,3 @@ opened_in (Looking look) = looks.opened_in look
 opened_in (Refreshing refresh write) = refreshes.opened_in refresh
 opened_in (Writing call) = None
 opened_in (Refused error) = None
-
--- ---- a call with its handle
-
--- a call after the answer to what it asked for: its handle has the view that the answer passes
-abbrev pub after_answer : CallState → Answer → CallState
-after_answer call answer = record { handle = told_by call.handle answer; stage = fed (setting_at call.handle) call.stage answer }
-
--- the reply of a call that is done, with its handle, or the call
-abbrev pub ends_with : HandleState → Result Reply CallStage → Result (Reply × HandleState) CallState
-ends_with handle (Ok reply) = Ok (reply, handle)
-ends_with handle (Err stage) = Err (record { handle = handle; stage = stage })

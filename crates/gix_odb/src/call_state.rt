@@ -1,14 +1,13 @@
 //! The order of work of a call on a handle: an object is looked for, or written.
-ghost use Rattle.std.specs.Prelude.{◌≡◌, ◌<◌, ◌^◌, IfOk, OnErr, OnOk};
+ghost use Rattle.std.specs.Prelude.{◌≡◌, ◌<◌, ◌^◌, IfErr, IfOk, MatchResult, Ok, Err, OnErr, OnOk, Some, None, true};
 ghost use Rattle.std.specs.Option.{option_map};
 ghost use Rattle.std.specs.Result.{result_ok};
 ghost use Rattle.gix_odb_calls.specs.declared.load_index.Error.TheVariants as load_errors;
 ghost use Rattle.gix_odb_loose.specs.LooseOrder.{disk_ask_of};
 ghost use Rattle.gix_odb.specs.Answers.{IsAnswerOf};
-ghost use Rattle.gix_odb.specs.CallOrder.{HasSize, IsOfHash, after_answer, ask_of, asked_of, ends_with, fronted, opened_in, result_of, result_of_write, started, writing, wrote_as};
+ghost use Rattle.gix_odb.specs.CallOrder.{Asks, HasSize, IsOfHash, ask_of, fronted, is_for_writes, is_write, is_written, loose_ask, opened_in, result_of, result_of_write, started, writing, wrote_as};
 ghost use Rattle.gix_odb.specs.CallOrder as calls;
 ghost use Rattle.gix_odb_looks.specs.LookUpOrder as looks;
-ghost use Rattle.gix_odb_looks.specs.LookUpOrder.{loose_ask};
 ghost use Rattle.gix_odb_refresh.specs.RefreshOrder as refreshes;
 ghost use Rattle.gix_odb.specs.HandleState.{IsAlike, hash_of, setting_at, sought_by, told_by};
 
@@ -18,7 +17,7 @@ use crate::see::see;
 use gix_hash::ObjectId;
 use gix_object::Kind;
 use gix_odb_calls::{Call, CallError, Query, Reply, load_index, write};
-use gix_odb_events::{Answer, Ask, Event};
+use gix_odb_events::{Answer, Ask};
 use gix_odb_looks::{LookUp, Setting};
 use gix_odb_loose::{LooseAsk, LooseCall, LooseJob, LooseReply};
 use gix_odb_refresh::{Refresh, RefreshStep};
@@ -34,6 +33,8 @@ use std::mem::replace;
 pub struct CallState {
     handle: HandleState,
     stage: CallStage,
+    /// The call of the objects directory that it has, where it has one, writes.
+    ghost writes: { is_for_writes stage ≡ true },
 }
 
 /// The stage of a call.
@@ -52,6 +53,7 @@ pub enum CallStage {
 impl CallState {
     /// A new call on a copy of a handle, whose ids are of the store's hash. It asks for nothing yet; where the handle's
     /// snapshot has all that a query takes, the query is done.
+    #[tactic(auto, using(crate::proofs::CallLemmas::started_writes_by))]
     pub fn start(alloc: Global, handle: &HandleState, call: Call) -> Result<CallState, NoMemory>
         requires of_hash { IsOfHash (hash_of handle.now) call }
         ensures handle { IfOk result (λ state. IsAlike state.handle handle.now) }
@@ -64,18 +66,17 @@ impl CallState {
     }
 
     /// What the call does next. A reply is copied: `into_reply` moves it out.
+    #[tactic(auto, using(crate::proofs::AskLaws::asks_no_new_core, crate::proofs::AskLaws::asks_or_is_done, crate::proofs::AskLaws::done_with))]
     pub fn ask(&self, alloc: Global) -> Result<CallAsk, NoMemory>
-        ensures asked { IfOk result (λ ask. ask ≡ asked_of self.now.stage) }
+        ensures asked { IfOk result (λ ask. Asks self.now.stage ask) }
     {
         match self.next_ask(alloc)? {
             Some(Ask::Disk(ask)) => Ok(CallAsk::Disk(ask)),
             Some(Ask::Core(event)) => Ok(CallAsk::Core(event)),
-            // No call has a core made.
-            Some(Ask::NewCore { .. }) => Ok(CallAsk::Core(Event::Look)),
+            Some(Ask::NewCore { .. }) => unreachable!("no call has a core made"),
             None => match self.stage.reply_copy(alloc)? {
                 Some(reply) => Ok(CallAsk::Done(reply)),
-                // No call comes to such a state.
-                None => Ok(CallAsk::Core(Event::Look)),
+                None => unreachable!("a call that asks for nothing has its reply"),
             },
         }
     }
@@ -106,10 +107,10 @@ impl CallState {
 
     /// Takes the answer to what the call asked for. The handle has the view that the answer passes, even where memory runs
     /// out; the call is refused then.
-    #[tactic(auto, using(crate::proofs::HandleLemmas::after_answer_by))]
+    #[tactic(auto, using(crate::proofs::HandleLemmas::fed_by, crate::proofs::CallLemmas::fed_writes_by))]
     pub fn feed(&mut self, alloc: Global, answer: Answer) -> Result<(), NoMemory>
-        requires answers { IsAnswerOf (asked_of self.old.stage) answer }
-        ensures fed { OnOk result (self.new ≡ after_answer self.old answer) }
+        requires answers { IsAnswerOf (ask_of self.old.stage) answer }
+        ensures fed { OnOk result (self.new.stage ≡ calls.fed (setting_at self.old.handle) self.old.stage answer) }
         ensures handle { self.new.handle ≡ told_by self.old.handle answer }
         ensures refused { OnErr result (self.new.stage ≡ CallStage.Refused load_errors.NoMemory) }
     {
@@ -130,7 +131,7 @@ impl CallState {
 
     /// The reply of a call that is done, with its handle, or the call that goes on.
     pub fn into_reply(self) -> Result<(Reply, HandleState), CallState>
-        ensures replied { result ≡ ends_with self.handle (result_of self.stage) }
+        ensures replied { MatchResult result (λ done. (result_of self.stage ≡ Ok done.0) × (done.1 ≡ self.handle)) (λ call. (result_of self.stage ≡ Err call.stage) × (call.handle ≡ self.handle)) }
     {
         let CallState { handle, stage } = self;
         match stage.into_reply() {
@@ -152,6 +153,7 @@ impl CallState {
 impl CallStage {
     // A copy of the reply of a call that is done.
     fn reply_copy(&self, alloc: Global) -> Result<Option<Reply>, NoMemory>
+        requires writes { is_for_writes self.now ≡ true }
         ensures copied { IfOk result (λ reply. reply ≡ result_ok (result_of self.now)) }
     {
         match self {
@@ -188,7 +190,9 @@ impl CallStage {
 
     // The reply of a call that is done, or the stage that it is at.
     fn into_reply(self) -> Result<Reply, CallStage>
+        requires writes { is_for_writes self ≡ true }
         ensures replied { result ≡ result_of self }
+        ensures writes { IfErr result (λ stage. is_for_writes stage ≡ true) }
     {
         match self {
             CallStage::Looking(look) => match look.into_reply() {
@@ -199,8 +203,8 @@ impl CallStage {
                 refresh,
                 write,
             }),
-            CallStage::Writing(call) => match call.into_reply() {
-                Ok(reply) => Ok(told(reply)),
+            CallStage::Writing(call) => match write_ended(call) {
+                Ok(wrote) => Ok(wrote),
                 Err(call) => Err(CallStage::Writing(call)),
             },
             CallStage::Refused(error) => Ok(unlisted(error)),
@@ -251,7 +255,9 @@ fn write_ask(alloc: Global, call: &LooseCall) -> Result<Option<Ask>, NoMemory>
 }
 
 // A copy of the reply of a write that is done.
+#[tactic(auto, using(crate::proofs::CallLemmas::write_asked_done, crate::proofs::CallLemmas::write_copied, crate::proofs::CallLemmas::write_asks_on))]
 fn write_reply(alloc: Global, call: &LooseCall) -> Result<Option<Reply>, NoMemory>
+    requires writes { is_write call.now ≡ true }
     ensures copied { IfOk result (λ reply. reply ≡ result_ok (result_of_write call.now)) }
 {
     match call.ask(alloc)? {
@@ -259,7 +265,31 @@ fn write_reply(alloc: Global, call: &LooseCall) -> Result<Option<Reply>, NoMemor
             drop(ask);
             Ok(None)
         }
-        LooseAsk::Done(reply) => Ok(Some(told(reply))),
+        LooseAsk::Done(reply) => Ok(Some(wrote(written(reply)))),
+    }
+}
+
+// The reply of a write that is done, or the write.
+#[tactic(auto, using(crate::proofs::CallLemmas::write_replies, crate::proofs::CallLemmas::write_ends, crate::proofs::CallLemmas::write_stays))]
+fn write_ended(call: LooseCall) -> Result<Reply, LooseCall>
+    requires writes { is_write call ≡ true }
+    ensures ended { result ≡ result_of_write call }
+    ensures same { IfErr result (λ same. same ≡ call) }
+{
+    match call.into_reply() {
+        Ok(reply) => Ok(wrote(written(reply))),
+        Err(call) => Err(call),
+    }
+}
+
+// What a write came to.
+fn written(reply: LooseReply) -> Result<ObjectId, gix_odb_loose::write::Error>
+    requires written { is_written reply ≡ true }
+    ensures written { reply ≡ LooseReply.Wrote result }
+{
+    match reply {
+        LooseReply::Wrote(answer) => answer,
+        _ => unreachable!("a write replies what it wrote"),
     }
 }
 
@@ -381,23 +411,9 @@ fn unlisted(error: load_index::Error) -> Reply
     Reply::Refused(CallError::Write(write::Error::LoadIndex(error)))
 }
 
-// The reply of a write, by that of the objects directory.
-fn told(reply: LooseReply) -> Reply
-    ensures told { result ≡ wrote_as reply }
-{
-    match reply {
-        LooseReply::Wrote(answer) => wrote(answer),
-        // A write comes to nothing else.
-        reply => {
-            drop(reply);
-            Reply::NotFound
-        }
-    }
-}
-
 // The reply of a write that came to this.
 fn wrote(answer: Result<ObjectId, gix_odb_loose::write::Error>) -> Reply
-    ensures told { result ≡ wrote_as (LooseReply.Wrote answer) }
+    ensures told { result ≡ wrote_as answer }
 {
     match answer {
         Ok(id) => Reply::Wrote(id),

@@ -1,6 +1,5 @@
 -- Laws of the ids of what look-ups find.
 use Rattle.std.proofs.Common.{◌≡◌, inl, inr, ℕ, List, Contains, Option, Some, None, Result, Ok, Err, ap, ◌∙◌}
-use Rattle.std.proofs.lemmas.Option.{same_Some}
 use Rattle.odb_base.specs.Path.{Path}
 use Rattle.gix_hash.specs.ObjectId.{kind_of}
 use Rattle.gix_hash.specs.declared.kind.Kind.{Kind}
@@ -9,10 +8,9 @@ use Rattle.gix_object.specs.Id.{object_id}
 use Rattle.gix_object.specs.declared.kind.Kind as object
 use Rattle.gix_odb_loose.specs.LooseFile.{loose_path}
 use Rattle.gix_odb_loose.specs.LooseOrder.Answered.{found_by}
-use Rattle.gix_odb_loose.specs.declared.call.LooseReply.TheVariants as loose_replies
 use Rattle.gix_odb_loose.specs.declared.find.Error.{Error}
 use Rattle.gix_odb_events.specs.declared.view.View.{View}
-use Rattle.gix_odb_calls.specs.Verdict.{verdict_on}
+use Rattle.gix_odb_calls.specs.Verdict.{asking, folder_ask, verdict_on_find}
 use Rattle.gix_odb_calls.specs.declared.call.Reply.TheVariants as replies
 use Rattle.gix_object.specs.declared.want.Want.TheVariants.{Object}
 use Rattle.gix_odb_calls.specs.declared.verdict.Verdict.TheVariants as verdicts
@@ -33,7 +31,7 @@ module _ (Shown : Path → List ℕ → Type 0) (setting : Setting) (hash : Kind
       ap (λ (k : object.Kind). object_id hash k bytes) kinds ∙ ap (object_id hash found.content.entry.kind) octets
       ∙ packs found.path found.index.bytes found.pack found.offset found.content.entry found.index.at found.index.shown found.index.gives found.shown found.content.there
 
-  given_object : (given : Result (Option (object.Kind × List ℕ)) Error) → verdict_on Object (loose_replies.Found given) ≡ verdicts.Ends (replies.Found kind bytes)
+  given_object : (given : Result (Option (object.Kind × List ℕ)) Error) → verdict_on_find given ≡ verdicts.Ends (replies.Found kind bytes)
       → given ≡ Ok (Some (kind, bytes))
   given_object (Ok (Some found)) is =
       let kinds : found.0 ≡ kind = cc is in
@@ -45,9 +43,8 @@ module _ (Shown : Path → List ℕ → Type 0) (setting : Setting) (hash : Kind
   in_folder : LooseHash setting hash id exchanges → (folder : Path) → Contains (folders_of setting) folder
       → HasVerdict setting Object id exchanges folder (verdicts.Ends (replies.Found kind bytes)) → object_id hash kind bytes ≡ id
   in_folder loose folder among verdict =
-      let own : loose_replies.Found (found_by (loose_path folder id) setting.limit verdict.answer) ≡ verdict.reply = same_Some _ _ verdict.replied in
-      loose folder among verdict.ask verdict.answer verdict.told kind bytes
-      (given_object (found_by (loose_path folder id) setting.limit verdict.answer) (ap (verdict_on Object) own ∙ verdict.is))
+      loose folder among (folder_ask (asking setting.limit Object id folder)) verdict.answer verdict.told kind bytes
+      (given_object (found_by (loose_path folder id) setting.limit verdict.answer) verdict.is)
 
   module _ (view : View) (shown : IsShownView Shown setting hash view) (asked : AreAsked setting (started setting view Object id) exchanges)
       (truth : AreTrue Shown setting hash exchanges) where

@@ -14,7 +14,7 @@ use Rattle.gix_hash.specs.declared.object_id.ObjectId.{ObjectId}
 use Rattle.gix_odb_events.specs.PackFiles.{same_path, HasDifferentPaths}
 use Rattle.gix_odb_events.specs.declared.listing.Listing.{Listing}
 use Rattle.gix_odb_events.specs.declared.listing.ListingRow.{ListingRow}
-use Rattle.gix_odb_loose.specs.declared.call.LooseCall.{LooseCall}
+use Rattle.gix_odb_calls.specs.declared.verdict.FolderCall.{FolderCall}
 use Rattle.gix_odb_events.specs.declared.event.Event.TheVariants as events
 use Rattle.gix_odb_events.specs.declared.view.View.{View}
 use Rattle.gix_odb_packs.specs.ListOrder as lists
@@ -103,7 +103,7 @@ module _ (folders : List Path) (objects : Path) (base : ℕ) where
 -- ---- listings of look-ups
 
 module _ (setting : Setting) where
-  abbrev AnyCall : LooseCall → Type 0
+  abbrev AnyCall : FolderCall → Type 0
   AnyCall call = Unit {0}
 
   -- ---- what was seen
@@ -129,7 +129,7 @@ module _ (setting : Setting) where
     goes_seeing : (stage : LookStage) → Sees stage → (ask : Ask) (answer : Answer) → ask_at stage ≡ Some ask → WasTold all ask answer
         → Goes setting AnyCall OfLister OfRows (Unit {0}) stage answer
     goes_seeing (stages.Trying trier part) here ask answer is was = tt
-    goes_seeing (stages.Loose round call) here ask (told.Disk answer) is was = (tt, tt)
+    goes_seeing (stages.Loose round call) here ask (told.Disk answer) is was = tt
     goes_seeing (stages.Loose round call) here ask (told.Core answer) is was = here
     goes_seeing (stages.Refreshing fronts.Reading purpose notes) here ask answer is was = tt
     goes_seeing (stages.Checking list_no notes) here ask answer is was = tt
@@ -175,7 +175,7 @@ module _ (setting : Setting) where
     goes_listing : (coming : List Entry) (stage : LookStage) → Lists coming stage → (ask : Ask) (answer : Answer) (left : List Entry)
         → ask_at stage ≡ Some ask → IsToldOfTree tree coming ask answer left → Goes setting AnyCall (IsAtLister left) AreAll (Unit {0}) stage answer
     goes_listing coming (stages.Trying trier part) here ask answer left is of = tt
-    goes_listing coming (stages.Loose round call) here ask (told.Disk answer) left is of = (tt, tt)
+    goes_listing coming (stages.Loose round call) here ask (told.Disk answer) left is of = tt
     goes_listing coming (stages.Loose round call) here ask (told.Core answer) left is of = here
     goes_listing coming (stages.Refreshing fronts.Reading purpose notes) here ask answer left is of = tt
     goes_listing coming (stages.Checking list_no notes) here ask answer left is of = tt

@@ -3,17 +3,12 @@
 use Rattle.std.proofs.Common.{◌≡◌, ◌⊎◌, inl, inr, ◌+◌, Bool, true, false, cond, List, [], ◌∷◌, ◌++◌, slice_get, drop, Contains, Option, Some, None, Ok, Err}
 use Rattle.std.proofs.Common.{refl, sym, ap, ◌∙◌, subst, append_assoc, append-nil}
 use Rattle.odb_base.specs.Path.{Path}
-use Rattle.odb_asks.specs.StreamAsks.{is_of_streams}
 use Rattle.odb_asks.specs.declared.ask.DiskAnswer.{DiskAnswer}
-use Rattle.odb_asks.specs.declared.ask.DiskAsk.{DiskAsk}
 use Rattle.odb_asks.specs.declared.ask.DiskAsk.TheVariants as disk_asks
 use Rattle.gix_hash.specs.ObjectId.{kind_of}
 use Rattle.gix_hash.specs.declared.kind.Kind.{Kind}
 use Rattle.gix_hash.specs.declared.object_id.ObjectId.{ObjectId}
-use Rattle.gix_odb_loose.specs.LooseOrder.{disk_ask_of, reply_of}
-use Rattle.gix_odb_loose.specs.declared.call.LooseCall.{LooseCall}
-use Rattle.gix_odb_loose.specs.declared.call.LooseReply.{LooseReply}
-use Rattle.gix_odb_loose.proofs.StillAskLaws.{call_asks_still}
+use Rattle.gix_odb_loose.specs.LooseOrder.{want_ask}
 use Rattle.gix_odb_events.specs.declared.view.View.{View}
 use Rattle.gix_odb_events.specs.declared.loaded.Todo.{Todo}
 use Rattle.gix_odb_packs.specs.TryOrder.{seek}
@@ -29,19 +24,20 @@ use Rattle.gix_odb_packs.specs.declared.trier.Stage.TheVariants as tries_stages
 use Rattle.gix_odb_packs.specs.declared.trier.Tried.{Tried}
 use Rattle.gix_odb_packs.specs.declared.trier.Tried.TheVariants as tried
 use Rattle.gix_odb_packs.proofs.ReachLemmas.{first_or_later}
-use Rattle.gix_odb_calls.specs.Verdict.{asking, verdict_on}
+use Rattle.gix_odb_calls.specs.Verdict.{asking, folder_ask, folder_verdict}
 use Rattle.gix_odb_calls.specs.declared.call.CallError.TheVariants as call_errors
 use Rattle.gix_odb_calls.specs.declared.call.Reply.{Reply}
 use Rattle.gix_odb_calls.specs.declared.find.Error.TheVariants as find_errors
 use Rattle.gix_object.specs.declared.want.Want.{Want}
 use Rattle.gix_object.specs.declared.want.Want.TheVariants.{Object, Header, Presence}
+use Rattle.gix_odb_calls.specs.declared.verdict.FolderCall.{FolderCall}
 use Rattle.gix_odb_calls.specs.declared.verdict.Verdict.{Verdict}
 use Rattle.gix_odb_calls.specs.declared.verdict.Verdict.TheVariants as verdicts
 use Rattle.gix_odb_looks.specs.Exchange.{AreAsked, Exchange, behind}
 use Rattle.gix_odb_looks.specs.Fair.{AreFair, PackedPlace}
 use Rattle.gix_odb_looks.specs.LoadIndex.{of_refusal}
-use Rattle.gix_odb_looks.specs.LookUpOrder.{Setting, after_list, ask_at, at_folder, by_read, by_refresh, by_reply, by_tried, by_verdict, fed, fed_at, find_error, goal_of}
-use Rattle.gix_odb_looks.specs.LookUpOrder.{loose_ask, loose_fed, loose_from, new_head, not_found, result_of, seen, started, trier_fed, try_view}
+use Rattle.gix_odb_looks.specs.LookUpOrder.{Setting, after_list, ask_at, at_folder, by_read, by_refresh, by_tried, by_verdict, fed, fed_at, find_error, goal_of}
+use Rattle.gix_odb_looks.specs.LookUpOrder.{loose_from, new_head, not_found, result_of, seen, started, trier_fed, try_view}
 use Rattle.gix_odb_looks.specs.LookUpOrder.{view_of, view_shown, without_notes}
 use Rattle.gix_odb_looks.specs.Reply.{IsAnswer}
 use Rattle.gix_odb_looks.specs.Shown.{folders_of}
@@ -61,8 +57,7 @@ use Rattle.gix_odb_looks.specs.declared.look_up.Part.TheVariants as parts
 use Rattle.gix_odb_looks.specs.declared.look_up.Purpose.{Purpose}
 use Rattle.gix_odb_looks.specs.declared.look_up.Purpose.TheVariants as purposes
 use Rattle.gix_odb_refresh.proofs.ListerLaws.Lists.{has_first, has_later}
-use Rattle.gix_odb_looks.proofs.HandedLaws.Stages.{loose_ask_is}
-use Rattle.gix_odb_looks.proofs.MissLaws.Folders.{folder_replies}
+use Rattle.gix_odb_looks.proofs.HandedLaws.Stages.{same_ask}
 use Rattle.gix_odb_looks.proofs.MissLaws.Lists.{drop_none, here_or_behind, nothing_ahead}
 use Rattle.gix_odb_looks.proofs.MissLaws.Replies.{EndsNoMiss, IsMiss, found_is_no_miss, refused_is_no_miss, verdict_is_no_miss}
 use Rattle.gix_odb_looks.proofs.MissLaws.Track.{IsEarly, IsOn, never_missed}
@@ -100,13 +95,10 @@ trier_opens_none (tries_stages.ReadingPack pack) path is = cc is
 trier_opens_none (tries_stages.StoringPack pack own) path is = cc is
 trier_opens_none (tries_stages.PassingPack pack) path is = cc is
 
-loose_opens_none : (asked : Option DiskAsk) → ((ask : DiskAsk) → asked ≡ Some ask → is_of_streams ask ≡ false) → (path : Path)
-    → ¬ (loose_ask asked ≡ Some (asks.Disk (disk_asks.OpenDir path)))
-loose_opens_none None still path is = cc is
-loose_opens_none (Some own) still path is =
-    let same : own ≡ disk_asks.OpenDir path = cc is in
-    let none : is_of_streams (disk_asks.OpenDir path) ≡ false = ap is_of_streams (sym same) ∙ still own refl in
-    cc none
+folder_opens_none : (want : Want) (at path : Path) → ¬ (want_ask want at ≡ disk_asks.OpenDir path)
+folder_opens_none Object at path is = cc is
+folder_opens_none Header at path is = cc is
+folder_opens_none Presence at path is = cc is
 
 -- no stream is open behind an exchange that opens none
 stays_closed : (ask : Ask) (answer : Answer) → ((path : Path) → ¬ (ask ≡ asks.Disk (disk_asks.OpenDir path))) → stream_by None ask answer ≡ None
@@ -122,7 +114,7 @@ stays_closed (asks.NewCore slots folders) answer none = refl
 
 module _ (setting : Setting) (want : Want) (id : ObjectId) (folder : Path) (among : Contains (folders_of setting) folder) where
   -- the folder is asked now, or is ahead
-  pub record IsComing (round : LooseRound) (call : LooseCall) : Type 0 where
+  pub record IsComing (round : LooseRound) (call : FolderCall) : Type 0 where
     pub first : IsFirst round.part
     pub asked : Path
     pub call_is : call ≡ asking setting.limit want id asked
@@ -192,38 +184,30 @@ module _ (setting : Setting) (want : Want) (id : ObjectId) (folder : Path) (amon
     verdict_waits round first ahead (verdicts.Notes error) ends =
         folder_waits (record round { notes = record round.notes { failed = true } }) first ahead (slice_get setting.folders round.next) refl
 
-    -- what the folder that is asked replies
-    module _ (round : LooseRound) (call : LooseCall) (coming : IsComing round call) (answer : DiskAnswer) where
-      replies_so : (reply : LooseReply) → reply_of (loose_fed (asking setting.limit want id coming.asked) answer) ≡ Some reply
-          → IsWaiting (by_verdict setting head round (verdict_on want reply))
-          → IsWaiting (by_reply setting head round (loose_fed call answer) (reply_of (loose_fed call answer)))
-      replies_so reply is waits =
-          subst (λ (r : Option LooseReply). IsWaiting (by_reply setting head round (loose_fed call answer) r))
-          (sym (ap (λ (c : LooseCall). reply_of (loose_fed c answer)) coming.call_is ∙ is))
-          (subst (λ (q : Want). IsWaiting (by_verdict setting head round (verdict_on q reply))) (sym own.want_is) waits)
+    -- the verdict on the folder that is asked
+    module _ (round : LooseRound) (call : FolderCall) (coming : IsComing round call) (answer : DiskAnswer) where
+      verdict_so : IsWaiting (by_verdict setting head round (folder_verdict (asking setting.limit want id coming.asked) answer))
+          → IsWaiting (by_verdict setting head round (folder_verdict call answer))
+      verdict_so waits = subst (λ (c : FolderCall). IsWaiting (by_verdict setting head round (folder_verdict c answer))) (sym coming.call_is) waits
 
-      here_waits : HasLoose setting want id coming.asked answer → IsWaiting (by_reply setting head round (loose_fed call answer) (reply_of (loose_fed call answer)))
+      here_waits : HasLoose setting want id coming.asked answer → IsWaiting (by_verdict setting head round (folder_verdict call answer))
       here_waits has =
-          replies_so has.reply has.replied
-          (subst (λ (verdict : Verdict). IsWaiting (by_verdict setting head round verdict)) (sym has.says) (answer_is_no_miss want has.told has.found))
+          verdict_so (subst (λ (verdict : Verdict). IsWaiting (by_verdict setting head round verdict)) (sym has.says) (answer_is_no_miss want has.told has.found))
 
-      ahead_waits : Contains (drop round.next setting.folders) folder
-          → IsWaiting (by_reply setting head round (loose_fed call answer) (reply_of (loose_fed call answer)))
+      ahead_waits : Contains (drop round.next setting.folders) folder → IsWaiting (by_verdict setting head round (folder_verdict call answer))
       ahead_waits ahead =
-          let reply = folder_replies setting.limit want id coming.asked answer in
-          replies_so reply.0 reply.1 (verdict_waits round coming.first ahead (verdict_on want reply.0) (verdict_is_no_miss want reply.0))
+          verdict_waits round coming.first ahead (folder_verdict call answer) (verdict_is_no_miss want call answer)
 
-      loose_waits : (ask : Ask) → loose_ask (disk_ask_of call) ≡ Some ask → IsLooseFair setting want id folder ask (told.Disk answer)
-          → IsWaiting (by_reply setting head round (loose_fed call answer) (reply_of (loose_fed call answer)))
+      loose_waits : (ask : Ask) → Some (asks.Disk (folder_ask call)) ≡ Some ask → IsLooseFair setting want id folder ask (told.Disk answer)
+          → IsWaiting (by_verdict setting head round (folder_verdict call answer))
       loose_waits ask is fair =
           elim coming.ahead [
             | inl same ↦
                 here_waits
                 (subst (λ (f : Path). HasLoose setting want id f answer) (sym same)
-                (loose_ask_is (λ (a : Ask). IsLooseFair setting want id folder a (told.Disk answer) → HasLoose setting want id folder answer) ask
-                (disk_ask_of call)
-                (λ asked asks_it fair_to_it.
-                fair_to_it (ap (λ (f : Path). disk_ask_of (asking setting.limit want id f)) (sym same) ∙ ap disk_ask_of (sym coming.call_is) ∙ asks_it))
+                (same_ask (λ (a : Ask). IsLooseFair setting want id folder a (told.Disk answer) → HasLoose setting want id folder answer) ask
+                (asks.Disk (folder_ask call))
+                (λ fair_to_it. fair_to_it (ap (λ (f : Path). folder_ask (asking setting.limit want id f)) (sym same) ∙ ap folder_ask (sym coming.call_is)))
                 is fair))
             | inr ahead ↦ ahead_waits ahead
           ]
@@ -311,7 +295,8 @@ module _ (setting : Setting) (want : Want) (id : ObjectId) (folder : Path) (amon
 
   opens_none : (stage : LookStage) → IsWaiting stage → (path : Path) → ¬ (ask_at stage ≡ Some (asks.Disk (disk_asks.OpenDir path)))
   opens_none (stages.Trying trier part) waits path is = trier_opens_none trier.stage path is
-  opens_none (stages.Loose round call) waits path is = loose_opens_none (disk_ask_of call) (call_asks_still call) path is
+  opens_none (stages.Loose round call) waits path is =
+      let same : folder_ask call ≡ disk_asks.OpenDir path = cc is in folder_opens_none call.want call.path path same
   opens_none (stages.Refreshing fronts.Reading purpose notes) waits path is = cc is
   opens_none (stages.Refreshing (fronts.Listing lister) purpose notes) waits path is = waits
   opens_none (stages.Refreshing (fronts.Publishing listing) purpose notes) waits path is = waits

@@ -15,8 +15,6 @@ use Rattle.gix_pack_files.specs.Index.{is_index}
 use Rattle.gix_pack_files.specs.Pack.{is_pack}
 use Rattle.gix_odb_events.specs.declared.pack_id.PackId.{PackId}
 use Rattle.gix_odb_loose.specs.LooseFile.{loose_path}
-use Rattle.gix_odb_loose.specs.LooseOrder.{disk_ask_of}
-use Rattle.gix_odb_loose.specs.declared.call.LooseCall.{LooseCall}
 use Rattle.gix_odb_events.specs.declared.event.Event.{Event}
 use Rattle.gix_odb_events.specs.declared.event.Event.TheVariants as events
 use Rattle.gix_odb_events.specs.declared.event.PassWhy.TheVariants as whys
@@ -40,11 +38,12 @@ use Rattle.gix_odb_packs.specs.declared.trier.Stage.{Stage}
 use Rattle.gix_odb_packs.specs.declared.trier.Stage.TheVariants as tries_stages
 use Rattle.gix_odb_packs.specs.declared.trier.Tried.TheVariants as ends
 use Rattle.gix_odb_packs.specs.declared.trier.Trier.{Trier}
-use Rattle.gix_odb_calls.specs.Verdict.{asking}
+use Rattle.gix_odb_calls.specs.Verdict.{asking, folder_ask}
+use Rattle.gix_odb_calls.specs.declared.verdict.FolderCall.{FolderCall}
 use Rattle.gix_object.specs.declared.want.Want.{Want}
 use Rattle.gix_object.specs.declared.want.Want.TheVariants.{Object, Header, Presence}
 use Rattle.gix_odb_looks.specs.Exchange.{AreAsked, Exchange, behind}
-use Rattle.gix_odb_looks.specs.LookUpOrder.{Setting, ask_at, ask_of, by_tried, fed, fed_at, loose_ask, seen, started}
+use Rattle.gix_odb_looks.specs.LookUpOrder.{Setting, ask_at, ask_of, by_tried, fed, fed_at, seen, started}
 use Rattle.gix_odb_looks.specs.Shown.{IsIndexPath, IsShownView}
 use Rattle.gix_odb_looks.specs.True.{AreTrue, IsTrue}
 use Rattle.gix_odb_refresh.specs.declared.refresh.Refresh.TheVariants as fronts
@@ -55,7 +54,7 @@ use Rattle.gix_odb_looks.specs.declared.look_up.LookUp.{LookUp}
 use Rattle.gix_odb_looks.specs.declared.look_up.Part.{Part}
 use Rattle.gix_odb_looks.proofs.FoundLaws.Behind.{look_known}
 use Rattle.gix_odb_looks.proofs.FoundLaws.Known.{KnowsLook, KnowsLookStage, KnowsLoose, KnowsStage, KnowsTrier}
-use Rattle.gix_odb_looks.proofs.HandedLaws.Stages.{loose_ask_is, same_ask}
+use Rattle.gix_odb_looks.proofs.HandedLaws.Stages.{same_ask}
 use Rattle.gix_odb_look_laws.specs.JustRead.{GotLast, IsOfLastRead, IsPackPath, ReadLast, read_of}
 use Rattle.gix_odb_look_laws.proofs.LastExchange.{Cut, asked-push, behind-push, none_or_cut, true_before, true_last}
 use Rattle.gix_odb_look_laws.proofs.PathsApart.{index_is_no_pack, index_is_no_pack_of, loose_is_in_no_pack_folder}
@@ -74,18 +73,18 @@ lister_reads_nothing folder (list_stages.Pack row left) path is = cc is
 
 -- the loose objects of a folder are read at one path
 loose_reads : (limit : Option ℕ) (want : Want) (id : ObjectId) (folder path : Path)
-    → loose_ask (disk_ask_of (asking limit want id folder)) ≡ Some (asks.Disk (disk_asks.Read path)) → loose_path folder id ≡ path
+    → Some (asks.Disk (folder_ask (asking limit want id folder))) ≡ Some (asks.Disk (disk_asks.Read path)) → loose_path folder id ≡ path
 loose_reads limit Object id folder path is = cc is
 loose_reads limit Header id folder path is = cc is
 loose_reads limit Presence id folder path is = absurd (cc is)
 
 module _ (Shown : Path → List ℕ → Type 0) (setting : Setting) (hash : Kind) (want : Want) (id : ObjectId) (same : kind_of id ≡ hash) where
-  no_loose : (all : List Exchange) (call : LooseCall) → KnowsLoose Shown setting hash id all want call → (folder : Path) (name : Name)
-      → ¬ (loose_ask (disk_ask_of call) ≡ Some (asks.Disk (disk_asks.Read (pack_folder folder ++ name ∷ []))))
+  no_loose : (all : List Exchange) (call : FolderCall) → KnowsLoose Shown setting hash id all want call → (folder : Path) (name : Name)
+      → ¬ (Some (asks.Disk (folder_ask call)) ≡ Some (asks.Disk (disk_asks.Read (pack_folder folder ++ name ∷ []))))
   no_loose all call known folder name is =
       loose_is_in_no_pack_folder known.folder folder id name
       (loose_reads setting.limit want id known.folder (pack_folder folder ++ name ∷ [])
-      (ap (λ (c : LooseCall). loose_ask (disk_ask_of c)) (sym known.is) ∙ is))
+      (ap (λ (c : FolderCall). Some (asks.Disk (folder_ask c))) (sym known.is) ∙ is))
 
   -- ---- an index that was read
 
@@ -204,7 +203,7 @@ module _ (Shown : Path → List ℕ → Type 0) (setting : Setting) (hash : Kind
 
     stage_backed : (stage : LookStage) → OfStage (IsRead Read hash) stage → (ask : Ask) → ask_at stage ≡ Some ask → Backed ask
     stage_backed (stages.Trying trier part) here ask is = same_ask Backed ask (tries.ask_of trier) (trier_backed trier.stage here) is
-    stage_backed (stages.Loose round call) here ask is = loose_ask_is Backed ask (disk_ask_of call) (λ own same. tt) is
+    stage_backed (stages.Loose round call) here ask is = same_ask Backed ask (asks.Disk (folder_ask call)) tt is
     stage_backed (stages.Refreshing fronts.Reading purpose notes) here ask is = same_ask Backed ask (asks.Core events.Look) tt is
     stage_backed (stages.Refreshing (fronts.Listing lister) purpose notes) here ask is = same_ask Backed ask (asks.Disk (lists.ask_of lister)) tt is
     stage_backed (stages.Refreshing (fronts.Publishing listing) purpose notes) here ask is = same_ask Backed ask (asks.Core (events.Publish listing)) tt is

@@ -3,9 +3,6 @@
 use Rattle.std.proofs.Common.{ℕ, ◌==◌, List, [], Bool, true, false, cond, slice_get, Option, Some, None, Ok, Err}
 use Rattle.odb_base.specs.Path.{Path}
 use Rattle.gix_hash.specs.declared.object_id.ObjectId.{ObjectId}
-use Rattle.gix_odb_loose.specs.LooseOrder.{reply_of}
-use Rattle.gix_odb_loose.specs.declared.call.LooseCall.{LooseCall}
-use Rattle.gix_odb_loose.specs.declared.call.LooseReply.{LooseReply}
 use Rattle.gix_odb_events.specs.declared.view.View.{View}
 use Rattle.gix_odb_events.specs.declared.loaded.Todo.{Todo}
 use Rattle.gix_odb_packs.specs.TryOrder.{seek}
@@ -17,14 +14,14 @@ use Rattle.gix_odb_packs.specs.declared.trier.Ahead.{Ahead}
 use Rattle.gix_odb_packs.specs.declared.trier.Tried.{Tried}
 use Rattle.gix_odb_packs.specs.declared.trier.Tried.TheVariants as tried
 use Rattle.gix_odb_packs.specs.declared.trier.Trier.{Trier}
-use Rattle.gix_odb_calls.specs.Verdict.{verdict_on}
+use Rattle.gix_odb_calls.specs.Verdict.{folder_verdict}
 use Rattle.gix_odb_calls.specs.declared.load_index.Error.TheVariants as load_errors
 use Rattle.gix_object.specs.declared.want.Want.{Want}
 use Rattle.gix_odb_calls.specs.declared.verdict.Verdict.{Verdict}
 use Rattle.gix_odb_calls.specs.declared.verdict.Verdict.TheVariants as verdicts
-use Rattle.gix_odb_looks.specs.LookUpOrder.{Setting, after_list, after_loose, at_folder, by_checked, by_read, by_refresh, by_reply, by_tried}
+use Rattle.gix_odb_looks.specs.LookUpOrder.{Setting, after_list, after_loose, at_folder, by_checked, by_read, by_refresh, by_tried}
 use Rattle.gix_odb_looks.specs.LookUpOrder.{by_verdict, counted, ended, fed_at, goal_of, is_unsettled}
-use Rattle.gix_odb_looks.specs.LookUpOrder.{listing_from, load_refused, loose_fed, own_by}
+use Rattle.gix_odb_looks.specs.LookUpOrder.{listing_from, load_refused, own_by}
 use Rattle.gix_odb_looks.specs.LookUpOrder.{new_head, not_found, started, trier_fed, try_view, unsettled, view_shown, without_absent, without_notes}
 use Rattle.gix_odb_refresh.specs.RefreshOrder as refreshes
 use Rattle.gix_odb_refresh.specs.declared.refresh.Refresh.TheVariants as fronts
@@ -95,10 +92,6 @@ module _ (OfTrier : Trier → Type 0) where
     of_verdict head round (verdicts.Notes error) =
         of_folder head (record round { notes = record round.notes { failed = true } }) (slice_get setting.folders round.next)
 
-    of_reply : (head : LookHead) (round : LooseRound) (call : LooseCall) (reply : Option LooseReply) → OfStage (by_reply setting head round call reply)
-    of_reply head round call None = tt
-    of_reply head round call (Some reply) = of_verdict head round (verdict_on head.want reply)
-
     -- ---- the core has answered
 
     of_counted : (head : LookHead) (now : ℕ) (next : LookStage) → OfStage next → OfStage (counted setting head now next)
@@ -127,7 +120,7 @@ module _ (OfTrier : Trier → Type 0) where
 
     pub stage_goes : (head : LookHead) (stage : LookStage) (answer : Answer) → Goes stage answer → OfStage (fed_at setting head stage answer).stage
     stage_goes head (stages.Trying trier part) answer here = of_tried head part (trier_fed trier answer) here
-    stage_goes head (stages.Loose round call) (told.Disk answer) here = of_reply head round (loose_fed call answer) (reply_of (loose_fed call answer))
+    stage_goes head (stages.Loose round call) (told.Disk answer) here = of_verdict head round (folder_verdict call answer)
     stage_goes head (stages.Loose round call) (told.Core answer) here = tt
     stage_goes head (stages.Refreshing refresh purpose notes) answer here =
         of_refresh head purpose notes (refreshes.fed setting.objects setting.folders refresh answer)

@@ -3,19 +3,17 @@ use Rattle.std.specs.Prelude.{◌≡◌, true, List, Contains, Some}
 use Rattle.odb_base.specs.Path.{Path}
 use Rattle.odb_asks.specs.declared.ask.DiskAnswer.{DiskAnswer}
 use Rattle.gix_hash.specs.declared.object_id.ObjectId.{ObjectId}
-use Rattle.gix_odb_loose.specs.LooseOrder.{disk_ask_of, reply_of}
-use Rattle.gix_odb_loose.specs.declared.call.LooseReply.{LooseReply}
 use Rattle.gix_odb_events.specs.declared.view.View.{View}
 use Rattle.gix_odb_events.specs.declared.answer.Answer.{Answer}
 use Rattle.gix_odb_events.specs.declared.answer.Answer.TheVariants as told
 use Rattle.gix_odb_events.specs.declared.answer.Ask.{Ask}
 use Rattle.gix_odb_events.specs.declared.answer.Ask.TheVariants as asks
-use Rattle.gix_odb_calls.specs.Verdict.{asking, verdict_on}
+use Rattle.gix_odb_calls.specs.Verdict.{asking, folder_ask, folder_verdict}
 use Rattle.gix_odb_calls.specs.declared.call.Reply.{Reply}
 use Rattle.gix_object.specs.declared.want.Want.{Want}
 use Rattle.gix_odb_calls.specs.declared.verdict.Verdict.TheVariants as verdicts
 use Rattle.gix_odb_looks.specs.Exchange.{Exchange, IsAnswerTo}
-use Rattle.gix_odb_looks.specs.LookUpOrder.{Setting, loose_fed, view_of}
+use Rattle.gix_odb_looks.specs.LookUpOrder.{Setting, view_of}
 use Rattle.gix_odb_looks.specs.Reply.{IsAnswer}
 
 -- each view that exchanges hand over is of a core that had published a list
@@ -25,15 +23,13 @@ ArePublished exchanges = (exchange : Exchange) → Contains exchanges exchange �
 module _ (setting : Setting) (want : Want) (id : ObjectId) (folder : Path) where
   -- the loose objects of the folder, asked for what is wanted, have the object, by this answer of the disk
   pub record HasLoose (answer : DiskAnswer) : Type 0 where
-    pub reply : LooseReply
-    pub replied : reply_of (loose_fed (asking setting.limit want id folder) answer) ≡ Some reply
     pub told : Reply
-    pub says : verdict_on want reply ≡ verdicts.Ends told
+    pub says : folder_verdict (asking setting.limit want id folder) answer ≡ verdicts.Ends told
     pub found : IsAnswer told
 
   -- an exchange is fair to the loose object of the folder: where its call is the one by which it is asked for, the answer has it
   abbrev pub IsLooseFair : Ask → Answer → Type 0
-  IsLooseFair (asks.Disk ask) (told.Disk answer) = disk_ask_of (asking setting.limit want id folder) ≡ Some ask → HasLoose answer
+  IsLooseFair (asks.Disk ask) (told.Disk answer) = folder_ask (asking setting.limit want id folder) ≡ ask → HasLoose answer
   IsLooseFair ask answer = IsAnswerTo ask answer
 
   abbrev pub AreLooseFair : List Exchange → Type 0

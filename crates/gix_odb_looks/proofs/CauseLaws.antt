@@ -1,6 +1,5 @@
 -- Laws of look-ups: why one is refused, what it replies, and when it asks nothing more.
 mod Replies
-pub mod Folders
 mod Standing
 pub mod Pasts
 mod Own
@@ -26,8 +25,6 @@ use Rattle.gix_odb_events.specs.declared.listing.Listing.{Listing}
 use Rattle.gix_odb_events.specs.declared.answer.Answer.{Answer}
 use Rattle.gix_odb_events.specs.declared.answer.Answer.TheVariants as told
 use Rattle.gix_odb_events.specs.declared.answer.Ask.TheVariants as asks
-use Rattle.gix_odb_loose.specs.LooseOrder.{disk_ask_of}
-use Rattle.gix_odb_loose.specs.declared.call.LooseCall.{LooseCall}
 use Rattle.gix_odb_events.specs.declared.answer.Ask.{Ask}
 use Rattle.gix_odb_packs.specs.declared.lister.ListStage.{ListStage}
 use Rattle.gix_odb_packs.specs.declared.lister.ListStage.TheVariants as list_stages
@@ -43,7 +40,7 @@ use Rattle.gix_odb_calls.specs.declared.verdict.Verdict.{Verdict}
 use Rattle.gix_odb_looks.specs.Caused.{IsCaused}
 use Rattle.gix_odb_looks.specs.Exchange.{AreAsked, Exchange, IsLast, behind, published_in, HasFailed}
 use Rattle.gix_odb_looks.specs.Laps.{AreNumbered, IsNumbered, number_by}
-use Rattle.gix_odb_looks.specs.LookUpOrder.{Setting, ask_at, ask_of, fed, first_of, loose_ask, new_head}
+use Rattle.gix_odb_looks.specs.LookUpOrder.{Setting, ask_at, ask_of, fed, first_of, new_head}
 use Rattle.gix_odb_refresh.specs.LoadIndex.{of_refusal}
 use Rattle.gix_odb_looks.specs.LookUpOrder.{load_refused, result_at, result_of, seen, started, try_view, view_of, without_notes}
 use Rattle.gix_odb_looks.specs.True.{AreTrue, IsTrue}
@@ -57,7 +54,6 @@ use Rattle.gix_odb_looks.specs.declared.look_up.Part.TheVariants as parts
 use Rattle.gix_odb_looks.specs.declared.look_up.Purpose.TheVariants as purposes
 use Rattle.gix_odb_refresh.specs.Shown.{IsShownView}
 use Rattle.gix_odb_looks.proofs.FoundLaws.Behind.{IsOfPack, pack_refusal_caused}
-use Rattle.gix_odb_looks.proofs.CauseLaws.Folders.{folder_has_ask}
 use Rattle.gix_odb_looks.proofs.CauseLaws.Known.{Counts, HasBegun, IsListCaused, KnowsAt, ShowedPart}
 use Rattle.gix_odb_refresh.proofs.ListerLaws.Tells.{Breaks}
 use Rattle.gix_odb_looks.proofs.CauseLaws.Pasts.{Noted}
@@ -106,11 +102,7 @@ module _ (setting : Setting) (view : View) (want : Want) (id : ObjectId) (exchan
       replied : (head : LookHead) (stage : LookStage) → StandsAt setting head.want head.id stage → ask_at stage ≡ None
           → (reply : Reply) × (result_at head stage ≡ Ok reply)
       replied head (stages.Trying trier part) stands is = absurd (cc is)
-      replied head (stages.Loose round call) (folder, among, asked) is =
-          let asks_so = folder_has_ask setting.limit head.want head.id folder in
-          let some : disk_ask_of call ≡ Some asks_so.0 = ap disk_ask_of asked ∙ asks_so.1 in
-          let same : loose_ask (disk_ask_of call) ≡ loose_ask (Some asks_so.0) = ap loose_ask some in
-          absurd (cc (same, is))
+      replied head (stages.Loose round call) stands is = absurd (cc is)
       replied head (stages.Refreshing refresh purpose notes) stands is = absurd (cc is)
       replied head (stages.Checking list_no notes) stands is = absurd (cc is)
       replied head (stages.Done reply) stands is = (reply, refl)

@@ -10,11 +10,9 @@ mod Looking
 pub mod Behind
 use Rattle.std.proofs.Common.{◌≡◌, ◌⊎◌, ℕ, List, [], ◌∷◌, Contains, Option, Some, None, Ok, refl, subst}
 use Rattle.odb_base.specs.Path.{Path}
-use Rattle.odb_asks.specs.declared.ask.DiskAsk.{DiskAsk}
 use Rattle.gix_hash.specs.ObjectId.{kind_of}
 use Rattle.gix_hash.specs.declared.kind.Kind.{Kind}
 use Rattle.gix_hash.specs.declared.object_id.ObjectId.{ObjectId}
-use Rattle.gix_odb_loose.specs.LooseOrder.{disk_ask_of}
 use Rattle.gix_odb_events.specs.declared.event.Event.TheVariants as events
 use Rattle.gix_odb_events.specs.declared.view.View.{View}
 use Rattle.gix_odb_packs.specs.ListOrder as lists
@@ -33,7 +31,7 @@ use Rattle.gix_odb_calls.specs.declared.verdict.Verdict.{Verdict}
 use Rattle.gix_odb_looks.specs.Caused.{IsCaused}
 use Rattle.gix_odb_looks.specs.Exchange.{AreAsked, Exchange, HasVerdict, behind}
 use Rattle.gix_odb_looks.specs.Found.{IsFound}
-use Rattle.gix_odb_looks.specs.LookUpOrder.{Setting, ask_at, ask_of, fed, loose_ask, result_at, result_of, seen, started}
+use Rattle.gix_odb_looks.specs.LookUpOrder.{Setting, ask_at, ask_of, fed, result_at, result_of, seen, started}
 use Rattle.gix_odb_looks.specs.Reply.{IsAnswer}
 use Rattle.gix_odb_refresh.specs.Shown.{IsHandedBy, IsShownView, folders_of}
 use Rattle.gix_odb_looks.specs.True.{AreTrue}

@@ -10,8 +10,8 @@ use Rattle.odb_asks.specs.declared.ask.DiskAsk.{DiskAsk}
 use Rattle.odb_asks.specs.declared.ask.DiskAsk.TheVariants as disk_asks
 use Rattle.odb_nodes.specs.Tree.{Tree}
 use Rattle.gix_hash.specs.declared.object_id.ObjectId.{ObjectId}
-use Rattle.gix_odb_loose.specs.LooseOrder.{disk_ask_of}
-use Rattle.gix_odb_loose.specs.declared.call.LooseCall.{LooseCall}
+use Rattle.gix_odb_calls.specs.Verdict.{folder_ask}
+use Rattle.gix_odb_calls.specs.declared.verdict.FolderCall.{FolderCall}
 use Rattle.gix_odb_events.specs.PackFiles.{same_path, HasDifferentPaths}
 use Rattle.gix_odb_events.specs.declared.listing.Listing.{Listing as Handed}
 use Rattle.gix_odb_events.specs.declared.listing.ListingRow.{ListingRow}
@@ -40,7 +40,7 @@ use Rattle.gix_odb_looks.specs.declared.look_up.LookStage.TheVariants as stages
 use Rattle.gix_odb_looks.specs.declared.look_up.LookStage.{LookStage}
 use Rattle.gix_odb_looks.specs.declared.look_up.LookUp.{LookUp}
 use Rattle.gix_odb_refresh.proofs.ListerLaws.Apart.{ListerDiffers, StepDiffers, listing_differs, starts_apart}
-use Rattle.gix_odb_looks.proofs.HandedLaws.Stages.{Goes, Stands, Steps, loose_ask_is, published, same_ask, stage_stands, start_stands}
+use Rattle.gix_odb_looks.proofs.HandedLaws.Stages.{Goes, Stands, Steps, published, same_ask, stage_stands, start_stands}
 use Rattle.gix_odb_refresh.proofs.ListerLaws.Streams.{IsOpen, Told}
 use Rattle.gix_odb_looks.proofs.HandedLaws.Reading.{IsOwn, done_has_none, stage_asks_own, stage_changes_nothing, streams_are_own}
 use Rattle.gix_odb_refresh.proofs.ListerLaws.Reads.{none_told, told_from}
@@ -60,7 +60,7 @@ trier_asks (tries_stages.PassingPack pack) = tt
 
 stage_asks : (stage : LookStage) (ask : Ask) → ask_at stage ≡ Some ask → AsksOfLooks ask
 stage_asks (stages.Trying trier part) ask is = same_ask AsksOfLooks ask (tries.ask_of trier) (trier_asks trier.stage) is
-stage_asks (stages.Loose round call) ask is = loose_ask_is AsksOfLooks ask (disk_ask_of call) (λ own same. tt) is
+stage_asks (stages.Loose round call) ask is = same_ask AsksOfLooks ask (asks.Disk (folder_ask call)) tt is
 stage_asks (stages.Refreshing refresh purpose notes) ask is = same_ask AsksOfLooks ask (refreshes.ask_of refresh) (refresh_asks_of_looks refresh) is
 stage_asks (stages.Checking list_no notes) ask is = same_ask AsksOfLooks ask (asks.Core events.Look) tt is
 stage_asks (stages.Done reply) ask is = absurd (cc is)
@@ -76,7 +76,7 @@ look_ups_have_no_core_made look slots folders is = stage_asks look.stage (asks.N
 -- ---- the rows of a listing have different paths
 
 module _ (setting : Setting) (distinct : IsDistinct same_path (folders_of setting)) where
-  abbrev AnyCall : LooseCall → Type 0
+  abbrev AnyCall : FolderCall → Type 0
   AnyCall call = Unit {0}
 
   abbrev RowsDiffer : List ListingRow → Type 0
@@ -93,7 +93,7 @@ module _ (setting : Setting) (distinct : IsDistinct same_path (folders_of settin
   goes_differing : (stage : LookStage) (answer : Answer) → StageDiffers stage
       → Goes setting AnyCall (ListerDiffers setting.folders) RowsDiffer (Unit {0}) stage answer
   goes_differing (stages.Trying trier part) answer here = tt
-  goes_differing (stages.Loose round call) (told.Disk answer) here = here
+  goes_differing (stages.Loose round call) (told.Disk answer) here = tt
   goes_differing (stages.Loose round call) (told.Core answer) here = here
   goes_differing (stages.Refreshing fronts.Reading purpose notes) answer here = tt
   goes_differing (stages.Checking list_no notes) answer here = tt

@@ -1,15 +1,13 @@
 -- A law of look-ups: the directories that they open are the folders of packs of the folders.
-use Rattle.std.proofs.Common.{◌≡◌, ℕ, false, List, Option, Some, None, refl, sym, ap, ◌∙◌}
+use Rattle.std.proofs.Common.{◌≡◌, ℕ, List, Some}
 use Rattle.odb_base.specs.Path.{Path}
-use Rattle.odb_asks.specs.StreamAsks.{is_of_streams}
-use Rattle.odb_asks.specs.declared.ask.DiskAsk.{DiskAsk}
 use Rattle.odb_asks.specs.declared.ask.DiskAsk.TheVariants as disk_asks
 use Rattle.gix_hash.specs.ObjectId.{kind_of}
 use Rattle.gix_hash.specs.declared.kind.Kind.{Kind}
 use Rattle.gix_hash.specs.declared.object_id.ObjectId.{ObjectId}
 use Rattle.gix_odb_events.specs.declared.view.View.{View}
-use Rattle.gix_odb_loose.specs.LooseOrder.{disk_ask_of}
-use Rattle.gix_odb_loose.proofs.StillAskLaws.{call_asks_still}
+use Rattle.gix_odb_calls.specs.Verdict.{folder_ask}
+use Rattle.gix_odb_loose.specs.LooseOrder.{want_ask}
 use Rattle.gix_odb_packs.specs.ListOrder as lists
 use Rattle.gix_odb_packs.specs.TryOrder as tries
 use Rattle.gix_odb_events.specs.declared.answer.Ask.TheVariants as asks
@@ -19,8 +17,9 @@ use Rattle.gix_odb_packs.specs.declared.lister.ListStage.{ListStage}
 use Rattle.gix_odb_packs.specs.declared.trier.Stage.{Stage}
 use Rattle.gix_odb_packs.specs.declared.trier.Stage.TheVariants as tries_stages
 use Rattle.gix_object.specs.declared.want.Want.{Want}
+use Rattle.gix_object.specs.declared.want.Want.TheVariants.{Object, Header, Presence}
 use Rattle.gix_odb_looks.specs.Exchange.{AreAsked, Exchange, behind}
-use Rattle.gix_odb_looks.specs.LookUpOrder.{Setting, ask_at, ask_of, loose_ask, started}
+use Rattle.gix_odb_looks.specs.LookUpOrder.{Setting, ask_at, ask_of, started}
 use Rattle.gix_odb_refresh.specs.Shown.{IsShownView}
 use Rattle.gix_odb_looks.specs.True.{AreTrue}
 use Rattle.gix_odb_looks.specs.declared.look_up.LookStage.{LookStage}
@@ -43,19 +42,17 @@ module _ (setting : Setting) (path : Path) where
   lister_opens : (head : ListHead) → KnowsListHead setting head → (stage : ListStage) → lists.ask_at head.folder stage ≡ disk_asks.OpenDir path → IsFolderOfPacks setting path
   lister_opens head known stage is = lister_opens_there setting path head (known.folder, known.among, known.is) stage is
 
-  loose_opens_none : (call : Option DiskAsk) → ((ask : DiskAsk) → call ≡ Some ask → is_of_streams ask ≡ false)
-      → ¬ (loose_ask call ≡ Some (asks.Disk (disk_asks.OpenDir path)))
-  loose_opens_none None still is = cc is
-  loose_opens_none (Some ask) still is =
-      let same : ask ≡ disk_asks.OpenDir path = cc is in
-      let none : is_of_streams (disk_asks.OpenDir path) ≡ false = ap is_of_streams (sym same) ∙ still ask refl in
-      cc none
+  folder_opens_none : (want : Want) (at : Path) → ¬ (want_ask want at ≡ disk_asks.OpenDir path)
+  folder_opens_none Object at is = cc is
+  folder_opens_none Header at is = cc is
+  folder_opens_none Presence at is = cc is
 
   module _ (Shown : Path → List ℕ → Type 0) (hash : Kind) (want : Want) (id : ObjectId) (exchanges : List Exchange) where
     opens_by : (stage : LookStage) → KnowsLookStage Shown setting hash id exchanges want stage → ask_at stage ≡ Some (asks.Disk (disk_asks.OpenDir path)) → IsFolderOfPacks setting path
     opens_by (stages.Trying trier part) known is =
         let same : tries.ask_of trier ≡ asks.Disk (disk_asks.OpenDir path) = cc is in absurd (trier_opens_none trier.stage path same)
-    opens_by (stages.Loose round call) known is = absurd (loose_opens_none (disk_ask_of call) (λ ask asked. call_asks_still call ask asked) is)
+    opens_by (stages.Loose round call) known is =
+        let same : folder_ask call ≡ disk_asks.OpenDir path = cc is in absurd (folder_opens_none call.want call.path same)
     opens_by (stages.Refreshing fronts.Reading purpose notes) known is = absurd (cc is)
     opens_by (stages.Checking list_no notes) known is = absurd (cc is)
     opens_by (stages.Refreshing (fronts.Listing lister) purpose notes) known is =

@@ -2,10 +2,7 @@
 use Rattle.std.specs.Prelude.{◌≡◌, ℕ, ◌+◌, List, [], ◌∷◌, ◌++◌, Option, Some, None, Ok}
 use Rattle.odb_base.specs.Path.{Path}
 use Rattle.odb_asks.specs.declared.ask.DiskAnswer.{DiskAnswer}
-use Rattle.odb_asks.specs.declared.ask.DiskAsk.{DiskAsk}
 use Rattle.gix_hash.specs.declared.object_id.ObjectId.{ObjectId}
-use Rattle.gix_odb_loose.specs.LooseOrder.{disk_ask_of, reply_of}
-use Rattle.gix_odb_loose.specs.declared.call.LooseReply.{LooseReply}
 use Rattle.gix_odb_events.specs.declared.event.Effect.TheVariants as effects
 use Rattle.gix_odb_events.specs.declared.event.Event.TheVariants as events
 use Rattle.gix_odb_events.specs.declared.view.View.{View}
@@ -13,11 +10,11 @@ use Rattle.gix_odb_events.specs.declared.answer.Answer.{Answer}
 use Rattle.gix_odb_events.specs.declared.answer.Answer.TheVariants as told
 use Rattle.gix_odb_events.specs.declared.answer.Ask.{Ask}
 use Rattle.gix_odb_events.specs.declared.answer.Ask.TheVariants as asks
-use Rattle.gix_odb_calls.specs.Verdict.{asking, verdict_on}
+use Rattle.gix_odb_calls.specs.Verdict.{asking, folder_ask, folder_verdict}
 use Rattle.gix_object.specs.declared.want.Want.{Want}
 use Rattle.gix_odb_calls.specs.declared.verdict.Verdict.{Verdict}
 pub use Rattle.gix_odb_refresh.specs.Exchange.{Exchange, IsAnswerTo, AreAnswered, HasFailed, WasTold}
-use Rattle.gix_odb_looks.specs.LookUpOrder.{Setting, ask_of, fed, loose_fed, view_of}
+use Rattle.gix_odb_looks.specs.LookUpOrder.{Setting, ask_of, fed, view_of}
 use Rattle.gix_odb_looks.specs.declared.look_up.LookUp.{LookUp}
 
 -- the look-up behind exchanges
@@ -36,15 +33,11 @@ AreAsked setting look (exchange ∷ exchanges) = (ask_of look ≡ Some exchange.
 abbrev pub IsLast : List Exchange → Exchange → Type 0
 IsLast exchanges exchange = (earlier : List Exchange) × (exchanges ≡ earlier ++ exchange ∷ [])
 
--- the loose objects of a folder were asked for an object in one of them, and the verdict on what they reply to the answer is this one
+-- the loose objects of a folder were asked for an object in one of them, and the verdict on the answer is this one
 pub record HasVerdict (setting : Setting) (want : Want) (id : ObjectId) (exchanges : List Exchange) (folder : Path) (verdict : Verdict) : Type 0 where
-  pub ask : DiskAsk
-  pub asked : disk_ask_of (asking setting.limit want id folder) ≡ Some ask
   pub answer : DiskAnswer
-  pub told : WasTold exchanges (asks.Disk ask) (told.Disk answer)
-  pub reply : LooseReply
-  pub replied : reply_of (loose_fed (asking setting.limit want id folder) answer) ≡ Some reply
-  pub is : verdict_on want reply ≡ verdict
+  pub told : WasTold exchanges (asks.Disk (folder_ask (asking setting.limit want id folder))) (told.Disk answer)
+  pub is : folder_verdict (asking setting.limit want id folder) answer ≡ verdict
 
 -- the number of the list in a view, or else another
 abbrev pub number_or : Option ℕ → Option View → Option ℕ

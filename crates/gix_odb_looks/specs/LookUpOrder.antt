@@ -27,15 +27,14 @@ use Rattle.gix_odb_looks.specs.declared.look_up.LookStage.TheVariants as stages
 use Rattle.gix_odb_looks.specs.declared.look_up.LookUp.{LookUp}
 use Rattle.gix_odb_looks.specs.declared.look_up.Part.TheVariants as parts
 use Rattle.gix_odb_looks.specs.declared.look_up.Purpose.TheVariants as purposes
-use Rattle.gix_odb_loose.specs.LooseOrder.{disk_ask_of}
+use Rattle.gix_odb_calls.specs.Verdict.{folder_ask, folder_verdict}
 use Rattle.gix_odb_packs.specs.TryOrder as tries
 use Rattle.gix_odb_packs.specs.declared.search.Notes.{Notes}
-use Rattle.odb_asks.specs.declared.ask.DiskAsk.{DiskAsk}
 use Rattle.odb_base.specs.Path.{Path}
 pub use Rattle.gix_odb_looks.specs.LookUpOrder.Replies.{load_refused, find_error, reply_found, not_found, ended}
 pub use Rattle.gix_odb_looks.specs.LookUpOrder.Store.{Setting, setting_of}
 pub use Rattle.gix_odb_looks.specs.LookUpOrder.Listing.{listing_from}
-pub use Rattle.gix_odb_looks.specs.LookUpOrder.Loose.{loose_from, after_loose, at_folder, by_verdict, by_reply, by_call, loose_fed}
+pub use Rattle.gix_odb_looks.specs.LookUpOrder.Loose.{loose_from, after_loose, at_folder, by_verdict}
 pub use Rattle.gix_odb_looks.specs.LookUpOrder.Trying.{goal_of, after_list, by_tried, try_view, trier_fed}
 pub use Rattle.gix_odb_looks.specs.LookUpOrder.Checking.{is_unsettled, unsettled, counted, by_check, by_checked}
 pub use Rattle.gix_odb_looks.specs.LookUpOrder.Refreshing.{by_read, with_own, own_by, without_absent, by_current, by_refresh}
@@ -54,13 +53,9 @@ started setting view want id = record {
   stage = if view.read then try_view setting (new_head want id) parts.Snapshot view [] without_notes else stages.Refreshing fronts.Reading (purposes.First true) without_notes;
 }
 
-abbrev pub loose_ask : Option DiskAsk → Option Ask
-loose_ask None = None
-loose_ask (Some ask) = Some (asks.Disk ask)
-
 abbrev pub ask_at : LookStage → Option Ask
 ask_at (stages.Trying trier part) = Some (tries.ask_of trier)
-ask_at (stages.Loose round call) = loose_ask (disk_ask_of call)
+ask_at (stages.Loose round call) = Some (asks.Disk (folder_ask call))
 ask_at (stages.Refreshing refresh purpose notes) = Some (refreshes.ask_of refresh)
 ask_at (stages.Checking list_no notes) = Some (asks.Core events.Look)
 ask_at (stages.Done reply) = None
@@ -91,7 +86,7 @@ at head stage = record { head = head; stage = stage }
 -- an answer of the other kind, of the disk or of the core, leaves the stage
 abbrev pub fed_at : Setting → LookHead → LookStage → Answer → LookUp
 fed_at setting head (stages.Trying trier part) answer = at head (by_tried setting head part (trier_fed trier answer))
-fed_at setting head (stages.Loose round call) (told.Disk answer) = at head (by_call setting head round (loose_fed call answer))
+fed_at setting head (stages.Loose round call) (told.Disk answer) = at head (by_verdict setting head round (folder_verdict call answer))
 fed_at setting head (stages.Refreshing refresh purpose notes) answer =
     by_refresh setting head purpose notes (refreshes.fed setting.objects setting.folders refresh answer)
 fed_at setting head (stages.Checking list_no notes) (told.Core (Ok effect)) = at head (by_checked setting head list_no notes (view_shown effect))

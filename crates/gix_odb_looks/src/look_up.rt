@@ -4,7 +4,6 @@ ghost use Rattle.std.specs.Prelude.{◌≡◌, IfOk, None, Some};
 ghost use Rattle.std.specs.Option.{option_copied, option_map};
 ghost use Rattle.std.specs.Result.{result_ok};
 ghost use Rattle.gix_odb_looks.specs.LookUpOrder.{setting_of};
-ghost use Rattle.gix_odb_loose.specs.LooseOrder.{disk_ask_of};
 ghost use Rattle.gix_odb_looks.specs.LookUpOrder as order;
 
 mod answered;
@@ -17,9 +16,9 @@ mod trying;
 
 use gix_hash::ObjectId;
 use gix_object::Want;
+use gix_odb_calls::verdict::FolderCall;
 use gix_odb_calls::{Reply, StoreParts};
 use gix_odb_events::{Answer, Ask, Event, View};
-use gix_odb_loose::LooseCall;
 use gix_odb_packs::{Notes, Trier};
 use gix_odb_refresh::Refresh;
 use odb_base::{NoMemory, PathText};
@@ -92,10 +91,10 @@ pub enum LookStage {
         trier: Trier,
         part: Part,
     },
-    /// The loose objects of a folder are asked.
+    /// The loose objects of a folder are asked, by one call of the disk.
     Loose {
         round: LooseRound,
-        call: LooseCall,
+        call: FolderCall,
     },
     /// The list of the core is read, or brought up to date.
     Refreshing {
@@ -143,16 +142,6 @@ fn view_in(answer: &Answer) -> Option<&View>
     }
 }
 
-/// The call of the disk that a folder's call asks for.
-fn loose_ask(alloc: Global, call: &LooseCall) -> Result<Option<Ask>, NoMemory>
-    ensures asked { IfOk result (λ ask. ask ≡ order.loose_ask (disk_ask_of call.now)) }
-{
-    match call.disk_ask(alloc)? {
-        None => Ok(None),
-        Some(ask) => Ok(Some(Ask::Disk(ask))),
-    }
-}
-
 impl LookUp {
     /// A new look-up of an id, from a handle's snapshot. It asks nothing yet; where the snapshot has all that it takes, it is done.
     pub fn start(
@@ -189,7 +178,7 @@ impl LookUp {
     {
         match &self.stage {
             LookStage::Trying { trier, .. } => Ok(Some(trier.ask(alloc)?)),
-            LookStage::Loose { call, .. } => loose_ask(alloc, call),
+            LookStage::Loose { call, .. } => Ok(Some(Ask::Disk(call.ask(alloc)?))),
             LookStage::Refreshing { refresh, .. } => Ok(Some(refresh.ask(alloc)?)),
             LookStage::Checking { .. } => Ok(Some(Ask::Core(Event::Look))),
             LookStage::Done(_) => Ok(None),

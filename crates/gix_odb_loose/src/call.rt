@@ -3,7 +3,7 @@ ghost use Rattle.std.specs.Prelude.{◌≡◌, true, None, Some, IfOk, MatchResu
 ghost use Rattle.gix_hash.specs.ObjectId.{kind_of};
 ghost use Rattle.gix_odb_loose.specs.Store.{store_hash};
 ghost use Rattle.gix_odb_loose.specs.LooseFile.{id_asked};
-ghost use Rattle.gix_odb_loose.specs.LooseOrder.{job_of, asking_of, want_ask, want_reply, started, ask_of, asked_as, asked_at, disk_ask_of, reply_of, temporary_in, next_stage, written_to};
+ghost use Rattle.gix_odb_loose.specs.LooseOrder.{asking_of, want_ask, want_reply, started, ask_of, asked_as, asked_at, disk_ask_of, reply_of, temporary_in, next_stage, written_to};
 ghost use Rattle.gix_odb_loose.specs.WriteJobs.{advance_by};
 ghost use Rattle.gix_odb_loose.specs.LooseOrder.{fed as fed_with};
 
@@ -29,19 +29,6 @@ pub enum LooseJob {
         bytes: ByteList,
         id: Option<ObjectId>,
     },
-}
-
-impl LooseJob {
-    /// The job of whoever wants so much of the object of an id.
-    pub fn of(want: Want, id: ObjectId) -> LooseJob
-        ensures job { result ≡ job_of want id }
-    {
-        match want {
-            Want::Object => LooseJob::Find(id),
-            Want::Header => LooseJob::Header(id),
-            Want::Presence => LooseJob::Contains(id),
-        }
-    }
 }
 
 /// What a call does next.

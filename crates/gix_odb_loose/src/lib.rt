@@ -20,7 +20,7 @@ pub mod find;
 mod lent;
 mod naming;
 mod paths;
-mod reply;
+pub mod reply;
 mod store;
 mod store_writes;
 pub mod write;

@@ -1,4 +1,5 @@
-//! What is made of the answer of the disk. Nothing else decides. The path is copied where an error tells it.
+//! What is made of the answer of the disk: by a find, a look for a header and a test, each with a result of its own type.
+//! Nothing else decides. The path is copied where an error tells it.
 ghost use Rattle.std.specs.Prelude.{◌≡◌, ◌≤◌, ◌↔◌, ℕ, List, length, drop, IfOk, IfErr, IsTrue};
 ghost use Rattle.gix_odb_loose.specs.LooseOrder.Answered.{tested_by, found_by, header_by, object_from, header_from, spelled_in, unread_by, flaw_error};
 ghost use Rattle.gix_odb_loose.specs.LooseOrder.Answered.{unreadable as unreadable_at};

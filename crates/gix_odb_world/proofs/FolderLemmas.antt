@@ -1,35 +1,37 @@
--- What a folder's reply says of the moment at which the disk answered.
+-- What the verdict on a folder says of the moment at which the disk answered.
 use Rattle.std.proofs.Common.{◌≡◌, ℕ, ◌≤◌, Bool, true, false, List, Contains, Option, Some, None, Result, Ok, Err, cond, refl, sym, subst, arith}
 use Rattle.odb_base.specs.Path.{Path}
 use Rattle.odb_nodes.specs.Tree.{Tree, tree_of}
 use Rattle.odb_nodes.specs.Tree.Follow.{read_of}
 use Rattle.odb_asks.specs.MemDisk.{Volume, next_fails}
-use Rattle.odb_asks.specs.Ask.{answer_now, answer_of, change_of_ask}
-use Rattle.odb_asks.specs.declared.ask.DiskAsk.{DiskAsk}
+use Rattle.odb_asks.specs.Ask.{answer_now, answer_of}
+use Rattle.odb_asks.specs.StreamAsks.{is_of_streams}
 use Rattle.odb_asks.specs.declared.ask.DiskAsk.TheVariants as asks
 use Rattle.odb_asks.specs.declared.ask.DiskAnswer.{DiskAnswer}
 use Rattle.odb_asks.specs.declared.ask.DiskAnswer.TheVariants as answers
 use Rattle.odb_nodes.specs.declared.disk_error.DiskError.TheVariants as disk_errors
+use Rattle.gix_hash.specs.ObjectId.{kind_of}
 use Rattle.gix_hash.specs.declared.object_id.ObjectId.{ObjectId}
 use Rattle.gix_object.specs.declared.kind.Kind.{Kind}
 use Rattle.gix_odb_loose.specs.Causes.{Cause}
 use Rattle.gix_odb_loose.proofs.CauseLaws.{Cause-wider}
 use Rattle.gix_odb_loose.specs.LooseFile.{LeadsToFile, Reading, loose_path}
 use Rattle.gix_odb_loose.specs.LooseFile as loose_files
-use Rattle.gix_odb_loose.specs.LooseOrder.{disk_ask_of, fed, job_of, reply_of}
+use Rattle.gix_odb_loose.specs.LooseOrder.{job_of}
 use Rattle.gix_odb_loose.specs.LooseOrder.Answered.{tested_by, found_by, header_by}
 use Rattle.gix_odb_loose.specs.Replies.{Says}
 use Rattle.gix_odb_loose.proofs.ReplyLaws.{Says-now}
 use Rattle.gix_odb_loose.specs.declared.call.LooseJob.TheVariants as jobs
 use Rattle.gix_odb_loose.specs.declared.call.LooseReply.{LooseReply}
 use Rattle.gix_odb_loose.specs.declared.call.LooseReply.TheVariants as loose_replies
+use Rattle.gix_odb_loose.specs.declared.store.Store as loose
 use Rattle.gix_odb_loose.specs.declared.find.Error.{Error}
 use Rattle.gix_odb_loose.specs.declared.find.Error.TheVariants as errors
 use Rattle.gix_object.specs.declared.want.Want.{Want}
 use Rattle.gix_object.specs.declared.want.Want.TheVariants.{Object, Header, Presence}
 use Rattle.gix_odb_calls.specs.declared.verdict.Verdict.{Verdict}
 use Rattle.gix_odb_calls.specs.declared.verdict.Verdict.TheVariants as verdicts
-use Rattle.gix_odb_calls.specs.Verdict.{asking, loose_store, verdict_on}
+use Rattle.gix_odb_calls.specs.Verdict.{asking, folder_ask, folder_verdict, verdict_on_find, verdict_on_header, verdict_on_test}
 use Rattle.gix_odb_world.specs.Causes.{GaveSometime, LooseCause}
 use Rattle.gix_odb.specs.Contents.{LooseFile, folder_list, of_loose}
 use Rattle.gix_odb_world.specs.Status.{Store}
@@ -37,16 +39,18 @@ use Rattle.gix_odb_events.specs.declared.event.Refusal.{Refusal}
 use Rattle.gix_odb_looks.specs.Exchange.{Exchange}
 use Rattle.gix_odb.specs.Held.{Held}
 use Rattle.gix_odb_world.specs.Promise.{Keeps, claim_of}
-use Rattle.gix_odb_runs.proofs.WriteAsk.Quiet.{look_quiet, read_quiet}
 
--- whatever is wanted, a folder is asked with a look or a read
-pub ask_found : (limit : Option ℕ) (want : Want) (id : ObjectId) (folder : Path)
-    → (ask : DiskAsk) × (disk_ask_of (asking limit want id folder) ≡ Some ask) × ((tree : Tree) → change_of_ask tree ask ≡ None)
-ask_found limit Object id folder = (asks.Read (loose_path folder id), refl, read_quiet (loose_path folder id))
-ask_found limit Header id folder = (asks.Read (loose_path folder id), refl, read_quiet (loose_path folder id))
-ask_found limit Presence id folder = (asks.Look (loose_path folder id) true, refl, look_quiet (loose_path folder id) true)
+-- the loose objects of a folder, for ids of the hash of one
+abbrev pub loose_store : (limit : Option ℕ) → ObjectId → Path → loose.Store
+loose_store limit id folder = record { path = folder; object_hash = kind_of id; options = record { alloc_limit_bytes = limit } }
 
--- What the verdict on a folder's reply says: an answer that was held or an error with its cause, a miss by a call of the disk that
+-- a folder that is asked opens no stream, takes from none and closes none
+pub folder_asks_still : (limit : Option ℕ) (want : Want) (id : ObjectId) (folder : Path) → is_of_streams (folder_ask (asking limit want id folder)) ≡ false
+folder_asks_still limit Object id folder = refl
+folder_asks_still limit Header id folder = refl
+folder_asks_still limit Presence id folder = refl
+
+-- What a verdict on a folder says: an answer that was held or an error with its cause, a miss by a call of the disk that
 -- didn't fail, or an error with its cause that is noted.
 abbrev pub VerdictSays : (ℕ → Tree) → Type 0 → (Refused : Refusal → Type 0) → (told : List Exchange) → Store → ℕ → ℕ → Want → ObjectId → Path → (fails : Bool) → Verdict → Type 0
 VerdictSays trees Failed Refused told store begun now want id folder fails (verdicts.Ends reply) = Keeps trees Failed Refused told store begun now want id (claim_of want reply)
@@ -78,8 +82,8 @@ module _ (trees : ℕ → Tree) (Failed : Type 0) (Refused : Refusal → Type 0)
   abbrev SaysNow : Want → LooseReply → Type 0
   SaysNow want reply = Says at store.parts.limit (job_of want id) (tree_of disk.state) (next_fails disk ≡ true) ⊥ reply
 
-  abbrev SaysBy : Want → LooseReply → Type 0
-  SaysBy want reply = VerdictSays trees Failed Refused told store begun now want id folder (next_fails disk) (verdict_on want reply)
+  abbrev SaysBy : Want → Verdict → Type 0
+  SaysBy want verdict = VerdictSays trees Failed Refused told store begun now want id folder (next_fails disk) verdict
 
   -- what a read of the path gives now
   abbrev IsRead : Reading → Type 0
@@ -116,7 +120,7 @@ module _ (trees : ℕ → Tree) (Failed : Type 0) (Refused : Refusal → Type 0)
 
   find_says : (result : Result (Option (Kind × List ℕ)) Error) → SaysNow Object (loose_replies.Found result)
       → (result ≡ Ok None → next_fails disk ≡ false)
-      → SaysBy Object (loose_replies.Found result)
+      → SaysBy Object (verdict_on_find result)
   find_says (Ok (Some x)) says sound =
       held_now Object (loose_files.Object x.0 x.1) (says.held (loose_files.Object x.0 x.1) refl)
   find_says (Ok None) says sound = (sound refl, missed_now (says.missed tt))
@@ -124,7 +128,7 @@ module _ (trees : ℕ → Tree) (Failed : Type 0) (Refused : Refusal → Type 0)
 
   header_says : (result : Result (Option (ℕ × Kind)) Error) → SaysNow Header (loose_replies.Header result)
       → (result ≡ Ok None → next_fails disk ≡ false)
-      → SaysBy Header (loose_replies.Header result)
+      → SaysBy Header (verdict_on_header result)
   header_says (Ok (Some x)) says sound =
       held_now Header (loose_files.HeaderOf x.1 x.0) (says.held (loose_files.HeaderOf x.1 x.0) refl)
   header_says (Ok None) says sound = (sound refl, missed_now (says.missed tt))
@@ -132,7 +136,7 @@ module _ (trees : ℕ → Tree) (Failed : Type 0) (Refused : Refusal → Type 0)
 
   test_says : (result : Result Bool Error) → SaysNow Presence (loose_replies.Contains result)
       → (result ≡ Ok false → next_fails disk ≡ false)
-      → SaysBy Presence (loose_replies.Contains result)
+      → SaysBy Presence (verdict_on_test result)
   test_says (Ok true) says sound = held_now Presence loose_files.Presence (says.held loose_files.Presence refl)
   test_says (Ok false) says sound = (sound refl, missed_now (says.missed tt))
   test_says (Err errors.NoMemory) says sound = cause_now Presence errors.NoMemory (says.refused errors.NoMemory refl)
@@ -142,31 +146,18 @@ module _ (trees : ℕ → Tree) (Failed : Type 0) (Refused : Refusal → Type 0)
   test_says (Err (errors.SizeMismatch actual expected path)) says sound =
       cause_now Presence (errors.SizeMismatch actual expected path) (says.refused (errors.SizeMismatch actual expected path) refl)
 
-  -- the folder's call has its reply after the disk's answer, which says so much
+  -- the verdict on the disk's answer says so much
   pub folder_says : (want : Want)
-      → (reply : LooseReply) × (reply_of (fed (asking store.parts.limit want id folder) (answer_now disk (ask_found store.parts.limit want id folder).0)) ≡ Some reply) × SaysBy want reply
-  unfolding ask_found
+      → SaysBy want (folder_verdict (asking store.parts.limit want id folder) (answer_now disk (folder_ask (asking store.parts.limit want id folder))))
   folder_says Object =
-      let given = answer_now disk (asks.Read at) in
-      let result = found_by at store.parts.limit given in (
-        loose_replies.Found result,
-        refl,
-        find_says result (Says-now (loose_store store.parts.limit id folder) (jobs.Find id) disk (asks.Read at) (loose_replies.Found result) refl refl)
-            (sound_find at store.parts.limit (next_fails disk) (answer_of (tree_of disk.state) (asks.Read at))),
-      )
+      let result = found_by at store.parts.limit (answer_now disk (asks.Read at)) in
+      find_says result (Says-now (loose_store store.parts.limit id folder) (jobs.Find id) disk (asks.Read at) (loose_replies.Found result) refl refl)
+      (sound_find at store.parts.limit (next_fails disk) (answer_of (tree_of disk.state) (asks.Read at)))
   folder_says Header =
-      let given = answer_now disk (asks.Read at) in
-      let result = header_by at given in (
-        loose_replies.Header result,
-        refl,
-        header_says result (Says-now (loose_store store.parts.limit id folder) (jobs.Header id) disk (asks.Read at) (loose_replies.Header result) refl refl)
-            (sound_header at (next_fails disk) (answer_of (tree_of disk.state) (asks.Read at))),
-      )
+      let result = header_by at (answer_now disk (asks.Read at)) in
+      header_says result (Says-now (loose_store store.parts.limit id folder) (jobs.Header id) disk (asks.Read at) (loose_replies.Header result) refl refl)
+      (sound_header at (next_fails disk) (answer_of (tree_of disk.state) (asks.Read at)))
   folder_says Presence =
-      let given = answer_now disk (asks.Look at true) in
-      let result = tested_by at given in (
-        loose_replies.Contains result,
-        refl,
-        test_says result (Says-now (loose_store store.parts.limit id folder) (jobs.Contains id) disk (asks.Look at true) (loose_replies.Contains result) refl refl)
-            (sound_test at (next_fails disk) (answer_of (tree_of disk.state) (asks.Look at true))),
-      )
+      let result = tested_by at (answer_now disk (asks.Look at true)) in
+      test_says result (Says-now (loose_store store.parts.limit id folder) (jobs.Contains id) disk (asks.Look at true) (loose_replies.Contains result) refl refl)
+      (sound_test at (next_fails disk) (answer_of (tree_of disk.state) (asks.Look at true)))

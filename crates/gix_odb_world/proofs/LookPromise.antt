@@ -11,10 +11,9 @@ use Rattle.gix_odb_events.specs.declared.event.Refusal.TheVariants as refusals
 use Rattle.gix_odb_events.specs.declared.view.View.{View}
 use Rattle.gix_odb_loose.proofs.CauseLaws.{Cause-wider}
 use Rattle.gix_odb_loose.specs.LooseFile.{LeadsToFile, loose_path}
-use Rattle.gix_odb_loose.specs.LooseOrder.{job_of, reply_of}
-use Rattle.gix_odb_loose.proofs.StillAskLaws.{call_asks_still}
+use Rattle.gix_odb_loose.specs.LooseOrder.{job_of}
 use Rattle.gix_odb_loose.specs.declared.find.Error as loose
-use Rattle.gix_odb_calls.specs.Verdict.{asking, refused, verdict_on}
+use Rattle.gix_odb_calls.specs.Verdict.{asking, folder_ask, folder_verdict, refused}
 use Rattle.gix_odb_calls.specs.declared.call.CallError.TheVariants as call_errors
 use Rattle.gix_odb_calls.specs.declared.call.Reply.{Reply}
 use Rattle.gix_odb_calls.specs.declared.call.Reply.TheVariants as replies
@@ -25,6 +24,7 @@ use Rattle.gix_odb_calls.specs.declared.load_index.Error.TheVariants as load_err
 use Rattle.gix_odb_calls.specs.declared.query.Query.{Query}
 use Rattle.gix_object.specs.declared.want.Want.{Want}
 use Rattle.gix_object.specs.declared.want.Want.TheVariants as wants
+use Rattle.gix_odb_calls.specs.declared.verdict.FolderCall.{FolderCall}
 use Rattle.gix_odb_calls.specs.declared.verdict.Verdict.{Verdict}
 use Rattle.gix_odb_calls.specs.declared.verdict.Verdict.TheVariants as verdicts
 use Rattle.gix_odb_events.specs.PackPath.{pack_path}
@@ -33,7 +33,7 @@ use Rattle.gix_odb_looks.specs.Caused.{IsCaused}
 use Rattle.gix_odb_looks.specs.Exchange.{AreAsked, Exchange, HasVerdict}
 use Rattle.gix_odb_looks.specs.Fair.{PackedPlace}
 use Rattle.gix_odb_looks.specs.Found.{Gives, IsEntryReply, IsFound, IsHeaderReply, IsInIndex, IsInPack}
-use Rattle.gix_odb_looks.specs.LookUpOrder.{Setting, loose_fed, not_found, result_of}
+use Rattle.gix_odb_looks.specs.LookUpOrder.{Setting, not_found, result_of}
 use Rattle.gix_odb_looks.specs.Reply.{IsAnswer, IsReplyTo}
 use Rattle.gix_odb_looks.specs.declared.look_up.LookUp.{LookUp}
 use Rattle.gix_odb_looks.proofs.CauseLaws.{each_refusal_has_its_cause, replies_are_of_the_query}
@@ -53,7 +53,7 @@ use Rattle.gix_odb_world.specs.Running.Refused.{AreRefused}
 use Rattle.gix_odb_world.specs.Running.Query.{IsFit, IsGiven, IsToldWell}
 use Rattle.gix_odb_world.specs.Told.{look_begun, look_now, told_since, view_then}
 use Rattle.gix_odb_runs.proofs.FailedLemmas.{fails_now-still}
-use Rattle.gix_odb_world.proofs.FolderLemmas.{VerdictSays, ask_found, folder_says}
+use Rattle.gix_odb_world.proofs.FolderLemmas.{VerdictSays, folder_asks_still, folder_says}
 use Rattle.gix_odb_world.proofs.PackedStill.Contents.{lies_indexed}
 use Rattle.gix_odb_world.proofs.RefusedLemmas.{never_for_memory, since_told}
 
@@ -132,24 +132,21 @@ module _ (first : Volume) (events : List Event) (handle : ℕ) (store : Store) (
   -- ---- what the loose objects of a folder said
 
   module _ (folder : Path) (among : Contains (folder_list store.parts) folder) (verdict : Verdict) (has : HasVerdict setting want id told folder verdict) where
-    given : IsGiven first events handle begun has.ask has.answer
-    given = well.given has.ask has.answer has.told
+    abbrev call : FolderCall
+    call = asking store.parts.limit want id folder
+
+    given : IsGiven first events handle begun (folder_ask call) has.answer
+    given = well.given (folder_ask call) has.answer has.told
 
     -- a failed call of the folder is one of the query
     fails : next_fails given.disk ≡ true → Failed
-    fails is = given.failed (fails_now-still given.disk has.ask (call_asks_still (asking store.parts.limit want id folder) has.ask has.asked) ∙ is)
+    fails is = given.failed (fails_now-still given.disk (folder_ask call) (folder_asks_still store.parts.limit want id folder) ∙ is)
 
     said : VerdictSays trees Failed Refused told store begun given.moment want id folder (next_fails given.disk) verdict
     said =
         let says = folder_says trees Failed Refused told store begun given.moment given.from given.disk given.shown fails id folder among want in
-        let own = ask_found store.parts.limit want id folder in
-        let same_ask : own.0 ≡ has.ask = cc (own.1, has.asked) in
-        let same_reply : Some says.0 ≡ Some has.reply =
-        sym says.1
-        ∙ (ap (λ a. reply_of (loose_fed (asking store.parts.limit want id folder) (answer_now given.disk a))) same_ask
-        ∙ (ap (λ a. reply_of (loose_fed (asking store.parts.limit want id folder) a)) (sym given.is) ∙ has.replied)) in
-        let same : says.0 ≡ has.reply = cc same_reply in
-        subst (VerdictSays trees Failed Refused told store begun given.moment want id folder (next_fails given.disk)) (ap (verdict_on want) same ∙ has.is) says.2
+        subst (VerdictSays trees Failed Refused told store begun given.moment want id folder (next_fails given.disk))
+        (ap (folder_verdict call) (sym given.is) ∙ has.is) says
 
   -- what a folder's loose objects said of a reply, and so of a claim
   claim_later : (moment : ℕ) → moment ≤ now → (reply : Reply) → IsAnswer reply
@@ -246,7 +243,7 @@ module _ (first : Volume) (events : List Event) (handle : ℕ) (store : Store) (
       has = not_found_missed_in_each_folder setting want id view told asked is folder among
 
       -- the moment at which its loose objects were asked
-      abbrev at : IsGiven first events handle begun has.ask has.answer
+      abbrev at : IsGiven first events handle begun (folder_ask (asking store.parts.limit want id folder)) has.answer
       at = given folder among verdicts.Misses has
 
       passed : ¬ (LeadsToFile (trees at.moment) (loose_path folder id))

@@ -31,7 +31,7 @@ use Rattle.gix_odb_events.specs.declared.answer.Answer.{Answer}
 use Rattle.gix_odb_events.specs.declared.answer.Ask.{Ask}
 use Rattle.gix_odb_events.specs.declared.answer.Ask.TheVariants as work_asks
 use Rattle.gix_odb_events.specs.declared.answer.Answer.TheVariants as given
-use Rattle.gix_odb_looks.specs.LookUpOrder.{loose_ask}
+use Rattle.gix_odb.specs.CallOrder.{loose_ask}
 use Rattle.gix_odb_world.specs.Headline.{IsLawful, stand_of}
 use Rattle.gix_odb_world.specs.Machine.{At, Machine, placed}
 use Rattle.gix_odb_world.specs.Machines.{at}

@@ -14,7 +14,7 @@ use Rattle.gix_odb_runs.specs.Event.{Event}
 use Rattle.gix_odb_events.specs.declared.answer.Answer.{Answer}
 use Rattle.gix_odb_events.specs.declared.answer.Ask.TheVariants as parts
 use Rattle.gix_odb_events.specs.declared.answer.Answer.TheVariants as told
-use Rattle.gix_odb_looks.specs.LookUpOrder.{loose_ask}
+use Rattle.gix_odb.specs.CallOrder.{loose_ask}
 use Rattle.gix_odb_world.specs.Machine.{At, Machine, placed}
 use Rattle.gix_odb_world.specs.Machines.{at, ask_in, fed_in, write_in}
 use Rattle.gix_odb_runs.specs.Run.{change_by, disk_after}

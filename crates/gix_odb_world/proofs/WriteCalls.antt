@@ -4,7 +4,7 @@ use Rattle.odb_asks.specs.MemDisk.{Volume}
 use Rattle.gix_odb_loose.specs.LooseOrder.{disk_ask_of}
 use Rattle.gix_odb_loose.specs.declared.call.LooseCall.{LooseCall}
 use Rattle.gix_odb_runs.specs.Event.{Event}
-use Rattle.gix_odb_looks.specs.LookUpOrder.{loose_ask}
+use Rattle.gix_odb.specs.CallOrder.{loose_ask}
 use Rattle.gix_odb_world.specs.Headline.{Works}
 use Rattle.gix_odb_world.specs.Machines.{write_in}
 use Rattle.gix_odb_world.specs.Running.Write.{IsWriting}

@@ -17,7 +17,7 @@ use Rattle.gix_odb_events.specs.declared.answer.Answer.TheVariants as told
 use Rattle.gix_odb_events.specs.declared.answer.Ask.{Ask}
 use Rattle.gix_odb_events.specs.declared.answer.Ask.TheVariants as parts
 use Rattle.gix_odb_calls.specs.declared.call.Reply.{Reply}
-use Rattle.gix_odb_looks.specs.LookUpOrder.{Setting, loose_ask}
+use Rattle.gix_odb_looks.specs.LookUpOrder.{Setting}
 use Rattle.gix_odb_refresh.proofs.RefreshLaws.{refreshes_have_no_core_made}
 use Rattle.gix_odb_refresh.specs.RefreshOrder.{IsReady}
 use Rattle.gix_odb_refresh.specs.RefreshOrder as refreshes
@@ -27,7 +27,7 @@ use Rattle.gix_odb_refresh.specs.declared.refresh.RefreshStep.{RefreshStep}
 use Rattle.gix_odb_refresh.specs.declared.refresh.RefreshStep.TheVariants as fronts
 use Rattle.gix_odb.specs.CallOrder as calls
 use Rattle.gix_odb.specs.Contents.{folder_list}
-use Rattle.gix_odb.specs.CallOrder.{fronted, result_of_write, writing_result, written_on}
+use Rattle.gix_odb.specs.CallOrder.{fronted, loose_ask, result_of_write, writing_result, written_on}
 use Rattle.gix_odb.specs.declared.call_state.CallStage.TheVariants.{Refused}
 use Rattle.gix_odb_world.specs.Handle.{HandleParts, IsHandleOf}
 use Rattle.gix_odb_world.specs.AtWork.{Modes, setting_in}

@@ -1,16 +1,13 @@
 -- What is known of a look-up behind exchanges: what its notes, its counts and its reply tell of them.
-use Rattle.std.proofs.Common.{◌≡◌, ℕ, true, false, List, Contains, Some, None, Ok, Err, ◌⊎◌, refl, inl, inr}
+use Rattle.std.proofs.Common.{◌≡◌, ℕ, true, false, Bool, List, Contains, Option, Some, None, Result, Ok, Err, ◌⊎◌, refl, inl, inr}
 use Rattle.odb_base.specs.Path.{Path}
 use Rattle.odb_asks.specs.declared.ask.DiskAnswer.{DiskAnswer}
 use Rattle.odb_asks.specs.declared.ask.DiskAnswer.TheVariants as answers
 use Rattle.odb_nodes.specs.declared.disk_error.DiskError.TheVariants as disk_errors
 use Rattle.gix_hash.specs.declared.kind.Kind.{Kind}
 use Rattle.gix_hash.specs.declared.object_id.ObjectId.{ObjectId}
-use Rattle.gix_odb_loose.specs.LooseOrder.{reply_of}
-use Rattle.gix_odb_loose.specs.declared.call.LooseReply.{LooseReply}
-use Rattle.gix_odb_loose.specs.declared.call.LooseReply.TheVariants as loose_replies
 use Rattle.gix_odb_loose.specs.LooseFile.{loose_path}
-use Rattle.gix_odb_loose.specs.LooseOrder.Answered.{tested_by}
+use Rattle.gix_odb_loose.specs.LooseOrder.Answered.{found_by, header_by, tested_by}
 use Rattle.gix_odb_loose.specs.declared.find.Error as loose
 use Rattle.gix_odb_loose.specs.declared.find.Error.TheVariants as loose_errors
 use Rattle.gix_odb_events.specs.declared.event.Refusal.{Refusal}
@@ -20,12 +17,13 @@ use Rattle.gix_odb_packs.specs.declared.goal.Error.TheVariants as pack_errors
 use Rattle.gix_odb_packs.specs.declared.goal.Found.{Found}
 use Rattle.gix_odb_packs.specs.declared.goal.Found.TheVariants as found
 use Rattle.gix_odb_packs.proofs.TrierLaws.{Passes}
-use Rattle.gix_odb_calls.specs.Verdict.{asking, refused, verdict_on}
+use Rattle.gix_odb_calls.specs.Verdict.{asking, folder_verdict, refused, verdict_on_find, verdict_on_header, verdict_on_test}
 use Rattle.gix_odb_calls.specs.declared.call.CallError.TheVariants as call_errors
 use Rattle.gix_odb_calls.specs.declared.call.Reply.{Reply}
 use Rattle.gix_odb_calls.specs.declared.call.Reply.TheVariants as replies
 use Rattle.gix_odb_calls.specs.declared.find.Error.{Error}
 use Rattle.gix_odb_calls.specs.declared.find.Error.TheVariants as find_errors
+use Rattle.gix_object.specs.declared.kind.Kind as object
 use Rattle.gix_object.specs.declared.want.Want.{Want}
 use Rattle.gix_object.specs.declared.want.Want.TheVariants.{Object, Header, Presence}
 use Rattle.gix_odb_calls.specs.declared.verdict.Verdict.{Verdict}
@@ -34,7 +32,7 @@ use Rattle.gix_odb_looks.specs.Caused.{IsLoadCaused, IsRefused}
 use Rattle.gix_odb_looks.specs.Exchange.{Exchange, HasFailed, HasVerdict, first_number, published_in}
 use Rattle.gix_odb_refresh.specs.LoadIndex.{of_refusal}
 use Rattle.gix_odb_looks.specs.LookUpOrder.{Setting}
-use Rattle.gix_odb_looks.specs.LookUpOrder.{find_error, loose_fed, not_found}
+use Rattle.gix_odb_looks.specs.LookUpOrder.{find_error, not_found}
 use Rattle.gix_odb_looks.specs.LookUpOrder.{reply_found}
 use Rattle.gix_odb_refresh.specs.Shown.{folders_of}
 use Rattle.gix_odb_refresh.specs.declared.refresh.Refresh.TheVariants as fronts
@@ -116,29 +114,26 @@ module _ (Shown : Path → List ℕ → Type 0) (setting : Setting) (hash : Kind
   VerdictTells want verdicts.Misses = Unit {0}
   VerdictTells want (verdicts.Notes error) = HasFailed exchanges
 
-  verdict_tells : (folder : Path) → Contains (folders_of setting) folder → (want : Want) (reply : LooseReply)
-      → ((error : loose.Error) → reply ≡ loose_replies.Contains (Err error) → HasFailed exchanges ⊎ (error ≡ loose_errors.NoMemory))
-      → HasVerdict setting want id exchanges folder (verdict_on want reply) → VerdictTells want (verdict_on want reply)
-  verdict_tells folder among Object (loose_replies.Found (Ok (Some found))) fails says = tt
-  verdict_tells folder among Object (loose_replies.Found (Ok None)) fails says = tt
-  verdict_tells folder among Object (loose_replies.Found (Err error)) fails says = (folder, among, says)
-  verdict_tells folder among Object (loose_replies.Header answer) fails says = tt
-  verdict_tells folder among Object (loose_replies.Contains answer) fails says = tt
-  verdict_tells folder among Object (loose_replies.Wrote answer) fails says = tt
-  verdict_tells folder among Header (loose_replies.Header (Ok (Some found))) fails says = tt
-  verdict_tells folder among Header (loose_replies.Header (Ok None)) fails says = tt
-  verdict_tells folder among Header (loose_replies.Header (Err error)) fails says = (folder, among, says)
-  verdict_tells folder among Header (loose_replies.Found answer) fails says = tt
-  verdict_tells folder among Header (loose_replies.Contains answer) fails says = tt
-  verdict_tells folder among Header (loose_replies.Wrote answer) fails says = tt
-  verdict_tells folder among Presence (loose_replies.Contains (Ok true)) fails says = tt
-  verdict_tells folder among Presence (loose_replies.Contains (Ok false)) fails says = tt
-  verdict_tells folder among Presence (loose_replies.Contains (Err loose_errors.NoMemory)) fails says = (folder, among, says)
-  verdict_tells folder among Presence (loose_replies.Contains (Err error)) fails says =
+  find_tells : (folder : Path) → Contains (folders_of setting) folder → (want : Want) (answer : Result (Option (object.Kind × List ℕ)) loose.Error)
+      → HasVerdict setting want id exchanges folder (verdict_on_find answer) → VerdictTells want (verdict_on_find answer)
+  find_tells folder among want (Ok (Some found)) says = tt
+  find_tells folder among want (Ok None) says = tt
+  find_tells folder among want (Err error) says = (folder, among, says)
+
+  header_tells : (folder : Path) → Contains (folders_of setting) folder → (want : Want) (answer : Result (Option (ℕ × object.Kind)) loose.Error)
+      → HasVerdict setting want id exchanges folder (verdict_on_header answer) → VerdictTells want (verdict_on_header answer)
+  header_tells folder among want (Ok (Some found)) says = tt
+  header_tells folder among want (Ok None) says = tt
+  header_tells folder among want (Err error) says = (folder, among, says)
+
+  test_tells : (folder : Path) → Contains (folders_of setting) folder → (want : Want) (answer : Result Bool loose.Error)
+      → ((error : loose.Error) → answer ≡ Err error → HasFailed exchanges ⊎ (error ≡ loose_errors.NoMemory))
+      → HasVerdict setting want id exchanges folder (verdict_on_test answer) → VerdictTells want (verdict_on_test answer)
+  test_tells folder among want (Ok true) fails says = tt
+  test_tells folder among want (Ok false) fails says = tt
+  test_tells folder among want (Err loose_errors.NoMemory) fails says = (folder, among, says)
+  test_tells folder among want (Err error) fails says =
       elim (fails error refl) [ inl failed ↦ failed | inr none ↦ absurd (cc none) ]
-  verdict_tells folder among Presence (loose_replies.Found answer) fails says = tt
-  verdict_tells folder among Presence (loose_replies.Header answer) fails says = tt
-  verdict_tells folder among Presence (loose_replies.Wrote answer) fails says = tt
 
   -- a look that failed is noted by its error
   tested_failed : (path : Path) (answer : DiskAnswer) → (answer ≡ answers.Refused disk_errors.Failed → HasFailed exchanges) → (error : loose.Error)
@@ -148,16 +143,12 @@ module _ (Shown : Path → List ℕ → Type 0) (setting : Setting) (hash : Kind
   tested_failed path (answers.Meta meta) fails error is = absurd (cc is)
   tested_failed path answer fails error is = absurd (cc is)
 
-  folder_failed : (want : Want) (folder : Path) (answer : DiskAnswer) → (answer ≡ answers.Refused disk_errors.Failed → HasFailed exchanges)
-      → (reply : LooseReply) → reply_of (loose_fed (asking setting.limit want id folder) answer) ≡ Some reply
-      → (error : loose.Error) → reply ≡ loose_replies.Contains (Err error) → HasFailed exchanges ⊎ (error ≡ loose_errors.NoMemory)
-  folder_failed Object folder answer fails reply is error so = absurd (cc (is, so))
-  folder_failed Header folder answer fails reply is error so = absurd (cc (is, so))
-  folder_failed Presence folder answer fails reply is error so = tested_failed (loose_path folder id) answer fails error cc
-
-  -- what a folder's reply comes to
+  -- what a folder's answer comes to
   pub folder_tells : (want : Want) (folder : Path) → Contains (folders_of setting) folder → (answer : DiskAnswer)
       → (answer ≡ answers.Refused disk_errors.Failed → HasFailed exchanges)
-      → (reply : LooseReply) → reply_of (loose_fed (asking setting.limit want id folder) answer) ≡ Some reply
-      → HasVerdict setting want id exchanges folder (verdict_on want reply) → VerdictTells want (verdict_on want reply)
-  folder_tells want folder among answer fails reply is says = verdict_tells folder among want reply (folder_failed want folder answer fails reply is) says
+      → HasVerdict setting want id exchanges folder (folder_verdict (asking setting.limit want id folder) answer)
+      → VerdictTells want (folder_verdict (asking setting.limit want id folder) answer)
+  folder_tells Object folder among answer fails says = find_tells folder among Object (found_by (loose_path folder id) setting.limit answer) says
+  folder_tells Header folder among answer fails says = header_tells folder among Header (header_by (loose_path folder id) answer) says
+  folder_tells Presence folder among answer fails says =
+      test_tells folder among Presence (tested_by (loose_path folder id) answer) (tested_failed (loose_path folder id) answer fails) says

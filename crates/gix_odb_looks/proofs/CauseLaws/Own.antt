@@ -5,10 +5,6 @@ use Rattle.std.specs.Prelude.{if◌then◌else◌}
 use Rattle.std.proofs.lemmas.Option.{same_Some}
 use Rattle.odb_base.specs.Path.{Path}
 use Rattle.gix_hash.specs.declared.object_id.ObjectId.{ObjectId}
-use Rattle.odb_asks.specs.declared.ask.DiskAsk.{DiskAsk}
-use Rattle.gix_odb_loose.specs.LooseOrder.{disk_ask_of, reply_of}
-use Rattle.gix_odb_loose.specs.declared.call.LooseCall.{LooseCall}
-use Rattle.gix_odb_loose.specs.declared.call.LooseReply.{LooseReply}
 use Rattle.gix_odb_events.specs.View.{last_state}
 use Rattle.gix_odb_events.specs.declared.event.Effect.{Effect}
 use Rattle.gix_odb_events.specs.declared.event.Effect.TheVariants as effects
@@ -30,15 +26,15 @@ use Rattle.gix_odb_packs.specs.declared.lister.ListStep.TheVariants as listed
 use Rattle.gix_odb_packs.specs.declared.search.Notes.{Notes}
 use Rattle.gix_odb_packs.specs.declared.trier.Tried.{Tried}
 use Rattle.gix_odb_packs.specs.declared.trier.Tried.TheVariants as tried
-use Rattle.gix_odb_calls.specs.Verdict.{verdict_on}
+use Rattle.gix_odb_calls.specs.Verdict.{folder_verdict}
 use Rattle.gix_odb_calls.specs.declared.load_index.Error.TheVariants as load_errors
 use Rattle.gix_object.specs.declared.want.Want.{Want}
 use Rattle.gix_odb_calls.specs.declared.verdict.Verdict.{Verdict}
 use Rattle.gix_odb_calls.specs.declared.verdict.Verdict.TheVariants as verdicts
 use Rattle.gix_odb_looks.specs.Laps.{Follows, IsNumbered, number_by}
 use Rattle.gix_odb_looks.specs.LookUpOrder.{Setting, after_list, after_loose, ask_at, at_folder, by_check, by_checked, by_read, by_refresh}
-use Rattle.gix_odb_looks.specs.LookUpOrder.{by_reply, by_tried, by_verdict, counted, ended, fed_at, goal_of, is_unsettled, listing_from, load_refused, loose_ask}
-use Rattle.gix_odb_looks.specs.LookUpOrder.{loose_fed, new_head, not_found, started, trier_fed, try_view, unsettled, view_shown, with_own, without_absent, without_notes}
+use Rattle.gix_odb_looks.specs.LookUpOrder.{by_tried, by_verdict, counted, ended, fed_at, goal_of, is_unsettled, listing_from, load_refused}
+use Rattle.gix_odb_looks.specs.LookUpOrder.{new_head, not_found, started, trier_fed, try_view, unsettled, view_shown, with_own, without_absent, without_notes}
 use Rattle.gix_odb_refresh.specs.RefreshOrder.{by_listed, by_look, by_published, by_view}
 use Rattle.gix_odb_refresh.specs.RefreshOrder as refreshes
 use Rattle.gix_odb_refresh.specs.declared.refresh.Refresh.TheVariants as fronts
@@ -146,10 +142,6 @@ module _ (setting : Setting) (now : ℕ) where
     verdict_owned round (verdicts.Notes error) is =
         folder_owned (record round { notes = record round.notes { failed = true } }) (slice_get setting.folders round.next) is
 
-    reply_owned : (round : LooseRound) (call : LooseCall) (reply : Option LooseReply) → OwnedPart round.part → Owned (by_reply setting head round call reply)
-    reply_owned round call None is = is
-    reply_owned round call (Some reply) is = verdict_owned round (verdict_on head.want reply) is
-
     -- ---- looks and listings
 
     counted_owned : (number : ℕ) (next : LookStage) → Owned next → Owned (counted setting head number next)
@@ -243,7 +235,7 @@ module _ (setting : Setting) (slots before : ℕ) (head : LookHead) where
             tried_owned setting (number_by before answer) head part (trier_fed trier answer)
             (part_later before (number_by before answer) head.own later part is)
         by (stages.Loose round call) (told.Disk answer) later asked numbered is =
-            reply_owned setting before head round (loose_fed call answer) (reply_of (loose_fed call answer)) is
+            verdict_owned setting before head round (folder_verdict call answer) is
         by (stages.Loose round call) (told.Core answer) later asked numbered is =
             part_later before (number_by before (told.Core answer)) head.own later round.part is
         by (stages.Refreshing fronts.Reading purpose notes) (told.Disk answer) later asked numbered is = is
@@ -275,10 +267,6 @@ try_publishes_none (try_stages.ReadingPack pack) listing is = cc is
 try_publishes_none (try_stages.StoringPack pack file) listing is = cc is
 try_publishes_none (try_stages.PassingPack pack) listing is = cc is
 
-loose_publishes_none : (ask : Option DiskAsk) (listing : Listing) → ¬ (loose_ask ask ≡ Some (asks.Core (events.Publish listing)))
-loose_publishes_none None listing is = cc is
-loose_publishes_none (Some ask) listing is = cc is
-
 -- a list more that is published has a number behind it
 pub own_has_room : (setting : Setting) (slots before : ℕ) (head : LookHead) (stage : LookStage) (listing : Listing) (view : View)
     → IsOwned before head.own stage → ask_at stage ≡ Some (asks.Core (events.Publish listing))
@@ -289,7 +277,7 @@ own_has_room setting slots before head (stages.Refreshing (fronts.Publishing own
     omega (arith, is.0, same, numbered.1, (numbered.2 view refl).1)
 own_has_room setting slots before head (stages.Trying trier part) listing view is asked numbered =
     absurd (try_publishes_none trier.stage listing (same_Some _ _ asked))
-own_has_room setting slots before head (stages.Loose round call) listing view is asked numbered = absurd (loose_publishes_none (disk_ask_of call) listing asked)
+own_has_room setting slots before head (stages.Loose round call) listing view is asked numbered = absurd (cc asked)
 own_has_room setting slots before head (stages.Refreshing fronts.Reading purpose notes) listing view is asked numbered = absurd (cc asked)
 own_has_room setting slots before head (stages.Refreshing (fronts.Listing lister) purpose notes) listing view is asked numbered = absurd (cc asked)
 own_has_room setting slots before head (stages.Checking number notes) listing view is asked numbered = absurd (cc asked)

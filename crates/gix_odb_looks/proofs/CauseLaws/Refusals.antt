@@ -1,8 +1,6 @@
 -- An event that the core refuses ends a look-up.
-use Rattle.std.proofs.Common.{◌≡◌, List, [], ◌∷◌, ◌++◌, Option, Some, None, Ok, Err, refl}
+use Rattle.std.proofs.Common.{◌≡◌, List, [], ◌∷◌, ◌++◌, Some, Ok, Err, refl}
 use Rattle.std.proofs.lemmas.Option.{same_Some}
-use Rattle.odb_asks.specs.declared.ask.DiskAsk.{DiskAsk}
-use Rattle.gix_odb_loose.specs.LooseOrder.{disk_ask_of}
 use Rattle.gix_odb_events.specs.declared.event.Event.{Event}
 use Rattle.gix_odb_events.specs.declared.event.Refusal.{Refusal}
 use Rattle.gix_odb_packs.specs.TryOrder as tries
@@ -16,7 +14,7 @@ use Rattle.gix_odb_packs.specs.declared.trier.Stage.{Stage}
 use Rattle.gix_odb_packs.specs.declared.trier.Stage.TheVariants as try_stages
 use Rattle.gix_odb_looks.specs.Exchange.{AreAsked, Exchange, behind}
 use Rattle.gix_odb_refresh.specs.LoadIndex.{of_refusal}
-use Rattle.gix_odb_looks.specs.LookUpOrder.{Setting, ask_at, by_tried, fed, fed_at, load_refused, loose_ask, result_of, seen}
+use Rattle.gix_odb_looks.specs.LookUpOrder.{Setting, ask_at, by_tried, fed, fed_at, load_refused, result_of, seen}
 use Rattle.gix_odb_refresh.specs.declared.refresh.Refresh.TheVariants as fronts
 use Rattle.gix_odb_looks.specs.declared.look_up.LookHead.{LookHead}
 use Rattle.gix_odb_looks.specs.declared.look_up.LookStage.{LookStage}
@@ -29,10 +27,6 @@ module _ (setting : Setting) (event : Event) (refusal : Refusal) where
   abbrev Ends : LookUp → Type 0
   Ends look = result_of look ≡ Ok (load_refused (of_refusal refusal))
 
-  loose_asks_disk : (ask : Option DiskAsk) → ¬ (loose_ask ask ≡ Some (asks.Core event))
-  loose_asks_disk None is = cc is
-  loose_asks_disk (Some ask) is = cc is
-
   trier_ends : (head : LookHead) (part : Part) (goal : Goal) (ahead : Ahead) (stage : Stage) → tries.ask_at stage ≡ asks.Core event
       → Ends (record { head = head; stage = by_tried setting head part (by_answer goal ahead stage (told.Core (Err refusal))) })
   trier_ends head part goal ahead (try_stages.Loading (loaders.Reading place)) asked = absurd (cc asked)
@@ -44,7 +38,7 @@ module _ (setting : Setting) (event : Event) (refusal : Refusal) where
 
   stage_ends : (head : LookHead) (stage : LookStage) → ask_at stage ≡ Some (asks.Core event) → Ends (fed_at setting head stage (told.Core (Err refusal)))
   stage_ends head (stages.Trying trier part) asked = trier_ends head part trier.goal trier.ahead trier.stage (same_Some _ _ asked)
-  stage_ends head (stages.Loose round call) asked = absurd (loose_asks_disk (disk_ask_of call) asked)
+  stage_ends head (stages.Loose round call) asked = absurd (cc asked)
   stage_ends head (stages.Refreshing fronts.Reading purpose notes) asked = refl
   stage_ends head (stages.Refreshing (fronts.Listing lister) purpose notes) asked = absurd (cc asked)
   stage_ends head (stages.Refreshing (fronts.Publishing listing) purpose notes) asked = refl

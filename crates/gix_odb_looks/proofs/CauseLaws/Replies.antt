@@ -1,5 +1,8 @@
 -- What is found for a look-up, and what folders of loose objects say to it, are replies that it has.
-use Rattle.std.specs.Prelude.{true, false, Some, None, Ok, Err}
+use Rattle.std.specs.Prelude.{ℕ, Bool, true, false, List, Option, Some, None, Result, Ok, Err}
+use Rattle.odb_base.specs.Path.{Path}
+use Rattle.odb_asks.specs.declared.ask.DiskAnswer.{DiskAnswer}
+use Rattle.gix_object.specs.declared.kind.Kind.{Kind}
 use Rattle.gix_odb_calls.specs.declared.call.CallError.TheVariants as call_errors
 use Rattle.gix_odb_calls.specs.declared.call.Reply.TheVariants as replies
 use Rattle.gix_odb_calls.specs.declared.find.Error.{Error}
@@ -7,9 +10,9 @@ use Rattle.gix_object.specs.declared.want.Want.{Want}
 use Rattle.gix_object.specs.declared.want.Want.TheVariants.{Object, Header, Presence}
 use Rattle.gix_odb_calls.specs.declared.verdict.Verdict.{Verdict}
 use Rattle.gix_odb_calls.specs.declared.verdict.Verdict.TheVariants as verdicts
-use Rattle.gix_odb_calls.specs.Verdict.{verdict_on}
-use Rattle.gix_odb_loose.specs.declared.call.LooseReply.{LooseReply}
-use Rattle.gix_odb_loose.specs.declared.call.LooseReply.TheVariants as loose_replies
+use Rattle.gix_odb_calls.specs.Verdict.{verdict_by, verdict_on_find, verdict_on_header, verdict_on_test}
+use Rattle.gix_odb_loose.specs.LooseOrder.Answered.{found_by, header_by, tested_by}
+use Rattle.gix_odb_loose.specs.declared.find.Error as loose
 use Rattle.gix_odb_loose.specs.declared.find.Error.TheVariants as loose_errors
 use Rattle.gix_odb_packs.specs.declared.goal.Found.{Found}
 use Rattle.gix_odb_packs.specs.declared.goal.Found.TheVariants as found
@@ -48,23 +51,23 @@ EndsWell want (verdicts.Ends reply) = IsReplyTo want reply
 EndsWell want verdicts.Misses = Unit {0}
 EndsWell want (verdicts.Notes error) = Unit {0}
 
-pub verdict_ends_well : (want : Want) (reply : LooseReply) → EndsWell want (verdict_on want reply)
-verdict_ends_well Object (loose_replies.Found (Ok (Some found))) = tt
-verdict_ends_well Object (loose_replies.Found (Ok None)) = tt
-verdict_ends_well Object (loose_replies.Found (Err error)) = tt
-verdict_ends_well Object (loose_replies.Header answer) = tt
-verdict_ends_well Object (loose_replies.Contains answer) = tt
-verdict_ends_well Object (loose_replies.Wrote answer) = tt
-verdict_ends_well Header (loose_replies.Header (Ok (Some found))) = tt
-verdict_ends_well Header (loose_replies.Header (Ok None)) = tt
-verdict_ends_well Header (loose_replies.Header (Err error)) = tt
-verdict_ends_well Header (loose_replies.Found answer) = tt
-verdict_ends_well Header (loose_replies.Contains answer) = tt
-verdict_ends_well Header (loose_replies.Wrote answer) = tt
-verdict_ends_well Presence (loose_replies.Contains (Ok true)) = tt
-verdict_ends_well Presence (loose_replies.Contains (Ok false)) = tt
-verdict_ends_well Presence (loose_replies.Contains (Err loose_errors.NoMemory)) = tt
-verdict_ends_well Presence (loose_replies.Contains (Err error)) = tt
-verdict_ends_well Presence (loose_replies.Found answer) = tt
-verdict_ends_well Presence (loose_replies.Header answer) = tt
-verdict_ends_well Presence (loose_replies.Wrote answer) = tt
+find_ends_well : (answer : Result (Option (Kind × List ℕ)) loose.Error) → EndsWell Object (verdict_on_find answer)
+find_ends_well (Ok (Some found)) = tt
+find_ends_well (Ok None) = tt
+find_ends_well (Err error) = tt
+
+header_ends_well : (answer : Result (Option (ℕ × Kind)) loose.Error) → EndsWell Header (verdict_on_header answer)
+header_ends_well (Ok (Some found)) = tt
+header_ends_well (Ok None) = tt
+header_ends_well (Err error) = tt
+
+test_ends_well : (answer : Result Bool loose.Error) → EndsWell Presence (verdict_on_test answer)
+test_ends_well (Ok true) = tt
+test_ends_well (Ok false) = tt
+test_ends_well (Err loose_errors.NoMemory) = tt
+test_ends_well (Err error) = tt
+
+pub verdict_ends_well : (want : Want) (path : Path) (limit : Option ℕ) (answer : DiskAnswer) → EndsWell want (verdict_by want path limit answer)
+verdict_ends_well Object path limit answer = find_ends_well (found_by path limit answer)
+verdict_ends_well Header path limit answer = header_ends_well (header_by path answer)
+verdict_ends_well Presence path limit answer = test_ends_well (tested_by path answer)

@@ -4,7 +4,7 @@ use Rattle.std.specs.Prelude.{if◌then◌else◌, unwrap_or, Contains}
 use Rattle.odb_base.specs.Path.{Path}
 use Rattle.odb_asks.specs.declared.ask.DiskAnswer.{DiskAnswer}
 use Rattle.gix_hash.specs.declared.object_id.ObjectId.{ObjectId}
-use Rattle.gix_odb_loose.specs.declared.call.LooseCall.{LooseCall}
+use Rattle.gix_odb_loose.specs.LooseFile.{loose_path}
 use Rattle.gix_odb_events.specs.declared.event.Effect.{Effect}
 use Rattle.gix_odb_events.specs.declared.event.Effect.TheVariants as effects
 use Rattle.gix_odb_events.specs.declared.view.View.{View}
@@ -20,18 +20,19 @@ use Rattle.gix_odb_packs.specs.declared.search.Notes.{Notes}
 use Rattle.gix_odb_packs.specs.declared.trier.Ahead.{Ahead}
 use Rattle.gix_odb_packs.specs.declared.trier.Tried.{Tried}
 use Rattle.gix_odb_packs.specs.declared.trier.Tried.TheVariants as tried
-use Rattle.gix_odb_calls.specs.Verdict.{asking, verdict_on}
+use Rattle.gix_odb_calls.specs.Verdict.{asking, folder_verdict}
 use Rattle.gix_odb_calls.specs.declared.load_index.Error as load
 use Rattle.gix_odb_calls.specs.declared.find.Error.TheVariants as find_errors
 use Rattle.gix_odb_calls.specs.declared.load_index.Error.TheVariants as load_errors
 use Rattle.gix_object.specs.declared.want.Want.{Want}
+use Rattle.gix_odb_calls.specs.declared.verdict.FolderCall.{FolderCall}
 use Rattle.gix_odb_calls.specs.declared.verdict.Verdict.{Verdict}
 use Rattle.gix_odb_calls.specs.declared.verdict.Verdict.TheVariants as verdicts
 use Rattle.gix_odb_refresh.specs.LoadIndex.{of_refusal}
-use Rattle.gix_odb_looks.specs.LookUpOrder.{Setting, after_list, after_loose, at_folder, by_call, by_check}
-use Rattle.gix_odb_looks.specs.LookUpOrder.{by_checked, by_read, by_refresh, by_reply, by_tried}
+use Rattle.gix_odb_looks.specs.LookUpOrder.{Setting, after_list, after_loose, at_folder, by_check}
+use Rattle.gix_odb_looks.specs.LookUpOrder.{by_checked, by_read, by_refresh, by_tried}
 use Rattle.gix_odb_looks.specs.LookUpOrder.{by_verdict, counted, ended, fed, fed_at, find_error, goal_of}
-use Rattle.gix_odb_looks.specs.LookUpOrder.{is_unsettled, listing_from, load_refused, loose_fed, loose_from, not_found}
+use Rattle.gix_odb_looks.specs.LookUpOrder.{is_unsettled, listing_from, load_refused, loose_from, not_found}
 use Rattle.gix_odb_looks.specs.LookUpOrder.{new_head, seen, started, trier_fed, try_view, unsettled, view_shown, with_own, without_absent, without_notes}
 use Rattle.gix_odb_refresh.specs.Shown.{folders_of}
 use Rattle.gix_odb_refresh.specs.RefreshOrder.{by_listed, by_look, by_published, by_view}
@@ -51,7 +52,6 @@ use Rattle.gix_odb_looks.specs.declared.look_up.Part.TheVariants as parts
 use Rattle.gix_odb_looks.specs.declared.look_up.Purpose.{Purpose}
 use Rattle.gix_odb_looks.specs.declared.look_up.Purpose.TheVariants as purposes
 use Rattle.gix_odb_refresh.proofs.ListerLaws.Folders.{GoesToFolder, IsAtFolder, fed-goes, first_folder, later_folder}
-use Rattle.gix_odb_looks.proofs.CauseLaws.Folders.{folder_has_reply}
 use Rattle.gix_odb_looks.proofs.CauseLaws.Replies.{EndsWell, found_replies, not_found_replies, refused_replies, verdict_ends_well}
 use Rattle.gix_odb_looks.specs.Reply.{IsReplyTo}
 use Rattle.gix_odb_packs.proofs.TrierLaws.{Comes, Fits, failed-passes, fed-comes, seek-comes}
@@ -60,7 +60,7 @@ use Rattle.gix_odb_packs.proofs.TrierLaws.{Comes, Fits, failed-passes, fed-comes
 
 module _ (setting : Setting) (want : Want) (id : ObjectId) where
   -- a folder's call has just begun
-  abbrev pub IsOfFolder : LooseCall → Type 0
+  abbrev pub IsOfFolder : FolderCall → Type 0
   IsOfFolder call = (folder : Path) × Contains (folders_of setting) folder × (call ≡ asking setting.limit want id folder)
 
   abbrev pub StandsAt : LookStage → Type 0
@@ -139,16 +139,15 @@ module _ (setting : Setting) (head : LookHead) where
       at_folder-stand (record round { notes = record round.notes { failed = true } }) (slice_get setting.folders round.next) refl
 
   by_asking-stand : (round : LooseRound) (folder : Path) (answer : DiskAnswer)
-      → Stand (by_call setting head round (loose_fed (asking setting.limit head.want head.id folder) answer))
+      → Stand (by_verdict setting head round (folder_verdict (asking setting.limit head.want head.id folder) answer))
   by_asking-stand round folder answer =
-      let has = folder_has_reply setting.limit head.want head.id folder answer in
-      subst (λ reply. Stand (by_reply setting head round (loose_fed (asking setting.limit head.want head.id folder) answer) reply)) (sym has.1)
-      (by_verdict-stand round (verdict_on head.want has.0) (verdict_ends_well head.want has.0))
+      by_verdict-stand round (folder_verdict (asking setting.limit head.want head.id folder) answer)
+      (verdict_ends_well head.want (loose_path folder head.id) setting.limit answer)
 
-  by_call-stand : (round : LooseRound) (call : LooseCall) → IsOfFolder setting head.want head.id call → (answer : DiskAnswer)
-      → Stand (by_call setting head round (loose_fed call answer))
+  by_call-stand : (round : LooseRound) (call : FolderCall) → IsOfFolder setting head.want head.id call → (answer : DiskAnswer)
+      → Stand (by_verdict setting head round (folder_verdict call answer))
   by_call-stand round call (folder, among, is) answer =
-      subst (λ call. Stand (by_call setting head round (loose_fed call answer))) (sym is) (by_asking-stand round folder answer)
+      subst (λ call. Stand (by_verdict setting head round (folder_verdict call answer))) (sym is) (by_asking-stand round folder answer)
 
   -- ---- the core
 

@@ -6,7 +6,6 @@ use Rattle.odb_base.specs.Path.{Path}
 use Rattle.odb_asks.specs.declared.ask.DiskAnswer.{DiskAnswer}
 use Rattle.gix_hash.specs.declared.kind.Kind.{Kind}
 use Rattle.gix_hash.specs.declared.object_id.ObjectId.{ObjectId}
-use Rattle.gix_odb_loose.specs.declared.call.LooseCall.{LooseCall}
 use Rattle.gix_odb_events.specs.Answers as core
 use Rattle.gix_odb_events.specs.View.{last_state}
 use Rattle.gix_odb_events.specs.declared.event.Effect.{Effect}
@@ -39,16 +38,17 @@ use Rattle.gix_odb_packs.specs.declared.trier.Stage.TheVariants as try_stages
 use Rattle.gix_odb_packs.specs.declared.trier.Trier.{Trier}
 use Rattle.gix_odb_packs.specs.declared.trier.Tried.{Tried}
 use Rattle.gix_odb_packs.specs.declared.trier.Tried.TheVariants as tried
-use Rattle.gix_odb_calls.specs.Verdict.{asking, verdict_on}
+use Rattle.gix_odb_calls.specs.Verdict.{asking, folder_ask, folder_verdict}
 use Rattle.gix_odb_calls.specs.declared.load_index.Error.TheVariants as load_errors
+use Rattle.gix_odb_calls.specs.declared.verdict.FolderCall.{FolderCall}
 use Rattle.gix_odb_calls.specs.declared.verdict.Verdict.{Verdict}
 use Rattle.gix_odb_calls.specs.declared.verdict.Verdict.TheVariants as verdicts
 use Rattle.gix_odb_looks.specs.Caused.{IsUnsettled, TellsNumber}
 use Rattle.gix_odb_looks.specs.Exchange.{Exchange, IsLast, WasTold, first_number, is_publish, published_in}
 use Rattle.gix_odb_looks.specs.LookUpOrder.{Setting, after_list, after_loose, ask_at, at_folder, by_check}
-use Rattle.gix_odb_looks.specs.LookUpOrder.{by_checked, by_read, by_refresh, by_reply, by_tried}
-use Rattle.gix_odb_looks.specs.LookUpOrder.{by_verdict, counted, ended, fed_at, goal_of, is_unsettled, listing_from, load_refused, loose_fed, not_found}
-use Rattle.gix_odb_looks.specs.LookUpOrder.{loose_ask, trier_fed, try_view, unsettled, view_of, view_shown, with_own, without_absent}
+use Rattle.gix_odb_looks.specs.LookUpOrder.{by_checked, by_read, by_refresh, by_tried}
+use Rattle.gix_odb_looks.specs.LookUpOrder.{by_verdict, counted, ended, fed_at, goal_of, is_unsettled, listing_from, load_refused, not_found}
+use Rattle.gix_odb_looks.specs.LookUpOrder.{trier_fed, try_view, unsettled, view_of, view_shown, with_own, without_absent}
 use Rattle.gix_odb_refresh.specs.Shown.{folders_of}
 use Rattle.gix_odb_looks.specs.True.{IsTrue}
 use Rattle.gix_odb_refresh.specs.RefreshOrder.{by_listed, by_look, by_published, by_view}
@@ -65,7 +65,6 @@ use Rattle.gix_odb_looks.specs.declared.look_up.Part.TheVariants as parts
 use Rattle.gix_odb_looks.specs.declared.look_up.Purpose.{Purpose}
 use Rattle.gix_odb_looks.specs.declared.look_up.Purpose.TheVariants as purposes
 use Rattle.gix_odb_refresh.proofs.ListerLaws.Folders.{IsAtFolder}
-use Rattle.gix_odb_looks.proofs.CauseLaws.Folders.{folder_has_ask, folder_has_reply}
 use Rattle.gix_odb_refresh.proofs.ListerLaws.Tells.{ListedTells}
 use Rattle.gix_odb_refresh.proofs.ListerLaws.Tells as listers
 use Rattle.gix_odb_refresh.proofs.ListerLaws.Tells.{HasFailed-from_told}
@@ -282,7 +281,7 @@ module _ (Shown : Path → List ℕ → Type 0) (setting : Setting) (hash : Kind
 
     module _ (round : LooseRound) (knows : Noted exchanges round.notes × ShowedPart head round.part) where
       module _ (folder : Path) (among : Contains (folders_of setting) folder) where
-        abbrev call_asked : LooseCall
+        abbrev call_asked : FolderCall
         call_asked = asking setting.limit head.want id folder
 
         abbrev at_call : LookStage
@@ -290,26 +289,20 @@ module _ (Shown : Path → List ℕ → Type 0) (setting : Setting) (hash : Kind
 
         asking-known : (answer : DiskAnswer) → Answered before head at_call (told.Disk answer) → Knowing (fed_at setting head at_call (told.Disk answer))
         asking-known answer t =
-            let asks_so = folder_has_ask setting.limit head.want id folder in
-            let replies_so = folder_has_reply setting.limit head.want id folder answer in
-            let asked : ask_at at_call ≡ Some (asks.Disk asks_so.0) = ap loose_ask asks_so.1 in
-            let was = was_told at_call (told.Disk answer) t (asks.Disk asks_so.0) asked in (
-              quiet at_call (told.Disk answer) t (asks.Disk asks_so.0) asked refl,
-              subst (λ reply. Knows head (by_reply setting head round (loose_fed call_asked answer) reply)) (sym replies_so.1)
-                  (by_verdict-known head round knows.0 knows.1 (verdict_on head.want replies_so.0)
+            let ask = asks.Disk (folder_ask call_asked) in
+            let was = was_told at_call (told.Disk answer) t ask refl in (
+              quiet at_call (told.Disk answer) t ask refl refl,
+              by_verdict-known head round knows.0 knows.1 (folder_verdict call_asked answer)
                   (folder_tells Shown setting hash id exchanges head.want folder among answer
-                  (λ is. HasFailed-from_told exchanges (asks.Disk asks_so.0) (told.Disk answer) was (ap (λ (a : DiskAnswer). told.Disk a) is))
-                  replies_so.0 replies_so.1
-                  (record { ask = asks_so.0; asked = asks_so.1; answer = answer; told = was; reply = replies_so.0; replied = replies_so.1; is = refl }))),
+                  (λ is. HasFailed-from_told exchanges ask (told.Disk answer) was (ap (λ (a : DiskAnswer). told.Disk a) is))
+                  (record { answer = answer; told = was; is = refl })),
             )
 
         -- the disk answers
         never_core : (answer : core.Answer) → Answered before head at_call (told.Core answer) → ⊥
-        never_core answer t =
-            let asks_so = folder_has_ask setting.limit head.want id folder in
-            is_true at_call (told.Core answer) t (asks.Disk asks_so.0) (ap loose_ask asks_so.1)
+        never_core answer t = is_true at_call (told.Core answer) t (asks.Disk (folder_ask call_asked)) refl
 
-      loose-known : (call : LooseCall) → IsOfFolder setting head.want id call → (answer : Answer) → Answered before head (stages.Loose round call) answer
+      loose-known : (call : FolderCall) → IsOfFolder setting head.want id call → (answer : Answer) → Answered before head (stages.Loose round call) answer
           → Knowing (fed_at setting head (stages.Loose round call) answer)
       loose-known call (folder, among, is) (told.Disk answer) t =
           subst (λ c. Answered before head (stages.Loose round c) (told.Disk answer) → Knowing (fed_at setting head (stages.Loose round c) (told.Disk answer)))

@@ -1,11 +1,10 @@
 -- What is known of a look-up behind exchanges: what it hands to the core, what it found, and why packs refuse it.
-use Rattle.std.proofs.Common.{◌≡◌, ℕ, List, [], ◌∷◌, Contains, Option, Some, None, Ok, refl, subst}
+use Rattle.std.proofs.Common.{◌≡◌, ℕ, List, [], ◌∷◌, Contains, Some, Ok, refl, subst}
 use Rattle.odb_base.specs.Path.{Path}
-use Rattle.odb_asks.specs.declared.ask.DiskAsk.{DiskAsk}
 use Rattle.gix_hash.specs.ObjectId.{kind_of}
 use Rattle.gix_hash.specs.declared.kind.Kind.{Kind}
 use Rattle.gix_hash.specs.declared.object_id.ObjectId.{ObjectId}
-use Rattle.gix_odb_loose.specs.LooseOrder.{disk_ask_of}
+use Rattle.gix_odb_calls.specs.Verdict.{folder_ask}
 use Rattle.gix_odb_events.specs.declared.event.Event.TheVariants as events
 use Rattle.gix_odb_events.specs.declared.view.View.{View}
 use Rattle.gix_odb_packs.specs.TryOrder as tries
@@ -21,7 +20,7 @@ use Rattle.gix_odb_calls.specs.declared.find.Error.{Error}
 use Rattle.gix_object.specs.declared.want.Want.{Want}
 use Rattle.gix_odb_looks.specs.Caused.{IsCaused}
 use Rattle.gix_odb_looks.specs.Exchange.{AreAsked, Exchange, behind}
-use Rattle.gix_odb_looks.specs.LookUpOrder.{Setting, ask_at, fed, loose_ask, result_at, result_of, seen, started}
+use Rattle.gix_odb_looks.specs.LookUpOrder.{Setting, ask_at, fed, result_at, result_of, seen, started}
 use Rattle.gix_odb_refresh.specs.Shown.{IsHandedBy, IsShownView}
 use Rattle.gix_odb_looks.specs.True.{AreTrue}
 use Rattle.gix_odb_refresh.specs.RefreshOrder as refreshes
@@ -35,12 +34,6 @@ use Rattle.gix_odb_looks.proofs.FoundLaws.Known.{KnowsLook, KnowsLookStage, Know
 use Rattle.gix_odb_refresh.proofs.ListerLaws.Lists.{has_first, has_later}
 use Rattle.gix_odb_looks.proofs.FoundLaws.Looking.{begun_known, stage_known}
 pub use Rattle.gix_odb_looks.proofs.FoundLaws.Known.{IsOfPack}
-
--- a call of the disk hands nothing to the core
-disk_hands : (Shown : Path → List ℕ → Type 0) (setting : Setting) (hash : Kind) (call : Option DiskAsk) (ask : Ask) → loose_ask call ≡ Some ask
-    → IsHandedBy Shown setting hash ask
-disk_hands Shown setting hash None ask is = absurd (cc is)
-disk_hands Shown setting hash (Some own) ask is = let same : asks.Disk own ≡ ask = cc is in subst (IsHandedBy Shown setting hash) same tt
 
 module _ (Shown : Path → List ℕ → Type 0) (setting : Setting) (hash : Kind) (want : Want) (id : ObjectId) where
   trier_hands : (stage : Stage) → KnowsStage Shown setting hash id stage → IsHandedBy Shown setting hash (tries.ask_at stage)
@@ -79,7 +72,9 @@ module _ (Shown : Path → List ℕ → Type 0) (setting : Setting) (hash : Kind
     stage_hands (stages.Trying trier part) ask here is =
         let same : tries.ask_of trier ≡ ask = cc is in
         subst (IsHandedBy Shown setting hash) same (trier_hands trier.stage here.stage)
-    stage_hands (stages.Loose round call) ask here is = disk_hands Shown setting hash (disk_ask_of call) ask is
+    stage_hands (stages.Loose round call) ask here is =
+        let same : asks.Disk (folder_ask call) ≡ ask = cc is in
+        subst (IsHandedBy Shown setting hash) same tt
     stage_hands (stages.Refreshing refresh purpose notes) ask here is =
         let same : refreshes.ask_of refresh ≡ ask = cc is in
         subst (IsHandedBy Shown setting hash) same (refresh_hands refresh here)

@@ -1,16 +1,14 @@
 -- What is known of a look-up is kept by each exchange.
 use Rattle.std.proofs.Common.{◌≡◌, ◌==◌, ℕ, Bool, true, false, cond, List, [], All, Contains, slice_get, Option, Some, None, Ok, Err}
-use Rattle.std.proofs.Common.{refl, sym, subst, ap}
+use Rattle.std.proofs.Common.{refl, sym, subst}
 use Rattle.std.proofs.lemmas.List.Elements.{All-nil}
+use Rattle.std.proofs.lemmas.Option.{same_Some}
 use Rattle.odb_base.specs.Path.{Path}
 use Rattle.odb_asks.specs.declared.ask.DiskAnswer.{DiskAnswer}
-use Rattle.odb_asks.specs.declared.ask.DiskAsk.{DiskAsk}
 use Rattle.gix_hash.specs.ObjectId.{kind_of}
 use Rattle.gix_hash.specs.declared.kind.Kind.{Kind}
 use Rattle.gix_hash.specs.declared.object_id.ObjectId.{ObjectId}
-use Rattle.gix_odb_loose.specs.LooseOrder.{disk_ask_of, reply_of}
-use Rattle.gix_odb_loose.specs.declared.call.LooseCall.{LooseCall}
-use Rattle.gix_odb_loose.specs.declared.call.LooseReply.{LooseReply}
+use Rattle.gix_odb_loose.specs.LooseFile.{loose_path}
 use Rattle.gix_odb_events.specs.declared.listing.Listing.{Listing}
 use Rattle.gix_odb_events.specs.declared.loaded.Todo.{Todo}
 use Rattle.gix_odb_events.specs.Answers.{view_in}
@@ -32,16 +30,17 @@ use Rattle.gix_odb_packs.specs.declared.trier.Ahead.{Ahead}
 use Rattle.gix_odb_packs.specs.declared.trier.Tried.{Tried}
 use Rattle.gix_odb_packs.specs.declared.trier.Tried.TheVariants as tried
 use Rattle.gix_odb_packs.specs.declared.trier.Trier.{Trier}
-use Rattle.gix_odb_calls.specs.Verdict.{asking, verdict_on}
+use Rattle.gix_odb_calls.specs.Verdict.{asking, folder_ask, folder_verdict}
 use Rattle.gix_odb_calls.specs.declared.load_index.Error.TheVariants as load_errors
 use Rattle.gix_object.specs.declared.want.Want.{Want}
+use Rattle.gix_odb_calls.specs.declared.verdict.FolderCall.{FolderCall}
 use Rattle.gix_odb_calls.specs.declared.verdict.Verdict.{Verdict}
 use Rattle.gix_odb_calls.specs.declared.verdict.Verdict.TheVariants as verdicts
 use Rattle.gix_odb_looks.specs.Exchange.{Exchange, HasVerdict, WasTold}
 use Rattle.gix_odb_refresh.specs.LoadIndex.{of_refusal}
-use Rattle.gix_odb_looks.specs.LookUpOrder.{Setting, after_list, after_loose, ask_at, at_folder, by_call, by_check, by_checked, by_read, by_refresh}
-use Rattle.gix_odb_looks.specs.LookUpOrder.{by_reply, by_tried, by_verdict, counted, ended, fed_at, goal_of, is_unsettled, listing_from}
-use Rattle.gix_odb_looks.specs.LookUpOrder.{load_refused, loose_ask, loose_fed, loose_from, new_head, not_found, started, trier_fed, try_view, unsettled}
+use Rattle.gix_odb_looks.specs.LookUpOrder.{Setting, after_list, after_loose, ask_at, at_folder, by_check, by_checked, by_read, by_refresh}
+use Rattle.gix_odb_looks.specs.LookUpOrder.{by_tried, by_verdict, counted, ended, fed_at, goal_of, is_unsettled, listing_from}
+use Rattle.gix_odb_looks.specs.LookUpOrder.{load_refused, loose_from, new_head, not_found, started, trier_fed, try_view, unsettled}
 use Rattle.gix_odb_looks.specs.LookUpOrder.{own_by, view_shown, without_absent, without_notes}
 use Rattle.gix_odb_refresh.specs.Shown.{IsIndexRow, IsShownView, folders_of}
 use Rattle.gix_odb_looks.specs.True.{IsTrue}
@@ -67,20 +66,6 @@ use Rattle.gix_odb_refresh.proofs.ListerLaws.Lists.{at_place, has_first, has_lat
 use Rattle.gix_odb_looks.proofs.FoundLaws.Replies.{EndsOther, found_reply, load_reply, loose_ends_other, loose_reply, missed_reply, pack_reply}
 use Rattle.gix_odb_looks.proofs.FoundLaws.Trying.{answer_known, seek_known}
 use Rattle.gix_odb_looks.proofs.FoundLaws.Views.{views_shown}
-
--- ---- the loose objects of a folder
-
--- a folder that is asked for an object asks the disk once, and replies to its answer
-asks_once : (limit : Option ℕ) (want : Want) (id : ObjectId) (folder : Path) → (ask : DiskAsk) × (disk_ask_of (asking limit want id folder) ≡ Some ask)
-asks_once limit want id folder = (_, refl)
-
-replies_once : (limit : Option ℕ) (want : Want) (id : ObjectId) (folder : Path) (answer : DiskAnswer)
-    → (reply : LooseReply) × (reply_of (loose_fed (asking limit want id folder) answer) ≡ Some reply)
-replies_once limit want id folder answer = (_, refl)
-
-same_ask : (call : Option DiskAsk) (ask : Ask) (own : DiskAsk) → call ≡ Some own → loose_ask call ≡ Some ask → ask ≡ asks.Disk own
-same_ask None ask own is asked = absurd (cc is)
-same_ask (Some other) ask own is asked = let one : other ≡ own = cc is in let two : asks.Disk other ≡ ask = cc asked in cc (one, two)
 
 module _ (Shown : Path → List ℕ → Type 0) (setting : Setting) (hash : Kind) (id : ObjectId) (exchanges : List Exchange)
     (want : Want) where
@@ -172,37 +157,23 @@ module _ (Shown : Path → List ℕ → Type 0) (setting : Setting) (hash : Kind
       next_known head (record round { notes = record round.notes { failed = true } }) (slice_get setting.folders round.next) refl known
 
   asked_known : (head : LookHead) (round : LooseRound) (folder : Path) (ask : Ask) (answer : DiskAnswer) → Heads head → Contains (folders_of setting) folder
-      → loose_ask (disk_ask_of (asking setting.limit want id folder)) ≡ Some ask
+      → asks.Disk (folder_ask (asking setting.limit want id folder)) ≡ ask
       → WasTold exchanges ask (told.Disk answer)
-      → Stands (by_call setting head round (loose_fed (asking setting.limit want id folder) answer))
-  asked_known head round folder ask answer known among asked was =
-      let own = asks_once setting.limit want id folder in
-      let call : LooseCall = loose_fed (asking setting.limit want id folder) answer in
-      let replied = replies_once setting.limit want id folder answer in
-      let is : ask ≡ asks.Disk own.0 = same_ask (disk_ask_of (asking setting.limit want id folder)) ask own.0 own.1 asked in
-      let says : HasVerdict setting want id exchanges folder (verdict_on want replied.0) =
-      record {
-        ask = own.0;
-        asked = own.1;
-        answer = answer;
-        told = subst (λ (other : Ask). WasTold exchanges other (told.Disk answer)) is was;
-        reply = replied.0;
-        replied = replied.1;
-        is = refl;
-      } in
-      let same : verdict_on want replied.0 ≡ verdict_on head.want replied.0 = ap (λ (asks : Want). verdict_on asks replied.0) (sym known.want_is) in
-      subst (λ (reply : Option LooseReply). Stands (by_reply setting head round call reply)) (sym replied.1)
-      (verdict_known head round (verdict_on head.want replied.0) folder known among
-      (subst (HasVerdict setting want id exchanges folder) same says) (loose_ends_other head.want replied.0))
+      → Stands (by_verdict setting head round (folder_verdict (asking setting.limit want id folder) answer))
+  asked_known head round folder ask answer known among is was =
+      verdict_known head round (folder_verdict (asking setting.limit want id folder) answer) folder known among
+      (record { answer = answer; told = subst (λ (other : Ask). WasTold exchanges other (told.Disk answer)) (sym is) was; is = refl })
+      (loose_ends_other want (loose_path folder id) setting.limit answer)
 
-  call_known : (head : LookHead) (round : LooseRound) (call : LooseCall) (ask : Ask) (answer : DiskAnswer) → Heads head
+  call_known : (head : LookHead) (round : LooseRound) (call : FolderCall) (ask : Ask) (answer : DiskAnswer) → Heads head
       → KnowsLoose Shown setting hash id exchanges want call
-      → loose_ask (disk_ask_of call) ≡ Some ask
+      → Some (asks.Disk (folder_ask call)) ≡ Some ask
       → WasTold exchanges ask (told.Disk answer)
-      → Stands (by_call setting head round (loose_fed call answer))
+      → Stands (by_verdict setting head round (folder_verdict call answer))
   call_known head round call ask answer known here asked was =
-      subst (λ (own : LooseCall). Stands (by_call setting head round (loose_fed own answer))) (sym here.is)
-      (asked_known head round here.folder ask answer known here.among (subst (λ (own : LooseCall). loose_ask (disk_ask_of own) ≡ Some ask) here.is asked) was)
+      subst (λ (own : FolderCall). Stands (by_verdict setting head round (folder_verdict own answer))) (sym here.is)
+      (asked_known head round here.folder ask answer known here.among
+      (subst (λ (own : FolderCall). asks.Disk (folder_ask own) ≡ ask) here.is (same_Some (asks.Disk (folder_ask call)) ask asked)) was)
 
   -- ---- the core has answered
 

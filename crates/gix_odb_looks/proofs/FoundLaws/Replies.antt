@@ -1,21 +1,22 @@
 -- What is known of a look-up's reply: where an answer was found, and why a pack refused the object.
-use Rattle.std.proofs.Common.{◌≡◌, ℕ, true, false, Bool, List, Contains, Some, Ok, Err, Result, subst, inl, inr}
+use Rattle.std.proofs.Common.{◌≡◌, ℕ, true, false, Bool, List, Contains, Option, Some, None, Ok, Err, Result, subst, inl, inr}
 use Rattle.odb_base.specs.Path.{Path}
+use Rattle.odb_asks.specs.declared.ask.DiskAnswer.{DiskAnswer}
 use Rattle.gix_hash.specs.declared.kind.Kind.{Kind}
 use Rattle.gix_hash.specs.declared.object_id.ObjectId.{ObjectId}
-use Rattle.gix_odb_loose.specs.declared.call.LooseReply.{LooseReply}
-use Rattle.gix_odb_loose.specs.declared.call.LooseReply.TheVariants as loose_replies
+use Rattle.gix_odb_loose.specs.LooseOrder.Answered.{found_by, header_by, tested_by}
 use Rattle.gix_odb_loose.specs.declared.find.Error as loose
 use Rattle.gix_odb_loose.specs.declared.find.Error.TheVariants as loose_errors
 use Rattle.gix_odb_packs.specs.declared.goal.Error as goals
 use Rattle.gix_odb_packs.specs.declared.goal.Found.{Found}
 use Rattle.gix_odb_packs.specs.declared.goal.Found.TheVariants as founds
-use Rattle.gix_odb_calls.specs.Verdict.{verdict_on, verdict_on_test}
+use Rattle.gix_odb_calls.specs.Verdict.{verdict_by, verdict_on_find, verdict_on_header, verdict_on_test}
 use Rattle.gix_odb_calls.specs.declared.call.CallError.TheVariants as call_errors
 use Rattle.gix_odb_calls.specs.declared.call.Reply.{Reply}
 use Rattle.gix_odb_calls.specs.declared.call.Reply.TheVariants as replies
 use Rattle.gix_odb_calls.specs.declared.find.Error.{Error}
 use Rattle.gix_odb_calls.specs.declared.load_index.Error as load
+use Rattle.gix_object.specs.declared.kind.Kind as object
 use Rattle.gix_object.specs.declared.want.Want.{Want}
 use Rattle.gix_object.specs.declared.want.Want.TheVariants.{Object, Header, Presence}
 use Rattle.gix_odb_calls.specs.declared.verdict.Verdict.{Verdict}
@@ -41,14 +42,21 @@ test_ends_other (Ok false) = tt
 test_ends_other (Err loose_errors.NoMemory) = λ no. no
 test_ends_other (Err error) = tt
 
+find_ends_other : (told : Result (Option (object.Kind × List ℕ)) loose.Error) → EndsOther (verdict_on_find told)
+find_ends_other (Ok (Some found)) = tt
+find_ends_other (Ok None) = tt
+find_ends_other (Err error) = λ no. no
+
+header_ends_other : (told : Result (Option (ℕ × object.Kind)) loose.Error) → EndsOther (verdict_on_header told)
+header_ends_other (Ok (Some found)) = tt
+header_ends_other (Ok None) = tt
+header_ends_other (Err error) = λ no. no
+
 -- no loose object is refused by a pack
-pub loose_ends_other : (want : Want) (reply : LooseReply) → EndsOther (verdict_on want reply)
-loose_ends_other Object (loose_replies.Found (Ok (Some object))) = tt
-loose_ends_other Object (loose_replies.Found (Err error)) = λ no. no
-loose_ends_other Header (loose_replies.Header (Ok (Some object))) = tt
-loose_ends_other Header (loose_replies.Header (Err error)) = λ no. no
-loose_ends_other Presence (loose_replies.Contains answer) = test_ends_other answer
-loose_ends_other want reply = tt
+pub loose_ends_other : (want : Want) (path : Path) (limit : Option ℕ) (answer : DiskAnswer) → EndsOther (verdict_by want path limit answer)
+loose_ends_other Object path limit answer = find_ends_other (found_by path limit answer)
+loose_ends_other Header path limit answer = header_ends_other (header_by path answer)
+loose_ends_other Presence path limit answer = test_ends_other (tested_by path answer)
 
 module _ (Shown : Path → List ℕ → Type 0) (setting : Setting) (hash : Kind) (id : ObjectId) (exchanges : List Exchange)
     (want : Want) where

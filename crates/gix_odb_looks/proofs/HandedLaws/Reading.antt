@@ -1,16 +1,11 @@
 -- A look-up only reads: its calls on loose objects do, and so do those of the trier and the lister. What it is told of streams is of its own.
-use Rattle.std.proofs.Common.{◌≡◌, ℕ, Bool, true, List, [], ◌∷◌, Option, Some, Ok, refl, subst}
+use Rattle.std.proofs.Common.{◌≡◌, Bool, true, List, [], ◌∷◌, Some, Ok, refl, subst}
 use Rattle.std.proofs.lemmas.Option.{same_Some}
 use Rattle.odb_base.specs.Path.{Path}
 use Rattle.odb_asks.specs.Ask.{change_of_ask}
-use Rattle.odb_asks.specs.declared.ask.DiskAnswer.{DiskAnswer}
-use Rattle.odb_asks.specs.declared.ask.DiskAsk.{DiskAsk}
 use Rattle.odb_asks.specs.declared.ask.DiskAsk.TheVariants as disk_asks
 use Rattle.gix_hash.specs.declared.object_id.ObjectId.{ObjectId}
-use Rattle.gix_odb_loose.specs.LooseOrder.{disk_ask_of, next_stage, stage_ask, want_ask}
-use Rattle.gix_odb_loose.specs.declared.call.LooseCall.{LooseCall}
-use Rattle.gix_odb_loose.specs.declared.call.Stage as loose
-use Rattle.gix_odb_loose.specs.declared.call.Stage.TheVariants as loose_stages
+use Rattle.gix_odb_loose.specs.LooseOrder.{want_ask}
 use Rattle.gix_odb_events.specs.declared.listing.ListingRow.{ListingRow}
 use Rattle.gix_odb_events.specs.declared.event.Event.TheVariants as events
 use Rattle.gix_odb_events.specs.declared.view.View.{View}
@@ -25,19 +20,20 @@ use Rattle.gix_odb_packs.specs.declared.lister.ListStep.{ListStep}
 use Rattle.gix_odb_packs.specs.declared.lister.ListStep.TheVariants as listed
 use Rattle.gix_odb_packs.specs.declared.trier.Stage.{Stage}
 use Rattle.gix_odb_packs.specs.declared.trier.Stage.TheVariants as tries_stages
-use Rattle.gix_odb_calls.specs.Verdict.{asking}
+use Rattle.gix_odb_calls.specs.Verdict.{folder_ask}
+use Rattle.gix_odb_calls.specs.declared.verdict.FolderCall.{FolderCall}
 use Rattle.gix_odb_calls.specs.declared.call.Reply.{Reply}
 use Rattle.gix_object.specs.declared.want.Want.{Want}
 use Rattle.gix_object.specs.declared.want.Want.TheVariants.{Object, Header, Presence}
 use Rattle.gix_odb_looks.specs.Exchange.{AreAsked, Exchange, behind}
-use Rattle.gix_odb_looks.specs.LookUpOrder.{Setting, ask_at, fed, loose_ask, result_at, seen, started}
+use Rattle.gix_odb_looks.specs.LookUpOrder.{Setting, ask_at, fed, result_at, seen, started}
 use Rattle.gix_odb_refresh.specs.declared.refresh.Refresh.TheVariants as fronts
 use Rattle.gix_odb_refresh.proofs.ListerLaws.Reads.{AsksOwn, ChangesNothing, lister_own, lister_reads, none_told, told_from}
 use Rattle.gix_odb_looks.specs.declared.look_up.LookHead.{LookHead}
 use Rattle.gix_odb_looks.specs.declared.look_up.LookStage.{LookStage}
 use Rattle.gix_odb_looks.specs.declared.look_up.LookStage.TheVariants as stages
 use Rattle.gix_odb_looks.specs.declared.look_up.LookUp.{LookUp}
-use Rattle.gix_odb_looks.proofs.HandedLaws.Stages.{Goes, Stands, Steps, loose_ask_is, same_ask, stage_stands, start_stands}
+use Rattle.gix_odb_looks.proofs.HandedLaws.Stages.{Goes, Stands, Steps, same_ask, stage_stands, start_stands}
 use Rattle.gix_odb_refresh.proofs.ListerLaws.Streams.{HasNone, OpensNone, StreamBehind, StreamOf, Told, core_leaves_streams, listing_streams}
 use Rattle.gix_odb_refresh.proofs.ListerLaws.Streams.{none_stays_open, told_by}
 
@@ -64,48 +60,30 @@ trier_plain (tries_stages.ReadingPack pack) = record { changes = path_is_read pa
 trier_plain (tries_stages.StoringPack pack file) = record { changes = tt; opens = tt }
 trier_plain (tries_stages.PassingPack pack) = record { changes = tt; opens = tt }
 
--- ---- a call on loose objects that only reads
-
-abbrev ReadsAt : loose.Stage → Type 0
-ReadsAt (loose_stages.Writing job) = ⊥
-ReadsAt stage = Unit {0}
-
-abbrev OnlyReads : LooseCall → Type 0
-OnlyReads call = ReadsAt call.stage
-
-reads_on : (stage : loose.Stage) (answer : DiskAnswer) → ReadsAt stage → ReadsAt (next_stage stage answer)
-reads_on (loose_stages.Asking want path limit) answer here = tt
-reads_on (loose_stages.Writing job) answer here = absurd here
-reads_on (loose_stages.Done reply) answer here = tt
-
-asking_reads : (limit : Option ℕ) (want : Want) (id : ObjectId) (folder : Path) → OnlyReads (asking limit want id folder)
-asking_reads limit want id folder = tt
+-- ---- a call on loose objects
 
 want_plain : (want : Want) (path : Path) → IsPlain (asks.Disk (want_ask want path))
 want_plain Object path = record { changes = path_is_read path; opens = tt }
 want_plain Header path = record { changes = path_is_read path; opens = tt }
 want_plain Presence path = record { changes = path_is_looked_at path true; opens = tt }
 
-loose_plain : (stage : loose.Stage) → ReadsAt stage → (own : DiskAsk) → stage_ask stage ≡ Some own → IsPlain (asks.Disk own)
-loose_plain (loose_stages.Asking want path limit) here own is =
-    subst (λ (ask : DiskAsk). IsPlain (asks.Disk ask)) (same_Some (want_ask want path) own is) (want_plain want path)
-loose_plain (loose_stages.Writing job) here own is = absurd here
-loose_plain (loose_stages.Done reply) here own is = absurd (cc is)
-
 -- ---- a stage
 
 module _ (setting : Setting) where
+  abbrev AnyCall : FolderCall → Type 0
+  AnyCall call = Unit {0}
+
   abbrev AnyRows : List ListingRow → Type 0
   AnyRows rows = Unit {0}
 
   -- what is told of streams is of the listing at hand, and none is open elsewhere
   abbrev pub IsOwn : Told → LookStage → Type 0
-  IsOwn now stage = Stands setting OnlyReads (StreamOf now) AnyRows (HasNone now) stage
+  IsOwn now stage = Stands setting AnyCall (StreamOf now) AnyRows (HasNone now) stage
 
   pub stage_changes_nothing : (now : Told) (stage : LookStage) → IsOwn now stage → (ask : Ask) → ask_at stage ≡ Some ask → ChangesNothing ask
   stage_changes_nothing now (stages.Trying trier part) own ask is = same_ask ChangesNothing ask (tries.ask_of trier) (trier_plain trier.stage).changes is
   stage_changes_nothing now (stages.Loose round call) own ask is =
-      loose_ask_is ChangesNothing ask (disk_ask_of call) (λ asked same. (loose_plain call.stage own.1 asked same).changes) is
+      same_ask ChangesNothing ask (asks.Disk (folder_ask call)) (want_plain call.want call.path).changes is
   stage_changes_nothing now (stages.Refreshing fronts.Reading purpose notes) own ask is = same_ask ChangesNothing ask (asks.Core events.Look) tt is
   stage_changes_nothing now (stages.Checking list_no notes) own ask is = same_ask ChangesNothing ask (asks.Core events.Look) tt is
   stage_changes_nothing now (stages.Refreshing (fronts.Listing lister) purpose notes) own ask is =
@@ -120,16 +98,12 @@ module _ (setting : Setting) where
     next = told_by now ask answer
 
     abbrev GoesOn : LookStage → Type 0
-    GoesOn stage = Goes setting OnlyReads (StreamOf next) AnyRows (HasNone next) stage answer
+    GoesOn stage = Goes setting AnyCall (StreamOf next) AnyRows (HasNone next) stage answer
 
     none_by : (own : Ask) → IsPlain own → HasNone now → Some own ≡ Some ask → HasNone next
     none_by own plain none is = none_stays_open now ask answer (same_ask OpensNone ask own plain.opens is) none
 
-    none_by_loose : (call : LooseCall) → OnlyReads call → HasNone now → loose_ask (disk_ask_of call) ≡ Some ask → HasNone next
-    none_by_loose call reads none is =
-        none_stays_open now ask answer (loose_ask_is OpensNone ask (disk_ask_of call) (λ own same. (loose_plain call.stage reads own same).opens) is) none
-
-  step_on : (now : Told) (step : ListStep) → StreamBehind now step → Steps setting OnlyReads (StreamOf now) AnyRows (HasNone now) step
+  step_on : (now : Told) (step : ListStep) → StreamBehind now step → Steps setting AnyCall (StreamOf now) AnyRows (HasNone now) step
   step_on now (listed.More lister) here = here
   step_on now (listed.Listed listing) here = (here, tt)
   step_on now listed.Broken here = here
@@ -140,8 +114,9 @@ module _ (setting : Setting) where
   goes_on : (now : Told) (stage : LookStage) → IsOwn now stage → (ask : Ask) (answer : Answer) → ask_at stage ≡ Some ask → GoesOn now ask answer stage
   goes_on now (stages.Trying trier part) own ask answer is = none_by now ask answer (tries.ask_of trier) (trier_plain trier.stage) own is
   goes_on now (stages.Loose round call) own ask (told.Disk answer) is =
-      (none_by_loose now ask (told.Disk answer) call own.1 own.0 is, reads_on call.stage answer own.1)
-  goes_on now (stages.Loose round call) own ask (told.Core answer) is = (none_by_loose now ask (told.Core answer) call own.1 own.0 is, own.1)
+      none_by now ask (told.Disk answer) (asks.Disk (folder_ask call)) (want_plain call.want call.path) own.0 is
+  goes_on now (stages.Loose round call) own ask (told.Core answer) is =
+      (none_by now ask (told.Core answer) (asks.Disk (folder_ask call)) (want_plain call.want call.path) own.0 is, own.1)
   goes_on now (stages.Refreshing fronts.Reading purpose notes) own ask answer is = none_by now ask answer (asks.Core events.Look) looking own is
   goes_on now (stages.Checking list_no notes) own ask answer is = none_by now ask answer (asks.Core events.Look) looking own is
   goes_on now (stages.Refreshing (fronts.Listing lister) purpose notes) own ask (told.Disk answer) is =
@@ -163,7 +138,7 @@ module _ (setting : Setting) where
   own_behind now look own (exchange ∷ exchanges) asked =
       let then : Told = told_by now exchange.ask exchange.answer in
       own_behind then (fed setting look exchange.answer)
-      (stage_stands setting OnlyReads (StreamOf then) AnyRows (HasNone then) (asking_reads setting.limit) (λ base none. none)
+      (stage_stands setting AnyCall (StreamOf then) AnyRows (HasNone then) (λ want id folder. tt) (λ base none. none)
       (seen look.head exchange.answer) look.stage exchange.answer (goes_on now look.stage own exchange.ask exchange.answer asked.0))
       exchanges asked.1
 
@@ -171,7 +146,7 @@ module _ (setting : Setting) where
       → IsOwn (told_from none_told exchanges) (behind setting (started setting view want id) exchanges).stage
   streams_are_own view want id exchanges asked =
       own_behind none_told (started setting view want id)
-      (start_stands setting OnlyReads (StreamOf none_told) AnyRows (HasNone none_told) (asking_reads setting.limit) (λ base none. none) view want id refl)
+      (start_stands setting AnyCall (StreamOf none_told) AnyRows (HasNone none_told) (λ want id folder. tt) (λ base none. none) view want id refl)
       exchanges asked
 
   -- ---- which stream is asked
@@ -189,16 +164,10 @@ module _ (setting : Setting) where
   want_own now Header path = tt
   want_own now Presence path = tt
 
-  loose_own : (now : Told) (stage : loose.Stage) → ReadsAt stage → (own : DiskAsk) → stage_ask stage ≡ Some own → AsksOwn now (asks.Disk own)
-  loose_own now (loose_stages.Asking want path limit) here own is =
-      subst (λ (ask : DiskAsk). AsksOwn now (asks.Disk ask)) (same_Some (want_ask want path) own is) (want_own now want path)
-  loose_own now (loose_stages.Writing job) here own is = absurd here
-  loose_own now (loose_stages.Done reply) here own is = absurd (cc is)
-
   pub stage_asks_own : (now : Told) (stage : LookStage) → IsOwn now stage → (ask : Ask) → ask_at stage ≡ Some ask → AsksOwn now ask
   stage_asks_own now (stages.Trying trier part) own ask is = same_ask (AsksOwn now) ask (tries.ask_of trier) (trier_own now trier.stage) is
   stage_asks_own now (stages.Loose round call) own ask is =
-      loose_ask_is (AsksOwn now) ask (disk_ask_of call) (λ asked same. loose_own now call.stage own.1 asked same) is
+      same_ask (AsksOwn now) ask (asks.Disk (folder_ask call)) (want_own now call.want call.path) is
   stage_asks_own now (stages.Refreshing fronts.Reading purpose notes) own ask is = same_ask (AsksOwn now) ask (asks.Core events.Look) tt is
   stage_asks_own now (stages.Checking list_no notes) own ask is = same_ask (AsksOwn now) ask (asks.Core events.Look) tt is
   stage_asks_own now (stages.Refreshing (fronts.Listing lister) purpose notes) own ask is =

@@ -1,12 +1,8 @@
 -- What is kept from stage to stage of a look-up: of the loose objects that it asks, of its listing, and of the rows that it publishes.
-use Rattle.std.proofs.Common.{◌≡◌, ℕ, ◌==◌, Bool, true, false, cond, List, [], slice_get, Option, Some, None, Ok, Err, refl, subst}
+use Rattle.std.proofs.Common.{◌≡◌, ℕ, ◌==◌, Bool, true, false, cond, List, [], slice_get, Option, Some, None, Ok, Err, subst}
 use Rattle.std.proofs.lemmas.Option.{same_Some}
 use Rattle.odb_base.specs.Path.{Path}
-use Rattle.odb_asks.specs.declared.ask.DiskAsk.{DiskAsk}
 use Rattle.gix_hash.specs.declared.object_id.ObjectId.{ObjectId}
-use Rattle.gix_odb_loose.specs.LooseOrder.{disk_ask_of, reply_of}
-use Rattle.gix_odb_loose.specs.declared.call.LooseCall.{LooseCall}
-use Rattle.gix_odb_loose.specs.declared.call.LooseReply.{LooseReply}
 use Rattle.gix_odb_events.specs.declared.event.Effect.{Effect}
 use Rattle.gix_odb_events.specs.declared.event.Effect.TheVariants as effects
 use Rattle.gix_odb_events.specs.declared.event.Event.TheVariants as events
@@ -30,9 +26,10 @@ use Rattle.gix_odb_packs.specs.declared.trier.Stage.{Stage}
 use Rattle.gix_odb_packs.specs.declared.trier.Stage.TheVariants as tries_stages
 use Rattle.gix_odb_packs.specs.declared.trier.Tried.{Tried}
 use Rattle.gix_odb_packs.specs.declared.trier.Tried.TheVariants as tried
-use Rattle.gix_odb_calls.specs.Verdict.{asking, verdict_on}
+use Rattle.gix_odb_calls.specs.Verdict.{asking, folder_ask, folder_verdict}
 use Rattle.gix_odb_calls.specs.declared.load_index.Error.TheVariants as load_errors
 use Rattle.gix_object.specs.declared.want.Want.{Want}
+use Rattle.gix_odb_calls.specs.declared.verdict.FolderCall.{FolderCall}
 use Rattle.gix_odb_calls.specs.declared.verdict.Verdict.{Verdict}
 use Rattle.gix_odb_calls.specs.declared.verdict.Verdict.TheVariants as verdicts
 use Rattle.gix_odb_refresh.specs.declared.refresh.Refresh.{Refresh}
@@ -41,9 +38,9 @@ use Rattle.gix_odb_refresh.specs.declared.refresh.RefreshStep.{RefreshStep}
 use Rattle.gix_odb_refresh.specs.declared.refresh.RefreshStep.TheVariants as steps
 use Rattle.gix_odb_refresh.specs.RefreshOrder.{by_listed, by_look, by_published}
 use Rattle.gix_odb_refresh.specs.RefreshOrder as refreshes
-use Rattle.gix_odb_looks.specs.LookUpOrder.{Setting, after_list, after_loose, ask_at, at_folder, by_checked, by_read, by_refresh, by_reply, by_tried}
+use Rattle.gix_odb_looks.specs.LookUpOrder.{Setting, after_list, after_loose, ask_at, at_folder, by_checked, by_read, by_refresh, by_tried}
 use Rattle.gix_odb_looks.specs.LookUpOrder.{by_verdict, counted, ended, fed_at, goal_of, is_unsettled}
-use Rattle.gix_odb_looks.specs.LookUpOrder.{listing_from, load_refused, loose_ask, loose_fed, own_by}
+use Rattle.gix_odb_looks.specs.LookUpOrder.{listing_from, load_refused, own_by}
 use Rattle.gix_odb_looks.specs.LookUpOrder.{new_head, not_found, started, trier_fed, try_view, unsettled, view_shown, without_absent, without_notes}
 use Rattle.gix_odb_looks.specs.declared.look_up.LookHead.{LookHead}
 use Rattle.gix_odb_looks.specs.declared.look_up.LookStage.{LookStage}
@@ -61,15 +58,11 @@ module _ (P : Ask → Type 0) (ask : Ask) where
   pub same_ask : (own : Ask) → P own → Some own ≡ Some ask → P ask
   same_ask own here is = subst P (same_Some own ask is) here
 
-  pub loose_ask_is : (call : Option DiskAsk) → ((own : DiskAsk) → call ≡ Some own → P (asks.Disk own)) → loose_ask call ≡ Some ask → P ask
-  loose_ask_is None here is = absurd (cc is)
-  loose_ask_is (Some own) here is = same_ask (asks.Disk own) (here own refl) is
-
 -- ---- what is kept
 
 -- Here `OfCall`, `OfLister` and `OfRows` say what holds of the call on loose objects, of the listing and of the rows to be published, where
 -- the look-up is at one, and `Else` what holds wherever it isn't at a listing.
-module _ (setting : Setting) (OfCall : LooseCall → Type 0) (OfLister : Lister → Type 0) (OfRows : List ListingRow → Type 0) (Else : Type 0) where
+module _ (setting : Setting) (OfCall : FolderCall → Type 0) (OfLister : Lister → Type 0) (OfRows : List ListingRow → Type 0) (Else : Type 0) where
   abbrev pub Stands : LookStage → Type 0
   Stands (stages.Loose round call) = Else × OfCall call
   Stands (stages.Refreshing (fronts.Listing lister) purpose notes) = OfLister lister
@@ -101,7 +94,7 @@ module _ (setting : Setting) (OfCall : LooseCall → Type 0) (OfLister : Lister 
 
   stage_asks_so : (stage : LookStage) → Stands stage → (ask : Ask) → ask_at stage ≡ Some ask → OfAsk ask
   stage_asks_so (stages.Trying trier part) here ask is = same_ask OfAsk ask (tries.ask_of trier) (trier_asks_so trier.stage) is
-  stage_asks_so (stages.Loose round call) here ask is = loose_ask_is OfAsk ask (disk_ask_of call) (λ own same. tt) is
+  stage_asks_so (stages.Loose round call) here ask is = same_ask OfAsk ask (asks.Disk (folder_ask call)) tt is
   stage_asks_so (stages.Refreshing fronts.Reading purpose notes) here ask is = same_ask OfAsk ask (asks.Core events.Look) tt is
   stage_asks_so (stages.Refreshing (fronts.Listing lister) purpose notes) here ask is = same_ask OfAsk ask (asks.Disk (lists.ask_of lister)) tt is
   stage_asks_so (stages.Refreshing (fronts.Publishing listing) purpose notes) here ask is = same_ask OfAsk ask (asks.Core (events.Publish listing)) here.1 is
@@ -114,7 +107,7 @@ module _ (setting : Setting) (OfCall : LooseCall → Type 0) (OfLister : Lister 
 
   -- what is to hold behind an answer, for the next stage to stand
   abbrev pub Goes : LookStage → Answer → Type 0
-  Goes (stages.Loose round call) (told.Disk answer) = Else × OfCall (loose_fed call answer)
+  Goes (stages.Loose round call) (told.Disk answer) = Else
   Goes (stages.Refreshing (fronts.Listing lister) purpose notes) (told.Disk answer) = Steps (lists.fed setting.folders lister answer)
   Goes stage answer = Stands stage
 
@@ -169,11 +162,6 @@ module _ (setting : Setting) (OfCall : LooseCall → Type 0) (OfLister : Lister 
     verdict_stands head round verdicts.Misses here = folder_stands head round (slice_get setting.folders round.next) here
     verdict_stands head round (verdicts.Notes error) here =
         folder_stands head (record round { notes = record round.notes { failed = true } }) (slice_get setting.folders round.next) here
-
-    reply_stands : (head : LookHead) (round : LooseRound) (call : LooseCall) (reply : Option LooseReply) → Else → OfCall call
-        → Stands (by_reply setting head round call reply)
-    reply_stands head round call None here own = (here, own)
-    reply_stands head round call (Some reply) here own = verdict_stands head round (verdict_on head.want reply) here
 
     -- ---- the core has answered
 
@@ -244,7 +232,7 @@ module _ (setting : Setting) (OfCall : LooseCall → Type 0) (OfLister : Lister 
     pub stage_stands : (head : LookHead) (stage : LookStage) (answer : Answer) → Goes stage answer → Stands (fed_at setting head stage answer).stage
     stage_stands head (stages.Trying trier part) answer here = tried_stands head part (trier_fed trier answer) here
     stage_stands head (stages.Loose round call) (told.Disk answer) here =
-        reply_stands head round (loose_fed call answer) (reply_of (loose_fed call answer)) here.0 here.1
+        verdict_stands head round (folder_verdict call answer) here
     stage_stands head (stages.Loose round call) (told.Core answer) here = here
     stage_stands head (stages.Refreshing refresh purpose notes) answer here =
         refresh_stands head purpose notes (refreshes.fed setting.objects setting.folders refresh answer) (refreshed refresh purpose notes answer here)

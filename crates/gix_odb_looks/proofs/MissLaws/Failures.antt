@@ -1,6 +1,6 @@
 -- A call of the disk that failed keeps a look-up from ending with nothing found.
 use Rattle.std.proofs.Common.{◌≡◌, ◌⊎◌, inl, inr, ℕ, ◌==◌, Bool, true, false, cond, slice_get, Option, Some, None, unwrap_or, Ok, Err}
-use Rattle.std.proofs.Common.{refl, sym, ap, ◌∙◌, subst}
+use Rattle.std.proofs.Common.{refl, sym, subst}
 use Rattle.std.proofs.lemmas.Option.{same_Some}
 use Rattle.odb_base.specs.Path.{Path}
 use Rattle.odb_asks.specs.declared.ask.DiskAnswer.{DiskAnswer}
@@ -8,11 +8,6 @@ use Rattle.odb_asks.specs.declared.ask.DiskAnswer.TheVariants as disk_answers
 use Rattle.odb_nodes.specs.declared.disk_error.DiskError.TheVariants as disk_errors
 use Rattle.gix_hash.specs.declared.object_id.ObjectId.{ObjectId}
 use Rattle.gix_odb_loose.specs.LooseFile.{loose_path}
-use Rattle.gix_odb_loose.specs.LooseOrder.{reply_of}
-use Rattle.gix_odb_loose.specs.LooseOrder.Answered.{unreadable}
-use Rattle.gix_odb_loose.specs.declared.call.LooseCall.{LooseCall}
-use Rattle.gix_odb_loose.specs.declared.call.LooseReply.{LooseReply}
-use Rattle.gix_odb_loose.specs.declared.call.LooseReply.TheVariants as loose_replies
 use Rattle.gix_odb_events.specs.declared.event.Event.TheVariants as events
 use Rattle.gix_odb_events.specs.declared.view.View.{View}
 use Rattle.gix_odb_packs.specs.ListOrder as lists
@@ -29,7 +24,8 @@ use Rattle.gix_odb_packs.specs.declared.search.Notes.{Notes}
 use Rattle.gix_odb_packs.specs.declared.trier.Ahead.{Ahead}
 use Rattle.gix_odb_packs.specs.declared.trier.Tried.{Tried}
 use Rattle.gix_odb_packs.specs.declared.trier.Tried.TheVariants as tried
-use Rattle.gix_odb_calls.specs.Verdict.{asking, verdict_on}
+use Rattle.gix_odb_calls.specs.Verdict.{asking, folder_verdict, verdict_by}
+use Rattle.gix_odb_calls.specs.declared.verdict.FolderCall.{FolderCall}
 use Rattle.gix_odb_calls.specs.declared.call.CallError.TheVariants as call_errors
 use Rattle.gix_odb_calls.specs.declared.find.Error.TheVariants as find_errors
 use Rattle.gix_odb_calls.specs.declared.load_index.Error as load_index
@@ -39,10 +35,10 @@ use Rattle.gix_object.specs.declared.want.Want.TheVariants.{Object, Header, Pres
 use Rattle.gix_odb_calls.specs.declared.verdict.Verdict.{Verdict}
 use Rattle.gix_odb_calls.specs.declared.verdict.Verdict.TheVariants as verdicts
 use Rattle.gix_odb_refresh.specs.LoadIndex.{of_refusal}
-use Rattle.gix_odb_looks.specs.LookUpOrder.{Setting, after_list, after_loose, ask_at, at_folder, by_call, by_checked, by_read, by_refresh, by_reply}
+use Rattle.gix_odb_looks.specs.LookUpOrder.{Setting, after_list, after_loose, ask_at, at_folder, by_checked, by_read, by_refresh}
 use Rattle.gix_odb_looks.specs.LookUpOrder.{by_tried, by_verdict}
 use Rattle.gix_odb_looks.specs.LookUpOrder.{counted, ended, fed, fed_at, find_error, goal_of, is_unsettled, listing_from, load_refused}
-use Rattle.gix_odb_looks.specs.LookUpOrder.{loose_fed, not_found}
+use Rattle.gix_odb_looks.specs.LookUpOrder.{not_found}
 use Rattle.gix_odb_looks.specs.True.{Suits}
 use Rattle.gix_odb_looks.specs.LookUpOrder.{result_at, seen, trier_fed, try_view, unsettled, view_shown, with_own, without_absent}
 use Rattle.gix_odb_refresh.specs.RefreshOrder.{by_listed}
@@ -139,13 +135,6 @@ module _ (setting : Setting) (want : Want) where
     failed_verdict round (verdicts.Notes error) ends =
         marred_folder (record round { notes = record round.notes { failed = true } }) refl (slice_get setting.folders round.next)
 
-    marred_reply : head.want ≡ want → (round : LooseRound) → IsNoted round.notes → (call : LooseCall) (reply : Option LooseReply)
-        → IsMarred (by_reply setting head round call reply)
-    marred_reply own round noted call None = noted
-    marred_reply own round noted call (Some reply) =
-        marred_verdict round noted (verdict_on head.want reply)
-        (subst (λ (q : Want). EndsNoMiss q (verdict_on head.want reply)) own (verdict_is_no_miss head.want reply))
-
     marred_counted : (b : Bool) (now : ℕ) (next : LookStage) → IsMarred next → IsMarred (cond b (unsettled head now) next)
     marred_counted true now next marred = refused_mars (load_errors.Unsettled (unwrap_or head.begun now) head.own now)
     marred_counted false now next marred = marred
@@ -222,7 +211,7 @@ module _ (setting : Setting) (want : Want) where
   marred_stage head own (stages.Trying trier part) marred answer =
       record { own = own; stage = marred_tried head part (trier_fed trier answer) (noted_answer trier.goal trier.ahead trier.stage marred answer) }
   marred_stage head own (stages.Loose round call) marred (told.Disk answer) =
-      record { own = own; stage = marred_reply head own round marred (loose_fed call answer) (reply_of (loose_fed call answer)) }
+      record { own = own; stage = marred_verdict head round marred (folder_verdict call answer) (verdict_is_no_miss want call answer) }
   marred_stage head own (stages.Loose round call) marred (told.Core answer) = record { own = own; stage = marred }
   marred_stage head own (stages.Refreshing refresh purpose notes) marred answer = marred_refresh head own purpose notes refresh marred answer
   marred_stage head own (stages.Checking list_no notes) marred (told.Disk answer) = record { own = own; stage = marred }
@@ -252,21 +241,17 @@ module _ (setting : Setting) (want : Want) where
   failed_lister head own purpose notes list_head (list_stages.Pack row left) can = refused_step head own purpose notes load_errors.Io
 
   -- the verdict on a folder whose call failed
-  failed_says : (q : Want) (id : ObjectId) (asked : Path) → (reply : LooseReply)
-      × (reply_of (loose_fed (asking setting.limit q id asked) (disk_answers.Refused disk_errors.Failed)) ≡ Some reply) × IsNoPlainMiss q (verdict_on q reply)
-  failed_says Object id asked = (loose_replies.Found (Err (unreadable (loose_path asked id))), refl, refused_is_no_miss Object _)
-  failed_says Header id asked = (loose_replies.Header (Err (unreadable (loose_path asked id))), refl, refused_is_no_miss Header _)
-  failed_says Presence id asked = (loose_replies.Contains (Err (unreadable (loose_path asked id))), refl, tt)
+  failed_says : (asked : Want) (path : Path) → IsNoPlainMiss asked (verdict_by asked path setting.limit (disk_answers.Refused disk_errors.Failed))
+  failed_says Object path = refused_is_no_miss Object _
+  failed_says Header path = refused_is_no_miss Header _
+  failed_says Presence path = tt
 
-  failed_folder : (head : LookHead) → head.want ≡ want → (round : LooseRound) (call : LooseCall) (id : ObjectId) (asked : Path)
-      → call ≡ asking setting.limit want id asked → IsMarred (by_call setting head round (loose_fed call (disk_answers.Refused disk_errors.Failed)))
-  failed_folder head own round call id asked is =
-      let says = failed_says want id asked in
-      let replies_so : reply_of (loose_fed call (disk_answers.Refused disk_errors.Failed)) ≡ Some says.0 =
-      ap (λ (c : LooseCall). reply_of (loose_fed c (disk_answers.Refused disk_errors.Failed))) is ∙ says.1 in
-      subst (λ (r : Option LooseReply). IsMarred (by_reply setting head round (loose_fed call (disk_answers.Refused disk_errors.Failed)) r)) (sym replies_so)
-      (subst (λ (q : Want). IsMarred (by_verdict setting head round (verdict_on q says.0))) (sym own)
-      (failed_verdict head round (verdict_on want says.0) says.2))
+  failed_folder : (head : LookHead) (round : LooseRound) (call : FolderCall) (id : ObjectId) (asked : Path) → call ≡ asking setting.limit want id asked
+      → IsMarred (by_verdict setting head round (folder_verdict call (disk_answers.Refused disk_errors.Failed)))
+  failed_folder head round call id asked is =
+      subst (λ (c : FolderCall). IsMarred (by_verdict setting head round (folder_verdict c (disk_answers.Refused disk_errors.Failed)))) (sym is)
+      (failed_verdict head round (verdict_by want (loose_path asked id) setting.limit (disk_answers.Refused disk_errors.Failed))
+      (failed_says want (loose_path asked id)))
 
   -- the folder of a call that the look-up makes there
   abbrev pub IsAskingAt : LookStage → Type 0
@@ -282,7 +267,7 @@ module _ (setting : Setting) (want : Want) where
             marred_tried head part (trier_fed trier failed)
             (failed_trier trier.goal trier.ahead trier.stage (is_of_disk (tries.ask_of trier) (subst CanFail (sym (same_Some (tries.ask_of trier) ask is)) can)));
       }
-  failed_stage head own (stages.Loose round call) at ask is can = record { own = own; stage = failed_folder head own round call at.0 at.1 at.2 }
+  failed_stage head own (stages.Loose round call) at ask is can = record { own = own; stage = failed_folder head round call at.0 at.1 at.2 }
   failed_stage head own (stages.Refreshing fronts.Reading purpose notes) at ask is can =
       absurd (subst CanFail (sym (same_Some (asks.Core events.Look) ask is)) can)
   failed_stage head own (stages.Refreshing (fronts.Listing lister) purpose notes) at ask is can =

@@ -4,14 +4,7 @@ use Rattle.std.proofs.Common.{refl, sym, ap, ◌∙◌, subst}
 use Rattle.std.proofs.lemmas.Option.{same_Some}
 use Rattle.odb_base.specs.Path.{Path}
 use Rattle.odb_asks.specs.declared.ask.DiskAnswer.{DiskAnswer}
-use Rattle.odb_asks.specs.declared.ask.DiskAsk.{DiskAsk}
 use Rattle.gix_hash.specs.declared.object_id.ObjectId.{ObjectId}
-use Rattle.gix_odb_loose.specs.LooseFile.{loose_path}
-use Rattle.gix_odb_loose.specs.LooseOrder.{disk_ask_of, reply_of}
-use Rattle.gix_odb_loose.specs.LooseOrder.Answered.{found_by, header_by, tested_by}
-use Rattle.gix_odb_loose.specs.declared.call.LooseCall.{LooseCall}
-use Rattle.gix_odb_loose.specs.declared.call.LooseReply.{LooseReply}
-use Rattle.gix_odb_loose.specs.declared.call.LooseReply.TheVariants as loose_replies
 use Rattle.gix_odb_events.specs.declared.view.View.{View}
 use Rattle.gix_odb_events.specs.declared.answer.Answer.{Answer}
 use Rattle.gix_odb_events.specs.declared.answer.Answer.TheVariants as told
@@ -21,7 +14,8 @@ use Rattle.gix_odb_packs.specs.TryOrder.{seek}
 use Rattle.gix_odb_packs.specs.declared.search.Notes.{Notes}
 use Rattle.gix_odb_packs.specs.declared.trier.Tried.{Tried}
 use Rattle.gix_odb_packs.specs.declared.trier.Tried.TheVariants as tried
-use Rattle.gix_odb_calls.specs.Verdict.{asking, verdict_on}
+use Rattle.gix_odb_calls.specs.Verdict.{asking, folder_ask, folder_verdict}
+use Rattle.gix_odb_calls.specs.declared.verdict.FolderCall.{FolderCall}
 use Rattle.gix_odb_calls.specs.declared.call.CallError.TheVariants as call_errors
 use Rattle.gix_odb_calls.specs.declared.find.Error.TheVariants as find_errors
 use Rattle.gix_odb_calls.specs.declared.load_index.Error as load_index
@@ -30,10 +24,10 @@ use Rattle.gix_object.specs.declared.want.Want.{Want}
 use Rattle.gix_odb_calls.specs.declared.verdict.Verdict.{Verdict}
 use Rattle.gix_odb_calls.specs.declared.verdict.Verdict.TheVariants as verdicts
 use Rattle.gix_odb_refresh.specs.LoadIndex.{of_refusal}
-use Rattle.gix_odb_looks.specs.LookUpOrder.{Setting, after_list, after_loose, ask_at, at_folder, by_checked, by_read, by_refresh, by_reply, by_tried}
+use Rattle.gix_odb_looks.specs.LookUpOrder.{Setting, after_list, after_loose, ask_at, at_folder, by_checked, by_read, by_refresh, by_tried}
 use Rattle.gix_odb_looks.specs.LookUpOrder.{by_verdict}
 use Rattle.gix_odb_looks.specs.LookUpOrder.{counted, ended, fed, fed_at, find_error, goal_of, is_unsettled, listing_from, load_refused}
-use Rattle.gix_odb_looks.specs.LookUpOrder.{loose_ask, loose_fed, loose_from, new_head, not_found}
+use Rattle.gix_odb_looks.specs.LookUpOrder.{loose_from, new_head, not_found}
 use Rattle.gix_odb_looks.specs.LookUpOrder.{result_at, seen, started, trier_fed, try_view, unsettled, view_shown, with_own, without_absent, without_notes}
 use Rattle.gix_odb_refresh.specs.Shown.{folders_of}
 use Rattle.gix_odb_looks.specs.Exchange.{Exchange, HasVerdict, WasTold}
@@ -54,14 +48,6 @@ use Rattle.gix_odb_packs.proofs.ReachLemmas.{first_or_later}
 use Rattle.gix_odb_looks.proofs.MissLaws.Lists.{drop_none, first_in, found_at, here_or_behind, later_in, nothing_ahead}
 use Rattle.gix_odb_looks.proofs.MissLaws.Replies.{EndsNoMiss, IsMiss, found_is_no_miss, refused_is_no_miss, verdict_is_no_miss}
 
--- a folder that is asked replies to one call of the disk
-pub folder_replies : (limit : Option ℕ) (want : Want) (id : ObjectId) (folder : Path) (answer : DiskAnswer)
-    → (reply : LooseReply) × (reply_of (loose_fed (asking limit want id folder) answer) ≡ Some reply)
-folder_replies limit want id folder answer = (_, refl)
-
-folder_asks : (limit : Option ℕ) (want : Want) (id : ObjectId) (folder : Path) → (ask : DiskAsk) × (disk_ask_of (asking limit want id folder) ≡ Some ask)
-folder_asks limit want id folder = (_, refl)
-
 module _ (setting : Setting) (want : Want) (id : ObjectId) (exchanges : List Exchange) where
   -- the folder was asked in one of the exchanges, and missed
   abbrev IsMissed : Path → Type 0
@@ -78,7 +64,7 @@ module _ (setting : Setting) (want : Want) (id : ObjectId) (exchanges : List Exc
   Behind next folder = Contains (drop next setting.folders) folder
 
   -- a folder is asked; where none was noted, those that are neither it nor ahead were missed
-  pub record IsAsking (round : LooseRound) (call : LooseCall) : Type 0 where
+  pub record IsAsking (round : LooseRound) (call : FolderCall) : Type 0 where
     pub asked : Path
     pub among : Contains (folders_of setting) asked
     pub call_is : call ≡ asking setting.limit want id asked
@@ -176,28 +162,16 @@ module _ (setting : Setting) (want : Want) (id : ObjectId) (exchanges : List Exc
     verdict_passes round asked past (verdicts.Notes error) says ends =
         folder_passes (record round { notes = record round.notes { failed = true } }) (λ none. absurd (cc none)) (slice_get setting.folders round.next) refl
 
-    asked_passes : (round : LooseRound) (call : LooseCall) → IsAsking round call → (ask : Ask) (answer : DiskAnswer)
-        → loose_ask (disk_ask_of call) ≡ Some ask → WasTold exchanges ask (told.Disk answer)
-        → IsPassing (by_reply setting head round (loose_fed call answer) (reply_of (loose_fed call answer)))
+    asked_passes : (round : LooseRound) (call : FolderCall) → IsAsking round call → (ask : Ask) (answer : DiskAnswer)
+        → Some (asks.Disk (folder_ask call)) ≡ Some ask → WasTold exchanges ask (told.Disk answer)
+        → IsPassing (by_verdict setting head round (folder_verdict call answer))
     asked_passes round call asking_it ask answer is was =
-        let call_of = folder_asks setting.limit want id asking_it.asked in
-        let reply = folder_replies setting.limit want id asking_it.asked answer in
-        let asks_it : ask ≡ asks.Disk call_of.0 =
-        sym (same_Some (asks.Disk call_of.0) ask (sym (ap loose_ask (ap disk_ask_of asking_it.call_is ∙ call_of.1)) ∙ is)) in
-        let says : HasVerdict setting want id exchanges asking_it.asked (verdict_on want reply.0) =
-        record {
-          ask = call_of.0;
-          asked = call_of.1;
-          answer = answer;
-          told = subst (λ (a : Ask). WasTold exchanges a (told.Disk answer)) asks_it was;
-          reply = reply.0;
-          replied = reply.1;
-          is = refl;
-        } in
-        let replies_so : reply_of (loose_fed call answer) ≡ Some reply.0 = ap (λ (c : LooseCall). reply_of (loose_fed c answer)) asking_it.call_is ∙ reply.1 in
-        subst (λ (r : Option LooseReply). IsPassing (by_reply setting head round (loose_fed call answer) r)) (sym replies_so)
-        (subst (λ (q : Want). IsPassing (by_verdict setting head round (verdict_on q reply.0))) (sym own.want_is)
-        (verdict_passes round asking_it.asked asking_it.past (verdict_on want reply.0) says (verdict_is_no_miss want reply.0)))
+        let asks_it : ask ≡ asks.Disk (folder_ask (asking setting.limit want id asking_it.asked)) =
+        sym (same_Some (asks.Disk (folder_ask call)) ask is) ∙ ap (λ (c : FolderCall). asks.Disk (folder_ask c)) asking_it.call_is in
+        subst (λ (c : FolderCall). IsPassing (by_verdict setting head round (folder_verdict c answer))) (sym asking_it.call_is)
+        (verdict_passes round asking_it.asked asking_it.past (folder_verdict (asking setting.limit want id asking_it.asked) answer)
+        (record { answer = answer; told = subst (λ (a : Ask). WasTold exchanges a (told.Disk answer)) asks_it was; is = refl })
+        (verdict_is_no_miss want (asking setting.limit want id asking_it.asked) answer))
 
     -- ---- looks at the core
 

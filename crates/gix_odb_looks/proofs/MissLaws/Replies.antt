@@ -1,10 +1,12 @@
 -- No reply but the one that ends a look-up that found nothing says that nothing was found.
-use Rattle.std.proofs.Common.{◌≡◌, Bool, true, false, Result, Ok, Err, Some, None}
-use Rattle.gix_odb_loose.specs.declared.call.LooseReply.{LooseReply}
-use Rattle.gix_odb_loose.specs.declared.call.LooseReply.TheVariants as loose_replies
+use Rattle.std.proofs.Common.{◌≡◌, ℕ, Bool, true, false, List, Option, Result, Ok, Err, Some, None}
+use Rattle.odb_asks.specs.declared.ask.DiskAnswer.{DiskAnswer}
+use Rattle.gix_object.specs.declared.kind.Kind.{Kind}
+use Rattle.gix_odb_loose.specs.LooseOrder.Answered.{found_by, header_by, tested_by}
 use Rattle.gix_odb_loose.specs.declared.find.Error.{Error}
 use Rattle.gix_odb_loose.specs.declared.find.Error.TheVariants as errors
-use Rattle.gix_odb_calls.specs.Verdict.{verdict_on}
+use Rattle.gix_odb_calls.specs.Verdict.{folder_verdict, verdict_by, verdict_on_find, verdict_on_header, verdict_on_test}
+use Rattle.gix_odb_calls.specs.declared.verdict.FolderCall.{FolderCall}
 use Rattle.gix_odb_calls.specs.declared.call.CallError.{CallError}
 use Rattle.gix_odb_calls.specs.declared.call.Reply.{Reply}
 use Rattle.gix_odb_calls.specs.declared.call.Reply.TheVariants as replies
@@ -40,20 +42,33 @@ abbrev pub EndsNoMiss : Want → Verdict → Type 0
 EndsNoMiss want (verdicts.Ends reply) = ¬ (IsMiss want reply)
 EndsNoMiss want verdict = Unit {0}
 
-test_ends : (want : Want) → (answer : Result Bool Error) → EndsNoMiss want (verdict_on want (loose_replies.Contains answer))
-test_ends Object answer = tt
-test_ends Header answer = tt
-test_ends Presence (Ok true) = λ is. cc is
-test_ends Presence (Ok false) = tt
-test_ends Presence (Err errors.NoMemory) = λ is. cc is
-test_ends Presence (Err error) = tt
+find_ends : (want : Want) (answer : Result (Option (Kind × List ℕ)) Error) → EndsNoMiss want (verdict_on_find answer)
+find_ends Object (Ok (Some object)) = λ is. cc is
+find_ends Header (Ok (Some object)) = λ is. cc is
+find_ends Presence (Ok (Some object)) = λ is. cc is
+find_ends want (Ok None) = tt
+find_ends want (Err error) = refused_is_no_miss want _
 
-pub verdict_is_no_miss : (want : Want) (reply : LooseReply) → EndsNoMiss want (verdict_on want reply)
-verdict_is_no_miss Object (loose_replies.Found (Ok (Some object))) = λ is. cc is
-verdict_is_no_miss Object (loose_replies.Found (Ok None)) = tt
-verdict_is_no_miss Object (loose_replies.Found (Err error)) = λ is. cc is
-verdict_is_no_miss Header (loose_replies.Header (Ok (Some header))) = λ is. cc is
-verdict_is_no_miss Header (loose_replies.Header (Ok None)) = tt
-verdict_is_no_miss Header (loose_replies.Header (Err error)) = λ is. cc is
-verdict_is_no_miss want (loose_replies.Contains answer) = test_ends want answer
-verdict_is_no_miss want reply = tt
+header_ends : (want : Want) (answer : Result (Option (ℕ × Kind)) Error) → EndsNoMiss want (verdict_on_header answer)
+header_ends Object (Ok (Some header)) = λ is. cc is
+header_ends Header (Ok (Some header)) = λ is. cc is
+header_ends Presence (Ok (Some header)) = λ is. cc is
+header_ends want (Ok None) = tt
+header_ends want (Err error) = refused_is_no_miss want _
+
+test_ends : (want : Want) (answer : Result Bool Error) → EndsNoMiss want (verdict_on_test answer)
+test_ends Object (Ok true) = λ is. cc is
+test_ends Header (Ok true) = λ is. cc is
+test_ends Presence (Ok true) = λ is. cc is
+test_ends want (Ok false) = tt
+test_ends want (Err errors.NoMemory) = refused_is_no_miss want _
+test_ends want (Err error) = tt
+
+-- no verdict of a folder ends a look-up with what is replied where nothing was found, whatever is wanted
+pub verdict_is_no_miss : (want : Want) (call : FolderCall) (answer : DiskAnswer) → EndsNoMiss want (folder_verdict call answer)
+verdict_is_no_miss want call answer = by call.want
+  where
+    by : (asked : Want) → EndsNoMiss want (verdict_by asked call.path call.limit answer)
+    by Object = find_ends want (found_by call.path call.limit answer)
+    by Header = header_ends want (header_by call.path answer)
+    by Presence = test_ends want (tested_by call.path answer)

@@ -9,9 +9,6 @@ use Rattle.odb_base.specs.Path.{Path}
 use Rattle.gix_hash.specs.ObjectId.{kind_of}
 use Rattle.gix_hash.specs.declared.kind.Kind.{Kind}
 use Rattle.gix_hash.specs.declared.object_id.ObjectId.{ObjectId}
-use Rattle.gix_odb_loose.specs.LooseOrder.{reply_of}
-use Rattle.gix_odb_loose.specs.declared.call.LooseCall.{LooseCall}
-use Rattle.gix_odb_loose.specs.declared.call.LooseReply.{LooseReply}
 use Rattle.gix_odb_events.specs.declared.listing.Listing.{Listing}
 use Rattle.gix_odb_events.specs.declared.listing.ListingRow.{ListingRow}
 use Rattle.gix_odb_events.specs.View.{HasRow as IsListed}
@@ -34,7 +31,7 @@ use Rattle.gix_odb_packs.specs.declared.search.Notes.{Notes}
 use Rattle.gix_odb_packs.specs.declared.trier.Tried.{Tried}
 use Rattle.gix_odb_packs.specs.declared.trier.Tried.TheVariants as tried
 use Rattle.gix_odb_packs.specs.declared.trier.Trier.{Trier}
-use Rattle.gix_odb_calls.specs.Verdict.{verdict_on}
+use Rattle.gix_odb_calls.specs.Verdict.{folder_verdict}
 use Rattle.gix_odb_calls.specs.declared.call.CallError.TheVariants as call_errors
 use Rattle.gix_odb_calls.specs.declared.find.Error.TheVariants as find_errors
 use Rattle.gix_odb_calls.specs.declared.load_index.Error.TheVariants as load_errors
@@ -46,9 +43,9 @@ use Rattle.gix_odb_looks.specs.Fair.{AreFair, IsFair, IsViewFair, PackedPlace, i
 use Rattle.gix_odb_refresh.specs.Stream.{Stream, stream_by, stream_in}
 use Rattle.gix_odb_refresh.proofs.ListerLaws.Streams.{stream_in-push}
 use Rattle.gix_odb_refresh.specs.LoadIndex.{of_refusal}
-use Rattle.gix_odb_looks.specs.LookUpOrder.{Setting, after_list, after_loose, ask_at, at_folder, by_read, by_refresh, by_reply, by_tried}
+use Rattle.gix_odb_looks.specs.LookUpOrder.{Setting, after_list, after_loose, ask_at, at_folder, by_read, by_refresh, by_tried}
 use Rattle.gix_odb_looks.specs.LookUpOrder.{by_verdict}
-use Rattle.gix_odb_looks.specs.LookUpOrder.{fed, fed_at, find_error, goal_of, is_unsettled, listing_from, loose_fed, not_found, result_at}
+use Rattle.gix_odb_looks.specs.LookUpOrder.{fed, fed_at, find_error, goal_of, is_unsettled, listing_from, not_found, result_at}
 use Rattle.gix_odb_looks.specs.LookUpOrder.{result_of, seen, started, trier_fed, try_view}
 use Rattle.gix_odb_looks.specs.LookUpOrder.{unsettled, view_shown, with_own, without_absent, without_notes, new_head}
 use Rattle.gix_odb_refresh.specs.Shown.{folders_of}
@@ -166,13 +163,6 @@ module _ (setting : Setting) (hash : Kind) (want : Want) (id : ObjectId) (of_has
     verdict_goes round early (verdicts.Notes error) ends =
         folder_goes (record round { notes = record round.notes { failed = true } }) early (slice_get setting.folders round.next)
 
-    reply_goes : IsFor head → (round : LooseRound) → IsEarly round.part → (call : LooseCall) (reply : Option LooseReply)
-        → IsOn stream (by_reply setting head round call reply)
-    reply_goes own round early call None = early
-    reply_goes own round early call (Some reply) =
-        verdict_goes round early (verdict_on head.want reply)
-        (subst (λ (q : Want). EndsNoMiss q (verdict_on head.want reply)) own.want_is (verdict_is_no_miss head.want reply))
-
     -- ---- the list of the core is read, or brought up to date
 
     read_goes : (purpose : Purpose) (view : View) (notes : Notes) → IsOn stream (by_read setting head purpose view notes)
@@ -265,7 +255,8 @@ module _ (setting : Setting) (hash : Kind) (want : Want) (id : ObjectId) (of_has
   stage_goes past head own (stages.Loose round call) on ask (told.Disk answer) is fair =
       record {
         own = own;
-        stage = reply_goes (stream_by (stream_in past) ask (told.Disk answer)) head own round on (loose_fed call answer) (reply_of (loose_fed call answer));
+        stage =
+            verdict_goes (stream_by (stream_in past) ask (told.Disk answer)) head round on (folder_verdict call answer) (verdict_is_no_miss want call answer);
       }
   stage_goes past head own (stages.Loose round call) on ask (told.Core answer) is fair = record { own = own; stage = on }
   stage_goes past head own (stages.Refreshing fronts.Reading purpose notes) on ask (told.Disk answer) is fair = record { own = own; stage = on }

@@ -1,5 +1,5 @@
 -- Laws of what exchanges tell of the stream that is open: they tell what it has given, and its next answer is fair.
-use Rattle.std.proofs.Common.{◌≡◌, ℕ, List, [], ◌∷◌, ◌++◌, length, Some, Ok, refl, sym, subst}
+use Rattle.std.proofs.Common.{◌≡◌, ℕ, List, length, Some, Ok, refl, sym, subst}
 use Rattle.odb_base.specs.Path.{Name, Path}
 use Rattle.odb_nodes.specs.Tree.{Tree}
 use Rattle.odb_nodes.specs.Tree.Follow.{listed}

@@ -1,8 +1,6 @@
 -- A turn of a look-up takes one of the turns that are left.
 use Rattle.std.proofs.Common.{ℕ, suc, ◌+◌, ◌-◌, Option, Some, None, Ok, Err, refl, sym, subst, arith}
-use Rattle.odb_asks.specs.declared.ask.DiskAsk.{DiskAsk}
-use Rattle.gix_odb_loose.specs.LooseOrder.{disk_ask_of}
-use Rattle.gix_odb_events.specs.Answers as core
+use Rattle.gix_odb_calls.specs.Verdict.{folder_ask, folder_verdict}
 use Rattle.gix_odb_events.specs.declared.event.Effect.TheVariants as effects
 use Rattle.gix_odb_packs.proofs.TryTurnLaws.{trier_turns, trier_turns-pos}
 use Rattle.gix_odb_packs.specs.ListOrder as lists
@@ -17,7 +15,7 @@ use Rattle.gix_odb_packs.specs.declared.search.Notes.{Notes}
 use Rattle.gix_odb_looks.specs.Laps.{HasAtMost, IsNumbered, number_by}
 use Rattle.gix_odb_looks.specs.Exchange.{IsAnswerTo}
 use Rattle.gix_odb_refresh.specs.Stream.{Stream, stream_by}
-use Rattle.gix_odb_looks.specs.LookUpOrder.{ask_at, by_refresh, fed_at, loose_ask, loose_fed, seen, trier_fed}
+use Rattle.gix_odb_looks.specs.LookUpOrder.{ask_at, by_refresh, fed_at, seen, trier_fed}
 use Rattle.gix_odb_refresh.specs.RefreshOrder.{by_listed}
 use Rattle.gix_odb_refresh.proofs.ListerLaws.Base.{IsFor, listing_keeps_its_base}
 use Rattle.gix_odb_refresh.specs.declared.refresh.Refresh.TheVariants as fronts
@@ -29,7 +27,7 @@ use Rattle.gix_odb_looks.proofs.TurnLaws.CoreTurns.{checked_left, read_left, out
 use Rattle.gix_odb_looks.proofs.TurnLaws.TurnsLeft.{Bounds, HasFurther, HasLeft, LookHasLeft, OfPart-on, folders, settling}
 use Rattle.gix_odb_looks.proofs.TurnLaws.LapsLeft.{IsFurther-less, IsFurther-on, rises}
 use Rattle.gix_odb_refresh.proofs.ListerLaws.Turns.{ListsFor, fed_lists, lister_turns, lister_turns-pos}
-use Rattle.gix_odb_looks.proofs.TurnLaws.PartTurns.{call_left, tried_left}
+use Rattle.gix_odb_looks.proofs.TurnLaws.PartTurns.{tried_left, verdict_left}
 use Rattle.gix_odb_looks.proofs.TurnLaws.TrierTurns.{fed_tries}
 
 -- what is told of lists, and of streams behind one that is open
@@ -40,12 +38,6 @@ IsTold slots entries before stream (Some ask) answer = IsNumbered slots before a
 abbrev pub stream_behind : Option Stream → Option Ask → Answer → Option Stream
 stream_behind stream None answer = stream
 stream_behind stream (Some ask) answer = stream_by stream ask answer
-
--- a folder of loose objects asks for no event
-no_event : (slots entries before : ℕ) (stream : Option Stream) (asked : Option DiskAsk) (answer : core.Answer)
-    → ¬ (IsTold slots entries before stream (loose_ask asked) (told.Core answer))
-no_event slots entries before stream None answer is = is
-no_event slots entries before stream (Some ask) answer is = is.1
 
 module _ (bounds : Bounds) where
   listed_left : (head : LookHead) (base before : ℕ) (stream : Option Stream) (turns room : ℕ) (purpose : Purpose) (notes : Notes) (step : ListStep)
@@ -78,14 +70,12 @@ module _ (bounds : Bounds) where
       (rises bounds.slots before (tries.ask_of trier) answer is.1 is.0)
       (omega arith))
   fed_left head (stages.Loose round call) before stream turns (told.Disk answer) is has =
-      let reply = has.0 answer in
-      let now = stream_behind stream (loose_ask (disk_ask_of call)) (told.Disk answer) in
-      call_left bounds (seen head (told.Disk answer)) round before now turns (loose_fed call answer) reply.0 reply.1
-      (OfPart-on bounds head round.part before ((folders bounds - round.next) + 1) (suc turns) (folders bounds - round.next) turns (told.Disk answer) has.1
+      let now = stream_by stream (asks.Disk (folder_ask call)) (told.Disk answer) in
+      verdict_left bounds (seen head (told.Disk answer)) round before now turns (folder_verdict call answer)
+      (OfPart-on bounds head round.part before ((folders bounds - round.next) + 1) (suc turns) (folders bounds - round.next) turns (told.Disk answer) has
       (omega arith)
       (omega arith))
-  fed_left head (stages.Loose round call) before stream turns (told.Core answer) is has =
-      absurd (no_event bounds.slots bounds.entries before stream (disk_ask_of call) answer is)
+  fed_left head (stages.Loose round call) before stream turns (told.Core answer) is has = absurd is.1
   fed_left head (stages.Refreshing fronts.Reading purpose notes) before stream turns (told.Disk answer) is has = absurd is.1
   fed_left head (stages.Refreshing fronts.Reading purpose notes) before stream turns (told.Core (Err refusal)) is has = tt
   fed_left head (stages.Refreshing fronts.Reading purpose notes) before stream turns (told.Core (Ok (effects.Seen view))) is has =

@@ -1,10 +1,7 @@
 -- What is left behind a list that was tried, and behind the loose folders.
-use Rattle.std.proofs.Common.{◌≡◌, ℕ, ◌+◌, ◌-◌, ◌*◌, ◌≤◌, true, false, List, length, slice_get, Option, Some, None, refl, sym, subst, arith}
+use Rattle.std.proofs.Common.{◌≡◌, ℕ, ◌+◌, ◌-◌, ◌*◌, ◌≤◌, true, false, List, length, slice_get, Option, Some, None, refl, arith}
 use Rattle.std.proofs.lemmas.Option.{slice_get_within}
 use Rattle.odb_base.specs.Path.{Path}
-use Rattle.gix_odb_loose.specs.LooseOrder.{reply_of}
-use Rattle.gix_odb_loose.specs.declared.call.LooseCall.{LooseCall}
-use Rattle.gix_odb_loose.specs.declared.call.LooseReply.{LooseReply}
 use Rattle.gix_odb_events.specs.declared.loaded.Todo.{Todo}
 use Rattle.gix_odb_events.specs.declared.view.View.{View}
 use Rattle.gix_odb_packs.proofs.TryTurnLaws.{TriesFor, seek_tries, trier_turns}
@@ -13,17 +10,16 @@ use Rattle.gix_odb_packs.specs.declared.search.Notes.{Notes}
 use Rattle.gix_odb_packs.specs.declared.trier.Ahead.{Ahead}
 use Rattle.gix_odb_packs.specs.declared.trier.Tried.{Tried}
 use Rattle.gix_odb_packs.specs.declared.trier.Tried.TheVariants as tried
-use Rattle.gix_odb_calls.specs.Verdict.{verdict_on}
 use Rattle.gix_odb_calls.specs.declared.verdict.Verdict.{Verdict}
 use Rattle.gix_odb_calls.specs.declared.verdict.Verdict.TheVariants as verdicts
 use Rattle.gix_odb_refresh.specs.Stream.{Stream}
-use Rattle.gix_odb_looks.specs.LookUpOrder.{after_list, after_loose, at_folder, by_call, by_reply, by_tried}
+use Rattle.gix_odb_looks.specs.LookUpOrder.{after_list, after_loose, at_folder, by_tried}
 use Rattle.gix_odb_looks.specs.LookUpOrder.{by_verdict, goal_of, listing_from, loose_from, try_view}
 use Rattle.gix_odb_looks.specs.declared.look_up.LookHead.{LookHead}
 use Rattle.gix_odb_looks.specs.declared.look_up.LooseRound.{LooseRound}
 use Rattle.gix_odb_looks.specs.declared.look_up.Part.{Part}
 use Rattle.gix_odb_looks.specs.declared.look_up.Part.TheVariants as parts
-use Rattle.gix_odb_looks.proofs.TurnLaws.TurnsLeft.{Bounds, HasFurther, HasLeft, OfPart, OfPart-less, asks_once, folders, trying}
+use Rattle.gix_odb_looks.proofs.TurnLaws.TurnsLeft.{Bounds, HasFurther, HasLeft, OfPart, OfPart-less, folders, trying}
 use Rattle.gix_odb_looks.proofs.TurnLaws.LapsLeft.{IsFirst-less, IsFurther-less}
 
 module _ (bounds : Bounds) where
@@ -37,10 +33,8 @@ module _ (bounds : Bounds) where
   loose_left : (head : LookHead) (part : Part) (before : ℕ) (stream : Option Stream) (turns : ℕ) (notes : Notes)
       → OfPart bounds head part before (folders bounds + 1) turns
       → HasLeft bounds head (loose_from bounds.setting head part notes) before stream turns
-  loose_left head part before stream turns notes has = (
-    asks_once bounds.setting.limit head.want head.id bounds.setting.objects,
-    OfPart-less bounds head part before (folders bounds + 1) turns ((folders bounds - 0) + 1) turns has (omega arith),
-  )
+  loose_left head part before stream turns notes has =
+      OfPart-less bounds head part before (folders bounds + 1) turns ((folders bounds - 0) + 1) turns has (omega arith)
 
   list_left : (head : LookHead) (part : Part) (before : ℕ) (stream : Option Stream) (turns : ℕ) (notes : Notes)
       → OfPart bounds head part before (folders bounds + 1) turns
@@ -90,13 +84,11 @@ module _ (bounds : Bounds) where
       loose_over head round.part before stream turns round.notes
       (OfPart-less bounds head round.part before (folders bounds - round.next) turns 0 turns has (omega arith))
   folder_left head round before stream turns (Some folder) is has =
-      let within = slice_get_within bounds.setting.folders round.next folder is in (
-        asks_once bounds.setting.limit head.want head.id folder,
-        OfPart-less bounds head round.part before (folders bounds - round.next) turns ((folders bounds - (round.next + 1)) + 1) turns has
-            (omega (arith, within)),
-      )
+      let within = slice_get_within bounds.setting.folders round.next folder is in
+      OfPart-less bounds head round.part before (folders bounds - round.next) turns ((folders bounds - (round.next + 1)) + 1) turns has
+      (omega (arith, within))
 
-  verdict_left : (head : LookHead) (round : LooseRound) (before : ℕ) (stream : Option Stream) (turns : ℕ) (verdict : Verdict)
+  pub verdict_left : (head : LookHead) (round : LooseRound) (before : ℕ) (stream : Option Stream) (turns : ℕ) (verdict : Verdict)
       → OfPart bounds head round.part before (folders bounds - round.next) turns
       → HasLeft bounds head (by_verdict bounds.setting head round verdict) before stream turns
   verdict_left head round before stream turns (verdicts.Ends reply) has = tt
@@ -104,11 +96,3 @@ module _ (bounds : Bounds) where
       folder_left head round before stream turns (slice_get bounds.setting.folders round.next) refl has
   verdict_left head round before stream turns (verdicts.Notes error) has =
       folder_left head (record round { notes = record round.notes { failed = true } }) before stream turns (slice_get bounds.setting.folders round.next) refl has
-
-  pub call_left : (head : LookHead) (round : LooseRound) (before : ℕ) (stream : Option Stream) (turns : ℕ) (call : LooseCall) (reply : LooseReply)
-      → reply_of call ≡ Some reply
-      → OfPart bounds head round.part before (folders bounds - round.next) turns
-      → HasLeft bounds head (by_call bounds.setting head round call) before stream turns
-  call_left head round before stream turns call reply is has =
-      subst (λ (reply : Option LooseReply). HasLeft bounds head (by_reply bounds.setting head round call reply) before stream turns) (sym is)
-      (verdict_left head round before stream turns (verdict_on head.want reply) has)

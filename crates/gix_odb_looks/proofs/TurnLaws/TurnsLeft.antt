@@ -1,19 +1,11 @@
 -- How many turns a look-up has left, by its stage.
-use Rattle.std.proofs.Common.{◌≡◌, ℕ, ◌+◌, ◌-◌, ◌*◌, ◌≤◌, ◌<◌, length, Option, Some, Ok, refl, arith}
-use Rattle.odb_base.specs.Path.{Path}
-use Rattle.odb_asks.specs.declared.ask.DiskAnswer.{DiskAnswer}
-use Rattle.gix_hash.specs.declared.object_id.ObjectId.{ObjectId}
-use Rattle.gix_odb_loose.specs.LooseOrder.{reply_of}
-use Rattle.gix_odb_loose.specs.declared.call.LooseCall.{LooseCall}
-use Rattle.gix_odb_loose.specs.declared.call.LooseReply.{LooseReply}
+use Rattle.std.proofs.Common.{◌≡◌, ℕ, ◌+◌, ◌-◌, ◌*◌, ◌≤◌, ◌<◌, length, Option, Ok, refl, arith}
 use Rattle.gix_odb_packs.proofs.TryTurnLaws.{trier_turns}
 use Rattle.gix_odb_events.specs.declared.answer.Answer.{Answer}
-use Rattle.gix_odb_calls.specs.Verdict.{asking}
 use Rattle.gix_odb_calls.specs.declared.call.Reply.{Reply}
-use Rattle.gix_object.specs.declared.want.Want.{Want}
 use Rattle.gix_odb_looks.specs.Laps.{number_by}
 use Rattle.gix_odb_refresh.specs.Stream.{Stream}
-use Rattle.gix_odb_looks.specs.LookUpOrder.{Setting, loose_fed, result_at, seen}
+use Rattle.gix_odb_looks.specs.LookUpOrder.{Setting, result_at, seen}
 use Rattle.gix_odb_refresh.specs.declared.refresh.Refresh.TheVariants as fronts
 use Rattle.gix_odb_looks.specs.declared.look_up.LookHead.{LookHead}
 use Rattle.gix_odb_looks.specs.declared.look_up.LookStage.{LookStage}
@@ -37,15 +29,6 @@ pub record Bounds : Type 0 where
   pub entries : ℕ
   pub lap : ℕ
   pub wide : folder_turns setting.folders entries + further setting.folders entries 0 + settling_turns slots (length setting.folders) ≤ lap
-
--- ---- a folder of loose objects
-
--- it is done with after one answer
-abbrev pub IsOneAsk : LooseCall → Type 0
-IsOneAsk call = (answer : DiskAnswer) → (reply : LooseReply) × (reply_of (loose_fed call answer) ≡ Some reply)
-
-pub asks_once : (limit : Option ℕ) (want : Want) (id : ObjectId) (folder : Path) → IsOneAsk (asking limit want id folder)
-asks_once limit want id folder answer = (_, refl)
 
 module _ (bounds : Bounds) where
   abbrev pub folders : ℕ
@@ -81,7 +64,7 @@ module _ (bounds : Bounds) where
   -- reads gave `count` entries.
   abbrev pub HasLeft : LookHead → LookStage → (before : ℕ) (stream : Option Stream) (turns : ℕ) → Type 0
   HasLeft head (stages.Trying trier part) before stream turns = OfPart head part before (trier_turns trier + folders + 1) turns
-  HasLeft head (stages.Loose round call) before stream turns = IsOneAsk call × OfPart head round.part before ((folders - round.next) + 1) turns
+  HasLeft head (stages.Loose round call) before stream turns = OfPart head round.part before ((folders - round.next) + 1) turns
   HasLeft head (stages.Refreshing fronts.Reading purpose notes) before stream turns = OfPurpose head purpose before turns
   HasLeft head (stages.Refreshing (fronts.Listing lister) purpose notes) before stream turns =
       IsCounted bounds.setting.folders bounds.entries stream lister
@@ -108,7 +91,7 @@ module _ (bounds : Bounds) where
       → ((reply : Reply) → ¬ (result_at head stage ≡ Ok reply))
       → 0 < turns
   HasLeft-pos head (stages.Trying trier part) before stream turns has on = OfPart-pos head part before (trier_turns trier + folders) turns has
-  HasLeft-pos head (stages.Loose round call) before stream turns has on = OfPart-pos head round.part before (folders - round.next) turns has.1
+  HasLeft-pos head (stages.Loose round call) before stream turns has on = OfPart-pos head round.part before (folders - round.next) turns has
   HasLeft-pos head (stages.Refreshing fronts.Reading purpose notes) before stream turns has on = OfPurpose-pos head purpose before turns has
   HasLeft-pos head (stages.Refreshing (fronts.Listing lister) purpose notes) before stream turns has on = omega (arith, has.1.enough)
   HasLeft-pos head (stages.Refreshing (fronts.Publishing listing) purpose notes) before stream turns has on = omega (arith, has.enough)

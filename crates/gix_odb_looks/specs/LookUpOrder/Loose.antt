@@ -1,6 +1,6 @@
 -- The loose objects of the folders are asked.
 use Rattle.std.specs.Prelude.{◌+◌, true, false, slice_get, Option, Some, None}
-use Rattle.gix_odb_calls.specs.Verdict.{asking, verdict_on}
+use Rattle.gix_odb_calls.specs.Verdict.{asking}
 use Rattle.gix_odb_calls.specs.declared.verdict.Verdict.{Verdict}
 use Rattle.gix_odb_calls.specs.declared.verdict.Verdict.TheVariants as verdicts
 use Rattle.gix_odb_looks.specs.declared.look_up.LookHead.{LookHead}
@@ -11,12 +11,7 @@ use Rattle.gix_odb_looks.specs.declared.look_up.Part.{Part}
 use Rattle.gix_odb_looks.specs.declared.look_up.Part.TheVariants as parts
 use Rattle.gix_odb_looks.specs.declared.look_up.Purpose.TheVariants as purposes
 use Rattle.gix_odb_refresh.specs.declared.refresh.Refresh.TheVariants as fronts
-use Rattle.gix_odb_loose.specs.LooseOrder.{reply_of}
-use Rattle.gix_odb_loose.specs.LooseOrder as loose_order
-use Rattle.gix_odb_loose.specs.declared.call.LooseCall.{LooseCall}
-use Rattle.gix_odb_loose.specs.declared.call.LooseReply.{LooseReply}
 use Rattle.gix_odb_packs.specs.declared.search.Notes.{Notes}
-use Rattle.odb_asks.specs.declared.ask.DiskAnswer.{DiskAnswer}
 use Rattle.odb_base.specs.Path.{Path}
 use Rattle.gix_odb_looks.specs.LookUpOrder.Store.{Setting}
 use Rattle.gix_odb_looks.specs.LookUpOrder.Listing.{listing_from}
@@ -38,22 +33,9 @@ at_folder setting head round None = after_loose setting round.part round.notes
 at_folder setting head round (Some folder) =
     stages.Loose (record round { next = round.next + 1 }) (asking setting.limit head.want head.id folder)
 
--- behind what a folder says: its reply, the next folder, or that folder with the failed look noted
+-- behind what a folder says: the reply, the next folder, or that folder with the failed look noted
 abbrev pub by_verdict : Setting → LookHead → LooseRound → Verdict → LookStage
 by_verdict setting head round (verdicts.Ends reply) = stages.Done reply
 by_verdict setting head round verdicts.Misses = at_folder setting head round (slice_get setting.folders round.next)
 by_verdict setting head round (verdicts.Notes error) =
     at_folder setting head (record round { notes = record round.notes { failed = true } }) (slice_get setting.folders round.next)
-
--- behind a call of a folder that was fed: it goes on, or has its reply
-abbrev pub by_reply : Setting → LookHead → LooseRound → LooseCall → Option LooseReply → LookStage
-by_reply setting head round call None = stages.Loose round call
-by_reply setting head round call (Some reply) = by_verdict setting head round (verdict_on head.want reply)
-
--- the same by the call alone
-abbrev pub by_call : Setting → LookHead → LooseRound → LooseCall → LookStage
-by_call setting head round call = by_reply setting head round call (reply_of call)
-
--- the call of a folder behind an answer of the disk
-abbrev pub loose_fed : LooseCall → DiskAnswer → LooseCall
-loose_fed = loose_order.fed

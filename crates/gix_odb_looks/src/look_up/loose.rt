@@ -1,14 +1,13 @@
 //! The loose objects of the folders are asked.
 ghost use Rattle.std.specs.Prelude.{◌≡◌, IfOk, slice_get, true};
 ghost use Rattle.gix_odb_looks.specs.LookUpOrder.{setting_of};
-ghost use Rattle.gix_odb_calls.specs.Verdict.{asking};
+ghost use Rattle.gix_odb_calls.specs.Verdict.{asking, folder_verdict};
 ghost use Rattle.gix_odb_looks.specs.LookUpOrder as order;
 
 use super::listing::listing_from;
 use super::{LookHead, LookStage, LookUp, LooseRound, Part, Purpose, Setting, at};
-use gix_odb_calls::verdict::{Verdict, folder_call, verdict_on};
+use gix_odb_calls::verdict::{FolderCall, Verdict};
 use gix_odb_events::Answer;
-use gix_odb_loose::LooseCall;
 use gix_odb_packs::Notes;
 use gix_odb_refresh::Refresh;
 use odb_asks::DiskAnswer;
@@ -49,10 +48,10 @@ impl LookHead {
         alloc: Global,
         folder: &PathText,
         limit: Option<u64>,
-    ) -> Result<gix_odb_loose::LooseCall, NoMemory>
+    ) -> Result<FolderCall, NoMemory>
         ensures asking { IfOk result (λ call. call ≡ asking limit self.want self.id folder.now) }
     {
-        folder_call(alloc, folder, limit, self.want, self.id)
+        FolderCall::new(alloc, folder, limit, self.want, self.id)
     }
 }
 
@@ -62,7 +61,7 @@ pub(super) fn by_call(
     setting: &Setting<'_>,
     head: LookHead,
     round: LooseRound,
-    call: LooseCall,
+    call: FolderCall,
     answer: Answer,
 ) -> Result<LookUp, NoMemory>
     ensures by { IfOk result (λ look. look ≡ order.fed_at (setting_of setting.now) head (LookStage.Loose round call) answer) }
@@ -76,19 +75,19 @@ pub(super) fn by_call(
     }
 }
 
-/// What comes behind a step of a folder's call.
+/// What comes behind the answer of the disk to a folder's call.
 fn call_fed(
     alloc: Global,
     setting: &Setting<'_>,
     head: LookHead,
     round: LooseRound,
-    call: LooseCall,
+    call: FolderCall,
     answer: DiskAnswer,
 ) -> Result<LookUp, NoMemory>
-    ensures by { IfOk result (λ look. look ≡ order.at head (order.by_call (setting_of setting.now) head round (order.loose_fed call answer))) }
+    ensures by { IfOk result (λ look. look ≡ order.at head (order.by_verdict (setting_of setting.now) head round (folder_verdict call answer))) }
 {
-    match call.feed(alloc, answer) {
-        Ok(call) => Ok(at(head, called(alloc, setting, head, round, call)?)),
+    match call.verdict(alloc, answer) {
+        Ok(verdict) => Ok(at(head, by_verdict(alloc, setting, head, round, verdict)?)),
         Err(error) => {
             drop(round);
             Err(error)
@@ -96,23 +95,7 @@ fn call_fed(
     }
 }
 
-/// What comes behind a folder's call that was fed: that of its reply, where it has one.
-fn called(
-    alloc: Global,
-    setting: &Setting<'_>,
-    head: LookHead,
-    round: LooseRound,
-    call: LooseCall,
-) -> Result<LookStage, NoMemory>
-    ensures by { IfOk result (λ stage. stage ≡ order.by_call (setting_of setting.now) head round call) }
-{
-    match call.into_reply() {
-        Ok(reply) => by_verdict(alloc, setting, head, round, verdict_on(head.want, reply)),
-        Err(call) => Ok(LookStage::Loose { round, call }),
-    }
-}
-
-/// What comes behind a folder's reply, by what it means.
+/// What comes behind a folder's answer, by what it means.
 fn by_verdict(
     alloc: Global,
     setting: &Setting<'_>,

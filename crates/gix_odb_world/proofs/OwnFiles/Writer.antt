@@ -28,7 +28,7 @@ use Rattle.gix_odb_runs.specs.declared.record.Did.TheVariants.{Disk}
 use Rattle.gix_odb_calls.specs.declared.step.Outcome.TheVariants as outcomes
 use Rattle.gix_odb_runs.specs.Event.{Event}
 use Rattle.gix_odb_events.specs.declared.answer.Ask.TheVariants as work_asks
-use Rattle.gix_odb_looks.specs.LookUpOrder.{loose_ask}
+use Rattle.gix_odb.specs.CallOrder.{loose_ask}
 use Rattle.gix_odb_world.specs.Machines.{write_in}
 use Rattle.gix_odb_world.specs.Status.{IsAtWrite, Running, Working, status_of}
 use Rattle.gix_odb_world.specs.Headline.{outcome_of}

@@ -6,9 +6,6 @@ use Rattle.std.proofs.lemmas.Option.{same_Some}
 use Rattle.odb_base.specs.Path.{Path}
 use Rattle.odb_asks.specs.declared.ask.DiskAsk.{DiskAsk}
 use Rattle.gix_hash.specs.declared.object_id.ObjectId.{ObjectId}
-use Rattle.gix_odb_loose.specs.LooseOrder.{disk_ask_of, reply_of}
-use Rattle.gix_odb_loose.specs.declared.call.LooseCall.{LooseCall}
-use Rattle.gix_odb_loose.specs.declared.call.LooseReply.{LooseReply}
 use Rattle.gix_odb_events.specs.Answers.{view_in}
 use Rattle.gix_odb_events.specs.declared.event.Effect.{Effect}
 use Rattle.gix_odb_events.specs.declared.event.Effect.TheVariants as effects
@@ -29,7 +26,7 @@ use Rattle.gix_odb_events.specs.declared.answer.Answer.{Answer}
 use Rattle.gix_odb_events.specs.declared.answer.Answer.TheVariants as told
 use Rattle.gix_odb_events.specs.declared.answer.Ask.{Ask}
 use Rattle.gix_odb_events.specs.declared.answer.Ask.TheVariants as asks
-use Rattle.gix_odb_calls.specs.Verdict.{verdict_on}
+use Rattle.gix_odb_calls.specs.Verdict.{folder_ask, folder_verdict}
 use Rattle.gix_odb_calls.specs.declared.call.CallError.TheVariants as call_errors
 use Rattle.gix_odb_calls.specs.declared.find.Error.TheVariants as find_errors
 use Rattle.gix_odb_calls.specs.declared.load_index.Error.TheVariants as load_errors
@@ -46,9 +43,9 @@ use Rattle.gix_odb_refresh.specs.declared.refresh.Refresh.{Refresh}
 use Rattle.gix_odb_refresh.specs.declared.refresh.Refresh.TheVariants as fronts
 use Rattle.gix_odb_refresh.specs.declared.refresh.RefreshStep.{RefreshStep}
 use Rattle.gix_odb_refresh.specs.declared.refresh.RefreshStep.TheVariants as steps
-use Rattle.gix_odb_looks.specs.LookUpOrder.{Setting, after_list, after_loose, ask_at, ask_of, at_folder, by_call, by_checked, by_read, by_refresh, by_reply, by_tried}
+use Rattle.gix_odb_looks.specs.LookUpOrder.{Setting, after_list, after_loose, ask_at, ask_of, at_folder, by_checked, by_read, by_refresh, by_tried}
 use Rattle.gix_odb_looks.specs.LookUpOrder.{by_verdict, counted, ended, fed, fed_at, find_error, goal_of, is_unsettled, listing_from, load_refused}
-use Rattle.gix_odb_looks.specs.LookUpOrder.{loose_ask, loose_fed, new_head, not_found, result_at, result_of, seen, started, trier_fed, try_view, unsettled, view_shown}
+use Rattle.gix_odb_looks.specs.LookUpOrder.{new_head, not_found, result_at, result_of, seen, started, trier_fed, try_view, unsettled, view_shown}
 use Rattle.gix_odb_looks.specs.LookUpOrder.{with_own, without_absent, without_notes}
 use Rattle.gix_odb_looks.specs.declared.look_up.LookHead.{LookHead}
 use Rattle.gix_odb_looks.specs.declared.look_up.LookStage.{LookStage}
@@ -72,10 +69,8 @@ trying_lists_nothing number (tries_stages.ReadingPack pack) answer = refl
 trying_lists_nothing number (tries_stages.StoringPack pack file) answer = refl
 trying_lists_nothing number (tries_stages.PassingPack pack) answer = refl
 
-loose_lists_nothing : (number : Option ℕ) (call : Option DiskAsk) (ask : Ask) (answer : Answer) → loose_ask call ≡ Some ask → number ≡ list_by number ask answer
-loose_lists_nothing number None ask answer is = absurd (cc is)
-loose_lists_nothing number (Some own) ask answer is =
-    subst (λ (a : Ask). number ≡ list_by number a answer) (same_Some (asks.Disk own) ask is) refl
+loose_lists_nothing : (number : Option ℕ) (own : DiskAsk) (ask : Ask) (answer : Answer) → Some (asks.Disk own) ≡ Some ask → number ≡ list_by number ask answer
+loose_lists_nothing number own ask answer is = subst (λ (a : Ask). number ≡ list_by number a answer) (same_Some (asks.Disk own) ask is) refl
 
 -- ---- the list that was published or confirmed last
 
@@ -132,13 +127,6 @@ module _ (setting : Setting) (want : Want) where
     verdict_at round at verdicts.Misses ends = folder_at round at (slice_get setting.folders round.next)
     verdict_at round at (verdicts.Notes error) ends =
         folder_at (record round { notes = record round.notes { failed = true } }) at (slice_get setting.folders round.next)
-
-    reply_at : head.want ≡ want → (round : LooseRound) → PartAt number round.part → (call : LooseCall) (reply : Option LooseReply)
-        → IsAt number (by_reply setting head round call reply)
-    reply_at own round at call None = at
-    reply_at own round at call (Some reply) =
-        verdict_at round at (verdict_on head.want reply)
-        (subst (λ (q : Want). EndsNoMiss q (verdict_on head.want reply)) own (verdict_is_no_miss head.want reply))
 
     -- ---- looks at the core
 
@@ -262,15 +250,15 @@ module _ (setting : Setting) (want : Want) where
       (record {
         own = own;
         stage =
-            subst (λ (n : Option ℕ). IsAt n (by_call setting head round (loose_fed call answer)))
-            (loose_lists_nothing number (disk_ask_of call) ask (told.Disk answer) is)
-            (reply_at number head own round at (loose_fed call answer) (reply_of (loose_fed call answer)));
+            subst (λ (n : Option ℕ). IsAt n (by_verdict setting head round (folder_verdict call answer)))
+            (loose_lists_nothing number (folder_ask call) ask (told.Disk answer) is)
+            (verdict_at number head round at (folder_verdict call answer) (verdict_is_no_miss want call answer));
       })
   goes_at number head own (stages.Loose round call) at ask (told.Core answer) is =
       inl
       (record {
         own = own;
-        stage = subst (λ (n : Option ℕ). PartAt n round.part) (loose_lists_nothing number (disk_ask_of call) ask (told.Core answer) is) at;
+        stage = subst (λ (n : Option ℕ). PartAt n round.part) (loose_lists_nothing number (folder_ask call) ask (told.Core answer) is) at;
       })
   goes_at number head own (stages.Refreshing fronts.Reading purpose notes) at ask answer is =
       subst (λ (a : Ask). Goes number a answer (fed_at setting head (stages.Refreshing fronts.Reading purpose notes) answer))

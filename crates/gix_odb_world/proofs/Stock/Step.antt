@@ -34,7 +34,7 @@ use Rattle.gix_odb_world.specs.Asks.{AsksAsTask, MayAskCore, MayAskNewCore}
 use Rattle.gix_odb_world.specs.AtWork.{MakeCall, OpenStore, Running, Store, Task, modes_after, setting_in}
 use Rattle.gix_odb_runs.specs.Cores.{cores_after, history_at}
 use Rattle.gix_odb_runs.specs.Event.{Asked, CoreAnswer, CoreEvent, Event, OfNewCore, OfNothing, answered}
-use Rattle.gix_odb_looks.specs.LookUpOrder.{loose_ask}
+use Rattle.gix_odb.specs.CallOrder.{loose_ask}
 use Rattle.gix_odb_world.specs.Headline.{IsLawful, IsTurn, Law, Suits, Works, asked_applied, asked_by_clone, asked_by_close, stand_of}
 use Rattle.gix_odb_world.specs.Machines.{ask_in, fed_in}
 use Rattle.gix_odb_world.specs.Promise.{Promise}

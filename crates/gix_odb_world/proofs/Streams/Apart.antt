@@ -27,7 +27,7 @@ use Rattle.gix_odb_world.specs.Work.{Work}
 use Rattle.gix_odb_world.specs.Work.{Opening, Calling}
 use Rattle.gix_odb_world.specs.AtWork.{Running, setting_in}
 use Rattle.gix_odb_runs.specs.Event.{Event}
-use Rattle.gix_odb_looks.specs.LookUpOrder.{loose_ask}
+use Rattle.gix_odb.specs.CallOrder.{loose_ask}
 use Rattle.gix_odb_world.specs.Machines.{ask_in}
 use Rattle.gix_odb_world.specs.Running.{Knows}
 use Rattle.gix_odb_world.specs.Status.{Working, status_of}

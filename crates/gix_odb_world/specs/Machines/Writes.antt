@@ -6,7 +6,7 @@ use Rattle.gix_odb_calls.specs.declared.call.Reply.{Reply}
 use Rattle.gix_odb_calls.specs.declared.load_index.Error as load
 use Rattle.gix_odb_events.specs.declared.answer.Answer.{Answer}
 use Rattle.gix_odb_events.specs.declared.answer.Ask.{Ask}
-use Rattle.gix_odb_looks.specs.LookUpOrder.{loose_ask}
+use Rattle.gix_odb.specs.CallOrder.{loose_ask}
 use Rattle.gix_odb_refresh.specs.RefreshOrder as refreshes
 use Rattle.gix_odb_refresh.specs.declared.refresh.Refresh.{Refresh}
 use Rattle.gix_odb_refresh.specs.declared.refresh.RefreshStep.{RefreshStep}

@@ -19,7 +19,7 @@ use Rattle.gix_object.proofs.LooseLaws.{loose_of-IsLoose}
 use Rattle.gix_odb_loose.specs.Causes.{FindCause, HeaderCause, IsUnreadable, Seen, TestCause}
 use Rattle.gix_odb_loose.specs.LooseFile.{HoldsHeader, HoldsObject, LeadsToFile, Reading, loose_path}
 use Rattle.gix_odb_loose.specs.LooseFile as loose_files
-use Rattle.gix_odb_loose.specs.LooseOrder.{disk_ask_of, job_of, reply_of}
+use Rattle.gix_odb_loose.specs.LooseOrder.{job_of}
 use Rattle.gix_odb_loose.specs.LooseOrder.Answered.{found_by, header_by, tested_by}
 use Rattle.gix_odb_loose.specs.Replies.{Says}
 use Rattle.gix_odb_loose.proofs.ReplyLaws.{Says-now}
@@ -29,18 +29,19 @@ use Rattle.gix_odb_loose.specs.declared.call.LooseReply.{LooseReply}
 use Rattle.gix_odb_loose.specs.declared.call.LooseReply.TheVariants as loose_replies
 use Rattle.gix_odb_loose.specs.declared.find.Error.{Error}
 use Rattle.gix_odb_loose.specs.declared.find.Error.TheVariants as errors
-use Rattle.gix_odb_calls.specs.Verdict.{asking, loose_store, verdict_on}
+use Rattle.gix_odb_calls.specs.Verdict.{asking, folder_ask, folder_verdict, verdict_on_find, verdict_on_header, verdict_on_test}
 use Rattle.gix_odb_calls.specs.declared.call.Reply.{Reply}
 use Rattle.gix_odb_calls.specs.declared.call.Reply.TheVariants as replies
 use Rattle.gix_odb_calls.specs.declared.find.Header.TheVariants as headers
 use Rattle.gix_object.specs.declared.want.Want.{Want}
 use Rattle.gix_object.specs.declared.want.Want.TheVariants.{Object, Header, Presence}
 use Rattle.gix_odb_calls.specs.declared.verdict.Verdict.TheVariants as verdicts
-use Rattle.gix_odb_looks.specs.LookUpOrder.{Setting, loose_fed}
+use Rattle.gix_odb_looks.specs.LookUpOrder.{Setting}
 use Rattle.gix_odb_looks.specs.Reply.{IsAnswer}
 use Rattle.gix_odb.specs.Contents.{StoreData}
 use Rattle.gix_odb.specs.Held.{InLooseFile, LiesAt}
 use Rattle.gix_odb_look_laws.specs.Moved.{HasLoose}
+use Rattle.gix_odb_world.proofs.FolderLemmas.{loose_store}
 
 -- ---- one file is spelled in one way
 
@@ -153,61 +154,52 @@ module _ (limit : Option ℕ) (id : ObjectId) (folder : Path) (disk : Volume) (w
     abbrev SaysOf : LooseJob → LooseReply → Type 0
     SaysOf job reply = Says at limit job (tree_of disk.state) Failed ⊥ reply
 
-    abbrev Replied : Want → DiskAnswer → LooseReply → Type 0
-    Replied want answer reply = reply_of (loose_fed (asking limit want id folder) answer) ≡ Some reply
-
     -- by which a folder's loose objects have it
-    has : (want : Want) (answer : DiskAnswer) (reply : LooseReply) (told : Reply) → Replied want answer reply → verdict_on want reply ≡ verdicts.Ends told → IsAnswer told
+    has : (want : Want) (answer : DiskAnswer) (told : Reply) → folder_verdict (asking limit want id folder) answer ≡ verdicts.Ends told → IsAnswer told
         → HasLoose setting want id folder answer
-    has want answer reply told replied says found =
+    has want answer told says found =
         record {
-          reply = reply;
-          replied = subst (λ (l : Option ℕ). reply_of (loose_fed (asking l want id folder) answer) ≡ Some reply) (sym limited) replied;
           told = told;
-          says = says;
+          says = subst (λ (l : Option ℕ). folder_verdict (asking l want id folder) answer ≡ verdicts.Ends told) (sym limited) says;
           found = found;
         }
 
     find_has : (answer : DiskAnswer) (kind : Kind) (found : List ℕ) → HoldsObject limit bytes kind found
-        → (result : Result (Option (Kind × List ℕ)) Error) → Replied Object answer (loose_replies.Found result) → SaysOf (jobs.Find id) (loose_replies.Found result)
+        → (result : Result (Option (Kind × List ℕ)) Error) → found_by at limit answer ≡ result → SaysOf (jobs.Find id) (loose_replies.Found result)
         → HasLoose setting Object id folder answer
-    find_has answer kind found holds (Ok (Some x)) replied says = has Object answer (loose_replies.Found (Ok (Some x))) (replies.Found x.0 x.1) replied refl tt
-    find_has answer kind found holds (Ok None) replied says = absurd (says.missed tt leads)
-    find_has answer kind found holds (Err error) replied says = absurd (find_sound kind found holds error (says.refused error refl))
+    find_has answer kind found holds (Ok (Some x)) is says = has Object answer (replies.Found x.0 x.1) (ap verdict_on_find is) tt
+    find_has answer kind found holds (Ok None) is says = absurd (says.missed tt leads)
+    find_has answer kind found holds (Err error) is says = absurd (find_sound kind found holds error (says.refused error refl))
 
     header_has : (answer : DiskAnswer) (kind : Kind) (size : ℕ) → HoldsHeader bytes kind size
-        → (result : Result (Option (ℕ × Kind)) Error) → Replied Header answer (loose_replies.Header result) → SaysOf (jobs.Header id) (loose_replies.Header result)
+        → (result : Result (Option (ℕ × Kind)) Error) → header_by at answer ≡ result → SaysOf (jobs.Header id) (loose_replies.Header result)
         → HasLoose setting Header id folder answer
-    header_has answer kind size holds (Ok (Some x)) replied says =
-        has Header answer (loose_replies.Header (Ok (Some x))) (replies.Header (headers.Loose x.1 x.0)) replied refl tt
-    header_has answer kind size holds (Ok None) replied says = absurd (says.missed tt leads)
-    header_has answer kind size holds (Err error) replied says = absurd (header_sound kind size holds error (says.refused error refl))
+    header_has answer kind size holds (Ok (Some x)) is says = has Header answer (replies.Header (headers.Loose x.1 x.0)) (ap verdict_on_header is) tt
+    header_has answer kind size holds (Ok None) is says = absurd (says.missed tt leads)
+    header_has answer kind size holds (Err error) is says = absurd (header_sound kind size holds error (says.refused error refl))
 
-    test_has : (answer : DiskAnswer) (result : Result Bool Error) → Replied Presence answer (loose_replies.Contains result)
+    test_has : (answer : DiskAnswer) (result : Result Bool Error) → tested_by at answer ≡ result
         → SaysOf (jobs.Contains id) (loose_replies.Contains result) → HasLoose setting Presence id folder answer
-    test_has answer (Ok true) replied says = has Presence answer (loose_replies.Contains (Ok true)) (replies.Tested true) replied refl tt
-    test_has answer (Ok false) replied says = absurd (says.missed tt leads)
-    test_has answer (Err error) replied says = absurd (test_sound error (says.refused error refl))
+    test_has answer (Ok true) is says = has Presence answer (replies.Tested true) (ap verdict_on_test is) tt
+    test_has answer (Ok false) is says = absurd (says.missed tt leads)
+    test_has answer (Err error) is says = absurd (test_sound error (says.refused error refl))
 
     -- what the disk answers to the one call by which a query asks for the object
     read_has : (want : Want) (own : loose_files.Answer) → loose_files.Holds limit (job_of want id) bytes own → (ask : DiskAsk)
-        → disk_ask_of (asking limit want id folder) ≡ Some ask → HasLoose setting want id folder (answer_now disk ask)
+        → folder_ask (asking limit want id folder) ≡ ask → HasLoose setting want id folder (answer_now disk ask)
     read_has Object (loose_files.Object kind found) holds ask is =
-        let same : asks.Read at ≡ ask = cc is in
         let result = found_by at limit (answer_now disk (asks.Read at)) in
-        subst (λ (a : DiskAsk). HasLoose setting Object id folder (answer_now disk a)) same
+        subst (λ (a : DiskAsk). HasLoose setting Object id folder (answer_now disk a)) is
         (find_has (answer_now disk (asks.Read at)) kind found holds result refl
         (Says-now (loose_store limit id folder) (jobs.Find id) disk (asks.Read at) (loose_replies.Found result) refl refl))
     read_has Header (loose_files.HeaderOf kind size) holds ask is =
-        let same : asks.Read at ≡ ask = cc is in
         let result = header_by at (answer_now disk (asks.Read at)) in
-        subst (λ (a : DiskAsk). HasLoose setting Header id folder (answer_now disk a)) same
+        subst (λ (a : DiskAsk). HasLoose setting Header id folder (answer_now disk a)) is
         (header_has (answer_now disk (asks.Read at)) kind size holds result refl
         (Says-now (loose_store limit id folder) (jobs.Header id) disk (asks.Read at) (loose_replies.Header result) refl refl))
     read_has Presence loose_files.Presence holds ask is =
-        let same : asks.Look at true ≡ ask = cc is in
         let result = tested_by at (answer_now disk (asks.Look at true)) in
-        subst (λ (a : DiskAsk). HasLoose setting Presence id folder (answer_now disk a)) same
+        subst (λ (a : DiskAsk). HasLoose setting Presence id folder (answer_now disk a)) is
         (test_has (answer_now disk (asks.Look at true)) result refl
         (Says-now (loose_store limit id folder) (jobs.Contains id) disk (asks.Look at true) (loose_replies.Contains result) refl refl))
     read_has Object (loose_files.HeaderOf kind size) holds ask is = absurd holds
@@ -218,18 +210,18 @@ module _ (limit : Option ℕ) (id : ObjectId) (folder : Path) (disk : Volume) (w
     read_has Presence (loose_files.HeaderOf kind size) holds ask is = absurd holds
 
 -- whether the one call of a query fails now
-fails_as_next : (limit : Option ℕ) (want : Want) (id : ObjectId) (folder : Path) (disk : Volume) (ask : DiskAsk) → disk_ask_of (asking limit want id folder) ≡ Some ask
+fails_as_next : (limit : Option ℕ) (want : Want) (id : ObjectId) (folder : Path) (disk : Volume) (ask : DiskAsk) → folder_ask (asking limit want id folder) ≡ ask
     → fails_now disk ask ≡ false → next_fails disk ≡ false
 fails_as_next limit Object id folder disk ask is works =
-    let same : asks.Read (loose_path folder id) ≡ ask = cc is in subst (λ (a : DiskAsk). fails_now disk a ≡ false) (sym same) works
+    subst (λ (a : DiskAsk). fails_now disk a ≡ false) (sym is) works
 fails_as_next limit Header id folder disk ask is works =
-    let same : asks.Read (loose_path folder id) ≡ ask = cc is in subst (λ (a : DiskAsk). fails_now disk a ≡ false) (sym same) works
+    subst (λ (a : DiskAsk). fails_now disk a ≡ false) (sym is) works
 fails_as_next limit Presence id folder disk ask is works =
-    let same : asks.Look (loose_path folder id) true ≡ ask = cc is in subst (λ (a : DiskAsk). fails_now disk a ≡ false) (sym same) works
+    subst (λ (a : DiskAsk). fails_now disk a ≡ false) (sym is) works
 
 -- An object that lies in its loose file, sound for a query, is had by what the disk answers to the query, where that call doesn't fail.
 pub sound_file_is_had : (store : StoreData) (setting : Setting) → setting.limit ≡ store.limit → (want : Want) (id : ObjectId) (folder : Path) (disk : Volume)
-    → LiesAt store want (tree_of disk.state) folder id InLooseFile → (ask : DiskAsk) → disk_ask_of (asking store.limit want id folder) ≡ Some ask
+    → LiesAt store want (tree_of disk.state) folder id InLooseFile → (ask : DiskAsk) → folder_ask (asking store.limit want id folder) ≡ ask
     → fails_now disk ask ≡ false → HasLoose setting want id folder (answer_now disk ask)
 sound_file_is_had store setting limited want id folder disk lies ask is works =
     let sound = lies.2.1 in
