@@ -10,11 +10,11 @@ use Rattle.gix_odb_events.specs.declared.listing.ListingRow.{ListingRow}
 abbrev has : Path → List ListingRow → Bool
 has path rows = list_any (λ (row : ListingRow). same_path path row.path) rows
 
--- the paths of rows are other ones
+-- the paths of rows are others
 abbrev others : Path → List ListingRow → Type 0
 others path rows = AllByRecursion (λ y. same_path path y ≡ false) (map (λ (row : ListingRow). row.path) rows)
 
--- a path that no row has is another one than each row's
+-- a path that no row has differs from each row's
 each-other : (path : Path) (rows : List ListingRow) → has path rows ≡ false → others path rows
 each-other path [] none = tt
 each-other path (row ∷ rows) none = by (same_path path row.path) none (each-other path rows)

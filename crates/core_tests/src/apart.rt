@@ -1,4 +1,4 @@
-//! Whether a listing can be published: no two of its rows have one path.
+//! Whether a listing can be published: no two of its rows have the same path.
 ghost use Rattle.std.specs.Prelude.{◌≡◌, true};
 ghost use Rattle.std.specs.List.{list_any};
 ghost use Rattle.core_tests.specs.Apart.{are_apart};
@@ -28,7 +28,7 @@ fn are_apart(rows: &[ListingRow]) -> bool
     true
 }
 
-/// Whether no two rows have one path.
+/// Whether no two rows have the same path.
 pub fn can_be_published(rows: &[ListingRow]) -> bool
     ensures apart { result ≡ true → HasDifferentPaths rows.now }
 {

@@ -1,9 +1,9 @@
 //! Events in words, both ways.
 //!
-//! `register SEAT`, `register SEAT stable`, `upgrade SEAT`, `remove SEAT`, `look SEAT`, `report SEAT`,
-//! `index SEAT SLOT PATH COUNT` and `pack SEAT SLOT PATH COUNT` for files of so many objects (`SLOT.PLACE` for a pack of a
-//! multi-pack index), `pass SEAT SLOT PATH WHY`, and `publish SEAT BASE ROW ROW ..`. A row is `PATH` or `PATH+TIME` for a
-//! single index, and `PATH@TIME` for a multi-pack index.
+//! `register SEAT`, `register SEAT stable`, `upgrade SEAT`, `remove SEAT`, `look SEAT`, `report SEAT`, `index SEAT
+//! SLOT PATH COUNT` and `pack SEAT SLOT PATH COUNT` for files of COUNT objects (`SLOT.PLACE` for a pack of a
+//! multi-pack index), `pass SEAT SLOT PATH WHY`, and `publish SEAT BASE ROW ROW ..`. A row is `PATH` or `PATH+TIME`
+//! for a single index, and `PATH@TIME` for a multi-pack index.
 use crate::files::{index_file, multi_file, pack_file};
 use crate::words::parts_of;
 use gix_odb_core::{Event, Listing, ListingRow, ListingRowList, PackId, PassWhy, Shared};
@@ -13,7 +13,7 @@ use std::alloc::Global;
 use std::test::Fail;
 use test_words::{Text, cut};
 
-/// The event of a verb and the words behind the seat.
+/// The event of a verb and the words after the seat.
 pub fn event_of(alloc: Global, verb: &str, rest: &str) -> Result<Event, Fail> {
     match verb {
         "register" => Ok(Event::Register {
@@ -148,7 +148,7 @@ fn verb_of(event: &Event) -> &'static str {
     }
 }
 
-/// Puts the words of a seat's event behind a text, each with a blank before it.
+/// Appends the words of a seat's event to a text, each after a space.
 pub fn put_event(text: &mut Text, seat: u32, event: &Event) {
     text.marked(verb_of(event), u64::from(seat));
     match event {
@@ -191,7 +191,7 @@ fn put_listing(text: &mut Text, listing: &Listing) {
     }
 }
 
-/// Puts the time of a row behind its path.
+/// Appends the time of a row to its path.
 pub fn put_time(text: &mut Text, multi: bool, time: u64) {
     if multi {
         text.marked("@", time);

@@ -5,7 +5,7 @@ use std::alloc::Global;
 use std::test::Fail;
 use test_words::{Text, wide_halves};
 
-/// States of a file in which 7 was read if something was, and what it answers as it is, once it is trashed, and once it is put back then.
+/// States of a file in which 7 was read if something was, and its answers as it is, after it is trashed, and after it is then put back.
 const ROWS: &[&str] = &[
     "unloaded | unloaded, unloaded, unloaded",
     "loaded | loaded 7, loaded 7 disposable, loaded 7",
@@ -22,7 +22,7 @@ fn state_of(word: &str) -> FileState<u8> {
     }
 }
 
-/// Puts what the questions on a file answer behind a mark: whether it is loaded, what was read, and whether it is disposable.
+/// Appends a mark and the answers of a file: whether it is loaded, what was read, and whether it is disposable.
 fn put_answers(text: &mut Text, mark: &str, file: &OnDiskFile<u8>) {
     let loaded = if file.is_loaded() {
         "loaded"

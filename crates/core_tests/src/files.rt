@@ -19,7 +19,7 @@ fn push_blob(alloc: Global, objects: &mut Vec<Object>, text: &str) -> Result<(),
     Ok(objects.push(blob(alloc, text)?)?)
 }
 
-/// So many objects, in words.
+/// This many objects, in words.
 fn blobs(alloc: Global, count: &str) -> Result<Vec<Object>, Fail> {
     let count = count.parse::<usize>()?;
     let mut objects = Vec::new(alloc);
@@ -47,19 +47,19 @@ fn pack_of(alloc: Global, objects: &[Object]) -> Result<Shared<data::File>, Fail
     Ok(Shared::new(alloc, file)?)
 }
 
-/// The index of so many objects.
+/// The index of this many objects.
 pub fn index_file(alloc: Global, count: &str) -> Result<Shared<index::File>, Fail> {
     let objects = blobs(alloc, count)?;
     index_of(alloc, objects.as_slice())
 }
 
-/// The pack of so many objects.
+/// The pack of this many objects.
 pub fn pack_file(alloc: Global, count: &str) -> Result<Shared<data::File>, Fail> {
     let objects = blobs(alloc, count)?;
     pack_of(alloc, objects.as_slice())
 }
 
-/// The objects of a pack, of which its name is the only one.
+/// The objects of a pack: its name is the only one.
 fn objects_of(alloc: Global, name: &str) -> Result<Sequence<Object>, NoMemory> {
     let mut objects = Sequence::new(alloc);
     objects.push(blob(alloc, name)?)?;
@@ -81,7 +81,7 @@ fn multi_of(alloc: Global, packs: &[NamedPack]) -> Result<Shared<multi_index::Fi
     Ok(Shared::new(alloc, file)?)
 }
 
-/// The multi-pack index of a time: that of odd times has the packs `a` and `b`, the other one the pack `b` alone.
+/// The multi-pack index of a time: for odd times it has the packs `a` and `b`, otherwise only the pack `b`.
 pub fn multi_file(alloc: Global, time: u64) -> Result<Shared<multi_index::File>, Fail> {
     let names: &[&str] = if time % 2 == 1 {
         &["a.idx", "b.idx"]

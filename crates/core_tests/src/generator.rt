@@ -1,15 +1,15 @@
-//! Made-up events in words, from a seed.
+//! Random events in words, from a seed.
 use crate::events::put_time;
 use crate::model::Model;
 use crate::shelf::Place;
 use test_words::Text;
 
-/// How events are made up: how often of 16 times a new handle is stable, a handle that isn't stable is upgraded, and a handle is removed.
+/// How events are made up: how often in 16 a new handle is stable, a handle that isn't stable is upgraded, and a handle is removed.
 pub struct Ways {
     pub stable: u64,
     pub upgraded: u64,
     pub removed: u64,
-    /// How many rows a listing has at most, and one more.
+    /// One more than the most rows of a listing.
     pub rows: u64,
 }
 
@@ -34,7 +34,7 @@ const PACKS: &[&str] = &[
 
 const REASONS: &[&str] = &["absent", "failed", "kind", "link", "bad"];
 
-/// The word at a place, round and round.
+/// The word at a place, wrapping around.
 fn word_at(words: &[&'static str], place: u64) -> &'static str {
     let count = words.len() as u64;
     if count == 0 {
@@ -57,7 +57,7 @@ impl Numbers {
         (self.state >> 33) % end
     }
 
-    /// Whether something happens that happens so often of 16 times.
+    /// Whether something happens that happens this often in 16.
     fn happens(&mut self, times: u64) -> bool {
         self.below(16) < times
     }
@@ -67,7 +67,7 @@ impl Numbers {
     }
 }
 
-/// Puts the next event in words.
+/// Appends the next event in words.
 pub fn put_made_up(text: &mut Text, numbers: &mut Numbers, ways: &Ways, model: &Model) {
     let seat = numbers.below(4);
     match model.handle(seat as usize) {
@@ -83,7 +83,7 @@ fn put_register(text: &mut Text, numbers: &mut Numbers, ways: &Ways, seat: u64) 
     }
 }
 
-/// A report comes now and then, since it has all files that were passed over.
+/// A report comes only sometimes, since it has all files that were passed over.
 fn put_event(
     text: &mut Text,
     numbers: &mut Numbers,
@@ -104,12 +104,12 @@ fn put_event(
     }
 }
 
-/// A slot, or the number behind the last.
+/// A slot, or the number after the last.
 fn any_slot(numbers: &mut Numbers, model: &Model) -> usize {
     numbers.below((model.shelf.count as u64).saturating_add(1)) as usize
 }
 
-/// Mostly a slot with a file that waits to be read, where there is one behind some slot.
+/// Mostly a slot with a file that waits to be read, if there is one in the slots after some place.
 fn slot_of(numbers: &mut Numbers, model: &Model, index: bool) -> usize {
     let start = any_slot(numbers, model);
     if numbers.happens(5) {
@@ -123,7 +123,7 @@ fn slot_of(numbers: &mut Numbers, model: &Model, index: bool) -> usize {
     start
 }
 
-/// Whether the index, or else a pack, waits to be read.
+/// Whether the index, or otherwise a pack, waits to be read.
 fn is_waiting(place: Place, index: bool) -> bool {
     match place {
         None => false,
@@ -132,7 +132,7 @@ fn is_waiting(place: Place, index: bool) -> bool {
     }
 }
 
-/// The path of the index in a slot mostly, and another one now and then.
+/// Mostly the path of the index in a slot, and sometimes another one.
 fn index_path(numbers: &mut Numbers, place: Place) -> &'static str {
     match place {
         Some(held) if !numbers.happens(3) => held.row.path,
@@ -140,7 +140,7 @@ fn index_path(numbers: &mut Numbers, place: Place) -> &'static str {
     }
 }
 
-/// The path of a pack in a slot mostly, and another one now and then.
+/// Mostly the path of a pack in a slot, and sometimes another one.
 fn pack_path(numbers: &mut Numbers, place: Place) -> &'static str {
     match place {
         Some(held) if !numbers.happens(3) => {
@@ -190,7 +190,7 @@ fn put_pass(text: &mut Text, numbers: &mut Numbers, model: &Model, seat: u64) {
     text.marked(" ", numbers.word(REASONS));
 }
 
-/// A listing: mostly a new one on the newest list, now and then the same again, or one that began before.
+/// A listing: mostly a new one on the newest list, sometimes the same again, or one that began before.
 fn put_publish(text: &mut Text, numbers: &mut Numbers, ways: &Ways, model: &Model, seat: u64) {
     text.marked("publish ", seat);
     let before = numbers.below(3);
@@ -223,7 +223,7 @@ fn put_same_rows(text: &mut Text, model: &Model) {
     }
 }
 
-/// Rows of different paths: a stretch of them, or each second one.
+/// Rows of different paths: consecutive ones, or every second one.
 fn put_rows(text: &mut Text, numbers: &mut Numbers, end: u64) {
     let start = numbers.below(9);
     let stride = if numbers.happens(8) { 1 } else { 2 };
@@ -233,7 +233,7 @@ fn put_rows(text: &mut Text, numbers: &mut Numbers, end: u64) {
     }
 }
 
-/// A multi-pack index mostly where the path has no ending, and else now and then.
+/// Mostly a multi-pack index if the path has no ending, and otherwise sometimes.
 fn put_made_row(text: &mut Text, numbers: &mut Numbers, path: &str) {
     let times = if path.ends_with(".idx") { 2 } else { 13 };
     let multi = numbers.happens(times);

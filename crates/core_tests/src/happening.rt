@@ -1,4 +1,4 @@
-//! What happens to a core, as far as it can.
+//! Events on a core, if they can happen.
 ghost use Rattle.std.specs.Prelude.{◌≡◌, true};
 ghost use Rattle.gix_odb_core.specs.History.{present};
 ghost use Rattle.gix_odb_core.specs.Replay.{CanHappen};
@@ -24,7 +24,7 @@ fn can_happen(core: &Core, seat: u32, event: &Event) -> bool
     }
 }
 
-/// Puts what an event answers behind a text, if it can happen.
+/// Appends the answer to an event to a text, if it can happen.
 fn put_happening(alloc: Global, core: &mut Core, seat: u32, event: Event, text: &mut Text) {
     if can_happen(core, seat, &event) {
         let answer = core.apply(alloc, seat, event);
@@ -34,7 +34,7 @@ fn put_happening(alloc: Global, core: &mut Core, seat: u32, event: Event, text: 
     }
 }
 
-/// Puts what an event in words answers behind a text.
+/// Appends the answer to an event in words to a text.
 pub fn happen(alloc: Global, core: &mut Core, line: &str, text: &mut Text) -> Result<(), Fail> {
     let (verb, rest) = cut(line);
     let (seat, rest) = cut(rest);

@@ -1,6 +1,6 @@
-//! What no clause of the core of a store says: that events get through, the worked rows, and that a plain second model tells the same.
+//! What no clause of the core of a store says: that events succeed, the worked rows, and that a plain second model agrees.
 //!
-//! Each test is a table. A row is an event in words, and behind a bar what is to come of it; `events` and `shown` say which words there are.
+//! Each test is a table. A row is an event in words, and after a bar the expected result; `events` and `shown` define the words.
 #![tactic(auto)]
 
 #[cfg(test)]

@@ -1,4 +1,4 @@
-//! Made-up events, played on a core and beside it on the second model.
+//! Random events, played both on a core and on the second model.
 use crate::generator::{Numbers, Ways, put_made_up};
 use crate::model::{Model, Opening};
 use crate::table::{check_core, core_of};
@@ -23,7 +23,7 @@ const WORDS: [&str; 10] = [
     "overflow",
 ];
 
-/// How often each first word has to come still.
+/// How often each first word still has to come.
 type Wanted = [u64; 10];
 
 fn lower(wanted: &mut Wanted, place: usize) {
@@ -42,7 +42,7 @@ fn note(wanted: &mut Wanted, answer: &str) {
     }
 }
 
-/// Fails where a word didn't come as often as it has to.
+/// Fails if a word didn't come as often as it has to.
 fn check_all_came(wanted: &Wanted) -> Result<(), Fail> {
     for (place, word) in WORDS.iter().enumerate() {
         if wanted.get(place) != Some(&0) {
@@ -52,17 +52,17 @@ fn check_all_came(wanted: &Wanted) -> Result<(), Fail> {
     Ok(())
 }
 
-/// Made-up events, and what has to come of them.
+/// Random events, and what they have to lead to.
 struct Run {
     opening: Opening,
     seed: u64,
     ways: Ways,
-    /// How far the generation and the state number come at least.
+    /// The values that the generation and the state number reach at least.
     counters: (u32, u64),
     wanted: Wanted,
 }
 
-/// Plays an event on the second model, and then on the core. It compares the answer, the newest entry of the journal, what the core shows and its counts.
+/// Plays an event on the second model, and then on the core. It compares the answer, the newest journal entry, the view and the counts.
 fn step(
     alloc: Global,
     core: &mut Core,
@@ -112,7 +112,7 @@ fn play_next(
     step(alloc, core, model, wanted, line.as_str())
 }
 
-/// Fails where a counter doesn't come as far as it has to.
+/// Fails if a counter doesn't reach the value that it has to.
 fn check_counters(model: &Model, counters: (u32, u64)) -> Result<(), Fail> {
     let (generation, state) = counters;
     if model.generation >= generation && model.state >= state {
@@ -145,7 +145,7 @@ fn check(alloc: Global, run: &Run) -> Result<(), Fail> {
 }
 
 const RUNS: &[Run] = &[
-    // Few slots, so that listings often find too few; handles come and go.
+    // Few slots, so that listings often find too few; handles are registered and removed.
     Run {
         opening: (3, 1, 0, 0),
         counters: (0, 0),
@@ -158,7 +158,7 @@ const RUNS: &[Run] = &[
         },
         wanted: [100, 10, 10, 50, 50, 50, 20, 20, 50, 0],
     },
-    // Handles are mostly stable, so that slots keep what no listing has any more, until all of them are gone.
+    // Handles are mostly stable, so that slots keep what no listing has any more, until all handles are gone.
     Run {
         opening: (9, 4, 0, 0),
         counters: (0, 0),
@@ -171,7 +171,7 @@ const RUNS: &[Run] = &[
         },
         wanted: [100, 10, 10, 50, 50, 50, 20, 20, 20, 0],
     },
-    // The state number, and then the generation, come to their greatest values.
+    // The state number, and then the generation, reach their greatest values.
     Run {
         opening: (5, 2, u32::MAX - 15, u64::MAX - 250),
         counters: (u32::MAX, u64::MAX),

@@ -31,8 +31,8 @@ fn all_listed(alloc: Global, answer: &str) -> Text {
     text
 }
 
-// A row that is held to be new because many others are there, a slot that is found for another row, or a listing that is published
-// again though nothing changed.
+// A row that is treated as new because many others are there, a slot that is found for another row, or a listing that
+// is published again though nothing changed.
 #[test]
 fn twice(rt: HostRuntime) -> Result<(), Fail> {
     let alloc = rt.alloc();

@@ -1,5 +1,5 @@
-//! A second model of a core, as plain as can be: ten slots at most, a list of their numbers, and some counts. It plays
-//! events in words, and tells what is to come of them. It shares nothing with the core.
+//! A second model of a core, as plain as possible: at most ten slots, a list of their numbers, and some counts. It
+//! plays events in words, and returns the expected results. It shares no code with the core.
 use crate::model_files::Turn;
 use crate::shelf::{Listed, Shelf};
 use std::alloc::Global;
@@ -13,16 +13,16 @@ pub struct Model {
     pub list_no: u64,
     pub generation: u32,
     pub state: u64,
-    /// The handles of the seats, each with whether it is stable.
+    /// The handles by their seats, each with whether it is stable.
     pub handles: [Option<bool>; 8],
     pub folders: u64,
     pub refreshes: u64,
     pub entries: u64,
-    /// The files that were passed over, behind a bracket.
+    /// The files that were passed over, after a bracket.
     pub passed: Text,
 }
 
-/// With what a core is made: its slots and folders, its generation and its state number.
+/// How a core is made: its slots and folders, its generation and its state number.
 pub type Opening = (u16, usize, u32, u64);
 
 impl Model {
@@ -44,12 +44,12 @@ impl Model {
         }
     }
 
-    /// Whether a handle is stable, where it is registered.
+    /// Whether a handle is stable, if it is registered.
     pub fn handle(&self, seat: usize) -> Option<bool> {
         self.handles.get(seat).copied().unwrap_or(None)
     }
 
-    /// Plays an event, and puts what is to come of it behind a text.
+    /// Plays an event, and appends the expected result to a text.
     pub fn play(&mut self, line: &str, text: &mut Text) {
         let (verb, rest) = cut(line);
         let (seat, rest) = cut(rest);
@@ -83,7 +83,7 @@ impl Model {
         text.put("removed");
     }
 
-    /// Whether the index, or else a pack, of this path waits to be read.
+    /// Whether the index, or otherwise a pack, of this path waits to be read.
     fn waits(&self, slot: usize, path: &str, index: bool) -> bool {
         match self.shelf.at(slot) {
             Some(held) => held.waits(path) && index != path.ends_with(".pack"),
@@ -128,7 +128,7 @@ impl Model {
         }
     }
 
-    /// Takes what a listing comes to, if there are slots enough, and no counter stands at its end that has to rise.
+    /// Takes over the result of a listing, if there are enough slots, and no counter overflows.
     fn settle(&mut self, text: &mut Text, listed: Listed) {
         let same = self.read && !listed.is_new && listed.shelf.list == self.shelf.list;
         if listed.missing > 0 {
@@ -162,7 +162,7 @@ impl Model {
     }
 }
 
-/// The slot, the path and the word behind them, of `SLOT PATH WORD` or `SLOT.PLACE PATH WORD`.
+/// The slot, the path and the word after them, of `SLOT PATH WORD` or `SLOT.PLACE PATH WORD`.
 fn file_of(words: &str) -> (usize, &str, &str) {
     let (slot, rest) = cut(words);
     let (path, word) = cut(rest);

@@ -1,34 +1,34 @@
 //! Rows, files and slots of the second model.
 use crate::words::parts_of;
 
-/// What became of a file.
+/// The state of a file.
 #[derive(Clone, Copy)]
 pub enum State {
     Unread,
-    /// It has so many objects.
+    /// It has this many objects.
     Here(u64),
-    /// The same, and no listing has it.
+    /// It has this many objects, and no listing has it.
     Old(u64),
     Gone,
 }
 
-/// What becomes of files.
+/// A change of files.
 #[derive(Clone, Copy)]
 pub enum Turn<'a> {
     /// A listing has them again.
     Back,
     /// No listing has them any more.
     Aside,
-    /// That of this path was read, and has so many objects.
+    /// The one with this path was read, and has this many objects.
     Read(&'a str, u64),
-    /// That of this path could not be read.
+    /// The one with this path could not be read.
     Missed(&'a str),
 }
 
 /// A file of a slot.
 #[derive(Clone, Copy)]
 pub struct File {
-    /// The path, which is empty where there is no such file.
+    /// The path, which is empty if there is no such file.
     pub path: &'static str,
     pub state: State,
 }
@@ -51,7 +51,7 @@ pub struct Held {
     pub packs: [File; 2],
 }
 
-/// Indices: the path of each, its pack, and the packs of a multi-pack index at that path.
+/// Indices: the path, the pack, and the packs of a multi-pack index at that path.
 const INDICES: &[[&str; 4]] = &[
     ["/a.idx", "/a.pack", "/a.pack", "/b.pack"],
     ["/b.idx", "/b.pack", "/a.pack", "/b.pack"],
@@ -72,7 +72,7 @@ impl File {
         }
     }
 
-    /// How many objects there are, where it was read.
+    /// The number of objects, if it was read.
     pub fn count(self) -> Option<u64> {
         match self.state {
             State::Here(count) | State::Old(count) => Some(count),
@@ -139,7 +139,7 @@ impl Row {
         None
     }
 
-    /// What a slot holds that the row takes. A multi-pack index was read, and has an object of each of its packs.
+    /// The contents of a slot that the row takes. A multi-pack index was read, and has an object of each of its packs.
     pub fn taken(self) -> Held {
         let [first, second] = self.packs;
         let state = match (self.multi, second) {

@@ -1,4 +1,4 @@
-//! What the second model shows, as text.
+//! The view of the second model, as text.
 use crate::model::Model;
 use crate::model_files::{File, Held, State};
 use crate::shelf::Place;
@@ -13,7 +13,7 @@ struct Sum {
     read_packs: u64,
 }
 
-/// What is counted.
+/// The counts.
 #[derive(Clone, Copy)]
 struct Counts {
     listed: Sum,
@@ -67,7 +67,7 @@ fn put_pack(text: &mut Text, file: File) {
     }
 }
 
-/// Puts how many objects an index has, and its packs, where it was read.
+/// Appends the number of objects of an index, and its packs, if it was read.
 fn put_loaded(text: &mut Text, held: Held) {
     if let Some(count) = held.index.count() {
         text.marked(if held.row.multi { "*" } else { "=" }, count);
@@ -77,7 +77,7 @@ fn put_loaded(text: &mut Text, held: Held) {
     }
 }
 
-/// Puts the index of a slot, if it was read, or else if it wasn't.
+/// Appends the index of a slot, if it was read, or with `read` false if it wasn't.
 fn put_index(text: &mut Text, slot: usize, place: Place, read: bool) {
     let Some(held) = place else {
         return;
@@ -122,14 +122,14 @@ impl Model {
         text.put("]");
     }
 
-    /// Puts the listed indices that were read, or else those that weren't.
+    /// Appends the listed indices that were read, or with `read` false those that weren't.
     fn put_listed(&self, text: &mut Text, read: bool) {
         for slot in self.shelf.list.iter().flatten() {
             put_index(text, *slot, self.shelf.at(*slot), read);
         }
     }
 
-    /// Puts the other indices that were read.
+    /// Appends the other indices that were read.
     fn put_kept(&self, text: &mut Text) {
         for slot in 0..self.shelf.count {
             if !self.shelf.is_listed(slot) {
@@ -189,7 +189,7 @@ impl Model {
         text.put("]");
     }
 
-    /// Puts what the core shows, and the counts over it.
+    /// Appends the core's view and counts.
     pub fn put_present(&self, text: &mut Text) {
         self.put_view(text, "#");
         self.put_counts(text);

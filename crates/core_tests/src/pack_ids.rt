@@ -1,7 +1,7 @@
-//! Numbers of packs at their edges.
+//! Numbers of packs at the edges.
 use gix_odb_core::PackId;
 
-/// Slots, places in a multi-pack index, and the numbers that stand for them.
+/// Slots, places in a multi-pack index, and their numbers.
 const PACKS: [(usize, Option<u32>, u32); 7] = [
     (0, None, 0),
     (32_767, None, 32_767),
@@ -12,7 +12,7 @@ const PACKS: [(usize, Option<u32>, u32); 7] = [
     (32_767, Some(65_535), 4_294_967_295),
 ];
 
-/// The number of a pack, where slot and place are within their bounds.
+/// The number of a pack, if slot and place are within their bounds.
 fn number_of(index: usize, place: Option<u32>) -> Option<u32> {
     if index >= 32_768 {
         return None;
@@ -27,7 +27,7 @@ fn number_of(index: usize, place: Option<u32>) -> Option<u32> {
     }
 }
 
-/// Whether a number stands for this slot and place.
+/// Whether a number is that of this slot and place.
 fn gives(id: u32, index: usize, place: Option<u32>) -> bool {
     let pack = PackId::from_intrinsic_pack_id(id);
     pack.index == index && pack.multipack_index == place

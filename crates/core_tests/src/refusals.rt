@@ -27,7 +27,7 @@ fn check(alloc: Global, refusal: &Refusal, want: &str) -> Result<(), Fail> {
     Err(Fail::new(format_args!("{found} in place of {want}")))
 }
 
-// The two numbers the other way round.
+// The two numbers swapped.
 #[test]
 fn texts_of_refusals(rt: HostRuntime) -> Result<(), Fail> {
     for (refusal, want) in TEXTS.iter() {

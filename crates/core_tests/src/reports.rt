@@ -1,11 +1,11 @@
-//! Counts over a core, and what it reports.
+//! Counts over a core, and its reports.
 use crate::shown::put_metrics;
 use gix_odb_core::{Metrics, SlotIndexMarker};
 use std::test::Fail;
 use test_words::Text;
 
-// Ten slots, nine folders. The counts stand behind the view: handles, refreshes, loaded and listed indices, their loaded packs and all their packs,
-// empty slots, slots with garbage or a missing file, the loaded packs of these, folders.
+// Ten slots, nine folders. The counts are after the view: handles, refreshes, loaded and listed indices, their loaded
+// packs and all their packs, empty slots, slots with garbage or a missing file, the loaded packs of these, folders.
 pub const REPORTS: &[&str] = &[
     "register 0 stable | seen #1 0 0.0 unread [] [] []",
     "register 1 | seen #2 0 0.0 unread [] [] []",
@@ -34,7 +34,7 @@ pub const REPORTS: &[&str] = &[
         1 4 1 1 1 2 9 0 0 9 [/m*=] [/b.idx absent, /c.pack bad, /d.idx failed]",
 ];
 
-// Counts that begin with one.
+// Counts that start at one.
 #[test]
 fn zeros(rt: HostRuntime) -> Result<(), Fail> {
     let mut counts = Text::new(rt.alloc());

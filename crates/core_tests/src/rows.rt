@@ -26,7 +26,7 @@ const ONE_SLOT_AND_A_STABLE_HANDLE: &[&str] = &[
     "publish 0 1 /b.idx | published #8 2 1.2 [] [] [0:/b.idx]",
 ];
 
-// The generation rises where a slot is taken over, and not where an empty one is taken.
+// The generation rises if a slot is taken over, and not if an empty one is taken.
 const GREATEST_GENERATION: &[&str] = &[
     "publish 0 0 /a.idx | published #1 1 4294967295.1 [] [] [0:/a.idx]",
     "publish 0 1 /b.idx | overflow",
@@ -72,7 +72,7 @@ const GARBAGE: &[&str] = &[
     "now | #14 4 0.6 [] [] [1:/b.idx] 0 6 0 1 0 1 2 0 0 1",
 ];
 
-// The slot of an unread index is kept while a handle is stable, its pack may still come, and it isn't shown.
+// The slot of an unread index is kept while a handle is stable, its pack may still be put, and it isn't shown.
 const UNREAD_AND_NOT_LISTED: &[&str] = &[
     "register 0 | seen #1 0 0.0 unread [] [] []",
     "publish 0 0 /a.idx | published #2 1 0.1 [] [] [0:/a.idx]",
@@ -192,7 +192,7 @@ const JOURNAL: &[&str] = &[
     "now | #10 1 0.2 [0:/a.idx=2 /a.pack!] [] [] 1 1 1 1 0 1 0 1 0 1",
 ];
 
-/// The tables, each with what its core is made with, and above them the mistakes that they would show.
+/// The tables, each with how its core is made, and above it the mistakes that it would catch.
 const TABLES: &[(Opening, &[&str])] = &[
     // A listing that isn't compared with the newest list, a stable handle that keeps nothing, or slots that are counted wrongly.
     ((1, 1, 0, 0), ONE_SLOT),
@@ -200,22 +200,22 @@ const TABLES: &[(Opening, &[&str])] = &[
     // A counter that wraps, or that refuses what wouldn't raise it; a refusal that changes the list.
     ((1, 1, u32::MAX, 0), GREATEST_GENERATION),
     ((2, 1, 0, u64::MAX - 1), GREATEST_STATE),
-    // Garbage that is dropped under a stable handle, read again, or kept when the last stable handle is gone.
+    // Garbage that is dropped while a handle is stable, read again, or kept when the last stable handle is gone.
     ((3, 1, 0, 0), GARBAGE),
     ((2, 1, 0, 0), UNREAD_AND_NOT_LISTED),
-    // A missing file that isn't tried again, a loaded one that is replaced or goes missing, or a file that is put where another path is.
+    // A missing file that isn't tried again, a loaded one that is replaced or becomes missing, or a file that is put at another path.
     ((1, 1, 0, 0), MISSING),
     ((2, 1, 0, 0), PUTS),
-    // A multi-pack index of another time that is kept, or of the other kind; packs beside another folder's index.
+    // A multi-pack index of another time that is kept, or of the other kind; packs next to another folder's index.
     ((3, 1, 0, 0), MULTI_INDICES),
     ((3, 2, 0, 0), FOLDERS),
-    // Free slots that are sought from the first, a generation that rises for each slot, or a number that rises where nothing changed.
+    // Free slots sought from the first, a generation that rises for each slot, or a number that rises where nothing changed.
     ((4, 1, 0, 0), AFTER_THE_GREATEST_AND_ROUND),
     ((2, 1, 0, 0), UNCHANGED),
     // An event that was refused and has no entry, entries that are counted from 0, or an entry with the answer of another.
     ((0, 0, 0, 0), NO_SLOTS),
     ((1, 1, 0, 0), JOURNAL),
-    // A count that is its neighbour's, of another kind of slot, or without what is garbage.
+    // A count that is its neighbour's, of another kind of slot, or without garbage.
     ((10, 9, 0, 0), REPORTS),
 ];
 

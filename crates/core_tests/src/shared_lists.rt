@@ -1,10 +1,10 @@
-//! A list that goes on beside an older copy of it, with which it shares blocks of 64 places.
+//! A list that grows while an older copy of it is kept, with which it shares blocks of 64 places.
 use odb_shared::{Shared, SharedList};
 use std::alloc::Global;
 use std::test::Fail;
 use test_words::Text;
 
-/// In which turn an item was put into a list, and where.
+/// In which round an item was put into a list, and where.
 #[derive(Drop)]
 struct Mark(u64, usize);
 

@@ -1,4 +1,4 @@
-//! The slots of the second model, and what a listing makes of them.
+//! The slots of the second model, and how listings change them.
 use crate::model_files::{Held, Row, Turn};
 
 /// What a slot holds, if anything.
@@ -14,7 +14,7 @@ pub struct Shelf {
     pub list: [Option<usize>; 10],
 }
 
-/// What a listing comes to.
+/// The result of a listing.
 #[derive(Clone, Copy)]
 pub struct Listed {
     pub shelf: Shelf,
@@ -26,7 +26,7 @@ pub struct Listed {
     pub takes_over: bool,
 }
 
-/// Whether a listing has what a slot holds.
+/// Whether a listing has the contents of a slot.
 fn is_wanted(rows: &str, held: Held) -> bool {
     for word in rows.split(' ') {
         if let Some(row) = Row::parse(word) {
@@ -38,7 +38,7 @@ fn is_wanted(rows: &str, held: Held) -> bool {
     false
 }
 
-/// What a listing leaves in a slot. Only a stable handle keeps what it doesn't have.
+/// The slot after a listing. Only a stable handle keeps what the listing doesn't have.
 fn left(place: Place, rows: &str, stable: bool) -> Place {
     let held = place?;
     if is_wanted(rows, held) {
@@ -52,7 +52,7 @@ fn left(place: Place, rows: &str, stable: bool) -> Place {
 }
 
 impl Shelf {
-    /// So many empty slots, at most ten.
+    /// This many empty slots, at most ten.
     pub fn new(count: usize) -> Shelf {
         Shelf {
             slots: [None; 10],
@@ -71,7 +71,7 @@ impl Shelf {
         }
     }
 
-    /// Turns the files of a slot.
+    /// Changes the files of a slot.
     pub fn turn(&mut self, slot: usize, turn: Turn<'_>) {
         if let Some(held) = self.at(slot) {
             self.set(slot, held.turned(turn));
@@ -94,7 +94,7 @@ impl Shelf {
         None
     }
 
-    /// The number behind the greatest of the list, where free slots are sought first.
+    /// The number after the greatest of the list, where the search for free slots starts.
     fn behind_list(&self) -> usize {
         let mut behind = 0;
         for slot in self.list.iter().flatten() {
@@ -105,7 +105,7 @@ impl Shelf {
         behind
     }
 
-    /// The first empty slot from a number on, or else the first of all.
+    /// The first empty slot from a number on, or otherwise the first of all.
     fn empty_slot(&self, start: usize) -> Option<usize> {
         let mut first = None;
         for slot in 0..self.count {
@@ -119,7 +119,7 @@ impl Shelf {
         first
     }
 
-    /// Puts a slot at the end of the list.
+    /// Appends a slot to the list.
     fn add(&mut self, slot: usize) {
         for place in self.list.iter_mut() {
             if place.is_none() {
@@ -139,7 +139,7 @@ impl Shelf {
         shelf
     }
 
-    /// What a listing comes to.
+    /// The result of a listing.
     pub fn listed(&self, rows: &str, stable: bool) -> Listed {
         let mut listed = Listed {
             shelf: self.left(rows, stable),

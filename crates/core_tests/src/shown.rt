@@ -1,9 +1,9 @@
 //! Answers, views, reports and entries as text.
 //!
-//! A view is `#ENTRY LIST GENERATION.STATE`, with `unread` behind it where no listing was published, then in brackets the
-//! listed indices that are loaded, those of other slots, and what is still to be loaded. An index is `SLOT:PATH`, with
-//! `=COUNT` for a single one and `*COUNT` for a multi-pack index of so many objects, and its packs behind it: `-` is
-//! unloaded, `!` missing, `=COUNT` loaded and `~COUNT` garbage.
+//! A view is `#ENTRY LIST GENERATION.STATE`, then `unread` if no listing was published, then in brackets the listed
+//! indices that are loaded, those of other slots, and those to be loaded. An index is `SLOT:PATH`, with `=COUNT` for
+//! a single one and `*COUNT` for a multi-pack index of COUNT objects, and then its packs: `-` is unloaded, `!`
+//! missing, `=COUNT` loaded and `~COUNT` garbage.
 use crate::events::{put_event, word_of_why};
 use gix_odb_core::{
     Core, Effect, Entry, KeptList, Listed, LoadedIndex, LoadedRest, Metrics, OnDiskFile, Passed,
@@ -13,7 +13,7 @@ use gix_pack::data;
 use odb_base::NoMemory;
 use test_words::Text;
 
-/// Puts an answer behind a text.
+/// Appends an answer to a text.
 pub fn put_answer(text: &mut Text, answer: &Result<Effect, Refusal>) {
     match answer {
         Ok(effect) => put_effect(text, effect),
@@ -46,7 +46,7 @@ fn put_refusal(text: &mut Text, refusal: Refusal) {
     }
 }
 
-/// Puts a word and a view behind a text.
+/// Appends a word and a view to a text.
 fn put_view(text: &mut Text, word: &str, view: &View) {
     put_numbers(text, word, view);
     text.put(" [");
@@ -68,7 +68,7 @@ fn put_numbers(text: &mut Text, word: &str, view: &View) {
     }
 }
 
-/// Puts the listed indices that are loaded. No test has more than a hundred.
+/// Appends the listed indices that are loaded. No test has more than a hundred.
 fn put_listed_indices(text: &mut Text, rest: Result<LoadedRest, NoMemory>) {
     let Ok(mut rest) = rest else {
         return;
@@ -78,7 +78,7 @@ fn put_listed_indices(text: &mut Text, rest: Result<LoadedRest, NoMemory>) {
     }
 }
 
-/// Puts the indices of the other slots. No test has more than a hundred slots.
+/// Appends the indices of the other slots. No test has more than a hundred slots.
 fn put_kept(text: &mut Text, kept: &KeptList) {
     for slot in 0..100 {
         put_index(text, kept.in_slot(slot));
@@ -138,8 +138,8 @@ fn put_unloaded(text: &mut Text, todo: Result<Option<Todo>, NoMemory>) {
     text.marked(":", todo.path.value());
 }
 
-/// A report behind a view: the counts, the listed slots, with `*` for multi-pack indices, `=` for loaded ones and `!`
-/// for those with a file that is garbage or missing, and the files that were passed over.
+/// Appends a report to a view: the counts, the listed slots, with `*` for multi-pack indices, `=` for loaded ones and
+/// `!` for those with a file that is garbage or missing, and the files that were passed over.
 fn put_reported(text: &mut Text, view: &View, report: &Report) {
     put_view(text, "reported #", view);
     put_metrics(text, &report.metrics);
@@ -150,7 +150,7 @@ fn put_reported(text: &mut Text, view: &View, report: &Report) {
     text.put("]");
 }
 
-/// Puts counts behind a text, in the order of the fields.
+/// Appends counts to a text, in the order of the fields.
 pub fn put_metrics(text: &mut Text, metrics: &Metrics) {
     text.numbers(&[
         metrics.num_handles as u64,
@@ -185,7 +185,7 @@ fn put_passed(text: &mut Text, passed: &[Passed]) {
     }
 }
 
-/// An entry of a journal: its number, its event and its answer.
+/// Appends an entry of a journal: its number, its event and its answer.
 fn put_entry(text: &mut Text, entry: &Entry) {
     text.marked("", entry.number);
     put_event(text, entry.seat, &entry.event);
@@ -193,7 +193,7 @@ fn put_entry(text: &mut Text, entry: &Entry) {
     put_answer(text, &entry.answer);
 }
 
-/// Puts the entry of a journal at a place, counted from 0.
+/// Appends the entry of a journal at a place, counted from 0.
 pub fn put_entry_at(text: &mut Text, core: &Core, place: usize) {
     match core.journal().get(place) {
         Some(entry) => put_entry(text, entry),
@@ -201,7 +201,7 @@ pub fn put_entry_at(text: &mut Text, core: &Core, place: usize) {
     }
 }
 
-/// Puts what a core shows now, and the counts over it.
+/// Appends the present view of a core, and its counts.
 pub fn put_present(text: &mut Text, core: &Core) {
     put_view(text, "#", core.look());
     put_metrics(text, &core.metrics());

@@ -1,7 +1,7 @@
 //! A core and the second model, on which the rows of a table are played.
 //!
-//! Besides events a row may be `now`, which tells what the core shows and the counts over it, `entry PLACE`, which tells an entry of the
-//! journal by its place counted from 0, `newest`, which tells the last one, or `entries`, which tells how many there are.
+//! Besides an event, a row may be `now`, for the core's view and its counts, `entry PLACE`, for an entry of the
+//! journal by its place counted from 0, `newest`, for the last one, or `entries`, for the number of entries.
 use crate::happening::happen;
 use crate::model::{Model, Opening};
 use crate::shown::{put_entry_at, put_present};
@@ -10,7 +10,7 @@ use std::alloc::Global;
 use std::test::Fail;
 use test_words::{Text, cut, wide_halves};
 
-/// Puts what a core tells of a row, or what its event answers, behind a text.
+/// Appends a core's result of a row to a text.
 fn put_told(alloc: Global, core: &mut Core, line: &str, text: &mut Text) -> Result<(), Fail> {
     let count = core.journal().len();
     let (verb, rest) = cut(line);
@@ -24,14 +24,14 @@ fn put_told(alloc: Global, core: &mut Core, line: &str, text: &mut Text) -> Resu
     Ok(())
 }
 
-/// Compares what a core tells of a row.
+/// Compares a core's result of a row.
 pub fn check_core(alloc: Global, core: &mut Core, line: &str, want: &str) -> Result<(), Fail> {
     let mut found = Text::new(alloc);
     put_told(alloc, core, line, &mut found)?;
     found.check(line, want)
 }
 
-/// Compares what the second model tells of a row, unless the row is of the journal.
+/// Compares the second model's result of a row, unless the row is of the journal.
 fn check_model(alloc: Global, model: &mut Model, line: &str, want: &str) -> Result<(), Fail> {
     if line.starts_with("entr") {
         return Ok(());
@@ -59,7 +59,7 @@ fn check_rows(alloc: Global, core: &mut Core, opening: Opening, rows: &[&str]) -
     Ok(())
 }
 
-/// A core with counts that begin here: the one that `new` makes, where they begin at 0.
+/// A core with counts that start here: the one that `new` makes, if they start at 0.
 pub fn core_of(alloc: Global, opening: Opening) -> Result<Core, Fail> {
     let (slots, folders, generation, state) = opening;
     if slots > 32_767 {

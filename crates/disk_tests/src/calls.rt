@@ -1,10 +1,10 @@
-//! What calls of a small disk give, that they succeed, and which of them fail.
+//! What calls of a small disk return, that they succeed, and which of them fail.
 use crate::memory::{check, check_anew};
 use odb_disk::MemDisk;
 use std::alloc::Global;
 use std::test::Fail;
 
-// Catches a look or a read at the wrong path, an error in place of another, a device not taken from the folder, and
+// Catches a stat or a read at the wrong path, an error in place of another, a device not taken from the folder, and
 // bytes or a time of another file.
 const LOOKS: &str = "\
     make /o 3|done\n\
@@ -36,7 +36,7 @@ const FAULTS: &str = "\
     follow /o/f|Failed\n\
     counts|4 2";
 
-// Catches a piece that is put before the old bytes, and a call that fails and appends nevertheless.
+// Catches bytes that are put before the old ones, and a call that fails but appends.
 const APPENDS: &str = "\
     make /o 3|done\n\
     put /o/f 7 hi|done\n\
@@ -59,7 +59,7 @@ const WRITES: &str = "\
     remove /p/g|done\n\
     remove /p|done";
 
-// Catches a call as a value that is carried out as another one, and a tree that isn't the disk's.
+// Catches a call as a value that is made as another one, and a tree that isn't the disk's.
 const VALUES: &str = "\
     make /o 3|done\n\
     put /o/f 7 hi|done\n\
@@ -104,7 +104,7 @@ fn check_copies(alloc: Global, disk: &mut MemDisk) -> Result<(), Fail> {
     check(alloc, disk, "counts|0 0")
 }
 
-// Catches a copy that forgets what is to fail, or that shares its tree.
+// Catches a copy that forgets what will fail, or that shares its tree.
 #[test]
 fn copies(rt: HostRuntime) -> Result<(), Fail> {
     let mut disk = MemDisk::with_faults(rt.alloc(), &[1])?;

@@ -1,6 +1,6 @@
 //! Tests of paths, lists, numbers and disks: what no contract says of them.
 //!
-//! Rows of words say what is done and what is to come of it, in the words of `words`, and of `memory` and `real`.
+//! Rows of words say what is done and what it should return, in the words of `words`, and of `memory` and `real`.
 #![tactic(auto)]
 
 #[cfg(test)]

@@ -1,4 +1,4 @@
-//! What lists are given stands in them.
+//! What lists are given is in them.
 use odb_base::{ByteList, NoMemory, Sequence};
 use std::alloc::{AllocError, Global};
 use std::test::Fail;
@@ -41,7 +41,7 @@ fn items_shown(alloc: Global, first: u8, second: u8) -> Result<String, Fail> {
     Ok(format!(in alloc; "{last:?} {past:?} {items:?}")?)
 }
 
-// Catches a call that answers want of memory where there is some, and a copy that is cut.
+// Catches a call that runs out of memory where there is some, and a copy that is cut.
 #[test]
 fn lists(rt: HostRuntime) -> Result<(), Fail> {
     compare(

@@ -1,4 +1,4 @@
-//! A disk in memory in words: what calls, changes and counts give.
+//! A disk in memory in words: what calls, changes and counts return.
 use crate::words::{
     answer_shown, ask_of, change_shown, error_shown, file_shown, meta_shown, next_shown,
 };
@@ -26,7 +26,7 @@ fn told(alloc: Global, disk: &mut MemDisk, text: &str) -> Result<String, Fail> {
     }
 }
 
-/// A change that another program makes.
+/// A change of another program.
 fn changed(alloc: Global, disk: &mut MemDisk, verb: &str, rest: &str) -> Result<String, Fail> {
     let change = change_of(alloc, verb, rest)?;
     made(alloc, disk, &change)
@@ -46,7 +46,7 @@ fn answered(alloc: Global, disk: &mut MemDisk, ask: &DiskAsk) -> Result<String, 
     Ok(answer_shown(alloc, &ask.carry_out(alloc, disk))?)
 }
 
-/// The name of a call, and what it gives where the disk is passed it as a value.
+/// The name of a call, and what it returns if the disk is passed it as a value.
 fn carried_out(alloc: Global, disk: &mut MemDisk, text: &str) -> Result<String, Fail> {
     let (verb, rest) = cut(text);
     let ask = value_of(alloc, verb, rest)?;
@@ -126,7 +126,7 @@ fn numbered(
     Ok(dir)
 }
 
-/// What a copy of the disk's tree tells of a path: by a look, and by a read.
+/// The results for a path in a copy of the disk's tree: of a stat, and of a read.
 fn in_tree(alloc: Global, disk: &MemDisk, text: &str) -> Result<String, Fail> {
     let path = PathText::parse(alloc, text)?;
     let tree = disk.tree().try_clone(alloc)?;
@@ -164,13 +164,13 @@ fn read_shown(
     }
 }
 
-/// How many calls there were, and how many of them failed.
+/// The number of calls, and of those that failed.
 fn counts(alloc: Global, disk: &MemDisk) -> Result<String, Fail> {
     let (calls, faults) = (disk.calls(), disk.faults());
     Ok(format!(in alloc; "{calls} {faults}")?)
 }
 
-/// What the parts of a text between semicolons give, in turn.
+/// The results of the parts of a text between semicolons, in turn.
 fn all_told(alloc: Global, disk: &mut MemDisk, texts: &str) -> Result<String, Fail> {
     let mut all = String::new(alloc);
     for text in texts.split("; ") {
@@ -179,7 +179,7 @@ fn all_told(alloc: Global, disk: &mut MemDisk, texts: &str) -> Result<String, Fa
     Ok(all)
 }
 
-/// Does what each row says, in turn, and compares what comes of it.
+/// Does what each row says, in turn, and compares the result.
 pub(crate) fn check(alloc: Global, disk: &mut MemDisk, rows: &str) -> Result<(), Fail> {
     for row in rows.split('\n') {
         let (texts, want) = halves(row);
@@ -188,13 +188,13 @@ pub(crate) fn check(alloc: Global, disk: &mut MemDisk, rows: &str) -> Result<(),
     Ok(())
 }
 
-/// The same on a disk of its own, whose calls with these numbers fail.
+/// Checks rows on a disk of its own, whose calls with these numbers fail.
 pub(crate) fn check_anew(alloc: Global, faults: &[u64], rows: &str) -> Result<(), Fail> {
     let mut disk = MemDisk::with_faults(alloc, faults)?;
     check(alloc, &mut disk, rows)
 }
 
-/// The same, each row on a disk of its own, behind other rows.
+/// Checks each row on a disk of its own, after other rows.
 pub(crate) fn check_each(alloc: Global, before: &str, rows: &str) -> Result<(), Fail> {
     for row in rows.split('\n') {
         check_behind(alloc, before, row)?;

@@ -30,7 +30,7 @@ const ROWS: &str = "\
     1\n|none;\
     ٣|none";
 
-// Catches a reader that takes what `parse` takes, a plus and leading zeros, or that wraps past 64 bits.
+// Catches a reader that accepts what `parse` accepts, a plus and leading zeros, or that wraps past 64 bits.
 #[test]
 fn numbers(rt: HostRuntime) -> Result<(), Fail> {
     for row in ROWS.split(';') {

@@ -4,7 +4,7 @@ use std::alloc::{AllocError, Global};
 use std::test::Fail;
 use test_words::{compare, cut, halves};
 
-/// What a call of paths gives, in words.
+/// The result of a call of paths, in words.
 fn told(alloc: Global, text: &str) -> Result<String, Fail> {
     let (verb, rest) = cut(text);
     match verb {
@@ -19,7 +19,7 @@ fn told(alloc: Global, text: &str) -> Result<String, Fail> {
     }
 }
 
-/// How many names a path has, whether it is the root, and its text by either call.
+/// The number of names of a path, whether it is the root, and its text by either call.
 fn parsed(alloc: Global, text: &str) -> Result<String, Fail> {
     match PathText::parse(alloc, text) {
         Ok(path) => Ok(path_shown(alloc, &path)?),
@@ -37,7 +37,7 @@ fn refused(alloc: Global, error: BadPath) -> Result<String, AllocError> {
     format!(in alloc; "{error:?}")
 }
 
-/// A path with one name more.
+/// A path with one more name.
 fn joined(alloc: Global, text: &str) -> Result<String, Fail> {
     let (path, name) = cut(text);
     let path = PathText::parse(alloc, path)?;
@@ -51,14 +51,14 @@ fn joined_shown(alloc: Global, joined: Result<PathText, BadPath>) -> Result<Stri
     }
 }
 
-/// The text of a name's copy, and whether it can stand in a path.
+/// The text of a name's copy, and whether it can be in a path.
 fn named(alloc: Global, text: &str) -> Result<String, NoMemory> {
     let name = PathName::new(alloc, text)?.try_clone(alloc)?;
     let (text, is_name) = (name.as_str(), name.is_name());
     Ok(format!(in alloc; "{text} {is_name}")?)
 }
 
-/// The directory that a path lies in.
+/// The directory that contains a path.
 fn parent(alloc: Global, text: &str) -> Result<String, Fail> {
     let path = PathText::parse(alloc, text)?;
     let parent = path.parent(alloc)?;
@@ -86,7 +86,7 @@ fn two_paths(alloc: Global, text: &str) -> Result<(PathText, PathText), BadPath>
     Ok((one, other))
 }
 
-/// How one path stands to another: whether it comes before, equals it, and equals its own copy.
+/// How one path compares with another: whether it is before, equals it, and equals its own copy.
 fn order(alloc: Global, text: &str) -> Result<String, Fail> {
     let (one, other) = two_paths(alloc, text)?;
     Ok(order_shown(alloc, &one, &other)?)
@@ -98,7 +98,7 @@ fn order_shown(alloc: Global, one: &PathText, other: &PathText) -> Result<String
     Ok(format!(in alloc; "{before} {same} {copied}")?)
 }
 
-/// Whether a path lies below another or is it, its names behind those, and these behind the other's once more.
+/// Whether a path is another or below it, its names after those, and these appended to the other's again.
 fn below(alloc: Global, text: &str) -> Result<String, Fail> {
     let (path, base) = two_paths(alloc, text)?;
     Ok(rest_shown(alloc, &path, &base)?)
@@ -177,7 +177,7 @@ const TEXTS: &str = "\
     name a/b|a/b false\n\
     name a\0|a\0 false";
 
-// Catches a last name or an extension that isn't that of Rust's `Path`, but for `..a`, which has a dot behind its
+// Catches a last name or an extension that isn't that of Rust's `Path`, except for `..a`, which has a dot after its
 // first byte.
 const PARTS: &str = "\
     parent /a|/\n\
@@ -209,7 +209,7 @@ const ORDER: &str = "\
     order /b /é|true false true\n\
     order /é /b|false false true";
 
-// Catches a comparison of texts alone, which puts `/ab` below `/a`; texts that agree within a name, and names that
+// Catches a comparison of texts only, which puts `/ab` below `/a`; texts that agree within a name, and names that
 // are left out.
 const PAIRS: &str = "\
     below /a/b/c /a|true /b/c /a/b/c\n\

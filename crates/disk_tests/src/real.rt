@@ -25,7 +25,7 @@ pub(crate) fn path_here(rt: &HostRuntime) -> Result<PathText, Fail> {
     Ok(PathText::parse(rt.alloc(), folder.as_str())?)
 }
 
-/// What a call in a folder gives. A name that begins with a slash stands elsewhere.
+/// The result of a call in a folder. A name that begins with a slash is elsewhere.
 fn told<D: Disk>(alloc: Global, disk: &mut D, folder: &str, text: &str) -> Result<String, Fail> {
     let (verb, names) = cut(text);
     let paths = paths_of(alloc, folder, verb, names)?;
@@ -35,7 +35,7 @@ fn told<D: Disk>(alloc: Global, disk: &mut D, folder: &str, text: &str) -> Resul
     }
 }
 
-/// The paths of names in a folder. What else stands behind a name stays there.
+/// The paths of names in a folder. What else follows a name stays there.
 fn paths_of(alloc: Global, folder: &str, verb: &str, names: &str) -> Result<String, AllocError> {
     match verb {
         "rename" => ends_of(alloc, folder, names),
@@ -45,7 +45,7 @@ fn paths_of(alloc: Global, folder: &str, verb: &str, names: &str) -> Result<Stri
     }
 }
 
-/// The path of a name in a folder. One that begins with a slash stands elsewhere.
+/// The path of a name in a folder. One that begins with a slash is elsewhere.
 pub(crate) fn path_of(alloc: Global, folder: &str, name: &str) -> Result<PathText, Fail> {
     let text = paths_of(alloc, folder, "look", name)?;
     Ok(PathText::parse(alloc, text.as_str())?)
@@ -65,7 +65,7 @@ fn answered<D: Disk>(alloc: Global, disk: &mut D, ask: &DiskAsk) -> Result<Strin
     Ok(plain_shown(alloc, &ask.carry_out(alloc, disk))?)
 }
 
-/// What a look or a read tells but for numbers and times: kind and length, or the bytes.
+/// The result of a stat or a read without numbers and times: kind and length, or the bytes.
 fn plain_shown(alloc: Global, answer: &DiskAnswer) -> Result<String, AllocError> {
     match answer {
         DiskAnswer::Meta(meta) => kind_and_length(alloc, *meta),
@@ -88,7 +88,7 @@ fn bytes_shown(alloc: Global, bytes: &[u8]) -> Result<String, AllocError> {
     str::from_utf8(bytes).unwrap_or("no text").to_string(alloc)
 }
 
-/// What a stream of a directory gives up to its end, then once more, and then where it is closed.
+/// What a stream of a directory gives up to its end, then once more, and then when it is closed.
 fn listed<D: Disk>(alloc: Global, disk: &mut D, path: &PathText) -> Result<String, Fail> {
     match disk.open_dir(alloc, path) {
         Ok(dir) => given(alloc, disk, dir),
@@ -168,7 +168,7 @@ fn check_rows<D: Disk>(alloc: Global, disk: &mut D, folder: &str, rows: &str) ->
     Ok(())
 }
 
-/// The same in the folder that the test is in, and compares how many calls failed.
+/// Checks rows in the folder that the test is in, and compares how many calls failed.
 pub(crate) fn check_here(rt: &HostRuntime, rows: &str, faults: u64) -> Result<(), Fail> {
     let folder = here(rt)?;
     let mut disk = HostDisk::new(rt.alloc(), rt);
@@ -176,7 +176,7 @@ pub(crate) fn check_here(rt: &HostRuntime, rows: &str, faults: u64) -> Result<()
     count(disk.faults(), faults)
 }
 
-/// Fails where there is another count of failures than is wanted.
+/// Fails if there is another count of failures than is wanted.
 pub(crate) fn count(found: u64, want: u64) -> Result<(), Fail> {
     if found == want {
         return Ok(());

@@ -1,4 +1,4 @@
-//! What calls of a real disk give in a folder that the system made, and what they leave there.
+//! What calls of a real disk return in a folder that the system made, and what they leave there.
 use crate::real::{check_here, enter};
 use std::os::unix::fs::symlink;
 use std::test::Fail;
@@ -14,8 +14,8 @@ fn enter_folder(rt: &HostRuntime, folder: &str) -> io::Result<()> {
     symlink(rt, "circle", "circle")
 }
 
-// Catches a read of one piece alone, a name that is lost or given twice, `.` and `..`, a link that is followed where
-// it is an entry, and what is opened that is no directory.
+// Catches a read of one piece alone, a name that is lost or given twice, `.` and `..`, an entry that is a link and is
+// followed, and something opened that is no directory.
 const READS: &str = "\
     follow d|Dir 0\n\
     look f|File 100000\n\
@@ -88,7 +88,7 @@ const RENAMES: &str = "\
     look d/x|Link 0";
 
 // Catches a failure that isn't counted, a device that is opened, and a read or a write of an open file that the system
-// refuses and that is told as done. Of the two files of `/proc`, one has no first byte, and one takes only numbers.
+// refuses but that is reported as done. Of the two files of `/proc`, one has no first byte, and one takes only numbers.
 const FAILURES: &str = "\
     follow /dev/null|Failed\n\
     read /dev/null|Failed\n\

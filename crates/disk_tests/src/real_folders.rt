@@ -1,4 +1,4 @@
-//! What a real disk tells of large and odd directories.
+//! What a real disk reports of large and odd directories.
 use crate::real::{count, enter, listed_there, path_here};
 use odb_disk::{DirId, Disk, Entry, PathText};
 use odb_host::HostDisk;
@@ -7,7 +7,7 @@ use std::fs;
 use std::test::Fail;
 use test_words::compare;
 
-// Catches a device that is passed over in silence, or that hides the entries beside it.
+// Catches a device that is skipped in silence, or that hides the entries next to it.
 #[test]
 fn devices_among_entries(rt: HostRuntime) -> Result<(), Fail> {
     let (text, faults) = listed_there(&rt, "/dev")?;
@@ -15,7 +15,7 @@ fn devices_among_entries(rt: HostRuntime) -> Result<(), Fail> {
     count(faults, 1)
 }
 
-/// How many files the large directory has.
+/// The number of files in the large directory.
 const MANY: usize = 3000;
 
 /// The name of one of them. All have four digits.
@@ -79,7 +79,7 @@ fn enter_many(rt: &HostRuntime) -> Result<PathText, Fail> {
     path_here(rt)
 }
 
-// Catches a name that is lost or given twice where a directory is read in several pieces.
+// Catches a name that is lost or given twice when a directory is read in several pieces.
 #[test]
 fn many_entries(rt: HostRuntime) -> Result<(), Fail> {
     let path = enter_many(&rt)?;

@@ -1,4 +1,4 @@
-//! What links on a real disk lead to, and what a pipe is told as.
+//! Where links on a real disk lead, and how a pipe is reported.
 use crate::real::{check_here, enter};
 use std::alloc::{AllocError, Global};
 use std::os::fd::AsRawFd;
@@ -63,8 +63,8 @@ const LISTS: &str = "\
     list itself|LinkLoop\n\
     list to_device|WrongKind";
 
-// Catches a link that is followed where it mustn't be or isn't where it must, a link whose target is told as another
-// error, and a directory behind a link that isn't read, or isn't left again.
+// Catches a link that is followed where it mustn't be or isn't where it must, a link whose target is reported as
+// another error, and a directory behind a link that isn't read, or isn't left again.
 #[test]
 fn links(rt: HostRuntime) -> Result<(), Fail> {
     enter_links(&rt, "out/links")?;
@@ -100,8 +100,8 @@ const REMOVALS: &str = "\
     list|d Dir, end; end; Absent\n\
     list d|f File, end; end; Absent";
 
-// Catches an append that makes a file or puts one in place of a link, something that is made where a link leads, and a
-// link that is moved or removed with what it leads to, or not at all.
+// Catches an append that makes a file or puts one in place of a link, something that is made where a link leads, and
+// a link that is moved or removed with its target, or not at all.
 #[test]
 fn changes_of_links(rt: HostRuntime) -> Result<(), Fail> {
     enter_links(&rt, "out/changes_of_links")?;

@@ -1,4 +1,4 @@
-//! The numbers and times that a real disk tells.
+//! The numbers and times that a real disk reports.
 use crate::real::{enter, here, path_here, path_of};
 use odb_disk::{Disk, DiskError, Entry, Meta, PathText};
 use odb_host::HostDisk;
@@ -31,12 +31,12 @@ fn told_by_disk(alloc: Global, meta: Meta) -> Result<String, AllocError> {
     told(alloc, meta.dev, meta.ino, meta.time)
 }
 
-/// The numbers that std tells of a file, and the time that it was given.
+/// The numbers that std reports of a file, and the time that it was given.
 fn told_by_std(alloc: Global, metadata: &Metadata) -> Result<String, AllocError> {
     told(alloc, metadata.dev(), metadata.ino(), TIME)
 }
 
-/// A look at a file, with the time that a read tells, and the inode number that the stream of its directory tells.
+/// A stat of a file, with the time from a read, and the inode number from the stream of its directory.
 fn looked<D: Disk>(
     alloc: Global,
     disk: &mut D,
@@ -68,7 +68,7 @@ fn compare_told(alloc: Global, name: &str, found: Meta, want: &str) -> Result<()
     compare(name, found.as_str(), want)
 }
 
-/// Compares what a look at a file tells, and what its read and its directory's stream tell.
+/// Compares a stat of a file with what its read and its directory's stream report.
 fn check_numbers<D: Disk>(
     alloc: Global,
     disk: &mut D,
@@ -81,7 +81,7 @@ fn check_numbers<D: Disk>(
     compare_told(alloc, "a read", looked(alloc, disk, &file, dir)?, want)
 }
 
-/// Makes a folder with a file that has the time above, goes there, and tells what is to be told of the file.
+/// Makes a folder with a file that has the time above, goes there, and returns what should be reported of the file.
 fn enter_numbers(rt: &HostRuntime) -> Result<String, Fail> {
     enter(rt, "out/numbers")?;
     fs::write(rt, "f", b"abc")?;
@@ -101,7 +101,7 @@ fn numbers_and_times(rt: HostRuntime) -> Result<(), Fail> {
     check_numbers(rt.alloc(), &mut disk, &path, "g", want.as_str())
 }
 
-/// Makes a folder with two files, a directory, and further names of one file, and goes there.
+/// Makes a folder with two files, a directory, and other names of one file, and goes there.
 fn enter_nodes(rt: &HostRuntime) -> io::Result<()> {
     enter(rt, "out/nodes")?;
     fs::write(rt, "f", b"abc")?;
@@ -111,7 +111,7 @@ fn enter_nodes(rt: &HostRuntime) -> io::Result<()> {
     symlink(rt, "f", "to_f")
 }
 
-/// Which of two nodes are one, or stand on one device. `/proc` is a device of its own.
+/// Which of two nodes are one, or are on one device. `/proc` is a device of its own.
 const NODES: &str = "\
     f f|one node\n\
     f same|one node\n\
@@ -122,7 +122,7 @@ const NODES: &str = "\
     d /proc|two devices\n\
     /proc /proc/version|one device";
 
-/// How two nodes are told apart.
+/// How two nodes differ.
 fn beside(one: Meta, other: Meta) -> &'static str {
     match (one.dev == other.dev, one.ino == other.ino) {
         (true, true) => "one node",
@@ -135,7 +135,7 @@ fn seen<D: Disk>(alloc: Global, disk: &mut D, folder: &str, name: &str) -> Resul
     Ok(disk.look(alloc, &path_of(alloc, folder, name)?, true)?)
 }
 
-/// Looks at the two nodes of each row.
+/// Stats the two nodes of each row.
 fn check_nodes<D: Disk>(alloc: Global, disk: &mut D, folder: &str) -> Result<(), Fail> {
     for row in NODES.split('\n') {
         let (names, want) = halves(row);
@@ -147,8 +147,8 @@ fn check_nodes<D: Disk>(alloc: Global, disk: &mut D, folder: &str) -> Result<(),
     Ok(())
 }
 
-// Catches an inode number that is told as the device, a device that is the same for all nodes, and another number of a
-// node under another name.
+// Catches an inode number that is reported as the device, a device that is the same for all nodes, and another number
+// of a node under another name.
 #[test]
 fn nodes_and_devices(rt: HostRuntime) -> Result<(), Fail> {
     enter_nodes(&rt)?;

@@ -182,7 +182,7 @@ fn check_reader<R: Read + Drop>(
     count(source.faults(), faults)
 }
 
-/// Writes to a writer the text of each row, and compares the same.
+/// Writes the text of each row to a writer, and compares what the writes give and how many failed.
 fn check_writer<W: Write + Drop>(
     alloc: Global,
     writer: W,
@@ -211,8 +211,8 @@ fn check_shaky_reader(
     check_reader(alloc, Shaky::new(first), lines, faults)
 }
 
-// Catches a read that gives more than the reader did, an interrupted one that is told as a failure, a failure that is
-// told as the end, and a read that is tried for ever.
+// Catches a read that gives more than the reader did, an interrupted one that is reported as a failure, a failure
+// that is reported as the end, and a read that is retried forever.
 #[test]
 fn readers_of_std(rt: HostRuntime) -> Result<(), Fail> {
     check_slice(rt.alloc())?;
@@ -221,7 +221,7 @@ fn readers_of_std(rt: HostRuntime) -> Result<(), Fail> {
     check_reader(rt.alloc(), Stuck, "failed", 1)
 }
 
-// Catches a read that is tried again though it wasn't interrupted, a failure that is counted twice, and one after which
+// Catches a read that is retried though it wasn't interrupted, a failure that is counted twice, and one after which
 // no read is served.
 #[test]
 fn readers_that_fail_once(rt: HostRuntime) -> Result<(), Fail> {
@@ -247,8 +247,8 @@ fn check_shaky_writer(
     check_writer(alloc, Shaky::new(first), rows, faults)
 }
 
-// Catches a write that loses bytes, an interrupted one that is told as a failure, and a writer that takes nothing
-// where that is told as done.
+// Catches a write that loses bytes, an interrupted one that is reported as a failure, and a writer that takes nothing
+// but whose write is reported as done.
 #[test]
 fn writers_of_std(rt: HostRuntime) -> Result<(), Fail> {
     check_list(rt.alloc())?;
@@ -256,7 +256,7 @@ fn writers_of_std(rt: HostRuntime) -> Result<(), Fail> {
     check_writer(rt.alloc(), Full, "|0\na|failed", 1)
 }
 
-// Catches a write that is tried again though it wasn't interrupted, a failure that is counted twice, and one after which
+// Catches a write that is retried though it wasn't interrupted, a failure that is counted twice, and one after which
 // no write is served.
 #[test]
 fn writers_that_fail_once(rt: HostRuntime) -> Result<(), Fail> {

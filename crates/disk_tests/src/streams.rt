@@ -39,8 +39,8 @@ const ROWS: &str = "\
     next 0|b Dir 3\n\
     counts|20 1";
 
-// Catches a directory that a call made and that gives another name than the last, is removed with what lies in it, or
-// stays open in vain.
+// Catches a directory made by a call that gives another name than the last, is removed with its contents, or stays
+// open for nothing.
 const MADE_BY_CALLS: &str = "\
     mkdir /d|done\n\
     new /d/f|done\n\
@@ -66,7 +66,7 @@ const AT_A_FILE: &str = "\
     mkdir /a|Exists\n\
     remove /x|Absent";
 
-// Catches a call of streams as a value that is another call, tells another number, or is counted where it closes.
+// Catches a call of streams as a value that is another call, reports another number, or is counted when it closes.
 const VALUES: &str = "\
     make /a 3|done\n\
     put /a/f 7 hi|done\n\

@@ -12,7 +12,7 @@ fn two_paths(alloc: Global, ends: &str) -> Result<(PathText, PathText), Fail> {
     Ok((from, to))
 }
 
-/// A path, and the bytes of the text behind a blank.
+/// A path, and the bytes of the text after a blank.
 fn path_and_bytes(alloc: Global, rest: &str) -> Result<(PathText, ByteList), Fail> {
     let (path, text) = cut(rest);
     let path = PathText::parse(alloc, path)?;
@@ -20,7 +20,7 @@ fn path_and_bytes(alloc: Global, rest: &str) -> Result<(PathText, ByteList), Fai
     Ok((path, bytes))
 }
 
-/// A call as a value, by its name in words. A `follow` is a look that follows a link in the last place.
+/// A call as a value, by its name in words. A `follow` is a stat that follows a link in the last place.
 pub(crate) fn ask_of(alloc: Global, verb: &str, rest: &str) -> Result<DiskAsk, Fail> {
     match verb {
         "append" => append_ask(alloc, rest),
@@ -54,7 +54,7 @@ fn look_ask(path: PathText, follow: bool) -> DiskAsk {
     DiskAsk::Look { path, follow }
 }
 
-/// An answer in words: what a look or a read tells, a stream's number or what it gives, `done`, or the error.
+/// An answer in words: the result of a stat or a read, a stream's number or what it gives, `done`, or the error.
 pub(crate) fn answer_shown(alloc: Global, answer: &DiskAnswer) -> Result<String, AllocError> {
     match answer {
         DiskAnswer::Meta(meta) => meta_shown(alloc, *meta),
@@ -71,7 +71,7 @@ fn number_shown(alloc: Global, number: u64) -> Result<String, AllocError> {
     format!(in alloc; "{number}")
 }
 
-/// What a look tells: kind, device, inode number, length and time.
+/// The result of a stat: kind, device, inode number, length and time.
 pub(crate) fn meta_shown(alloc: Global, meta: Meta) -> Result<String, AllocError> {
     let kind = kind_word(meta.kind);
     let (dev, ino, len, time) = (meta.dev, meta.ino, meta.len, meta.time);
@@ -96,7 +96,7 @@ pub(crate) fn error_shown(alloc: Global, error: DiskError) -> Result<String, All
     format!(in alloc; "{error}")
 }
 
-/// What came of a change: `done`, or the error.
+/// The result of a change: `done`, or the error.
 pub(crate) fn change_shown(
     alloc: Global,
     made: Result<(), Impossible>,

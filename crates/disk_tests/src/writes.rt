@@ -42,7 +42,7 @@ const DIRECTORIES: &str = "\
     mkdir /o/l/p; look /o/f|WrongKind, File 3 3 2 7\n\
     mkdir /s/p; look /s|LinkLoop, Link 0 7 0 0";
 
-// The same of files, and a file that is made over another node.
+// Catches the same for files, and a file that is made over another node.
 const FILES: &str = "\
     new /d/p; look /o/p|done, File 3 10 0 0\n\
     new /; look /|Exists, Dir 0 1 0 0\n\
@@ -91,7 +91,7 @@ const RENAMES: &str = "\
     rename /o/f /o/f/g; look /o/f; look /o/f|WrongKind, File 3 3 2 7, File 3 3 2 7\n\
     rename /o/f /s/g; look /o/f; look /s|LinkLoop, File 3 3 2 7, Link 0 7 0 0";
 
-// Catches a directory that is moved without what lies below it, into itself or over something.
+// Catches a directory that is moved without what is below it, into itself or over something.
 const MOVES: &str = "\
     move /o /g; look /o; look /g/f|done, Absent, File 3 3 2 7\n\
     move /o /e/g; look /o; look /e/g/l|done, Absent, Link 3 5 0 0\n\
@@ -108,8 +108,8 @@ const MOVES: &str = "\
     move / /g; look /; look /g|impossible change, Dir 0 1 0 0, Absent\n\
     move /o/f /; look /o/f; look /|impossible change, File 3 3 2 7, Dir 0 1 0 0";
 
-// Catches a link that takes a new node where one stands or keeps that of a file, a change made through a link, and a
-// time set on what is no file.
+// Catches a link that takes a new node where one is already or keeps that of a file, a change made through a link,
+// and a time set on what is no file.
 const PUTS: &str = "\
     link /d /e; look /d; follow /d/d|done, Link 0 4 0 0, Absent\n\
     link /o/f /e; look /o/f|done, Link 3 10 0 0\n\

@@ -1,11 +1,11 @@
--- Lemmas on numbers that are read of the same bytes.
+-- Lemmas on numbers that are read from the same bytes.
 use Rattle.std.proofs.Common.{◌≡◌, ℕ, ◌^◌, ◌<◌, List, Option, Some, None, IsSome, Result, Err, IfOk, refl, sym, subst, true≢false}
 use Rattle.gix_features_parts.specs.Leb64Reads.{TakesBytes, IsAtEnd, Decodes}
 use Rattle.gix_features_parts.specs.declared.decode.Error.{Error}
 use Rattle.gix_features_parts.specs.declared.decode.Error.TheVariants.{Source, Truncated}
 use Rattle.gix_features_parts.proofs.Leb64Laws.{Reading, one_answer}
 
--- what a call that reads a number ensures, of a source with these bytes left
+-- what a call that reads a number ensures, from a source with these bytes left
 pub record Reads (before now : Option (List ℕ)) (result : Result (ℕ × ℕ) Error) : Type 0 where
   pub decoded : (bytes : List ℕ) × TakesBytes before now bytes × Decodes bytes result
   pub truncated : result ≡ Err Truncated → IsAtEnd now
@@ -24,7 +24,7 @@ reading left before now result told reads =
       fits = reads.fits;
     }
 
--- Of two sources with the same bytes left one number is read, or one reason is given: the law, for what the calls ensure.
+-- From two sources with the same bytes left one number is read, or one reason is given: the law, for what the calls ensure.
 pub one_for_both : (one now other then : Option (List ℕ)) (first second : Result (ℕ × ℕ) Error) → IsSome one → other ≡ one → Reads one now first
     → Reads other then second → (first ≡ Err Source → ⊥) → (second ≡ Err Source → ⊥) → first ≡ second
 one_for_both None now other then first second told alike read again = absurd (true≢false (sym told))

@@ -40,7 +40,7 @@ module _ {T : Type 0} where
   past (x ∷ xs) zero e = absurd (omega (arith, e))
   past (x ∷ xs) (suc k) e = past xs k (omega (arith, e))
 
-  -- ---- a list that is turned round
+  -- ---- a list that is reversed
 
   abbrev pub turn : List T → List T
   turn [] = []
@@ -58,7 +58,7 @@ module _ {T : Type 0} where
   length-turn [] = refl
   length-turn (x ∷ xs) = longer (turn xs) x ∙ ap suc (length-turn xs)
 
-  -- the items of a list that is turned round, by their places
+  -- the items of a list that is reversed, by their places
   abbrev pub downward : List T → List (ℕ × T)
   downward [] = []
   downward (x ∷ xs) = (length xs, x) ∷ downward xs

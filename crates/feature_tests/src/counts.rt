@@ -21,8 +21,8 @@ impl Count for Total {
     }
 }
 
-/// Reads four bytes and the last one, between which a read fails. It answers how many are counted, or 0 where a read is answered
-/// otherwise.
+/// Reads four bytes and the last one, between which a read fails. Returns how many are counted, or 0 if a read is
+/// answered otherwise.
 fn counted_reads(source: &mut progress::Read<MemSource, Total>) -> usize {
     let mut out = [0; 4];
     let first = source.read(&mut out).is_ok();
@@ -49,7 +49,7 @@ fn reads(rt: HostRuntime) -> Result<(), Fail> {
     Ok(())
 }
 
-/// Writes three bytes, and fails to write two. It answers how many are counted, or 0 where a write is answered otherwise.
+/// Writes three bytes, and fails to write two. Returns how many are counted, or 0 if a write is answered otherwise.
 fn counted_writes(sink: &mut progress::Write<MemSink, Total>) -> usize {
     let first = sink.write(b"abc").is_ok();
     let second = sink.write(b"de").is_err();

@@ -29,21 +29,21 @@ fn error_when_set(alloc: Global, all: &mut String, flag: SetAfter) -> Result<(),
     Ok(())
 }
 
-/// Fails where other numbers are given until a flag is set than those that are wanted.
+/// Fails if other numbers are given until a flag is set than those that are wanted.
 fn ended_row(alloc: Global, questions: u64, want: &str) -> Result<(), Fail> {
     let mut all = String::new(alloc);
     until_set(alloc, &mut all, SetAfter::new(questions))?;
     compare("until the flag is set", all.as_str(), want)
 }
 
-/// The same with an error where it is set.
+/// Fails so for numbers with an error when the flag is set.
 fn failed_row(alloc: Global, questions: u64, want: &str) -> Result<(), Fail> {
     let mut all = String::new(alloc);
     error_when_set(alloc, &mut all, SetAfter::new(questions))?;
     compare("an error where the flag is set", all.as_str(), want)
 }
 
-// Catches a flag that is asked once alone, an item after the flag, and an error that is given twice or at the inner end.
+// Catches a flag that is asked only once, an item after the flag, and an error that is given twice or at the inner end.
 #[test]
 fn items(rt: HostRuntime) -> Result<(), Fail> {
     let alloc: Global = rt.alloc();
@@ -53,7 +53,7 @@ fn items(rt: HostRuntime) -> Result<(), Fail> {
     failed_row(alloc, 9, "Ok(1), Ok(2), Ok(3)")
 }
 
-// Catches a flag that isn't read anew.
+// Catches a flag that isn't read again.
 #[test]
 fn atomic(rt: HostRuntime) -> Result<(), Fail> {
     let word = AtomicBool::new(false);
@@ -74,10 +74,10 @@ fn answer_word(answer: Result<usize, interrupt::Error>) -> &'static str {
     }
 }
 
-/// A source under a flag that is set after two questions.
+/// A source under a flag that is set after two reads of it.
 type Reading = interrupt::Read<MemSource, SetAfter>;
 
-/// Fails where a read isn't answered so.
+/// Fails if a read is answered otherwise.
 fn read_row(source: &mut Reading, text: &str, want: &str) -> Result<(), Fail> {
     let mut out = [0; 2];
     compare(text, answer_word(source.read(&mut out)), want)
@@ -107,7 +107,7 @@ fn reads(rt: HostRuntime) -> Result<(), Fail> {
     Ok(())
 }
 
-/// A sink under a flag that is set after two questions.
+/// A sink under a flag that is set after two reads of it.
 type Writing = interrupt::Write<MemSink, SetAfter>;
 
 /// Three writes.

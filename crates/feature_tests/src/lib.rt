@@ -1,6 +1,6 @@
 //! Tests of the parts of `gix_features` that start no thread: numbers, chunks, items in order, flags, counts and locks.
 //!
-//! Rows of words say what is done, and behind a bar what is to come of it.
+//! Rows of words say what is done, and after a bar what is wanted.
 #![tactic(auto)]
 
 #[cfg(test)]

@@ -11,7 +11,7 @@ use std::alloc::{AllocError, Global};
 use std::sync::Wait;
 use std::test::Fail;
 
-/// Whether a change is there behind the guard that made it.
+/// Whether a change is there after the guard that made it.
 fn is_changed<R: Wait>(rt: &R) -> bool {
     let value: MutableOnDemand<u8> = MutableOnDemand::new(1);
     let before = *get_ref(rt, &value);
@@ -22,7 +22,7 @@ fn is_changed<R: Wait>(rt: &R) -> bool {
     before == 1 && after == 1
 }
 
-/// The same of a lock.
+/// Whether a change is there after a lock's guard.
 fn is_held<R: Wait>(rt: &R) -> bool {
     let value: Mutable<u8> = Mutable::new(1);
     *lock(rt, &value) = 3;
@@ -45,7 +45,7 @@ fn put(owner: &mut OwnShared<u8>, value: u8) -> Result<(), NoMemory>
     Ok(())
 }
 
-/// The values of two owners of one value, of which one was given another.
+/// The values of two owners of one value, after one was given another.
 fn values(alloc: Global) -> Result<(u8, u8), Fail> {
     let mut one: OwnShared<u8> = OwnShared::new(alloc, 1)?;
     let other = OwnShared::try_clone(&one)?;

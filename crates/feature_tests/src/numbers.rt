@@ -110,7 +110,7 @@ fn one_number(rt: HostRuntime) -> Result<(), Fail> {
 /// A plan: how large chunks are, the limit of threads, and how many there are.
 type Plan = (usize, Option<usize>, usize);
 
-/// Fails where a plan isn't the one that is wanted.
+/// Fails if a plan isn't the one that is wanted.
 fn plan_row(alloc: Global, text: &str, plan: Plan, want: &str) -> Result<(), Fail> {
     let (chunk, limit, threads) = plan;
     let shown = format!(in alloc; "{chunk} {limit:?} {threads}")?;
@@ -129,7 +129,7 @@ fn sizes_of_known_items(rt: HostRuntime) -> Result<(), Fail> {
     plan_row(alloc, "100000 items", many, "1000 Some(4) 4")
 }
 
-// Catches bounds of a chunk that are mixed up, and a limit that the number of threads stands above.
+// Catches bounds of a chunk that are mixed up, and a limit below the number of threads.
 #[test]
 fn sizes_of_unknown_items(rt: HostRuntime) -> Result<(), Fail> {
     let alloc: Global = rt.alloc();
@@ -153,7 +153,7 @@ fn threads(rt: HostRuntime) -> Result<(), Fail> {
     compare("threads", shown.as_str(), "(4, 4, 3)")
 }
 
-/// Adds a chunk, where there is memory for it.
+/// Adds a chunk, if there is memory for it.
 fn add_chunk(
     alloc: Global,
     all: &mut String,
@@ -171,14 +171,14 @@ fn chunks_shown(alloc: Global, all: &mut String, numbers: &[u8], size: usize) ->
     Ok(())
 }
 
-/// Fails where numbers come in other chunks than those that are wanted.
+/// Fails if numbers come in other chunks than those that are wanted.
 fn chunk_row(alloc: Global, numbers: &[u8], size: usize, want: &str) -> Result<(), Fail> {
     let mut all = String::new(alloc);
     chunks_shown(alloc, &mut all, numbers, size)?;
     compare("chunks", all.as_str(), want)
 }
 
-// Catches a last chunk that is lost, and an empty one behind a full one.
+// Catches a last chunk that is lost, and an empty one after a full one.
 #[test]
 fn chunks(rt: HostRuntime) -> Result<(), Fail> {
     let alloc: Global = rt.alloc();

@@ -73,7 +73,7 @@ fn order_shown(alloc: Global, all: &mut String, words: &str) -> Result<(), Alloc
     Ok(())
 }
 
-/// Fails where a row's items are given in another order than is wanted.
+/// Fails if a row's items are given in another order than is wanted.
 fn order_row(alloc: Global, row: &str) -> Result<(), Fail> {
     let (words, want) = halves(row);
     let mut all = String::new(alloc);
@@ -95,8 +95,8 @@ const ORDERS: &str = "\
     1b 0a !|a, b, broken;\
     1b ! 0a|broken";
 
-// Catches an item that is given before its turn or twice, one that is lost at the end or by an error behind it, and one
-// that is given after an error.
+// Catches an item that is given before its turn or twice, one that is lost at the end or by an error after it, and
+// one that is given after an error.
 #[test]
 fn orders(rt: HostRuntime) -> Result<(), Fail> {
     for row in ORDERS.split(';') {

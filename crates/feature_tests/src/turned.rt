@@ -34,7 +34,7 @@ fn turned<T: Drop>(alloc: Global, left: Vec<T>) -> Result<Given<T, Broken>, Allo
     drained(alloc, LastFirst { left })
 }
 
-// Catches a list of which nothing is given, for which there could be no memory.
+// Catches a list of which nothing is given because memory ran out.
 #[test]
 fn last_first(rt: HostRuntime) -> Result<(), Fail> {
     let given = turned(rt.alloc(), b"abc".to_vec(rt.alloc())?)?;

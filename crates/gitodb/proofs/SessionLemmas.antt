@@ -1,4 +1,4 @@
--- Lemmas on statuses: what was read of a script is answered as the script, and what a delivery says of a status.
+-- Lemmas on statuses: what is answered for the bytes that were read holds for the script, and what a delivery says of a status.
 use Rattle.std.proofs.Common.{◌≡◌, inl, inr, ℕ, ◌≤◌, List, [], ◌++◌, length, sym, ap, ◌∙◌, subst}
 use Rattle.std.specs.Prelude.{IfSome}
 use Rattle.std.proofs.lemmas.Bool.{cases_lt}
@@ -34,7 +34,7 @@ Answers-front text rest written ending whole a =
       written_is = a.written_is;
     }
 
--- what `world` writes for what it read, it writes for the script
+-- what `world` writes for the bytes that it read, it writes for the script
 written_for_script : (input : Input) (text written : List ℕ) (status : Status) → ReadsFile script_limit input.left input.left' text → AnswersWith text written status
     → IfSome input.left (λ script. AnswersWith script written status)
 written_for_script input text written status reads answers =

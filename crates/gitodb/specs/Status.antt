@@ -1,4 +1,4 @@
--- The exit status that each end of the program has, and what is told on standard error.
+-- The exit status of each end of the program, and the message on standard error.
 use Rattle.std.specs.Prelude.{ℕ, List, [], codes}
 use Rattle.gitodb.specs.declared.status.Status.{Status}
 use Rattle.gitodb.specs.declared.status.Status.TheVariants.{Done, NoWords, NotUnderstood, Refused, ReadFault, WriteFault, NoMemory, NotBuilt}
@@ -13,7 +13,7 @@ code_of WriteFault = 4
 code_of NoMemory = 5
 code_of (NotBuilt told) = 8
 
--- what is told, without the program's name; nothing where all went well
+-- the message, without the program's name; nothing if all went well
 abbrev pub note_of : Status → List ℕ
 note_of Done = []
 note_of NoWords = codes "no words: gitodb --help tells which there are"

@@ -3,7 +3,7 @@ ghost use Rattle.std.specs.Prelude.{◌≡◌, map};
 ghost use Rattle.std.specs.String.{string_bytes};
 ghost use Rattle.gitodb.specs.Session.{command_of};
 
-/// What the words of the command line ask for.
+/// The command in the words of the command line.
 #[derive(Clone, Copy)]
 pub enum Command {
     World,
@@ -13,7 +13,7 @@ pub enum Command {
     NotUnderstood,
 }
 
-/// The command that the words are.
+/// The command of the words.
 pub fn command_of(words: &[String]) -> Command
     ensures command { result ≡ command_of (map (λ word. string_bytes word) words.now) }
 {

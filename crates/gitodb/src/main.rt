@@ -1,8 +1,8 @@
 //! The object database as a program.
 //!
-//! `gitodb world` reads a script from standard input: a disk, and steps of interleaved calls on it, and writes
-//! one line for each step line. `run` says what each status promises, over any source, sink and disk; `main`
-//! calls it with the real ones, and tells on standard error what went wrong.
+//! `gitodb world` reads a script from standard input: a disk, and steps of interleaved calls on it, and writes one
+//! line for each step line. `run` says what each status promises, over any source, sink and disk; `main` calls it
+//! with the real ones, and reports errors on standard error.
 #![tactic(auto)]
 
 mod command;

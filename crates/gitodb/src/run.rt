@@ -70,9 +70,9 @@ status  0 done   1 words not understood   2 a line was refused   3 read fault
 /// What `--version` writes.
 pub const VERSION: &str = "gitodb 0.1.0\n";
 
-/// Does what the words of the command line say, and answers the status.
+/// Executes the words of the command line, and returns the status.
 ///
-/// `world` reads a script from the source and runs it over a disk in memory; the disk that is handed in is left as it is.
+/// `world` reads a script from the source and runs it over a disk in memory; the given disk stays unchanged.
 pub fn run<R, S: Source, K: Sink, D: Disk>(
     _rt: &R,
     alloc: Global,
@@ -99,7 +99,7 @@ pub fn run<R, S: Source, K: Sink, D: Disk>(
     }
 }
 
-/// Reads a script, and writes what comes of it.
+/// Reads a script, and writes its output.
 fn world<S: Source, K: Sink>(alloc: Global, source: &mut S, sink: &mut K) -> Status
     ensures ends { (help version : List ℕ) → Ends (record {
       command = world_command;

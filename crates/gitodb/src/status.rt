@@ -1,25 +1,25 @@
-//! How the program may end, and what it tells on standard error then.
+//! How the program may end, and its messages on standard error.
 use odb_base::ByteList;
 use odb_program::SessionStatus;
 
 /// How the program ends.
 #[derive(Drop)]
 pub enum Status {
-    /// 0: done, and the source was read to its end where the command reads it.
+    /// 0: done, and the source was read to its end if the command reads it.
     Done,
     /// 1: there are no words.
     NoWords,
     /// 1: the words are no command.
     NotUnderstood,
-    /// 2: a line of the script is outside its grammar or its limits. It has what is told of the line.
+    /// 2: a line of the script is outside its grammar or its limits. It has the message about the line.
     Refused(ByteList),
     /// 3: the source failed.
     ReadFault,
     /// 4: the sink failed.
     WriteFault,
-    /// 5: want of memory.
+    /// 5: memory ran out.
     NoMemory,
-    /// 8: a line of the script has a field that isn't built yet. It has what is told of the line.
+    /// 8: a line of the script has a field that isn't built yet. It has the message about the line.
     NotBuilt(ByteList),
 }
 

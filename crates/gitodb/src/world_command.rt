@@ -1,4 +1,4 @@
-//! `world`: a script in, a line for each of its step lines out.
+//! `world`: reads a script, and writes a line for each of its step lines.
 ghost use Rattle.std.specs.Prelude.{◌≡◌, ◌++◌, ℕ, List, IfOk, OnOk};
 ghost use Rattle.std.specs.Option.{option_copied};
 ghost use Rattle.gix_odb_world.specs.Play.{IsPlayed};
@@ -18,7 +18,7 @@ use odb_script::{Ending, Reading, read};
 use script_reasons::told_of;
 use std::alloc::Global;
 
-/// What is written for a script, and the status. The script itself isn't kept while its lines are played.
+/// The output for a script, and the status. The script itself isn't kept while its lines are played.
 pub fn answer_script(alloc: Global, script: Vec<u8>) -> Result<(Vec<u8>, Status), NoMemory>
     ensures answered { IfOk result (λ answer. AnswersWith script.items answer.0.items answer.1) }
 {
@@ -28,7 +28,7 @@ pub fn answer_script(alloc: Global, script: Vec<u8>) -> Result<(Vec<u8>, Status)
     Ok((out, status_by(ending, told)))
 }
 
-/// What a script says, and what is told of it.
+/// The contents of a script, and the message about it.
 fn understood(alloc: Global, script: Vec<u8>) -> Result<(Reading, Vec<u8>), NoMemory>
     ensures reading { IfOk result (λ understood. understood.0 ≡ reading_of script.items) }
     ensures told { IfOk result (λ understood. understood.1.items ≡ told_by understood.0.script script.items understood.0.ending) }
@@ -38,7 +38,7 @@ fn understood(alloc: Global, script: Vec<u8>) -> Result<(Reading, Vec<u8>), NoMe
     Ok((reading, told))
 }
 
-/// What is written for a script that makes this disk, plays these lines on it, and ends so.
+/// The output for a script that makes this disk, plays these lines on it, and has this ending.
 fn answer_lines(
     alloc: Global,
     disk: MemDisk,
@@ -58,7 +58,7 @@ fn played(alloc: Global, disk: MemDisk, lines: Sequence<Line>) -> Result<Play, N
     World::play(alloc, disk, lines.as_slice())
 }
 
-/// What is written for a play, and for the ending of its script.
+/// The output for a play, and for the ending of its script.
 fn printed(alloc: Global, play: &Play, ending: Ending) -> Result<Vec<u8>, NoMemory>
     ensures written { IfOk result (λ out. out.items ≡ printed_at play.now.run.outcomes play.now.last ++ ending_text ending) }
 {
@@ -115,7 +115,7 @@ fn print_ending(alloc: Global, out: &mut Vec<u8>, ending: Ending) -> Result<(), 
     }
 }
 
-/// The status of a script that ends so, of which this is told.
+/// The status of a script with this ending and this message.
 fn status_by(ending: Ending, told: Vec<u8>) -> Status
     ensures status { result ≡ status_by ending told.items }
 {

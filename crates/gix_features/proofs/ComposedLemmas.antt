@@ -1,4 +1,4 @@
--- Lemmas on composed paths: each name of a path is one, and one name more.
+-- Lemmas on composed paths: each name of a path is a name, and so is one more.
 use Rattle.std.proofs.Common.{◌≡◌, ℕ, zero, suc, ◌+◌, ◌≤◌, ◌<◌, true, List, [], ◌∷◌, ◌++◌, length, map, take, get_or, sym, ap, ◌∙◌, refl, arith}
 use Rattle.std.specs.List.{list_all}
 use Rattle.std.proofs.lemmas.Bool.{and_parts}

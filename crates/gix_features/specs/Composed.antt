@@ -7,7 +7,7 @@ use Rattle.odb_base.specs.Path.{Path, Name, is_name}
 unfoldable pub composed_name : Name → Name
 composed_name name = encode_utf8_all (nfc (chars name))
 
--- a name of a path, composed where it is still a name then
+-- a name of a path, composed if the result is still a name
 abbrev pub composed_part : Name → Name
 composed_part name = if is_name (composed_name name) then composed_name name else name
 
@@ -15,7 +15,7 @@ composed_part name = if is_name (composed_name name) then composed_name name els
 unfoldable pub composed_path : Path → Path
 composed_path path = map composed_part path
 
--- ---- where that is asked for
+-- ---- if that is asked for
 
 abbrev pub path_if : Bool → Path → Path
 path_if composes path = if composes then composed_path path else path

@@ -12,7 +12,7 @@ use Rattle.walkdir.specs.declared.dent.DirEntry.{DirEntry}
 abbrev pub slash : ℕ
 slash = 47
 
--- what counts behind a name: a slash behind that of a directory
+-- what counts after a name: a slash after that of a directory
 abbrev pub slash_behind : DirEntry → List ℕ
 slash_behind entry = if is_dir entry then slash ∷ [] else []
 

@@ -1,13 +1,13 @@
 //! Walks in Git's order and work in parallel, of the crate `gix-features` 0.50.
 //!
-//! The object database uses none of it yet: tests do, and a program that measures the parts which start threads.
+//! The object database doesn't use it yet: tests do, and a program that measures the parts which start threads.
 //!
 //! `fs` wraps the walks of the crate `walkdir`: unsorted, or in the order of Git's trees, and with names in Unicode's
-//! form NFC where that is asked for. The other modules are those of `gix_features_parts`: `interrupt` ends work where a flag
-//! is set, `progress` counts bytes that pass, `decode` reads numbers of variable length, `iter` cuts items into chunks,
-//! `cache` takes what a cache tells, `threading` names what threads share, and `parallel` has what work in parallel is split
-//! by, and how its results come into order again. It also has what `gix_features_workers`, `gix_features_rounds` and
-//! `gix_features_eager` have: items consumed by several workers at once, and items that are drawn ahead. `io::pipe` is a
+//! form NFC if that is asked for. The other modules are those of `gix_features_parts`: `interrupt` ends work when a
+//! flag is set, `progress` counts the bytes that pass, `decode` reads numbers of variable length, `iter` cuts items
+//! into chunks, `cache` takes a cache's counts, `threading` names what threads share, and `parallel` splits work and
+//! puts its results in order again. It also has `gix_features_workers`, `gix_features_rounds` and
+//! `gix_features_eager`: items consumed by several workers at once, and items that are drawn ahead. `io::pipe` is a
 //! pipe from one thread to another, that of `gix_features_pipe`.
 //! ```rust
 //! let root = PathText::parse(alloc, "/src")?;

@@ -1,4 +1,4 @@
-//! Items that several workers consume at once, what work in parallel is split by, and how its results come into order again.
+//! Items that several workers consume at once, how work in parallel is split, and how its results are put in order again.
 pub mod reduce;
 
 pub use gix_features_eager::{EagerIter, EagerIterIf};

@@ -82,7 +82,7 @@ module _ {T : Type 0} (Law : List T → Type 0) where
   pub nothing : (port : ℕ) (v : Hand T) → Learns (IsInOrder Law) port v (λ items. ⊤)
   nothing port v items views h at = tt
 
-  -- what was taken and what the channel holds keeps to the law
+  -- what was taken and what the channel holds keeps the law
   pub rests : (port : ℕ) (v : Hand T) → v.takes ≡ true → Learns (IsInOrder Law) port v (λ items. Law (v.taken ++ items))
   rests port v may items views h at = subst Law (h.4 ∙ ap (λ l. l ++ items) (sym ((h.6 port v at).1 may).1)) h.5
 

@@ -5,7 +5,7 @@ use crossbeam_channel::protocol::{Join, Lesson, Outcome, Protocol, Split};
 use std::collections::LinkedList;
 use std::marker::PhantomData;
 
-/// A law that whatever was sent so far keeps to.
+/// A law that holds of what was sent so far, at any time.
 pub trait Law<T> {
     ghost keeps: { List T → Type 0 };
 }
@@ -19,7 +19,7 @@ impl<T> Law<T> for Anything {
     ghost keeps = { λ _. ⊤ };
 }
 
-/// What an end may do, what it has sent, and what it has taken. No value of it is made.
+/// What an end may do, has sent, and has taken. No value of it is made.
 pub struct Hand<T> {
     pub sends: bool,
     pub takes: bool,
@@ -27,7 +27,7 @@ pub struct Hand<T> {
     pub taken: LinkedList<T>,
 }
 
-/// The rule of a channel: what was sent is what was taken and then what the channel holds, and keeps to a law.
+/// The rule of a channel: what was sent is what was taken and then what the channel holds, and keeps a law.
 pub struct InOrder<L> {
     law: PhantomData<L>,
 }
@@ -78,8 +78,8 @@ impl<T> Lesson<T, Hand<T>> for Sends {
     ghost fact = { λ _ _. ⊤ };
 }
 
-/// Something is taken, which begins what was sent; or there was nothing at a moment, when what had been taken was all that
-/// was sent.
+/// Something is taken, and what was taken is a prefix of what was sent; or the channel was empty at a moment, and all
+/// that was sent had been taken.
 pub struct Takes<L> {
     law: PhantomData<L>,
 }

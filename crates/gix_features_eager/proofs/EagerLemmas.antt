@@ -19,7 +19,7 @@ use Rattle.gix_features_eager.specs.declared.choice.EagerIterIf.TheVariants.{OnD
 use Rattle.gix_features_eager.specs.Eager.{CameOf, Came, DrawsIf}
 
 module _ {I T : Type 0} (steps : I → Option T → I → Type 0) where
-  -- ---- a new channel, over which how the iterator is was sent and taken before it became two ends
+  -- ---- a new channel, through which the iterator as it is was sent and taken before it became two ends
 
   pub told_begun_at : (start : Snapshot I) (v : Hand (Message I T)) → v ≡ hand true true [] [] → IsTold steps (v.sent ++ Begun start ∷ [])
   told_begun_at start v new = subst (λ (u : Hand (Message I T)). IsTold steps (u.sent ++ Begun start ∷ [])) (sym new) (told_begun steps start)
@@ -59,7 +59,7 @@ module _ {I T : Type 0} (steps : I → Option T → I → Type 0) where
     subst (λ (s : List (Message I T)). AreTaken first s []) (sym (ap (λ (u : Hand (Message I T)). u.taken) right)) known.taken,
   )
 
-  -- ---- what came of an iterator
+  -- ---- what came from an iterator
 
   pub came_none : (first at : I) → at ≡ first → Came steps first (Here at) []
   came_none first at same = record { of = sym same; drawn = (first, refl) }
@@ -71,11 +71,11 @@ module _ {I T : Type 0} (steps : I → Option T → I → Type 0) where
   pub came_by : (first : I) (worker : Worker I T) (items : List T) → CameBy steps first worker items → Came steps first (Elsewhere worker) items
   came_by first worker items came = record { of = came.taken; drawn = came.drawn }
 
-  -- what came of a worker
+  -- what came from a worker
   pub came_taken : (first : I) (source : Source I T) (worker : Worker I T) (items : List T) → source ≡ Elsewhere worker → Came steps first source items → AreTaken first (taken_of worker) items
   came_taken first source worker items is came = subst (λ (s : Source I T). CameOf steps first s items) is came.of
 
-  -- a further item of the iterator that is here
+  -- one more item of the iterator that is here
   came_here-none : (first at next : I) (source : Source I T) (items : List T) (x : T) → source ≡ Here at → steps at (Some x) next → Came steps first source (items ++ [])
       → Came steps first (Here next) ((items ++ x ∷ []) ++ [])
   came_here-none first at next source items x is step came =
@@ -104,19 +104,19 @@ module _ {I T : Type 0} (steps : I → Option T → I → Type 0) where
 
   -- ---- what was given
 
-  -- the next of the items at hand
+  -- the next of the items left of a chunk
   pub given_next : (first : I) (source : Source I T) (before after items : List T) (x : T) → before ≡ x ∷ after → Came steps first source (items ++ before)
       → Came steps first source ((items ++ x ∷ []) ++ after)
   given_next first source before after items x gives was = subst (λ (l : List T). Came steps first source l)
       (ap (λ (l : List T). items ++ l) gives ∙ sym (append_assoc items (x ∷ []) after)) was
 
-  -- a chunk is at hand where nothing was
+  -- a new chunk when nothing was left
   pub given_chunk : (first : I) (source : Source I T) (before after items chunk : List T) → before ≡ [] → after ≡ chunk
       → Came steps first source ((items ++ before) ++ chunk) → Came steps first source (items ++ after)
   given_chunk first source before after items chunk used more came = subst (λ (l : List T). Came steps first source l)
       (ap (λ (l : List T). (items ++ l) ++ chunk) used ∙ ap (λ (l : List T). l ++ chunk) (append-nil items) ∙ ap (λ (l : List T). items ++ l) (sym more)) came
 
-  -- a further item of an iterator that is asked as it is needed
+  -- one more item of an iterator that is asked on demand
   drawn_here : {H : Type 0} (can : I → Type 0) (at next : I) (x : T) → steps at (Some x) next → can next
       → DrawsIf {H = H} can steps (OnDemand at) (Some (Ok x)) (OnDemand next)
   drawn_here can at next x is_step may = record {

@@ -11,7 +11,7 @@ use Rattle.gix_features_eager.specs.declared.choice.EagerIterIf.TheVariants.{Eag
 use Rattle.gix_features_messages.specs.Messages.{AreTaken}
 use Rattle.gix_features_messages.specs.Taking.{MayTake, taken_of}
 
--- items may be drawn where an iterator may be asked that is so
+-- items may be drawn if the iterator in this state may be asked
 abbrev pub MayDraw : {I T : Type 0} → (I → Type 0) → Source I T → Type 0
 MayDraw can (Elsewhere worker) = MayTake worker
 MayDraw can (Here iter) = can iter
@@ -20,17 +20,17 @@ MayDraw can Ended = ⊤
 abbrev pub IsReady : {I H T : Type 0} → (I → Type 0) → EagerIter I H T → Type 0
 IsReady can eager = MayDraw can eager.source
 
--- There are no more items: none is at hand, and none is drawn any more.
+-- There are no more items: none is left of a chunk, and none is drawn any more.
 abbrev pub IsOver : {I H T : Type 0} → EagerIter I H T → Type 0
 IsOver eager = (eager.source ≡ Ended) × (into_iter_items eager.at_hand ≡ [])
 
--- whether nothing comes behind an answer: it is the end, or that there was no memory
+-- whether nothing follows an answer: it is the end, or out of memory
 abbrev pub is_last : {T : Type 0} → Option (Result T NoMemory) → Bool
 is_last None = true
 is_last (Some (Ok item)) = false
 is_last (Some (Err failed)) = true
 
--- whether an answer is that there was no memory
+-- whether an answer is out of memory
 abbrev pub is_want : {T : Type 0} → Option (Result T NoMemory) → Bool
 is_want None = false
 is_want (Some (Ok item)) = false
@@ -38,7 +38,8 @@ is_want (Some (Err failed)) = true
 
 -- an iterator by its steps
 module _ {I T : Type 0} (steps : I → Option T → I → Type 0) where
-  -- These items came of an iterator, which was so at first: in a worker's messages, or from the iterator that is here, or they were all.
+  -- These items came from an iterator that was so at first: by a worker's messages, or from the iterator here; or they were
+  -- all.
   abbrev pub CameOf : I → Source I T → List T → Type 0
   CameOf first (Elsewhere worker) items = AreTaken first (taken_of worker) items
   CameOf first (Here iter) items = Yields steps first items iter
@@ -48,11 +49,11 @@ module _ {I T : Type 0} (steps : I → Option T → I → Type 0) where
     pub of : CameOf first source items
     pub drawn : (t : I) × Yields steps first items t
 
-  -- These items were given of an iterator, which was so at first, and those at hand are the next.
+  -- These items were given by an iterator that was so at first, and those left of a chunk are the next.
   abbrev pub HasGiven : {H : Type 0} → I → EagerIter I H T → List T → Type 0
   HasGiven first eager items = Came first eager.source (items ++ into_iter_items eager.at_hand)
 
-  -- What is answered behind these items: the end, where they are all; the next item; or that there is no memory.
+  -- What follows these items: the end, if they are all; the next item; or out of memory.
   abbrev pub Follows : {E : Type 0} → I → (E → List T → Type 0) → List T → Option (Result T NoMemory) → E → Type 0
   Follows first Given items None after = Drains steps first items
   Follows first Given items (Some (Ok item)) after = Given after (items ++ item ∷ [])
@@ -62,7 +63,7 @@ module _ {I T : Type 0} (steps : I → Option T → I → Type 0) where
   abbrev pub GivesNext : {H : Type 0} → EagerIter I H T → Option (Result T NoMemory) → EagerIter I H T → Type 0
   GivesNext before answer after = (first : I) (items : List T) → HasGiven first before items → Follows first (HasGiven first) items answer after
 
-  -- the same where it was chosen whether they are
+  -- what was given, if it was chosen whether items are drawn ahead
   abbrev pub HasGivenIf : {H : Type 0} → I → EagerIterIf I H T → List T → Type 0
   HasGivenIf first (Eager eager) items = HasGiven first eager items
   HasGivenIf first (OnDemand iter) items = Yields steps first items iter
@@ -74,7 +75,7 @@ abbrev pub IsReadyIf : {I H T : Type 0} → (I → Type 0) → EagerIterIf I H T
 IsReadyIf can (Eager eager) = IsReady can eager
 IsReadyIf can (OnDemand iter) = can iter
 
--- There are no more items. Of what is drawn as it is asked for nothing may be asked behind its end.
+-- There are no more items. What is drawn on demand may not be asked after its end.
 abbrev pub IsOverIf : {I H T : Type 0} → EagerIterIf I H T → Type 0
 IsOverIf (Eager eager) = IsOver eager
 IsOverIf (OnDemand iter) = ⊥
@@ -99,8 +100,8 @@ turns_left_if left (Eager eager) = turns_left eager
 turns_left_if left (OnDemand iter) = left iter
 
 module _ {I H T : Type 0} (can : I → Type 0) (steps : I → Option T → I → Type 0) where
-  -- A call of `next`: it may be called again; its answer follows on what was given; behind the end, and behind want of memory,
-  -- there is nothing more, and it stays so; and there is want of memory only where a worker draws the items.
+  -- A call of `next`: it may be called again; its answer follows what was given; after the end, and after out of memory,
+  -- there is nothing more, and it stays so; and memory runs out only if a worker draws the items.
   pub record Draws (before : EagerIter I H T) (answer : Option (Result T NoMemory)) (after : EagerIter I H T) : Type 0 where
     pub ready : IsReady can after
     pub given : GivesNext steps before answer after
@@ -108,7 +109,7 @@ module _ {I H T : Type 0} (can : I → Type 0) (steps : I → Option T → I →
     pub stays : IsOver before → (answer ≡ None) × IsOver after
     pub want : is_want answer ≡ true → has_worker before.source ≡ true
 
-  -- The same where it was chosen whether items are drawn ahead. It stays as it was chosen.
+  -- A call of `next`, if it was chosen whether items are drawn ahead. The choice stays.
   pub record DrawsIf (before : EagerIterIf I H T) (answer : Option (Result T NoMemory)) (after : EagerIterIf I H T) : Type 0 where
     pub ready : IfSome answer (λ _. IsReadyIf can after)
     pub given : GivesNextIf steps before answer after

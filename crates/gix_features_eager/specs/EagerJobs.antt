@@ -11,20 +11,20 @@ use Rattle.gix_features_messages.specs.declared.messages.Message.TheVariants.{Be
 use Rattle.gix_features_channels.specs.Ends.{hand}
 use Rattle.gix_features_messages.specs.Messages.{IsSent, AreTaken}
 
--- The job's end of its channel has its pass, what was sent is that the iterator is as it is, and the iterator may be asked.
+-- The job's end of its channel has its pass, the iterator as it is was sent, and the iterator may be asked.
 pub record CanBegin {I T : Type 0} (can : I → Type 0) (steps : I → Option T → I → Type 0) (job : Job I T) : Type 0 where
   pub seated : IsSeatAt (sends_on job.sender) job.pass
   pub sends : (view job.pass).sends ≡ true
   pub sent : IsSent steps (view job.pass).sent job.iter
   pub asked : can job.iter
 
--- How an iterator is was sent, and nothing else; nothing was taken.
+-- The iterator as it is was sent, and nothing else; nothing was taken.
 pub record IsBegun {I T : Type 0} (first : I) (v : Hand (Message I T)) : Type 0 where
   pub start : Snapshot I
   pub from_first : start.value ≡ first
   pub begun : v ≡ hand true true (Begun start ∷ []) []
 
--- How an iterator is was sent and taken, by who may do both.
+-- The iterator as it is was sent and taken, by an end that may do both.
 pub record IsKnown {I T : Type 0} (steps : I → Option T → I → Type 0) (first : I) (v : Hand (Message I T)) : Type 0 where
   pub sends : v.sends ≡ true
   pub takes : v.takes ≡ true

@@ -1,4 +1,4 @@
-//! The items of an iterator, which are drawn ahead where a condition holds.
+//! The items of an iterator, which are drawn ahead if a condition holds.
 ghost use Rattle.std.specs.Prelude.{◌≡◌, ◌<◌, [], IfOk};
 ghost use Rattle.gix_features_eager.specs.Eager.{IsReadyIf, HasGivenIf, DrawsIf, is_eager, turns_left_if};
 
@@ -26,7 +26,7 @@ where
     I::Item: Send + Drop + 'static,
     H: Threads + Wait + Copy + Send + 'static,
 {
-    /// Has items drawn ahead, as `EagerIter::new` does, where a condition holds.
+    /// Draws items ahead, as `EagerIter::new` does, if a condition holds.
     pub fn new<B: FnOnce() -> bool + Drop>(
         rt: H,
         alloc: Global,
@@ -65,7 +65,7 @@ where
 
     ghost remaining = { turns_left_if I.remaining };
 
-    /// The next item, or want of memory where a worker broke off.
+    /// The next item, or out of memory if a worker broke off.
     fn next(&mut self) -> Option<Result<I::Item, NoMemory>> {
         match self {
             EagerIterIf::Eager(eager) => eager.next(),

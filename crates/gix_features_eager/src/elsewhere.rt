@@ -1,4 +1,4 @@
-//! A task that a thread of its own does. It comes back where no thread can be started.
+//! A task that is done on a thread of its own. It comes back if no thread can be started.
 ghost use Rattle.std.specs.Prelude.{◌≡◌, [], true, IfOk, IfErr};
 ghost use Rattle.crossbeam_channel.specs.Ends.{sends_on, receives_on};
 ghost use Rattle.crossbeam_channel.specs.Claims.{view, IsSeatAt};
@@ -20,7 +20,7 @@ pub trait Task: Drop {
         requires { can_begin self };
 }
 
-/// Only what can begin is handed over.
+/// Only what can begin is passed on.
 pub struct Ready;
 
 impl<K: Task> Law<K> for Ready {
@@ -35,7 +35,7 @@ type TaskReceiver<K> = RuledReceiver<K, Hand<K>, InOrder<Ready>>;
 
 type TaskPass<K> = Pass<K, Hand<K>>;
 
-/// Does a task in a thread of its own, which awaits it. The task comes back where no thread can be started.
+/// Does a task on a thread of its own, which awaits it. Returns the task if no thread can be started.
 pub(crate) fn run_elsewhere<K, H>(
     rt: H,
     alloc: Global,
@@ -69,7 +69,7 @@ where
     }
 }
 
-/// Sends a task to the thread that awaits it. It comes back where the thread is gone, which is joined.
+/// Sends a task to the thread that awaits it. If the thread is gone, joins it and returns the task.
 fn hand_over<K, H>(
     rt: &H,
     to: TaskSender<K>,
@@ -106,7 +106,7 @@ fn join_first<K: Task, H: Threads>(rt: &H, to: TaskSender<K>, handle: JoinHandle
     task
 }
 
-/// A channel for one task, and the pass of whoever sends and takes it.
+/// A channel for one task, and the pass of an end that sends and takes it.
 fn task_channel<K: Task>(
     alloc: Global,
 ) -> Result<(TaskSender<K>, TaskReceiver<K>, TaskPass<K>), NoMemory>
@@ -115,7 +115,7 @@ fn task_channel<K: Task>(
     Ok(bounded_with(alloc, 1)?)
 }
 
-/// Awaits a task, and does it. There is none where whoever has it is gone.
+/// Awaits a task, and does it. There is none if the sender is gone.
 fn work<K: Task, H: Wait>(rt: &H, tasks: TaskReceiver<K>, mut pass: TaskPass<K>)
     requires seated { IsSeatAt (receives_on tasks) pass }
     requires takes { (view pass).takes ≡ true }

@@ -14,15 +14,15 @@ use std::sync::Wait;
 use std::thread::Threads;
 use std::vec::IntoIter;
 
-/// The items of an iterator, which a worker draws ahead in chunks; or, where no thread can be started, items that are drawn
-/// as they are asked for.
+/// The items of an iterator, which a worker draws ahead in chunks; or, if no thread can be started, items that are
+/// drawn as they are asked for.
 pub struct EagerIter<I: Iterator, H: Threads>
 where
     I::Item: Drop,
 {
     rt: H,
     source: Source<I>,
-    /// What is at hand of the last chunk that a worker sent.
+    /// What is left of the last chunk of the worker.
     at_hand: IntoIter<I::Item>,
     /// How many more answers there may be: more than any run asks for. It is the measure of a loop over the items.
     turns: u64,
@@ -50,7 +50,7 @@ where
     I::Item: Send + Drop + 'static,
     H: Threads + Wait + Copy + Send + 'static,
 {
-    /// Starts a worker that draws the items of an iterator in chunks of `chunk_size`, of which so many may be in flight.
+    /// Starts a worker that draws items in chunks of `chunk_size`, `chunks_in_flight` of which may be in flight.
     pub fn new(
         rt: H,
         alloc: Global,
@@ -89,7 +89,7 @@ where
 
     ghost remaining = { turns_left };
 
-    /// The next item, or want of memory where the worker broke off. After it, and after the last item, there is nothing.
+    /// The next item, or out of memory if the worker broke off. After that, and after the last item, None.
     fn next(&mut self) -> Option<Result<I::Item, NoMemory>> {
         self.count_turn();
         self.draw()
@@ -102,7 +102,7 @@ where
     I::Item: Drop,
     H: Threads + Wait + Copy,
 {
-    /// Counts an answer. Once as many were given as are counted, which no run comes to, it waits for ever.
+    /// Counts an answer. After the last of `turns`, which no run reaches, it blocks forever.
     fn count_turn(&mut self)
         ensures fewer { self.new.turns < self.old.turns }
         ensures source { self.new.source ≡ self.old.source }
@@ -165,7 +165,7 @@ where
         None
     }
 
-    /// Takes the next chunk of the worker. It answers whether there is one.
+    /// Takes the next chunk of the worker. Returns whether there is one.
     fn refill(&mut self) -> Result<bool, NoMemory>
         requires ready { IsReady I.can_next self.old }
         requires sent { has_worker self.old.source ≡ true }
@@ -200,7 +200,7 @@ where
         }
     }
 
-    /// Nothing more is drawn. A worker is ended.
+    /// Stops drawing, and ends a worker.
     fn end(&mut self)
         ensures ended { self.new.source ≡ Ended }
         ensures same { self.new.at_hand ≡ self.old.at_hand }

@@ -1,6 +1,6 @@
 //! Items of an iterator that a worker draws ahead, as `parallel::EagerIter` of the crate `gix-features` 0.50.
 //!
-//! The worker draws them in chunks, of which so many may be on their way. They come in the iterator's order.
+//! The worker draws them in chunks, a given number of which may be in flight. They come in the iterator's order.
 //! ```rust
 //! for path in EagerIter::new(rt, alloc, paths, 64, 8)? {
 //!     work(path?)?;

@@ -1,11 +1,11 @@
-//! Where items come from: a worker that draws them, or the iterator.
+//! The source of items: a worker that draws them, or the iterator.
 ghost use Rattle.std.specs.Prelude.{◌≡◌};
 ghost use Rattle.gix_features_eager.specs.Eager.{has_worker};
 
 use gix_features_messages::taker::Worker;
 use std::thread::Threads;
 
-/// Where items come from.
+/// The source of items.
 pub(crate) enum Source<I: Iterator>
 where
     I::Item: Drop,

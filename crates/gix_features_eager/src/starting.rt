@@ -1,4 +1,4 @@
-//! How a worker begins, of whose messages it is known from the first what they tell of the iterator.
+//! Starting a worker, such that its messages are known from the first to be about the iterator.
 ghost use Rattle.std.specs.Prelude.{◌≡◌, ◌<◌, [], true, IfOk, OnOk};
 ghost use Rattle.crossbeam_channel.specs.Ends.{sends_on, receives_on};
 ghost use Rattle.crossbeam_channel.specs.Claims.{view, IsSeatAt};
@@ -19,7 +19,7 @@ use std::snapshot::Snapshot;
 use std::sync::Wait;
 use std::thread::Threads;
 
-/// Both ends of a channel, over which nothing went but how the iterator was.
+/// Both ends of a channel, through which only the iterator as it was went.
 struct Ends<I: Iterator>
 where
     I::Item: Drop,
@@ -64,7 +64,7 @@ where
     })
 }
 
-/// Sends and takes how an iterator is, through a new channel.
+/// Sends and takes the iterator as it is, through a new channel.
 fn make_known<I: Iterator, H: Wait>(
     rt: &H,
     sender: &Sender<I>,
@@ -85,7 +85,7 @@ where
     Ok(())
 }
 
-/// Sends how an iterator is, through a new channel.
+/// Sends the iterator as it is, through a new channel.
 fn send_begun<I: Iterator, H: Wait>(
     rt: &H,
     sender: &Sender<I>,
@@ -109,7 +109,7 @@ where
     }
 }
 
-/// Takes how an iterator was, where that alone was sent.
+/// Takes the iterator as it was, if that alone was sent.
 fn take_begun<I: Iterator, H: Wait>(
     rt: &H,
     receiver: &Receiver<I>,
@@ -131,7 +131,7 @@ where
     }
 }
 
-/// A worker that draws an iterator's items; or the iterator, where no thread can be started.
+/// A worker that draws an iterator's items; or the iterator, if no thread can be started.
 pub(crate) fn start<I, H>(
     rt: H,
     alloc: Global,

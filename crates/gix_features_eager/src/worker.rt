@@ -22,7 +22,7 @@ where
     pub(crate) sender: Sender<I>,
     pub(crate) pass: EagerPass<I>,
     pub(crate) alloc: Global,
-    /// How many items are sent at once.
+    /// The number of items sent at once.
     pub(crate) size: usize,
 }
 
@@ -58,8 +58,8 @@ where
     }
 }
 
-/// Draws an iterator's items and sends them, so many at once, and then that these were all. It ends early where nobody
-/// takes them, and where there is no memory for them.
+/// Draws an iterator's items and sends them in chunks, and then that there are no more. It ends early if nobody takes
+/// them, or if memory runs out.
 fn draw_all<I: Iterator, H: Wait>(rt: &H, job: &mut Job<I>)
 where
     I::Item: Drop,
@@ -72,8 +72,8 @@ where
     }
 }
 
-/// Draws the next items and sends them, and then, where there are no more, that these were all. It answers whether there
-/// may be more that somebody takes.
+/// Draws the next items and sends them; if there are no more, sends that too. Returns whether there may be more that
+/// somebody takes.
 fn draw_some<I: Iterator, H: Wait>(rt: &H, job: &mut Job<I>) -> bool
 where
     I::Item: Drop,
@@ -93,7 +93,7 @@ where
     true
 }
 
-/// Sends a message, once there is room for it. It answers whether somebody may take it.
+/// Sends a message, once there is room for it. Returns whether somebody may take it.
 fn send<I: Iterator, H: Wait>(
     rt: &H,
     sender: &Sender<I>,
@@ -117,7 +117,7 @@ where
     }
 }
 
-/// The next items of an iterator, so many at most, and whether these were all.
+/// The next items of an iterator, at most `size`, and whether there are no more.
 fn next_chunk<I: Iterator>(
     alloc: Global,
     iter: &mut I,

@@ -20,12 +20,12 @@ nothing_behind [] x rest none = cc none
 nothing_behind (y ∷ before) x rest none = cc none
 
 module _ {I T : Type 0} (steps : I → Option T → I → Type 0) where
-  -- items, and then further ones
+  -- items, and then more items
   pub Yields-append : (s j t : I) (xs ys : List T) → Yields steps s xs j → Yields steps j ys t → Yields steps s (xs ++ ys) t
   Yields-append s j t [] ys none more = subst (λ (i : I). Yields steps i ys t) (sym none) more
   Yields-append s j t (x ∷ xs) ys some more = (some.0, some.1, Yields-append some.0 j t xs ys some.2 more)
 
-  -- a further chunk
+  -- one more chunk
   pub Tells-push : (s i j : I) (chunks : List (Vec T Global)) (chunk : Vec T Global) → Tells steps s (map Chunk chunks) i → Yields steps i chunk.items j
       → Tells steps s (map Chunk (chunks ++ chunk ∷ [])) j
   Tells-push s i j [] chunk none more = (j, subst (λ (k : I). Yields steps k chunk.items j) (sym none) more, refl)
@@ -37,14 +37,14 @@ module _ {I T : Type 0} (steps : I → Option T → I → Type 0) where
   Tells-end s i u [] none ends = (s, (refl, u, subst (λ (k : I). steps k None u) (sym none) ends))
   Tells-end s i u (c ∷ chunks) some ends = let rest = Tells-end some.0 i u chunks some.2 ends in (rest.0, (some.0, some.1, rest.1))
 
-  -- what is told by chunks
+  -- what chunks say
   Tells-chunks : (s t : I) (chunks : List (Vec T Global)) (chunk : Vec T Global) (rest : List (Message I T)) → Tells steps s (map Chunk chunks ++ Chunk chunk ∷ rest) t
       → (j : I) × Yields steps s (items_in (chunks ++ chunk ∷ [])) j
   Tells-chunks s t [] chunk rest told = (told.0, subst (λ (l : List T). Yields steps s l told.0) (sym (append-nil chunk.items)) told.1)
   Tells-chunks s t (c ∷ chunks) chunk rest told = let more = Tells-chunks told.0 t chunks chunk rest told.2 in
       (more.0, Yields-append s told.0 more.0 c.items (items_in (chunks ++ chunk ∷ [])) told.1 more.1)
 
-  -- what is told by chunks and the last message
+  -- what chunks and the last message say
   Tells-whole : (s t : I) (chunks : List (Vec T Global)) (rest : List (Message I T)) → Tells steps s (map Chunk chunks ++ Whole ∷ rest) t → Drains steps s (items_in chunks)
   Tells-whole s t [] rest told = (told.1, (s, refl, told.2))
   Tells-whole s t (c ∷ chunks) rest told = let more = Tells-whole told.0 t chunks rest told.2 in
@@ -67,7 +67,7 @@ module _ {I T : Type 0} (steps : I → Option T → I → Type 0) where
     tells = Tells-push was.start.value i j was.chunks chunk was.tells more;
   }
 
-  -- the same, up to a state that has another name
+  -- a chunk is sent, up to a state that has another name
   pub sent_chunk_to : (sent now : List (Message I T)) (i j k : I) (chunk : Vec T Global) → IsSent steps sent i → Yields steps i chunk.items j → j ≡ k
       → now ≡ sent ++ Chunk chunk ∷ [] → IsSent steps now k
   sent_chunk_to sent now i j k chunk was more same is = subst (λ (t : I). IsSent steps now t) same (sent_chunk sent now i j chunk was more is)
@@ -105,9 +105,9 @@ module _ {I T : Type 0} (steps : I → Option T → I → Type 0) where
       subst (Drains steps first) (sym was.in_chunks) (subst (λ (s : I). Drains steps s (items_in was.chunks)) was.from_first
       (Tells-whole was.start.value told'.0 was.chunks begins.0 told'.1))
 
-  -- ---- the first message, behind which no other is like it
+  -- ---- the first message, after which no other is like it
 
-  -- nothing is told by a second one
+  -- a second one leads nowhere
   Tells-begun : (s t : I) (start : Snapshot I) (before rest : List (Message I T)) → Tells steps s (before ++ Begun start ∷ rest) t → ⊥
   Tells-begun s t start [] rest told = told
   Tells-begun s t start (Begun other ∷ before) rest told = told
@@ -120,7 +120,7 @@ module _ {I T : Type 0} (steps : I → Option T → I → Type 0) where
       let told' = subst (λ (l : List (Message I T)). (t : I) × Tells steps was.start.value l t) (append_assoc was.rest (Begun start ∷ []) begins.0) told in
       Tells-begun was.start.value told'.0 start was.rest begins.0 told'.1
 
--- what was taken from the first on has begun, and what is taken further too
+-- what was taken from the first on has begun, and so has what is taken after it
 pub begun_from_taken : {I T : Type 0} (first : I) (taken : List (Message I T)) (items : List T) → AreTaken first taken items → HaveBegun taken
 begun_from_taken first taken items was = record { start = was.start; rest = map Chunk was.chunks; begun = was.messages }
 

@@ -1,3 +1,3 @@
--- A worker's messages, and what was taken of them.
+-- A worker's messages, and what was taken from them.
 pub mod Messages
 pub mod Taking

@@ -12,7 +12,7 @@ abbrev pub items_in : {T A : Type 0} → List (Vec T A) → List T
 items_in [] = []
 items_in (chunk ∷ chunks) = chunk.items ++ items_in chunks
 
--- These are the items that were taken of an iterator, which was so at first, by messages.
+-- These are the items that were taken, by messages, from an iterator that was so at first.
 pub record AreTaken {I T : Type 0} (first : I) (taken : List (Message I T)) (items : List T) : Type 0 where
   pub start : Snapshot I
   pub chunks : List (Vec T Global)
@@ -20,7 +20,7 @@ pub record AreTaken {I T : Type 0} (first : I) (taken : List (Message I T)) (ite
   pub from_first : start.value ≡ first
   pub in_chunks : items ≡ items_in chunks
 
--- The first of these messages has how the iterator was.
+-- The first of these messages has the iterator as it was.
 pub record HaveBegun {I T : Type 0} (taken : List (Message I T)) : Type 0 where
   pub start : Snapshot I
   pub rest : List (Message I T)
@@ -28,21 +28,21 @@ pub record HaveBegun {I T : Type 0} (taken : List (Message I T)) : Type 0 where
 
 -- an iterator by its steps
 module _ {I T : Type 0} (steps : I → Option T → I → Type 0) where
-  -- Messages tell what comes of an iterator from one state to another: its items in chunks, and at last that there are no more.
+  -- Messages lead an iterator from one state to another: its items in chunks, and at last that there are no more.
   abbrev pub Tells : I → List (Message I T) → I → Type 0
   Tells s [] t = s ≡ t
   Tells s (Begun start ∷ messages) t = ⊥
   Tells s (Chunk chunk ∷ messages) t = (j : I) × Yields steps s chunk.items j × Tells j messages t
   Tells s (Whole ∷ messages) t = (messages ≡ []) × (j : I) × steps s None j
 
-  -- The first message has the iterator as it was before its first item was drawn, and those behind it tell what came of it.
+  -- The first message has the iterator as it was before its first item was drawn; those after it say what it gave.
   abbrev pub IsTold : List (Message I T) → Type 0
   IsTold [] = ⊤
   IsTold (Begun start ∷ messages) = (t : I) × Tells start.value messages t
   IsTold (Chunk chunk ∷ messages) = ⊥
   IsTold (Whole ∷ messages) = ⊥
 
-  -- what was sent of an iterator that may have more to give: the iterator as it was, and its items in chunks, up to a state
+  -- what was sent of an iterator that may have more items: the iterator as it was, and its items in chunks, up to a state
   pub record IsSent (sent : List (Message I T)) (at : I) : Type 0 where
     pub start : Snapshot I
     pub chunks : List (Vec T Global)

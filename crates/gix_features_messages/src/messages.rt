@@ -1,4 +1,4 @@
-//! What a worker that draws items sends, and the channel that it sends through.
+//! The messages of a worker that draws items, and their channel.
 ghost use Rattle.std.specs.Prelude.{◌≡◌, ◌<◌, true, [], IfOk};
 ghost use Rattle.crossbeam_channel.specs.Ends.{sends_on, receives_on};
 ghost use Rattle.crossbeam_channel.specs.Claims.{view, IsSeatAt};
@@ -10,18 +10,18 @@ use odb_base::NoMemory;
 use std::alloc::Global;
 use std::snapshot::Snapshot;
 
-/// What a worker sends of an iterator.
+/// A message of a worker about an iterator.
 #[derive(Drop)]
 pub enum Message<I, T> {
     /// The iterator before any of its items was drawn. It is sent before the worker begins.
     Begun(Snapshot<I>),
     /// The next items.
     Chunk(Vec<T>),
-    /// These were all items.
+    /// There are no more items.
     Whole,
 }
 
-/// What is sent is what the iterator gives, and that these were all only once it gave none.
+/// What is sent is what the iterator gives; that there are no more items, only once it gave none.
 pub struct Faithful;
 
 impl<I: Iterator> Law<Message<I, I::Item>> for Faithful {
@@ -38,7 +38,7 @@ pub type Receiver<I> = RuledReceiver<MessageOf<I>, Hand<MessageOf<I>>, InOrder<F
 
 pub type EagerPass<I> = Pass<MessageOf<I>, Hand<MessageOf<I>>>;
 
-/// A channel for the items of an iterator, and the pass of whoever sends and takes.
+/// A channel for the items of an iterator, and the pass of an end that sends and takes.
 pub fn channel<I: Iterator>(
     alloc: Global,
     in_flight: usize,

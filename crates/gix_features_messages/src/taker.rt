@@ -1,4 +1,4 @@
-//! Whoever takes what a worker sends.
+//! The receiver of a worker's messages.
 ghost use Rattle.std.specs.Prelude.{◌++◌, List, IfOk, MatchOption};
 ghost use Rattle.std.specs.Iterator.{Drains};
 ghost use Rattle.gix_features_messages.specs.Messages.{AreTaken};
@@ -10,7 +10,7 @@ use odb_base::NoMemory;
 use std::sync::Wait;
 use std::thread::{JoinHandle, Threads};
 
-/// A worker at work, as whoever takes its messages sees it. It has to be ended.
+/// A worker at work, as seen by the receiver of its messages. It has to be ended.
 pub struct Worker<I: Iterator>
 where
     I::Item: Drop,
@@ -24,8 +24,8 @@ impl<I: Iterator> Worker<I>
 where
     I::Item: Drop,
 {
-    /// The next chunk, once it is there, or none where the worker said that there are no more. Where the worker broke off
-    /// there was no memory.
+    /// The next chunk, once it is there; None if the worker said that there are no more. A worker that broke off is
+    /// out of memory.
     pub fn take<H: Wait>(&mut self, rt: &H) -> Result<Option<Vec<I::Item>>, NoMemory>
         requires ready { MayTake self.old }
         ensures ready { MayTake self.new }
@@ -44,7 +44,7 @@ where
         }
     }
 
-    /// Ends the worker, which breaks off where nobody takes what it sends.
+    /// Ends the worker, which breaks off if nobody takes what it sends.
     pub fn end<H: Threads>(self, rt: &H) {
         let Worker {
             receiver,

@@ -5,7 +5,7 @@ use Rattle.gix_features_parts.specs.Chunks.{Cuts, Runs, LeavesAtMost}
 use Rattle.odb_base.specs.declared.no_memory.NoMemory.{NoMemory}
 
 module _ {S A : Type 0} (steps : S → Option A → S → Type 0) where
-  -- a further item stands behind those before it
+  -- one more item follows those before it
   pub Yields-push : (xs : List A) (s t u : S) (x : A) → Yields steps s xs t → steps t (Some x) u → Yields steps s (xs ++ x ∷ []) u
   Yields-push [] s t u x e step = (u, subst (λ v. steps v (Some x) u) (sym e) step, refl)
   Yields-push (y ∷ ys) s t u x e step = (e.0, e.1, Yields-push ys e.0 t u x e.2 step)

@@ -32,7 +32,7 @@ module _ {S T E : Type 0} (steps : S → Option (Result (ℕ × T) E) → S → 
     past : (k : ℕ) → k < next → waiting k ≡ None
     ahead : (k : ℕ) → next ≤ k → waiting k ≡ item_numbered k pairs
 
-  -- a number came before exactly where an item with it arrived
+  -- a number came before exactly if an item with it arrived
   came_some : (inner : S) (next : ℕ) (waiting : Waiting T) (pairs : List (ℕ × T)) (items : List T) (number : ℕ)
       → Arrived inner next waiting pairs items → CameBefore next waiting number → IsSome (item_numbered number pairs)
   came_some inner next waiting pairs items number arrived came =
@@ -133,7 +133,7 @@ module _ {S T E : Type 0} (steps : S → Option (Result (ℕ × T) E) → S → 
   Given next items (Some (Ok item)) after = next + 1 < 2 ^ 64
       → (after.is_over ≡ false) × ((pairs : List (ℕ × T)) × Arrived after.inner after.next after.waiting pairs (items ++ item ∷ []))
 
-  -- the turn passes on, where it isn't the greatest number's
+  -- the turn passes on, unless the number is the greatest
   passed : (next now : ℕ) (over : Bool) → PassesTurn next now over → next + 1 < 2 ^ 64 → (now ≡ next + 1) × (over ≡ false)
   passed next now over passes few =
       let apart : next ≢ greatest_number = omega (arith, few) in
@@ -284,7 +284,7 @@ items_in_turn steps at results few begun drains =
 -- ---- items that come each once
 
 module _ {S T E : Type 0} (steps : S → Option (Result (ℕ × T) E) → S → Type 0) where
-  -- what came is a front of what was to come
+  -- what came is a prefix of what was to come
   abbrev Front : List (ℕ × T) → List (ℕ × T) → Option (Result (ℕ × T) E) → Type 0
   Front came pairs None = came ≡ pairs
   Front came pairs (Some (Ok pair)) = (rest : List (ℕ × T)) × (pairs ≡ came ++ pair ∷ rest)
@@ -313,7 +313,7 @@ module _ {S T E : Type 0} (steps : S → Option (Result (ℕ × T) E) → S → 
       let is : first ≡ pair = cc e in
       subst (λ p. Front (first ∷ came) (p ∷ pairs) answer) is (front_more first came pairs answer (front came pairs run.0 t u answer next.1 run.2 step))
 
-  -- the items in turn are a front of all
+  -- the items in turn are a prefix of all
   front_given : (items given : List T) (behind : List (Result T (InOrderError E)))
       → ((k : ℕ) → k < length given → slice_get given k ≡ slice_get items k) → GivesItems (drop (length given) items) behind
       → GivesItems items (map Ok given ++ behind)
@@ -370,7 +370,7 @@ module _ {I T E : Type 0} (steps : I → Option (Result (ℕ × T) E) → I → 
   whole_run : Drains (GivesInOrder steps) (in_order_at iter) results
   whole_run = (in_order_at drains.0, (in_order_at drains.1.0, shown_run (GivesInOrder steps) in_order_at results iter drains.1.0 drains.1.1, drains.1.2))
 
-  -- An `InOrderIter` that is run to its end gives the items in turn, and what stands behind them.
+  -- An `InOrderIter` that is run to its end gives the items in turn, and what follows them.
   pub iter_gives_in_turn : GivesInTurn steps iter.inner results
   iter_gives_in_turn = items_in_turn steps (in_order_at iter) results few begun whole_run
 

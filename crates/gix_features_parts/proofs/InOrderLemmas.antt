@@ -18,7 +18,7 @@ pub Changes-map : {T : Type 0} (number : ℕ) (item : Option T) (before after : 
     → Changes (get nat_cmp before) number item (get nat_cmp after)
 Changes-map number item before after updates = search (rules, updates.0)
 
--- what a map has goes by its entries
+-- what a map has depends on its entries
 pub get-entries : {T : Type 0} (before after : BTreeMap ℕ T) → IsUnchanged before after → get nat_cmp after ≡ get nat_cmp before
 get-entries before after same = ap (λ entries k. lookup (is_at (nat_cmp k)) entries) same
 
@@ -28,7 +28,7 @@ get-entries before after same = ap (λ entries k. lookup (is_at (nat_cmp k)) ent
 pub record ComesOn {S T E : Type 0} (steps : S → Option (Result (ℕ × T) E) → S → Type 0) (first second : At S T) : Type 0 where
   pub then : (result : Option (Result T (InOrderError E))) (after : At S T) → Comes steps second result after → Comes steps first result after
 
--- an item that comes before its turn is early, and so are those that come behind it
+-- an item that comes before its turn is early, and so are those that follow it
 module _ {T : Type 0} (next number : ℕ) (item : T) (before kept : Waiting T) (pairs : List (ℕ × T)) (apart : number ≢ next)
     (new : CameBefore next before number → ⊥) (changes : Changes before number (Some item) kept) (later : AreEarly next kept pairs) where
   no_second : item_numbered number pairs ≡ None

@@ -9,7 +9,7 @@ use Rattle.gix_features_parts.specs.declared.decode.Error.{Error}
 use Rattle.gix_features_parts.specs.declared.decode.Error.TheVariants.{Overflow, Source, Truncated}
 use Rattle.gix_features_parts.proofs.Leb64Lemmas.{value_of-none, value_of-push}
 
--- of two fronts of one list one is a front of the other
+-- of two prefixes of one list one is a prefix of the other
 fronts : (a b c d : List ℕ) → a ++ b ≡ c ++ d → ((more : List ℕ) × (c ≡ a ++ more)) ⊎ ((more : List ℕ) × (a ≡ c ++ more))
 fronts [] b c d e = inl (c, refl)
 fronts (x ∷ a) b [] d e = inr (x ∷ a, refl)
@@ -63,7 +63,7 @@ no_longer bytes more front byte last number is going read =
           ended read.0 beyond.0 read.1 read.4 (ap (λ xs. list_all goes_on xs) is_front ∙ going)
     ]
 
--- nor do bytes that pass 64 bits
+-- nor do bytes that go above 64 bits
 no_further : (bytes past more : List ℕ) (number : ℕ × ℕ) → past ≡ bytes ++ more → number.0 < 2 ^ 64 → Decodes bytes (Ok number)
     → Decodes past (Err Overflow) → ⊥
 no_further bytes past [] number is fits read over =
@@ -91,7 +91,7 @@ one_number bytes rest past others number other same read again =
       | inr shorter ↦ sym (same_number past bytes shorter.0 other number shorter.1 again read)
     ]
 
--- Bytes that begin with a number don't pass 64 bits.
+-- Bytes that begin with a number don't go above 64 bits.
 pub number-no_overflow : (bytes rest past others : List ℕ) (number : ℕ × ℕ) → bytes ++ rest ≡ past ++ others → number.0 < 2 ^ 64 → Decodes bytes (Ok number)
     → Decodes past (Err Overflow) → ⊥
 number-no_overflow bytes rest past others number same fits read over =
@@ -114,7 +114,7 @@ truncated-no_overflow bytes past others same cut over =
 pub number-not_truncated : (bytes rest : List ℕ) (number : ℕ × ℕ) → Decodes bytes (Ok number) → Decodes (bytes ++ rest) (Err Truncated) → ⊥
 number-not_truncated bytes rest number read cut = ended read.0 rest read.1 read.4 (ap (λ xs. list_all goes_on (xs ++ rest)) (sym read.2) ∙ cut.going)
 
--- What was read of bytes and what it decodes to: where they were cut off, they were read to their end, and a number has 64 bits.
+-- What was read of bytes and its result: bytes that were cut off were read to their end, and a number has 64 bits.
 pub record Reading (left : List ℕ) (result : Result (ℕ × ℕ) Error) : Type 0 where
   pub bytes : List ℕ
   pub rest : List ℕ
@@ -140,7 +140,7 @@ number-overflow left number reading over =
 cut_off-overflow : (left : List ℕ) → Reading left (Err Truncated) → Reading left (Err Overflow) → ⊥
 cut_off-overflow left cut over = truncated-no_overflow left over.bytes over.rest over.are_left (cut_off left cut) over.decoded
 
--- Of the same bytes one number is read, or one reason is given, where no source failed.
+-- Of the same bytes one number is read, or one reason is given, if no source failed.
 pub one_answer : (left : List ℕ) (one other : Result (ℕ × ℕ) Error) → Reading left one → Reading left other → (one ≡ Err Source → ⊥)
     → (other ≡ Err Source → ⊥) → one ≡ other
 one_answer left (Ok number) (Ok other) first second read again =

@@ -32,7 +32,7 @@ pub value_of-one : (byte : ℕ) → value_of (byte ∷ []) ≡ low_bits byte
 unfolding value_of first_of_length in_base_128
 value_of-one byte = omega arith
 
--- a further byte makes the number this one
+-- one more byte makes the number this one
 pub value_of-push : (bytes : List ℕ) (byte : ℕ) → 0 < length bytes → value_of (bytes ++ byte ∷ []) ≡ (value_of bytes + 1) * 128 + low_bits byte
 unfolding value_of
 value_of-push [] byte some = absurd (omega arith)
@@ -50,7 +50,7 @@ TakesBytes-append (Some left) middle now first second (rest, is, told) b =
     let more : TakesBytes (Some rest) now second = subst (λ o. TakesBytes o now second) told b in
     (more.0, is ∙ ap (λ r. first ++ r) more.1 ∙ sym (append_assoc first second more.0), more.2)
 
--- the bytes that were read so far, of which the last one says whether there are more
+-- the bytes that were read so far; the last one says whether there are more
 pub record ReadSoFar (left now : Option (List ℕ)) (value count : ℕ) (more : Bool) : Type 0 where
   pub front : List ℕ
   pub last : ℕ
@@ -68,7 +68,7 @@ WantsMore-none = record { going = refl; fits = lit< tt }
 abbrev IsOverflow : Result ℕ Error → Type 0
 IsOverflow result = result ≡ Err Overflow
 
--- an answer other than that the number passes 64 bits
+-- an answer other than that the number is above 64 bits
 pub refused : (bytes : List ℕ) (error : Error) → WantsMore bytes → (IsOverflow (Err error) → ⊥) → Decodes bytes (Err error)
 refused bytes Overflow more other = absurd (other refl)
 refused bytes Source more other = more

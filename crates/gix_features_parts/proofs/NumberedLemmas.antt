@@ -104,7 +104,7 @@ once_append (pair ∷ front) back once more apart =
     let first = numbered_append pair.0 front back ∙ ap (λ o. option_or o (item_numbered pair.0 back)) once.0 ∙ absent in
     (first, once_append front back once.1 more (λ k some. numbered_rest k pair front (apart k some)))
 
--- a pair behind others has another number
+-- a pair after others has another number
 pub once_front : {T : Type 0} (front : List (ℕ × T)) (pair : ℕ × T) (back : List (ℕ × T)) → EachOnce (front ++ pair ∷ back)
     → item_numbered pair.0 front ≡ None
 once_front [] pair back once = refl

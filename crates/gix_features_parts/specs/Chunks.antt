@@ -16,7 +16,7 @@ module _ {S A V : Type 0} (steps : S → Option A → S → Type 0) (items : V �
         → Cuts s false (Some (Ok chunk)) t true
     -- no items are left
     Nothing : {s t : S} → steps s None t → Cuts s false None t true
-    -- there was no memory for the items that came
+    -- out of memory for the items that came
     Lost : {s t : S} {failed : NoMemory} (lost : List A) → 0 < length lost → length lost ≤ most → Yields steps s lost t
         → Cuts s false (Some (Err failed)) t true
 

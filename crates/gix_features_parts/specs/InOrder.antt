@@ -23,7 +23,7 @@ EachOnce (pair ∷ pairs) = (item_numbered pair.0 pairs ≡ None) × EachOnce pa
 abbrev pub Waiting : Type 0 → Type 0
 Waiting T = ℕ → Option T
 
--- an item with this number, or none, is all that differs
+-- only the item with this number differs, and is this one, or none
 abbrev pub Changes : {T : Type 0} → Waiting T → ℕ → Option T → Waiting T → Type 0
 Changes before number item after = (k : ℕ) → after k ≡ (if number == k then item else before k)
 
@@ -36,16 +36,16 @@ pub record AreEarly {T : Type 0} (next : ℕ) (waiting : Waiting T) (pairs : Lis
   pub once : EachOnce pairs
   pub early : (number : ℕ) → IsSome (item_numbered number pairs) → (next < number) × (waiting number ≡ None)
 
--- these items wait, beside those that waited
+-- these items wait, in addition to those that waited
 abbrev pub WaitToo : {T : Type 0} → List (ℕ × T) → Waiting T → Waiting T → Type 0
 WaitToo pairs before after = (number : ℕ) → after number ≡ option_or (item_numbered number pairs) (before number)
 
--- a number had its turn, and it is that of the one after it; behind the greatest number nothing more is given
+-- a number had its turn, and the next has it now; after the greatest number nothing more is given
 pub record PassesTurn (number next : ℕ) (is_over : Bool) : Type 0 where
   pub passed : next ≡ min (number + 1) greatest_number
   pub last : is_over ≡ (number == greatest_number)
 
--- what an iterator in order is at: the inner iterator, the number whose turn it is, what waits, and whether nothing more
+-- the state of an iterator in order: the inner iterator, the number whose turn it is, what waits, and whether nothing more
 -- is given
 pub record At (S T : Type 0) : Type 0 where
   pub inner : S
@@ -59,7 +59,7 @@ pub record IsBegun {S T : Type 0} (at : At S T) : Type 0 where
   pub none : (k : ℕ) → at.waiting k ≡ None
   pub going : at.is_over ≡ false
 
--- an item that waits has its turn, and is given with no question to the inner iterator
+-- an item that waits has its turn, and is given without asking the inner iterator
 pub record Releases {S T : Type 0} (before : At S T) (item : T) (after : At S T) : Type 0 where
   pub waited : before.waiting before.next ≡ Some item
   pub rest : Changes before.waiting before.next None after.waiting
@@ -78,10 +78,10 @@ pub data IsGivenFor {S T E : Type 0} (next : ℕ) (after : At S T) : Option (Res
   -- a number that came before is out of sequence
   Again : {number : ℕ} {item : T} → CameBefore next after.waiting number → Stops next after
       → IsGivenFor next after (Some (Ok (number, item))) (Some (Err (OutOfSequence number next)))
-  -- for an item before its turn, which comes for the first time, there may be no memory
+  -- memory may run out for an item before its turn that comes for the first time
   NoRoom : {number : ℕ} {item : T} → number ≢ next → ¬ CameBefore next after.waiting number → Stops next after
       → IsGivenFor next after (Some (Ok (number, item))) (Some (Err NoMemory))
-  -- an error is handed on
+  -- an error is passed on
   Fails : {error : E} → Stops next after → IsGivenFor next after (Some (Err error)) (Some (Err (Inner error)))
   -- the end is the end, since nothing that waits has its turn
   Ends : Stops next after → IsGivenFor next after None None
@@ -96,7 +96,7 @@ module _ {S T E : Type 0} (steps : S → Option (Result (ℕ × T) E) → S → 
     pub answers : YieldsThen steps before.inner (map Ok pairs) answer after.inner
     pub wait : WaitToo pairs before.waiting after.waiting
 
-  -- what is given where the inner iterator is asked
+  -- what is given when the inner iterator is asked
   abbrev pub Comes : At S T → Option (Result T (InOrderError E)) → At S T → Type 0
   Comes before result after = (pairs : List (ℕ × T)) × (answer : Option (Result (ℕ × T) E)) × Asks before pairs answer after
       × IsGivenFor before.next after answer result

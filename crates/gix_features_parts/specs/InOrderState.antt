@@ -1,4 +1,4 @@
--- What an iterator in order is at, by its fields.
+-- The state of an iterator in order, by its fields.
 use Rattle.std.specs.Prelude.{◌≡◌, ℕ, false}
 use Rattle.std.specs.Ordering.{nat_cmp}
 use Rattle.std.specs.Iterator.{Count, IsFinite, at_most, count_add, count_unless}
@@ -18,7 +18,7 @@ can_draw can left iter = iter.is_over ≡ false → can iter.inner × IsFinite (
 abbrev pub left_in_order : {T I : Type 0} → (I → Count) → InOrderIter T I → Count
 left_in_order left iter = count_unless iter.is_over (count_add (left iter.inner) (at_most (btree_map_len iter.waiting)))
 
--- why an item isn't kept: its number came before; or it didn't, and there is no memory
+-- why an item isn't kept: its number came before; or it didn't, and memory ran out
 abbrev pub IsRefusal : {T E : Type 0} → ℕ → Waiting T → ℕ → InOrderError E → Type 0
 IsRefusal next waiting number (Inner error) = ⊥
 IsRefusal next waiting number (OutOfSequence got turn) = CameBefore next waiting number × (got ≡ number) × (turn ≡ next)

@@ -10,7 +10,7 @@ module _ {G : Type 0} (tells : G → Bool → G → Type 0) (count : G → ℕ) 
     pub counted : Counts (count before) (count after) answer
 
   module _ {S A : Type 0} (steps : S → Option A → S → Type 0) where
-    -- There is no item where the flag is set, and the inner iterator stays as it was. Else the item is that of the inner
+    -- If the flag is set there is no item, and the inner iterator stays as it was. Else the item is that of the inner
     -- iterator.
     pub data UntilSet : S → G → Option A → S → G → Type 0 where
       Set : {s : S} {f h : G} → Asked f true h → UntilSet s f None s h
@@ -18,9 +18,8 @@ module _ {G : Type 0} (tells : G → Bool → G → Type 0) (count : G → ℕ) 
 
     -- what makes an error, by the errors that it may make
     module _ {M E : Type 0} (makes : M → E → Type 0) where
-      -- Where the flag is set an error is made, and nothing is left to make a second one. Else the item is that of the
-      -- inner iterator; with its end, too, nothing is left to make an error. Then there is no item, and the flag isn't
-      -- asked.
+      -- If the flag is set an error is made, and nothing is left to make a second one. Else the item is that of the inner
+      -- iterator; at its end, too, nothing is left to make an error. Then there is no item, and the flag isn't asked.
       pub data ErrsWhenSet : S → Option M → G → Option (Result A E) → S → Option M → G → Type 0 where
         Over : {s : S} {f : G} → ErrsWhenSet s None f None s None f
         Errs : {s : S} {f h : G} {make : M} {error : E} → Asked f true h → makes make error

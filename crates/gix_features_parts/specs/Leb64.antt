@@ -26,7 +26,7 @@ first_of_length (suc (suc n)) = 128 ^ suc n + first_of_length (suc n)
 unfoldable pub value_of : List ℕ → ℕ
 value_of bytes = first_of_length (length bytes) + in_base_128 bytes
 
--- bytes after which another one is to be read: each says that one follows, and they don't pass 64 bits
+-- bytes that need one more: each says that another follows, and they are within 64 bits
 pub record WantsMore (bytes : List ℕ) : Type 0 where
   pub going : list_all goes_on bytes ≡ true
   pub fits : value_of bytes < 2 ^ 64

@@ -1,8 +1,8 @@
--- Counts of what has been done: how far one goes on, and what a read or a write adds to it.
+-- Counts of what has been done: how one goes on, and what a read or a write adds to it.
 use Rattle.std.specs.Prelude.{◌≡◌, ℕ, ◌+◌, ◌-◌, ◌^◌, min, Result, Ok, Err}
 use Rattle.odb_sources.specs.declared.source.Failed.{Failed}
 
--- a count after so many steps more; it stands still at the greatest value of 64 bits
+-- a count after so many more steps; it saturates at the greatest value of 64 bits
 abbrev pub counted : ℕ → ℕ → ℕ
 counted before step = min (before + step) (2 ^ 64 - 1)
 

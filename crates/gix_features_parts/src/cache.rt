@@ -1,6 +1,6 @@
-//! Counts of how well a cache serves. They are not kept: each call does nothing.
+//! Counts of a cache's hits. They are not kept: each call does nothing.
 
-/// Takes what a cache tells of its hits, and keeps nothing of it.
+/// Takes a cache's counts, and keeps nothing.
 #[derive(Drop)]
 pub struct Debug;
 

@@ -11,7 +11,7 @@ use thiserror::Error;
 /// Why a number couldn't be read.
 #[derive(Clone, Copy, Debug, Error)]
 pub enum Error {
-    /// The number passes 64 bits.
+    /// The number is above 64 bits.
     #[error("the number has more than 64 bits")]
     Overflow,
     /// The source failed.
@@ -22,7 +22,7 @@ pub enum Error {
     Truncated,
 }
 
-/// Reads a number from a source, and answers it with the number of its bytes. It takes no memory.
+/// Reads a number from a source, and returns it with the number of its bytes. It allocates no memory.
 pub fn leb64_from_read<S: Source>(source: &mut S) -> Result<(u64, usize), Error>
     ensures decoded { (bytes : List ℕ) × TakesBytes (S.left source.old) (S.left source.new) bytes
         × Decodes bytes result }
@@ -61,7 +61,7 @@ fn low_bits(byte: u8) -> u64
     u64::from(byte % 0x80)
 }
 
-/// The number that one byte more makes of a number, unless that passes 64 bits.
+/// The number with one more byte, unless it is above 64 bits.
 fn with_byte(value: u64, byte: u8) -> Option<u64>
     ensures number { MatchOption result (2 ^ 64 ≤ (value + 1) * 128 + low_bits byte)
         (λ n. n ≡ (value + 1) * 128 + low_bits byte) }

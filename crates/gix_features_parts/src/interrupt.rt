@@ -1,4 +1,4 @@
-//! Work that ends early where a flag is set: iterators, reads and writes.
+//! Work that ends early when a flag is set: iterators, reads and writes.
 mod flag;
 mod iter;
 mod streams;

@@ -8,12 +8,12 @@ use std::alloc::Global;
 
 /// The items of an inner iterator in vectors of one length, the last of which may be shorter.
 ///
-/// After a shorter vector, and after an item for want of memory, there is no further item.
+/// After a shorter vector, and after an out-of-memory item, there is no further item.
 #[derive(Drop)]
 pub struct Chunks<I> {
     /// The iterator that gives the items.
     pub inner: I,
-    /// How many items a vector has.
+    /// The number of items in a vector.
     pub size: usize,
     alloc: Global,
     has_ended: bool,
@@ -69,8 +69,7 @@ where
     }
 }
 
-/// Puts items of an iterator behind each other until there are `size` of them. It answers whether the iterator ended
-/// before.
+/// Appends items of an iterator until there are `size` of them. Returns whether the iterator ended before.
 fn fill<I: Iterator>(inner: &mut I, chunk: &mut Vec<I::Item>, size: usize) -> Result<bool, NoMemory>
 where
     I::Item: Drop,

@@ -1,4 +1,4 @@
-//! What work in parallel is split by, and how its results come into order again.
+//! How work in parallel is split, and how its results are put in order again.
 mod in_order;
 pub mod reduce;
 mod sizes;

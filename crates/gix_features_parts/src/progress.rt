@@ -9,14 +9,14 @@ use std::fmt;
 
 /// A count of what has been done.
 pub trait Count {
-    /// The count, which stands still at its greatest value.
+    /// The count; it saturates.
     ghost steps: { Self → ℕ };
 
-    /// Counts so much more.
+    /// Adds `step` to the count.
     fn inc_by(&mut self, step: usize)
         ensures counted { steps self.new ≡ counted (steps self.old) step };
 
-    /// How much has been counted so far.
+    /// The count so far.
     fn step(&self) -> usize
         ensures told { result ≡ steps self.now };
 }
@@ -77,7 +77,7 @@ impl<T: Sink, P: Count> Sink for Write<T, P> {
     }
 }
 
-/// A number of bytes, which is printed as that number in decimal.
+/// A number of bytes, which is printed in decimal.
 #[derive(Clone, Copy, Debug, PartialEq, Eq, PartialOrd, Ord, Hash)]
 pub struct ByteSize(pub u64);
 

@@ -27,17 +27,17 @@ pub type RefGuard<'a, T> = RwLockReadGuard<'a, T>;
 /// Holds a value of which a part is read, by `with_ref`.
 pub type MappedRefGuard<'a, T> = RwLockReadGuard<'a, T>;
 
-/// Holds a value for reading, once no one changes it.
+/// Holds a value for reading, as soon as no one changes it.
 pub fn get_ref<'a, T, R: Wait>(rt: &R, value: &'a MutableOnDemand<T>) -> RefGuard<'a, T> {
     value.read(rt)
 }
 
-/// Holds a value for changes, once no one else holds it.
+/// Holds a value for changes, as soon as no one else holds it.
 pub fn get_mut<'a, T, R: Wait>(rt: &R, value: &'a MutableOnDemand<T>) -> RwLockWriteGuard<'a, T> {
     value.write(rt)
 }
 
-/// The value of an owner, to change. Where it has other owners, this one gets a copy of it first, in memory of the
+/// The value of an owner, to change. If it has other owners, this one gets a copy of it first, in memory of the
 /// allocator that made it.
 pub fn make_mut<T: Clone>(this: &mut OwnShared<T>) -> Result<&mut T, NoMemory>
     ensures* writes_back { sem 𝓛 (arc_follows_make_mut T.row the_row ⟦<Global as Allocator>⟧ T.is_clone
@@ -47,7 +47,7 @@ pub fn make_mut<T: Clone>(this: &mut OwnShared<T>) -> Result<&mut T, NoMemory>
     Ok(Arc::make_mut(this)?)
 }
 
-/// Holds a value, once no one else holds it.
+/// Holds a value, as soon as no one else holds it.
 pub fn lock<'a, T, R: Wait>(rt: &R, value: &'a Mutable<T>) -> MutexGuard<'a, T> {
     value.lock(rt)
 }
@@ -62,7 +62,7 @@ pub fn downgrade_mut_to_ref<'a, T, R: Wait>(
     value.read(rt)
 }
 
-/// What a function gives of the value that is held.
+/// The result of a function on the value that is held.
 pub fn with_ref<T, U, F: FnOnce(&T) -> U>(guard: &MappedRefGuard<'_, T>, f: F) -> U
     requires { (x : _) → x.now ≡ read_guard_value guard.now → F.pre f x }
     ensures { FnOnceReturnsAt F.FnOnce f (read_guard_value guard.now) result }

@@ -1,4 +1,4 @@
--- What follows for callers from what is read of a pipe.
+-- What follows for callers from what is read from a pipe.
 use Rattle.std.proofs.Common.{◌≡◌, List, ◌∷◌, [], ◌++◌, ap, ◌∙◌, append_assoc}
 use Rattle.gix_features_pipe.specs.declared.pipe.ends.Piece.{Piece}
 use Rattle.gix_features_pipe.specs.declared.pipe.reader.Reader.{Reader}
@@ -6,7 +6,7 @@ use Rattle.gix_features_pipe.specs.declared.pipe.writer.Writer.{Writer}
 use Rattle.gix_features_pipe.specs.Pipe.{Item, items_of, taken, written, IsBegun, Reads}
 use Rattle.gix_features_pipe.proofs.PipeLemmas.{items_of-append, taken_prefix}
 
--- What was read from the beginning on is what was written first.
+-- What was read from the beginning on is a prefix of what was written.
 pub what_is_read_was_written : (begun reader : Reader) (writer : Writer) (given : List Item) (rest : List Piece) → IsBegun begun → Reads begun reader given
     → written writer ≡ taken reader ++ rest → (later : List Item) × (items_of (written writer) ≡ given ++ later)
 what_is_read_was_written begun reader writer given rest begins reads prefix = (

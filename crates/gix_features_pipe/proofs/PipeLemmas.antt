@@ -50,7 +50,7 @@ has_bytes (Written []) something written none = true≢false (sym something)
 has_bytes (Written (byte ∷ bytes)) something written none = cc none
 has_bytes (Failed error) something written none = written error refl
 
--- a piece is taken where nothing was at hand
+-- a piece is taken when nothing was buffered
 pub Reads-refill : (before after : Reader) → gives_something before.next ≡ false → taken after ≡ taken before ++ after.next ∷ []
     → receives_on after.receiver ≡ receives_on before.receiver → Reads before after []
 Reads-refill before after none took channel = record {
@@ -60,7 +60,7 @@ Reads-refill before after none took channel = record {
   channel = channel;
 }
 
--- nothing is taken, and what was at hand is given in part
+-- nothing is taken, and what was buffered is given in part
 pub Reads-given : (before after : Reader) (given : List Item) → taken after ≡ taken before → receives_on after.receiver ≡ receives_on before.receiver
     → items_of (before.next ∷ []) ≡ given ++ items_of (after.next ∷ []) → Reads before after given
 Reads-given before after given same channel in_order = record {
@@ -94,7 +94,7 @@ take_into filled room given out part within few =
     take-further (take filled out) (part ++ post_of filled room out) filled given len
     ∙ ap (λ l. take filled out ++ l) (take-within part (post_of filled room out) given few)
 
--- the front of a buffer, and what was given into the part behind it
+-- the front of a buffer, and what was given into the part after it
 pub Reads-into : (a b c : Reader) (filled room given : ℕ) (out part : List ℕ) → filled ≤ length out → given ≤ length part
     → Reads a b (map Byte (take filled out)) → Reads b c (map Byte (take given part))
     → Reads a c (map Byte (take (filled + given) (put_mid filled room out part)))
@@ -109,7 +109,7 @@ noted_none reader none told = absurd (true≢false (sym told ∙ none))
 pub noted_ended : (reader : Reader) → HasEnded reader → IsNoted reader
 noted_ended reader ended told = ended
 
--- what is known of an answer that is none
+-- what is known of an answer that is None
 pub none_known : {X P : Type 0} (answer : Option X) → ((x : X) → answer ≡ Some x → ⊥) → IfNone answer P → P
 none_known None never known = known
 none_known (Some x) never known = absurd (never x refl)
@@ -120,7 +120,7 @@ drop-further (x ∷ xs) ys a b e =
     let h : a + b ≡ suc (length xs + b) = omega (arith, e) in
     ap (λ n. drop n (x ∷ (xs ++ ys))) h ∙ drop-further xs ys (length xs) b refl
 
--- the rest of a buffer, behind what was given into the part behind its front
+-- the rest of a buffer, after what was given into the part after its front
 pub rest_into : (filled room given : ℕ) (out part begun : List ℕ) → filled ≤ length out → room ≡ length out - filled → given ≤ length part
     → drop given part ≡ drop given (take room (drop filled out)) → drop filled out ≡ drop filled begun
     → drop (filled + given) (put_mid filled room out part) ≡ drop (filled + given) begun
@@ -131,7 +131,7 @@ rest_into filled room given out part begun within is few rest before =
     drop-further (take filled out) (part ++ post_of filled room out) filled given len ∙ drop-append-le given part (post_of filled room out) few
     ∙ ap (λ l. drop given part ++ l) none ∙ append-nil (drop given part) ∙ rest ∙ ap (drop given) whole ∙ ap (drop given) before ∙ drop-drop given filled begun
 
--- what is known of an end and what it comes from, by what was taken
+-- what is known of an end, by what was taken
 pub taken_prefix : (before after : Reader) (given : List Item) → taken before ≡ [] → items_of (before.next ∷ []) ≡ [] → Reads before after given
     → items_of (taken after) ≡ given ++ items_of (after.next ∷ [])
 taken_prefix before after given none empty reads =

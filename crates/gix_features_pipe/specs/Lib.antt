@@ -1,3 +1,3 @@
--- That an end's pass is known once, and then what was written and read, in the order to read them.
+-- There is one proof of an end's pass; then what was written and read, in the order to read them.
 pub mod PipeSeats
 pub mod Pipe

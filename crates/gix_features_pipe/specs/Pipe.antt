@@ -1,4 +1,4 @@
--- A pipe: what was written, what was read, and what is still to be read of what came out of the channel.
+-- A pipe: what was written, what was read, and what is still buffered of what came out of the channel.
 use Rattle.std.specs.Prelude.{◌≡◌, ℕ, ◌<◌, Bool, true, false, List, [], ◌∷◌, ◌++◌, map, ⊤, ◌⊎◌}
 use Rattle.std.specs.Borrow.{Bor}
 use Rattle.crossbeam_channel.specs.Ends.{sends_on, receives_on}
@@ -43,7 +43,7 @@ gives_something (Written []) = false
 gives_something (Written (byte ∷ bytes)) = true
 gives_something (Failed error) = true
 
--- the bytes at hand
+-- the buffered bytes
 abbrev pub bytes_of : Piece → List ℕ
 bytes_of (Written bytes) = bytes
 bytes_of (Failed error) = []
@@ -51,22 +51,24 @@ bytes_of (Failed error) = []
 abbrev pub at_hand : Reader → List ℕ
 at_hand reader = bytes_of reader.next
 
--- These items were given: what was at hand, and what was taken out of the channel meanwhile, is what was given and what is at hand now.
+-- These items were given: what was buffered, and was taken from the channel meanwhile, is what was given and is buffered
+-- now.
 pub record Reads (before after : Reader) (given : List Item) : Type 0 where
   pub pieces : List Piece
   pub took : taken after ≡ taken before ++ pieces
   pub in_order : items_of (before.next ∷ pieces) ≡ given ++ items_of (after.next ∷ [])
   pub channel : receives_on after.receiver ≡ receives_on before.receiver
 
--- What a channel tells of its contents where it gives no piece more. A pipe has no law, so this holds always, and says nothing by itself.
+-- What a channel says of its contents when it gives no more pieces. A pipe has no law, so this always holds and says
+-- nothing.
 abbrev pub HeldNone : Type 0
 HeldNone = Held 0 (λ (pieces : List Piece). ⊤)
 
--- Nothing is at hand, and the reader has the note that the pipe ended. What stands beside the note holds always.
+-- Nothing is buffered, and the reader has noted the end of the pipe. The rest always holds.
 abbrev pub HasEnded : Reader → Type 0
 HasEnded reader = (reader.next ≡ Written []) × (reader.has_ended ≡ true) × HeldNone
 
--- Where the reader has the note that the pipe ended, nothing is at hand.
+-- If the reader has noted the end of the pipe, nothing is buffered.
 abbrev pub IsNoted : Reader → Type 0
 IsNoted reader = reader.has_ended ≡ true → HasEnded reader
 
@@ -74,12 +76,12 @@ IsNoted reader = reader.has_ended ≡ true → HasEnded reader
 abbrev pub IsShort : Reader → ℕ → Type 0
 IsShort after count = ((error : PipeError) × (after.next ≡ Failed error) × (0 < count)) ⊎ HasEnded after
 
--- why a piece wasn't written: it comes back, or there was no memory for it
+-- why a piece wasn't written: it is returned, or memory ran out
 abbrev pub IsUnwritten : List ℕ → Gone → Type 0
 IsUnwritten bytes (gone.Piece piece) = piece ≡ bytes
 IsUnwritten bytes gone.NoMemory = ⊤
 
--- nothing was given, and these bytes are at hand, none only where the pipe ended; or this error was given
+-- nothing was given, and these bytes are buffered, none only at the end of the pipe; or this error was given
 abbrev pub HasAtHand : Reader → Bor (List ℕ) → Type 0
 HasAtHand before bytes = (after : Reader) × Reads before after [] × (at_hand after ≡ bytes.now) × (bytes.now ≡ [] → HasEnded after)
 

@@ -1,4 +1,4 @@
--- That an end has a pass of its channel has one proof at most. No clause of a public call cites this.
+-- There is at most one proof that an end has a pass of its channel. No clause of a public call cites this.
 use Rattle.std.specs.Prelude.{◌≡◌, List}
 use Rattle.std.proofs.Props.{props}
 use base.Stored.{Coded-set, coded_list}

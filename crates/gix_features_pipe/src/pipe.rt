@@ -39,7 +39,7 @@ pub fn together(writer: Writer, reader: Reader) -> (Writer, Reader)
     )
 }
 
-/// The two ends of a new pipe, in which so many pieces may be on their way.
+/// The two ends of a new pipe, with at most `in_flight` pieces in it.
 pub fn unidirectional(alloc: Global, in_flight: usize) -> Result<(Writer, Reader), NoMemory>
     requires { 0 < in_flight }
     ensures ends { IfOk result (λ ends. AreEnds ends.0 ends.1 × (written ends.0 ≡ []) × IsBegun ends.1) }

@@ -70,14 +70,14 @@ module _ {S T E : Type 0} (consumes : T → S → Result (Unit {0}) E → T → 
       rw (after_is, left_is, behind) (subst (λ (r : Result (Unit {0}) E). Round consumes size place (s ∷ []) items r (t ∷ []) (mine ++ drop size items)) (first_of-none answer)
       (Round.Next (subst (λ (l : List T). Turn consumes place s l answer t mine) is turn) Round.Over))
 
--- a further pair
+-- one more pair
 pub AllZip-push : {A B : Type 0} (R : A → B → Type 0) (xs : List A) (ys : List B) (x : A) (y : B) → AllZip R xs ys → R x y → AllZip R (xs ++ x ∷ []) (ys ++ y ∷ [])
 AllZip-push R [] [] x y all one = (one, tt)
 AllZip-push R [] (z ∷ ys) x y all one = absurd all
 AllZip-push R (w ∷ xs) [] x y all one = absurd all
 AllZip-push R (w ∷ xs) (z ∷ ys) x y all one = (all.0, AllZip-push R xs ys x y all.1 one)
 
--- ---- what rounds come to
+-- ---- the result of rounds
 
 -- a vector whose slice was changed and keeps its length
 pub restored : {X : Type 0} (n : ℕ) (new old : List X) → n ≡ length old → length new ≡ length old → take n (new ++ drop (length new) old) ≡ new

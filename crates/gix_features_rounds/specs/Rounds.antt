@@ -1,10 +1,10 @@
--- What workers make of a slice in rounds: each has a run of its items, and a round takes one item of each run.
+-- What workers do to a slice in rounds: each has a run of its items, and a round takes one item of each run.
 use Rattle.std.specs.Prelude.{◌≡◌, ℕ, ◌+◌, ◌/◌, ◌%◌, ◌<◌, ◌≤◌, min, List, [], ◌∷◌, ◌++◌, length, take, drop, slice_index_or, slice_set, Option, Some, None, Result, Ok, Err, IfOk, IfErr}
 use Rattle.std.specs.Fn.{Shared}
 use Rattle.std.specs.List.{AllZip}
 use Rattle.std.specs.Borrow.{MutBor}
 
--- how many items each of n workers has at most
+-- the most items that each of n workers has
 abbrev pub run_of : ℕ → ℕ → ℕ
 run_of n len = len / n + min 1 (len % n)
 
@@ -13,7 +13,7 @@ abbrev pub first_of : {E : Type 0} → Result (Unit {0}) E → Result (Unit {0})
 first_of (Ok done) other = other
 first_of (Err error) other = Err error
 
--- how a worker consumes an item: from an item and a state to an answer, which leaves an item and a state
+-- how a worker consumes an item: an item and a state give an answer, and another item and state
 module _ {S T E : Type 0} (consumes : T → S → Result (Unit {0}) E → T → S → Type 0) where
   -- A worker's turn in a round takes the item at one place of its run, if there is one.
   pub data Turn (place : ℕ) : S → List T → Result (Unit {0}) E → S → List T → Type 0 where
@@ -55,7 +55,8 @@ pub record Begin {S : Type 0} (begins : ℕ → S → Type 0) (n : ℕ) (states 
   pub workers : length states ≡ n
   pub each : (k : ℕ) (d : S) → k < n → begins k (slice_index_or states k d)
 
--- What n workers make of a slice in rounds, and how they leave it. Where no round failed, the answer has what comes of each worker's last state.
+-- What n workers do to a slice in rounds, and how they leave it. If no round failed, the answer has each last state's
+-- result.
 module _ {S T E P V W : Type 0} (begins : ℕ → S → Type 0) (consumes : T → S → Result (Unit {0}) E → T → S → Type 0) (asks : P → Option (Unit {0}) → P → Type 0) (ends : S → V → Type 0) (listed : W → List V) where
   pub record IsOfRounds (n : ℕ) (p : P) (items left : List T) (answer : Result W E) : Type 0 where
     pub firsts : List S

@@ -5,18 +5,18 @@ ghost use Rattle.gix_features_rounds.specs.Rounds.{ChangesTo, Turn, Round, first
 
 use std::thread::{Threads, join_mut};
 
-/// Which round it is.
+/// A round: one place in every run.
 // Workers share it: a number that the closures of both halves captured would have no generated proof.
 #[derive(Clone, Copy)]
 pub(crate) struct Place {
-    /// How many items each run has, but those at the end.
+    /// The number of items in each run, except those at the end.
     pub(crate) size: usize,
-    /// Which item of its run each worker consumes.
+    /// The place in its run of the item that each worker consumes.
     pub(crate) at: usize,
 }
 
-/// Each worker consumes the item at a place of its run, all at once where threads can be started. Each run has so many
-/// items, but those at the end. The error of the first worker that has one is the answer.
+/// Each worker consumes the item at a place of its run, all at once if threads can be started. Each run has
+/// `place.size` items, except those at the end. The error of the first worker that has one is the answer.
 #[cycle(halves)]
 pub(crate) fn round<H, T, S, E, K>(
     rt: &H,
@@ -58,7 +58,7 @@ where
     first_error(a, b)
 }
 
-/// A round of the workers of both halves, of which one has its items and the other has its own.
+/// A round of the workers of both halves; one half has its items, the other has its own.
 // A separate function, so that what the closures require is what this function is given.
 #[cycle(halves)]
 fn both_halves<H, T, S, E, K>(
@@ -95,7 +95,7 @@ where
     join_mut(rt, &mut front, &mut back)
 }
 
-/// The first error, where there is one.
+/// The first error, if there is one.
 fn first_error<E: Drop>(a: Result<(), E>, b: Result<(), E>) -> Result<(), E>
     ensures first { result ≡ first_of a b }
 {

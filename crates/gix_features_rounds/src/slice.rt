@@ -13,11 +13,11 @@ use odb_base::NoMemory;
 use std::alloc::Global;
 use std::thread::Threads;
 
-/// Changes the items of a slice in several threads, and answers what comes of each worker's last state.
+/// Changes the items of a slice in several threads, and returns the result of each worker's last state.
 ///
-/// Each worker has a run of the items, each run as long, but those at the end. In a round each worker consumes the next
-/// item of its run, all at once. After each round `periodic` is asked, and none ends the work. The first error of a round
-/// ends it too, and is the answer.
+/// Each worker has a run of the items, all equally long, except those at the end. In a round each worker consumes the
+/// next item of its run, all at once. After each round `periodic` is asked, and None ends the work. The first error
+/// of a round ends it too, and is returned.
 pub fn in_parallel_with_slice<H, T, S, V, E, N, K, P, L>(
     rt: &H,
     alloc: Global,
@@ -64,7 +64,7 @@ where
     answer
 }
 
-/// The same, for a caller that keeps what it passes.
+/// Changes the items of a slice, for a caller that keeps what it passes.
 fn change_all<H, T, S, V, E, N, K, P, L>(
     rt: &H,
     alloc: Global,
@@ -115,7 +115,7 @@ where
     }
 }
 
-/// The first states of so many workers.
+/// The first states of the workers.
 fn first_states<S: Drop, N: Fn(usize) -> S>(
     alloc: Global,
     workers: usize,
@@ -167,7 +167,7 @@ where
     Ok(())
 }
 
-/// What comes of each state.
+/// The result of each state.
 fn values_of<S: Drop, V: Drop, L: Fn(S) -> V>(
     alloc: Global,
     states: Vec<S>,

@@ -1,4 +1,4 @@
--- Lemmas on shares of items, dealt and brought together in turn.
+-- Lemmas on shares of items, dealt and merged in turn.
 use Rattle.std.proofs.Common.{◌≡◌, ◌≢◌, ℕ, suc, ◌-◌, ◌<◌, ◌≤◌, ◌==◌, ◌⊎◌, inl, inr, ⊎_elim, List, [], ◌∷◌, ◌++◌, length, get_or, set, refl, sym, ap, ◌∙◌, arith, if◌then◌else◌, append_assoc, Option, Some, None}
 use Rattle.std.proofs.lemmas.Bool.{cases_lt}
 use Rattle.std.proofs.lemmas.Bool.Decides.{nat_tests}
@@ -90,7 +90,7 @@ module _ {T : Type 0} (n : ℕ) where
         (mine.0, sym (append-nil _) ∙ sym (mine.1 []) ∙ ap (share n k) (append-nil items));
   }
 
--- ---- outputs that come together
+-- ---- outputs that are merged
 
 -- a stream that gave nothing had nothing left
 pub into_iter-end : {O A : Type 0} (s t : IntoIter O A) (r : Option O) → ((x : O) → r ≡ Some x → ⊥) → into_iter_steps s r t → into_iter_items s ≡ []

@@ -13,7 +13,7 @@ IfReduced-then (Ok value) then p = then (Ok value) p
 IfReduced-then (Err (Reduce error)) then p = then (Err error) p
 IfReduced-then (Err NoMemory) then p = p
 
--- what comes of the last states is forgotten
+-- the results of the last states are forgotten
 pub AreWorked-forget : {S T O L : Type 0} {begins : ℕ → S → Type 0} {consumes : S → T → O → S → Type 0} {ends : S → L → Type 0} {n : ℕ} {items : List T} {outputs : List O} {lasts : List L}
     → AreWorked begins consumes ends n items outputs lasts → AreWorked begins consumes (λ _ _. ⊤) n items outputs lasts
 AreWorked-forget worked = record {

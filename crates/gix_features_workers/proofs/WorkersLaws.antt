@@ -61,7 +61,7 @@ module _ {S T O L : Type 0} (begins : ℕ → S → Type 0) (consumes : S → T 
   Works-map (x ∷ xs) [] all none = elim none [ ]
   Works-map (x ∷ xs) (o ∷ os) all (Works.Next first rest) = ap (λ p. p ∷ os) (ignores _ _ x o all.0 first) ∙ ap (λ (l : List O). makes x ∷ l) (Works-map xs os all.1 rest)
 
-  -- Where an output follows from its item alone, the outputs are the same for each number of workers.
+  -- If an output follows from its item alone, the outputs are the same for each number of workers.
   pub same_outputs : (n : ℕ) (items : List T) (outputs : List O) (lasts : List L) → 0 < n → AllByRecursion fits items → AreWorked begins consumes ends n items outputs lasts → outputs ≡ map makes items
   same_outputs n items outputs lasts some all worked = same_from_shares n 0 outputs (map makes items) some (worked.one_each ∙ sym (length-map items makes))
       (λ k b.
@@ -70,13 +70,13 @@ module _ {S T O L : Type 0} (begins : ℕ → S → Type 0) (consumes : S → T 
       ap (λ i. share n i outputs) (turns-first n k) ∙ Works-map (share n k items) (share n k outputs) (share-All fits n k items all) one.worked ∙ sym (share-map makes n k items)
       ∙ ap (λ i. share n i (map makes items)) (sym (turns-first n k)))
 
-  -- So the answer is what a reducer comes to that is fed these outputs.
+  -- So the answer is the result of a reducer that is fed these outputs.
   pub answer_of_outputs : {A : Type 0} (gives : List T → Type 0) (reduces : List O → A → Type 0) → ((xs : List T) → gives xs → AllByRecursion fits xs) → (n : ℕ) (answer : A) → 0 < n
       → IsAnswer gives (AreWorked begins consumes ends n) reduces answer → (items : List T) × gives items × reduces (map makes items) answer
   answer_of_outputs gives reduces all n answer some is =
       (is.items, is.given, subst (λ (l : List O). reduces l answer) (same_outputs n is.items is.outputs is.lasts some (all is.items is.given) is.worked) is.reduced)
 
-  -- Where there is one way to draw the items and one to reduce outputs too, the answer is the same for each number of workers.
+  -- If there is one way to draw the items and one to reduce outputs too, the answer is the same for each number of workers.
   pub same_answers : {A : Type 0} (gives : List T → Type 0) (reduces : List O → A → Type 0) → ((xs : List T) → gives xs → AllByRecursion fits xs)
       → ((xs ys : List T) → gives xs → gives ys → xs ≡ ys) → ((os : List O) (a b : A) → reduces os a → reduces os b → a ≡ b) → (n m : ℕ) (a b : A) → 0 < n → 0 < m
       → IsAnswer gives (AreWorked begins consumes ends n) reduces a → IsAnswer gives (AreWorked begins consumes ends m) reduces b → a ≡ b
@@ -94,7 +94,7 @@ given_and_failed given error same = cc same
 same_failure : {P A E : Type 0} (e f : E) → ◌≡◌ {A = Result P E} (Err e) (Err f) → ◌≡◌ {A = Result A E} (Err e) (Err f)
 same_failure e f same = let is : e ≡ f = cc same in ap Err is
 
--- A reducer that gives one thing of each value, and comes to one answer at its end, has one answer to outputs.
+-- A reducer that gives one thing for each value, and has one result at its end, has one answer to outputs.
 module _ {R O P A E : Type 0} (feeds : R → O → Result P E → R → Type 0) (comes_to : R → Result A E → Type 0)
     (one_given : (r s t : R) (o : O) (x y : Result P E) → feeds r o x s → feeds r o y t → (x ≡ y) × (s ≡ t))
     (one_end : (r : R) (x y : Result A E) → comes_to r x → comes_to r y → x ≡ y) where
@@ -119,7 +119,7 @@ drained steps rest stop go [] s all = sym (ap rest all.1.1 ∙ stop all.1.0 all.
 drained steps rest stop go (x ∷ xs) s all =
     ap (λ l. x ∷ l) (drained steps rest stop go xs all.1.1.0 (all.0, (all.1.0, all.1.1.2, all.1.2))) ∙ sym (go s all.1.1.0 x all.1.1.1)
 
--- where the condition doesn't hold there is one worker
+-- if the condition doesn't hold there is one worker
 few_or_more : (n : ℕ) → (n ≤ 1) ⊎ (1 < n)
 few_or_more n = ⊎_elim (λ (h : 1 < n). inr h) (λ (h : n ≤ 1). inl h) (cases_lt 1 n)
 

@@ -11,7 +11,7 @@ use Rattle.gix_features_workers.specs.Dealt.{turns_before, AreDealt, AreDone, Ar
 use Rattle.gix_features_workers.proofs.DealtLemmas.{woven, turns-first}
 
 module _ {S T O : Type 0} (consumes : S → T → O → S → Type 0) where
-  -- a further item stands behind those before it
+  -- one more item follows those before it
   pub Works-push : {t u : S} {x : T} {o : O} (xs : List T) (os : List O) {s : S} → Works consumes s xs os t → consumes t x o u
       → Works consumes s (xs ++ x ∷ []) (os ++ o ∷ []) u
   Works-push [] [] Works.Done step = Works.Next step Works.Done
@@ -42,7 +42,7 @@ module _ {O L A : Type 0} where
     last_states = ap (λ (l : List L). l ++ w.last ∷ []) parts.last_states ∙ sym (map-append (λ (v : Worked O L). v.last) parts.worked (w ∷ []));
   }
 
--- an element that is there, whatever stands for those that aren't
+-- an element that is there, whatever is the default for those that aren't
 pub element : {X : Type 0} (xs : List X) (k : ℕ) → k < length xs → (x : X) × ((d : X) → get_or xs k d ≡ x)
 element [] k b = absurd (omega (arith, b))
 element (x ∷ xs) zero b = (x, λ d. refl)
@@ -51,7 +51,7 @@ element (x ∷ xs) (suc k) b = element xs k (omega (arith, b))
 -- ---- what all workers make
 
 module _ {S T O L A : Type 0} (begins : ℕ → S → Type 0) (consumes : S → T → O → S → Type 0) (ends : S → L → Type 0) where
-  -- where each did its job, and the parts are gathered, the outputs are the shares of one list, which is what all make
+  -- if each did its job, and the parts are gathered, the outputs are the shares of one list, which is what all make
   pub AreWorked-all : (n : ℕ) (items : List T) (jobs : List (Job T)) (results : List (Result (Worked O L) NoMemory)) (streams : List (IntoIter O A)) (lasts : List L)
       → 0 < n → AreDealt n items jobs → AreDone begins consumes ends jobs results → AreGathered results streams lasts
       → (outputs : List O) × AreShares n 0 outputs streams × AreWorked begins consumes ends n items outputs lasts

@@ -1,4 +1,4 @@
--- Items that are dealt to workers in turn, and outputs that come together in turn. No clause of a public call cites this.
+-- Items that are dealt to workers in turn, and outputs that are merged in turn. No clause of a public call cites this.
 use Rattle.std.specs.Prelude.{◌≡◌, ℕ, ◌+◌, ◌-◌, ◌<◌, ◌==◌, nat_lt, List, [], ◌++◌, length, map, slice_index_or, if◌then◌else◌, Result, Ok, IfOk}
 use Rattle.std.specs.declared.vec.IntoIter.{IntoIter}
 use Rattle.std.specs.Vec.Iter.{into_iter_items}
@@ -20,7 +20,7 @@ pub record HaveNone {T : Type 0} (n : ℕ) (jobs : List (Job T)) : Type 0 where
   pub workers : length jobs ≡ n
   pub each : (k : ℕ) (d : Job T) → k < n → ((slice_index_or jobs k d).worker ≡ k) × ((slice_index_or jobs k d).items.items ≡ [])
 
--- n workers that have their shares of the items so far, where it is a worker's turn
+-- n workers that have their shares of the items so far, at the turn of a worker
 pub record AreDealing {T : Type 0} (n turn : ℕ) (given : List T) (jobs : List (Job T)) : Type 0 where
   pub in_turn : turn < n
   pub workers : length jobs ≡ n
@@ -32,7 +32,7 @@ pub record AreDealt {T : Type 0} (n : ℕ) (items : List T) (jobs : List (Job T)
   pub workers : length jobs ≡ n
   pub each : (k : ℕ) (d : Job T) → k < n → ((slice_index_or jobs k d).worker ≡ k) × ((slice_index_or jobs k d).items.items ≡ share n k items)
 
--- what came of each job, where there was memory for it
+-- the result of each job, if there was memory for it
 pub record AreDone {S T O L : Type 0} (begins : ℕ → S → Type 0) (consumes : S → T → O → S → Type 0) (ends : S → L → Type 0) (jobs : List (Job T)) (results : List (Result (Worked O L) NoMemory)) : Type 0 where
   pub workers : length results ≡ length jobs
   pub each : (k : ℕ) (d : Result (Worked O L) NoMemory) (j : Job T) → k < length jobs
@@ -45,7 +45,7 @@ pub record AreGathered {O L A : Type 0} (results : List (Result (Worked O L) NoM
   pub outputs : map into_iter_items streams ≡ map (λ (w : Worked O L). w.outputs.items) worked
   pub last_states : lasts ≡ map (λ (w : Worked O L). w.last) worked
 
--- n streams with their shares of the outputs that are left, where it is a worker's turn
+-- n streams with their shares of the outputs that are left, at the turn of a worker
 pub record AreShares {O A : Type 0} (n turn : ℕ) (left : List O) (streams : List (IntoIter O A)) : Type 0 where
   pub in_turn : turn < n
   pub workers : length streams ≡ n

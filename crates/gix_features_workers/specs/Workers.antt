@@ -1,9 +1,9 @@
--- What workers make of items: item i is consumed by worker i mod n, whose state is what its earlier items left.
+-- What workers make of items: item i is consumed by worker i mod n, whose state is that after its earlier items.
 use Rattle.std.specs.Prelude.{◌≡◌, ℕ, zero, suc, ◌-◌, ◌<◌, List, [], ◌∷◌, length, slice_index_or, ⊤}
 use Rattle.std.specs.Fn.{Shared, FnReturns}
 use Rattle.std.specs.Borrow.{MutBor}
 
--- every n-th item, where so many are skipped first: with n workers, worker k has the share that skips k
+-- every n-th item, after so many are skipped: with n workers, worker k has the share that skips k
 abbrev pub share : {T : Type 0} → ℕ → ℕ → List T → List T
 share n skip [] = []
 share n zero (x ∷ xs) = x ∷ share n (n - 1) xs
@@ -11,14 +11,14 @@ share n (suc skip) (x ∷ xs) = share n skip xs
 
 -- how a worker consumes an item
 module _ {S T O : Type 0} (consumes : S → T → O → S → Type 0) where
-  -- the outputs that a worker makes of its items, one after another, and the state that it comes to
+  -- the outputs that a worker makes of its items, one after another, and its last state
   pub data Works : S → List T → List O → S → Type 0 where
     Done : {s : S} → Works s [] [] s
     Next : {s t u : S} {x : T} {o : O} {xs : List T} {os : List O} → consumes s x o t → Works t xs os u → Works s (x ∷ xs) (o ∷ os) u
 
--- how a worker of some number begins, how it consumes an item, and what comes of its last state
+-- how a worker of some number begins, how it consumes an item, and the result of its last state
 module _ {S T O L : Type 0} (begins : ℕ → S → Type 0) (consumes : S → T → O → S → Type 0) (ends : S → L → Type 0) where
-  -- a worker's outputs, and what comes of it at the end
+  -- a worker's outputs, and its result at the end
   pub record IsWorked (worker : ℕ) (items : List T) (outputs : List O) (last : L) : Type 0 where
     pub first : S
     pub final : S
@@ -32,7 +32,7 @@ module _ {S T O L : Type 0} (begins : ℕ → S → Type 0) (consumes : S → T 
     pub workers : length lasts ≡ n
     pub each : (k : ℕ) (d : L) → k < n → IsWorked k (share n k items) (share n k outputs) (slice_index_or lasts k d)
 
--- the outputs that n workers make of items, whatever comes of their last states
+-- the outputs that n workers make of items, whatever the results of their last states
 abbrev pub AreMade : {S T O : Type 0} → (ℕ → S → Type 0) → (S → T → O → S → Type 0) → ℕ → List T → List O → List (Unit {0}) → Type 0
 AreMade begins consumes n = AreWorked {L = Unit {0}} begins consumes (λ _ _. ⊤) n
 

@@ -1,4 +1,4 @@
-//! Calls that make one result of what workers make of items.
+//! Calls that make one result of the workers' outputs.
 ghost use Rattle.std.specs.Prelude.{◌≡◌, ℕ, ◌<◌, ◌≤◌};
 ghost use Rattle.std.specs.Iterator.{IsFinite, Drains};
 ghost use Rattle.gix_features_parts.specs.Sizes.{threads_of};
@@ -16,10 +16,10 @@ use thiserror::Error;
 /// Why work in parallel has no result.
 #[derive(Debug, Drop, Error)]
 pub enum ParallelError<E> {
-    /// The reducer gave this error, or the consumer did.
+    /// The reducer or the consumer gave this error.
     #[error("the results can't be made one")]
     Reduce(E),
-    /// There was no memory for the items or for what was made of them.
+    /// Out of memory for the items or for the outputs.
     #[error("out of memory")]
     NoMemory,
 }
@@ -36,8 +36,8 @@ impl<E> From<NoMemory> for ParallelError<E> {
 
 /// Consumes items in several threads, and makes one result of the outputs.
 ///
-/// With n workers, item i is consumed by worker i mod n, which passes its state from one of its items to the next. The
-/// outputs are fed to the reducer in the order of the items, and the first error of the reducer is the answer.
+/// With n workers, item i is consumed by worker i mod n, which passes its state from one of its items to the next.
+/// The outputs are fed to the reducer in the order of the items, and the reducer's first error is returned.
 pub fn in_parallel<H, I, S, O, N, C, R>(
     rt: &H,
     alloc: Global,
@@ -78,8 +78,8 @@ where
     )
 }
 
-/// The same, with one worker on the caller's thread where a condition doesn't hold. It is asked only where there would be
-/// more than one worker.
+/// As `in_parallel`, but with one worker, on the caller's thread, if a condition doesn't hold. It is asked only if
+/// there would be more than one worker.
 pub fn in_parallel_if<H, B, I, S, O, N, C, R>(
     rt: &H,
     alloc: Global,
@@ -124,7 +124,7 @@ where
     )
 }
 
-/// How many workers there are: one, unless there may be more and the condition holds.
+/// The number of workers: one, unless there may be more and the condition holds.
 fn choose<B: FnOnce() -> bool + Drop>(condition: B, most: usize) -> usize
     requires condition { 1 < most → B.pre condition }
     requires some { 0 < most }
@@ -137,7 +137,7 @@ fn choose<B: FnOnce() -> bool + Drop>(condition: B, most: usize) -> usize
     if condition() { most } else { 1 }
 }
 
-/// Consumes items with so many workers, and makes one result of the outputs.
+/// Consumes items with `workers` workers, and makes one result of the outputs.
 fn run<H, I, S, O, N, C, R>(
     rt: &H,
     alloc: Global,
@@ -177,8 +177,8 @@ where
     }
 }
 
-/// Consumes items in several threads, and makes one result of the outputs and of what comes of each worker at the end,
-/// which is fed after the outputs, in the order of the workers.
+/// Consumes items in several threads, and makes one result of the outputs and of each worker's result at the end,
+/// which are fed after the outputs, in the order of the workers.
 pub fn in_parallel_with_finalize<H, I, S, O, N, C, F, R>(
     rt: &H,
     alloc: Global,

@@ -6,7 +6,7 @@ ghost use Rattle.gix_features_workers.specs.Dealt.{AreDealt, HaveNone, turn_afte
 use odb_base::NoMemory;
 use std::alloc::Global;
 
-/// What one worker works at.
+/// The work of one worker.
 #[derive(Drop)]
 pub(crate) struct Job<T> {
     /// The worker's number.
@@ -15,8 +15,8 @@ pub(crate) struct Job<T> {
     pub(crate) items: Vec<T>,
 }
 
-/// Deals all items of an iterator to workers: the first to the first worker, and after the last worker it is the first
-/// one's turn again.
+/// Deals all items of an iterator to workers: the first to the first worker, and after the last worker to the first
+/// one again.
 pub(crate) fn deal<I: Iterator + Drop>(
     alloc: Global,
     input: I,
@@ -52,7 +52,7 @@ fn idle<T: Drop>(alloc: Global, workers: usize) -> Result<Vec<Job<T>>, NoMemory>
     Ok(jobs)
 }
 
-/// Whose turn it is after a worker's.
+/// The worker after another one.
 pub(crate) fn next_turn(turn: usize, workers: usize) -> usize
     requires { turn < workers }
     ensures turn { result ≡ turn_after workers turn }

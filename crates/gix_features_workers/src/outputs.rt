@@ -12,16 +12,16 @@ use std::thread;
 use std::thread::Threads;
 use std::vec::IntoIter;
 
-/// What workers made of all items.
+/// The outputs of all items.
 #[derive(Drop)]
 pub(crate) struct Outputs<O, L> {
     /// An output for each item, in the order of the items.
     pub(crate) in_order: Vec<O>,
-    /// What came of each worker's last state, in the order of the workers.
+    /// The result of each worker's last state, in the order of the workers.
     pub(crate) lasts: Vec<L>,
 }
 
-/// What workers made of their items, each for itself.
+/// What the workers made of their items, each for itself.
 #[derive(Drop)]
 struct Gathered<O, L> {
     streams: Vec<IntoIter<O>>,
@@ -65,7 +65,7 @@ where
     Ok(Outputs { in_order, lasts })
 }
 
-/// The same, with what comes of each worker's last state behind the outputs.
+/// Does so, with the result of each worker's last state after the outputs.
 pub(crate) fn work_and_end<H, I, S, O, N, C, F>(
     rt: &H,
     alloc: Global,
@@ -109,7 +109,7 @@ where
     }
 }
 
-/// The outputs alone, where nothing comes of the last states.
+/// The outputs alone, without results of the last states.
 pub(crate) fn work_for_outputs<H, I, S, O, N, C>(
     rt: &H,
     alloc: Global,
@@ -148,7 +148,7 @@ where
     Ok(in_order)
 }
 
-/// Does each job, all at once where threads can be started.
+/// Does each job, all at once if threads can be started.
 fn work_at_once<H, T, S, O, L, N, C, F>(
     rt: &H,
     alloc: Global,
@@ -180,7 +180,7 @@ where
     Ok(thread::map_vec(rt, jobs, &one)?)
 }
 
-/// The parts of results, where all are there.
+/// The parts of results, if all are there.
 fn gather<O: Drop, L: Drop>(
     alloc: Global,
     results: Vec<Result<Worked<O, L>, NoMemory>>,
@@ -203,7 +203,7 @@ fn gather<O: Drop, L: Drop>(
     Ok(parts)
 }
 
-/// Puts the parts of a further result, if it is there, beside the others.
+/// Adds the parts of one more result, if it is there.
 fn put<O: Drop, L: Drop>(
     parts: &mut Gathered<O, L>,
     made: Result<Worked<O, L>, NoMemory>,

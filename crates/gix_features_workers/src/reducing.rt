@@ -18,7 +18,7 @@ where
     reduce_rest(outputs.into_iter(), reducer)
 }
 
-/// The same, with outputs that are left of others.
+/// Feeds the outputs that are left to a reducer one after another, up to its first error.
 pub(crate) fn reduce_rest<O: Drop, R: Reduce<Input = O> + Drop>(
     mut rest: IntoIter<O>,
     mut reducer: R,

@@ -6,10 +6,10 @@ use std::thread::{Builder, Threads};
 /// Within a scope threads may borrow what its function borrows.
 pub type Scope<'s, E> = thread::Scope<'s, E>;
 
-/// The results of two functions that are called at once, the left one in a thread of its own.
+/// The results of two functions that are called at once, the left one on a thread of its own.
 ///
-/// Where no thread can be started, the left one is called after the right one has returned. So a pipe between the two may
-/// wait for ever: the right one reads what wasn't written yet, or writes more than the pipe has room for.
+/// If no thread can be started, the left one is called after the right one has returned. So a pipe between the two
+/// may block forever: the right one reads what wasn't written yet, or writes more than the pipe has room for.
 pub fn join<X: Send, Y, A: FnOnce() -> X + Send, Z: FnOnce() -> Y, H: Threads>(
     rt: &H,
     left: A,
@@ -23,7 +23,7 @@ pub fn join<X: Send, Y, A: FnOnce() -> X + Send, Z: FnOnce() -> Y, H: Threads>(
     thread::join(rt, left, right)
 }
 
-/// What a function gives that may start threads within a scope. All of them have ended when it returns.
+/// Calls a function that may start threads within a scope. All of them have ended when it returns.
 pub fn threads<'e, H: Threads + Wait, T, F: for<'s> FnOnce(&'s Scope<'s, &'e ()>) -> T>(
     rt: &H,
     f: F,

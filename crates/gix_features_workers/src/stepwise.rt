@@ -42,7 +42,7 @@ where
     R::Input: Send + Drop,
     R::FeedProduce: Drop,
 {
-    /// Has all items consumed, as `in_parallel` does, and feeds none of the outputs yet.
+    /// Consumes all items, as `in_parallel` does, and feeds none of the outputs yet.
     pub fn new<H, I, S, N, C>(
         rt: &H,
         alloc: Global,
@@ -92,7 +92,7 @@ where
     R::Input: Drop,
     R::FeedProduce: Drop,
 {
-    /// What the reducer gives of the next item's output, also after an error.
+    /// What the reducer gives for the next item's output, also after an error.
     pub fn next<H: Threads>(
         &mut self,
         _rt: &H,
@@ -107,7 +107,7 @@ where
         }
     }
 
-    /// Feeds the outputs that weren't fed yet, up to the reducer's first error, and answers what it comes to.
+    /// Feeds the outputs that weren't fed yet, up to the reducer's first error, and returns its result.
     pub fn finalize<H: Threads>(self, _rt: &H) -> Result<R::Output, ParallelError<R::Error>>
         ensures reduced { IfReduced result (Reduces R.feeds R.comes_to self.reducer (into_iter_items self.outputs)) }
     {
@@ -116,11 +116,11 @@ where
     }
 }
 
-/// What feeds the rest to a reducer, and answers what it comes to.
+/// Feeds the rest to a reducer, and returns its result.
 pub trait Finalize {
     type Reduce: Reduce;
 
-    /// What it comes to where the rest is fed.
+    /// The result once the rest is fed.
     ghost comes_to: { Self → Result Self.Reduce.Output Self.Reduce.Error → Type 0 };
 
     /// Feeds the rest, up to the reducer's first error.

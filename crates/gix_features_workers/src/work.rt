@@ -6,12 +6,12 @@ use crate::deal::Job;
 use odb_base::NoMemory;
 use std::alloc::Global;
 
-/// What a worker made of its items, and what came of its last state.
+/// A worker's outputs, and the result of its last state.
 #[derive(Drop)]
 pub(crate) struct Worked<O, L> {
     /// An output for each item.
     pub(crate) outputs: Vec<O>,
-    /// What came of the state after the last item.
+    /// The result of the state after the last item.
     pub(crate) last: L,
 }
 

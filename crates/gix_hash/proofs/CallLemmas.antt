@@ -23,7 +23,7 @@ IsBytes-zeros (suc n) (suc i) = IsBytes-zeros n i
 
 -- ---- what reading a text answers
 
--- the answer of reading is the id that the text gives, or an error where it gives none
+-- the answer of reading is the id of the text, or an error if it has none
 abbrev pub AnswersIdOf : List ℕ → Result ObjectId HexError → Type 0
 AnswersIdOf text answer = MatchOption (id_of text) (IsErr answer) (λ id. answer ≡ Ok id)
 
@@ -42,7 +42,7 @@ pub answers_other_length : (text : List ℕ) (answer : Result ObjectId HexError)
     → IsErr answer → AnswersIdOf text answer
 answers_other_length text answer short long refused = rw (id_of-other_length text short long) refused
 
--- a text of as many digits, that is refused for its digits
+-- a text of as many digits that is refused for its digits
 pub answers_other_byte : (text : List ℕ) (answer : Result ObjectId HexError) (n : ℕ) → length text ≡ n
     → ((length text ≡ n) × (is_lower_text text ≡ true) → false ≡ true) → IsErr answer → AnswersIdOf text answer
 answers_other_byte text answer n size unread refused =
@@ -86,7 +86,7 @@ pub IsUtf8-encode_lower : (bytes : List ℕ) → IsUtf8 (encode_lower bytes)
 IsUtf8-encode_lower bytes =
     IsUtf8-from_ascii (encode_lower bytes) (IsAscii-encode_with lower_digits bytes lower_digits-IsAscii)
 
--- what holds on success holds where there was no error
+-- what holds on success holds if there was no error
 pub on_ok_at_no_error : {T E : Type 0} (r : Result T E) (P : Type 0) → is_err r ≡ false → OnOk r P → P
 on_ok_at_no_error (Ok x) P no_error h = h
 on_ok_at_no_error (Err e) P no_error h = cc no_error

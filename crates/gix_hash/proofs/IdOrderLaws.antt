@@ -1,4 +1,5 @@
--- The laws of the order of ids, for callers: it is total, ids at one place in it are one id, and one kind goes by the bytes.
+-- The laws of the order of ids, for callers: it is total, ids at one place in it are one id, and one kind is ordered by
+-- bytes.
 use Rattle.std.proofs.Common.{◌≡◌, Equal, refl, ap}
 use Rattle.std.specs.Cmp.Lexicographic.{slice_cmp}
 use Rattle.std.specs.FinMap.{IsAntisymmetric, nat_cmp-IsAntisymmetric, slice_cmp-IsAntisymmetric}

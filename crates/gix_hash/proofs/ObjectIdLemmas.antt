@@ -1,4 +1,4 @@
--- Laws on ids and their hex text.
+-- Laws of ids and their hex text.
 use Rattle.std.proofs.Common.{◌≡◌, ◌≢◌, ℕ, suc, ◌+◌, ◌*◌, ◌/◌, ◌%◌, ◌<◌, ◌==◌, ◌&&◌, nat_lt, is_some, Bool, true, false, List, [], ◌∷◌, length, slice_index}
 use Rattle.std.proofs.Common.{Option, Some, None, unwrap_or, if◌then◌else◌, cond, ◌⊎◌, inl, inr, Result, Ok, Err, refl, sym, ap, ◌∙◌, arith}
 use Rattle.std.specs.List.{AllPass}
@@ -60,7 +60,7 @@ is_lower_text-encode_lower (b ∷ rest) h =
 abbrev bytes_or_none : Result (List ℕ) FromHexError → List ℕ
 bytes_or_none r = result_unwrap_or r []
 
--- a byte before decoded bytes, taken apart
+-- a byte before decoded bytes, split off
 cons_byte-ok : (v : ℕ) (r : Result (List ℕ) FromHexError) (bytes : List ℕ) → cons_byte v r ≡ Ok bytes
     → (rest : List ℕ) × (r ≡ Ok rest) × (v ∷ rest ≡ bytes)
 cons_byte-ok v (Ok rest) bytes h = (rest, refl, ap bytes_or_none h)
@@ -198,7 +198,7 @@ id_of-cases text id h =
       | inr bad ↦ cc (sym bad.1 ∙ h)
     ]
 
--- the id that a text gives has that text
+-- the id of a text has that text
 pub hex_of-id_of : (text : List ℕ) (id : ObjectId) → id_of text ≡ Some id → hex_of id ≡ text
 hex_of-id_of text id h =
     let found = id_of-cases text id h in
@@ -208,7 +208,7 @@ hex_of-id_of text id h =
       | inr long ↦ rw (← long.1) same
     ]
 
--- the id that a text gives is one
+-- the id of a text is one
 pub IsId-id_of : (text : List ℕ) (id : ObjectId) → id_of text ≡ Some id → IsId id
 IsId-id_of text id h =
     let found = id_of-cases text id h in

@@ -1,4 +1,4 @@
--- The laws of prefixes, for callers: which ids have one, and where it stands among ids that rise.
+-- The laws of prefixes, for callers: which ids have one, and where it is among ids that rise.
 use Rattle.std.proofs.Common.{◌≡◌, ℕ, take, Ordering, Less, Equal, Greater, refl, sym, ◌∙◌}
 use Rattle.std.specs.Ordering.{nat_cmp, on, ordering_then, then_cmp}
 use Rattle.std.specs.Cmp.{IsTotalOrder}
@@ -43,14 +43,14 @@ Equal-from_HasPrefix prefix id has =
 
 -- ---- a prefix among ids that rise
 
--- the order of ids by their kinds and so many digits, in which a prefix stands as its id does
+-- the order of ids by their kinds and so many digits, in which a prefix is where its id is
 abbrev front_cmp : ℕ → ObjectId → ObjectId → Ordering
 front_cmp n = then_cmp (on (λ id. rank_of (kind_of id)) nat_cmp) (on (λ id. take n (hex_of id)) (slice_cmp nat_cmp))
 
 front_order : (n : ℕ) → IsTotalOrder (front_cmp n)
 front_order n = then_total (on_total (λ (id : ObjectId). rank_of (kind_of id)) nat_cmp_total) (on_total (λ (id : ObjectId). take n (hex_of id)) nat_list_cmp_total)
 
--- the fronts of ids that rise don't fall
+-- the first digits of ids that rise don't fall
 fronts_rise : (n : ℕ) (a b : ObjectId) → IsBytes (bytes_of a) → IsBytes (bytes_of b) → id_cmp a b ≡ Less → front_cmp n a b ≡ Greater → ⊥
 fronts_rise n a b first second up down =
     then_rises (nat_cmp (rank_of (kind_of a)) (rank_of (kind_of b))) (slice_cmp nat_cmp (bytes_of a) (bytes_of b)) (slice_cmp nat_cmp (take n (hex_of a)) (take n (hex_of b)))
@@ -73,7 +73,7 @@ pub below_later : (prefix : PrefixOf) (a b : ObjectId) → IsBytes (bytes_of a) 
     → prefix_cmp prefix a ≡ Less → prefix_cmp prefix b ≡ Less
 below_later prefix a b first second up = stays_below (front_order prefix.hex_len) prefix.id a b (fronts_rise prefix.hex_len a b first second up)
 
--- where an id has the prefix, the prefix is above no later one
+-- if an id has the prefix, the prefix is above no later one
 pub not_above_later : (prefix : PrefixOf) (a b : ObjectId) → IsBytes (bytes_of a) → IsBytes (bytes_of b) → id_cmp a b ≡ Less
     → prefix_cmp prefix a ≡ Equal → prefix_cmp prefix b ≡ Greater → ⊥
 not_above_later prefix a b first second up = comes_no_later (front_order prefix.hex_len) prefix.id a b (fronts_rise prefix.hex_len a b first second up)

@@ -1,4 +1,4 @@
--- Hashes: the id that bytes have, and the bytes that a hasher has taken in.
+-- Hashes: the id of some bytes, and the bytes that a hasher has taken.
 use Rattle.std.specs.Prelude.{ℕ, List}
 use Rattle.sha1.specs.Sha1.{sha1}
 use Rattle.sha1.specs.Sha1 as first
@@ -12,7 +12,7 @@ use Rattle.gix_hash.specs.declared.hasher.Hasher.{Hasher}
 use Rattle.gix_hash.specs.declared.hasher.State.{State}
 use Rattle.gix_hash.specs.declared.hasher.State.TheVariants.{Sha1, Sha256}
 
--- the id that bytes have: their digest by the hash function of this kind
+-- the id of some bytes: their digest by the hash function of this kind
 abbrev pub hash_of : Kind → List ℕ → ObjectId
 hash_of kind.Sha1 bytes = id.Sha1 (sha1 bytes)
 hash_of kind.Sha256 bytes = id.Sha256 (sha256 bytes)
@@ -29,6 +29,6 @@ StateHolds (Sha256 hasher) bytes = Holds256 hasher bytes
 abbrev pub hasher_kind : Hasher → Kind
 hasher_kind hasher = kind_of_state hasher.state
 
--- a hasher has taken in these bytes, and no others
+-- a hasher has taken these bytes, and no others
 abbrev pub HasTaken : Hasher → List ℕ → Type 0
 HasTaken hasher bytes = StateHolds hasher.state bytes

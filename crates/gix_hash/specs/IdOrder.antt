@@ -1,4 +1,4 @@
--- What the order of ids keeps: it is total, and ties where `==` holds. No other clause cites this module.
+-- Laws of the order of ids: it is total, and ties where `==` holds. No other clause cites this module.
 use Rattle.std.specs.Prelude.{◌≡◌, refl}
 use Rattle.std.specs.Cmp.{IsTotalOrder, nat_cmp_total, on_total, then_total}
 use Rattle.std.specs.Cmp.Lexicographic.{nat_list_cmp_total, texts_ties}
@@ -12,7 +12,7 @@ use Rattle.gix_hash.specs.declared.object_id.ObjectId.TheVariants.{Sha1, Sha256}
 pub id_order : IsTotalOrder id_cmp
 id_order = then_total (on_total (λ (id : ObjectId). rank_of (kind_of id)) nat_cmp_total) (on_total bytes_of nat_list_cmp_total)
 
--- `==` holds of the ids that it doesn't tell apart
+-- `==` holds of ids that tie
 pub ids_tie : (a b : ObjectId) → (same.ghosts).eq a b ≡ eq_by_cmp id_cmp a b
 ids_tie (Sha1 a) (Sha1 b) = texts_ties a b
 ids_tie (Sha1 a) (Sha256 b) = refl

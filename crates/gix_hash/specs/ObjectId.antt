@@ -22,7 +22,7 @@ abbrev pub bytes_of : ObjectId → List ℕ
 bytes_of (Sha1 bytes) = bytes
 bytes_of (Sha256 bytes) = bytes
 
--- what holds of every value of the type: its bytes are bytes, and as many as its kind has
+-- what holds of every value of the type: its bytes are bytes, and their number is that of its kind
 pub record IsId (id : ObjectId) : Type 0 where
   pub bytes : IsBytes (bytes_of id)
   pub size : length (bytes_of id) ≡ len_in_bytes_of (kind_of id)
@@ -52,7 +52,7 @@ abbrev pub made_by : (List ℕ → ObjectId) → Result (List ℕ) FromHexError 
 made_by id (Ok bytes) = Some (id bytes)
 made_by id (Err e) = None
 
--- the id that a text is the hex text of, if any: digits in lower case, whose number tells the kind
+-- the id whose hex text this is, if any: digits in lower case, whose number is that of a kind
 unfoldable pub id_of : List ℕ → Option ObjectId
 id_of text =
     if is_lower_text text then

@@ -9,7 +9,7 @@ use Rattle.gix_hash.specs.declared.kind.Kind.{Kind}
 use Rattle.gix_hash.specs.declared.kind.Kind.TheVariants.{Sha1, Sha256}
 use Rattle.gix_hash.specs.declared.object_id.ObjectId.{ObjectId}
 
--- the fewest digits of a prefix: fewer are had by too many ids of one repository
+-- the fewest digits of a prefix: fewer would match too many ids of one repository
 abbrev pub fewest_digits : ℕ
 fewest_digits = 4
 
@@ -26,7 +26,7 @@ pub record PrefixOf : Type 0 where
 abbrev pub digits_of : PrefixOf → List ℕ
 digits_of prefix = take prefix.hex_len (hex_of prefix.id)
 
--- what holds of every prefix: it has from the fewest digits to all that its kind has, and zeros stand behind them
+-- what holds of every prefix: it has from the fewest digits to all that its kind has, and zeros follow them
 pub record IsPrefix (prefix : PrefixOf) : Type 0 where
   pub id : IsId prefix.id
   pub not_short : fewest_digits ≤ prefix.hex_len
@@ -38,12 +38,12 @@ pub record HasPrefix (prefix : PrefixOf) (id : ObjectId) : Type 0 where
   pub kind : kind_of id ≡ kind_of prefix.id
   pub digits : take prefix.hex_len (hex_of id) ≡ digits_of prefix
 
--- the place of a prefix in the order of ids: kinds first, and then the digits that it has
+-- the order of a prefix and an id: kinds first, and then the digits that the prefix has
 abbrev pub prefix_cmp : PrefixOf → ObjectId → Ordering
 prefix_cmp prefix id =
     ordering_then (nat_cmp (rank_of (kind_of prefix.id)) (rank_of (kind_of id)))
     (slice_cmp nat_cmp (digits_of prefix) (take prefix.hex_len (hex_of id)))
 
--- the kind that a text of so many digits is a prefix of
+-- the kind of id that a text of so many digits is a prefix of
 abbrev pub kind_of_digits : ℕ → Kind
 kind_of_digits digits = if nat_le digits (digits_in Sha1) then Sha1 else Sha256

@@ -1,4 +1,4 @@
-//! Ids of objects: read from their hex text, written as it, and put in order.
+//! Ids of objects: read from their hex text, written as such, and ordered.
 ghost use Rattle.std.specs.Prelude.{◌≡◌, ◌*◌, ◌↔◌, length, replicate, IfOk, IfErr, IsErr, IsErrOf, IsFalse, IsOk, IsTrue, MatchOption, Some};
 ghost use Rattle.std.specs.String.{string_bytes};
 ghost use Rattle.hex.specs.Hex.{decode_of, IsBytes};

@@ -1,4 +1,4 @@
-//! Prefixes of ids: made of ids, read from digits, and compared with ids.
+//! Prefixes of ids: made from ids, read from digits, and compared with ids.
 ghost use Rattle.std.specs.Prelude.{◌≡◌, ◌-◌, ◌*◌, ◌/◌, ◌%◌, ◌<◌, ◌≤◌, ◌++◌, ◌↔◌, length, slice_index, take, IfOk, IsErrOf, IsFalse, IsOk, IsTrue};
 ghost use Rattle.std.specs.Ordering.{nat_cmp};
 ghost use Rattle.std.specs.Cmp.Lexicographic.{slice_cmp};
@@ -13,7 +13,7 @@ use std::cmp::Ordering;
 use std::marker::Model;
 use thiserror::Error;
 
-/// The first hex digits of an id, four at least.
+/// The first hex digits of an id, at least four.
 ///
 /// It is kept as the id whose other digits are zeros.
 #[derive(Clone, Copy, Debug)]
@@ -49,10 +49,10 @@ pub enum PrefixError {
 }
 
 impl Prefix {
-    /// The fewest digits of a prefix: fewer are had by too many ids of one repository.
+    /// The fewest digits of a prefix: fewer would match too many ids of one repository.
     pub const MIN_HEX_LEN: usize = 4;
 
-    /// The first digits of an id, so many of them.
+    /// The first `hex_len` digits of an id.
     pub fn new(id: &ObjectId, hex_len: usize) -> Result<Prefix, PrefixError>
         ensures prefix { IfOk result (λ prefix. HasPrefix prefix id.now) }
         ensures hex_len { IfOk result (λ prefix. prefix.hex_len ≡ hex_len) }
@@ -100,7 +100,7 @@ impl Prefix {
         }
     }
 
-    /// The prefix as an id, with zeros behind its digits.
+    /// The prefix as an id, with zeros after its digits.
     pub fn as_oid(&self) -> &ObjectId
         ensures id { result.now ≡ self.now.id }
         ensures prefix { IsPrefix self.now }
@@ -108,7 +108,7 @@ impl Prefix {
         &self.id
     }
 
-    /// How many digits the prefix has.
+    /// The number of digits of the prefix.
     pub fn hex_len(&self) -> usize
         ensures digits { result ≡ self.now.hex_len }
         ensures prefix { IsPrefix self.now }
@@ -128,7 +128,7 @@ impl Prefix {
     }
 }
 
-// The kind that a text of so many digits is a prefix of.
+// The kind of id that a text of `hex_len` digits is a prefix of.
 fn kind_of_len(hex_len: usize) -> Kind
     ensures kind { result ≡ kind_of_digits hex_len }
 {
@@ -139,7 +139,7 @@ fn kind_of_len(hex_len: usize) -> Kind
     }
 }
 
-// The id whose text begins with these digits and goes on with zeros.
+// The id whose text begins with these digits, followed by zeros.
 fn padded(digits: &[u8], kind: Kind) -> Result<ObjectId, HexError>
     requires fits { length digits.now ≤ digits_in kind }
     ensures id { IfOk result IsId }
@@ -150,7 +150,7 @@ fn padded(digits: &[u8], kind: Kind) -> Result<ObjectId, HexError>
     ObjectId::from_hex(&with_zeros(digits)[..kind.len_in_hex()])
 }
 
-// Digits with zeros behind them, as many as the longest text has.
+// Digits with zeros after them, as many as the longest text has.
 fn with_zeros(digits: &[u8]) -> [u8; SHA256_DIGITS]
     requires fits { length digits.now ≤ most_digits }
     ensures text { result ≡ digits.now ++ zero_digits (most_digits - length digits.now) }
@@ -172,7 +172,7 @@ fn cmp_digits(own: &[u8], its: &[u8], digits: usize) -> Ordering
         .then(cmp_half(own, its, digits))
 }
 
-// The order of the last digits, where their number is odd.
+// The order of the last digits, if their number is odd.
 fn cmp_half(own: &[u8], its: &[u8], digits: usize) -> Ordering
     requires own { digits ≤ 2 * length own.now }
     requires its { digits ≤ 2 * length its.now }

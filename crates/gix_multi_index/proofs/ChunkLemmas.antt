@@ -66,7 +66,7 @@ le_of a b h = grind (arith, nat_tests)
 same_of : (a b : ℕ) → (a == b) ≡ true → a ≡ b
 same_of a b h = grind (arith, nat_tests)
 
--- no place is behind the end
+-- no place is after the end
 pub first_within : (end left : ℕ) (rest : List ℕ) → ends_at end (rows_left left rest) ≡ true → long_number_at name_len rest ≤ end
 first_within end zero rest h =
     let last : long_number_at name_len rest ≡ end = same_of (long_number_at name_len rest) end
@@ -81,7 +81,7 @@ first_within end (suc left) rest h =
     let same_place : long_number_at name_len (drop row_len rest) ≡ long_number_at 16 rest = sym (place_of_first (drop row_len rest)) ∙ place_of_second rest in
     omega arith
 
--- the first of the places and the next one rise, and lie before the end
+-- the first of the places and the next one rise, and are before the end
 pub record IsNext (end left : ℕ) (rest : List ℕ) : Type 0 where
   pub order : long_number_at name_len rest ≤ long_number_at 16 rest
   pub within : long_number_at 16 rest ≤ end
@@ -138,7 +138,7 @@ named_own name bytes (suc left) rest h own =
     let yes : same (first_row rest).name name ≡ true = ap (λ (its : List ℕ). same its name) (name_of_first rest) ∙ own in
     rw less (named_step name bytes left rest ∙ ap (λ (b : Bool). cond b (first_chunk bytes rest ∷ named_left name bytes left (drop row_len rest)) (named_left name bytes left (drop row_len rest))) yes)
 
--- where the first chunk stands
+-- where the first chunk is
 abbrev first_span : List ℕ → Span
 first_span rest = record { start = long_number_at name_len rest; len = long_number_at 16 rest - long_number_at name_len rest }
 
@@ -158,7 +158,7 @@ found_first name bytes left rest h own =
     ap (with_found bytes None) (named_own name bytes left rest h own) ∙ one_seen bytes (first_chunk bytes rest) (first_span rest) (named_left name bytes (left - 1) (drop row_len rest))
     (first_bytes bytes rest)
 
--- another one
+-- another chunk
 pub found_other : (name bytes : List ℕ) (left : ℕ) (rest : List ℕ) (place : Span) → 0 < left → same (take name_len rest) name ≡ true
     → with_found bytes (Some place) (named_left name bytes left rest) ≡ None
 found_other name bytes left rest place h own = ap (with_found bytes (Some place)) (named_own name bytes left rest h own)
@@ -176,7 +176,7 @@ pub no_more : (name bytes : List ℕ) (left : ℕ) (rest : List ℕ) (found : Op
 no_more name bytes zero rest found h = ap (with_found bytes found) (named_none name bytes rest) ∙ none_behind bytes found
 no_more name bytes (suc left) rest found h = absurd (omega arith)
 
--- the one chunk, where there is no other
+-- the one chunk, if there is no other
 pub one_of : (chunks : List Chunk) → the_one chunks ≡ option_and_then (λ (found : Option (List ℕ)). found) (at_most_one chunks)
 one_of [] = refl
 one_of (chunk ∷ []) = refl
@@ -209,10 +209,10 @@ by_tests false false = refl
 pub known_hash : (number : ℕ) → is_some (hash_of_number number) ≡ (number == 1 || number == 2)
 known_hash number = by_tests (number == 1) (number == 2)
 
--- ---- what a walk through the rows of the table uses
+-- ---- what a loop over the rows of the table uses
 
 -- whether the table is sound
 pub ruleset table_rows = (table_room, trailer_room, all_rows, falls, goes_on)
 
--- where the chunks of a name stand
+-- where the chunks of a name are
 pub ruleset named_rows = (table_room, all_rows, all_named, next_row, named_other, found_first, found_other, no_more)

@@ -1,4 +1,4 @@
--- The names of a multi-pack index, one behind another.
+-- The names of a multi-pack index, one after another.
 use Rattle.std.proofs.Common.{◌≡◌, ℕ, zero, suc, ◌+◌, ◌-◌, ◌<◌, ◌≤◌, ◌==◌, ◌&&◌, not, nat_lt, Bool, true, false, List, [], ◌∷◌, ◌++◌}
 use Rattle.std.proofs.Common.{length, take, drop, Some, None, refl, sym, ap, ◌∙◌, arith, append_assoc, length-append, cond}
 use Rattle.std.specs.List.{list_all, onto_first, position, position_or_len, slice_split}
@@ -14,7 +14,7 @@ use Rattle.odb_base.specs.Path.{name_cmp}
 use Rattle.gix_multi_index.specs.MultiIndex.Held.{are_names, holds_names, is_index_name, name_parts, names_rise}
 use Rattle.gix_multi_index.specs.MultiIndexNames.{go_on, rise_from}
 
--- ---- so many names, from the first on
+-- ---- n names, from the first on
 
 false_after : (b : Bool) → (b && false) ≡ false
 false_after true = refl
@@ -24,7 +24,7 @@ long_enough : (name : List ℕ) → is_index_name name ≡ true → nat_lt 4 (le
 unfolding is_index_name
 long_enough name named = (and_parts _ _ (and_parts _ _ (and_parts _ _ named).1).0).1
 
--- a name has bytes, so it comes behind no bytes at all
+-- a name isn't empty, so it is above the empty one
 above_nothing : (name : List ℕ) → is_index_name name ≡ true → is_lt (name_cmp [] name) ≡ true
 above_nothing [] named = cc (long_enough [] named)
 above_nothing (b ∷ name) named = refl
@@ -40,7 +40,7 @@ named_and_rise true true more name is above all = ap (λ (b : Bool). list_all is
 named_and_rise true false more name is above all = absurd (cc (all refl))
 named_and_rise false named more name is above all = refl
 
--- names that rise from none rise
+-- names that rise from the empty one rise
 rise_at_first : (names : List (List ℕ)) → (list_all is_index_name names && rise_from [] names) ≡ are_names names
 unfolding names_rise
 rise_at_first [] = refl
@@ -51,7 +51,7 @@ unfolding go_on holds_names
 all_names packs chunk =
     ap (λ (b : Bool). nat_lt packs (length (name_parts chunk)) && b && list_all (λ part. length part == 0) (drop packs (name_parts chunk))) (rise_at_first (take packs (name_parts chunk)))
 
--- ---- one name more
+-- ---- one more name
 
 room_less : (left room : ℕ) → nat_lt (suc left) (suc room) ≡ nat_lt left room
 room_less left room = grind (arith, nat_tests)
@@ -98,7 +98,7 @@ too_few last left parts short =
     let no : nat_lt left (length parts) ≡ false = grind (arith, nat_tests) in
     ap (λ (b : Bool). b && (list_all is_index_name (take left parts) && rise_from last (take left parts)) && list_all (λ part. length part == 0) (drop left parts)) no
 
--- ---- NULs alone
+-- ---- only NULs
 
 first_has_bytes : (b : ℕ) (parts : List (List ℕ)) → list_all (λ part. length part == 0) (onto_first b parts) ≡ false
 first_has_bytes b [] = refl
@@ -129,7 +129,7 @@ name_more last name (suc left) rest behind h parts named =
     rw less (go_on_is last (suc left) rest ∙ ap (go_on_parts last (suc left)) parts ∙ one_name last name left (name_parts behind) named
     ∙ ap (λ (b : Bool). is_lt (name_cmp last name) && b) (sym (go_on_is name left behind)))
 
--- a name that does not come behind the last one
+-- a name that is not above the last one
 pub name_refused : (last name : List ℕ) (left : ℕ) (rest behind : List ℕ) → 0 < left → name_parts rest ≡ name ∷ name_parts behind → is_index_name name ≡ true
     → is_lt (name_cmp last name) ≡ false → go_on last left rest ≡ false
 name_refused last name left rest behind some parts named below = name_more last name left rest behind some parts named ∙ ap (λ (b : Bool). b && go_on name (left - 1) behind) below
@@ -144,15 +144,15 @@ pub no_name : (last name : List ℕ) (left : ℕ) (rest : List ℕ) (parts : Lis
 no_name last name zero rest parts h is other = absurd (omega arith)
 no_name last name (suc left) rest parts h is other = go_on_is last (suc left) rest ∙ ap (go_on_parts last (suc left)) is ∙ not_named last name left parts other
 
--- bytes without NUL are no name that is ended
+-- bytes without NUL are no terminated name
 pub no_end : (last : List ℕ) (left : ℕ) (rest : List ℕ) → 0 < left → length (name_parts rest) ≤ 1 → go_on last left rest ≡ false
 no_end last left rest h short = go_on_is last left rest ∙ too_few last left (name_parts rest) (omega arith)
 
--- behind the last name stand NULs alone
+-- after the last name there are only NULs
 pub nuls_behind : (last rest : List ℕ) → go_on last 0 rest ≡ list_all (λ b. b == 0) rest
 nuls_behind last rest = go_on_is last 0 rest ∙ empty_parts last rest
 
--- the names so far, and those behind them
+-- the names so far, and those after them
 names_more : (names : List (List ℕ)) (name : List ℕ) (left : ℕ) (parts : List (List ℕ)) → 0 < left → names ++ take left (name ∷ parts) ≡ (names ++ name ∷ []) ++ take (left - 1) parts
 names_more names name zero parts h = absurd (omega arith)
 names_more names name (suc left) parts h =
@@ -207,7 +207,7 @@ first_taken bytes name behind end is name_is behind_is =
     (at_nul bytes end is).0 ∙ ap (λ (own : List ℕ). own ∷ name_parts (drop (end + 1) bytes)) (sym name_is)
     ∙ ap (λ (rest : List ℕ). name ∷ name_parts rest) (sym (behind_is ∙ drop-drop 1 end bytes))
 
--- bytes that end as the first name does, and are none
+-- bytes that end as the first name does, and are no name
 pub first_refused : (bytes name : List ℕ) (end : ℕ) → position (λ b. b == 0) bytes ≡ Some end → name ≡ take end bytes → is_index_name name ≡ false → (last : List ℕ) (left : ℕ)
     → 0 < left → go_on last left bytes ≡ false
 first_refused bytes name end is name_is other last left some =

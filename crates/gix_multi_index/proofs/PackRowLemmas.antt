@@ -1,4 +1,4 @@
--- The rows of a multi-pack index, where they stand.
+-- The rows of a multi-pack index, at their places.
 use Rattle.std.proofs.Common.{◌≡◌, ℕ, ◌+◌, ◌-◌, ◌*◌, ◌/◌, ◌^◌, ◌<◌, ◌≤◌, true, List, [], ◌∷◌, length, drop, map, slice_get}
 use Rattle.std.proofs.Common.{slice_index, Some, option_map, refl, sym, ap, ◌∙◌, arith, length-take, length-drop}
 use Rattle.std.specs.List.{zip}
@@ -38,7 +38,7 @@ length-zip [] ys same = refl
 length-zip (a ∷ xs) [] same = absurd (omega arith)
 length-zip (a ∷ xs) (b ∷ ys) same = let less = length-zip xs ys (omega arith) in omega arith
 
--- what is told of the first of each pair
+-- a function of the first of each pair
 firsts : {X Y Z : Type 0} (f : X × Y → Z) (g : Z → X) → ((pair : X × Y) → g (f pair) ≡ pair.0) → (xs : List X) (ys : List Y) → length xs ≡ length ys → map g (map f (zip xs ys)) ≡ xs
 firsts f g own [] ys same = refl
 firsts f g own (x ∷ xs) [] same = absurd (omega arith)
@@ -89,7 +89,7 @@ module _ (kind : Kind) (places : Layout) (bytes : List ℕ) where
       → option_map (λ (row : PackRow). row.offset) (slice_get (rows_at kind places bytes) n) ≡ Some (offset_of_bytes (wides_at places bytes) (number_at 4 (row_bytes n)))
   offset_in_row n below = ap (option_map (λ (row : PackRow). row.offset)) (row_is n _ below (some_id n below))
 
--- ---- where the tables lie
+-- ---- where the tables are
 
 pub length_span : (bytes : List ℕ) (place : Span) → IsIn bytes place → length (span_of bytes place) ≡ place.len
 length_span bytes place within = omega (arith, length-take place.len (drop place.start bytes), length-drop place.start bytes)

@@ -1,4 +1,4 @@
--- The parts of a multi-pack index, as they are tested one behind another.
+-- The parts of a multi-pack index, tested one after another.
 pub mod Rows
 use Rattle.std.proofs.Common.{◌≡◌, ℕ, zero, suc, ◌-◌, ◌*◌, ◌/◌, ◌%◌, ◌^◌, ◌<◌, ◌≤◌, ◌==◌, ◌&&◌, nat_lt, Bool, true, false, List, [], ◌∷◌, length}
 use Rattle.std.proofs.Common.{take, drop, Option, Some, None, option_map, option_and_then, unwrap_or, cond, refl, sym, ap, subst, ◌∙◌, arith}
@@ -77,7 +77,7 @@ module _ (kind : Kind) (parts : Parts) (fits : have_lengths kind parts ≡ true)
       is_same (length parts.offsets) (objects_in parts * 8)
       (and_parts (length parts.counts == 1024 && length parts.ids == objects_in parts * len_in_bytes_of kind) (length parts.offsets == objects_in parts * 8) three).1
 
--- and so have the places where they stand
+-- and so have the places where they are
 pub counts_span : (kind : Kind) (bytes : List ℕ) (spans : Spans) → AreIn bytes spans → have_lengths kind (parts_at bytes spans) ≡ true → spans.counts.len ≡ 1024
 counts_span kind bytes spans within lengths = sym (length_span bytes spans.counts within.counts) ∙ counts_len kind (parts_at bytes spans) lengths
 
@@ -163,7 +163,7 @@ name_offsets (Some chunk) packs (row ∷ rows) all =
     let own : has_offset (Some chunk) (number_at 4 row) ≡ true = (and_parts (nat_lt (number_at 0 row) packs) (is_offset (wides_in (Some chunk)) (number_at 4 row)) apart.0).1 in
     ap (λ (b : Bool). b && list_all (λ row. has_offset (Some chunk) (number_at 4 row)) rows) own ∙ name_offsets (Some chunk) packs rows apart.1
 
--- what holds where all is sound but maybe the names
+-- if all is sound except perhaps the names
 module _ (spans : Spans) (rows : Layout) (bytes : List ℕ) (tables : AreTables spans rows bytes) where
   pub tables_front : header_len ≤ length bytes
   tables_front = front_room bytes (and_parts (has_header bytes) (has_room bytes) (and_parts (has_header bytes && has_room bytes) (ends_at (trailer_place bytes) (chunk_rows bytes)) tables.front).0).1
@@ -216,7 +216,7 @@ module _ (spans : Spans) (rows : Layout) (bytes : List ℕ) (tables : AreTables 
     laid_out = laid_out;
   }
 
-  -- names that are read make the multi-index whole
+  -- names that are read complete the multi-index
   pub is_read : (kind : Kind) (packs : ℕ) (chunk : List ℕ) (names : List (List ℕ)) → kind ≡ kind_in bytes → packs ≡ packs_in bytes → packs < 2 ^ 32 → chunk ≡ span_of bytes spans.names
       → names ≡ take packs (name_parts chunk) → length names ≤ packs → holds_names packs chunk ≡ true → IsRead kind names rows bytes
   is_read kind packs chunk names kind_is packs_are few chunk_is names_are long named =

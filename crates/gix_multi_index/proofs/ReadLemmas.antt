@@ -1,4 +1,4 @@
--- What a multi-pack index that was read tells.
+-- The contents of a multi-pack index that was read.
 use Rattle.std.proofs.Common.{◌≡◌, ℕ, ◌+◌, ◌≤◌, Bool, true, false, List, [], ◌∷◌, length, drop, slice_get, Option, Some, None, Ok, Err, option_map, ok_or, unwrap_or, cond, sym, ap, ◌∙◌}
 use Rattle.std.proofs.lemmas.List.{drop_all}
 use Rattle.std.proofs.lemmas.Option.{same_Some}
@@ -14,7 +14,7 @@ use Rattle.gix_multi_index.specs.declared.file.Error.TheVariants.{AboveLimit, Ba
 use Rattle.gix_multi_index.specs.declared.layout.Layout.{Layout}
 use Rattle.gix_multi_index.proofs.PackRowLemmas.{length-rows}
 
--- ---- what is told
+-- ---- the contents
 
 told_is : (bytes : List ℕ) (index : MultiIndex) → multi_index_of bytes ≡ Some index → told bytes ≡ index
 unfolding told
@@ -39,7 +39,7 @@ module _ (kind : Kind) (names : List (List ℕ)) (places : Layout) (bytes : List
   pub told_count : length (told bytes).rows ≡ places.count
   told_count = ap (λ (rows : List PackRow). length rows) told_rows ∙ length-rows kind places bytes
 
--- ---- what reading answers
+-- ---- the result of reading
 
 pub above : (limit : Option ℕ) (bytes : List ℕ) → is_within limit (length bytes) ≡ false → read_of limit bytes ≡ Err AboveLimit
 above limit bytes long = ap (λ (within : Bool). cond within (ok_or (multi_index_of bytes) BadMultiIndex) (Err AboveLimit)) long
@@ -58,11 +58,11 @@ inside kind names places limit bytes short read =
 
 -- ---- row by row
 
--- a row, and those behind it
+-- a row, and those after it
 pub rows_more : (rows : List PackRow) (n : ℕ) (row : PackRow) → slice_get rows n ≡ Some row → drop n rows ≡ row ∷ drop (n + 1) rows
 rows_more rows n row own = drop_at rows n row own
 
--- behind the last row there is none
+-- after the last row there is none
 pub rows_end : (rows : List PackRow) (n : ℕ) → length rows ≤ n → drop n rows ≡ []
 rows_end rows n past = drop_all n rows past
 

@@ -4,11 +4,11 @@ use Rattle.std.specs.List.{filter, zip}
 use Rattle.gix_pack_tables.specs.Bytes.{long_number_at, same, table}
 use Rattle.gix_multi_index.specs.MultiIndex.Chunks.{Chunk, ChunkRow, chunk_at, chunk_row, name_len, row_len}
 
--- the rows that are left: those of so many chunks, and one more
+-- the rows that are left: those of n chunks, and one more
 unfoldable pub rows_left : ℕ → List ℕ → List ChunkRow
 rows_left left rest = map chunk_row (table row_len (suc left) rest)
 
--- the place that the first of some rows names, and that of the next one, where the chunk of the first ends
+-- the place in the first of some rows, and below that in the next one, where the chunk of the first ends
 abbrev pub first_place : List ℕ → ℕ
 first_place rest = long_number_at name_len rest
 

@@ -1,4 +1,4 @@
--- Where the parts of a multi-pack index stand in its bytes, as a parsed one keeps that. No public clause cites this module.
+-- The places of the parts of a multi-pack index in its bytes, as a parsed one keeps them. No public clause cites this module.
 use Rattle.std.specs.Prelude.{◌≡◌, ℕ, ◌*◌, ◌/◌, ◌%◌, ◌==◌, ◌+◌, ◌^◌, ◌<◌, ◌≤◌, ◌&&◌, Bool, true, nat_lt, List, [], ◌∷◌, length, map, slice_get, Option, Some, None, option_map}
 use Rattle.std.specs.List.{list_all, zip}
 use Rattle.gix_hash.specs.Kind.{len_in_bytes_of}
@@ -21,18 +21,18 @@ span_of bytes place = part place.start place.len bytes
 abbrev pub IsIn : List ℕ → span.Span → Type 0
 IsIn bytes place = place.start + place.len ≤ length bytes
 
--- the chunk of wide offsets lies in the bytes, if there is one
+-- the chunk of wide offsets is in the bytes, if there is one
 abbrev pub IsInIfThere : List ℕ → Option span.Span → Type 0
 IsInIfThere bytes None = Unit {0}
 IsInIfThere bytes (Some place) = IsIn bytes place
 
--- what is told of a chunk that may be missing, with one that was found and those behind it
+-- the contents of a chunk that may be missing, with one that was found and those after it
 abbrev pub with_found : List ℕ → Option span.Span → List Chunk → Option (Option (List ℕ))
 with_found bytes None chunks = at_most_one chunks
 with_found bytes (Some place) [] = Some (Some (span_of bytes place))
 with_found bytes (Some place) (chunk ∷ chunks) = None
 
--- the chunks that stand there
+-- the chunks at these places
 abbrev pub parts_at : List ℕ → spans.Spans → Parts
 parts_at bytes places =
     record {
@@ -43,7 +43,7 @@ parts_at bytes places =
       wides = option_map (span_of bytes) places.wides;
     }
 
--- the chunks lie in the bytes
+-- the chunks are in the bytes
 pub record AreIn (bytes : List ℕ) (places : spans.Spans) : Type 0 where
   pub names : IsIn bytes places.names
   pub counts : IsIn bytes places.counts
@@ -61,7 +61,7 @@ abbrev pub is_offset : Option ℕ → ℕ → Bool
 is_offset None narrow = true
 is_offset (Some wides) narrow = is_named_below wides narrow
 
--- whether a row names one of so many packs, and an offset
+-- whether a row has one of `packs` packs, and an offset
 abbrev pub is_row : ℕ → Option ℕ → List ℕ → Bool
 is_row packs wides row = nat_lt (pack_in row) packs && is_offset wides (narrow_in row)
 
@@ -73,11 +73,11 @@ wides_in wides = option_map (λ (chunk : List ℕ). length chunk / wide_len) wid
 abbrev pub ids_agree : Kind → Parts → Bool
 ids_agree kind parts = is_rising (part_ids kind parts) && same (numbers 256 parts.counts) (counts_of (part_ids kind parts))
 
--- whether each row names one of so many packs, and an offset
+-- whether each row has one of `packs` packs, and an offset
 abbrev pub rows_name : ℕ → Parts → Bool
 rows_name packs parts = list_all (is_row packs (wides_in parts.wides)) (offset_rows parts)
 
--- whether both is so
+-- whether both agree
 unfoldable pub rows_agree : Kind → ℕ → Parts → Bool
 rows_agree kind packs parts = ids_agree kind parts && rows_name packs parts
 
@@ -91,7 +91,7 @@ tables_agree kind packs parts = have_lengths kind parts && rows_agree kind packs
 abbrev pub layout_in : List ℕ → spans.Spans → layout.Layout
 layout_in bytes places = record { count = objects_in (parts_at bytes places); ids = places.ids; offsets = places.offsets; wides = places.wides }
 
--- whether ids, offsets and wide offsets have the lengths of tables of so many rows
+-- whether ids, offsets and wide offsets have the lengths of tables of `count` rows
 abbrev pub spans_have_lengths : Kind → layout.Layout → Bool
 spans_have_lengths kind places =
     places.ids.len == places.count * len_in_bytes_of kind && places.offsets.len == places.count * offset_row_len
@@ -107,7 +107,7 @@ ids_at kind places bytes = ids_of kind places.count (span_of bytes places.ids)
 abbrev pub offset_rows_at : layout.Layout → List ℕ → List (List ℕ)
 offset_rows_at places bytes = table offset_row_len places.count (span_of bytes places.offsets)
 
--- the rows that stand at these places
+-- the rows at these places
 unfoldable pub rows_at : Kind → layout.Layout → List ℕ → List PackRow
 rows_at kind places bytes = map (pack_row (wides_at places bytes)) (zip (ids_at kind places bytes) (offset_rows_at places bytes))
 
@@ -115,11 +115,11 @@ rows_at kind places bytes = map (pack_row (wides_at places bytes)) (zip (ids_at 
 abbrev pub row_ids : Kind → layout.Layout → List ℕ → List ObjectId
 row_ids kind places bytes = map (λ (row : PackRow). row.id) (rows_at kind places bytes)
 
--- what a row with this number tells by one of its parts
+-- the value of a part in the row with this number
 abbrev pub told_by : {X : Type 0} → (PackRow → X) → Kind → layout.Layout → List ℕ → ℕ → Option X
 told_by part_of kind places bytes n = option_map part_of (slice_get (rows_at kind places bytes) n)
 
--- the tables lie in the bytes, the ids rise strictly, and each offset that names a wide one names one of them
+-- the tables are in the bytes, the ids rise strictly, and each offset that refers to a wide one refers to an existing one
 pub record IsLaidOut (kind : Kind) (places : layout.Layout) (bytes : List ℕ) : Type 0 where
   pub ids_in : IsIn bytes places.ids
   pub offsets_in : IsIn bytes places.offsets
@@ -129,13 +129,13 @@ pub record IsLaidOut (kind : Kind) (places : layout.Layout) (bytes : List ℕ) :
   pub rising : is_rising (ids_at kind places bytes) ≡ true
   pub named : list_all (λ row. has_offset (wides_at places bytes) (narrow_in row)) (offset_rows_at places bytes) ≡ true
 
--- bytes tell a multi-index of this kind, with these names, and with the rows at these places
+-- bytes hold a multi-index of this kind, with these names, and with the rows at these places
 pub record IsRead (kind : Kind) (names : List (List ℕ)) (places : layout.Layout) (bytes : List ℕ) : Type 0 where
   pub told : multi_index_of bytes ≡ Some (record { kind = kind; names = names; rows = rows_at kind places bytes })
   pub few : length names < 2 ^ 32
   pub laid_out : IsLaidOut kind places bytes
 
--- the header and the chunk table are sound, the chunks stand at these places, and but for the names they agree
+-- the header and the chunk table are sound, the chunks are at these places, and agree except perhaps for the names
 pub record AreTables (places : spans.Spans) (rows : layout.Layout) (bytes : List ℕ) : Type 0 where
   pub front : (has_header bytes && has_room bytes && ends_at (trailer_place bytes) (chunk_rows bytes)) ≡ true
   pub within : AreIn bytes places

@@ -1,11 +1,11 @@
--- The rows that are left of a walk through a multi-pack index.
+-- The rows that are left in an iteration over a multi-pack index.
 use Rattle.std.specs.Prelude.{List, drop}
 use Rattle.gix_multi_index.specs.MultiIndex.{told}
 use Rattle.gix_pack_tables.specs.Rows.{PackRow}
 use Rattle.gix_multi_index.specs.declared.file.Entry as seen
 use Rattle.gix_multi_index.specs.declared.walk.Iter as walk
 
--- a row that was handed out
+-- a row that was returned
 abbrev pub row_seen : seen.Entry → PackRow
 row_seen entry = record { id = entry.oid; pack = entry.pack_index; offset = entry.pack_offset }
 

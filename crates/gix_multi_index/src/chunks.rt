@@ -1,4 +1,4 @@
-//! The chunk table of a multi-pack index: whether it is sound, and where a chunk stands.
+//! The chunk table of a multi-pack index: whether it is sound, and the place of a chunk.
 ghost use Rattle.std.specs.Prelude.{◌≡◌, ◌-◌, ◌+◌, ◌*◌, ◌≤◌, ◌&&◌, true, length, take, option_map, IfSome};
 ghost use Rattle.gix_pack_tables.specs.Bytes.{same};
 ghost use Rattle.gix_multi_index.specs.MultiIndex.{at_most_one as at_most_one_of, parts_of};
@@ -11,28 +11,28 @@ use crate::layout::{Span, Spans};
 use gix_hash::Kind;
 use gix_pack_tables::bytes::{behind_first, long_at, part_of, trailer_place};
 
-/// How long the header is: `MIDX`, the version, the hash's number, the numbers of chunks and of base files, and the number of packs.
+/// The length of the header: `MIDX`, version, hash number, number of chunks, number of base files, number of packs.
 pub const HEADER_LEN: usize = 12;
 
-/// How long a row of the chunk table is: a name of four bytes, and a place of eight.
+/// The length of a row of the chunk table: a name of four bytes, and a place of eight.
 pub const ROW_LEN: usize = 12;
 
-/// Where the header tells the number of packs.
+/// Where the header has the number of packs.
 pub(crate) const PACK_COUNT_PLACE: usize = 8;
 
-/// How long the name of a chunk is, which stands in front of the place in a row.
+/// The length of the name of a chunk, which is before the place in a row.
 pub const NAME_LEN: usize = 4;
 
-// Where the place of the next row stands.
+// Where the place of the next row is.
 const NEXT_PLACE: usize = ROW_LEN + NAME_LEN;
 
-// Where the header names the hash.
+// Where the header has the hash.
 const HASH_PLACE: usize = 5;
 
-// Where it tells the number of chunks.
+// Where it has the number of chunks.
 const CHUNK_COUNT_PLACE: usize = 6;
 
-// Where it tells the number of base files.
+// Where it has the number of base files.
 const BASE_COUNT_PLACE: usize = 7;
 
 // Whether bytes begin with a header (the magic, version 1, a hash, and no base file), and have room for the chunk table
@@ -101,7 +101,7 @@ fn is_end(rest: &[u8], end: usize) -> bool
     part_of(rest, 0, NAME_LEN) == b"\0\0\0\0".as_slice() && long_at(rest, NAME_LEN) == end as u64
 }
 
-// Where the chunk of a name stands, if there is one; nothing where there are more.
+// The place of the chunk of a name, if there is one; None if there are more.
 #[tactic(auto, using(crate::proofs::ChunkLemmas::named_rows))]
 pub(crate) fn at_most_one(bytes: &[u8], name: &[u8; 4]) -> Option<Option<Span>>
     requires room { room_fits bytes.now ≡ true }
@@ -132,7 +132,7 @@ fn has_name(row: &[u8], name: &[u8; 4]) -> bool
     part_of(row, 0, NAME_LEN) == name.as_slice()
 }
 
-// Where the chunk of the first row stands, which ends where that of the next row begins.
+// The place of the chunk of the first row, which ends where that of the next row begins.
 fn span_at(rows: &[u8]) -> Span
     requires room { 2 * row_len ≤ length rows.now }
     requires order { first_place rows.now ≤ next_place rows.now }
@@ -146,7 +146,7 @@ fn span_at(rows: &[u8]) -> Span
     }
 }
 
-// Where the one chunk of a name stands; nothing where there is none, or more.
+// The place of the only chunk of a name; None if there is none, or more.
 #[tactic(auto, using(crate::proofs::ChunkLemmas::one_of))]
 fn the_one(bytes: &[u8], name: &[u8; 4]) -> Option<Span>
     requires room { room_fits bytes.now ≡ true }
@@ -157,7 +157,7 @@ fn the_one(bytes: &[u8], name: &[u8; 4]) -> Option<Span>
     at_most_one(bytes, name)?
 }
 
-// Where the chunks stand that tell names and rows, if each that is required is there once.
+// The places of the chunks with names and rows, if each that is required is there exactly once.
 #[tactic(auto, unfolding(crate::specs::MultiIndex::parts_of))]
 pub(crate) fn spans_of(bytes: &[u8]) -> Option<Spans>
     requires room { room_fits bytes.now ≡ true }

@@ -1,4 +1,4 @@
-//! Multi-pack indices, read from their bytes and asked.
+//! Multi-pack indices: reading them from bytes, and look-ups.
 ghost use Rattle.std.specs.Prelude.{◌≡◌, ◌<◌, length, map, option_map, slice_get, Some, Ok, IfOk, IfErr};
 ghost use Rattle.gix_multi_index.specs.MultiIndex.{multi_index_of, read_of, told, IsRefusal};
 ghost use Rattle.gix_multi_index.specs.MultiIndexLayout.{rows_at, IsLaidOut};
@@ -43,7 +43,7 @@ impl From<NoMemory> for Error {
 
 /// A multi-pack index.
 ///
-/// It is seen as its bytes, which tell the hash of its ids, the names of its packs, and its rows.
+/// Contracts see it as its bytes, which hold the hash of its ids, the names of its packs, and its rows.
 #[derive(Drop)]
 pub struct File {
     kind: Kind,
@@ -72,8 +72,8 @@ pub struct Entry {
 }
 
 impl File {
-    /// Reads a multi-pack index from its bytes, which it keeps. The limit, if there is one, is tested first: bytes that are
-    /// longer are `AboveLimit`, and others that are no multi-pack index `BadMultiIndex`.
+    /// Reads a multi-pack index from its bytes, which it keeps. The limit in bytes, if there is one, is tested first:
+    /// longer input is `AboveLimit`, and other bytes that are no multi-pack index `BadMultiIndex`.
     #[tactic(auto, using(crate::proofs::ReadLemmas::above, crate::proofs::ReadLemmas::outside, crate::proofs::ReadLemmas::inside))]
     pub fn parse(alloc: Global, bytes: ByteList, limit: Option<u64>) -> Result<File, Error>
         ensures kept { IfOk result (λ file. file ≡ bytes) }
@@ -116,7 +116,7 @@ impl File {
         self.kind
     }
 
-    /// How many packs there are.
+    /// The number of packs.
     #[tactic(auto, using(crate::proofs::ReadLemmas::told_names))]
     pub fn num_indices(&self) -> u32
         ensures count { result ≡ length (told self.now).names }
@@ -124,7 +124,7 @@ impl File {
         self.names.len() as u32
     }
 
-    /// How many objects there are.
+    /// The number of objects.
     #[tactic(auto, using(crate::proofs::ReadLemmas::told_count, crate::proofs::ReadLemmas::is_told))]
     pub fn num_objects(&self) -> u32
         ensures count { result ≡ length (told self.now).rows }
@@ -149,7 +149,7 @@ impl File {
         self.rows().id_at(n)
     }
 
-    /// The number of a row's pack among the names, and the place of the row's object in that pack.
+    /// The number of a row's pack among the names, and the offset of the row's object in that pack.
     pub fn pack_id_and_pack_offset_at_index(&self, n: u32) -> (u32, u64)
         requires row { n < length (told self.now).rows }
         ensures pack { option_map (λ (row : PackRow). row.pack) (slice_get (told self.now).rows n) ≡ Some result.0 }
@@ -165,7 +165,7 @@ impl File {
         self.rows().row_of(id)
     }
 
-    /// The rows whose ids begin with a prefix.
+    /// The range of rows whose ids begin with a prefix.
     pub fn lookup_prefix(&self, prefix: &Prefix) -> Range<u32>
         ensures run { IsPrefixRun (map (λ (row : PackRow). row.id) (told self.now).rows) prefix.now result.start result.end }
     {

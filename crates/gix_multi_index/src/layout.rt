@@ -1,13 +1,13 @@
-//! Where the parts of a multi-pack index stand in its bytes.
+//! The places of the parts of a multi-pack index in its bytes.
 
-// Where a chunk stands, and how long it is.
+// The place and the length of a chunk.
 #[derive(Clone, Copy)]
 pub(crate) struct Span {
     pub(crate) start: usize,
     pub(crate) len: usize,
 }
 
-// Where the chunks stand that tell names and rows.
+// The places of the chunks with names and rows.
 #[derive(Clone, Copy)]
 pub(crate) struct Spans {
     pub(crate) names: Span,
@@ -17,7 +17,7 @@ pub(crate) struct Spans {
     pub(crate) wides: Option<Span>,
 }
 
-// The number of rows, and where ids, offsets and wide offsets stand.
+// The number of rows, and the places of ids, offsets and wide offsets.
 #[derive(Clone, Copy)]
 pub(crate) struct Layout {
     pub(crate) count: u32,

@@ -1,8 +1,8 @@
-//! Multi-pack indices, version 1: where the objects of several packs stand; read from bytes. They are written in
-//! `gix_multi_index_written`.
+//! Multi-pack indices, version 1: the offsets of the objects of several packs; read from bytes.
+//! `gix_multi_index_written` writes them.
 //!
-//! Reading takes exactly what the grammar of `specs/` allows, within a limit, and keeps the bytes. What is
-//! asked is answered from the rows, whatever way they are searched.
+//! `parse` accepts exactly what the grammar of `specs/` allows, within a limit, and keeps the bytes. Look-ups are
+//! defined by the rows, whatever the search.
 //! ```rust
 //! let index = File::parse(alloc, bytes, None)?;
 //! ```

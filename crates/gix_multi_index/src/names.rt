@@ -11,10 +11,10 @@ use gix_pack_tables::bytes::behind_first;
 use odb_base::{NoMemory, PathName, Sequence};
 use std::alloc::Global;
 
-// How long `.idx` is.
+// The length of `.idx`.
 const ENDING_LEN: usize = 4;
 
-// So many names, each ended by NUL, with NULs alone behind them; none where the chunk holds something else.
+// The names, `packs` of them, each ended by NUL and then only NULs; None if the chunk holds something else.
 #[tactic(auto, using(crate::proofs::NameLemmas::all_names, crate::proofs::NameLemmas::nuls_behind))]
 pub(crate) fn names_in(
     alloc: Global,
@@ -48,7 +48,7 @@ pub(crate) fn names_in(
     Ok(Some(Sequence::from_vec(names)))
 }
 
-// The first name, and what stands behind its NUL.
+// The first name, and the bytes after its NUL.
 #[tactic(auto, using(crate::proofs::NameLemmas::at_nul, crate::proofs::NameLemmas::without_nul, crate::proofs::NameLemmas::no_end))]
 fn first_name(bytes: &[u8]) -> Option<(&str, &[u8])>
     ensures parts { IfSome result (λ found. name_parts bytes.now ≡ found.0.now ∷ name_parts found.1.now) }
@@ -61,14 +61,14 @@ fn first_name(bytes: &[u8]) -> Option<(&str, &[u8])>
     Some((text, behind_first(rest, 1)))
 }
 
-// Where the first NUL stands.
+// The place of the first NUL.
 fn place_of_nul(bytes: &[u8]) -> Option<usize>
     ensures place { result ≡ position (λ b. b == 0) bytes.now }
 {
     bytes.iter().position(|byte| *byte == 0)
 }
 
-// Whether a name comes behind another, by their bytes.
+// Whether a name is above another, by their bytes.
 fn is_above(name: &str, last: &[u8]) -> bool
     ensures above { result ≡ is_lt (name_cmp last.now name.now) }
 {
@@ -105,7 +105,7 @@ fn text_of(bytes: &[u8]) -> Option<&str>
     }
 }
 
-// Whether a name holds no NUL and no slash, and ends in `.idx` with more before that.
+// Whether a name has no NUL and no slash, and ends in `.idx` with more before that.
 fn has_form(name: &[u8]) -> bool
     ensures form { result ≡ form_fits name.now }
 {

@@ -1,4 +1,4 @@
-//! The parts of a multi-pack index: whether they agree, and where they stand.
+//! The parts of a multi-pack index: whether they agree, and their places.
 ghost use Rattle.std.specs.Prelude.{◌≡◌, ◌*◌, ◌/◌, ◌%◌, ◌==◌, ◌≤◌, ◌&&◌, true, length, take, option_map, None, IfOk, IfSome, IfNone};
 ghost use Rattle.std.specs.List.{list_all};
 ghost use Rattle.gix_hash.specs.Kind.{len_in_bytes_of};
@@ -18,13 +18,13 @@ use gix_pack_tables::tables::{COUNTS_LEN, WIDE_LEN, counts_agree, is_named, is_r
 use odb_base::{NoMemory, PathName, Sequence};
 use std::alloc::Global;
 
-// Where the last of the counts stands among them, which is the number of rows.
+// The place of the last of the counts among them, which is the number of rows.
 const LAST_COUNT_PLACE: usize = 1020;
 
-/// How long a row of the offsets is: the number of a pack, and an offset, of four bytes each.
+/// The length of a row of the offsets: the number of a pack, and an offset, of four bytes each.
 pub(crate) const OFFSET_ROW_LEN: usize = 8;
 
-// What was read of a multi-index: the hash of its ids, the names of its packs, and where its rows stand.
+// What was read of a multi-index: the hash of its ids, the names of its packs, and the places of its rows.
 #[derive(Drop)]
 pub(crate) struct Found {
     pub(crate) kind: Kind,
@@ -32,7 +32,7 @@ pub(crate) struct Found {
     pub(crate) layout: Layout,
 }
 
-// Reads a multi-index; none where the bytes are no such thing.
+// Reads a multi-index; None if the bytes are none.
 #[tactic(auto, using(crate::proofs::PartLemmas::tables_front))]
 pub(crate) fn read(alloc: Global, bytes: &[u8]) -> Result<Option<Found>, NoMemory>
     ensures found { IfOk result (λ found. IfSome found (λ read. IsRead read.kind read.names read.layout bytes.now)) }
@@ -52,7 +52,7 @@ pub(crate) fn read(alloc: Global, bytes: &[u8]) -> Result<Option<Found>, NoMemor
     }
 }
 
-// Where the chunks stand, and the rows among them, if all is sound but maybe the names.
+// The places of the chunks, and of the rows in them, if all is sound except perhaps the names.
 #[tactic(auto, using(crate::proofs::PartLemmas::each_part, crate::proofs::ChunkLemmas::front_room))]
 fn tables_in(bytes: &[u8]) -> Option<(Spans, Layout)>
     ensures found { IfSome result (λ found. AreTables found.0 found.1 bytes.now) }
@@ -82,7 +82,7 @@ pub(crate) fn span_in(bytes: &[u8], span: Span) -> &[u8]
     part_of(bytes, span.start, span.len)
 }
 
-// Where the rows stand.
+// The places of the rows.
 fn layout_of(bytes: &[u8], spans: Spans) -> Layout
     requires within { IsIn bytes.now spans.counts }
     requires counts { spans.counts.len ≡ counts_len }
@@ -96,7 +96,7 @@ fn layout_of(bytes: &[u8], spans: Spans) -> Layout
     }
 }
 
-// Whether the parts have their lengths and agree, but for the names.
+// Whether the parts have their lengths and agree, except perhaps for the names.
 #[tactic(auto, using(crate::proofs::PartLemmas::lengths_found), unfolding(crate::specs::MultiIndexLayout::tables_agree))]
 fn are_tables(bytes: &[u8], kind: Kind, packs: u32, spans: Spans) -> bool
     requires within { AreIn bytes.now spans }
@@ -107,7 +107,7 @@ fn are_tables(bytes: &[u8], kind: Kind, packs: u32, spans: Spans) -> bool
         && are_rows(bytes, kind, packs, spans)
 }
 
-// Whether ids, offsets and wide offsets have the lengths of tables of so many rows.
+// Whether ids, offsets and wide offsets have the lengths of tables of `count` rows.
 fn has_lengths(kind: Kind, layout: Layout) -> bool
     ensures lengths { result ≡ spans_have_lengths kind layout }
 {
@@ -116,7 +116,7 @@ fn has_lengths(kind: Kind, layout: Layout) -> bool
         && wides_len(layout.wides) % WIDE_LEN == 0
 }
 
-// How many bytes so many ids have.
+// The length of `count` ids in bytes.
 fn ids_len(kind: Kind, count: u32) -> usize
     ensures len { result ≡ count * len_in_bytes_of kind }
 {
@@ -136,7 +136,7 @@ fn wides_len(wides: Option<Span>) -> usize
     }
 }
 
-// Whether the ids rise strictly, the counts are theirs, and each row names a pack and an offset.
+// Whether the ids rise strictly, the counts are theirs, and each row has a pack and an offset.
 #[tactic(auto, using(crate::proofs::PartLemmas::counts_span, crate::proofs::PartLemmas::offsets_span), unfolding(crate::specs::MultiIndexLayout::rows_agree))]
 fn are_rows(bytes: &[u8], kind: Kind, packs: u32, spans: Spans) -> bool
     requires within { AreIn bytes.now spans }
@@ -158,7 +158,7 @@ fn are_ids(bytes: &[u8], kind: Kind, spans: Spans) -> bool
     is_rising(kind, n, ids) && counts_agree(span_in(bytes, spans.counts), kind, n, ids)
 }
 
-// Whether each row names a pack and an offset.
+// Whether each row has a pack and an offset.
 #[tactic(auto, using(crate::proofs::PartLemmas::wides_found, crate::proofs::PackRowLemmas::length_span))]
 fn name_packs(bytes: &[u8], packs: u32, spans: Spans) -> bool
     requires within { AreIn bytes.now spans }
@@ -185,7 +185,7 @@ fn rows_of(wides: Option<Span>) -> Option<u64>
     }
 }
 
-// Whether each of n rows names one of so many packs, and an offset.
+// Whether each of n rows has one of `packs` packs, and an offset.
 #[tactic(auto, using(crate::proofs::PartLemmas::Rows::rows_step, crate::proofs::PartLemmas::Rows::rows_none))]
 fn are_named(rows: &[u8], n: usize, packs: u32, wides: Option<u64>) -> bool
     requires room { n * offset_row_len ≤ length rows.now }
@@ -203,7 +203,7 @@ fn are_named(rows: &[u8], n: usize, packs: u32, wides: Option<u64>) -> bool
     true
 }
 
-// Whether the first row names a pack, and an offset.
+// Whether the first row has a pack, and an offset.
 #[tactic(auto, using(crate::proofs::PartLemmas::Rows::first_of))]
 fn is_sound(rows: &[u8], packs: u32, wides: Option<u64>) -> bool
     requires room { offset_row_len ≤ length rows.now }
@@ -212,7 +212,7 @@ fn is_sound(rows: &[u8], packs: u32, wides: Option<u64>) -> bool
     number_at(rows, 0) < packs && has_offset(wides, number_at(rows, 4))
 }
 
-// Whether four bytes are an offset: where there are wide ones, those with the high bit name one of them.
+// Whether four bytes are an offset: if there are wide ones, those with the high bit refer to one of them.
 fn has_offset(wides: Option<u64>, narrow: u32) -> bool
     ensures named { result ≡ is_offset wides narrow }
 {

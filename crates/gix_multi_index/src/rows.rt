@@ -1,4 +1,4 @@
-//! The rows of a multi-pack index, where they stand.
+//! The rows of a multi-pack index, at their places.
 ghost use Rattle.std.specs.Prelude.{◌≡◌, ◌<◌, option_map, Some, true};
 ghost use Rattle.gix_multi_index.specs.MultiIndex.Held.{has_offset, offset_of_bytes};
 ghost use Rattle.gix_multi_index.specs.MultiIndexLayout.{row_ids, span_of, told_by, IsInIfThere, IsLaidOut};
@@ -12,7 +12,7 @@ use gix_pack_tables::search;
 use gix_pack_tables::tables::{HIGH_BIT, WIDE_LEN};
 use std::ops::Range;
 
-// The rows of a multi-index in its bytes: the hash of their ids, and where they stand.
+// The rows of a multi-index in its bytes: the hash of their ids, and their places.
 #[derive(Clone, Copy)]
 pub(crate) struct Rows<'a> {
     pub(crate) kind: Kind,
@@ -45,7 +45,7 @@ impl Rows<'_> {
         )
     }
 
-    // The rows of a prefix.
+    // The range of rows of a prefix.
     #[tactic(auto, using(crate::proofs::PackRowLemmas::ids_room, crate::proofs::PackRowLemmas::ids_in_rows))]
     pub(crate) fn rows_of_prefix(&self, prefix: &Prefix) -> Range<u32>
         requires laid_out { IsLaidOut self.now.kind self.now.layout self.now.bytes.now }
@@ -59,7 +59,7 @@ impl Rows<'_> {
         )
     }
 
-    // The number of a row's pack, and the place of its object there.
+    // The number of a row's pack, and the offset of its object there.
     #[tactic(auto, using(crate::proofs::PackRowLemmas::row_room, crate::proofs::PackRowLemmas::row_named, crate::proofs::PackRowLemmas::pack_in_row, crate::proofs::PackRowLemmas::offset_in_row))]
     pub(crate) fn place_at(&self, n: u32) -> (u32, u64)
         requires laid_out { IsLaidOut self.now.kind self.now.layout self.now.bytes.now }
@@ -79,7 +79,7 @@ impl Rows<'_> {
     }
 }
 
-// The offset that four bytes are.
+// The offset in four bytes.
 fn offset_in(bytes: &[u8], wides: Option<Span>, narrow: u32) -> u64
     requires within { IsInIfThere bytes.now wides }
     requires named { has_offset (option_map (span_of bytes.now) wides) narrow ≡ true }

@@ -1,4 +1,4 @@
-//! A walk through the rows of a multi-pack index.
+//! An iteration over the rows of a multi-pack index.
 ghost use Rattle.std.specs.Prelude.{◌≡◌, ◌<◌, length, slice_get, Some};
 ghost use Rattle.std.specs.Iterator.{YieldsFirstBy, item_count};
 ghost use Rattle.gix_multi_index.specs.MultiIndex.{told};

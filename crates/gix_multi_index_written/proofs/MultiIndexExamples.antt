@@ -73,7 +73,7 @@ chunks_for : List PackRow → List Chunk
 unfolding chunks_written narrow_from
 chunks_for rows = chunks_written two_names_of rows
 
--- what a file is read as; its line names what reading computes with
+-- the result of reading a file; its line has the names that reading computes with
 read : List ℕ → Option MultiIndex
 unfolding multi_index_of parts_of multi_index_from are_parts holds_names names_rise is_index_name is_utf8 chars encode ends_at table is_rising
 read bytes = multi_index_of bytes
@@ -81,12 +81,12 @@ read bytes = multi_index_of bytes
 abbrev Tells : List ℕ → List PackRow → Type 0
 Tells bytes rows = read bytes ≡ Some (record { kind = kind.Sha1; names = two_names_of; rows = rows })
 
--- the versions 2 and 1, each in a pack of its own
+-- the versions 2 and 1, each in its own pack
 both : Tells (file (chunks_for (row second 1 12 ∷ row first 0 12 ∷ []))) (row second 1 12 ∷ row first 0 12 ∷ [])
 unfolding read file chunks_for row first second
 both = refl
 
--- an offset of 2^32 brings the chunk of wide offsets
+-- an offset of 2^32 adds the chunk of wide offsets
 wide : Tells (file (chunks_for (row second 1 (2 ^ 32) ∷ row first 0 12 ∷ []))) (row second 1 (2 ^ 32) ∷ row first 0 12 ∷ [])
 unfolding read file chunks_for row first second
 wide = refl
@@ -124,7 +124,7 @@ header_alone : read (codes "MIDX") ≡ None
 unfolding read
 header_alone = refl
 
--- with the chunk of wide offsets the high bit names a row of it
+-- with the chunk of wide offsets the high bit refers to a row of it
 row_missing : read (file (chunks_for (row first 0 (2 ^ 31) ∷ []) ++ record { name = codes "LOFF"; bytes = [] } ∷ [])) ≡ None
 unfolding read file chunks_for row first second
 row_missing = refl
@@ -133,7 +133,7 @@ half_a_row : read (file (chunks_for (row first 0 12 ∷ []) ++ record { name = c
 unfolding read file chunks_for row first second
 half_a_row = refl
 
--- a row that nothing names is allowed
+-- a row that nothing refers to is allowed
 unused_row : Tells (file (chunks_for (row first 0 12 ∷ []) ++ record { name = codes "LOFF"; bytes = replicate 8 0 } ∷ [])) (row first 0 12 ∷ [])
 unfolding read file chunks_for row first second
 unused_row = refl

@@ -1,4 +1,4 @@
--- Multi-pack indices as they are written are read back as a whole.
+-- Multi-pack indices, as they are written, are read back as a whole.
 use Rattle.std.proofs.Common.{◌≡◌, ℕ, suc, ◌+◌, ◌-◌, ◌^◌, ◌<◌, ◌==◌, ◌&&◌, nat_eq, Bool, true, false, cond, List, [], ◌∷◌, ◌++◌, length, map, drop}
 use Rattle.std.proofs.Common.{slice_index, codes, Option, Some, None, unwrap_or, is_some, append_assoc, length-append, refl, sym, ap, subst, ◌∙◌, arith}
 use Rattle.std.proofs.lemmas.Bool.{le-leb}
@@ -170,7 +170,7 @@ three_nested h t w o = append_assoc (h ++ t) w o ∙ append_assoc h t (w ++ o)
 abbrev id_seen : PackRow → ObjectId
 id_seen row = row.id
 
--- the multi-index of packs is read back, where their objects' ids are ids, their places fit, and so do those of the chunks
+-- the multi-index of packs is read back if their objects' ids are ids, and their offsets and the places of the chunks fit
 pub multi_read_back : (hash : Kind) (packs : List Named) (rows : List Placed) (front : List ℕ) → rows ≡ multi_placed hash packs
     → front ≡ front_with hash (length packs) (five_of (names_of packs) rows) → IsId (hash_of hash front)
     → CanBeWritten packs → AllByRecursion (IsPlaced hash) (placed_in hash 0 packs)
@@ -205,7 +205,7 @@ multi_read_back hash packs rows front rows_are front_is own_id can placed small 
           ∙ ap (λ (seen : List PackRow). Some (record { kind = hash; names = names; rows = seen })) (ap (map pack_row_of) rows_are ∙ multi_table_seen hash packs);
     }
 
--- the same of the chunks as they are written
+-- the multi-index of the chunks as they are written is read back
 pub multi_encoded : (hash : Kind) (packs : List Named) (rows : List Placed) (chunks : List Chunk) (front : List ℕ) → rows ≡ multi_placed hash packs
     → chunks ≡ chunks_written (names_of packs) (map pack_row_of rows)
     → front ≡ front_with hash (length packs) chunks → IsId (hash_of hash front) → CanBeWritten packs → AllByRecursion (IsPlaced hash) (placed_in hash 0 packs)

@@ -102,7 +102,7 @@ chunk_back : (front rest bytes : List ℕ) (chunk : Chunk) (name : List ℕ) (pl
 chunk_back front rest bytes chunk name place is long =
     ap (λ (b : List ℕ). record chunk { bytes = b }) (part_back front chunk.bytes rest bytes place is long)
 
--- each chunk runs to the next one's place
+-- each chunk extends to the next one's place
 pub chunks_back : (front : List ℕ) (chunks : List Chunk) (rest bytes : List ℕ) (place : ℕ) → bytes ≡ front ++ (whole chunks ++ rest) → length front ≡ place
     → map (chunk_at bytes) (zip (rows_from place chunks) (drop 1 (rows_from place chunks))) ≡ chunks
 chunks_back front [] rest bytes place is long = refl
@@ -142,7 +142,7 @@ all_empty : (n : ℕ) → list_all (λ (rest : List ℕ). length rest == 0) (rep
 all_empty zero = refl
 all_empty (suc n) = all_empty n
 
--- the names are read back, with any number of NULs behind them
+-- the names are read back, with any number of NULs after them
 pub names_held : (names : List (List ℕ)) (n : ℕ) → are_names names ≡ true → holds_names (length names) (name_bytes names ++ replicate n 0) ≡ true
 unfolding holds_names
 names_held names n are =

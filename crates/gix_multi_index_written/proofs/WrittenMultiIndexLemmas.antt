@@ -52,7 +52,7 @@ chunks_seen names rows =
 pub multi_table_seen : (hash : Kind) (packs : List Named) → map pack_row_of (multi_placed hash packs) ≡ table_of id_seen (rows_in_packs hash packs)
 multi_table_seen hash packs = map-table_of pack_row_of id_of id_seen (λ (row : Placed). refl) (placed_in hash 0 packs) ∙ ap (table_of id_seen) (pack_rows_placed hash packs)
 
--- the header, the table and the chunks one behind another
+-- the header, the table and the chunks one after another
 pub front_steps : (hash : Kind) (packs : ℕ) (chunks : List kept.Chunk) (l0 l1 l2 l3 : List ℕ) → l0 ≡ []
     → l1 ≡ l0 ++ (codes "MIDX" ++ 1 ∷ hash_number hash ∷ length chunks ∷ 0 ∷ to_be_bytes w32 packs) → l2 ≡ l1 ++ chunk_table (chunks_place (length chunks)) (map chunk_seen chunks)
     → l3 ≡ l2 ++ flat_map (λ (c : Chunk). c.bytes) (map chunk_seen chunks) → l3 ≡ front_with hash packs (map chunk_seen chunks)
@@ -82,7 +82,7 @@ is_multi_index_of hash packs =
       bytes_are = refl;
     }
 
--- ---- what is known of the rows on the way
+-- ---- what is known of the rows in between
 
 pub multi_rows_are : (hash : Kind) (packs : List Named) (given table rows : List Placed) → given ≡ placed_in hash 0 packs → table ≡ table_of id_of given → rows ≡ table → rows ≡ multi_placed hash packs
 multi_rows_are hash packs given table rows given_is table_is rows_is = rows_is ∙ table_is ∙ ap (table_of id_of) given_is
@@ -110,7 +110,7 @@ objects_more packs i pack below is =
     ∙ sum_by-cons (λ (p : Named). length p.objects) (named_seen pack) (map named_seen (drop (i + 1) packs))
     ∙ ap (λ (n : ℕ). n + objects_over (map named_seen (drop (i + 1) packs))) (length-map pack.objects object_seen)
 
--- what is left of the limit, one pack on
+-- the rest of the limit, one pack on
 pub left_on : (packs : List given.NamedPack) (i left next : ℕ) (pack : given.NamedPack) → i < length packs → pack ≡ get_or packs i pack → length pack.objects ≤ left → next + length pack.objects ≡ left
     → objects_over (map named_seen packs) + left ≡ 2 ^ 31 - 1 + objects_over (map named_seen (drop i packs))
     → objects_over (map named_seen packs) + next ≡ 2 ^ 31 - 1 + objects_over (map named_seen (drop (i + 1) packs))
@@ -147,7 +147,7 @@ pub no_names : are_names [] ≡ true
 unfolding names_rise
 no_names = refl
 
--- ---- the chunks, one put behind another
+-- ---- the chunks, one put after another
 
 pub chunks_put : (names : List (List ℕ)) (rows : List Placed) (s0 s1 s2 s3 s4 : List Chunk) → s0 ≡ [] → s1 ≡ s0 ++ one_chunk (codes "PNAM") (padded (name_bytes names))
     → s2 ≡ s1 ++ one_chunk (codes "OIDF") (number_bytes (counts_of (map id_of rows))) → s3 ≡ s2 ++ one_chunk (codes "OIDL") (flat_map bytes_of (map id_of rows))

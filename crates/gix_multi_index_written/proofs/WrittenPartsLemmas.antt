@@ -1,4 +1,4 @@
--- The parts of a multi-pack index as they are written are read back.
+-- The parts of a multi-pack index, as they are written, are read back.
 pub mod Rows
 use Rattle.std.proofs.Common.{◌≡◌, ℕ, ◌-◌, ◌*◌, ◌/◌, ◌%◌, ◌^◌, ◌<◌, ◌==◌, ◌||◌, ◌&&◌, nat_lt, not, Bool, true, false, cond, List}
 use Rattle.std.proofs.Common.{[], ◌∷◌, length, map, take, Option, Some, None, unwrap_or, refl, sym, ap, ◌∙◌, arith, eq-eqb}

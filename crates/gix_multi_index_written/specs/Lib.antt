@@ -1,4 +1,4 @@
--- What is written for a multi-pack index; then how the encoder goes through it.
+-- The encoding of a multi-pack index; then how the encoder goes through it.
 pub mod WrittenMultiIndex
 pub mod MultiIndexChunks
 pub mod PlacedPackRow

@@ -16,11 +16,11 @@ use Rattle.gix_multi_index_written.specs.declared.writing.Chunk as kept
 abbrev pub chunk_seen : kept.Chunk → Chunk
 chunk_seen chunk = record { name = chunk.name; bytes = chunk.bytes }
 
--- how many chunks a multi-index has at most: names, counts, ids, offsets and wide offsets
+-- the most chunks of a multi-index: names, counts, ids, offsets and wide offsets
 abbrev pub most_chunks : ℕ
 most_chunks = 5
 
--- some chunks were put behind others
+-- some chunks were appended to others
 abbrev pub Gains : List kept.Chunk → List kept.Chunk → List Chunk → Type 0
 Gains before now more = map chunk_seen now ≡ map chunk_seen before ++ more
 
@@ -28,7 +28,7 @@ Gains before now more = map chunk_seen now ≡ map chunk_seen before ++ more
 abbrev pub one_chunk : List ℕ → List ℕ → List Chunk
 one_chunk name bytes = record { name = name; bytes = bytes } ∷ []
 
--- the chunk of packs and offsets, and that of wide offsets where one is needed
+-- the chunk of packs and offsets, and that of wide offsets if one is needed
 abbrev pub offset_chunks : List ℕ → List ℕ → List Chunk
 offset_chunks packs offsets =
     record { name = codes "OOFF"; bytes = flat_map pack_and_offset (zip packs (offsets_written offsets)) } ∷ wide_chunk offsets
@@ -37,28 +37,28 @@ offset_chunks packs offsets =
 abbrev pub place_bytes : List Placed → List ℕ → List ℕ
 place_bytes rows offsets = flat_map pack_and_offset (zip (map pack_of rows) offsets)
 
--- the names of packs that are handed in
+-- the names of packs that are given
 abbrev pub names_given : List given.NamedPack → List (List ℕ)
 names_given packs = names_of (map named_seen packs)
 
--- a multi-index of so many packs and some chunks, without its hash
+-- a multi-index of some packs and chunks, without its hash
 abbrev pub front_with : HashKind → ℕ → List Chunk → List ℕ
 front_with hash packs chunks =
     multi_index_start ++ 1 ∷ hash_number hash ∷ length chunks ∷ 0 ∷ to_be_bytes w32 packs ++ chunk_table (chunks_place (length chunks)) chunks
     ++ flat_map (λ (chunk : Chunk). chunk.bytes) chunks
 
--- the chunk of offsets where some are wide, and that of the wide ones
+-- the chunk of offsets if some are wide, and that of the wide ones
 abbrev pub narrow_chunk : List Placed → List Chunk
 narrow_chunk rows = one_chunk (codes "OOFF") (place_bytes rows (narrow_from 0 (map offset_of rows)))
 
 abbrev pub wide_rows_chunk : List Placed → List Chunk
 wide_rows_chunk rows = one_chunk (codes "LOFF") (long_number_bytes (filter is_wide (map offset_of rows)))
 
--- how many bytes chunks have over all
+-- how many bytes chunks have in all
 abbrev pub bytes_over : List Chunk → ℕ
 bytes_over chunks = length (flat_map (λ (chunk : Chunk). chunk.bytes) chunks)
 
--- how many objects packs have over all
+-- how many objects packs have in all
 abbrev pub objects_over : List Named → ℕ
 objects_over packs = sum_by (λ (pack : Named). length pack.objects) packs
 

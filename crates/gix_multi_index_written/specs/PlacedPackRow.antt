@@ -21,6 +21,6 @@ placed_in hash number (pack ∷ packs) = placed_from hash number entries_place p
 abbrev pub multi_placed : HashKind → List Named → List Placed
 multi_placed hash packs = table_of id_of (placed_in hash 0 packs)
 
--- the rows of a multi-index of packs that are handed in
+-- the rows of a multi-index of packs that are given
 abbrev pub rows_given : HashKind → List given.NamedPack → List PackRow
 rows_given hash packs = map pack_row_of (multi_placed hash (map named_seen packs))

@@ -1,4 +1,4 @@
--- What the encoder of multi-pack indices writes: the required chunks in their order, wide offsets where one is needed, and the hash.
+-- What the encoder of multi-pack indices writes: the required chunks in their order, wide offsets if one is needed, and the hash.
 use Rattle.std.specs.Prelude.{◌≡◌, ℕ, ◌+◌, ◌-◌, ◌*◌, ◌%◌, ◌^◌, ◌<◌, Bool, true, List, [], ◌∷◌, ◌++◌, length, map, sum_by, codes, not, nat_lt, replicate, Some, if◌then◌else◌}
 use Rattle.std.specs.List.{flat_map, filter, list_any, zip, enumerate_from}
 use Rattle.std.specs.Int.{w32, w64, to_be_bytes}
@@ -15,19 +15,19 @@ use Rattle.gix_pack_written.specs.WrittenPack.{object_seen, rows_in_order}
 use Rattle.gix_multi_index_written.specs.declared.named_pack.NamedPack as given
 use Rattle.gix_pack_written.specs.WrittenTables.{IsTableOf, table_of, is_wide, narrow_from, number_bytes, long_number_bytes}
 
--- a pack that is named: the name of its index, and its objects
+-- a pack with a name: the name of its index, and its objects
 pub record Named : Type 0 where
   pub name : List ℕ
   pub objects : List Object
 
--- a pack that is handed in
+-- a pack that is given
 abbrev pub named_seen : given.NamedPack → Named
 named_seen pack = record { name = pack.name; objects = map object_seen pack.objects }
 
 abbrev pub names_of : List Named → List (List ℕ)
 names_of packs = map (λ (pack : Named). pack.name) packs
 
--- what the encoders take: fewer than 2^31 packs, with names that rise strictly, and fewer than 2^31 objects over all of them
+-- the input of the encoder: fewer than 2^31 packs, with names that rise strictly, and fewer than 2^31 objects in all of them
 pub record CanBeWritten (packs : List Named) : Type 0 where
   pub few_packs : length packs < rows_limit
   pub few_objects : sum_by (λ (pack : Named). length pack.objects) packs < rows_limit
@@ -54,19 +54,19 @@ hash_number Sha256 = 2
 abbrev pub name_bytes : List (List ℕ) → List ℕ
 name_bytes names = flat_map (λ name. name ++ 0 ∷ []) names
 
--- the number that divides the length of the chunk of names, so that the next one is aligned
+-- the length of the chunk of names is a multiple of this, so that the next one is aligned
 abbrev pub alignment : ℕ
 alignment = 4
 
--- bytes, and as many NULs as that takes
+-- bytes, with NULs up to a multiple of it
 abbrev pub padded : List ℕ → List ℕ
 padded bytes = bytes ++ replicate ((alignment - length bytes % alignment) % alignment) 0
 
--- whether the chunk of wide offsets is needed: an offset does not fit four bytes
+-- whether the chunk of wide offsets is needed: some offset does not fit four bytes
 abbrev pub needs_wide : List ℕ → Bool
 needs_wide offsets = list_any (λ offset. not (nat_lt offset (2 ^ 32))) offsets
 
--- the offsets as four bytes tell them
+-- the offsets in four bytes
 abbrev pub offsets_written : List ℕ → List ℕ
 offsets_written offsets = if needs_wide offsets then narrow_from 0 offsets else offsets
 
@@ -87,14 +87,14 @@ chunks_written names rows =
     ∷ record { name = codes "OOFF"; bytes = flat_map pack_and_offset (zip (map (λ (row : PackRow). row.pack) rows) (offsets_written offsets)) }
     ∷ wide_chunk offsets
 
--- the chunk table: a name and a place for each chunk, the first of which stands at this place, and the place of their end
+-- the chunk table: a name and a place for each chunk, the first of which is at this place, and the place of their end
 unfoldable pub chunk_table : ℕ → List Chunk → List ℕ
 chunk_table place [] = replicate name_len 0 ++ to_be_bytes w64 place
 chunk_table place (chunk ∷ chunks) = chunk.name ++ to_be_bytes w64 place ++ chunk_table (place + length chunk.bytes) chunks
 
 -- ---- the whole
 
--- where the first of so many chunks stands: behind the header, and the chunk table with its last row
+-- the place of the first of n chunks: after the header, and the chunk table with its last row
 abbrev pub chunks_place : ℕ → ℕ
 chunks_place chunks = header_len + row_len * (chunks + 1)
 
@@ -113,13 +113,13 @@ multi_bytes hash names rows =
 unfoldable pub multi_index_of_packs : HashKind → List Named → List ℕ
 multi_index_of_packs hash packs = multi_bytes hash (names_of packs) (table_of (λ (row : PackRow). row.id) (rows_in_packs hash packs))
 
--- the bytes are the multi-index of these packs: its rows are the table of their objects' places
+-- the bytes are the multi-index of these packs: its rows are the table of their objects' offsets
 pub record IsMultiIndexOf (hash : HashKind) (packs : List Named) (bytes : List ℕ) : Type 0 where
   pub rows : List PackRow
   pub table : IsTableOf (λ row. row.id) (rows_in_packs hash packs) rows
   pub bytes_are : bytes ≡ multi_bytes hash (names_of packs) rows
 
--- the bytes are read as a multi-index of this hash with the names of these packs, whose rows are the table of their objects' places
+-- the bytes are read as a multi-index of this hash with the names of these packs, whose rows are the table of their objects' offsets
 pub record ReadsMultiIndex (hash : HashKind) (packs : List Named) (bytes : List ℕ) : Type 0 where
   pub rows : List PackRow
   pub table : IsTableOf (λ row. row.id) (rows_in_packs hash packs) rows

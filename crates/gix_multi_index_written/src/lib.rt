@@ -1,6 +1,6 @@
-//! Multi-pack indices, version 1, written: from packs with their objects to the bytes that `gix_multi_index` reads.
+//! Writing multi-pack indices, version 1: from packs with their objects to the bytes that `gix_multi_index` reads.
 //!
-//! What is written is what the definitions of `specs/` say, byte for byte, and is read back.
+//! The output is what the definitions of `specs/` say, byte for byte, and is read back.
 //! ```rust
 //! let bytes = encode(alloc, &packs, Kind::Sha1)?;
 //! let index = gix_multi_index::File::parse(alloc, bytes, None)?;

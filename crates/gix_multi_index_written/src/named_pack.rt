@@ -1,4 +1,4 @@
-//! A pack as the encoder of multi-pack indices is given it.
+//! A pack as input of the encoder of multi-pack indices.
 use gix_pack_written::Object;
 use odb_base::{PathName, Sequence};
 

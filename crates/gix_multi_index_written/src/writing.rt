@@ -1,4 +1,4 @@
-//! Multi-pack indices written: the header, the chunk table, the chunks one behind another, and the hash.
+//! Writing multi-pack indices: the header, the chunk table, the chunks one after another, and the hash.
 ghost use Rattle.std.specs.Prelude.{◌≡◌, ◌+◌, ◌*◌, ◌++◌, ◌∷◌, [], ◌^◌, ◌<◌, ◌≤◌, ◌↔◌, true, false, codes, length, map, IfOk, IsTrue, OnOk};
 ghost use Rattle.std.specs.Int.{w32, to_be_bytes};
 ghost use Rattle.std.specs.List.{flat_map, AllByRecursion};
@@ -22,10 +22,10 @@ use gix_pack_written::tables::{is_wide, narrow_of, put_counts, put_ids, put_wide
 use odb_base::{ByteList, NoMemory, PathName};
 use std::alloc::Global;
 
-// There are fewer packs than this, and fewer objects over all of them: a row of the offsets names a wide one by 31 bits.
+// There are fewer packs than this, and fewer objects in all: a row of the offsets refers to a wide one by 31 bits.
 const ROWS_LIMIT: usize = 1 << 31;
 
-// The number that divides the length of the chunk of names, so that the next one is aligned.
+// The length of the chunk of names is a multiple of this, so that the next one is aligned.
 const ALIGNMENT: usize = 4;
 
 // A chunk: its name, and its bytes.
@@ -35,15 +35,15 @@ struct Chunk {
     bytes: ByteList,
 }
 
-/// Whether a multi-pack index can be written of some packs: fewer than 2^31 with fewer than 2^31 objects over all of them,
-/// and names of indices, each of which is below the next by its bytes.
+/// Whether a multi-pack index can be written of some packs: fewer than 2^31 with fewer than 2^31 objects in all, and
+/// names of indices, each of which is below the next by its bytes.
 pub fn can_be_written(packs: &[NamedPack]) -> bool
     ensures exact { IsTrue result ↔ CanBeWritten (map named_seen packs.now) }
 {
     packs.len() < ROWS_LIMIT && have_few(packs) && have_names(packs)
 }
 
-// Whether the packs have fewer than 2^31 objects over all.
+// Whether the packs have fewer than 2^31 objects in all.
 #[tactic(auto, using(crate::proofs::WrittenMultiIndexLemmas::left_on, crate::proofs::WrittenMultiIndexLemmas::left_over, crate::proofs::WrittenMultiIndexLemmas::left_all))]
 fn have_few(packs: &[NamedPack]) -> bool
     ensures few { IsTrue result ↔ (objects_over (map named_seen packs.now) < rows_limit) }
@@ -85,9 +85,9 @@ fn is_below(name: &PathName, packs: &[NamedPack]) -> bool
     }
 }
 
-/// The multi-pack index (Git's, version 1) of some packs: of objects with one id it has the first one in the first pack that has it.
+/// The multi-pack index (Git's, version 1) of some packs: for an id, the first object in the first pack with it.
 ///
-/// Wide offsets are written where an offset doesn't fit four bytes. The only error is want of memory.
+/// Wide offsets are written if an offset doesn't fit four bytes. The only error is running out of memory.
 pub fn encode(alloc: Global, packs: &[NamedPack], kind: Kind) -> Result<ByteList, NoMemory>
     requires can { CanBeWritten (map named_seen packs.now) }
     ensures written { IfOk result (λ file. file ≡ multi_index_of_packs kind (map named_seen packs.now)) }
@@ -114,7 +114,7 @@ fn chunks_of_packs(alloc: Global, packs: &[NamedPack], kind: Kind) -> Result<Vec
     Ok(chunks)
 }
 
-// A multi-index of so many packs and some chunks, without its hash.
+// A multi-index of `packs` packs and some chunks, without its hash.
 #[tactic(auto, using(crate::proofs::WrittenMultiIndexLemmas::Loops::bytes_step, crate::proofs::WrittenMultiIndexLemmas::Loops::bytes_end))]
 fn put_file(file: &mut ByteList, packs: u32, chunks: &[Chunk], kind: Kind) -> Result<(), NoMemory>
     requires empty { file.old ≡ [] }
@@ -146,7 +146,7 @@ fn rows_of(alloc: Global, packs: &[NamedPack], kind: Kind) -> Result<Vec<Placed>
     Ok(rows)
 }
 
-// The header: so many packs, and so many chunks.
+// The header, with the numbers of packs and chunks.
 fn put_front(file: &mut ByteList, packs: u32, chunks: u8, kind: Kind) -> Result<(), NoMemory>
     ensures put { OnOk result (file.new ≡ file.old ++ (codes "MIDX" ++ 1 ∷ hash_number kind ∷ chunks ∷ 0 ∷ to_be_bytes w32 packs)) }
 {
@@ -156,7 +156,7 @@ fn put_front(file: &mut ByteList, packs: u32, chunks: u8, kind: Kind) -> Result<
     Ok(())
 }
 
-// The number that stands for a hash.
+// The number of a hash.
 fn number_of(kind: Kind) -> u8
     ensures number { result ≡ hash_number kind }
 {
@@ -166,7 +166,7 @@ fn number_of(kind: Kind) -> u8
     }
 }
 
-// The chunk table. Places of 2^64 and more want more memory than there is.
+// The chunk table. A place of 2^64 or more counts as running out of memory.
 fn put_table(file: &mut ByteList, chunks: &[Chunk]) -> Result<(), NoMemory>
     requires few { length chunks.now < 256 }
     ensures table { OnOk result (file.new ≡ file.old ++ chunk_table (chunks_place (length chunks.now)) (map chunk_seen chunks.now)) }
@@ -199,7 +199,7 @@ fn chunks_of(alloc: Global, packs: &[NamedPack], rows: &[Placed]) -> Result<Vec<
     Ok(chunks)
 }
 
-// A chunk behind others.
+// Appends a chunk to others.
 fn push_chunk(chunks: &mut Vec<Chunk>, name: [u8; 4], bytes: ByteList) -> Result<(), NoMemory>
     ensures chunk { OnOk result (Gains chunks.old.items chunks.new.items (one_chunk name bytes)) }
     ensures few { OnOk result (length chunks.new.items ≡ length chunks.old.items + 1) }
@@ -218,7 +218,7 @@ fn push_names(alloc: Global, chunks: &mut Vec<Chunk>, packs: &[NamedPack]) -> Re
     push_chunk(chunks, *b"PNAM", names)
 }
 
-// The names, and NULs behind them up to a length that is aligned.
+// The names, and NULs after them up to a length that is aligned.
 fn put_padded(names: &mut ByteList, packs: &[NamedPack]) -> Result<(), NoMemory>
     requires empty { names.old ≡ [] }
     ensures put { OnOk result (names.new ≡ padded (name_bytes (names_given packs.now))) }
@@ -264,7 +264,7 @@ fn put_names(list: &mut ByteList, packs: &[NamedPack]) -> Result<(), NoMemory>
     Ok(())
 }
 
-// The chunk of the packs and offsets, and that of the wide offsets where one is needed.
+// The chunk of the packs and offsets, and that of the wide offsets if one is needed.
 fn push_offsets(alloc: Global, chunks: &mut Vec<Chunk>, rows: &[Placed]) -> Result<(), NoMemory>
     requires few { length rows.now < rows_limit }
     ensures chunks { OnOk result (Gains chunks.old.items chunks.new.items (offset_chunks (map pack_of rows.now) (map offset_of rows.now))) }
@@ -278,7 +278,7 @@ fn push_offsets(alloc: Global, chunks: &mut Vec<Chunk>, rows: &[Placed]) -> Resu
     }
 }
 
-// The chunk of packs and offsets where there are wide ones.
+// The chunk of packs and offsets if there are wide ones.
 fn push_narrow(alloc: Global, chunks: &mut Vec<Chunk>, rows: &[Placed]) -> Result<(), NoMemory>
     requires few { length rows.now < rows_limit }
     ensures chunk { OnOk result (Gains chunks.old.items chunks.new.items (narrow_chunk rows.now)) }
@@ -299,7 +299,7 @@ fn push_wide(alloc: Global, chunks: &mut Vec<Chunk>, rows: &[Placed]) -> Result<
     push_chunk(chunks, *b"LOFF", wide)
 }
 
-// The chunk of packs and offsets where none is wide.
+// The chunk of packs and offsets if none is wide.
 fn push_whole(alloc: Global, chunks: &mut Vec<Chunk>, rows: &[Placed]) -> Result<(), NoMemory>
     requires low { need_wide (map offset_of rows.now) ≡ false }
     ensures chunk { OnOk result (Gains chunks.old.items chunks.new.items (one_chunk (codes "OOFF") (place_bytes rows.now (map offset_of rows.now)))) }

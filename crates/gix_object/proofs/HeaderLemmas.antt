@@ -1,4 +1,4 @@
--- What the code of a header reads, in the words of loose objects.
+-- What the code reads of a header, in the words of loose objects.
 use Rattle.std.proofs.Common.{◌≡◌, ℕ, ◌+◌, ◌<◌, ◌≤◌, ◌^◌, ◌==◌, Bool, true, false, nat_lt, List, [], ◌∷◌, length, take, drop, Option, Some, None, cond, Result}
 use Rattle.std.proofs.Common.{Ok, IfOk, IsErr, MatchOption, ◌↔◌, option_map, ok_or, refl, sym, ap, ◌∙◌, subst, arith, length-append, length-drop}
 use Rattle.std.specs.Prelude.{option_and_then}
@@ -71,7 +71,7 @@ not_text front rest (Some o) bad e =
 pub no_text : (front : List ℕ) → ¬ (IsUtf8 front) → (rest : List ℕ) → spelled front rest ≡ None
 no_text front bad rest = not_text front rest _ bad refl
 
--- the same of the parts that the code read
+-- the bytes of the parts that the code reads are below 128
 
 pub read-Some : (header text word digits : List ℕ) (kind : Kind) (size : ℕ) → text ≡ header → word ≡ before_first (λ b. b == 32) text → digits ≡ after_first (λ b. b == 32) text
     → kind_of_word word ≡ Some kind → number_of digits ≡ Some size → (rest : List ℕ) → spelled header rest ≡ Some (record { kind = kind; size = size; rest = rest })
@@ -109,9 +109,9 @@ no_place bytes e =
     let first = position_or_len (λ b. b == 0) (take header_room bytes) in
     loose_of-no_place bytes (ltb-false _ _ (not_chosen (nat_lt first (length (take header_room bytes))) first e))
 
--- ---- what reading a file's header tells
+-- ---- the result of reading a file's header
 
--- a header that ends where the data begin is as long as what stands before these
+-- a header that ends where the data begin is as long as the bytes before them
 head_at : (bytes : List ℕ) (kind : Kind) (size n : ℕ) → n ≤ length bytes → IsLoose bytes kind size (drop n bytes) → n ≡ length (header_of kind size)
 head_at bytes kind size n within is =
     let long : length bytes ≡ length (header_of kind size) + length (drop n bytes) = ap length is.whole ∙ length-append (header_of kind size) (drop n bytes) in
@@ -125,7 +125,7 @@ head_at_place bytes kind size nul within e =
 pub no_head : (found : Option LooseObject) → found ≡ None → None ≡ option_map head_of found
 no_head found e = rw e refl
 
--- what is behind the header of an object that was found
+-- the data after the header of an object that was found
 rest_is : (bytes : List ℕ) (o : LooseObject) → loose_of bytes ≡ Some o → drop (length (header_of o.kind o.size)) bytes ≡ o.rest
 rest_is bytes o e =
     let is = IsLoose-loose_of bytes o e in

@@ -1,4 +1,4 @@
--- What is hashed for an id, on examples.
+-- The bytes that are hashed for an id, on examples.
 use Rattle.std.proofs.Common.{◌≡◌, [], ◌∷◌, ◌++◌, codes, refl}
 use Rattle.std.specs.Fmt.{digits}
 use Rattle.gix_hash.specs.Hash.{hash_of}

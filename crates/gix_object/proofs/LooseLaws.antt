@@ -1,4 +1,4 @@
--- The laws of loose objects: `loose_of` finds just what the grammar allows, and what is encoded is read back.
+-- The laws of loose objects: `loose_of` finds exactly what the grammar allows, and what is encoded is read back.
 use Rattle.std.specs.Prelude.{◌≡◌, ℕ, ◌+◌, ◌<◌, ◌≤◌, ◌^◌, ◌==◌, true, false, not, nat_lt, List, [], ◌∷◌, ◌++◌, length, take, drop, Option, Some, None, option_and_then, refl}
 use Rattle.std.proofs.Common.{inl, inr, sym, ap, ◌∙◌, subst, arith, append_assoc}
 use Rattle.std.specs.List.{position_or_len, before_first, after_first}
@@ -75,7 +75,7 @@ bound (Some a) f y h = (a, refl, h)
 no_number : (size : ℕ) → number_of [] ≡ Some size → ⊥
 no_number size h = let is = IsNumber-number_of [] size h in cc
 
--- digits stand behind some space
+-- digits are after some space
 pub behind_space : (front : List ℕ) (size : ℕ) → number_of (after_first (λ b. b == 32) front) ≡ Some size → position_or_len (λ b. b == 32) front < length front
 behind_space front size h =
     elim (cases_lt (position_or_len (λ b. b == 32) front) (length front)) [
@@ -149,11 +149,11 @@ loose_of-IsLoose bytes kind size rest is =
     ap loose_of (is.whole ∙ header_of-front kind size rest)
     ∙ loose_of-front kind size rest is.fits (omega (arith, is.early, length-header_of kind size))
 
--- what isn't found is in no way in the file
+-- if nothing is found, no kind, size and rest are in the file
 pub none-loose_of : (bytes : List ℕ) → loose_of bytes ≡ None → (kind : Kind) (size : ℕ) (rest : List ℕ) → ¬ (IsLoose bytes kind size rest)
 none-loose_of bytes h kind size rest is = cc (h, loose_of-IsLoose bytes kind size rest is)
 
--- what is in no way in the file isn't found
+-- if no kind, size and rest are in the file, nothing is found
 pub loose_of-outside : (bytes : List ℕ) → ((kind : Kind) (size : ℕ) (rest : List ℕ) → ¬ (IsLoose bytes kind size rest)) → loose_of bytes ≡ None
 loose_of-outside bytes outside = by_found (loose_of bytes) refl
   where

@@ -8,11 +8,11 @@ pub record Object : Type 0 where
   pub kind : Kind
   pub bytes : List ℕ
 
--- the object that data are of
+-- the object of found data
 abbrev pub object_of : Data → Object
 object_of found = record { kind = found.kind; bytes = found.bytes.now }
 
--- what a find answered: an object, that there is none, or an error
+-- the result of a find: an object, that there is none, or an error
 abbrev pub found_of : {E : Type 0} → Result (Option Data) E → Result (Option Object) E
 found_of (Ok (Some found)) = Ok (Some (object_of found))
 found_of (Ok None) = Ok None

@@ -7,7 +7,7 @@ use Rattle.odb_base.specs.Decimal.{number_of}
 use Rattle.gix_object.specs.Kind.{kind_of_word, kind_word}
 use Rattle.gix_object.specs.declared.kind.Kind.{Kind}
 
--- how many first bytes of a file a header ends in: more than the longest header has
+-- in how many first bytes of a file a header ends: more than the longest header has
 abbrev pub header_room : ℕ
 header_room = 64
 
@@ -19,7 +19,7 @@ longest_header = 28
 unfoldable pub header_of : Kind → ℕ → List ℕ
 header_of kind size = kind_word kind ++ codes " " ++ decimal size ++ 0 ∷ []
 
--- the bytes begin with the header of this kind and size, which ends in the first of them; the rest, of whatever length, stands behind it
+-- the bytes begin with the header of this kind and size, which ends in the first of them; the rest, of whatever length, follows it
 pub record IsLoose (bytes : List ℕ) (kind : Kind) (size : ℕ) (rest : List ℕ) : Type 0 where
   pub whole : bytes ≡ header_of kind size ++ rest
   pub fits : size < 2 ^ 64
@@ -35,20 +35,20 @@ infixl 10 ◌>>=◌
 abbrev ◌>>=◌ : {A B : Type 0} → Option A → (A → Option B) → Option B
 found >>= f = option_and_then f found
 
--- the kind and the size of a header without its NUL, which stand before and behind its first space (byte 32), with the data
+-- the kind and the size of a header without its NUL, which are before and after its first space (byte 32), with the data
 unfoldable pub spelled : List ℕ → List ℕ → Option LooseObject
 spelled header rest = do
   kind ← kind_of_word (before_first (λ b. b == 32) header)
   size ← number_of (after_first (λ b. b == 32) header)
   Some (record { kind = kind; size = size; rest = rest })
 
--- the object that a file's bytes spell, if their first NUL stands where a header may end
+-- the object that a file's bytes spell, if their first NUL is where a header may end
 unfoldable pub loose_of : List ℕ → Option LooseObject
 loose_of bytes =
     if nat_lt (position_or_len (λ b. b == 0) (take header_room bytes)) (length (take header_room bytes))
     then spelled (before_first (λ b. b == 0) bytes) (after_first (λ b. b == 0) bytes)
     else None
 
--- what a reader of the header tells of an object: the kind, the size, and the length of the header
+-- what a reader of the header returns of an object: the kind, the size, and the length of the header
 abbrev pub head_of : LooseObject → Kind × ℕ × ℕ
 head_of object = (object.kind, object.size, length (header_of object.kind object.size))

@@ -5,16 +5,16 @@ use crate::Kind;
 #[derive(Clone, Copy)]
 pub struct Data<'a> {
     pub kind: Kind,
-    /// The hash of the database that it was found in.
+    /// The hash of the database in which it was found.
     pub object_hash: gix_hash::Kind,
     /// All its data.
     pub bytes: &'a [u8],
 }
 
-/// What the header of an object tells.
+/// The header of an object.
 #[derive(Clone, Copy, Debug)]
 pub struct Header {
     pub kind: Kind,
-    /// How many bytes of data there are.
+    /// The size of the data in bytes.
     pub size: u64,
 }

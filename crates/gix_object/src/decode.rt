@@ -15,11 +15,11 @@ const HEADER_ROOM: usize = 64;
 #[error("a loose object begins with its kind, a space, its size in decimal and NUL")]
 pub struct InvalidHeader;
 
-/// The header that a loose object of Git begins with: the kind, the size of the data in bytes that it says, and its
+/// The header at the start of a loose object of Git: the kind, the size in bytes that it gives for the data, and its
 /// own length in bytes.
 ///
 /// A header is the kind's word, a space, the size in decimal without leading zeros, and NUL. It ends in the first 64
-/// bytes, and what follows isn't looked at. Anything else is `InvalidHeader`.
+/// bytes, and what follows isn't read. Anything else is `InvalidHeader`.
 pub fn loose_header(bytes: &[u8]) -> Result<(Kind, u64, usize), InvalidHeader>
     ensures found { IfOk result (λ header. IsLoose bytes.now header.0 header.1 (drop header.2 bytes.now)) }
     ensures length { IfOk result (λ header. header.2 ≡ length (header_of header.0 header.1)) }
@@ -40,7 +40,7 @@ fn header_in(bytes: &[u8]) -> Option<(Kind, u64, usize)>
     Some((kind, size, nul + 1))
 }
 
-// Where the first NUL stands, if it does in the part where a header has to end.
+// The place of the first NUL, if it is where a header may end.
 fn place_of_nul(bytes: &[u8]) -> Option<usize>
     ensures first { result ≡ position (λ b. b == 0) (take header_room bytes.now) }
     ensures within { IfSome result (λ nul. nul < length bytes.now) }

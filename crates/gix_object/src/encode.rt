@@ -7,7 +7,7 @@ use odb_base::{ByteList, NoMemory};
 use std::alloc::Global;
 
 /// The header of a loose object of Git, for data of `size` bytes: the kind's word, a space, the size in decimal, and
-/// NUL. The only error is want of memory.
+/// NUL. The only error is running out of memory.
 #[tactic(auto, unfolding(crate::specs::Loose::header_of))]
 pub fn loose_header(alloc: Global, kind: Kind, size: u64) -> Result<ByteList, NoMemory>
     ensures header { IfOk result (λ header. header ≡ header_of kind size) }

@@ -1,4 +1,4 @@
-//! Databases that objects, their headers or their existence are asked of.
+//! Databases in which objects, their headers or their existence are looked up.
 ghost use Rattle.std.specs.Prelude.{◌≡◌, Option, Result, Bool, IfOk, IfSome};
 ghost use Rattle.gix_hash.specs.declared.kind.Kind.{Kind as hash_kind};
 ghost use Rattle.gix_hash.specs.declared.object_id.ObjectId.{ObjectId as object_id};
@@ -13,13 +13,13 @@ use std::sync::Wait;
 
 /// A database that finds objects by their ids.
 ///
-/// What a find answered is a meaning of its own, so that a layer in front can promise what the database
-/// behind it answered in that call.
+/// The answer of a find is a relation of its own, so that a wrapper can promise what the wrapped database answered in
+/// that call.
 pub trait Find {
     /// Why a find was refused.
     type Error: Drop;
 
-    /// The hash that ids have to be of.
+    /// The hash of ids.
     ghost hash: { Self → hash_kind };
 
     /// A database is asked for an id, gives an answer, and is another database afterwards.
@@ -39,12 +39,12 @@ pub trait Find {
         ensures hash { hash self.new ≡ hash self.old };
 }
 
-/// A database that tells the kind and the size of objects.
+/// A database that returns the kind and the size of objects.
 pub trait FindHeader {
-    /// Why a look was refused.
+    /// Why a look-up was refused.
     type Error: Drop;
 
-    /// The hash that ids have to be of.
+    /// The hash of ids.
     ghost hash: { Self → hash_kind };
 
     /// A database is asked for the header of an id, gives an answer, and is another database afterwards.
@@ -62,12 +62,12 @@ pub trait FindHeader {
         ensures hash { hash self.new ≡ hash self.old };
 }
 
-/// A database that tells whether it has an object.
+/// A database that tests whether it has an object.
 pub trait Exists {
     /// Why a test was refused.
     type Error: Drop;
 
-    /// The hash that ids have to be of.
+    /// The hash of ids.
     ghost hash: { Self → hash_kind };
 
     /// A database is asked whether it has an id, gives an answer, and is another database afterwards.

@@ -8,7 +8,7 @@ use gix_hash::{Hasher, ObjectId};
 use odb_base::NoMemory;
 use std::alloc::Global;
 
-/// The id that Git gives an object: the hash of its header and its data. The only error is want of memory.
+/// The id that Git gives an object: the hash of its header and its data. The only error is running out of memory.
 #[tactic(auto, unfolding(crate::specs::Id::object_id))]
 pub fn compute_hash(
     alloc: Global,

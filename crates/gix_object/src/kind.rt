@@ -4,7 +4,7 @@ ghost use Rattle.gix_object.specs.Kind.{kind_of_word, kind_word};
 
 use std::fmt;
 
-/// What an object is: one of the four kinds that Git's headers name.
+/// The type of an object: one of the four kinds that Git's headers name.
 #[derive(Clone, Copy, Debug, PartialEq, Eq, PartialOrd, Ord, Hash)]
 pub enum Kind {
     Commit,
@@ -14,7 +14,7 @@ pub enum Kind {
 }
 
 impl Kind {
-    /// The kind that a word names: `commit`, `tree`, `blob` or `tag`. Any other word is none.
+    /// The kind with this name: `commit`, `tree`, `blob` or `tag`. None for any other word.
     #[tactic(auto, unfolding(crate::specs::Kind::kind_of_word))]
     pub fn from_bytes(word: &[u8]) -> Option<Kind>
         ensures kind { result ≡ kind_of_word word.now }
@@ -32,7 +32,7 @@ impl Kind {
         }
     }
 
-    /// The word for the kind, as it stands in a header.
+    /// The word for the kind, as in a header.
     pub fn as_bytes(self) -> &'static [u8]
         ensures word { result.now ≡ kind_word self }
     {

@@ -1,7 +1,7 @@
-//! Objects: their kinds, their headers both ways, their ids, what is wanted of them, and the traits of what finds and writes them.
+//! Objects: their kinds, their headers both ways, their ids, what a look-up wants, and the traits that find and write them.
 //!
-//! A loose object is a header and then the data; its id is the hash of both. What `encode` writes `decode`
-//! reads back, and `decode` takes nothing else.
+//! A loose object is a header and then the data; its id is the hash of both. `decode` reads back what `encode`
+//! writes, and nothing else.
 //! ```rust
 //! let header = encode::loose_header(alloc, Kind::Blob, 13)?;                  // `blob 13`, NUL
 //! assert_eq!(rt; decode::loose_header(header.as_slice()), Ok((Kind::Blob, 13, 8)));

@@ -1,6 +1,6 @@
-//! What is wanted of an object that is sought by its id: its kind and its data, its kind and its size, or whether it is there.
+//! What a look-up wants of an object: its kind and its data, its kind and its size, or whether it is there.
 
-/// What is wanted of an object.
+/// What a look-up wants of an object.
 #[derive(Clone, Copy, Debug, PartialEq, Eq)]
 pub enum Want {
     /// Its kind and its data.

@@ -1,4 +1,4 @@
-//! Objects that give their data, and databases that objects are written to.
+//! Objects that produce their data, and databases to which objects are written.
 ghost use Rattle.std.specs.Prelude.{◌≡◌, ℕ, List, Option, Result, length, IfOk, IfSome, Some, None};
 ghost use Rattle.odb_base.specs.Faults.{HasCause};
 ghost use Rattle.gix_hash.specs.declared.kind.Kind.{Kind as hash_kind};
@@ -17,30 +17,30 @@ use std::sync::Wait;
 
 /// An object that can be written: a kind, and the bytes of its data.
 pub trait WriteTo {
-    /// What the object is.
+    /// Its kind.
     ghost kind: { Self → object_kind };
 
-    /// The data that it gives.
+    /// Its data.
     ghost bytes: { Self → List ℕ };
 
-    /// What the object is.
+    /// Its kind.
     fn kind(&self) -> Kind
         ensures kind { result ≡ kind self.now };
 
-    /// How many bytes it gives.
+    /// The size of its data in bytes.
     fn size(&self) -> u64
         ensures size { result ≡ length (bytes self.now) };
 
-    /// Writes the data to a sink, and fails only where the sink failed.
+    /// Writes the data to a sink, and fails only if the sink failed.
     fn write_to<K: Sink>(&self, out: &mut K) -> Result<(), Failed>
         ensures bytes { Puts (bytes self.now) (K.held out.old) (K.held out.new) result }
         ensures cause { HasCause (K.faults out.old) (K.faults out.new) result };
 }
 
-/// A database that objects are written to.
+/// A database to which objects are written.
 ///
-/// A write answers the id of the object, or the id that was handed in with it. What it answered is a meaning of
-/// its own, so that a layer in front can promise what the database behind it answered in that call.
+/// A write returns the id of the object, or the known id that was passed in with it. Its answer is a relation of its
+/// own, so that a wrapper can promise what the wrapped database answered in that call.
 pub trait Write {
     /// Why a write was refused.
     type Error: Drop;
@@ -52,10 +52,10 @@ pub trait Write {
     /// another database afterwards.
     ghost writes: { Self → Object → Option id_of_object → Result id_of_object Self.Error → Self → Type 0 };
 
-    /// The same of an object of this kind and size whose bytes come from a source.
+    /// A database is given an object of this kind and size, whose bytes come from a source; otherwise like `writes`.
     ghost streams: { Self → object_kind → ℕ → Stream → Option id_of_object → Result id_of_object Self.Error → Self → Type 0 };
 
-    /// Writes an object whose data are these bytes, and answers its id.
+    /// Writes an object with these bytes as data, and returns its id.
     fn write_buf<R: Wait>(
         &mut self,
         rt: &R,
@@ -68,7 +68,7 @@ pub trait Write {
         ensures kind { IfOk result (λ id. kind_of id ≡ hash self.old) }
         ensures hash { hash self.new ≡ hash self.old };
 
-    /// The same under an id that the object is known to have, which is answered.
+    /// `write_buf` under an id that the object is known to have, which is returned.
     fn write_buf_with_known_id<R: Wait>(
         &mut self,
         rt: &R,
@@ -82,8 +82,8 @@ pub trait Write {
         ensures id { IfOk result (λ answered. answered ≡ id) }
         ensures hash { hash self.new ≡ hash self.old };
 
-    /// Writes an object whose data are the bytes of a source, and answers its id. There are to be `size` bytes: fewer
-    /// or more are refused, and so is a source that fails.
+    /// Writes an object with `size` bytes of data from a source, and returns its id. Fewer or more bytes are refused,
+    /// and so is a source that fails.
     fn write_stream<S: Source, R: Wait>(
         &mut self,
         rt: &R,
@@ -99,7 +99,7 @@ pub trait Write {
         ensures kind { IfOk result (λ id. kind_of id ≡ hash self.old) }
         ensures hash { hash self.new ≡ hash self.old };
 
-    /// The same under an id that the object is known to have, which is answered.
+    /// `write_stream` under an id that the object is known to have, which is returned.
     fn write_stream_with_known_id<S: Source, R: Wait>(
         &mut self,
         rt: &R,
@@ -116,7 +116,7 @@ pub trait Write {
         ensures id { IfOk result (λ answered. answered ≡ id) }
         ensures hash { hash self.new ≡ hash self.old };
 
-    /// Writes an object that gives its own data, and answers its id.
+    /// Writes an object that produces its own data, and returns its id.
     fn write<O: WriteTo, R: Wait>(
         &mut self,
         rt: &R,
@@ -129,7 +129,7 @@ pub trait Write {
         ensures hash { hash self.new ≡ hash self.old };
 }
 
-/// An object that was found gives its data.
+/// An object that was found produces its data.
 impl WriteTo for Data<'_> {
     ghost kind = { λ found. found.kind };
 

@@ -1,4 +1,4 @@
--- Laws of openings: how many slots one comes to, why it is refused, which streams it reads, and how many turns it takes.
+-- Laws of openings: how many slots one gets, why it is refused, which streams it reads, and how many turns it takes.
 pub mod Known
 pub mod Turns
 use Rattle.std.proofs.Common.{◌≡◌, ◌⊎◌, inl, inr, ℕ, suc, ◌+◌, ◌-◌, ◌*◌, ◌≤◌, true, List, [], ◌∷◌, length, All, Option, Some, None, Ok, refl, sym, ap, ◌∙◌, subst, arith}
@@ -54,7 +54,7 @@ module _ (setting : Setting) (slots : Slots) (exchanges : List Exchange) (asked 
   knows : Knows setting slots exchanges state
   knows = opening_knows setting slots exchanges asked suited
 
-  -- ---- what it comes to
+  -- ---- how it ends
 
   -- the number of slots of the core is the one that was given, or the one for as many indices as the listing found
   pub openings_register_their_number : (number : ℕ) → state ≡ opens.Registering number → IsNumber setting slots exchanges number
@@ -117,7 +117,7 @@ module _ (setting : Setting) (slots : Slots) (exchanges : List Exchange) (asked 
   is_own_stream dir (folder, here) =
       record { folder = folder; last = here.last; left = here.left; stream = here.stream; told = here.told; of = here.of; number = here.number }
 
-  -- it reads and closes no stream but the one that it opened last
+  -- it reads and closes only the stream that it opened last
   pub streams_of_openings_are_their_own : (dir : ℕ)
       → (asks_of setting state ≡ Some (asks.Disk (disk_asks.NextEntry dir))) ⊎ (asks_of setting state ≡ Some (asks.Disk (disk_asks.CloseDir dir)))
       → IsOwnStream exchanges dir
@@ -152,7 +152,7 @@ module _ (setting : Setting) (slots : Slots) (exchanges : List Exchange) (asked 
 
   -- ---- how many turns it takes
 
-  -- with the registration of its handle, fewer than a lap of a store without slots has, where no stream gives more entries than so many
+  -- with the registration of its handle, fewer than a lap of a store without slots has, where no stream gives more than `entries` entries
   pub an_opening_takes_at_most_a_lap : (entries : ℕ) → AreWithin entries None exchanges → AreAnswered exchanges
       → length exchanges + 1 ≤ turns_of_lap 0 (length (folders_of setting)) entries
   an_opening_takes_at_most_a_lap entries within answered =

@@ -1,4 +1,4 @@
--- So many in a hundred of the indices are a number of 128 bits.
+-- A percentage of the number of indices is a number of 128 bits.
 use Rattle.std.proofs.Common.{ℕ, ◌*◌, ◌^◌, ◌<◌, ◌≤◌, arith}
 use Rattle.std.proofs.Math.Nat.{mul-le-mul}
 

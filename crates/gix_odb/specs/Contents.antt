@@ -45,7 +45,7 @@ pub data Answer : Type 0 where
   HeaderOf : (header : headers.Header) → Answer
   Presence : Answer
 
--- the first of two ids that is there
+-- an id, or another one where there is none
 abbrev pub or_itself : Option ObjectId → ObjectId → ObjectId
 or_itself None id = id
 or_itself (Some other) id = other
@@ -55,7 +55,7 @@ abbrev pub replaced : (ObjectId → Option ObjectId) → (ignoring : Bool) → O
 replaced replacement true id = id
 replaced replacement false id = or_itself (replacement id) id
 
--- the id that is sought for an asked one: for a find and a header its replacement, one and no chain
+-- the id that is sought for an asked one: for a find and a header its replacement, with no chain of replacements
 abbrev pub sought_for : (ObjectId → Option ObjectId) → (ignoring : Bool) → Want → ObjectId → ObjectId
 sought_for replacement ignoring wants.Object id = replaced replacement ignoring id
 sought_for replacement ignoring wants.Header id = replaced replacement ignoring id
@@ -76,19 +76,19 @@ sought store ignoring query = sought_with (replacement_in store) ignoring query
 abbrev pub ShowsFile : Tree → Path → List ℕ → Type 0
 ShowsFile tree path bytes = (time : ℕ) × (read_of tree path ≡ Ok (bytes, time))
 
--- What a loose file answers a call, as an answer of a store. A file holds answers of one form alone for a call, so what the last row
--- makes of those of another form never counts.
+-- What a loose file answers a call, as an answer of a store. A file holds only answers of one form for a call, so the last row, for those
+-- of another form, never applies.
 abbrev pub of_loose : Want → loose.Answer → Answer
 of_loose wants.Object (loose.Object kind bytes) = Object kind bytes
 of_loose wants.Header (loose.HeaderOf kind size) = HeaderOf (Loose kind size)
 of_loose want own = Presence
 
--- The row of an index answers a test alone.
+-- The row of an index answers only a test.
 abbrev pub IsOfRow : Want → Answer → Type 0
 IsOfRow wants.Presence answer = answer ≡ Presence
 IsOfRow want answer = ⊥
 
--- A pack holds an answer at an offset: for a find the base entry there, with its data within the limit, and for a header the header of one.
+-- A pack holds an answer at an offset: for a find the base entry there, with its data within the limit, and for a header that of the entry there.
 abbrev pub HoldsEntry : StoreData → Want → HashKind → (pack : List ℕ) → (offset : ℕ) → Answer → Type 0
 HoldsEntry store wants.Object hash pack offset answer =
     (own : Entry) × (entry_at hash pack offset store.limit ≡ Ok own) × (answer ≡ Object own.kind own.bytes)

@@ -23,7 +23,7 @@ hash_of handle = handle.info.value.object_hash
 abbrev pub folders_of : HandleState → List Path
 folders_of handle = handle.info.value.folders
 
--- what a look-up is told of the store, and of how many changes it tolerates
+-- what a look-up takes from the store, and how many changes it tolerates
 abbrev pub setting_at : HandleState → Setting
 setting_at handle = record {
   objects = handle.info.value.objects;
@@ -43,12 +43,12 @@ unseen = record { snapshot = nothing_loaded; list_no = 0; read = false; todo = [
 abbrev pub with_view : HandleState → View → HandleState
 with_view handle view = record handle { view = view }
 
--- a handle to which a view was handed over, if one was
+-- a handle after a view was passed to it, if one was
 abbrev pub seeing : HandleState → Option View → HandleState
 seeing handle None = handle
 seeing handle (Some view) = with_view handle view
 
--- a handle after an answer: it has the view that this hands over
+-- a handle after an answer: it has the view that this passes
 abbrev pub told_by : HandleState → Answer → HandleState
 told_by handle answer = seeing handle (view_of answer)
 

@@ -1,4 +1,4 @@
--- What a store held, and what lay still in it, over any family of trees numbered by moments. A kind of contents has its constructor in
+-- What a store held, and what stayed unchanged in it, over any family of trees numbered by moments. A kind of contents has its constructor in
 -- `Contents` and its lines in `Holds`, `WasShown`, `Place` and `LiesAt`; what is said of all kinds names none.
 use Rattle.std.specs.Prelude.{◌≡◌, ℕ, true, false, List, [], ◌∷◌, ◌++◌, Contains, Ok}
 use Rattle.odb_base.specs.Path.{Name, Path}
@@ -47,10 +47,10 @@ pub record Held (trees : ℕ → Tree) (store : StoreData) (opened begun now : �
   pub shown : WasShown trees opened begun now folder id contents
   pub holds : Holds store want id contents answer
 
--- ---- still
+-- ---- unchanged
 
--- Where an object lies in a folder: a kind of contents, with what stays the same of them while the object lies still. Of a loose file
--- that is nothing but its path, which the id tells; of an index and its pack it is the name of the index, and the offset that this gives the id.
+-- Where an object lies in a folder: a kind of contents, with what stays the same of them while the object stays unchanged. For a loose file
+-- that is only its path, which the id determines; for an index and its pack it is the name of the index, and the offset that this gives the id.
 pub data Place : Type 0 where
   InLooseFile : Place
   InPackFile : (name : Name) (offset : ℕ) → Place

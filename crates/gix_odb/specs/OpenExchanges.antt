@@ -46,7 +46,7 @@ AreAsked setting slots state exchanges = any.AreAsked (asks_of setting) (fed_by 
 
 -- ---- the listing among them
 
--- a listing behind an answer
+-- a listing after an answer
 abbrev pub list_by : List Path → ListStep → Answer → ListStep
 list_by folders (listed.More lister) (told.Disk answer) = lists.fed folders lister answer
 list_by folders step answer = step
@@ -55,7 +55,7 @@ abbrev pub list_behind : List Path → ListStep → List Exchange → ListStep
 list_behind folders step [] = step
 list_behind folders step (exchange ∷ exchanges) = list_behind folders (list_by folders step exchange.answer) exchanges
 
--- behind a look at the objects directory the folders of packs were listed, and came to this
+-- after a stat of the objects directory the folders of packs were listed, with this result
 pub record HasListed (setting : Setting) (exchanges : List Exchange) (step : ListStep) : Type 0 where
   pub look : Exchange
   pub listing : List Exchange
@@ -76,7 +76,7 @@ abbrev pub IsNoDir : Kind → Type 0
 IsNoDir kinds.Dir = ⊥
 IsNoDir kind = Unit {0}
 
--- a look showed no directory
+-- a stat showed no directory
 abbrev pub ShowsNoDirectory : DiskAnswer → Type 0
 ShowsNoDirectory (answers.Meta meta) = IsNoDir meta.kind
 ShowsNoDirectory (answers.Refused disk_errors.Failed) = ⊥

@@ -1,5 +1,5 @@
--- The order of work of an opening: one look at the objects directory; a listing of the folders of packs, where the store is to have as
--- many slots as its indices ask for; and then a core for the store, at which the handle is registered.
+-- The order of work of an opening: one stat of the objects directory; a listing of the folders of packs, where the store is to have as
+-- many slots as its indices need; and then a core for the store, at which the handle is registered.
 use Rattle.std.specs.Prelude.{◌≡◌, ℕ, ◌*◌, ◌/◌, max, true, nat_le, List, ◌∷◌, length, Option, Some, None, Result, Ok, Err, if◌then◌else◌}
 use Rattle.odb_base.specs.Path.{Path}
 use Rattle.odb_asks.specs.declared.ask.DiskAsk.TheVariants as disk_asks
@@ -40,7 +40,7 @@ result_of state = Err state
 
 -- ---- asks
 
--- An opening looks at the objects directory, links followed, and lists the folders of packs. Then it asks for a core for its store, the
+-- An opening stats the objects directory, links followed, and lists the folders of packs. Then it asks for a core for its store, the
 -- objects directory being one of the folders, at which its handle is registered.
 abbrev pub ask_of : (objects : Path) → (folders : List Path) → OpenStage → Option Ask
 ask_of objects folders opens.Looking = Some (asks.Disk (disk_asks.Look objects true))
@@ -48,7 +48,7 @@ ask_of objects folders (opens.Listing lister percent minimum) = Some (asks.Disk 
 ask_of objects folders (opens.Registering slots) = Some (asks.NewCore slots (length (objects ∷ folders)))
 ask_of objects folders (opens.Done reply) = None
 
--- the path with which the stream was opened that a call of the disk may be on
+-- the directory of the open stream that a call of the disk may read
 abbrev pub opened_in : OpenStage → Option Path
 opened_in (opens.Listing lister percent minimum) = Some lister.head.folder
 opened_in state = None
@@ -65,7 +65,7 @@ IsAskOf objects folders state (own.Done reply) = result_of state ≡ Ok reply
 abbrev pub slots_within : (indices slots : ℕ) → ℕ
 slots_within indices slots = if nat_le slots most_slots then slots else indices
 
--- so many in a hundred of the indices, and a number at least
+-- a percentage of the number of indices, and at least a minimum
 abbrev pub slots_for : (percent minimum indices : ℕ) → ℕ
 slots_for percent minimum indices = slots_within indices (max (indices * percent / 100) minimum)
 
@@ -87,7 +87,7 @@ abbrev pub shown : Path → Slots → Kind → OpenStage
 shown objects slots kinds.Dir = begun objects slots
 shown objects slots kind = refused opening_errors.NotADirectory
 
--- a failed call is an error of its own; whatever else a look is refused by, there is no directory
+-- a failed call is an error of its own; whatever else a stat is refused by, there is no directory
 abbrev pub looked : Path → Slots → DiskAnswer → OpenStage
 looked objects slots (answers.Meta meta) = shown objects slots meta.kind
 looked objects slots (answers.Refused disk_errors.Failed) = refused opening_errors.Io
@@ -100,7 +100,7 @@ listed_on percent minimum (listed.Listed listing) = numbered (slots_for percent 
 listed_on percent minimum listed.Broken = refused (opening_errors.LoadIndex load_errors.Io)
 
 -- An opening after the answer to what it asked for, in a store of these folders that is to have these slots. One whose handle was
--- registered has opened its store. An answer of the other kind, of the disk or of the core, leaves it.
+-- registered has opened its store. An answer of the other kind, of the disk or of the core, leaves it unchanged.
 abbrev pub fed : (objects : Path) → (folders : List Path) → Slots → OpenStage → Answer → OpenStage
 fed objects folders slots opens.Looking (told.Disk answer) = looked objects slots answer
 fed objects folders slots (opens.Listing lister percent minimum) (told.Disk answer) = listed_on percent minimum (lists.fed folders lister answer)

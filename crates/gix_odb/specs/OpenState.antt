@@ -1,4 +1,4 @@
--- What an opening of the code has of its store, and the handle that it comes to.
+-- What an opening of the code has of its store, and the handle that it opens.
 use Rattle.std.specs.Prelude.{◌≡◌, false, List, Result, Ok, Err}
 use Rattle.std.specs.BTreeMap.{IsFromIterResult}
 use Rattle.odb_base.specs.Path.{Path}
@@ -26,7 +26,7 @@ pub record IsMadeOf (objects : Path) (folders : List Path) (hash : HashKind) (re
 abbrev pub at_stage : OpenState → OpenStage → OpenState
 at_stage opening stage = record opening { stage = stage }
 
--- the handle that an opening comes to, which seeks what replaces an id
+-- the handle that an opening opens, which seeks what replaces an id
 abbrev pub opened_handle : OpenState → View → HandleState
 opened_handle opening view = record { info = opening.info; ignore_replacements = false; max_changes = opening.max_changes; view = view }
 

@@ -1,4 +1,4 @@
-//! What calls and openings ask for, or come to.
+//! What calls and openings ask for, and their replies.
 use gix_odb_calls::Reply;
 use gix_odb_events::Event;
 use odb_asks::DiskAsk;

@@ -23,7 +23,7 @@ pub struct HandleState {
 }
 
 impl HandleState {
-    /// A copy, which shares the parts of the store and the lists of the snapshot.
+    /// Returns a copy, which shares the parts of the store and the lists of the snapshot.
     pub fn try_clone(&self) -> Result<HandleState, NoMemory>
         ensures alike { IfOk result (λ copy. IsAlike copy self.now) }
     {
@@ -31,7 +31,7 @@ impl HandleState {
         self.sharing(view)
     }
 
-    /// Another handle on the same store, in the same modes, with a snapshot of its own.
+    /// Returns another handle on the same store, in the same modes, with a snapshot of its own.
     pub fn sharing(&self, view: View) -> Result<HandleState, NoMemory>
         ensures alike { IfOk result (λ other. IsAlike other (with_view self.now view)) }
     {
@@ -43,14 +43,14 @@ impl HandleState {
         })
     }
 
-    /// The parts of the handle's store.
+    /// Returns the parts of the handle's store.
     pub fn parts(&self) -> &StoreParts
         ensures parts { result.now ≡ self.now.info.value }
     {
         &self.info
     }
 
-    /// The id that a query seeks: the replacement of its own, where there is one and it isn't ignored. A test seeks
+    /// Returns the id that a query seeks: the replacement of its own, where there is one and it isn't ignored. A test seeks
     /// its own.
     pub fn sought(&self, query: Query) -> ObjectId
         ensures sought { result ≡ sought_by self.now query }

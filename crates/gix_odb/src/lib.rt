@@ -1,9 +1,9 @@
 //! A store over several folders: what it holds, and the calls on a handle of it.
 //!
 //! A call is a machine: it names one call of the disk or one event of the store's core at a time, takes the answer, and
-//! comes to a reply. The order of work is in `specs/{OpenOrder,CallOrder}.antt`, of a query in `gix_odb_looks`, of what
-//! stands in front of a write in `gix_odb_refresh`; what a store holds, and for how long, in
-//! `specs/{Contents,Moments,Held}.antt`. Who drives the machines, over which disk, is the matter of the crates above.
+//! ends with a reply. The order of work is in `specs/{OpenOrder,CallOrder}.antt`, of a query in `gix_odb_looks`, of the
+//! refresh before a write in `gix_odb_refresh`; what a store holds, and for how long, in
+//! `specs/{Contents,Moments,Held}.antt`. The crates above decide who drives the machines, and over which disk.
 //! ```rust
 //! let mut state = CallState::start(alloc, &handle, Call::Find(id))?;
 //! let reply = loop {

@@ -25,13 +25,13 @@ use std::mem::replace;
 use std::sync::Arc;
 
 /// The most slots that a store may have: 2^15 - 1. A pack's number has 32 bits, and the lowest 15 of them are the slot
-/// that its index stands in (`PackId::to_intrinsic_pack_id` of `gix_odb_events`).
+/// of its index (`PackId::to_intrinsic_pack_id` of `gix_odb_events`).
 const MAX_SLOTS: u64 = 32767;
 
-/// The opening of a store on its way.
+/// The state of the opening of a store.
 ///
 /// `ask` names the next call of the disk, `feed` takes its answer, and so on until the opening is refused, or asks for a
-/// core. Whoever makes that core registers a handle there: `into_state` is the handle.
+/// core. Whoever makes that core registers a handle there, and gets it by `into_state`.
 #[derive(Drop)]
 pub struct OpenState {
     info: Arc<StoreParts, Global>,
@@ -42,10 +42,10 @@ pub struct OpenState {
 /// The stage of an opening.
 #[derive(Drop)]
 pub enum OpenStage {
-    /// The objects directory is to be looked at.
+    /// The objects directory is to be statted.
     Looking,
-    /// The folders of packs are listed, since the store is to have slots for so many in a hundred of its indices, and a
-    /// number at least.
+    /// The folders of packs are listed, since the store is to have slots for a percentage of its indices, and for a minimum
+    /// at least.
     Listing {
         lister: Lister,
         percent: u32,
@@ -59,10 +59,10 @@ pub enum OpenStage {
 }
 
 impl OpenState {
-    /// The opening of a store of these folders, the objects directory first, which asks for nothing yet.
+    /// Returns the opening of a store of these folders, the objects directory first, which asks for nothing yet.
     ///
     /// The conditions of opening (folders that differ, ids of the hash, few changes) are neither tested nor required here. A
-    /// caller that was handed them tests them first.
+    /// caller that gets them tests them first.
     pub fn start(
         alloc: Global,
         path: &PathText,
@@ -91,7 +91,7 @@ impl OpenState {
         })
     }
 
-    /// What the opening does next. A reply is copied: `into_reply` moves it out.
+    /// Returns what the opening does next. A reply is copied: `into_reply` moves it out.
     pub fn ask(&self, alloc: Global) -> Result<OpenAsk, NoMemory>
         ensures asked { IfOk result (λ ask. IsAskOf self.now.info.value.objects self.now.info.value.folders self.now.stage ask) }
     {
@@ -103,7 +103,7 @@ impl OpenState {
         }
     }
 
-    /// What comes next, a call of the disk or the core that is to be made; there is none where the opening is done. It copies
+    /// Returns what comes next, a call of the disk or the core that is to be made; `None` where the opening is done. It copies
     /// no reply, which `into_reply` gives then.
     pub fn next_ask(&self, alloc: Global) -> Result<Option<Ask>, NoMemory>
         ensures asked { IfOk result (λ ask. ask ≡ ask_of self.now.info.value.objects self.now.info.value.folders self.now.stage) }
@@ -116,7 +116,7 @@ impl OpenState {
         }
     }
 
-    /// The path with which the stream was opened that the next call of the disk is on, where it is on one.
+    /// Returns the directory of the open stream that the next call of the disk reads, where it reads one.
     pub fn opened(&self) -> Option<&PathText>
         ensures opened { option_map (λ path. path.now) result ≡ opened_in self.now.stage }
     {
@@ -138,7 +138,7 @@ impl OpenState {
         Ok(())
     }
 
-    /// The handle, which is registered at the core that the opening asked for, and was passed this view there.
+    /// Returns the handle, which is registered at the core that the opening asked for, and was passed this view there.
     pub fn into_state(self, view: View) -> HandleState
         requires registers { (slots : ℕ) × IsAskOf self.info.value.objects self.info.value.folders self.stage (OpenAsk.Register slots) }
         ensures state { result ≡ opened_handle self view }
@@ -157,7 +157,7 @@ impl OpenState {
         }
     }
 
-    /// The reply of an opening that is done, or the opening that goes on.
+    /// Returns the reply of an opening that is done. The error is the opening that goes on.
     pub fn into_reply(self) -> Result<Reply, OpenState>
         ensures replied { result ≡ ends_with self (result_of self.stage) }
     {
@@ -180,7 +180,7 @@ impl OpenState {
     }
 }
 
-/// The list of some paths.
+/// Collects paths into a list.
 fn list_of(alloc: Global, paths: &[PathText]) -> Result<PathList, NoMemory>
     ensures copied { IfOk result (λ list. list ≡ paths.now) }
 {
@@ -191,7 +191,7 @@ fn list_of(alloc: Global, paths: &[PathText]) -> Result<PathList, NoMemory>
     Ok(list)
 }
 
-/// The map of pairs.
+/// Collects pairs into a map.
 fn map_of(
     alloc: Global,
     pairs: &[(ObjectId, ObjectId)],
@@ -210,7 +210,7 @@ fn look_at(alloc: Global, objects: &PathText) -> Result<DiskAsk, NoMemory>
     })
 }
 
-/// The core that a store is to have: the objects directory is one of its folders.
+/// Returns the core that a store is to have: the objects directory is one of its folders.
 fn core_for(parts: &StoreParts, slots: u16) -> Ask
     ensures core { result ≡ Ask.NewCore slots (length (parts.now.objects ∷ parts.now.folders)) }
 {
@@ -218,7 +218,7 @@ fn core_for(parts: &StoreParts, slots: u16) -> Ask
     Ask::NewCore { slots, folders }
 }
 
-/// What comes behind an answer of the disk.
+/// Returns the stage after an answer of the disk.
 fn by_disk(
     alloc: Global,
     parts: &StoreParts,
@@ -250,7 +250,7 @@ fn refused(error: init::Error) -> OpenStage
     OpenStage::Done(Reply::Refused(CallError::Open(error)))
 }
 
-/// What comes behind the look at the objects directory.
+/// Returns the stage after the stat of the objects directory.
 fn after_look(alloc: Global, parts: &StoreParts, answer: &DiskAnswer) -> Result<OpenStage, NoMemory>
     ensures after { IfOk result (λ next. next ≡ order.looked parts.now.objects parts.now.slots answer.now) }
 {
@@ -265,7 +265,7 @@ fn after_look(alloc: Global, parts: &StoreParts, answer: &DiskAnswer) -> Result<
     }
 }
 
-/// What comes where the objects directory is there: its core, or a listing, to count the indices.
+/// Returns the stage where the objects directory is there: its core, or a listing, to count the indices.
 fn begun(alloc: Global, objects: &PathText, slots: Slots) -> Result<OpenStage, NoMemory>
     ensures begun { IfOk result (λ next. next ≡ order.begun objects.now slots) }
 {
@@ -279,7 +279,7 @@ fn begun(alloc: Global, objects: &PathText, slots: Slots) -> Result<OpenStage, N
     }
 }
 
-/// What comes behind a step of the listing.
+/// Returns the stage after a step of the listing.
 fn listed_on(percent: u32, minimum: u32, step: ListStep) -> OpenStage
     ensures listed { result ≡ order.listed_on percent minimum step }
 {
@@ -294,7 +294,7 @@ fn listed_on(percent: u32, minimum: u32, step: ListStep) -> OpenStage
     }
 }
 
-/// How many slots a store is to have for so many indices.
+/// Returns how many slots a store is to have for so many indices.
 #[tactic(auto, using(crate::proofs::SlotsLemmas::part_fits))]
 fn slots_for(percent: u32, minimum: u32, indices: usize) -> u64
     ensures slots { result ≡ order.slots_for percent minimum indices }
@@ -308,7 +308,7 @@ fn slots_for(percent: u32, minimum: u32, indices: usize) -> u64
     }
 }
 
-/// The core is to be made, unless no store may have so many slots.
+/// Returns the stage that asks for a core, unless no store may have so many slots.
 fn numbered(slots: u64) -> OpenStage
     ensures numbered { result ≡ order.numbered slots }
 {

@@ -1,10 +1,10 @@
--- How many slots for indices a store is given, and the options of a store where nothing else is asked for.
+-- How many slots for indices a store gets, and the default options of a store.
 use Rattle.std.specs.Prelude.{None}
 use Rattle.gix_odb_calls.specs.declared.init.Options.{Options}
 use Rattle.gix_odb_calls.specs.declared.init.Slots.{Slots}
 use Rattle.gix_odb_calls.specs.declared.init.Slots.TheVariants.{AsNeededByDiskState}
 
--- eleven slots for ten indices that are there when the store is opened, and 32 at least
+-- eleven slots for each ten indices that are there when the store is opened, and at least 32
 abbrev pub default_slots : Slots
 default_slots = AsNeededByDiskState 110 32
 

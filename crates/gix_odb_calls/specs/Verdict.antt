@@ -21,7 +21,7 @@ use Rattle.gix_odb_calls.specs.declared.verdict.FolderCall.{FolderCall}
 use Rattle.gix_odb_calls.specs.declared.verdict.Verdict.{Verdict}
 use Rattle.gix_odb_calls.specs.declared.verdict.Verdict.TheVariants as verdicts
 
--- ---- what a folder is asked
+-- ---- the ask to a folder
 
 -- a folder is asked for the object of an id
 abbrev pub asking : (limit : Option ℕ) → Want → ObjectId → Path → FolderCall
@@ -33,7 +33,7 @@ folder_ask call = want_ask call.want call.path
 
 -- ---- what the answer means for the query
 
--- an error of a folder is told as it is
+-- an error of a folder is passed on
 abbrev pub refused : Error → Reply
 refused error = replies.Refused (call_errors.Find (find_errors.Loose error))
 

@@ -17,11 +17,11 @@ use thiserror::Error;
 pub enum Call {
     /// Finds an object by its id.
     Find(ObjectId),
-    /// Tells the kind and the size of an object by its id.
+    /// Returns the kind and the size of an object by its id.
     Header(ObjectId),
     /// Tests whether an object is there.
     Test(ObjectId),
-    /// Writes an object, whose data are to be so many bytes, under the id where it is known to have one.
+    /// Writes an object with `size` bytes of data, under the id if it is known.
     Write {
         kind: Kind,
         size: u64,
@@ -31,7 +31,7 @@ pub enum Call {
 }
 
 impl Call {
-    /// What the call asks; a write asks nothing.
+    /// The query of the call; a write has none.
     pub fn query(&self) -> Option<Query>
         ensures query { result ≡ query_of self.now }
     {
@@ -65,7 +65,7 @@ impl Call {
         }
     }
 
-    /// Whether the ids that the call names are of a hash. A write of an object whose id isn't known names none.
+    /// Whether the ids of the call are of this hash. A write of an object whose id isn't known has none.
     pub fn is_of_hash(&self, hash: gix_hash::Kind) -> bool
         ensures of_hash { result ≡ is_of_hash hash self.now }
     {
@@ -83,17 +83,17 @@ fn asked(want: Want, of: ObjectId) -> Option<Query>
     Some(Query { want, of })
 }
 
-/// What a call, or an opening, ends with.
+/// The end of a call, or of an opening.
 #[derive(Debug, Drop)]
 pub enum Reply {
-    /// The store is open, and has so many slots.
+    /// The store is open, and has this many slots.
     Opened { slots: u16 },
     Found { kind: Kind, bytes: ByteList },
     Header(find::Header),
     /// Whether the object is there.
     Tested(bool),
     NotFound,
-    /// The object has its name, by this id.
+    /// The object has its name, this id.
     Wrote(ObjectId),
     Refused(CallError),
 }
@@ -118,7 +118,7 @@ impl Reply {
     }
 }
 
-/// Why a call was refused, by what it was to do.
+/// Why a call was refused, by the kind of call.
 #[derive(Debug, Drop, Error)]
 pub enum CallError {
     #[error("{0}")]

@@ -1,4 +1,4 @@
-//! What a header tells, and why a find, a look for a header or a test of presence was refused.
+//! The header of an object, and why a find, a header look-up or a test of presence was refused.
 ghost use Rattle.std.specs.Prelude.{◌≡◌, IfOk};
 
 use crate::load_index;
@@ -7,7 +7,7 @@ use odb_base::NoMemory;
 use std::alloc::Global;
 use thiserror::Error;
 
-/// The header of an object, by where it stands.
+/// The header of an object, by where the object is.
 #[derive(Clone, Copy, Debug, PartialEq, Eq, PartialOrd, Ord, Hash)]
 pub enum Header {
     /// In a loose file. The size is in bytes.
@@ -16,19 +16,19 @@ pub enum Header {
     Packed { kind: Kind, size: u64 },
 }
 
-/// Why a find, a look for a header or a test of presence was refused.
+/// Why a find, a header look-up or a test of presence was refused.
 #[derive(Debug, Drop, Error)]
 pub enum Error {
     /// By the loose objects of a folder.
     #[error("{0}")]
     Loose(gix_odb_loose::find::Error),
-    /// No entry stands in the pack where the index says.
+    /// There is no entry in the pack where the index says.
     #[error("there is no entry where the index says")]
     Pack,
     /// The indices of the store could not be brought up to date.
     #[error("{0}")]
     LoadIndex(load_index::Error),
-    /// A pack could not be read, or its bytes are none.
+    /// A pack could not be read, or its bytes are no pack.
     #[error("a pack could not be read")]
     LoadPack,
     /// The entry has a type that is no kind.

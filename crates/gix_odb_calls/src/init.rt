@@ -1,4 +1,4 @@
-//! Opening a store: the folders, the replaced ids and the options that an opening is handed, and why it was refused.
+//! Opening a store: its folders, replaced ids and options, and why it was refused.
 ghost use Rattle.std.specs.Prelude.{◌≡◌, IfOk};
 ghost use Rattle.gix_odb_calls.specs.Slots.{default_options, default_slots};
 
@@ -11,15 +11,15 @@ use thiserror::Error;
 /// Folders, in order.
 pub type PathList = Sequence<PathText>;
 
-/// Ids, each with another that is sought in its place.
+/// Ids, each with its replacement, which is sought instead.
 pub type IdPairs = Sequence<(ObjectId, ObjectId)>;
 
 /// How many slots for indices a store has.
 #[derive(Clone, Copy)]
 pub enum Slots {
     Given(u16),
-    /// As many as the indices that a listing finds when the store is opened ask for: so many in a hundred of them, and a
-    /// number at least.
+    /// By the indices that a listing finds when the store is opened: this percentage of their number, and at least
+    /// the minimum.
     AsNeededByDiskState { percent: u32, minimum: u32 },
 }
 
@@ -38,9 +38,9 @@ impl Default for Slots {
 #[derive(Clone, Copy)]
 pub struct Options {
     pub slots: Slots,
-    /// The most bytes of data that an object may have to be found, if there is a limit.
+    /// The largest size in bytes of an object's data that a find allows, if there is a limit.
     pub alloc_limit_bytes: Option<u64>,
-    /// The most changes of the list of indices that a call bears: at most 1,000,000.
+    /// The most changes of the list of indices that a call tolerates: at most 1,000,000.
     pub max_changes: u32,
 }
 
@@ -62,7 +62,7 @@ pub enum Error {
     /// The objects directory is no directory, links followed.
     #[error("the objects directory is not a directory")]
     NotADirectory,
-    /// More slots than 32,767.
+    /// More than 32,767 slots.
     #[error("{asked} slots are too many")]
     TooManySlots { asked: u64 },
     /// A call of the disk failed.

@@ -1,8 +1,8 @@
-//! What the callers of a store over several folders and the store say to each other.
+//! The calls and steps on a store over several folders, and their answers.
 //!
-//! A caller hands in what it asks, as a `Call` on an open handle or as a `Step` of a world, and is told what that came to,
-//! as a `Reply` or an `Outcome`. How a store comes to its reply is the matter of the crates above. So whoever makes
-//! calls or tells replies, as a reader of scripts does, needs none of them.
+//! A caller passes a `Call` on an open handle, or a `Step` of a world, and gets a `Reply` or an `Outcome`. The crates
+//! above say how a store finds its reply. So a crate that only makes calls or prints replies, such as a reader of
+//! scripts, needs none of them.
 //! ```rust
 //! let step = Step::Start { handle, call: Call::Find(id) };
 //! if let Outcome::Reply(reply) = outcome {

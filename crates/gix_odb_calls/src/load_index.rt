@@ -4,10 +4,10 @@ use thiserror::Error;
 /// Why the indices of a store could not be brought up to date.
 #[derive(Clone, Copy, Debug, Error)]
 pub enum Error {
-    /// A call of the disk failed; or the folder of packs, or a part of its way, is of the wrong kind or a link loop.
+    /// A call of the disk failed; or the folder of packs, or a part of its way, has the wrong kind or is a link loop.
     #[error("a call of the disk failed, or a folder of packs is none")]
     Io,
-    /// A listing has more new indices than slots are free.
+    /// A listing has more new indices than there are free slots.
     #[error("{current} slots are too few: {needed} more are needed")]
     InsufficientSlots {
         current: usize,
@@ -16,7 +16,7 @@ pub enum Error {
     /// A number of the store's core cannot rise any more.
     #[error("the generation or the state number cannot rise any more")]
     GenerationOverflow,
-    /// Others published more lists during the call than it may meet.
+    /// Others published more lists during the call than it tolerates.
     #[error("the list of packs went from {begun} to {now} during the call, and {own} of these lists were its own")]
     Unsettled {
         /// The number of the list at the call's first event.

@@ -1,4 +1,4 @@
-//! What is asked of the objects of a store.
+//! Queries on the objects of a store.
 ghost use Rattle.std.specs.Prelude.{◌≡◌};
 ghost use Rattle.gix_odb_calls.specs.Query.{call_of};
 
@@ -6,17 +6,17 @@ use crate::call::Call;
 use gix_hash::ObjectId;
 use gix_object::Want;
 
-/// What a call asks that writes nothing.
+/// The query of a call that writes nothing.
 #[derive(Clone, Copy)]
 pub struct Query {
-    /// What is wanted of the object.
+    /// What the query wants of the object.
     pub want: Want,
-    /// The id that the call names.
+    /// The id in the call.
     pub of: ObjectId,
 }
 
 impl Query {
-    /// The call that asks it.
+    /// The call of the query.
     pub fn call(self) -> Call
         ensures call { result ≡ call_of self }
     {

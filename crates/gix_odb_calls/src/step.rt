@@ -1,4 +1,4 @@
-//! The steps of a world, and what each comes to.
+//! The steps of a world, and their outcomes.
 ghost use Rattle.std.specs.Prelude.{◌≡◌, IfOk};
 
 use crate::call::{Call, Reply};
@@ -15,24 +15,24 @@ pub enum Step {
         handle: u32,
         /// The objects directory, which is the first folder of the store.
         path: PathText,
-        /// The other folders, in the order in which they are asked: at most 255.
+        /// The alternates: the other folders, in the order in which they are searched, at most 255.
         folders: PathList,
-        /// The hash that the ids of the store are of.
+        /// The hash of the store's ids.
         hash: gix_hash::Kind,
-        /// Each id with the one that is sought in its place.
+        /// Each id with its replacement, which is sought instead.
         replacements: IdPairs,
         options: Options,
     },
-    /// Begins a further handle on the store of an idle one, in the modes of that, under a free handle number.
+    /// Opens another handle on the store of an idle one, in the same modes, under a free handle number.
     Clone {
         handle: u32,
         from: u32,
     },
-    /// Closes an idle handle, whose number is free then.
+    /// Closes an idle handle; its number is then free.
     Close {
         handle: u32,
     },
-    /// From now on an idle handle seeks each id itself, and not what replaces it.
+    /// From now on an idle handle seeks each id itself, and not its replacement.
     Ignore {
         handle: u32,
     },
@@ -45,7 +45,7 @@ pub enum Step {
     Turn {
         handle: u32,
     },
-    /// Makes a change that another program makes.
+    /// Makes a change as another program.
     Disk(Change),
 }
 
@@ -100,7 +100,7 @@ fn opening_copy(
     })
 }
 
-/// What a step comes to.
+/// The outcome of a step.
 #[derive(Debug, Drop)]
 pub enum Outcome {
     Applied,
@@ -134,9 +134,8 @@ impl Outcome {
 pub enum Why {
     /// The handle number isn't free.
     HandleTaken,
-    /// A folder is named twice or is the objects directory, an id is replaced twice, an id is of another hash than the
-    /// store, there are more than 255 folders beside the objects directory, or a call is to bear more than 1,000,000
-    /// changes.
+    /// A folder is named twice or is the objects directory, an id is replaced twice, an id is of another hash than
+    /// the store, there are more than 255 alternates, or a call may tolerate more than 1,000,000 changes.
     BadOpen,
     /// No handle has the number.
     NoHandle,
@@ -146,7 +145,7 @@ pub enum Why {
     Busy,
     /// The id of the call is of another hash than the store.
     WrongHash,
-    /// The tree has no place for the change.
+    /// The change is impossible in the tree.
     ImpossibleChange,
     /// A path of an index or of a pack would show a second content, or a multi-pack index one at the same time.
     TwoContents,

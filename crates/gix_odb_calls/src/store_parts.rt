@@ -9,15 +9,15 @@ use std::collections::BTreeMap;
 pub struct StoreParts {
     /// The objects directory, which is the first folder of the store.
     pub objects: PathText,
-    /// The other folders, in the order in which they are asked.
+    /// The alternates: the other folders, in the order in which they are searched.
     pub folders: PathList,
-    /// The hash that the ids of the store are of, and with which it hashes what it writes.
+    /// The hash of the store's ids, with which it hashes what it writes.
     pub object_hash: gix_hash::Kind,
-    /// What is sought in the place of an id.
+    /// The replacement of an id, which is sought instead.
     pub replacements: BTreeMap<ObjectId, ObjectId>,
-    /// The most bytes of data that an object may have to be found, if there is a limit.
+    /// The largest size in bytes of an object's data that a find allows, if there is a limit.
     pub alloc_limit_bytes: Option<u64>,
     pub slots: Slots,
-    /// The most changes of the list of indices that a call bears.
+    /// The most changes of the list of indices that a call tolerates.
     pub max_changes: u32,
 }

@@ -27,9 +27,9 @@ pub struct FolderCall {
 pub enum Verdict {
     /// The query ends.
     Ends(Reply),
-    /// The object isn't in this folder, so the next one is asked.
+    /// The object isn't in this folder, so the next one is searched.
     Misses,
-    /// The folder can't tell. The error is noted, and the next folder is asked.
+    /// The folder can't tell. The error is recorded, and the next folder is searched.
     Notes(gix_odb_loose::find::Error),
 }
 
@@ -110,7 +110,7 @@ fn verdict_on_find(answer: Result<Option<(Kind, ByteList)>, gix_odb_loose::find:
     }
 }
 
-// The same of a header.
+// A header or an error ends a header look-up; nothing at the path is a miss.
 fn verdict_on_header(answer: Result<Option<(u64, Kind)>, gix_odb_loose::find::Error>) -> Verdict
     ensures verdict { result ≡ queries.verdict_on_header answer }
 {
@@ -121,7 +121,7 @@ fn verdict_on_header(answer: Result<Option<(u64, Kind)>, gix_odb_loose::find::Er
     }
 }
 
-// A look that failed is noted, so that another folder may still say yes.
+// A failed test is recorded, so that another folder may still say yes.
 fn verdict_on_test(answer: Result<bool, gix_odb_loose::find::Error>) -> Verdict
     ensures verdict { result ≡ queries.verdict_on_test answer }
 {
@@ -135,7 +135,7 @@ fn verdict_on_test(answer: Result<bool, gix_odb_loose::find::Error>) -> Verdict
     }
 }
 
-/// The reply that tells the error of a folder as it is.
+/// The reply that passes on the error of a folder.
 pub fn refused(error: gix_odb_loose::find::Error) -> Reply
     ensures refused { result ≡ queries.refused error }
 {

@@ -6,7 +6,7 @@ use odb_base::NoMemory;
 use std::alloc::Global;
 use thiserror::Error;
 
-/// Why a write was refused. No name of an object was made then.
+/// Why a write was refused. It made no name of an object.
 #[derive(Debug, Drop, Error)]
 pub enum Error {
     /// By the loose objects of the objects directory.

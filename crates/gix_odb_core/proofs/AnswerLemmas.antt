@@ -1,4 +1,4 @@
--- Which events answer what, and what the answer tells of the shape.
+-- Which events have which answers, and what the answer says of the shape.
 use Rattle.std.proofs.Common.{◌≡◌, ℕ, ◌+◌, Bool, true, false, cond, ◌==◌, List, set, Option, Some, None, Ok, Err, refl, sym, ap, ◌∙◌}
 use Rattle.gix_odb_events.specs.Slots.{slot_at}
 use Rattle.gix_odb_core.specs.Replay.{answer_of, publish_answer, put_answer}
@@ -18,7 +18,7 @@ use Rattle.gix_odb_core.specs.declared.shape.Shape.{Shape}
 use Rattle.gix_odb_events.specs.declared.slot.Filled.{Filled}
 use Rattle.gix_odb_events.specs.declared.view.View.{View}
 
--- ---- which kind of answer it is
+-- ---- the kind of answer
 
 -- the view of an answer that published a listing, and of one that confirmed the list
 abbrev pub published_in : Answer → Option View
@@ -59,7 +59,7 @@ publish-unstored shape number (Published now) = refl
 
 -- ---- what was published
 
--- where an event is answered so, it is a listing that came to this shape
+-- if an event has this answer, it is a listing that leads to this shape
 pub record IsPublish (shape : Shape) (seat number : ℕ) (happens : Event) (view : View) : Type 0 where
   pub listing : Listing
   pub now : Shape

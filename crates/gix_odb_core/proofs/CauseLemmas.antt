@@ -55,7 +55,7 @@ refused-leaves entries shape number seat (event.PutPack pack path file) refusal 
 refused-leaves entries shape number seat (event.PassOver slot path why) refusal h = absurd cc
 refused-leaves entries shape number seat (event.Publish listing) refusal h = refused-publish shape number (publishing shape listing) refusal h
 
--- ---- a counter that stands at its greatest value
+-- ---- a counter that is at its greatest value
 
 overflows-put : (shape now : Shape) (number : ℕ) (filled : Option Filled) → put_answer shape now number filled ≡ Err refusals.GenerationOverflow → PutOverflows shape filled
 overflows-put shape now number None h = absurd cc

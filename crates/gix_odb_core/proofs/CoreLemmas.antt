@@ -21,7 +21,7 @@ use Rattle.gix_odb_core.specs.declared.journal.Entry.{Entry}
 use Rattle.gix_odb_core.specs.declared.shape.Shape.{Shape}
 use Rattle.gix_odb_core.specs.declared.state.State.{State}
 
--- an answer is want of memory, or another one
+-- an answer is that memory ran out, or another one
 pub cases_memory : (answer : Answer) → (answer ≡ Err refusals.NoMemory) ⊎ ¬ (answer ≡ Err refusals.NoMemory)
 cases_memory (Ok effect) = inr (λ h. cc)
 cases_memory (Err refusals.NoMemory) = inl refl
@@ -96,7 +96,7 @@ answer-replayed opening old now core seat happens answer next = elim (cases_memo
   | inr some ↦ inr ((next some).answer ∙ ap (λ (s : Shape). answer_of (entries_in old) s (number_behind (entries_in old)) seat happens) core.replayed)
 ]
 
--- what holds of every core holds after an event
+-- the invariant of every core holds after an event
 pub core-after : (opening : Opening) (old now : State) (core : IsCore (record { opening = opening; state = old })) (seat : ℕ) (happens : Event) (answer : Answer)
     → CanHappen (replay (shape_of opening) (entries_in old)) seat happens
     → (answer ≡ Err refusals.NoMemory → IsSameState old now) → (¬ (answer ≡ Err refusals.NoMemory) → IsNextState old seat happens answer now)
@@ -106,10 +106,10 @@ core-after opening old now core seat happens answer can memory next = elim (case
   | inr some ↦ core-next opening old now core seat happens answer (next some) some can
 ]
 
--- ---- what an event answers and leaves
+-- ---- the answer to an event, and what it leaves
 
 module _ (opening : Opening) (old now : State) (core : IsCore (record { opening = opening; state = old })) (seat : ℕ) (happens : Event) where
-  -- the shape is what the event makes of it
+  -- the shape is the one after the event
   pub replayed-after : (answer : Answer) → (¬ (answer ≡ Err refusals.NoMemory) → IsNextState old seat happens answer now) → ¬ (answer ≡ Err refusals.NoMemory)
       → replay (shape_of opening) (entries_in now) ≡ after (replay (shape_of opening) (entries_in old)) seat happens
   replayed-after answer next some = sym (replays opening old now core seat happens answer (next some) some) ∙ (next some).shape ∙ ap (λ (s : Shape). after s seat happens) core.replayed

@@ -1,4 +1,4 @@
--- Every event keeps the counts over a shape small: no slot has more packs than a number of 32 bits tells, and the list is no longer than the slots are many.
+-- Every event keeps the counts over a shape small: no slot has more packs than 32 bits can count, and the list is no longer than there are slots.
 use Rattle.std.proofs.Common.{◌≡◌, ℕ, ◌+◌, ◌<◌, ◌≤◌, Bool, true, false, cond, ◌==◌, ◌||◌, nat_eq, All, List}
 use Rattle.std.proofs.Common.{[], ◌∷◌, length, set, position, Option, Some, None, refl, sym, subst, arith}
 use Rattle.std.specs.List.{cons_option, list_any}

@@ -1,4 +1,4 @@
--- What an event does to a file of a slot, and to a slot that it neither empties nor takes over.
+-- How an event changes a file of a slot, and a slot that it neither empties nor takes over.
 use Rattle.std.proofs.Common.{◌≡◌, ℕ, Bool, true, false, cond, List, [], ◌∷◌, map, Some, None, ◌⊎◌, inl, inr, refl, sym, subst}
 use Rattle.std.specs.List.{AllZip, list_any}
 use Rattle.std.proofs.lemmas.Bool.{and_parts, not-true}

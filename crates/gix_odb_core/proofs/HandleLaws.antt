@@ -84,7 +84,7 @@ seats_stay_in_order (entry ∷ entries) shape rising =
 pub seats_of_a_journal_are_in_order : (opening : Shape) → IsOpened opening → (entries : List Entry) → IsRising (replay opening entries).handles
 seats_of_a_journal_are_in_order opening opened entries = seats_stay_in_order entries opening (subst (λ (s : Shape). IsRising s.handles) (sym opened.is) tt)
 
--- ---- what is registered tells the handles
+-- ---- the registrations determine the handles
 
 unregistered : (handles : Handles) (seat : ℕ) → AreAbove seat handles → registered handles seat ≡ None
 unregistered [] seat above = refl
@@ -150,7 +150,7 @@ without_seat-same (first ∷ handles) seat rising = by (nat_cmp seat first.0) (r
     by Equal order is rest = unregistered handles seat (subst (λ k. AreAbove k handles) (sym order) rising.0)
     by Greater order is rest = let this : is_eq (nat_cmp seat first.0) ≡ false = ap is_eq is in rw this rest
 
--- what an event makes of the registration of its own seat
+-- the registration of its own seat after an event
 abbrev pub own : Event → Option Bool → Option Bool
 own (event.Register stable) before = Some stable
 own event.Upgrade before = Some true

@@ -1,4 +1,4 @@
--- Laws of what a listing comes to: the view behind it has every row, in the listing's order, and no listed file is garbage or missing.
+-- Laws of listings: the view after one has every row, in the listing's order, and no listed file is garbage or missing.
 use Rattle.std.proofs.Common.{Contains, ◌≡◌, ℕ, suc, ◌<◌, Bool, true, false, nat_eq, List, [], ◌∷◌, length, map, get_or, Option, Some, None, option_map, inl, inr, refl, sym, ap, subst, ◌∙◌, arith}
 use Rattle.std.specs.List.{cons_option, list_any}
 use Rattle.std.proofs.lemmas.List.Elements.{Contains-get_or}
@@ -26,9 +26,9 @@ use Rattle.gix_odb_slots.proofs.PublishLaws.{filled_from_holds, length-list_afte
 use Rattle.gix_odb_core.proofs.ShownLemmas.{gives, shown_unlisted}
 use Rattle.gix_odb_core.proofs.SlotTurnLemmas.{HasRoom, confirmed_list_is_the_same, list_by, publish_gives, slots_by}
 
--- ---- what a listing comes to
+-- ---- the outcome of a listing
 
--- where a listing is published or confirmed, the shape has these slots and this list then
+-- where a listing is published or confirmed, the shape then has these slots and this list
 record IsSettled (shape : Shape) (listing : Listing) (now : Shape) : Type 0 where
   slots : now.slots ≡ slots_by shape listing.rows
   list : now.list ≡ list_by shape listing.rows
@@ -65,7 +65,7 @@ module _ (past : List Entry) (shape : Shape) (number seat : ℕ) (listing : List
       by (Published shape) s (inl is) = (s, (let same : view_of shape number ≡ view = cc in sym same))
       by (Published shape) s (inr is) = absurd cc
 
-  -- the view is that of the shape behind the listing
+  -- the view is that of the shape after the listing
   pub refreshed_view_shows_the_shape : view ≡ view_of now number
   refreshed_view_shows_the_shape = settled_and_shown.1
 

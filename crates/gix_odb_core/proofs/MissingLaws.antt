@@ -117,7 +117,7 @@ stays_missing-push [] shape entry place path stays now = (stays, now)
 stays_missing-push (first ∷ entries) shape entry place path stays now = (stays.0, stays_missing-push entries (after_entry shape first) entry place path stays.1 now)
 
 module _ (opening : Shape) where
-  -- each file that is missing behind these entries has been missed since one of them
+  -- each file that is missing after these entries has been missed since one of them
   abbrev AreMissed : List Entry → Type 0
   AreMissed entries = (place : ℕ) (path : Path) → IsMissingAt (replay opening entries) place path → IsMissedSince opening entries place path
 

@@ -29,7 +29,7 @@ then one two three first next =
     let e = first.generation in let f = next.generation in
     record { list_no = omega arith; state_id = omega arith; generation = omega arith; folders = next.folders ∙ first.folders; slots = next.slots ∙ first.slots }
 
--- no number falls by an event
+-- no number falls in an event
 pub event_lowers_no_number : (shape : Shape) (seat : ℕ) (happens : Event) → NeverFalls shape (after shape seat happens)
 event_lowers_no_number shape seat (event.Register stable) = record { list_no = omega arith; state_id = omega arith; generation = omega arith; folders = refl; slots = refl }
 event_lowers_no_number shape seat event.Upgrade = record { list_no = omega arith; state_id = omega arith; generation = omega arith; folders = refl; slots = refl }
@@ -86,7 +86,7 @@ module _ (past : List Entry) (shape : Shape) (number seat : ℕ) (happens : Even
       let it = published_by past shape number seat view happens (ap published_in is) in
       subst (RisesByAList shape) (sym it.then) (rises shape it.listing it.now it.comes_to)
 
-  -- and the view that it hands over has the number
+  -- and the returned view has the number
   pub published_view_has_the_next_list_number : answer_of past shape number seat happens ≡ Ok (effects.Published view) → view.list_no ≡ shape.list_no + 1
   published_view_has_the_next_list_number is =
       let it = published_by past shape number seat view happens (ap published_in is) in

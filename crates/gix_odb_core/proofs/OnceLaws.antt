@@ -1,4 +1,4 @@
--- Laws of listed slots: none is shown twice, is twice still to be loaded, or counts twice.
+-- Laws of listed slots: none is shown twice, to be loaded twice, or counted twice.
 use Rattle.std.proofs.Common.{◌≡◌, ℕ, ◌<◌, ◌≤◌, false, nat_eq, Option, Some, None, ◌⊎◌, inl, inr, sym, ap, ◌∙◌, arith}
 use Rattle.std.specs.List.{IsDistinct}
 use Rattle.std.proofs.lemmas.Bool.{cases_lt, eqb-false}
@@ -46,7 +46,7 @@ module _ (shape : Shape) (is : IsShape shape) where
       apart one other x y differ at its =
           ap (λ k. nat_eq k y.slot) (place_of one (slot_at shape.slots one) x at) ∙ ap (nat_eq one) (place_of other (slot_at shape.slots other) y its) ∙ differ
 
-  -- and no two that are still to be loaded
+  -- and no two that are to be loaded
   pub listed_slots_are_to_be_loaded_once : (number : ℕ) → IsDistinct (λ (one other : Todo). nat_eq one.slot other.slot) (view_of shape number).todo
   listed_slots_are_to_be_loaded_once number =
       IsDistinct-filter_map (λ place. unloaded_slot place (slot_at shape.slots place)) nat_eq (λ (one other : Todo). nat_eq one.slot other.slot) apart shape.list is.distinct

@@ -1,4 +1,4 @@
--- The state of a core that was just made.
+-- The state of a new core.
 use Rattle.std.proofs.Common.{◌≡◌, ℕ, ◌≤◌, false, All, List, [], length, replicate, None, sym, ap, subst, ◌∙◌, arith}
 use Rattle.std.proofs.lemmas.List.{length-replicate}
 use Rattle.std.proofs.lemmas.List.Elements.{All-replicate}

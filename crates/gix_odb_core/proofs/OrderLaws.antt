@@ -39,7 +39,7 @@ idle_publish shape number Overflows is = refl
 idle_publish shape number (Unchanged now) is = absurd cc
 idle_publish shape number (Published now) is = absurd cc
 
--- an event that only asks, and one that is answered by nothing done, leaves the shape
+-- an event that only reads, or whose answer reports no change, leaves the shape
 pub idle_event_changes_nothing : (past : List Entry) (shape : Shape) (number seat : ℕ) (happens : Event) → (only_asks happens || is_idle (answer_of past shape number seat happens)) ≡ true
     → after shape seat happens ≡ shape
 idle_event_changes_nothing past shape number seat (event.Register stable) is = absurd cc
@@ -56,7 +56,7 @@ idle_event_changes_nothing past shape number seat (event.Publish listing) is = i
 
 -- ---- journals
 
--- two journals, one behind the other
+-- two journals, one after the other
 pub replay_of_joined_journals : (past later : List Entry) (shape : Shape) → replay shape (past ++ later) ≡ replay (replay shape past) later
 replay_of_joined_journals [] later shape = refl
 replay_of_joined_journals (entry ∷ past) later shape = replay_of_joined_journals past later (after_entry shape entry)
@@ -83,7 +83,7 @@ entry_without_effect_can_be_left_out opening past entry later next quiet =
     ∙ ap (λ (s : Shape). replay s later) (entry_without_effect_changes_nothing opening past entry next quiet)
     ∙ sym (replay_of_joined_journals past later opening)
 
--- entries behind others, each of which is next
+-- entries after others, each of which is next
 left_out : (opening : Shape) (later past : List Entry) → AreNext opening past later
     → replay (replay opening past) later ≡ replay (replay opening past) (filter (λ entry. not (has_no_effect entry)) later)
 left_out opening [] past next = refl
@@ -108,7 +108,7 @@ journal_replays_without_idle_entries opening entries legal = left_out opening en
 
 -- ---- journals of cores
 
--- each entry of a legal journal, where none lacked memory, has the answer that its event gives behind those before it
+-- each entry of a legal journal, where none lacked memory, has the answer that its event gives after the entries before it
 pub complete_journal_has_each_answer : (opening : Shape) (entries : List Entry) → IsLegal opening entries → IsComplete entries
     → (i : ℕ) (entry : Entry) → slice_get entries i ≡ Some entry
     → entry.answer ≡ answer_of (take i entries) (replay opening (take i entries)) (number_behind (take i entries)) entry.seat entry.event

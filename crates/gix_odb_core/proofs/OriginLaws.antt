@@ -1,4 +1,4 @@
--- Laws of what a journal tells: each filled slot is of a row that was published, and what was read of its files was stored by an entry.
+-- Laws of what a journal says: each filled slot is of a row that was published, and what was read of its files was stored by an entry.
 use Rattle.std.proofs.Common.{◌≡◌, ℕ, Bool, true, false, ◌&&◌, nat_eq, List, [], ◌∷◌, ◌++◌, map, Option, Some, None, ◌⊎◌, inl, inr, refl, sym, subst, ◌∙◌, append_assoc, append-nil}
 use Rattle.std.specs.List.{AllZip}
 use Rattle.std.proofs.lemmas.List.Elements.{Contains-append_left, Contains-push}
@@ -169,11 +169,11 @@ module _ (past : List Entry) (entry : Entry) (place : ℕ) where
 
 -- ---- the laws
 
--- each filled slot of a shape is told
+-- each filled slot of a shape has its origin in the entries
 abbrev pub IsShapeTold : List Entry → Shape → Type 0
 IsShapeTold entries shape = (place : ℕ) (filled : Filled) → slot_at shape.slots place ≡ Some filled → IsTold entries place filled
 
--- an entry more tells each slot after it
+-- after one more entry, each slot has its origin
 pub entry_tells_each_slot : (opening : Shape) (past : List Entry) (entry : Entry) → IsNext opening past entry → IsShapeTold past (replay opening past)
     → IsShapeTold (past ++ entry ∷ []) (replay opening (past ++ entry ∷ []))
 entry_tells_each_slot opening past entry next told = subst (IsShapeTold (past ++ entry ∷ [])) (sym (replay-push opening past entry)) (by (has_no_effect entry) refl)

@@ -1,4 +1,4 @@
--- What holds of each outcome of a publishing holds of a publishing.
+-- A property of each outcome of a publishing is a property of the publishing.
 use Rattle.std.proofs.Common.{◌≡◌, ℕ, ◌-◌, Bool, true, false, cond, not, ◌==◌, nat_lt, List, length, refl}
 use Rattle.gix_odb_core.specs.Handles.{is_any_stable}
 use Rattle.gix_odb_slots.specs.Publish.{free_places, list_after, new_rows, slots_after, taken}

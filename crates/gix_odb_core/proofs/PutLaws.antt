@@ -31,7 +31,7 @@ use Rattle.gix_odb_slots.proofs.SlotsAfterLemmas.{filled_within, slot_at-set_sam
 
 -- ---- an index
 
--- what a slot holds once an index is stored in it has the index's path and bytes
+-- a slot in which an index is stored has the index's path and bytes
 index_of-with : (path : Path) (file : FileBytes) (slot : Slot) (now : Filled) → slot_with_index path file slot ≡ Some now
     → (old : Filled) × (slot ≡ Some old) × (now.index ≡ Single (file_at path (Loaded file)))
 index_of-with path file None now is = absurd cc
@@ -49,7 +49,7 @@ index_of-with path file (Some old) now is = by old.index is
             (old, refl, sym (ap (λ (f : Filled). f.index) same) ∙ ap (λ (p : Path). Single (file_at p (Loaded file))) here)
         at false takes_it is = absurd cc
 
--- what was stored at a place stands there
+-- what was stored at a place is there
 stored_there : (shape : Shape) (slot : ℕ) (old now : Filled) → slot_at shape.slots slot ≡ Some old
     → shape_stored shape slot (Some now) ≡ record shape { slots = set shape.slots slot (Some now); state_id = shape.state_id + 1 } → slot_at (shape_stored shape slot (Some now)).slots slot ≡ Some now
 stored_there shape slot old now was is =
@@ -66,7 +66,7 @@ module _ (past : List Entry) (shape : Shape) (number seat : ℕ) (view : View) w
       subst (λ (o : Option Filled). shape_stored shape slot o ≡ record shape { slots = set shape.slots slot (Some it.holds); state_id = shape.state_id + 1 }) it.is it.then in
       (it.holds, ap (λ (o : Option Filled). slot_at (shape_stored shape slot o).slots slot) it.is ∙ stored_there shape slot of.0 it.holds of.1 put, of.2)
 
-  -- and the view that the event hands over shows it
+  -- and the view that the event returns shows it
   pub stored_index_is_shown : (slot : ℕ) (path : Path) (file : FileBytes) → answer_of past shape number seat (event.PutIndex slot path file) ≡ Ok (effects.Put view true)
       → (packs : List PackFile) × IsShown view (record { slot = slot; path = path; index = shown.Single file; packs = packs })
   stored_index_is_shown slot path file is =

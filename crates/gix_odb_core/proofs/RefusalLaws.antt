@@ -19,7 +19,7 @@ use Rattle.gix_odb_events.specs.declared.slot.Filled.{Filled}
 use Rattle.gix_odb_core.proofs.CauseLemmas.{overflow-cause, refused-leaves, too_few-cause}
 use Rattle.gix_odb_core.proofs.OrderLaws.{replay_of_joined_journals}
 
--- ---- no event asks for memory
+-- ---- no event runs out of memory by itself
 
 put_needs_none : (shape now : Shape) (number : ℕ) (filled : Option Filled) → ¬ (put_answer shape now number filled ≡ Err refusals.NoMemory)
 put_needs_none shape now number None is = cc
@@ -51,7 +51,7 @@ needs_none entries shape number seat (event.Publish listing) is = publish_needs_
 
 -- ---- the laws
 
--- what a refusal tells of the shape and the event
+-- what a refusal says of the shape and the event
 pub each_refusal_has_its_cause : (entries : List Entry) (shape : Shape) (number seat : ℕ) (happens : Event) (refusal : Refusal)
     → answer_of entries shape number seat happens ≡ Err refusal → RefusalCause shape happens refusal
 each_refusal_has_its_cause entries shape number seat happens (refusals.InsufficientSlots current needed) is = too_few-cause entries shape number seat happens current needed is

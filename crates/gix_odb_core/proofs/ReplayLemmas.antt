@@ -1,4 +1,4 @@
--- One entry more at the end of a journal, and entries that stand behind others.
+-- One entry more at the end of a journal, and entries that follow others.
 use Rattle.std.proofs.Common.{◌≡◌, zero, suc, ◌+◌, ◌<◌, ◌≤◌, inl, inr, List, [], ◌∷◌, ◌++◌, length, get_or, take, Option, Some, None, Ok, Err}
 use Rattle.std.proofs.Common.{refl, sym, ap, subst, ◌∙◌, arith, append_assoc, append-nil, length-append, cond, min}
 use Rattle.std.specs.List.{cons_option, slice_get}
@@ -32,7 +32,7 @@ passed_in-push entries entry = filter_map-append (λ e. passed_by e.event) entri
 pub refreshes_in-push : (entries : List Entry) (entry : Entry) → refreshes_in (entries ++ entry ∷ []) ≡ refreshes_in entries + cond (is_refresh entry.answer) 1 0
 refreshes_in-push entries entry = sum_by_push (λ (e : Entry). cond (is_refresh e.answer) 1 0) entries entry
 
--- the number of an entry is that of the newest, once it stands
+-- the number of an entry is the newest, once it is appended
 pub newest-push : (entries : List Entry) (entry : Entry) → newest (entries ++ entry ∷ []) ≡ number_behind entries
 newest-push entries entry = ap (λ n. min n 18446744073709551615) (length-append entries (entry ∷ []))
 
@@ -54,14 +54,14 @@ IsLegal-push opening entries entry legal next i one at = elim (cases_lt i (lengt
         let front : take i (entries ++ entry ∷ []) ≡ entries = ap (λ n. take n (entries ++ entry ∷ [])) here ∙ take-append_seam entries (entry ∷ []) in
         subst (λ (past : List Entry). IsNext opening past one) (sym front) (subst (λ (e : Entry). IsNext opening entries e) is next)
 
--- an entry that isn't refused for want of memory changes the shape as its event does
+-- an entry that isn't refused for lack of memory changes the shape as its event does
 pub after_answer-changes : (shape : Shape) (entry : Entry) (answer : Answer) → ¬ (answer ≡ Err refusals.NoMemory) → after_answer shape entry answer ≡ after shape entry.seat entry.event
 after_answer-changes shape entry (Ok effect) some = refl
 after_answer-changes shape entry (Err refusals.NoMemory) some = absurd (some refl)
 after_answer-changes shape entry (Err refusals.GenerationOverflow) some = refl
 after_answer-changes shape entry (Err (refusals.InsufficientSlots current needed)) some = refl
 
--- ---- entries that stand behind others
+-- ---- entries that follow others
 
 pub next_first : (opening : Shape) (past : List Entry) (entry : Entry) (later : List Entry) → AreNext opening past (entry ∷ later) → IsNext opening past entry
 next_first opening past entry later next = subst (λ (l : List Entry). IsNext opening l entry) (append-nil past) (next zero entry refl)
@@ -79,7 +79,7 @@ next_front opening past front later next i one is =
     slice_get-get_or (front ++ later) i one longer ∙ ap Some (get_or-append front later one i within ∙ get_or_from_slice_get front i one one is) in
     subst (λ (l : List Entry). IsNext opening (past ++ l) one) (take-append-le i front later (omega arith)) (next i one there)
 
--- those behind the first ones
+-- those after the first ones
 pub next_behind : (opening : Shape) (front past later : List Entry) → AreNext opening past (front ++ later) → AreNext opening (past ++ front) later
 next_behind opening [] past later next = subst (λ (l : List Entry). AreNext opening l later) (sym (append-nil past)) next
 next_behind opening (entry ∷ front) past later next =

@@ -75,7 +75,7 @@ module _ (shape : Shape) (rows : List ListingRow) (stable : Bool) (free : List �
         ∙ ap (λ (b : Bool). settled_as shape rows (slots_after (is_any_stable shape.handles) rows shape.slots shape.list)
         (list_after rows (slots_after (is_any_stable shape.handles) rows shape.slots shape.list)) b) renews
 
--- ---- a listing that there is room for is published so
+-- ---- a listing that there is room for is published in this way
 
 pub publishing-roomy : (shape : Shape) (listing : Listing) → listing.base ≡ shape.list_no
     → length (new_rows shape.slots listing.rows) ≤ length (free_places (is_any_stable shape.handles) listing.rows shape.slots shape.list)
@@ -86,7 +86,7 @@ publishing-roomy shape listing base room =
     ap (λ (b : Bool). cond b (TooFew (news - free)) (with_room shape listing.rows)) (sym (le-ltb free news room))
     ∙ ap (λ (b : Bool). cond (not b) Outdated (cond (nat_lt free news) (TooFew (news - free)) (with_room shape listing.rows))) (sym (eq-eqb listing.base shape.list_no base))
 
--- ---- a listing that leaves the slots and the list as they are
+-- ---- a listing that leaves the slots and the list unchanged
 
 first : (a b : Bool) → (not a && b) ≡ true → (a ≡ false) × (b ≡ true)
 first true b h = absurd cc

@@ -1,4 +1,4 @@
--- Laws of shapes: what holds of the shape that a core is made with, and stays so after every event that can happen.
+-- Laws of shapes: the invariant of the shape that a core is made with, kept by every event that can happen.
 use Rattle.std.proofs.Common.{◌≡◌, ℕ, ◌+◌, ◌<◌, ◌≤◌, true, false, ◌&&◌, nat_eq, zero, suc, List, [], ◌∷◌, ◌++◌}
 use Rattle.std.proofs.Common.{get_or, replicate, set, Option, Some, None, is_some, inl, inr, refl, sym, ap, subst, ◌∙◌, arith}
 use Rattle.std.specs.List.{AllPass, IsDistinct, filter_map}
@@ -177,7 +177,7 @@ opening_slots_are_empty count place = slot_at-get_or (replicate count None) plac
 pub opened_slots_are_empty : (opening : Shape) → IsOpened opening → (place : ℕ) → slot_at opening.slots place ≡ None
 opened_slots_are_empty opening opened place = ap (λ (s : Shape). slot_at s.slots place) opened.is ∙ opening_slots_are_empty opened.slots place
 
--- what holds of every shape holds of the one that a core is made with
+-- the invariant of every shape holds of the one that a core is made with
 pub opening_shape_is_a_shape : (slots folders generation state : ℕ) → IsShape (opening_shape slots folders generation state)
 unfolding IsDistinct
 opening_shape_is_a_shape slots folders generation state =

@@ -42,7 +42,7 @@ module _ (entries : List Entry) (place : ℕ) (row : ListingRow) where
       by None at maps = absurd cc
       by (Some bytes) at maps = let same : shown.Multi bytes ≡ l = cc in subst (IsLoadedTold entries place file.path row) same (of bytes at)
 
--- what a slot shows that is told
+-- what a slot whose origin is in the entries shows
 told_shows : (entries : List Entry) (place : ℕ) (filled : Filled) (shows : SnapshotIndex) → IsTold entries place filled → shown_slot place (Some filled) ≡ Some shows → IsShownTold entries shows
 told_shows entries place filled shows told is = by (loaded_index filled.index) refl is
   where

@@ -1,4 +1,4 @@
--- What a view shows is what its slots hold, listed or not, and back.
+-- What a view shows is what its slots hold, listed or not, and conversely.
 pub use Rattle.gix_odb_events.proofs.ShownLemmas.{contains_more, given_by, gives, shown_of_slot}
 use Rattle.std.proofs.Common.{Contains, ◌≡◌, ℕ, Bool, true, false, Some, inl, inr, refl, ap, ◌∙◌}
 use Rattle.gix_odb_core.specs.Views.{view_of}

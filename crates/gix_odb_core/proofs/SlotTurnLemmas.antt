@@ -1,4 +1,4 @@
--- What becomes of a slot by an event: the event takes a step on it, a new row takes it over, or it is let go.
+-- How an event changes a slot: the event takes a step on it, a new row takes it over, or it is emptied.
 use Rattle.std.proofs.Common.{Contains, ◌≡◌, ℕ, ◌<◌, ◌≤◌, Bool, true, false, cond, not, ◌==◌, nat_eq, nat_lt, List, length, set}
 use Rattle.std.proofs.Common.{Option, Some, None, Ok, Err, unwrap_or, ◌+◌, ◌-◌, ◌⊎◌, inl, inr, refl, sym, ap, subst, ◌∙◌, length-set}
 use Rattle.std.proofs.lemmas.Bool.{and_parts, cases_lt, eq-eqb, eqb-true, ltb-false}
@@ -25,9 +25,9 @@ use Rattle.gix_odb_slots.proofs.SlotsAfterLemmas.{seated, slot_at-set_other, slo
 use Rattle.gix_odb_core.proofs.FileStepLemmas.{FilledStep, SlotStep, filled-put_back, filled-trashed, slot-passed, slot-same, slot-with_index, slot-with_pack}
 use Rattle.gix_odb_slots.proofs.TakenLemmas.{taker}
 
--- ---- what publishing comes to
+-- ---- the outcomes of publishing
 
--- the slots and the list that a listing comes to, where there is room
+-- the slots and the list after a listing, if there is room
 abbrev pub slots_by : Shape → List ListingRow → List Slot
 slots_by shape rows = slots_after (is_any_stable shape.handles) rows shape.slots shape.list
 
@@ -40,7 +40,7 @@ renewed_by shape rows = takes_over shape.slots (taken (is_any_stable shape.handl
 abbrev pub HasRoom : Shape → List ListingRow → Type 0
 HasRoom shape rows = length (new_rows shape.slots rows) ≤ length (free_places (is_any_stable shape.handles) rows shape.slots shape.list)
 
--- what holds of each thing that publishing a listing can come to holds of what it comes to
+-- a property of each outcome of publishing a listing is a property of the outcome
 pub publish_gives : (P : Publishing → Type 0) (shape : Shape) (listing : Listing)
     → P Outdated → ((needed : ℕ) → P (TooFew needed)) → P Overflows
     → (HasRoom shape listing.rows → is_confirmed shape listing.rows (list_by shape listing.rows) ≡ true → P (Unchanged (record shape { slots = slots_by shape listing.rows })))
@@ -72,7 +72,7 @@ publish_gives P shape listing outdated few overflows unchanged published =
     by false true is = few (news - free)
     by false false is = settles (ltb-false free news is)
 
--- a list that is confirmed is the one that the listing comes to
+-- a list that is confirmed is the one after the listing
 pub confirmed_list_is_the_same : (shape : Shape) (rows : List ListingRow) → is_confirmed shape rows (list_by shape rows) ≡ true → list_by shape rows ≡ shape.list
 confirmed_list_is_the_same shape rows confirmed = (pointwise_decides (λ a b. (eqb-true a b, eq-eqb a b)) (list_by shape rows) shape.list).0 (and_parts _ _ (and_parts _ _ confirmed).0).1
 
@@ -169,7 +169,7 @@ stores shape happens seat (Some now) step place = by (shape.state_id == last_sta
     by true = slot-same happens place (slot_at shape.slots place)
     by false = set_turn (SlotStep happens) (slot-same happens) shape.slots seat (Some now) (step now refl) place
 
--- what becomes of each slot
+-- the change of each slot
 pub slot_turns : (shape : Shape) (seat : ℕ) (happens : Event) (place : ℕ) → SlotTurn shape happens place (slot_at shape.slots place) (slot_at (after shape seat happens).slots place)
 slot_turns shape seat (event.Register stable) place = inl (slot-same (event.Register stable) place (slot_at shape.slots place))
 slot_turns shape seat event.Upgrade place = inl (slot-same event.Upgrade place (slot_at shape.slots place))
@@ -208,7 +208,7 @@ pub filled_came_from : (shape : Shape) (seat : ℕ) (happens : Event) (place : �
 filled_came_from shape seat happens place now is =
     came_from shape happens place (slot_at shape.slots place) now (subst (SlotTurn shape happens place (slot_at shape.slots place)) is (slot_turns shape seat happens place))
 
--- what holds of a shape before and after an event holds after its entry
+-- a property of a shape before and after an event is one after its entry
 pub entry_gives : (P : Shape → Type 0) (shape : Shape) (entry : Entry) → P shape → P (after shape entry.seat entry.event) → P (after_entry shape entry)
 entry_gives P shape entry same changed = by entry.answer
   where
@@ -227,7 +227,7 @@ entry_cases P shape entry same changed = by entry.answer changed
     by (Err refusals.GenerationOverflow) then = then (λ h. cc)
     by (Err (refusals.InsufficientSlots current needed)) then = then (λ h. cc)
 
--- what holds of a shape, and with a file that is stored, holds after the event that stores it
+-- a property of a shape, also with a file that is stored, is one after the event that stores it
 pub stored_gives : (P : Shape → Type 0) (shape : Shape) (seat : ℕ) (filled : Option Filled) → P shape
     → ((now : Filled) → filled ≡ Some now → P (record shape { slots = set shape.slots seat (Some now); state_id = shape.state_id + 1 })) → P (shape_stored shape seat filled)
 stored_gives P shape seat None same changed = same

@@ -1,4 +1,4 @@
--- Laws of snapshots: a handle's snapshot is the view of its last entry that handed one over, which is the view of the shape behind that entry.
+-- Laws of snapshots: a handle's snapshot is the view of its last entry that returned one, which is the view of the shape after that entry.
 use Rattle.std.proofs.Common.{◌≡◌, ℕ, suc, ◌+◌, ◌<◌, ◌≤◌, Bool, true, false, cond, ◌==◌, nat_eq, List, [], ◌∷◌, ◌++◌, length, take, slice_get}
 use Rattle.std.proofs.Common.{filter, filter_map, Option, Some, None, Ok, Err, ◌⊎◌, inl, inr, refl, sym, ap, subst, ◌∙◌, append_assoc, append-nil, arith, eqb-true, length-append}
 use Rattle.std.specs.List.{cons_option, last_or}
@@ -31,7 +31,7 @@ use Rattle.gix_odb_core.proofs.OrderLaws.{replay_of_joined_journals}
 use Rattle.gix_odb_core.proofs.ReplayLemmas.{after_answer-changes, newest-push, next_first, next_rest, replay-push}
 use Rattle.gix_odb_core.proofs.StableLaws.{stable_handle_keeps_what_is_shown}
 
--- ---- the view that an entry hands over
+-- ---- the view that an entry returns
 
 module _ (shape now : Shape) (number : ℕ) (view : View) where
   put_hands : (filled : Option Filled) → view_in (put_answer shape now number filled) ≡ Some view → view ≡ view_of now number
@@ -49,7 +49,7 @@ publish_hands shape number view Overflows is = absurd cc
 publish_hands shape number view (Unchanged now) is = let same : view_of now number ≡ view = cc in sym same
 publish_hands shape number view (Published now) is = let same : view_of now number ≡ view = cc in sym same
 
--- a view that an event hands over is that of the shape behind it
+-- a view that an event returns is that of the shape after it
 pub handed_view_shows_the_shape : (past : List Entry) (shape : Shape) (number seat : ℕ) (happens : Event) (view : View) → view_in (answer_of past shape number seat happens) ≡ Some view
     → view ≡ view_of (after shape seat happens) number
 handed_view_shows_the_shape past shape number seat (event.Register stable) view is = let same : view_of (after shape seat (event.Register stable)) number ≡ view = cc in sym same
@@ -64,7 +64,7 @@ handed_view_shows_the_shape past shape number seat (event.PutPack pack path file
 handed_view_shows_the_shape past shape number seat (event.PassOver slot path why) view is = let same : view_of (after shape seat (event.PassOver slot path why)) number ≡ view = cc in sym same
 handed_view_shows_the_shape past shape number seat (event.Publish listing) view is = publish_hands shape number view (publishing shape listing) is
 
--- so is one that an entry of a legal journal hands over
+-- so is one that an entry of a legal journal returns
 pub entry_hands_the_view_behind_it : (opening : Shape) (past : List Entry) (entry : Entry) (view : View) → IsNext opening past entry → view_in entry.answer ≡ Some view
     → view ≡ view_of (replay opening (past ++ entry ∷ [])) (number_behind past)
 entry_hands_the_view_behind_it opening past entry view next handed = by next.answered
@@ -96,7 +96,7 @@ handed-append seat past later =
 snapshot-append : (seat : ℕ) (past later : List Entry) → snapshot_of seat (past ++ later) ≡ last_or (snapshot_of seat past) (handed_to seat later)
 snapshot-append seat past later = ap (last_or None) (handed-append seat past later) ∙ last_or-append None (handed_to seat past) (handed_to seat later)
 
--- an entry hands the handle of a seat a view, or none
+-- an entry returns the handle of a seat a view, or none
 entry_hands : (seat : ℕ) (entry : Entry) → (handed_to seat (entry ∷ []) ≡ []) ⊎ ((view : View) × (entry.seat ≡ seat) × (view_in entry.answer ≡ Some view) × (handed_to seat (entry ∷ []) ≡ view ∷ []))
 entry_hands seat entry = by (nat_eq entry.seat seat) (view_in entry.answer) refl refl
   where
@@ -114,7 +114,7 @@ entry_hands seat entry = by (nat_eq entry.seat seat) (view_in entry.answer) refl
           ap (λ (c : Bool). filter_map (λ (e : Entry). view_in e.answer) (cond c (entry ∷ []) [])) is ∙ ap (λ (v : Option View). cons_option v []) at,
         )
 
--- an entry that hands over no view, as a refused one, leaves each snapshot
+-- an entry that returns no view, such as a refused one, leaves each snapshot
 pub entry_without_a_view_leaves_snapshots : (seat : ℕ) (past : List Entry) (entry : Entry) → view_in entry.answer ≡ None → snapshot_of seat (past ++ entry ∷ []) ≡ snapshot_of seat past
 entry_without_a_view_leaves_snapshots seat past entry none = snapshot-append seat past (entry ∷ []) ∙ ap (last_or (snapshot_of seat past)) (by (entry_hands seat entry))
   where
@@ -151,13 +151,13 @@ module _ (seat : ℕ) where
   last-all [] past has = subst HasLast (sym (append-nil past)) has
   last-all (entry ∷ entries) past has = subst HasLast (append_assoc past (entry ∷ []) entries) (last-all entries (past ++ entry ∷ []) (last-push past entry has))
 
--- a handle's snapshot was handed over by an entry of its own, and no later one handed it another
+-- a handle's snapshot was returned by an entry of its own, and no later one returned it another
 pub snapshot_is_the_last_view_handed : (seat : ℕ) (entries : List Entry) (view : View) → snapshot_of seat entries ≡ Some view → IsHandedLast seat entries view
 snapshot_is_the_last_view_handed seat entries = last-all seat entries [] (λ view is. absurd cc)
 
 -- ---- with a stable handle
 
--- what is shown while a handle is stable is shown again by each view that an entry hands over before the handle is removed
+-- what is shown while a handle is stable is shown again by each view that an entry returns before the handle is removed
 pub later_view_shows_what_a_stable_handle_saw : (opening : Shape) (past middle : List Entry) (entry : Entry) (seat number : ℕ) (view : View) (index : SnapshotIndex)
     → registered (replay opening past).handles seat ≡ Some true → IsPossible (replay opening past) (middle ++ entry ∷ []) → IsNeverRemoved seat (middle ++ entry ∷ [])
     → IsNext opening (past ++ middle) entry → view_in entry.answer ≡ Some view → IsShown (view_of (replay opening past) number) index
@@ -185,7 +185,7 @@ later_view_has_no_lower_number opening past middle entry view next handed =
 
 -- ---- its number
 
--- a snapshot of a legal journal has the number of the entry that handed it over
+-- a snapshot of a legal journal has the number of the entry that returned it
 pub snapshot_has_the_number_of_its_entry : (opening : Shape) (seat : ℕ) (entries : List Entry) (view : View) → IsLegal opening entries → (is : IsHandedLast seat entries view)
     → view.snapshot.entry ≡ number_behind is.past
 snapshot_has_the_number_of_its_entry opening seat entries view legal is =

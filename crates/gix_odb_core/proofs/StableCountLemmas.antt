@@ -35,7 +35,7 @@ count_without old new seat count gone counted left removed =
     let after : stable_count new ≡ stable_count (without_seat old seat) = ap stable_count removed in
     (omega arith, omega arith)
 
--- and where a seat is set, it loses what stood there, and gains what is put there
+-- and where a seat is set, it loses the old registration, and gains the new one
 pub count_with : (old new : Handles) (seat : ℕ) (stable : Bool) (count gone : ℕ) → count ≡ stable_count old → gone ≡ stable_at (registered old seat)
     → IsStrictlySortedBy nat_cmp (keys_of old) → new ≡ with_seat old seat stable
     → (gone ≤ count) × (count - gone + stable_at (Some stable) ≡ stable_count new)

@@ -34,13 +34,13 @@ use Rattle.gix_odb_core.proofs.SlotTurnLemmas.{entry_cases, entry_gives}
 use Rattle.gix_odb_core.proofs.SnapshotLaws.{entry_hands_the_view_behind_it, handed-append, snapshot_is_the_last_view_handed}
 use Rattle.gix_odb_core.proofs.StableLaws.{StaysFilled, shows_again, slot_keeps_itself, slot_keeps_on, stable_event_keeps_each_slot, stable_handle_keeps_each_slot}
 
--- ---- an entry that hands the handle of a seat no view
+-- ---- an entry that returns the handle of a seat no view
 
 module _ (opening : Shape) (past : List Entry) (entry : Entry) (seat : ℕ) (next : IsNext opening past entry) (none : handed_to seat (entry ∷ []) ≡ []) where
   abbrev present : Shape
   present = replay opening past
 
-  -- an entry of its own hands over none
+  -- an entry of its own returns none
   own_hands_none : entry.seat ≡ seat → (view : View) → view_in entry.answer ≡ Some view → ⊥
   own_hands_none same view is =
       let one : handed_to seat (entry ∷ []) ≡ view ∷ [] =
@@ -84,9 +84,9 @@ module _ (opening : Shape) (past : List Entry) (entry : Entry) (seat : ℕ) (nex
           (own_seat present.handles seat entry.event rising)) ∙ stable)
       by took false is stable = sym (other_seat present.handles entry.seat entry.event seat (λ same. eqb-false entry.seat seat is (sym same))) ∙ stable
 
--- ---- entries that hand it none
+-- ---- entries that return it none
 
--- what is handed later, behind one entry
+-- the views returned later, after one entry
 handed_parts : (seat : ℕ) (entry : Entry) (later : List Entry) → handed_to seat (entry ∷ later) ≡ [] → (handed_to seat (entry ∷ []) ≡ []) × (handed_to seat later ≡ [])
 handed_parts seat entry later none = by (handed_to seat (entry ∷ [])) (handed_to seat later) refl refl (sym (handed-append seat (entry ∷ []) later) ∙ none)
   where
@@ -97,7 +97,7 @@ handed_parts seat entry later none = by (handed_to seat (entry ∷ [])) (handed_
     by (one ∷ ones) others is its all = let wrong : ◌≡◌ {A = List View} (one ∷ (ones ++ others)) [] = (λ i. sym is i ++ sym its i) ∙ all in absurd cc
 
 module _ (opening : Shape) (opened : IsOpened opening) (seat : ℕ) where
-  -- where the handle is stable behind them, it was stable before, and each filled slot keeps what was read
+  -- if the handle is stable after them, it was stable before, and each filled slot keeps what was read
   abbrev Holds : List Entry → List Entry → Type 0
   Holds past later =
       (registered (replay opening past).handles seat ≡ Some true)
@@ -143,7 +143,7 @@ module _ (opening : Shape) (opened : IsOpened opening) (entries later : List Ent
     (legal : IsLegal opening (entries ++ later)) (possible : IsPossible opening (entries ++ later))
     (snapshot : snapshot_of seat entries ≡ Some view) (stable : registered (replay opening entries).handles seat ≡ Some true) (stays : IsNeverRemoved seat later)
   where
-    -- the entry that handed the snapshot over
+    -- the entry that returned the snapshot
     handed : IsHandedLast seat entries view
     handed = snapshot_is_the_last_view_handed seat entries view snapshot
 
@@ -176,8 +176,8 @@ module _ (opening : Shape) (opened : IsOpened opening) (entries later : List Ent
             then : StaysFilled now place (replay opening (entries ++ later)) → StaysFilled before place (replay opening (entries ++ later))
             then (last, at, more) = (last, at, slot_keeps_on before now last keeps more)
 
-    -- what the snapshot of a stable handle shows is shown again by every view of the shape behind later entries, until one removes the handle:
-    -- at the same slot with the same path and bytes, and with at least the packs that were read
+    -- what the snapshot of a stable handle shows is shown again by every view of the shape after later entries, until one
+    -- removes the handle: at the same slot with the same path and bytes, and with at least the packs that were read
     pub stable_snapshot_is_shown_again : (number : ℕ) (index : SnapshotIndex) → IsShown view index
         → (again : SnapshotIndex) × IsShown (view_of (replay opening (entries ++ later)) number) again × ShowsAgain index again
     stable_snapshot_is_shown_again number index is =
@@ -193,7 +193,7 @@ module _ (opening : Shape) (opened : IsOpened opening) (entries later : List Ent
                 let again = shows_again place filled now index keeps gives in
                 (again.0, shown_by (replay opening (entries ++ later)) number place now again.0 there again.1, again.2)
 
--- so does each view that a later entry hands to a handle
+-- so does each view that a later entry returns to a handle
 pub stable_snapshot_is_handed_again : (opening : Shape) → IsOpened opening → (entries middle : List Entry) (entry : Entry) (seat : ℕ) (view now : View)
     → IsLegal opening (entries ++ (middle ++ entry ∷ [])) → IsPossible opening (entries ++ (middle ++ entry ∷ [])) → snapshot_of seat entries ≡ Some view
     → registered (replay opening entries).handles seat ≡ Some true → IsNeverRemoved seat (middle ++ entry ∷ []) → view_in entry.answer ≡ Some now

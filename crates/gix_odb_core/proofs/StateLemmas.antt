@@ -1,4 +1,4 @@
--- What the parts of an event's work come to together.
+-- The parts of an event's work together.
 use Rattle.std.proofs.Common.{◌≡◌, ℕ, ◌+◌, ◌≤◌, cond, List, [], ◌∷◌, ◌++◌, length, Option, Some, None, Ok, refl, sym, ap, subst, ◌∙◌, Bool, arith, length-append, vec_capacity}
 use Rattle.std.specs.Option.{option_to_list}
 use Rattle.std.proofs.lemmas.List.{append-nil}
@@ -25,7 +25,7 @@ use Rattle.gix_odb_core.specs.declared.plan.Plan.{Plan}
 use Rattle.gix_odb_core.specs.declared.state.State.{State}
 use Rattle.gix_odb_events.specs.declared.view.View.{View}
 
--- what holds of a state whose parts are those of the state before and an event
+-- the invariant of a state whose parts are those of the state before and an event
 module _ (old now : State) (seat : ℕ) (happens : Event) (given : Answer) (kept : IsKept old) (can : CanHappen old.shape seat happens)
     (leaves : LeavesFewPacks happens (turn_of (entries_in old) old.shape happens).shelf) (shape : now.shape ≡ after old.shape seat happens)
     (view : now.view ≡ view_of (after old.shape seat happens) (number_behind (entries_in old)))

@@ -1,4 +1,4 @@
--- What every event keeps: how many slots there are, and that a list number is at most the state number.
+-- What every event keeps: the number of slots, and that a list number is at most the state number.
 use Rattle.std.proofs.Common.{◌≡◌, ℕ, ◌+◌, ◌≤◌, Bool, true, false, cond, ◌==◌, length, set, Option, Some, None, refl, arith}
 use Rattle.std.proofs.lemmas.List.{length-set}
 use Rattle.gix_odb_core.proofs.PublishingRule.{publishing_rule}

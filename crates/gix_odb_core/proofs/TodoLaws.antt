@@ -1,4 +1,4 @@
--- Laws of what is still to be loaded: it is the index of a listed slot, of a row that a listing published, and nothing of it was read.
+-- Laws of what is to be loaded: it is the index of a listed slot, of a row that a listing published, and nothing of it was read.
 use Rattle.std.proofs.Common.{Contains, ◌≡◌, ℕ, ◌<◌, List, length, Option, Some, None, refl, sym, ap, subst, ◌∙◌, arith}
 use Rattle.gix_odb_core.specs.Views.{view_of}
 use Rattle.gix_odb_events.specs.View.{IsShown}
@@ -19,7 +19,7 @@ use Rattle.gix_odb_core.proofs.ShownLemmas.{given_by, shown_from, shown_of_slot}
 use Rattle.gix_odb_slots.proofs.SlotLemmas.{holds_path}
 use Rattle.gix_odb_slots.proofs.SlotsAfterLemmas.{filled_within}
 
--- what a view has still to be loaded is the index of a listed slot, and nothing of it was read
+-- what a view has to be loaded is the index of a listed slot, and nothing of it was read
 pub what_is_to_be_loaded_is_unread : (shape : Shape) (number : ℕ) (todo : Todo) → Contains (view_of shape number).todo todo → IsUnread shape todo
 what_is_to_be_loaded_is_unread shape number todo has = by (given_by (λ place. unloaded_slot place (slot_at shape.slots place)) shape.list todo has)
   where
@@ -54,7 +54,7 @@ slot_to_be_loaded_is_within opening entries number todo has =
     let many = (entries_lower_no_number entries opening).slots in
     omega arith
 
--- no slot is shown, listed or kept, whose index is still to be loaded
+-- no slot is shown, listed or kept, whose index is to be loaded
 pub slot_to_be_loaded_is_not_shown : (shape : Shape) (number : ℕ) (todo : Todo) (shows : SnapshotIndex) → Contains (view_of shape number).todo todo → IsShown (view_of shape number) shows
     → shows.slot ≡ todo.slot → ⊥
 slot_to_be_loaded_is_not_shown shape number todo shows has shown same =

@@ -1,4 +1,4 @@
--- What an event comes to is what it makes of a shape, and what it answers.
+-- The turn of an event is the change of the shape, and its answer.
 use Rattle.std.proofs.Common.{◌≡◌, ℕ, ◌+◌, Bool, true, false, cond, ◌==◌, List, Option, Some, None, Ok, Err, refl, sym, ap, ◌∙◌, set}
 use Rattle.odb_base.specs.Path.{Path}
 use Rattle.gix_odb_slots.proofs.PassLemmas.{slots-same}
@@ -102,12 +102,12 @@ publish_turn-answer shape rows number (Published now) = refl
 
 -- ---- the whole
 
--- what a turn leaves of the slots leaves the handles
+-- a change of the slots by a turn leaves the handles
 kept-settled : (shape : Shape) (shelf : Option Shelf) → ◌≡◌ {A = Shape} (record (settled_by shape shelf) { handles = shape.handles }) (settled_by shape shelf)
 kept-settled shape None = refl
 kept-settled shape (Some shelf) = refl
 
--- the handles don't matter to it
+-- it doesn't depend on the handles
 pub settled-handles : (shape : Shape) (handles : List (ℕ × Bool)) (shelf : Option Shelf)
     → ◌≡◌ {A = Shape} (settled_by (record shape { handles = handles }) shelf) (record (settled_by shape shelf) { handles = handles })
 settled-handles shape handles None = refl
@@ -143,12 +143,12 @@ answer-turn entries shape number seat (event.PutPack pack path file) =
 answer-turn entries shape number seat (event.PassOver slot path why) = pass_turn-answer shape slot path (view_of (after shape seat (event.PassOver slot path why)) number)
 answer-turn entries shape number seat (event.Publish listing) = publish_turn-answer shape listing.rows number (publishing shape listing)
 
--- what is shown behind a turn is what the shape shows then
+-- the view after a turn is the view of the shape then
 pub view_behind-turn : (shape : Shape) (shelf : Option Shelf) (entry number : ℕ) → view_behind (view_of shape entry) shelf number ≡ view_of (settled_by shape shelf) number
 view_behind-turn shape None entry number = refl
 view_behind-turn shape (Some shelf) entry number = refl
 
--- ---- no event answers want of memory by itself
+-- ---- no event runs out of memory by itself
 
 no_memory-put : (shape now : Shape) (number : ℕ) (filled : Option Filled) → ¬ (put_answer shape now number filled ≡ Err refusals.NoMemory)
 no_memory-put shape now number None h = cc

@@ -1,4 +1,4 @@
--- What holds of the fields of every core. No public clause cites this.
+-- The invariant of a core's fields. No public clause cites this.
 use Rattle.std.specs.Prelude.{◌≡◌}
 use Rattle.gix_odb_core.specs.History.{History}
 use Rattle.gix_odb_core.specs.Possible.{IsComplete, IsPossible}

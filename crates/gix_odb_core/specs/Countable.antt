@@ -8,7 +8,7 @@ use Rattle.gix_odb_core.specs.declared.shape.Shape.{Shape}
 use Rattle.gix_odb_core.specs.declared.shape.Shelf.{Shelf}
 use Rattle.gix_odb_events.specs.PackId.{most_slots}
 
--- the slots that a listing leaves, where it changes something, have few packs each
+-- the slots that a listing leaves, if it changes something, have few packs each
 abbrev pub LeavesFewPacks : Event → Option Shelf → Type 0
 LeavesFewPacks (event.Publish listing) shelf = IfSome shelf (λ shelf. All HasFewPacks shelf.slots)
 LeavesFewPacks other shelf = Unit {0}

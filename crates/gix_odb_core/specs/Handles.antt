@@ -9,7 +9,7 @@ use Rattle.std.specs.Ordering.{nat_cmp}
 abbrev pub Handles : Type 0
 Handles = List (ℕ × Bool)
 
--- whether the handle of a seat is stable, where it is registered
+-- whether the handle of a seat is stable, if it is registered
 abbrev pub registered : Handles → ℕ → Option Bool
 registered handles seat = lookup (is_at (nat_cmp seat)) handles
 
@@ -29,6 +29,6 @@ is_any_stable handles = list_any (λ handle. handle.1) handles
 abbrev pub stable_count : Handles → ℕ
 stable_count handles = count_by (λ stable. stable) (values_of handles)
 
--- how many of them are at a seat where this is registered
+-- how many of them are at a seat with this registration
 abbrev pub stable_at : Option Bool → ℕ
 stable_at handle = unwrap_or (option_map (λ stable. cond stable 1 0) handle) 0

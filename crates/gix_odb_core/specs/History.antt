@@ -1,4 +1,4 @@
--- What a core is seen as: its history. Its present shape is what the history replays to.
+-- The model of a core: its history. Its present shape is what the history replays to.
 use Rattle.std.specs.Prelude.{ℕ, List, []}
 use Rattle.gix_odb_core.specs.Replay.{replay}
 use Rattle.gix_odb_core.specs.Steps.{opening_shape}

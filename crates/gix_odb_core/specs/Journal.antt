@@ -1,4 +1,4 @@
--- A journal is seen as its entries, in order.
+-- The model of a journal: its entries, in order.
 use Rattle.std.specs.Prelude.{List}
 use Rattle.gix_odb_core.specs.declared.journal.Entry.{Entry}
 use Rattle.gix_odb_core.specs.declared.journal.Journal.{Journal}

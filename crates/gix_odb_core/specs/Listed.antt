@@ -1,4 +1,4 @@
--- The rows of a listing in a shape, for laws of what a listing comes to.
+-- The rows of a listing in a shape, for laws of listings.
 use Rattle.std.specs.Prelude.{◌≡◌, ℕ, ◌<◌, true, List, get_or, length}
 use Rattle.gix_odb_events.specs.Slots.{slot_at, holds}
 use Rattle.gix_odb_events.specs.declared.listing.ListingRow.{ListingRow}

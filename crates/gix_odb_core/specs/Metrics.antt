@@ -5,7 +5,7 @@ use Rattle.gix_odb_events.specs.Slots.{is_index_loaded}
 use Rattle.gix_odb_events.specs.declared.metrics.Metrics.{Metrics}
 use Rattle.gix_odb_core.specs.declared.shape.Shape.{Shape}
 
--- the counts over a shape; so many listings were published or confirmed the list
+-- the counts over a shape, with the number of listings that were published or confirmed the list
 abbrev pub metrics_of : Shape → ℕ → Metrics
 metrics_of shape refreshes =
     let listed = listed_in shape.slots shape.list in

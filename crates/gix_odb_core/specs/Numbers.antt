@@ -2,7 +2,7 @@
 use Rattle.std.specs.Prelude.{◌≡◌, ◌+◌, ◌≤◌, length}
 use Rattle.gix_odb_core.specs.declared.shape.Shape.{Shape}
 
--- no counter is less than it was; folders and slots are as many as they were
+-- no counter is less than it was; the numbers of folders and slots are unchanged
 pub record NeverFalls (before after : Shape) : Type 0 where
   pub list_no : before.list_no ≤ after.list_no
   pub state_id : before.state_id ≤ after.state_id
@@ -10,7 +10,7 @@ pub record NeverFalls (before after : Shape) : Type 0 where
   pub folders : after.folders ≡ before.folders
   pub slots : length after.slots ≡ length before.slots
 
--- a list more was published
+-- one more list was published
 pub record RisesByAList (before after : Shape) : Type 0 where
   pub list_no : after.list_no ≡ before.list_no + 1
   pub state_id : after.state_id ≡ before.state_id + 1

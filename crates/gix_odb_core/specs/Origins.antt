@@ -1,4 +1,4 @@
--- Which event brought what a slot's file holds, and which passed it over, for laws of what journals replay to.
+-- Which event brought the contents of a slot's file, and which passed it over, for laws of what journals replay to.
 use Rattle.std.specs.Prelude.{◌≡◌, ℕ, Bool, true, false, List, map, Some, None, Ok}
 use Rattle.std.specs.List.{AllByRecursion, Contains}
 use Rattle.odb_base.specs.Path.{Path}
@@ -27,11 +27,11 @@ use Rattle.gix_odb_events.specs.declared.loaded.SnapshotIndex.{SnapshotIndex}
 abbrev pub PutsIndex : Event → ℕ → Path → FileBytes → Type 0
 PutsIndex happens place path file = happens ≡ event.PutIndex place path file
 
--- the same of a pack
+-- an event carries the bytes of a pack at a path, for a slot
 abbrev pub PutsPack : Event → ℕ → Path → FileBytes → Type 0
 PutsPack happens place path file = (pack : PackId) × (happens ≡ event.PutPack pack path file) × (pack.index ≡ place)
 
--- an event passes a path of a slot over
+-- an event passes over a path of a slot
 abbrev pub PassesOver : Event → ℕ → Path → Type 0
 PassesOver happens place path = (why : PassWhy) × (happens ≡ event.PassOver place path why)
 
@@ -39,12 +39,12 @@ PassesOver happens place path = (why : PassWhy) × (happens ≡ event.PassOver p
 abbrev pub Lists : Event → ListingRow → Type 0
 Lists happens row = (listing : Listing) × (happens ≡ event.Publish listing) × Contains listing.rows row
 
--- whether an answer says that a file was stored
+-- whether an answer reports that a file was stored
 abbrev pub is_stored : Answer → Bool
 is_stored (Ok (effects.Put view stored)) = stored
 is_stored answer = false
 
--- an entry tells of such an event, with such an answer
+-- some entry has such an event and such an answer
 abbrev pub Tells : List Entry → (Answer → Bool) → (Event → Type 0) → Type 0
 Tells entries is_so P = (entry : Entry) × Contains entries entry × (is_so entry.answer ≡ true) × P entry.event
 
@@ -61,7 +61,7 @@ abbrev pub IsMultiOf : ListingRow → IndexFile → Type 0
 IsMultiOf row (Single file) = Unit {0}
 IsMultiOf row (Multi file) = (bytes : List ℕ) → loaded file.state ≡ Some bytes → row.multi ≡ Some bytes
 
--- a slot is of a row: it holds it, with its packs
+-- a slot holds a row, with its packs
 pub record IsOfRow (row : ListingRow) (filled : Filled) : Type 0 where
   pub holds_it : holds row (Some filled) ≡ true
   pub multi : IsMultiOf row filled.index
@@ -84,7 +84,7 @@ pub record IsTold (entries : List Entry) (place : ℕ) (filled : Filled) : Type 
   pub index : IsIndexTold entries place filled.index
   pub packs : ArePacksTold entries place filled.packs
 
--- what a view shows of an index was stored by an entry, or is what its row had
+-- what a view shows of an index was stored by an entry, or was in its row
 abbrev pub IsLoadedTold : List Entry → ℕ → Path → ListingRow → LoadedIndex → Type 0
 IsLoadedTold entries slot path row (shown.Single bytes) = (row.multi ≡ None) × TellsPut entries (λ happens. PutsIndex happens slot path bytes)
 IsLoadedTold entries slot path row (shown.Multi bytes) = row.multi ≡ Some bytes

@@ -23,12 +23,12 @@ abbrev pub IsPossible : Shape → List Entry → Type 0
 IsPossible shape [] = Unit {0}
 IsPossible shape (entry ∷ entries) = CanHappen shape entry.seat entry.event × IsPossible (after_entry shape entry) entries
 
--- whether an answer is want of memory
+-- whether an answer reports that memory ran out
 abbrev pub lacks_memory : Answer → Bool
 lacks_memory (Err refusals.NoMemory) = true
 lacks_memory answer = false
 
--- no entry was refused for want of memory
+-- no entry was refused for lack of memory
 abbrev pub IsComplete : List Entry → Type 0
 IsComplete entries = AllPass (λ entry. not (lacks_memory entry.answer)) entries
 

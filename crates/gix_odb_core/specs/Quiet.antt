@@ -6,13 +6,13 @@ use Rattle.gix_odb_events.specs.declared.event.Event.{Event}
 use Rattle.gix_odb_events.specs.declared.event.Event.TheVariants as event
 use Rattle.gix_odb_core.specs.declared.journal.Entry.{Entry}
 
--- an event that only asks
+-- an event that only reads
 abbrev pub only_asks : Event → Bool
 only_asks event.Look = true
 only_asks event.Report = true
 only_asks other = false
 
--- an answer that says that nothing changed: a refusal, an outdated listing, or a file that wasn't stored
+-- an answer that reports no change: a refusal, an outdated listing, or a file that wasn't stored
 abbrev pub is_idle : Answer → Bool
 is_idle (Err refusal) = true
 is_idle (Ok (effects.Outdated list_no)) = true

@@ -1,4 +1,4 @@
--- What holds of the fields of what is left of every core. No public clause cites this.
+-- The invariant of the fields of what remains of a core. No public clause cites this.
 use Rattle.gix_odb_core.specs.Core.{shape_of}
 use Rattle.gix_odb_core.specs.History.{History}
 use Rattle.gix_odb_core.specs.Journal.{entries_of}

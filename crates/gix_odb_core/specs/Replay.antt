@@ -1,4 +1,4 @@
--- What events answer; and what a journal replays to.
+-- The answers to events, and what a journal replays to.
 use Rattle.std.specs.Prelude.{◌≡◌, ℕ, ◌+◌, ◌⊎◌, Bool, true, false, ◌==◌, List, [], ◌∷◌, length, map, min, take, slice_get, ◌++◌, filter, count_by, Option, Some, None, Ok, Err, if◌then◌else◌}
 use Rattle.std.specs.List.{filter_map, last_or}
 use Rattle.gix_odb_events.specs.Answers.{Answer, view_in}
@@ -22,7 +22,7 @@ use Rattle.gix_odb_core.specs.declared.shape.Shape.{Shape}
 use Rattle.gix_odb_events.specs.declared.slot.Filled.{Filled}
 use Rattle.gix_odb_events.specs.declared.view.View.{View}
 
--- ---- what a journal tells besides
+-- ---- what else a journal says
 
 -- whether an entry published a listing, or confirmed the list
 abbrev pub is_refresh : Answer → Bool
@@ -41,11 +41,11 @@ passed_by other = None
 abbrev pub passed_in : List Entry → List Passed
 passed_in entries = filter_map (λ entry. passed_by entry.event) entries
 
--- the report on a shape, behind these entries
+-- the report on a shape, after these entries
 abbrev pub report_of : Shape → List Entry → Report
 report_of shape entries = record { metrics = metrics_of shape (refreshes_in entries); listed = map listed_of (listed_in shape.slots shape.list); passed_over = passed_in entries }
 
--- ---- what an event answers, as the entry of a number behind these entries
+-- ---- the answer to an event, as the entry after these, with its number
 
 abbrev pub put_answer : Shape → Shape → (number : ℕ) → Option Filled → Answer
 put_answer before now number None = Ok (effects.Put (view_of now number) false)
@@ -73,7 +73,7 @@ answer_of entries shape number seat (event.Publish listing) = publish_answer sha
 
 -- ---- a journal
 
--- an entry that was refused for want of memory changes nothing
+-- an entry that was refused for lack of memory changes nothing
 abbrev pub after_answer : Shape → Entry → Answer → Shape
 after_answer shape entry (Err refusals.NoMemory) = shape
 after_answer shape entry answer = after shape entry.seat entry.event
@@ -86,11 +86,11 @@ abbrev pub replay : Shape → List Entry → Shape
 replay shape [] = shape
 replay shape (entry ∷ entries) = replay (after_entry shape entry) entries
 
--- the number of the entry behind these
+-- the number of the entry after these
 abbrev pub number_behind : List Entry → ℕ
 number_behind past = min (length past + 1) last_state
 
--- an entry stands behind others: it has its number, and its answer is the one that the event gives, unless memory ran out
+-- an entry can follow others: it has the next number, and its answer is the one that the event gives, unless memory ran out
 pub record IsNext (opening : Shape) (past : List Entry) (entry : Entry) : Type 0 where
   pub numbered : entry.number ≡ number_behind past
   pub answered : (entry.answer ≡ Err refusals.NoMemory) ⊎ (entry.answer ≡ answer_of past (replay opening past) (number_behind past) entry.seat entry.event)
@@ -98,7 +98,7 @@ pub record IsNext (opening : Shape) (past : List Entry) (entry : Entry) : Type 0
 abbrev pub IsLegal : Shape → List Entry → Type 0
 IsLegal opening entries = (i : ℕ) (entry : Entry) → slice_get entries i ≡ Some entry → IsNext opening (take i entries) entry
 
--- each of these entries stands behind the past and those before it
+-- each of these entries can follow the past and those before it
 abbrev pub AreNext : Shape → (past later : List Entry) → Type 0
 AreNext opening past later = (i : ℕ) (entry : Entry) → slice_get later i ≡ Some entry → IsNext opening (past ++ take i later) entry
 
@@ -118,6 +118,6 @@ CanHappen shape seat event.Remove = IsRegistered shape.handles seat
 CanHappen shape seat (event.Publish listing) = HasDifferentPaths listing.rows
 CanHappen shape seat other = Unit {0}
 
--- a handle's snapshot: the view of its last entry that handed one over
+-- a handle's snapshot: the view of its last entry that returned one
 abbrev pub snapshot_of : (seat : ℕ) → List Entry → Option View
 snapshot_of seat entries = last_or None (filter_map (λ entry. view_in entry.answer) (filter (λ entry. entry.seat == seat) entries))

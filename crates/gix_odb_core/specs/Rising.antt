@@ -10,7 +10,7 @@ abbrev pub IsRising : Handles → Type 0
 IsRising [] = Unit {0}
 IsRising (handle ∷ handles) = AllByRecursion (λ other. handle.0 < other.0) handles × IsRising handles
 
--- an event that changes the handles alone
+-- an event that changes only the handles
 abbrev pub is_of_handle : Event → Bool
 is_of_handle (event.Register stable) = true
 is_of_handle event.Upgrade = true

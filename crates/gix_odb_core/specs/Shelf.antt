@@ -1,4 +1,4 @@
--- What an event leaves of a shape, apart from the handles. No public clause cites this.
+-- The slots, the list and the counters after an event, without the handles. No public clause cites this.
 use Rattle.std.specs.Prelude.{ℕ, [], Option, Some, None}
 use Rattle.gix_odb_events.specs.Shown.{shown_indices, shown_kept, shown_todo}
 use Rattle.gix_odb_core.specs.declared.shape.Shape.{Shape}
@@ -34,12 +34,12 @@ without_handles folders shelf =
       handles = [];
     }
 
--- a shape after an event that leaves this, where it changes something
+-- a shape after an event that leaves this shelf, if it changes something
 abbrev pub settled_by : Shape → Option Shelf → Shape
 settled_by shape None = shape
 settled_by shape (Some shelf) = with_shelf shape shelf
 
--- what it shows, handed over with the entry of a number
+-- the view of a shelf, for the entry of a number
 abbrev pub shown_of : Shelf → ℕ → View
 shown_of shelf entry =
     record {

@@ -1,4 +1,4 @@
--- The present state of a core beside its journal, and what each part of an event's work does to it. Of these words a public clause cites `newest` alone.
+-- The present state of a core beside its journal, and the effect of each part of an event's work. Public clauses cite only `newest`.
 use Rattle.std.specs.Prelude.{◌≡◌, ℕ, ◌+◌, ◌≤◌, ◌++◌, List, [], ◌∷◌, length, min, Option, Some, None, vec_capacity, if◌then◌else◌}
 use Rattle.std.specs.Option.{option_to_list}
 use Rattle.gix_odb_core.specs.Countable.{IsCountable}
@@ -23,12 +23,12 @@ use Rattle.gix_odb_events.specs.declared.view.View.{View}
 abbrev pub entries_in : State → List Entry
 entries_in state = state.journal.entries.items
 
--- the number of the newest entry, and 0 where there is none
+-- the number of the newest entry, or 0 if there is none
 abbrev pub newest : List Entry → ℕ
 newest entries = min (length entries) last_state
 
--- what holds of every state: the view, the files that were passed over and the refreshes are those of shape and journal,
--- the numbers are small, and there is room for the entry with which each registered handle is removed
+-- the invariant of every state: the view, the files that were passed over and the refreshes are those of shape and journal, the
+-- numbers are small, and there is room for the entry with which each registered handle is removed
 pub record IsKept (state : State) : Type 0 where
   pub shown : state.view ≡ view_of state.shape (newest (entries_in state))
   pub passed : state.passed ≡ passed_in (entries_in state)
@@ -39,7 +39,7 @@ pub record IsKept (state : State) : Type 0 where
 
 -- ---- what the parts of the work do
 
--- the same but for the journal
+-- the state with another journal
 abbrev pub entered : State → Journal → State
 entered state journal = record state { journal = journal }
 
@@ -53,12 +53,12 @@ pub record IsPlan (before : View) (turn : Turn) (entry : ℕ) (plan : Plan) : Ty
   pub kept : plan.kept ≡ answer_with turn.told (view_behind before turn.shelf entry)
   pub given : plan.given ≡ answer_with turn.told (view_behind before turn.shelf entry)
 
--- how many entries an event wants room for, with those that remove the handles that are registered then
+-- how many entries an event needs room for, with those that remove the handles that are registered then
 abbrev pub entries_for : Event → ℕ
 entries_for (event.Register stable) = 2
 entries_for other = 1
 
--- a journal has that room, where so many handles are registered before the event
+-- a journal has that room, where `handles` handles are registered before the event
 abbrev pub IsRoomFor : Event → ℕ → Journal → Type 0
 IsRoomFor event handles journal = length journal.entries.items + (handles + entries_for event) ≤ vec_capacity journal.entries
 
@@ -89,14 +89,14 @@ entry_of past seat event answer = record { number = number_behind past; seat = s
 
 -- ---- the whole
 
--- what an event leaves that isn't refused for want of memory
+-- the state after an event that isn't refused for lack of memory
 pub record IsNextState (old : State) (seat : ℕ) (event : Event) (given : Answer) (now : State) : Type 0 where
   pub shape : now.shape ≡ after old.shape seat event
   pub answer : given ≡ answer_of (entries_in old) old.shape (number_behind (entries_in old)) seat event
   pub entries : entries_in now ≡ entries_in old ++ entry_of (entries_in old) seat event given ∷ []
   pub kept : IsKept now
 
--- what want of memory leaves: all, but for spare room
+-- the state after memory ran out: unchanged but for spare room
 pub record IsSameState (old now : State) : Type 0 where
   pub shape : now.shape ≡ old.shape
   pub entries : entries_in now ≡ entries_in old

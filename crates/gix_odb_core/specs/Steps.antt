@@ -1,4 +1,4 @@
--- What an event makes of a shape, and what it answers.
+-- The shape after an event, and its answer.
 use Rattle.std.specs.Prelude.{ℕ, ◌+◌, ◌-◌, Bool, true, false, ◌&&◌, ◌||◌, ◌==◌, not, List, [], length, replicate, ◌≤◌, Option, Some, None, is_some, nat_eq, nat_lt, slice_set, if◌then◌else◌}
 use Rattle.std.specs.List.{AllPass, IsDistinct, filter_map, list_any}
 use Rattle.gix_odb_events.specs.View.{last_generation, last_state}
@@ -16,14 +16,14 @@ use Rattle.gix_odb_events.specs.declared.slot.Filled.{Filled}
 use Rattle.gix_odb_events.specs.declared.slot.IndexFile.{IndexFile}
 use Rattle.gix_odb_events.specs.declared.slot.IndexFile.TheVariants.{Single, Multi}
 
--- the shape of a core that was just made: all slots are empty, and nothing was read
+-- the shape of a new core: all slots are empty, and nothing was read
 abbrev pub opening_shape : ℕ → ℕ → ℕ → ℕ → Shape
 opening_shape slots folders generation state =
     record { folders = folders; slots = replicate slots None; list = []; read = false; list_no = 0; generation = generation; state_id = state; handles = [] }
 
 -- ---- the answer to a listing
 
--- what publishing a listing comes to
+-- the outcomes of publishing a listing
 pub data Publishing : Type 0 where
   Outdated : Publishing
   TooFew : (needed : ℕ) → Publishing
@@ -31,15 +31,15 @@ pub data Publishing : Type 0 where
   Unchanged : Shape → Publishing
   Published : Shape → Publishing
 
--- whether a slot is taken over that held something
+-- whether a slot that held something is taken over
 abbrev pub takes_over : List Slot → List (ℕ × ListingRow) → Bool
 takes_over slots pairs = list_any (λ pair. is_some (slot_at slots pair.0)) pairs
 
--- the list is as it was, and no slot was newly taken
+-- the list is unchanged, and no slot was newly taken
 abbrev pub is_confirmed : Shape → List ListingRow → List ℕ → Bool
 is_confirmed shape rows list = shape.read && same_list list shape.list && length (new_rows shape.slots rows) == 0
 
--- whether a counter that would have to rise stands at its greatest value
+-- whether a counter that would have to rise is at its greatest value
 abbrev pub would_overflow : Shape → (confirmed renewed : Bool) → Bool
 would_overflow shape confirmed renewed = (not confirmed && shape.state_id == last_state) || (renewed && shape.generation == last_generation)
 
@@ -55,7 +55,7 @@ with_list shape slots list renewed =
       generation = shape.generation + (if renewed then 1 else 0);
     }
 
--- a listing that there is room for: its slots and its list, and whether a slot was taken over
+-- the outcome for a listing that there is room for: by its slots and its list, and whether a slot was taken over
 abbrev pub settled_as : Shape → List ListingRow → List Slot → List ℕ → (renewed : Bool) → Publishing
 settled_as shape rows slots list renewed =
     if would_overflow shape (is_confirmed shape rows list) renewed then Overflows
@@ -68,7 +68,7 @@ with_room shape rows =
     let slots = slots_after stable rows shape.slots shape.list in
     settled_as shape rows slots (list_after rows slots) (takes_over shape.slots (taken stable rows shape.slots shape.list))
 
--- the listing began before the newest list; or more rows are new than slots are free
+-- the listing began before the newest list; or there are more new rows than free slots
 abbrev pub publishing : Shape → Listing → Publishing
 publishing shape listing =
     let free = free_places (is_any_stable shape.handles) listing.rows shape.slots shape.list in
@@ -82,9 +82,9 @@ shape_published shape (Unchanged after) = after
 shape_published shape (Published after) = after
 shape_published shape publishing = shape
 
--- ---- what an event makes of a shape
+-- ---- the shape after an event
 
--- a file is stored in a slot, where it is, and the state number rises; at its greatest value nothing happens
+-- a file is stored in its slot, if there is one, and the state number rises; at its greatest value nothing happens
 abbrev pub shape_stored : Shape → ℕ → Option Filled → Shape
 shape_stored shape slot None = shape
 shape_stored shape slot (Some filled) =
@@ -101,7 +101,7 @@ after shape seat (event.PutPack pack path file) = shape_stored shape pack.index 
 after shape seat (event.PassOver slot path why) = record shape { slots = slice_set shape.slots slot (slot_passed path (slot_at shape.slots slot)) }
 after shape seat (event.Publish listing) = shape_published shape (publishing shape listing)
 
--- ---- what holds of every shape that events come to
+-- ---- the invariant of every shape that events lead to
 
 abbrev pub is_read : IndexFile → Bool
 is_read (Single file) = true
@@ -110,7 +110,7 @@ is_read (Multi file) = is_loaded file.state
 pub record IsShape (shape : Shape) : Type 0 where
   -- no two slots hold the same single index, or the same multi-index of one time
   pub apart : IsApart shape.slots
-  -- the list is one of filled slots, and has none twice
+  -- the list has only filled slots, and none twice
   pub listed : AllPass (λ place. is_some (slot_at shape.slots place)) shape.list
   pub distinct : IsDistinct nat_eq shape.list
   pub multis : AllPass (λ filled. is_read filled.index) (filter_map (λ slot. slot) shape.slots)

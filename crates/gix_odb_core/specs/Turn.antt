@@ -1,4 +1,4 @@
--- What an event comes to, apart from the handles and before the view that it hands over. No public clause cites this.
+-- The result of an event, without the handles and before its view is made. No public clause cites this.
 use Rattle.std.specs.Prelude.{ℕ, ◌+◌, Bool, ◌&&◌, ◌==◌, true, false, not, List, length, Option, Some, None, Ok, Err, slice_set, if◌then◌else◌}
 use Rattle.std.specs.List.{list_any}
 use Rattle.odb_base.specs.Path.{Path}
@@ -25,7 +25,7 @@ use Rattle.gix_odb_core.specs.declared.turn.Told.TheVariants as told
 use Rattle.gix_odb_core.specs.declared.turn.Turn.{Turn}
 use Rattle.gix_odb_events.specs.declared.view.View.{View}
 
--- an answer, with the view that it hands over
+-- an answer, with its view
 abbrev pub answer_with : Told → View → Answer
 answer_with told.Seen view = Ok (effects.Seen view)
 answer_with (told.Reported report) view = Ok (effects.Reported view report)
@@ -57,14 +57,14 @@ put_turn shape slot (Some filled) =
     if shape.state_id == last_state then quiet (told.Refused refusals.GenerationOverflow)
     else changes_to (record (shelf_of shape) { slots = slice_set shape.slots slot (Some filled); state_id = shape.state_id + 1 }) (told.Put true)
 
--- a file that is passed over changes the slots where it turns missing, and else nothing
+-- a file that is passed over changes the slots if it becomes missing, and nothing otherwise
 abbrev pub pass_turn : Shape → (slot : ℕ) → Path → Turn
 pass_turn shape slot path =
     if slot_turns_missing path (slot_at shape.slots slot)
     then changes_to (record (shelf_of shape) { slots = slice_set shape.slots slot (slot_passed path (slot_at shape.slots slot)) }) told.Seen
     else quiet told.Seen
 
--- whether a listing leaves the slots and the list as they are: it has no work at a slot, and confirms the list
+-- whether a listing leaves the slots and the list unchanged: no slot is unsettled, and the list is confirmed
 abbrev pub stands : Shape → List ListingRow → Bool
 stands shape rows = not (list_any (is_unsettled (is_any_stable shape.handles) rows) shape.slots) && is_confirmed shape rows (list_after rows shape.slots)
 

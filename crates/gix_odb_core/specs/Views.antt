@@ -4,7 +4,7 @@ use Rattle.gix_odb_events.specs.Shown.{shown_indices, shown_kept, shown_todo}
 use Rattle.gix_odb_core.specs.declared.shape.Shape.{Shape}
 use Rattle.gix_odb_events.specs.declared.view.View.{View}
 
--- what a shape shows behind the entry of a number
+-- the view of a shape after the entry of a number
 abbrev pub view_of : Shape → ℕ → View
 view_of shape entry =
     record {

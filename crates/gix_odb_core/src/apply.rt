@@ -1,5 +1,5 @@
-//! The core of a store: its state, and the journal of what happened to it; and what is left of a core of which nothing more is
-//! asked.
+//! The core of a store: its state, and the journal of what happened to it; and what remains of a core when it is no
+//! longer in use.
 use crate::journal::Journal;
 use crate::state::State;
 use gix_odb_events::{Effect, Event, Metrics, Refusal, View};
@@ -7,7 +7,7 @@ use odb_base::NoMemory;
 use std::alloc::Global;
 use std::marker::Model;
 
-/// What a core was made with.
+/// How a core was made.
 #[derive(Clone, Copy)]
 struct Opening {
     slots: u16,
@@ -18,7 +18,7 @@ struct Opening {
 
 /// The core of a store, which contracts see as its history: the shape that it was made with, and the entries of its journal.
 ///
-/// It reads no disk and waits for nobody. Its present shape is what the journal replays to.
+/// It reads no disk and never waits. Its present shape is what the journal replays to.
 #[derive(Drop)]
 pub struct Core {
     opening: Opening,
@@ -51,7 +51,7 @@ impl Core {
     ghost use Rattle.gix_odb_core.specs.Views.{view_of};
     ghost use Rattle.gix_odb_events.specs.PackId.{most_slots};
 
-    /// A core with so many empty slots, of a store with so many folders.
+    /// A core with `slots` empty slots, of a store with `folders` objects directories.
     pub fn new(alloc: Global, slots: u16, folders: usize) -> Result<Core, NoMemory>
         requires few { slots ≤ most_slots }
         ensures opened { IfOk result (λ core. core ≡ opened slots folders 0 0) }
@@ -59,7 +59,7 @@ impl Core {
         Core::at_counts(alloc, slots, folders, 0, 0)
     }
 
-    /// A core whose generation and state number begin here.
+    /// A core whose generation and state number start at given values.
     pub fn at_counts(
         alloc: Global,
         slots: u16,
@@ -82,7 +82,7 @@ impl Core {
         })
     }
 
-    /// Takes an event of a handle in, and answers it.
+    /// Applies an event of a handle, and returns its answer.
     pub fn apply(&mut self, alloc: Global, seat: u32, event: Event) -> Result<Effect, Refusal>
         requires can_happen { CanHappen (present self.old) seat event }
         ensures opening { self.new.opening ≡ self.old.opening }
@@ -90,7 +90,7 @@ impl Core {
         ensures replayed { ¬ (result ≡ Err Refusal.NoMemory) → present self.new ≡ after (present self.old) seat event }
         ensures appended { ¬ (result ≡ Err Refusal.NoMemory) → Appends self.old.opening self.old.entries self.new.entries seat event result }
 
-        // A refused event leaves slots, list, counters and handles alone. Want of memory leaves the journal too.
+        // A refused event leaves slots, list, counters and handles unchanged; `NoMemory` leaves the journal too.
         ensures refused { OnErr result (present self.new ≡ present self.old) }
         ensures memory { result ≡ Err Refusal.NoMemory → self.new ≡ self.old }
         ensures never_refused { IsNeverRefused event result }
@@ -102,7 +102,7 @@ impl Core {
         self.state.apply(alloc, seat, event)
     }
 
-    /// What it shows now, handed over with the newest entry.
+    /// The view of its present shape, with the number of the newest entry.
     pub fn look(&self) -> &View
         ensures view { result.now ≡ view_of (present self.now) (newest self.now.entries) }
         ensures shape { IsShape (present self.now) }
@@ -111,7 +111,7 @@ impl Core {
         &self.state.view
     }
 
-    /// What happened to it. It is legal, each event could happen when it came, and none was refused for want of memory.
+    /// What happened to it. It is legal, each event could happen when it came, and none was refused for lack of memory.
     pub fn journal(&self) -> &Journal
         ensures entries { entries_of result.now ≡ self.now.entries }
         ensures legal { IsLegal self.now.opening self.now.entries }
@@ -122,7 +122,7 @@ impl Core {
         &self.state.journal
     }
 
-    /// The same by itself, when the core is no longer of use.
+    /// Its journal, moved out of a core that is no longer in use.
     pub fn into_journal(self) -> Journal
         ensures entries { entries_of result ≡ self.entries }
         ensures legal { IsLegal self.opening self.entries }
@@ -134,7 +134,7 @@ impl Core {
         state.into_journal()
     }
 
-    /// What is left of it, when nothing more is asked of it. It takes no memory.
+    /// What remains of it when it is no longer in use. It takes no memory.
     pub fn into_remains(self) -> Remains
         ensures same { result ≡ self }
     {
@@ -159,14 +159,14 @@ impl Core {
         self.state.shape.handles.len()
     }
 
-    /// Whether the handle of a seat is stable, where one is registered.
+    /// Whether the handle of a seat is stable, if one is registered.
     pub fn handle(&self, seat: u32) -> Option<bool>
         ensures handle { result ≡ registered (present self.now).handles seat }
     {
         self.state.shape.handles.get(seat)
     }
 
-    /// The counts over it.
+    /// Its counts.
     pub fn metrics(&self) -> Metrics
         ensures metrics { result ≡ metrics_of (present self.now) (refreshes_in self.now.entries) }
     {
@@ -174,10 +174,10 @@ impl Core {
     }
 }
 
-/// What is left of a core of which nothing more is asked: what it was made with, and its journal. Contracts see it as the history
-/// that the core was seen as.
+/// What remains of a core that is no longer in use: what it was made with, and its journal. Contracts see it as the
+/// history that the core was seen as.
 ///
-/// It takes a tenth of what a core takes beside its journal: no slots, no view and no handles.
+/// Apart from the journal, it takes a tenth of a core's memory: no slots, no view and no handles.
 #[derive(Drop)]
 pub struct Remains {
     opening: Opening,
@@ -203,7 +203,7 @@ impl Remains {
     ghost use Rattle.gix_odb_core.specs.Possible.{IsComplete, IsOpened, IsPossible};
     ghost use Rattle.gix_odb_core.specs.Replay.{IsLegal};
 
-    /// What is left of a core without slots and folders, to which nothing happened. It takes no memory.
+    /// What remains of a core without slots and folders, to which nothing happened. It takes no memory.
     pub fn empty(alloc: Global) -> Remains
         ensures opened { result ≡ opened 0 0 0 0 }
     {
@@ -227,7 +227,7 @@ impl Remains {
         &self.journal
     }
 
-    /// The same by itself. It is legal, each event could happen when it came, and none was refused for want of memory.
+    /// The journal, moved out. It is legal, each event could happen when it came, and none was refused for lack of memory.
     pub fn into_journal(self) -> Journal
         ensures entries { entries_of result ≡ self.entries }
         ensures legal { IsLegal self.opening self.entries }

@@ -1,4 +1,4 @@
-//! Files that were read, or passed over: what they come to.
+//! The turns of files that were read, or passed over.
 ghost use Rattle.std.specs.Prelude.{◌≡◌, ◌<◌, ◌+◌, IfOk, Some, slice_set};
 ghost use Rattle.gix_odb_slots.specs.Files.{slot_with_index, slot_with_pack};
 ghost use Rattle.gix_odb_events.specs.Slots.{slot_at};
@@ -17,7 +17,7 @@ use odb_base::{NoMemory, PathText};
 use std::alloc::Global;
 
 impl Shape {
-    /// The slots, the list and the counters once a slot holds this.
+    /// The slots, the list and the counters once a slot holds `filled`.
     fn shelf_with(&self, alloc: Global, place: usize, filled: Filled) -> Result<Shelf, NoMemory>
         requires small { self.now.state_id < last_state }
         ensures shelf { IfOk result (λ shelf. shelf ≡ record (shelf_of self.now) { slots = slice_set self.now.slots place (Some filled); state_id = self.now.state_id + 1 }) }
@@ -29,7 +29,7 @@ impl Shape {
         Ok(shelf)
     }
 
-    /// What a put comes to that gives a slot this to hold, if it is stored.
+    /// The turn of an event that puts a file; the slot then holds `filled`, if the file is stored.
     fn put(&self, alloc: Global, place: usize, filled: Option<Filled>) -> Result<Turn, NoMemory>
         ensures turn { IfOk result (λ turn. turn ≡ put_turn self.now place filled) }
     {
@@ -46,7 +46,7 @@ impl Shape {
         })
     }
 
-    /// What it comes to that an index was read for a slot.
+    /// The turn when an index was read for a slot.
     pub(crate) fn put_index(
         &self,
         alloc: Global,
@@ -60,7 +60,7 @@ impl Shape {
         self.put(alloc, place, filled)
     }
 
-    /// What it comes to that a pack was read for a slot.
+    /// The turn when a pack was read for a slot.
     pub(crate) fn put_pack(
         &self,
         alloc: Global,
@@ -74,7 +74,7 @@ impl Shape {
         self.put(alloc, place, filled)
     }
 
-    /// What it comes to that a file of a slot was passed over. Where none turns missing, nothing is copied.
+    /// The turn when a file of a slot was passed over. If none becomes missing, nothing is copied.
     pub(crate) fn pass_over(
         &self,
         alloc: Global,

@@ -7,11 +7,11 @@ use std::alloc::Global;
 use std::collections::BTreeMap;
 use std::marker::Model;
 
-/// The registered handles, each under its seat, with whether it is stable.
+/// The registered handles by their seats, each with whether it is stable.
 #[derive(Drop)]
 pub struct HandleTable {
     seats: BTreeMap<u32, bool>,
-    /// How many of them are stable, so that no publish goes through the handles.
+    /// How many of them are stable, so that no publish iterates over the handles.
     stable: usize,
 }
 
@@ -27,7 +27,7 @@ impl Model for HandleTable {
     ghost invariant = { λ table. table.stable ≡ stable_count table.seats.entries };
 }
 
-/// How many stable handles there are at a seat where this was registered.
+/// How many stable handles there are at a seat with this registration.
 fn stable_at(handle: Option<bool>) -> usize
     ensures count { result ≡ stable_at handle }
 {
@@ -56,7 +56,7 @@ impl HandleTable {
         self.seats.len()
     }
 
-    /// Whether a handle is stable, where it is registered.
+    /// Whether a handle is stable, if it is registered.
     pub(crate) fn get(&self, seat: u32) -> Option<bool>
         ensures stable { result ≡ registered self.now seat }
     {
@@ -69,7 +69,7 @@ impl HandleTable {
         ensures len { OnOk result (length self.new ≡ length self.old + (if is_some (registered self.old seat) then 0 else 1)) }
         ensures kept { OnErr result (self.new ≡ self.old) }
     {
-        // There are no more stable handles than handles, so that the count stays small.
+        // There are no more stable handles than handles, so the count stays small.
         let handles = self.seats.len();
         prove!(self.stable <= handles);
         let before = self.seats.insert(seat, stable)?;
@@ -87,7 +87,7 @@ impl HandleTable {
         self.stable -= stable_at(removed);
     }
 
-    /// Whether a handle is stable.
+    /// Whether any handle is stable.
     pub(crate) fn is_any_stable(&self) -> bool
         ensures stable { result ≡ is_any_stable self.now }
     {

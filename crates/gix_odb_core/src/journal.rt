@@ -5,7 +5,7 @@ ghost use Rattle.gix_odb_core.specs.Journal.{entries_of};
 
 use gix_odb_events::{Effect, Event, Refusal};
 
-/// An event, and what it was answered.
+/// An event and its answer.
 #[derive(Drop)]
 pub struct Entry {
     /// Its place in the journal, counted from 1.

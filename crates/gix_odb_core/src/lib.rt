@@ -1,10 +1,10 @@
-//! The core of a store: its slots, what a listing makes of them, and the journal of what happened.
+//! The core of a store: its slots, how listings change them, and the journal of what happened.
 //!
-//! A slot holds an index or a multi-pack index, and a file for each of its packs. Handles bring events to a core: files
-//! that were read or could not be, listings of the store's folders, and their own coming and going. Each is answered and
-//! journalled, and the present state is what the journal replays to. Read `apply` first, then `shape`;
-//! events and views are those of `gix_odb_events`, and what becomes of slots stands in `gix_odb_slots`: a caller names the
-//! types of both by this crate.
+//! A slot holds an index or a multi-pack index, and a file for each of its packs. Handles bring events to a core:
+//! files that were read or could not be, listings of the store's folders, and their own registration and removal.
+//! Each is answered and journalled, and the present state is what the journal replays to. Read `apply` first, then
+//! `shape`; events and views are those of `gix_odb_events`, and `gix_odb_slots` says how slots change: a caller
+//! imports the types of both from this crate.
 //! ```rust
 //! let mut core = Core::new(alloc, 32, 1)?;
 //! let answer = core.apply(alloc, 0, Event::Register { stable: false });

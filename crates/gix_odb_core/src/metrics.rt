@@ -1,4 +1,4 @@
-//! What is counted of a core.
+//! The counts over a core.
 ghost use Rattle.std.specs.Prelude.{◌≡◌};
 ghost use Rattle.gix_odb_core.specs.Countable.{IsCountable};
 ghost use Rattle.gix_odb_core.specs.Metrics.{metrics_of};
@@ -8,7 +8,7 @@ use gix_odb_events::Metrics;
 use gix_odb_slots::counts::{count_unused, disposable_tally, listed_tally};
 
 impl Shape {
-    /// The counts over a shape, where so many listings were published or confirmed the list.
+    /// The counts over a shape, where `refreshes` listings were published or confirmed the list.
     pub(crate) fn metrics(&self, refreshes: usize) -> Metrics
         requires countable { IsCountable self.now }
         ensures metrics { result ≡ metrics_of self.now refreshes }

@@ -1,4 +1,4 @@
-//! What an event will leave and answer, before anything changes.
+//! The result and the answer of an event, before anything changes.
 ghost use Rattle.std.specs.Prelude.{◌≡◌, IfOk};
 ghost use Rattle.gix_odb_core.specs.State.{IsPlan, view_behind};
 ghost use Rattle.gix_odb_core.specs.Turn.{answer_with};
@@ -9,18 +9,18 @@ use gix_odb_events::{Effect, Refusal, View};
 use odb_base::NoMemory;
 use std::alloc::Global;
 
-/// What an event will leave and answer: once there is memory for all of it, nothing refuses it any more.
+/// The result and the answer of an event: once there is memory for all of it, nothing can refuse it.
 #[derive(Drop)]
 pub(crate) struct Plan {
     pub shelf: Option<Shelf>,
     pub view: View,
     /// The answer as the journal keeps it.
     pub kept: Result<Effect, Refusal>,
-    /// The answer as it is given.
+    /// The answer that is returned.
     pub given: Result<Effect, Refusal>,
 }
 
-/// What is shown once an event left this.
+/// The view after an event that leaves this.
 fn view_behind(
     alloc: Global,
     view: &View,
@@ -40,11 +40,11 @@ fn view_behind(
 struct Answers {
     /// The answer as the journal keeps it.
     kept: Result<Effect, Refusal>,
-    /// The answer as it is given.
+    /// The answer that is returned.
     given: Result<Effect, Refusal>,
 }
 
-/// An answer twice, each with a copy of the view where it hands one over.
+/// An answer twice, each with a copy of the view if it has one.
 fn answer_twice(told: &Told, view: &View) -> Result<Answers, NoMemory>
     ensures kept { IfOk result (λ answers. answers.kept ≡ answer_with told.now view.now) }
     ensures given { IfOk result (λ answers. answers.given ≡ answer_with told.now view.now) }
@@ -59,7 +59,7 @@ fn answer_twice(told: &Told, view: &View) -> Result<Answers, NoMemory>
     }
 }
 
-/// The plan of a turn that is shown and answered so.
+/// The plan of a turn with this view and these answers.
 fn plan_of(turn: Turn, view: View, answers: Answers) -> Plan
     ensures plan { result ≡ record { shelf = turn.shelf; view = view; kept = answers.kept; given = answers.given } }
 {
@@ -74,7 +74,7 @@ fn plan_of(turn: Turn, view: View, answers: Answers) -> Plan
     }
 }
 
-/// What is shown behind a turn, and its answer twice.
+/// The view after a turn, and its answer twice.
 fn shown_with(
     alloc: Global,
     view: &View,
@@ -95,7 +95,7 @@ fn shown_with(
     }
 }
 
-/// The plan of a turn, whose entry has this number.
+/// The plan of a turn whose entry has this number.
 pub(crate) fn planned(alloc: Global, view: &View, turn: Turn, entry: u64) -> Result<Plan, NoMemory>
     ensures plan { IfOk result (λ plan. IsPlan view.now turn entry plan) }
 {

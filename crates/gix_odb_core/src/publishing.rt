@@ -1,4 +1,4 @@
-//! What a listing that is published comes to.
+//! The turn of a listing that is published.
 ghost use Rattle.std.specs.Prelude.{◌≡◌, ◌≤◌, ◌<◌, ◌&&◌, ◌==◌, true, false, All, IfOk, length, if◌then◌else◌};
 ghost use Rattle.gix_odb_slots.specs.Publish.{free_places, list_after, new_rows, same_list};
 ghost use Rattle.std.specs.Option.{IfSome};
@@ -27,7 +27,7 @@ fn risen(renewed: bool) -> u32
     if renewed { 1 } else { 0 }
 }
 
-/// The slots after a listing of these rows, and the new list, as a core and its views share them.
+/// The slots after a listing of these rows, and the new list, in the form that a core and its views share.
 fn shared_with_list(
     alloc: Global,
     rows: &[ListingRow],
@@ -43,14 +43,14 @@ fn shared_with_list(
 }
 
 impl Shape {
-    /// Whether a list is the one that it has, where so many rows are new.
+    /// Whether a list was published before and equals this one, and no row is new: `news` is their number.
     fn is_confirmed(&self, list: &[u16], news: usize) -> bool
         ensures confirmed { result ≡ (self.now.read && same_list list.now self.now.list && news == 0) }
     {
         self.read && list == self.list.as_slice() && news == 0
     }
 
-    /// Whether a listing leaves the slots and the list as they are.
+    /// Whether a listing leaves the slots and the list unchanged.
     fn stands(
         &self,
         alloc: Global,
@@ -71,7 +71,7 @@ impl Shape {
         Ok(self.is_confirmed(list.as_slice(), news))
     }
 
-    /// Whether a counter that would have to rise stands at its greatest value.
+    /// Whether a counter that would have to rise is at its greatest value.
     fn would_overflow(&self, confirmed: bool, renewed: bool) -> bool
         ensures overflows { result ≡ would_overflow self.now confirmed renewed }
     {
@@ -96,7 +96,7 @@ impl Shape {
         }
     }
 
-    /// The shape with the list that it has.
+    /// The shape with its current list.
     fn with_same_list(&self, slots: SlotList, list: PlaceList) -> Shelf
         requires same { same_list list self.now.list ≡ true }
         ensures shelf { result ≡ shelf_of (record self.now { slots = slots }) }
@@ -111,7 +111,7 @@ impl Shape {
         }
     }
 
-    /// What a listing comes to that there is room for, by its slots and its list, and whether a slot was taken over.
+    /// The turn of a listing that there is room for, by its slots and its list, and whether a slot was taken over.
     fn settled_as(
         &self,
         rows: &[ListingRow],
@@ -143,7 +143,7 @@ impl Shape {
         }
     }
 
-    /// What a listing comes to that there is room for.
+    /// The turn of a listing that there is room for.
     fn publish_with_room(
         &self,
         alloc: Global,
@@ -173,7 +173,7 @@ impl Shape {
         Ok(self.settled_as(matched.rows, slots, list, news, renewed))
     }
 
-    /// What a listing comes to.
+    /// The turn of a listing.
     pub(crate) fn publish(&self, alloc: Global, listing: &Listing) -> Result<Turn, NoMemory>
         requires few { length self.now.slots ≤ most_slots }
         requires numbered { self.now.list_no ≤ self.now.state_id }
@@ -190,7 +190,7 @@ impl Shape {
         self.publish_over(alloc, listing, &slots)
     }
 
-    /// What a listing comes to that is in time, with the slots side by side.
+    /// The turn of a listing that isn't outdated, with the slots as a slice.
     fn publish_over(
         &self,
         alloc: Global,

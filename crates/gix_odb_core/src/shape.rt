@@ -26,13 +26,13 @@ pub struct Shape {
     pub list_no: u64,
     /// How many listings took over slots that held something.
     pub generation: u32,
-    /// How many lists were published and files stored.
+    /// How many lists were published and files stored, in sum.
     pub state_id: u64,
     /// The registered handles.
     pub handles: HandleTable,
 }
 
-/// What an event leaves of the slots, the list and the counters.
+/// The slots, the list and the counters after an event.
 #[derive(Drop)]
 pub(crate) struct Shelf {
     pub slots: SlotList,
@@ -44,7 +44,7 @@ pub(crate) struct Shelf {
 }
 
 impl Shelf {
-    /// The slots, the list and the counters of a core that was just made.
+    /// The slots, the list and the counters of a new core.
     pub(crate) fn opening(slots: u16, generation: u32, state_id: u64) -> Shelf
         ensures opening { result ≡ record { slots = replicate slots None; list = []; read = false; list_no = 0; generation = generation; state_id = state_id } }
     {
@@ -76,7 +76,7 @@ impl Shape {
         }
     }
 
-    /// Takes what an event leaves.
+    /// Takes over the shelf that an event leaves.
     pub(crate) fn settle(&mut self, shelf: Shelf)
         ensures settled { self.new ≡ with_shelf self.old shelf }
     {
@@ -88,7 +88,7 @@ impl Shape {
         self.state_id = shelf.state_id;
     }
 
-    /// Takes what an event leaves, where it changes something.
+    /// Takes over the shelf that an event leaves, if it changes something.
     pub(crate) fn settle_by(&mut self, shelf: Option<Shelf>)
         ensures settled { self.new ≡ settled_by self.old shelf }
     {
@@ -97,7 +97,7 @@ impl Shape {
         }
     }
 
-    /// The same list and counters with other slots.
+    /// Its list and counters with other slots.
     pub(crate) fn with_slots(&self, slots: SlotList) -> Result<Shelf, NoMemory>
         ensures shelf { IfOk result (λ shelf. shelf ≡ record (shelf_of self.now) { slots = slots }) }
     {
@@ -113,7 +113,7 @@ impl Shape {
     }
 }
 
-/// What slots and a list show, handed over with an entry.
+/// The snapshot that slots and a list show, for an entry.
 fn snapshot(
     of: &Shared<ListedSlots>,
     marker: SlotIndexMarker,
@@ -130,7 +130,7 @@ fn snapshot(
 }
 
 impl Shelf {
-    /// Its slots and its list, with one owner more.
+    /// Its slots and its list, shared with one more owner.
     fn shared(&self, alloc: Global) -> Result<Shared<ListedSlots>, NoMemory>
         ensures slots { IfOk result (λ shared. shared.slots ≡ self.now.slots) }
         ensures list { IfOk result (λ shared. shared.list ≡ self.now.list) }
@@ -140,7 +140,7 @@ impl Shelf {
         Shared::new(alloc, ListedSlots { slots, list })
     }
 
-    /// What a handle sees of it, handed over with an entry. It shares the slots and the list.
+    /// The view of it that an entry returns to a handle. It shares the slots and the list.
     pub(crate) fn view(&self, alloc: Global, entry: u64) -> Result<View, NoMemory>
         ensures view { IfOk result (λ view. view ≡ shown_of self.now entry) }
     {

@@ -22,7 +22,7 @@ use std::alloc::Global;
 #[derive(Drop)]
 pub struct State {
     pub(crate) shape: Shape,
-    /// What the shape shows, handed over with the newest entry.
+    /// The view of the shape, with the number of the newest entry.
     pub(crate) view: View,
     /// The files that were passed over.
     pub(crate) passed: Sequence<Passed>,
@@ -31,7 +31,7 @@ pub struct State {
     pub(crate) journal: Journal,
 }
 
-/// A copy of a file that was passed over, which shares its path.
+/// A copy of a file that was passed over; it shares the path.
 fn copied_passed(passed: &Passed) -> Result<Passed, NoMemory>
     ensures copy { IfOk result (λ copy. copy ≡ passed.now) }
 {
@@ -41,7 +41,7 @@ fn copied_passed(passed: &Passed) -> Result<Passed, NoMemory>
     })
 }
 
-/// The files that were passed over, as a report has them.
+/// The files that were passed over, in the form of a report.
 fn reported(alloc: Global, passed: &[Passed]) -> Result<PassedList, NoMemory>
     ensures copy { IfOk result (λ copies. copies ≡ passed.now) }
 {
@@ -52,7 +52,7 @@ fn reported(alloc: Global, passed: &[Passed]) -> Result<PassedList, NoMemory>
     Ok(Shared::new(alloc, copies)?)
 }
 
-/// Notes that a file was passed over. Want of memory leaves the list.
+/// Records that a file was passed over. If memory runs out, the list is unchanged.
 fn note_passed(
     alloc: Global,
     passed: &mut Sequence<Passed>,
@@ -67,7 +67,7 @@ fn note_passed(
     Ok(())
 }
 
-/// One where an answer published a listing, or confirmed the list.
+/// One if an answer published a listing or confirmed the list, else zero.
 fn refreshes_in(answer: &Result<Effect, Refusal>) -> usize
     ensures refreshes { result ≡ (if is_refresh answer.now then 1 else 0) }
 {
@@ -78,7 +78,7 @@ fn refreshes_in(answer: &Result<Effect, Refusal>) -> usize
 }
 
 impl State {
-    /// Its journal alone.
+    /// Its journal, moved out.
     pub(crate) fn into_journal(self) -> Journal
         ensures journal { result ≡ self.journal }
     {
@@ -95,7 +95,7 @@ impl State {
         journal
     }
 
-    /// The state of a core that was just made, with an empty journal.
+    /// The state of a new core, with an empty journal.
     pub(crate) fn opening(
         alloc: Global,
         slots: u16,
@@ -121,7 +121,7 @@ impl State {
         })
     }
 
-    /// What a core reports of itself.
+    /// The report of a core on itself.
     fn report(&self, alloc: Global) -> Result<Shared<Report>, NoMemory>
         requires kept { IsKept self.now }
         ensures report { IfOk result (λ report. report ≡ report_of self.now.shape self.now.journal.entries.items) }
@@ -137,7 +137,7 @@ impl State {
         Ok(Shared::new(alloc, report)?)
     }
 
-    /// What an event comes to.
+    /// The turn of an event.
     fn turn(&self, alloc: Global, event: &Event) -> Result<Turn, NoMemory>
         requires kept { IsKept self.now }
         ensures turn { IfOk result (λ turn. turn ≡ turn_of self.now.journal.entries.items self.now.shape event.now) }
@@ -158,15 +158,15 @@ impl State {
         }
     }
 
-    /// The number of the next entry, which stands still at its greatest value.
+    /// The number of the next entry, which stays at its greatest value.
     pub(crate) fn next_number(&self) -> u64
         ensures number { result ≡ number_behind self.now.journal.entries.items }
     {
         (self.journal.entries.len() as u64).saturating_add(1)
     }
 
-    /// Makes room for the event's entry, and for one more for each handle that will be registered then. A journal that begins
-    /// gets just this room, since those of most stores stay short.
+    /// Makes room for the event's entry, and for one more for each handle registered after it. An empty journal gets
+    /// exactly this room, since those of most stores stay short.
     fn make_room(&mut self, event: &Event) -> Result<(), NoMemory>
         ensures same { self.new ≡ entered self.old self.new.journal }
         ensures entries { self.new.journal.entries.items ≡ self.old.journal.entries.items }
@@ -186,7 +186,7 @@ impl State {
         Ok(())
     }
 
-    /// Notes what an event does besides: to the handles, and to the files that were passed over. Want of memory changes nothing.
+    /// Records an event's effects on the handles and on files passed over. If memory runs out, nothing changes.
     fn note(&mut self, alloc: Global, seat: u32, event: &Event) -> Result<(), NoMemory>
         requires stays { ¬ (event.now ≡ Event.Remove) }
         requires can_happen { CanHappen self.old.shape seat event.now }
@@ -214,7 +214,7 @@ impl State {
         planned(alloc, &self.view, turn, self.next_number())
     }
 
-    /// Notes what an event does besides, and gives its plan back. Want of memory changes nothing.
+    /// Records those other effects of an event, and returns its plan. If memory runs out, nothing changes.
     fn note_with(
         &mut self,
         alloc: Global,
@@ -238,7 +238,7 @@ impl State {
         }
     }
 
-    /// Makes the plan of an event, takes the room that it wants, and notes what it does besides. Want of memory leaves all but spare room.
+    /// Plans an event, makes room for it, and records its other effects. If memory runs out, only spare room changes.
     fn prepare(&mut self, alloc: Global, seat: u32, event: &Event) -> Result<Plan, NoMemory>
         requires kept { IsKept self.old }
         requires stays { ¬ (event.now ≡ Event.Remove) }
@@ -257,7 +257,7 @@ impl State {
         self.note_with(alloc, seat, event, plan)
     }
 
-    /// Takes what an event leaves, and journals it.
+    /// Takes over what an event leaves, and journals it.
     fn settle(&mut self, seat: u32, event: Event, plan: Plan) -> Result<Effect, Refusal>
         requires room { vec_len self.old.journal.entries < vec_capacity self.old.journal.entries }
         requires counted { self.old.refreshes ≤ vec_len self.old.journal.entries }
@@ -285,7 +285,7 @@ impl State {
         given
     }
 
-    /// Removes a handle, and journals it. There is room for it since the handle was registered.
+    /// Removes a handle, and journals it. There has been room for this entry since the handle was registered.
     fn remove(&mut self, seat: u32) -> Result<Effect, Refusal>
         requires room { vec_len self.old.journal.entries < vec_capacity self.old.journal.entries }
         requires registered { IsRegistered self.old.shape.handles seat }
@@ -307,7 +307,7 @@ impl State {
         Ok(Effect::Removed)
     }
 
-    /// Takes an event in that is no removal.
+    /// Applies an event that is no removal.
     fn take_in(&mut self, alloc: Global, seat: u32, event: Event) -> Result<Effect, Refusal>
         requires kept { IsKept self.old }
         requires stays { ¬ (event ≡ Event.Remove) }
@@ -319,7 +319,7 @@ impl State {
         self.settle(seat, event, plan)
     }
 
-    /// Takes an event in: its answer, what it leaves, and its entry.
+    /// Applies an event: its answer, what it leaves, and its entry.
     pub(crate) fn apply(
         &mut self,
         alloc: Global,

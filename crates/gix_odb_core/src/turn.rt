@@ -1,4 +1,4 @@
-//! What an event comes to, before the view that it hands over.
+//! The result of an event, before its view is made.
 ghost use Rattle.std.specs.Prelude.{◌≡◌, IfOk};
 ghost use Rattle.gix_odb_core.specs.Turn.{answer_with, quiet};
 
@@ -7,7 +7,7 @@ use crate::shape::Shelf;
 use gix_odb_events::{Effect, Refusal, Report, View};
 use odb_base::NoMemory;
 
-/// What an event answers, without the view that it hands over.
+/// The answer to an event, without its view.
 #[derive(Drop)]
 pub(crate) enum Told {
     Seen,
@@ -20,7 +20,7 @@ pub(crate) enum Told {
     Refused(Refusal),
 }
 
-/// What an event comes to: what it leaves of the slots, where it changes them, and what it answers.
+/// The result of an event: the shelf that it leaves, if it changes the slots, and its answer.
 #[derive(Drop)]
 pub(crate) struct Turn {
     pub shelf: Option<Shelf>,
@@ -28,7 +28,7 @@ pub(crate) struct Turn {
 }
 
 impl Turn {
-    /// A turn that leaves the slots, the list and the counters.
+    /// A turn that leaves the slots, the list and the counters unchanged.
     pub(crate) fn quiet(told: Told) -> Turn
         ensures turn { result ≡ quiet told }
     {
@@ -44,7 +44,7 @@ fn reported(report: &Shared<Report>, view: &View) -> Result<Effect, NoMemory>
     Ok(Effect::Reported { view, report })
 }
 
-/// The answer, with a copy of the view where it hands one over.
+/// The answer, with a copy of the view if it has one.
 pub(crate) fn answer(told: &Told, view: &View) -> Result<Result<Effect, Refusal>, NoMemory>
     ensures answer { IfOk result (λ answer. answer ≡ answer_with told.now view.now) }
 {

@@ -1,4 +1,4 @@
--- When two paths are one, for whoever cites it, and lemmas of this crate.
+-- When two paths are the same, for other crates, and lemmas of this crate.
 pub mod SamePathLaws
 pub mod ShownLemmas
 mod PackIdLemmas

@@ -1,4 +1,4 @@
--- The number of a pack gives the pack back.
+-- A pack can be read back from its number.
 use Rattle.std.proofs.Common.{◌≡◌, ℕ, ◌+◌, ◌*◌, ◌/◌, ◌%◌, ◌<◌, eqb, true, false, Option, Some, None, refl, sym, ap, ◌∙◌, arith, eq-eqb}
 use Rattle.std.proofs.lemmas.Bool.Decides.{nat_tests}
 use Rattle.gix_odb_events.specs.PackId.{id_with, pack_id_of}

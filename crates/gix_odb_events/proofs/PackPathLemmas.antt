@@ -1,4 +1,4 @@
--- The stem of an index's name, as it is cut off.
+-- The stem of an index's name.
 use Rattle.std.proofs.Common.{◌≡◌, ℕ, ◌-◌, List, length, take, codes, None, eqb, true, false, refl, sym, ap, subst, ◌∙◌, arith}
 use Rattle.std.specs.List.{ends_with}
 use Rattle.std.specs.Str.{IsCharBoundary}

@@ -1,4 +1,4 @@
--- When two paths are one.
+-- When two paths are the same.
 use Rattle.std.proofs.Common.{◌≡◌, Bool, true, false, refl, sym, ◌∙◌}
 use Rattle.std.specs.Cmp.Lexicographic.{bytes_decides}
 use lib.Pointwise.{pointwise_decides}

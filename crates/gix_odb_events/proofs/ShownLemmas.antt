@@ -18,7 +18,7 @@ module _ {Y : Type 0} where
   contains_more y ys x (k, within, is) = (suc k, omega arith, is)
 
 module _ {X Y : Type 0} (h : X → Option Y) where
-  -- what is given was given by an element
+  -- each item was given by an element
   pub given_by : (xs : List X) (y : Y) → Contains (filter_map h xs) y → (x : X) × Contains xs x × (h x ≡ Some y)
   given_by [] y (k, within, is) = let no : ⊥ = omega arith in absurd no
   given_by (x ∷ xs) y has = by (h x) refl has (given_by xs y)
@@ -32,7 +32,7 @@ module _ {X Y : Type 0} (h : X → Option Y) where
       by (Some w) gives (zero, within, is) rest = (x, (zero, omega arith, refl), gives ∙ ap Some is)
       by (Some w) gives (suc k, within, is) rest = later (rest (k, omega arith, is))
 
-  -- what an element gives is given
+  -- the item of an element is among them
   pub gives : (xs : List X) (x : X) (y : Y) → Contains xs x → h x ≡ Some y → Contains (filter_map h xs) y
   gives [] x y (k, within, is) to = let no : ⊥ = omega arith in absurd no
   gives (z ∷ xs) x y (zero, within, is) to =
@@ -44,7 +44,7 @@ module _ {X Y : Type 0} (h : X → Option Y) where
       by (Some w) (j, below, at) = (suc j, omega arith, at)
 
 module _ {Y : Type 0} (number : Y → ℕ) where
-  -- an element under a number is the first, if all under it are equal
+  -- an element with a number is the first, if all with this number are equal
   find-some : (ys : List Y) (place : ℕ) (y : Y) → Contains ys y → number y ≡ place → ((z : Y) → Contains ys z → number z ≡ place → Some y ≡ Some z)
       → Some y ≡ find (λ z. number z == place) ys
   find-some [] place y (k, within, is) under only = let no : ⊥ = omega arith in absurd no
@@ -59,7 +59,7 @@ module _ {Y : Type 0} (number : Y → ℕ) where
       by false differ (zero, within, is) later = absurd (false≢true (sym differ ∙ eq-eqb _ _ (ap number is ∙ under)))
       by false differ (suc k, within, is) later = later (k, omega arith, is)
 
-  -- nothing is found where nothing stands under the number
+  -- nothing is found if nothing has the number
   find-none : (ys : List Y) (place : ℕ) → ((z : Y) → Contains ys z → number z ≡ place → ◌≡◌ {A = Option Y} None (Some z)) → None ≡ find (λ z. number z == place) ys
   find-none [] place nothing = refl
   find-none (z ∷ ys) place nothing = by (number z == place) refl (find-none ys place (λ w has same. nothing w (contains_more z ys w has) same))
@@ -68,7 +68,7 @@ module _ {Y : Type 0} (number : Y → ℕ) where
       by true same later = nothing z (zero, omega arith, refl) (eqb-true _ _ same)
       by false differ later = later
 
-  -- what all elements under a number are is what is found
+  -- if all elements with a number are equal, this is what is found
   pub find-only : (ys : List Y) (place : ℕ) (o : Option Y) → ((z : Y) → Contains ys z → number z ≡ place → o ≡ Some z)
       → ((y : Y) → o ≡ Some y → Contains ys y × (number y ≡ place)) → o ≡ find (λ z. number z == place) ys
   find-only ys place None only has = find-none ys place only
@@ -173,7 +173,7 @@ module _ (slots : List Slot) (list : List ℕ) where
       (λ index has under. (shown_only place index has under).1)
       (λ index shows. (shown_has place index listed shows, (shown_by_filled place (slot_at slots place) index shows).3))
 
-  -- and of another slot there is none
+  -- and of a slot that isn't listed there is none
   pub shown_find-unlisted : (place : ℕ) → is_listed list place ≡ false → None ≡ find (λ index. index.slot == place) (shown_indices slots list)
   shown_find-unlisted place unlisted =
       find-none (λ (index : SnapshotIndex). index.slot) (shown_indices slots list) place

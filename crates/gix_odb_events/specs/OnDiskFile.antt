@@ -35,7 +35,7 @@ module _ {A : Type 0} where
   is_disposable (Garbage file) = true
   is_disposable Missing = true
 
-  -- it is still to be read, and could be as far as is known
+  -- it is to be read, and may be present
   abbrev pub is_unloaded : FileState A → Bool
   is_unloaded Unloaded = true
   is_unloaded (Loaded file) = false
@@ -63,13 +63,13 @@ module _ {A : Type 0} where
   stored file (Garbage old) = Garbage old
   stored file Missing = Loaded file
 
-  -- a file that was passed over is missing where it wasn't loaded
+  -- a file that was passed over is missing unless it was loaded
   abbrev pub passed : FileState A → FileState A
   passed Unloaded = Missing
   passed (Loaded file) = Loaded file
   passed (Garbage file) = Garbage file
   passed Missing = Missing
 
-  -- a file in the state that a change of states gives it
+  -- a file after a change of its state
   abbrev pub with_state : (FileState A → FileState A) → OnDiskFile A → OnDiskFile A
   with_state change file = file_at file.path (change file.state)

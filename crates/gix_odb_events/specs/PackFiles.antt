@@ -1,4 +1,4 @@
--- The packs of an index, and when two paths are one.
+-- The packs of an index, and when two paths are the same.
 use Rattle.std.specs.Prelude.{ℕ, Bool, List, [], ◌∷◌, map, Option, Some, None}
 use Rattle.std.specs.List.{IsDistinct}
 use lib.Pointwise.{pointwise}
@@ -18,14 +18,14 @@ PackFile = OnDiskFile FileBytes
 abbrev pub same_path : Path → Path → Bool
 same_path = pointwise same_name
 
--- no two rows have one path
+-- no two rows have the same path
 abbrev pub HasDifferentPaths : List ListingRow → Type 0
 HasDifferentPaths rows = IsDistinct same_path (map (λ row. row.path) rows)
 
 abbrev pub new_pack : Path → List ℕ → PackFile
 new_pack folder name = file_at (pack_in folder name) Unloaded
 
--- one pack beside a single index, and one for each name of a multi-index
+-- one pack beside a single index, or one for each name of a multi-index
 abbrev pub new_packs : Path → Option (List ℕ) → List PackFile
 new_packs path None = new_pack (folder_of path) (name_of path) ∷ []
 new_packs path (Some multi) = map (new_pack (folder_of path)) (told multi).names

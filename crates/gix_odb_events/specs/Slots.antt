@@ -1,4 +1,4 @@
--- Slots: what each holds, and of which row of a listing it is.
+-- Slots: what each holds, and which row of a listing it has.
 use Rattle.std.specs.Prelude.{◌≡◌, ℕ, ◌≤◌, Bool, true, false, ◌&&◌, ◌||◌, ◌==◌, List, length, map, slice_get, Option, Some, None, unwrap_or}
 use Rattle.std.specs.List.{AllZip, IsDistinct, filter_map, list_any}
 use lib.Pointwise.{pointwise}
@@ -17,11 +17,11 @@ use Rattle.gix_odb_events.specs.declared.slot.IndexFile.TheVariants.{Single, Mul
 abbrev pub Slot : Type 0
 Slot = Option Filled
 
--- what stands at a place; beyond the slots nothing does
+-- the slot at a place; empty beyond the slots
 abbrev pub slot_at : List Slot → ℕ → Slot
 slot_at slots place = unwrap_or (slice_get slots place) None
 
--- ---- of which row a slot is
+-- ---- which row a slot holds
 
 abbrev pub index_path : IndexFile → Path
 index_path (Single file) = file.path
@@ -38,9 +38,9 @@ abbrev pub holds : ListingRow → Slot → Bool
 holds row None = false
 holds row (Some filled) = is_index_of row row.multi filled.index filled.time
 
--- ---- what a slot holds that a new row takes
+-- ---- the contents of a slot that a new row takes
 
--- a single index is still to be read, a multi-index was read by the listing
+-- a single index is to be read, a multi-index was read by the listing
 abbrev pub new_index : Path → Option (List ℕ) → IndexFile
 new_index path None = Single (file_at path Unloaded)
 new_index path (Some multi) = Multi (file_at path (Loaded multi))
@@ -48,7 +48,7 @@ new_index path (Some multi) = Multi (file_at path (Loaded multi))
 abbrev pub new_filled : ListingRow → Filled
 new_filled row = record { index = new_index row.path row.multi; time = row.time; packs = new_packs row.path row.multi }
 
--- ---- what becomes of a slot that no new row takes
+-- ---- a slot after a listing, if no new row takes it
 
 abbrev pub index_put_back : IndexFile → IndexFile
 index_put_back (Single file) = Single (with_state put_back file)
@@ -66,19 +66,19 @@ filled_trashed filled = record { index = index_trashed filled.index; time = fill
 
 -- ---- slots that differ
 
--- whether two indices are one: the same path as the same kind, and of multi-indices the same time
+-- whether two indices are the same: the same path and kind, and of multi-indices the same time
 abbrev pub same_index : IndexFile → ℕ → IndexFile → ℕ → Bool
 same_index (Single one) time (Single other) later = same_path one.path other.path
 same_index (Multi one) time (Multi other) later = same_path one.path other.path && time == later
 same_index one time other later = false
 
--- no two slots hold the same single index, or the same multi-index of one time
+-- no two slots hold the same single index, or the same multi-index of the same time
 abbrev pub IsApart : List Slot → Type 0
 IsApart slots = IsDistinct (λ one other. same_index one.index one.time other.index other.time) (filter_map (λ slot. slot) slots)
 
--- ---- what is kept of a slot, and what no listing wants of it
+-- ---- what is kept of a slot, and what no listing needs of it
 
--- a file of the same path, of which the same bytes were read. It may have become garbage, or no longer be
+-- a file of the same path, of which the same bytes were read. It may have become garbage, or be garbage no longer
 pub record KeepsFile {A : Type 0} (before after : OnDiskFile A) : Type 0 where
   pub path : after.path ≡ before.path
   pub bytes : loaded after.state ≡ loaded before.state
@@ -102,7 +102,7 @@ is_index_disposable (Multi file) = is_disposable file.state
 abbrev pub has_disposable : Filled → Bool
 has_disposable filled = is_index_disposable filled.index || list_any (λ pack. is_disposable pack.state) filled.packs
 
--- ---- what is told of a slot
+-- ---- reports of a slot
 
 abbrev pub is_index_loaded : IndexFile → Bool
 is_index_loaded (Single file) = is_loaded file.state
@@ -112,11 +112,11 @@ abbrev pub is_multi : IndexFile → Bool
 is_multi (Single file) = false
 is_multi (Multi file) = true
 
--- what a report says of a listed slot
+-- the row of a report for a listed slot
 abbrev pub listed_of : Filled → Listed
 listed_of filled = record { path = index_path filled.index; multi = is_multi filled.index; loaded = is_index_loaded filled.index; disposable = has_disposable filled }
 
--- how many packs a slot has at most: as many as a number of 32 bits tells, since a multi-pack index says so in its header
+-- the most packs of a slot: as many as fit 32 bits, since a multi-pack index has this number in its header
 abbrev pub IsFewPacks : Filled → Type 0
 IsFewPacks filled = length filled.packs ≤ 4294967296
 

@@ -1,19 +1,19 @@
-//! What work asks for, and what it is answered.
+//! What machines ask for, and the answers.
 use crate::event::{Effect, Event, Refusal};
 use odb_asks::{DiskAnswer, DiskAsk};
 
-/// What work asks for.
+/// What a machine asks for.
 #[derive(Drop)]
 pub enum Ask {
     /// A call of the disk.
     Disk(DiskAsk),
     /// An event of the store's core.
     Core(Event),
-    /// A core of its own for its store, with so many slots and folders, at which its handle is registered.
+    /// A core for its store, with this many slots and folders, at which its handle is registered.
     NewCore { slots: u16, folders: usize },
 }
 
-/// What work is answered.
+/// The answer to an ask.
 #[derive(Drop)]
 pub enum Answer {
     Disk(DiskAnswer),

@@ -1,4 +1,4 @@
-//! What happens to a core, and what it answers.
+//! The events of a core, and its answers.
 ghost use Rattle.std.specs.Prelude.{◌≡◌, Ok};
 ghost use Rattle.std.specs.Option.{option_copied};
 ghost use Rattle.gix_odb_events.specs.Answers.{view_in};
@@ -18,11 +18,11 @@ pub enum PassWhy {
     Absent,
     /// The call of the disk failed.
     Failed,
-    /// Something else than a file was there.
+    /// Something other than a file was there.
     WrongKind,
-    /// Too many links led on.
+    /// Too many links were followed.
     LinkLoop,
-    /// The bytes are no index, or no pack.
+    /// The bytes are no valid index or pack.
     Bad,
 }
 
@@ -63,27 +63,27 @@ pub enum Event {
     Publish(Listing),
 }
 
-/// What an event answers.
+/// The answer to an event.
 #[derive(Drop)]
 pub enum Effect {
     /// The view.
     Seen(View),
-    /// The report, beside the view.
+    /// The report, and the view.
     Reported { view: View, report: Shared<Report> },
     /// The handle is gone.
     Removed,
-    /// Whether the file was stored, beside the view.
+    /// Whether the file was stored, and the view.
     Put { view: View, stored: bool },
     /// There is a new list.
     Published(View),
-    /// The list is as it was.
+    /// The list is unchanged.
     Unchanged(View),
     /// Another list was published since the listing began.
     Outdated { list_no: u64 },
 }
 
 impl Effect {
-    /// The view that it hands over.
+    /// The view, if it has one.
     pub fn view(&self) -> Option<&View>
         ensures view { option_copied result ≡ view_in (Ok self.now) }
     {
@@ -98,10 +98,10 @@ impl Effect {
 /// Why an event was refused.
 #[derive(Clone, Copy, Debug, Error)]
 pub enum Refusal {
-    /// More rows are new than slots are free.
+    /// There are more new rows than free slots.
     #[error("{current} slots are too few: {needed} more are needed")]
     InsufficientSlots { current: usize, needed: usize },
-    /// A counter stands at its greatest value, and would have to rise.
+    /// A counter is at its greatest value, and would have to rise.
     #[error("the generation or the state number cannot rise any more")]
     GenerationOverflow,
     #[error("out of memory")]

@@ -1,9 +1,9 @@
-//! What happens to the core of a store, what it answers and shows then, and what machines ask for.
+//! The events of a store's core, its answers and views, and the asks of machines.
 //!
-//! A handle brings events to a core, and each is answered by an effect or a refusal. Most effects hand over a view: the
-//! loaded files at that moment, and what is still to be loaded. A machine asks for one call of the disk or one such event
-//! at a time. Read `event` first, then `view` and `answer`, and `listing`, `loaded` and `on_disk_file` for what they name;
-//! what a core makes of events stands in `gix_odb_core`.
+//! A handle brings events to a core, and each is answered by an effect or a refusal. Most effects contain a view: the
+//! files loaded at that moment, and those that are to be loaded. A machine asks for one call of the disk or one such
+//! event at a time. Read `event` first, then `view` and `answer`, and `listing`, `loaded` and `on_disk_file` for
+//! their types; `gix_odb_core` says how events change a core.
 //! ```rust
 //! let ask = Ask::Core(Event::PassOver { slot, path, why: PassWhy::Absent });
 //! let answer = Answer::Core(core.apply(alloc, seat, event));

@@ -1,4 +1,4 @@
-//! What is told of a listed slot.
+//! The row of a listed slot in a report.
 use crate::Shared;
 use odb_base::{PathText, Sequence};
 
@@ -14,5 +14,5 @@ pub struct Listed {
     pub disposable: bool,
 }
 
-/// Listed slots, in the order of the list. A report that is handed over and its entry in the journal share them.
+/// Listed slots, in the order of the list. A report that is returned and its entry in the journal share them.
 pub type ListedList = Shared<Sequence<Listed>>;

@@ -10,9 +10,9 @@ use std::alloc::Global;
 #[derive(Drop)]
 pub struct ListingRow {
     pub path: PathText,
-    /// When the file was changed last, in nanoseconds since 1970.
+    /// When the file was last changed, in nanoseconds since 1970.
     pub time: u64,
-    /// How many bytes the file has.
+    /// The size of the file in bytes.
     pub len: u64,
     /// The multi-pack index in the file, if it is one.
     pub multi: Option<Shared<multi_index::File>>,

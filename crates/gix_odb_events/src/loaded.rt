@@ -1,4 +1,4 @@
-//! Indices that are loaded, and those that are still to be: what is told of one, and the lists of them.
+//! Indices that are loaded or to be loaded: one of them, and the lists.
 ghost use Rattle.std.specs.Prelude.{◌≡◌, ◌==◌, [], Contains, IfOk, OnErr, OnOk, Some, drop};
 ghost use Rattle.std.specs.List.{find};
 ghost use Rattle.gix_odb_events.specs.Shown.{first_of, shown_indices, shown_kept, shown_todo};
@@ -37,7 +37,7 @@ pub struct Todo {
     pub path: Shared<PathText>,
 }
 
-/// Slots and the list of those that are listed, as the lists of a view share them.
+/// Slots and the list of those that are listed, in the form that the lists of a view share.
 #[derive(Drop)]
 pub struct ListedSlots {
     pub slots: SlotList,
@@ -56,7 +56,7 @@ impl ListedSlots {
     }
 }
 
-/// The loaded indices of the listed slots, in the order of the list, in which they are asked. Contracts see it as that list.
+/// The loaded indices of the listed slots, in the order of the list and of a search. Contracts see it as that list.
 #[derive(Drop)]
 pub struct LoadedList {
     of: Shared<ListedSlots>,
@@ -73,7 +73,7 @@ impl Model for LoadedList {
 }
 
 impl LoadedList {
-    /// What slots and a list show.
+    /// The loaded indices of slots and a list.
     pub fn of(slots: &Shared<ListedSlots>) -> Result<LoadedList, NoMemory>
         ensures shown { IfOk result (λ loaded. loaded ≡ shown_indices slots.now.slots slots.now.list) }
     {
@@ -82,7 +82,7 @@ impl LoadedList {
         })
     }
 
-    /// A copy, which shares what it shows.
+    /// A copy, which shares the contents.
     pub fn try_clone(&self) -> Result<LoadedList, NoMemory>
         ensures copy { IfOk result (λ copy. copy ≡ self.now) }
     {
@@ -129,7 +129,7 @@ impl Model for KeptList {
 }
 
 impl KeptList {
-    /// What slots and a list show.
+    /// The loaded indices of the slots that aren't on a list.
     pub fn of(slots: &Shared<ListedSlots>) -> Result<KeptList, NoMemory>
         ensures shown { IfOk result (λ kept. kept ≡ shown_kept slots.now.slots slots.now.list) }
     {
@@ -138,7 +138,7 @@ impl KeptList {
         })
     }
 
-    /// A copy, which shares what it shows.
+    /// A copy, which shares the contents.
     pub fn try_clone(&self) -> Result<KeptList, NoMemory>
         ensures copy { IfOk result (λ copy. copy ≡ self.now) }
     {
@@ -176,7 +176,7 @@ impl Model for TodoList {
 }
 
 impl TodoList {
-    /// What is still to be loaded of slots and a list.
+    /// The indices of slots and a list that are to be loaded.
     pub fn of(slots: &Shared<ListedSlots>) -> Result<TodoList, NoMemory>
         ensures shown { IfOk result (λ todo. todo ≡ shown_todo slots.now.slots slots.now.list) }
     {
@@ -185,7 +185,7 @@ impl TodoList {
         })
     }
 
-    /// A copy, which shares what it shows.
+    /// A copy, which shares the contents.
     pub fn try_clone(&self) -> Result<TodoList, NoMemory>
         ensures copy { IfOk result (λ copy. copy ≡ self.now) }
     {
@@ -202,7 +202,7 @@ impl TodoList {
         })
     }
 
-    /// Its end, where nothing is left.
+    /// Its end, with nothing left.
     pub fn end(&self) -> Result<TodoRest, NoMemory>
         ensures none { IfOk result (λ rest. rest ≡ []) }
     {
@@ -212,7 +212,7 @@ impl TodoList {
     }
 }
 
-/// What is left of a list of loaded indices, which contracts see as the list of it.
+/// The rest of a list of loaded indices, which contracts see as a list.
 #[derive(Drop)]
 pub struct LoadedRest {
     of: Shared<ListedSlots>,
@@ -232,7 +232,7 @@ impl Model for LoadedRest {
 }
 
 impl LoadedRest {
-    /// Takes the first, if one is left. Want of memory takes none.
+    /// Takes the first, if one is left. If memory runs out, it takes none.
     pub fn pop(&mut self) -> Result<Option<SnapshotIndex>, NoMemory>
         ensures first { IfOk result (λ first. first ≡ first_of self.old) }
         ensures rest { OnOk result (self.new ≡ drop 1 self.old) }
@@ -245,7 +245,7 @@ impl LoadedRest {
     }
 }
 
-/// What is left of a list of indices that are still to be loaded, which contracts see as the list of it.
+/// The rest of a list of indices that are to be loaded, which contracts see as a list.
 #[derive(Drop)]
 pub struct TodoRest {
     of: Shared<ListedSlots>,
@@ -265,7 +265,7 @@ impl Model for TodoRest {
 }
 
 impl TodoRest {
-    /// Takes the first, if one is left. Want of memory takes none.
+    /// Takes the first, if one is left. If memory runs out, it takes none.
     pub fn pop(&mut self) -> Result<Option<Todo>, NoMemory>
         ensures first { IfOk result (λ first. first ≡ first_of self.old) }
         ensures rest { OnOk result (self.new ≡ drop 1 self.old) }

@@ -1,4 +1,4 @@
-//! What is counted of a core, and what it reports.
+//! The counts of a core, and its report.
 
 use crate::event::PassWhy;
 use crate::{ListedList, Shared};
@@ -39,7 +39,7 @@ pub struct Passed {
 /// The files that were passed over, in the order of the journal.
 pub type PassedList = Shared<Sequence<Passed>>;
 
-/// What a core reports of itself. The one that is handed over and the one in the journal are the same.
+/// The report of a core on itself. The one that is returned and the one in the journal are the same.
 #[derive(Drop)]
 pub struct Report {
     pub metrics: Metrics,

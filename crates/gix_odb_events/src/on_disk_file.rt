@@ -13,7 +13,7 @@ pub enum FileState<T> {
     Unloaded,
     /// It was read.
     Loaded(T),
-    /// It was read, and its index is no longer listed. A stable handle may still want it.
+    /// It was read, and its index is no longer listed. A stable handle may still need it.
     Garbage(T),
     /// It could not be read when it was wanted.
     Missing,
@@ -34,35 +34,35 @@ impl<T> OnDiskFile<T> {
         OnDiskFile { path, state }
     }
 
-    /// Where the file stands on the disk.
+    /// The path of the file on the disk.
     pub fn path(&self) -> &PathText
         ensures path { result.now ≡ file_path self.now }
     {
         self.path.value()
     }
 
-    /// Its path, which has one owner more.
+    /// Its path, shared with one more owner.
     pub fn shared_path(&self) -> Result<Shared<PathText>, NoMemory>
         ensures path { IfOk result (λ path. path ≡ file_path self.now) }
     {
         self.path.try_clone()
     }
 
-    /// Whether its bytes are at hand.
+    /// Whether its bytes are in memory.
     pub fn is_loaded(&self) -> bool
         ensures loaded { result ≡ is_loaded (file_state self.now) }
     {
         matches!(&self.state, FileState::Loaded(_) | FileState::Garbage(_))
     }
 
-    /// Whether it is still to be read, and wasn't missing.
+    /// Whether it is to be read, and wasn't missing.
     pub fn is_unloaded(&self) -> bool
         ensures unloaded { result ≡ is_unloaded (file_state self.now) }
     {
         matches!(&self.state, FileState::Unloaded)
     }
 
-    /// What was read, where it is at hand.
+    /// What was read, if it is in memory.
     pub fn loaded(&self) -> Option<&T>
         ensures loaded { option_copied result ≡ loaded (file_state self.now) }
     {
@@ -72,7 +72,7 @@ impl<T> OnDiskFile<T> {
         }
     }
 
-    /// Whether no listing wants it in this state: it is garbage, or it was missing.
+    /// Whether no listing needs it in this state: it is garbage, or it was missing.
     pub fn is_disposable(&self) -> bool
         ensures disposable { result ≡ is_disposable (file_state self.now) }
     {
@@ -106,7 +106,7 @@ impl<T: Drop> OnDiskFile<T> {
 }
 
 impl<F: Drop> FileState<Shared<F>> {
-    /// The same state, of which what was read has one owner more.
+    /// The same state, with one more owner of what was read.
     fn try_clone(&self) -> Result<FileState<Shared<F>>, NoMemory>
         ensures copy { IfOk result (λ copy. copy ≡ self.now) }
     {

@@ -14,7 +14,7 @@ use std::alloc::Global;
 /// A pack of a slot.
 pub type PackFile = OnDiskFile<Shared<data::File>>;
 
-/// The packs of an index: those that a multi-pack index names, in the order of the names. Another index has one.
+/// The packs of an index: those that a multi-pack index names, in the order of the names; a single one of a pack index.
 pub type PackFileList = Sequence<PackFile>;
 
 /// The packs of a new row.
@@ -33,14 +33,14 @@ pub fn new_packs(
     }
 }
 
-/// The packs of an index that was not listed: the one beside it, which is still to be read.
+/// The packs of an index that was not listed: the one beside it, which is to be read.
 pub fn packs_beside(alloc: Global, path: &PathText) -> Result<Shared<PackFileList>, NoMemory>
     ensures packs { IfOk result (λ packs. packs ≡ new_packs path.now None) }
 {
     Ok(Shared::new(alloc, new_packs(alloc, path, &None)?)?)
 }
 
-/// A pack that is still to be read.
+/// A pack that is to be read.
 fn new_pack(alloc: Global, folder: &PathText, name: &str) -> Result<PackFile, NoMemory>
     ensures pack { IfOk result (λ pack. pack ≡ new_pack folder.now name.now) }
 {
@@ -64,7 +64,7 @@ fn named_packs(
     ensures packs { IfOk result (λ packs. packs ≡ map (new_pack folder.now) (told file.now).names) }
     ensures few { IfOk result (λ packs. length packs ≤ 4294967296) }
 {
-    // The header tells the number of packs by 32 bits: so there are no more.
+    // The header has the number of packs in 32 bits, so there are no more.
     let mut packs = Vec::with_capacity(alloc, file.num_indices() as usize)?;
     for name in file.index_names() {
         packs.push(new_pack(alloc, folder, name.as_str())?)?;

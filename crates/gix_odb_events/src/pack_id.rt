@@ -6,13 +6,13 @@ ghost use Rattle.gix_odb_events.specs.PackId.{intrinsic_id_of, pack_id_of};
 /// The number of a slot.
 pub type IndexId = usize;
 
-// The bit of an intrinsic id that tells that the pack is one of a multi-pack index.
+// The bit of an intrinsic id for packs of a multi-pack index.
 const MULTI_INDEX_BIT: u32 = 32_768;
 
 // Where the number of a pack within its multi-pack index begins in an intrinsic id.
 const MULTI_INDEX_UNIT: u32 = 65_536;
 
-/// Which pack of a store: the slot of its index, and its place among the packs of a multi-pack index, if it is one.
+/// A pack of a store: the slot of its index, and its place among the packs of a multi-pack index, if it is in one.
 #[derive(Clone, Copy, Debug, PartialEq, Eq)]
 pub struct PackId {
     pub index: IndexId,
@@ -20,8 +20,8 @@ pub struct PackId {
 }
 
 impl PackId {
-    /// The pack's number as callers keep it, which gives the pack back: the slot is its lowest 15 bits, the next bit says that the pack is one of a
-    /// multi-pack index, and its place there stands above.
+    /// The pack's number as callers keep it, from which the pack can be read back: the lowest 15 bits are the slot,
+    /// the next bit is set for a pack of a multi-pack index, and its place there is in the bits above.
     pub fn to_intrinsic_pack_id(self) -> u32
         requires slot { self.index < 2 ^ 15 }
         requires place { ForSome self.multipack_index (λ place. place ≤ 65535) }
@@ -35,7 +35,7 @@ impl PackId {
         }
     }
 
-    /// The pack that a number stands for.
+    /// The pack with a number.
     pub fn from_intrinsic_pack_id(id: u32) -> PackId
         ensures pack { result ≡ pack_id_of id }
     {

@@ -1,11 +1,11 @@
-//! Where the pack of an index stands: beside it, by the name of the index with another ending.
+//! The path of an index's pack: beside the index, by its name with another ending.
 ghost use Rattle.std.specs.Prelude.{◌≡◌, IfOk};
 ghost use Rattle.gix_odb_events.specs.PackPath.{folder_of, name_of, pack_in, pack_name, pack_path, stem_of};
 
 use odb_base::{BadPath, NoMemory, PathText};
 use std::alloc::Global;
 
-/// The folder that an index stands in.
+/// The folder of an index.
 pub fn folder_of(alloc: Global, path: &PathText) -> Result<PathText, NoMemory>
     ensures folder { IfOk result (λ folder. folder ≡ folder_of path.now) }
 {
@@ -32,7 +32,7 @@ fn stem_of(name: &str) -> &str
     }
 }
 
-/// The pack of a folder by the name of its index.
+/// The path in a folder of the pack of an index with this name.
 pub fn pack_in(alloc: Global, folder: &PathText, name: &str) -> Result<PathText, NoMemory>
     ensures path { IfOk result (λ path. path ≡ pack_in folder.now name.now) }
 {
@@ -45,7 +45,7 @@ pub fn pack_in(alloc: Global, folder: &PathText, name: &str) -> Result<PathText,
     }
 }
 
-/// Where the pack of an index stands: beside it, by its name with another ending.
+/// The path of an index's pack: beside the index, by its name with another ending.
 pub fn pack_path(alloc: Global, path: &PathText) -> Result<PathText, NoMemory>
     ensures pack { IfOk result (λ pack. pack ≡ pack_path path.now) }
 {

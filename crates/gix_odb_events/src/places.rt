@@ -8,7 +8,7 @@ use odb_base::{NoMemory, Sequence};
 use std::alloc::Global;
 use std::marker::Model;
 
-/// The numbers of listed slots, with marks that tell which these are.
+/// The numbers of listed slots, with a mark for each.
 #[derive(Drop)]
 struct ListedPlaces {
     places: Sequence<u16>,
@@ -54,11 +54,11 @@ impl ListedPlaces {
     }
 }
 
-/// The numbers of the listed slots, in the order of the list, which contracts see as that list. A copy shares them. Whether a
-/// slot is among them is told without going through them.
+/// The numbers of the listed slots, in the order of the list, which contracts see as that list. A copy shares them.
+/// Whether it has a slot is known without searching it.
 #[derive(Drop)]
 pub struct PlaceList {
-    /// None where no slot is listed, so that such a list takes no memory.
+    /// None if no slot is listed, so that such a list takes no memory.
     listed: Option<Shared<ListedPlaces>>,
 }
 

@@ -1,4 +1,4 @@
-//! What is shown of slots: the index of each, where its bytes are at hand, and else that it is still to be loaded.
+//! What is shown of slots: the index of each if its bytes are in memory, and otherwise that it is to be loaded.
 ghost use Rattle.std.specs.Prelude.{◌≡◌, ◌≤◌, IfOk, Some, drop, length};
 ghost use Rattle.gix_odb_events.specs.Shown.{first_of, loaded_index, shown_indices, shown_slot, shown_todo, unloaded_slot};
 ghost use Rattle.gix_odb_events.specs.Slots.{slot_at};
@@ -7,7 +7,7 @@ use crate::loaded::{LoadedIndex, SnapshotIndex, Todo};
 use crate::slot::{Filled, IndexFile, SlotList};
 use odb_base::NoMemory;
 
-/// The index of a slot, where its bytes are at hand.
+/// The index of a slot, if its bytes are in memory.
 fn loaded_index(index: &IndexFile) -> Result<Option<LoadedIndex>, NoMemory>
     ensures loaded { IfOk result (λ shown. shown ≡ loaded_index index.now) }
 {
@@ -23,7 +23,7 @@ fn loaded_index(index: &IndexFile) -> Result<Option<LoadedIndex>, NoMemory>
     }
 }
 
-/// What a snapshot has of what a slot holds.
+/// The index of a filled slot in a snapshot, if it is loaded.
 fn shown_filled(place: u16, filled: &Filled) -> Result<Option<SnapshotIndex>, NoMemory>
     ensures shown { IfOk result (λ shown. shown ≡ shown_slot place (Some filled.now)) }
 {
@@ -40,7 +40,7 @@ fn shown_filled(place: u16, filled: &Filled) -> Result<Option<SnapshotIndex>, No
     }))
 }
 
-/// What is still to be loaded of what a slot holds.
+/// The index of a filled slot that is to be loaded, if it is.
 fn unloaded_filled(place: u16, filled: &Filled) -> Result<Option<Todo>, NoMemory>
     ensures unloaded { IfOk result (λ unloaded. unloaded ≡ unloaded_slot place (Some filled.now)) }
 {
@@ -53,7 +53,7 @@ fn unloaded_filled(place: u16, filled: &Filled) -> Result<Option<Todo>, NoMemory
     }))
 }
 
-/// What a snapshot has of the slot at a place. Beyond the slots there is nothing.
+/// The index of the slot at a place in a snapshot, if it is loaded. None beyond the slots.
 pub(crate) fn shown_at(slots: &SlotList, place: u16) -> Result<Option<SnapshotIndex>, NoMemory>
     ensures shown { IfOk result (λ shown. shown ≡ shown_slot place (slot_at slots.now place)) }
 {
@@ -63,7 +63,7 @@ pub(crate) fn shown_at(slots: &SlotList, place: u16) -> Result<Option<SnapshotIn
     }
 }
 
-/// What is still to be loaded of the slot at a place. Beyond the slots there is nothing.
+/// The index of the slot at a place that is to be loaded, if it is. None beyond the slots.
 fn unloaded_at(slots: &SlotList, place: u16) -> Result<Option<Todo>, NoMemory>
     ensures unloaded { IfOk result (λ unloaded. unloaded ≡ unloaded_slot place (slot_at slots.now place)) }
 {
@@ -73,7 +73,7 @@ fn unloaded_at(slots: &SlotList, place: u16) -> Result<Option<Todo>, NoMemory>
     }
 }
 
-/// The first loaded index of a list, and how many of its places are gone through then.
+/// The first loaded index of a list, and how many of its places were passed by then.
 pub(crate) fn first_shown(
     slots: &SlotList,
     places: &[u16],
@@ -93,7 +93,7 @@ pub(crate) fn first_shown(
     Ok((None, gone))
 }
 
-/// The first index of a list that is still to be loaded, and how many of its places are gone through then.
+/// The first index of a list that is to be loaded, and how many of its places were passed by then.
 pub(crate) fn first_unloaded(
     slots: &SlotList,
     places: &[u16],

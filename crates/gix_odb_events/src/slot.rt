@@ -24,7 +24,7 @@ pub enum IndexFile {
     Multi(OnDiskFile<Shared<multi_index::File>>),
 }
 
-/// What a slot holds: an index, when its file was changed last, and its packs.
+/// What a slot holds: an index, when its file was last changed, and its packs.
 #[derive(Drop)]
 pub struct Filled {
     pub index: IndexFile,
@@ -39,7 +39,7 @@ pub type Slot = Option<Shared<Filled>>;
 pub type SlotList = SharedList<Filled>;
 
 impl IndexFile {
-    /// Where the index stands on the disk.
+    /// The path of the index on the disk.
     pub fn path(&self) -> &PathText
         ensures path { result.now ≡ index_path self.now }
     {
@@ -49,7 +49,7 @@ impl IndexFile {
         }
     }
 
-    /// Its path, which has one owner more.
+    /// Its path, shared with one more owner.
     pub fn shared_path(&self) -> Result<Shared<PathText>, NoMemory>
         ensures path { IfOk result (λ path. path ≡ index_path self.now) }
     {
@@ -69,7 +69,7 @@ impl IndexFile {
         }
     }
 
-    /// Whether its bytes are at hand.
+    /// Whether its bytes are in memory.
     pub fn is_loaded(&self) -> bool
         ensures loaded { result ≡ is_index_loaded self.now }
     {
@@ -79,7 +79,7 @@ impl IndexFile {
         }
     }
 
-    /// Whether it is garbage, or was missing.
+    /// Whether it is garbage or missing.
     fn is_disposable(&self) -> bool
         ensures disposable { result ≡ is_index_disposable self.now }
     {
@@ -121,7 +121,7 @@ impl IndexFile {
 }
 
 impl Filled {
-    /// What a slot holds that a new row takes.
+    /// The contents of a slot that a new row takes.
     pub fn new(alloc: Global, row: &ListingRow) -> Result<Filled, NoMemory>
         ensures filled { IfOk result (λ filled. filled ≡ new_filled row.now) }
         ensures few { IfOk result IsFewPacks }
@@ -134,7 +134,7 @@ impl Filled {
         })
     }
 
-    /// What a slot holds that a listing has again.
+    /// The contents of a slot that a listing has again.
     pub fn put_back(&self, alloc: Global) -> Result<Filled, NoMemory>
         ensures put_back { IfOk result (λ filled. filled ≡ filled_put_back self.now) }
     {
@@ -146,7 +146,7 @@ impl Filled {
         })
     }
 
-    /// What a slot holds that no listing has any more, while a handle is stable.
+    /// The contents of a slot that no listing has any more, while a handle is stable.
     pub fn trashed(&self, alloc: Global) -> Result<Filled, NoMemory>
         ensures trashed { IfOk result (λ filled. filled ≡ filled_trashed self.now) }
     {
@@ -158,14 +158,14 @@ impl Filled {
         })
     }
 
-    /// Whether one of its files is garbage, or was missing.
+    /// Whether one of its files is garbage or missing.
     pub fn has_disposable(&self) -> bool
         ensures disposable { result ≡ has_disposable self.now }
     {
         self.index.is_disposable() || is_any_disposable(self.packs.value().as_slice())
     }
 
-    /// What a report says of it as a listed slot.
+    /// Its row in a report, as a listed slot.
     pub fn listed(&self) -> Result<Listed, NoMemory>
         ensures listed { IfOk result (λ listed. listed ≡ listed_of self.now) }
     {
@@ -178,14 +178,14 @@ impl Filled {
     }
 }
 
-/// Whether a pack is garbage, or was missing.
+/// Whether a pack is garbage or missing.
 fn is_any_disposable(packs: &[PackFile]) -> bool
     ensures disposable { result ≡ list_any (λ pack. is_disposable pack.state) packs.now }
 {
     packs.iter().any(|pack| pack.is_disposable())
 }
 
-/// The index of a new row: a single one is still to be read, a multi-pack index was read by the listing.
+/// The index of a new row: a single one is to be read, a multi-pack index was read by the listing.
 fn new_index(
     alloc: Global,
     path: &PathText,

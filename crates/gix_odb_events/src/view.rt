@@ -10,7 +10,7 @@ use odb_base::NoMemory;
 pub struct SlotIndexMarker {
     /// How many listings took over slots that held something.
     pub generation: u32,
-    /// How many lists were published and files stored.
+    /// How many lists were published and files stored, in sum.
     pub state_id: u64,
 }
 
@@ -22,7 +22,7 @@ pub struct Snapshot {
     /// Those of the filled slots that are not listed.
     pub kept: KeptList,
     pub marker: SlotIndexMarker,
-    /// The number of the journal's entry with which it was handed over.
+    /// The number of the journal's entry that returned it.
     pub entry: u64,
 }
 
@@ -34,12 +34,12 @@ pub struct View {
     pub list_no: u64,
     /// Whether a listing was published.
     pub read: bool,
-    /// What is still to be loaded.
+    /// What is to be loaded.
     pub todo: TodoList,
 }
 
 impl Snapshot {
-    /// A copy, which shares the lists, as one that is handed over with another entry.
+    /// A copy for another entry, which shares the lists.
     fn at(&self, entry: u64) -> Result<Snapshot, NoMemory>
         ensures copy { IfOk result (λ copy. copy ≡ record self.now { entry = entry }) }
     {
@@ -55,7 +55,7 @@ impl Snapshot {
 }
 
 impl View {
-    /// A copy, which shares the lists, as one that is handed over with another entry.
+    /// A copy for another entry, which shares the lists.
     pub fn at(&self, entry: u64) -> Result<View, NoMemory>
         ensures copy { IfOk result (λ copy. copy ≡ view_at self.now entry) }
     {

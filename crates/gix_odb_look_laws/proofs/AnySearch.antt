@@ -1,4 +1,4 @@
--- Whatever a search among indices comes to, the work goes on with the next index that is still to be loaded, finds something, fails, or reads a
+-- Whatever a search among indices finds, the work goes on with the next index that is still to be loaded, finds something, fails, or reads a
 -- pack.
 use Rattle.std.proofs.Common.{ℕ, List, Option, Some, None, option_map, Result, Ok, Err, slice_get}
 use Rattle.std.specs.List.{find}
@@ -80,7 +80,7 @@ module _ (goal : Goal) (absent : List AbsentFile) (index : SnapshotIndex) where
 
 module _ (P : Tried → Type 0) (goal : Goal) (ahead : Ahead) (further : P (at_todo goal ahead ahead.todo)) (hit : (found : Found) → P (ends.Hit found))
     (bad : (error : Error) → P (ends.Bad error)) (wanted : (pack : WantedPack) → P (at goal ahead (stages.ReadingPack pack))) (absent : List AbsentFile) where
-  -- what the search in one index comes to
+  -- what the search in one index leads to
   pub any_try : (index : SnapshotIndex) → P (at_search goal ahead (tried goal absent index))
   any_try index =
       search_ends AnyFound AnyError AnyPack P goal ahead (tried goal absent index) (tried_comes goal absent index) further (λ found any. hit found)

@@ -40,7 +40,7 @@ use Rattle.gix_odb_look_laws.proofs.CoreLaws.Fairness.{published_views_have_thei
 use Rattle.gix_odb_look_laws.proofs.CoreLaws.Journals.{each_of_grown, legal_journal_grows, next_entry_lowers_no_number}
 use Rattle.gix_odb_look_laws.proofs.CoreLaws.Shapes.{entries_stay_below, shape_shows_few}
 
--- an event of the handle of a seat is answered behind a journal, which has one entry more then
+-- an event of the handle of a seat is answered after a journal, which has one more entry then
 module _ (opening : Shape) (entries : List Entry) (seat : ℕ) (event : Event) (answer : core.Answer)
     (answered : answer ≡ answer_of entries (replay opening entries) (number_behind entries) seat event) where
   abbrev entry : Entry
@@ -58,7 +58,7 @@ module _ (opening : Shape) (entries : List Entry) (seat : ℕ) (event : Event) (
   next : IsNext opening entries entry
   next = record { numbered = refl; answered = inr answered }
 
-  -- a view that it hands over is that of the shape behind it
+  -- a view that it passes is that of the shape after it
   view_shows_it : (view : View) → view_in answer ≡ Some view → view ≡ view_of behind_it (number_behind entries)
   view_shows_it view handed = entry_hands_the_view_behind_it opening entries entry view next handed
 
@@ -91,11 +91,11 @@ module _ (opening : Shape) (entries : List Entry) (seat : ℕ) (event : Event) (
             let same : view.list_no ≡ behind_it.list_no = ap (λ (v : View). v.list_no) (view_shows_it view handed) in
             (omega (arith, rises), omega arith)
 
-    -- the number behind an answer is at most that of the list then
+    -- the number after an answer is at most that of the list then
     pub core_answers_tell_no_later_number : number_by before (told.Core answer) ≤ behind_it.list_no
     core_answers_tell_no_later_number = number_is_between.1
 
-    -- The numbers that are told never fall, a publish makes the next number of its base, and a view has no more indices than there are slots. The
+    -- The answered numbers never fall, a publish makes the next number of its base, and a view has no more indices than there are slots. The
     -- state number that the core was made with is a number of 64 bits.
     pub core_answers_are_numbered : IsOpened opening → opening.state_id ≤ last_state → IsPossible opening entries → CanHappen before_it seat event
         → (slots : ℕ) → slots ≡ length opening.slots
@@ -129,7 +129,7 @@ module _ (opening : Shape) (entries : List Entry) (seat : ℕ) (event : Event) (
 
   module _ (opened : IsOpened opening) (legal : IsLegal opening entries) (Shown : Path → List ℕ → Type 0) (setting : Setting) (hash : Kind)
       (each : (one : Entry) → Contains entries one → IsHanded Shown setting hash one.event) (handed : IsHanded Shown setting hash event) where
-    -- it shows what was shown, where only such files, and rows of the folders, were handed to the core
+    -- it shows what was shown, where only such files, and rows of the folders, were passed to the core
     pub core_answers_show_what_was_shown : (view : View) → view_in answer ≡ Some view → IsShownView Shown setting hash view
     core_answers_show_what_was_shown view shows =
         subst (IsShownView Shown setting hash) (sym (view_shows_it view shows))

@@ -1,4 +1,4 @@
--- What a look-up hands to the core of its store can happen there.
+-- What a look-up passes to the core of its store can happen there.
 use Rattle.std.proofs.Common.{◌≡◌, ℕ, List, Some}
 use Rattle.std.specs.List.{IsDistinct}
 use Rattle.gix_hash.specs.declared.object_id.ObjectId.{ObjectId}
@@ -32,6 +32,6 @@ module _ (setting : Setting) (distinct : IsDistinct same_path (folders_of settin
     by shape seat (events.PassOver slot path why) is = tt
     by shape seat (events.Publish listing) is = rows_of_a_listing_have_different_paths setting distinct view want id exchanges asked listing is
 
-    -- what a look-up hands to the core of its store can happen there: the rows of a listing have different paths
+    -- what a look-up passes to the core of its store can happen there: the rows of a listing have different paths
     pub what_is_handed_can_happen : (event : Event) → ask_of listing_look ≡ Some (asks.Core event) → (shape : Shape) (seat : ℕ) → CanHappen shape seat event
     what_is_handed_can_happen event is shape seat = by shape seat event is

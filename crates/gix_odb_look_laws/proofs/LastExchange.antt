@@ -1,4 +1,4 @@
--- The last of a list of exchanges: what comes behind it, and what was known before it.
+-- The last of a list of exchanges: what comes after it, and what was known before it.
 use Rattle.std.proofs.Common.{◌≡◌, ◌⊎◌, inl, inr, ℕ, List, [], ◌∷◌, ◌++◌, Some, refl, sym, ap}
 use Rattle.std.proofs.lemmas.List.Elements.{Contains-append_left, Contains-push}
 use Rattle.gix_hash.specs.declared.kind.Kind.{Kind}
@@ -37,7 +37,7 @@ module _ (setting : Setting) where
       let rest = asked-push (fed setting look first.answer) past last asked.1 in
       ((asked.0, rest.0), rest.1)
 
-  -- each exchange was asked behind those before it
+  -- each exchange was asked after those before it
   pub asked-within : (look : LookUp) (past : List Exchange) (exchange : Exchange) (rest : List Exchange) → AreAsked setting look (past ++ exchange ∷ rest)
       → AreAsked setting look past × (ask_of (behind setting look past) ≡ Some exchange.ask)
   asked-within look [] exchange rest asked = (tt, asked.0)

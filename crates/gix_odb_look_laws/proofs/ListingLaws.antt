@@ -1,4 +1,4 @@
--- Laws of listings of the folders of packs: of a lister by itself, and of the listings that look-ups hand to the core.
+-- Laws of listings of the folders of packs: of a lister by itself, and of the listings that look-ups pass to the core.
 mod TreeNames
 pub mod Seen
 pub mod OfTree
@@ -205,7 +205,7 @@ module _ (setting : Setting) where
     abbrev begun : LookUp
     begun = started setting view want id
 
-    -- Each row of a listing that is handed to the core has an index that was itself a file in one of the exchanges, and a pack path that
+    -- Each row of a listing that is passed to the core has an index that was itself a file in one of the exchanges, and a pack path that
     -- showed a file in one.
     pub rows_of_a_listing_were_seen : All (IsRowSeen (λ ask answer. WasTold exchanges (asks.Disk ask) (told.Disk answer))) listing.rows
     rows_of_a_listing_were_seen =

@@ -72,14 +72,14 @@ answer_is_no_miss want reply answer is = by want (subst IsAnswer is answer)
     by Header wrong = wrong
     by Presence wrong = wrong
 
--- a list behind which the loose folders are asked for the first time
+-- a list after which the loose folders are asked for the first time
 abbrev IsFirst : Part → Type 0
 IsFirst parts.Snapshot = Unit {0}
 IsFirst (parts.List list_no true) = Unit {0}
 IsFirst (parts.List list_no false) = ⊥
 IsFirst (parts.Published list_no) = ⊥
 
--- a look at the core before any loose folder was asked
+-- a read of the core's state before any loose folder was asked
 abbrev IsBeforeLoose : Purpose → Type 0
 IsBeforeLoose (purposes.First true) = Unit {0}
 IsBeforeLoose (purposes.First false) = ⊥
@@ -100,7 +100,7 @@ folder_opens_none Object at path is = cc is
 folder_opens_none Header at path is = cc is
 folder_opens_none Presence at path is = cc is
 
--- no stream is open behind an exchange that opens none
+-- no stream is open after an exchange that opens none
 stays_closed : (ask : Ask) (answer : Answer) → ((path : Path) → ¬ (ask ≡ asks.Disk (disk_asks.OpenDir path))) → stream_by None ask answer ≡ None
 stays_closed (asks.Disk (disk_asks.OpenDir path)) (told.Disk answer) none = absurd (none path refl)
 stays_closed (asks.Disk (disk_asks.OpenDir path)) (told.Core answer) none = refl
@@ -120,7 +120,7 @@ module _ (setting : Setting) (want : Want) (id : ObjectId) (folder : Path) (amon
     pub call_is : call ≡ asking setting.limit want id asked
     pub ahead : (asked ≡ folder) ⊎ Contains (drop round.next setting.folders) folder
 
-  -- the loose objects of the folder are still to be asked, or the look-up is done with another reply than that nothing was found
+  -- the loose objects of the folder are still to be asked, or the look-up is done with a reply that isn't "not found"
   abbrev IsWaiting : LookStage → Type 0
   IsWaiting (stages.Trying trier part) = IsFirst part
   IsWaiting (stages.Loose round call) = IsComing round call
@@ -212,7 +212,7 @@ module _ (setting : Setting) (want : Want) (id : ObjectId) (folder : Path) (amon
             | inr ahead ↦ ahead_waits ahead
           ]
 
-    -- ---- looks at the core
+    -- ---- reads of the core's state
 
     read_waits : (purpose : Purpose) → IsBeforeLoose purpose → (view : View) (notes : Notes) → IsWaiting (by_read setting head purpose view notes)
     read_waits (purposes.First true) before view notes = view_waits (parts.List view.list_no true) tt view view.todo notes
@@ -327,7 +327,7 @@ module _ (setting : Setting) (hash : Kind) (want : Want) (id : ObjectId) (of_has
   abbrev Waits : LookUp → Type 0
   Waits look = IsLookWaiting setting want id place.folder among look
 
-  -- before the first listing a look-up is on its track to whatever lies still from now on
+  -- before the first listing a look-up is on its track to whatever stays unchanged from now on
   on_track : (stream : Option Stream) (stage : LookStage) → IsWaiting setting want id place.folder among stage
       → IsOn setting hash want id of_hash place among stream stage
   on_track stream (stages.Trying trier parts.Snapshot) waits = tt
@@ -363,7 +363,7 @@ module _ (setting : Setting) (hash : Kind) (want : Want) (id : ObjectId) (of_has
       before after asked.1 (λ other is. published other (has_later exchange before other is)) (λ other is. loose other (has_later exchange before other is))
       (subst (λ (es : List Exchange). AreFair hash id place es after) (sym (append_assoc past (exchange ∷ []) before)) fair)
 
-  -- Let an object be loose in a folder up to an exchange, and lie still in a pack of that folder from then on. A look-up isn't ended by "not
+  -- Let an object be loose in a folder up to an exchange, and stay unchanged in a pack of that folder from then on. A look-up isn't ended by "not
   -- found", if the core of its store had published a list by then.
   pub objects_that_move_into_packs_are_not_missed : (view : View) (before after : List Exchange)
       → AreAsked setting (started setting view want id) (before ++ after) → ArePublished before → AreLooseFair setting want id place.folder before

@@ -1,4 +1,4 @@
--- Laws of the exchange that comes right behind a read: it stores what was read.
+-- Laws of the exchange that comes right after a read: it stores what was read.
 use Rattle.std.proofs.Common.{◌≡◌, ℕ, true, List, [], ◌∷◌, ◌++◌, Some, refl, sym, ◌∙◌, subst}
 use Rattle.std.proofs.lemmas.List.Elements.{Contains-append_left}
 use Rattle.std.proofs.lemmas.Option.{same_Some}
@@ -49,7 +49,7 @@ module _ (Shown : Path → List ℕ → Type 0) (setting : Setting) (hash : Kind
     abbrev first : Exchange
     first = read_of path (answers.File bytes time)
 
-    -- The exchange behind a read of an index, whose bytes parse, stores these bytes.
+    -- The exchange after a read of an index, whose bytes parse, stores these bytes.
     pub exchange_behind_a_read_stores_the_index : IsIndexPath setting path → is_index hash bytes ≡ true
         → (slot : ℕ) × (next.ask ≡ asks.Core (events.PutIndex slot path (record { kind = hash; bytes = bytes })))
     exchange_behind_a_read_stores_the_index index parsed =
@@ -58,7 +58,7 @@ module _ (Shown : Path → List ℕ → Type 0) (setting : Setting) (hash : Kind
         (true_so_far first next comes) path bytes index parsed (record { time = time; last = (comes.past, refl) }) in
         (put.0, next_is first next comes (asks.Core (events.PutIndex put.0 path (record { kind = hash; bytes = bytes }))) put.1)
 
-    -- And so does the one behind a read of a pack.
+    -- So does the one after a read of a pack.
     pub exchange_behind_a_read_stores_the_pack : IsPackPath setting path → is_pack hash bytes ≡ true
         → (pack : PackId) × (next.ask ≡ asks.Core (events.PutPack pack path (record { kind = hash; bytes = bytes })))
     exchange_behind_a_read_stores_the_pack pack parsed =

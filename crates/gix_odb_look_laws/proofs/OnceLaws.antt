@@ -1,4 +1,4 @@
--- Laws of look-ups that have all at hand as they start: they are done at once.
+-- Laws of look-ups that have all they need as they start: they are done at once.
 use Rattle.std.proofs.Common.{◌≡◌, inl, inr, ℕ, Bool, true, cond, List, [], ◌∷◌, slice_get, Contains, Option, Some, None, option_map, Result, Ok, Err}
 use Rattle.std.proofs.Common.{refl, sym, ◌∙◌, subst}
 use Rattle.std.specs.List.{All, find}
@@ -43,7 +43,7 @@ use Rattle.gix_odb_look_laws.specs.AtHand.{HasId, HasPacks, IsAtHand, IsDone, Is
 
 -- ---- a search that ends
 
--- What trying comes to that ends at once, with no pack and no index that is still to be read. For presence it finds it.
+-- The result of trying that ends at once, with no pack and no index that is still to be read. For presence it finds the object.
 abbrev Ends : Want → Tried → Type 0
 Ends Presence (ends.Hit found.Presence) = Unit {0}
 Ends Presence other = ⊥
@@ -64,7 +64,7 @@ module _ (goal : Goal) where
   no_place index none has = let wrong : None ≡ Some has.place = sym none ∙ has.has in cc wrong
 
 module _ (goal : Goal) (ahead : Ahead) where
-  -- the search among indices, and what it comes to
+  -- the search among indices, and its result
   abbrev seeks : List SnapshotIndex → Tried
   seeks indices = at_search goal ahead (search goal [] indices)
 

@@ -53,7 +53,7 @@ two_are_not_pack (a ∷ b ∷ rest) is = cc is
 
 -- ---- paths
 
--- a loose object stands in no folder of packs
+-- a loose object is in no folder of packs
 pub loose_is_in_no_pack_folder : (folder other : Path) (id : ObjectId) (name : Name) → ¬ (loose_path folder id ≡ pack_folder other ++ name ∷ [])
 unfolding loose_path
 loose_is_in_no_pack_folder folder other id name is =

@@ -1,4 +1,4 @@
--- Laws of what look-ups read: it is handed to the core in the next turn, and nothing else is.
+-- Laws of what look-ups read: it is passed to the core in the next turn, and nothing else is.
 mod Stored
 use Rattle.std.proofs.Common.{◌≡◌, inl, inr, ℕ, Bool, true, false, cond, List, [], ◌∷◌, ◌++◌, codes, Option, Some, sym, ap, ◌∙◌, subst}
 use Rattle.std.proofs.lemmas.Option.{same_Some}
@@ -61,7 +61,7 @@ use Rattle.gix_odb_look_laws.proofs.PathsApart.{index_is_no_pack, index_is_no_pa
 use Rattle.gix_odb_look_laws.proofs.ReadLaws.Stored.{IsRead, IsReadAt, answer_goes, seek_goes}
 use Rattle.gix_odb_look_laws.proofs.TrierAtHand.{Goes, OfStage, stage_goes, start_has}
 
--- ---- a read that is at hand
+-- ---- a read that is asked for
 
 lister_reads_nothing : (folder : Path) (stage : ListStage) (path : Path) → ¬ (Some (asks.Disk (lists.ask_at folder stage)) ≡ Some (asks.Disk (disk_asks.Read path)))
 lister_reads_nothing folder list_stages.Opening path is = cc is
@@ -183,7 +183,7 @@ module _ (Shown : Path → List ℕ → Type 0) (setting : Setting) (hash : Kind
       pack_stage pack parsed head (stages.Checking list_no notes) known is = absurd (cc is)
       pack_stage pack parsed head (stages.Done reply) known is = absurd (cc is)
 
-  -- ---- an event that is at hand
+  -- ---- an event that is asked for
 
   module _ (all : List Exchange) where
     abbrev Read : Path → DiskAnswer → Type 0
@@ -278,7 +278,7 @@ module _ (Shown : Path → List ℕ → Type 0) (setting : Setting) (hash : Kind
           subst (λ (es : List Exchange). PutsIndex path bytes got.time (ask_of (behind setting start es))) (sym split)
           (read_then_put got.last.0 path bytes got.time (subst (AreAsked setting start) split asked) (subst (AreTrue Shown setting hash) split truth) index parsed)
 
-      -- And so is a pack.
+      -- So is a pack.
       pub pack_that_was_read_is_stored_next : (path : Path) (bytes : List ℕ) → IsPackPath setting path → is_pack hash bytes ≡ true → GotLast exchanges path bytes
           → (pack : PackId) × (ask_of look ≡ Some (asks.Core (events.PutPack pack path (record { kind = hash; bytes = bytes }))))
       pack_that_was_read_is_stored_next path bytes pack parsed got =

@@ -1,4 +1,4 @@
--- What a refresh hands to the core of its store can happen there.
+-- What a refresh passes to the core of its store can happen there.
 use Rattle.std.proofs.Common.{◌≡◌, ℕ, List, Some}
 use Rattle.std.specs.List.{IsDistinct}
 use Rattle.gix_odb_events.specs.PackFiles.{same_path}
@@ -22,7 +22,7 @@ module _ (setting : Setting) (snapshot : View) (exchanges : List Exchange) (aske
   abbrev refresh : RefreshStep
   refresh = behind setting (started snapshot) exchanges
 
-  -- what is handed to the core can happen there: the rows of a listing have different paths
+  -- what is passed to the core can happen there: the rows of a listing have different paths
   pub what_a_refresh_hands_on_can_happen : IsDistinct same_path (folders_of setting) → (event : Event) → asked_of refresh ≡ Some (asks.Core event)
       → (shape : Shape) (seat : ℕ) → CanHappen shape seat event
   what_a_refresh_hands_on_can_happen distinct event is shape seat =

@@ -1,4 +1,4 @@
--- What holds of the trier of a look-up that tries a list: each answer keeps it that keeps it for the trier, if it holds where a list begins
+-- What holds of the trier of a look-up: an answer preserves it for the look-up if it does for the trier, and if it holds where a list begins
 -- to be tried.
 use Rattle.std.proofs.Common.{ℕ, ◌==◌, List, [], Bool, true, false, cond, slice_get, Option, Some, None, Ok, Err}
 use Rattle.odb_base.specs.Path.{Path}
@@ -45,7 +45,7 @@ module _ (OfTrier : Trier → Type 0) where
   OfStage (stages.Trying trier part) = OfTrier trier
   OfStage stage = Unit {0}
 
-  -- what is to hold behind an answer
+  -- what is to hold after an answer
   abbrev pub Goes : LookStage → Answer → Type 0
   Goes (stages.Trying trier part) answer = OfTried (trier_fed trier answer)
   Goes stage answer = Unit {0}

@@ -1,4 +1,4 @@
--- Laws of what a core shows to which only files that were shown, and rows of the folders, were handed: it shows nothing else.
+-- Laws of what a core shows that got only files that were shown, and rows of the folders: it shows nothing else.
 use Rattle.std.proofs.Common.{◌≡◌, ℕ, List, [], ◌∷◌, get_or, map, All, Contains, Option, Some, None, refl, sym, ap, ◌∙◌, subst, inl, inr}
 use Rattle.std.specs.List.{AllByRecursion}
 use Rattle.std.proofs.lemmas.List.Elements.{All-contains, All-contains_itself, All-from_recursion}
@@ -71,7 +71,7 @@ module _ (Shown : Path → List ℕ → Type 0) (setting : Setting) (hash : Kind
       }
       by (Multi bytes) is had = let wrong : ◌≡◌ {A = Option (List ℕ)} None (Some bytes) = sym row.single ∙ had in absurd (cc wrong)
 
-  -- a view of the core behind these entries
+  -- a view of the core after these entries
   pub what_a_core_shows_was_shown : (opening : Shape) → IsOpened opening → IsLegal opening entries → (number : ℕ)
       → IsShownView Shown setting hash (view_of (replay opening entries) number)
   what_a_core_shows_was_shown opening opened legal number =

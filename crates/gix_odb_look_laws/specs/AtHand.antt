@@ -1,4 +1,4 @@
--- What a look-up has at hand as it starts: the snapshot of its handle, with the object's index and its packs.
+-- What a look-up has as it starts: the snapshot of its handle, with the object's index and its packs.
 use Rattle.std.specs.Prelude.{◌≡◌, ℕ, true, slice_get, All, Contains, Option, Some, None, Ok, option_map}
 use Rattle.std.specs.List.{find}
 use Rattle.std.specs.Ordering.{is_eq}
@@ -45,13 +45,13 @@ pub record HasId (id : ObjectId) (index : SnapshotIndex) : Type 0 where
 abbrev pub HasPackLoaded : ObjectId → SnapshotIndex → Type 0
 HasPackLoaded id index = (place : ℕ) → place_for index.index id ≡ Some place → IsPackLoaded index place
 
--- A find and a look for a header need the pack that each index with the id names for it. For a test no pack is needed.
+-- A find and a look-up of a header need the pack that each index with the id names for it. For a test no pack is needed.
 abbrev pub HasPacks : Want → ObjectId → View → Type 0
 HasPacks Object id view = All (HasPackLoaded id) view.snapshot.indices
 HasPacks Header id view = All (HasPackLoaded id) view.snapshot.indices
 HasPacks Presence id view = Unit {0}
 
--- a snapshot of a list that was read has an index with the id, and the packs that this takes
+-- a snapshot of a list that was read has an index with the id, and the packs that are needed
 pub record IsAtHand (want : Want) (id : ObjectId) (view : View) : Type 0 where
   pub read : view.read ≡ true
   pub index : SnapshotIndex
@@ -61,12 +61,12 @@ pub record IsAtHand (want : Want) (id : ObjectId) (view : View) : Type 0 where
 
 -- ---- the look-up
 
--- a test is answered by a yes
+-- a test is answered with yes
 abbrev pub SaysYes : Want → Reply → Type 0
 SaysYes Presence reply = reply ≡ replies.Tested true
 SaysYes want reply = Unit {0}
 
--- A look-up is done: it has its reply, which doesn't say that nothing was found, and asks nothing.
+-- A look-up is done: it has its reply, which isn't "not found", and asks nothing.
 pub record IsDone (want : Want) (look : LookUp) : Type 0 where
   pub reply : Reply
   pub replied : result_of look ≡ Ok reply

@@ -1,4 +1,4 @@
--- What it means that the objects which a look-up may meet hash to its id.
+-- When the objects that a look-up may meet hash to its id.
 use Rattle.std.specs.Prelude.{◌≡◌, ℕ, List, Contains, Some, Ok}
 use Rattle.odb_base.specs.Path.{Path}
 use Rattle.odb_asks.specs.declared.ask.DiskAnswer.{DiskAnswer}
@@ -20,7 +20,7 @@ use Rattle.gix_odb_looks.specs.Shown.{IsIndexPath, folders_of}
 
 module _ (setting : Setting) (hash : Kind) (id : ObjectId) where
   -- Here `Shown path bytes` says that a file with these bytes was shown at this path since the store was opened. Each object to which an
-  -- index leads from the id, in the pack beside it, has data that hash to the id.
+  -- index leads from the id, in the pack of the same name, has data that hash to the id.
   abbrev pub PacksHash : (Shown : Path → List ℕ → Type 0) → Type 0
   PacksHash Shown =
       (path : Path) (index pack : List ℕ) (offset : ℕ) (entry : Entry) → IsIndexPath setting path → Shown path index → Gives hash index id offset

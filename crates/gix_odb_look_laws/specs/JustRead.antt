@@ -1,4 +1,4 @@
--- What a look-up read last, and what it hands on of it.
+-- What a look-up read last, and what it passes on of it.
 use Rattle.std.specs.Prelude.{◌≡◌, ℕ, false, List, [], ◌∷◌, ◌++◌, Contains, codes}
 use Rattle.odb_base.specs.Path.{Name, Path}
 use Rattle.odb_asks.specs.declared.ask.DiskAnswer.{DiskAnswer}
@@ -42,8 +42,8 @@ pub record GotLast (exchanges : List Exchange) (path : Path) (bytes : List ℕ) 
 
 -- ---- files that are passed over
 
--- why a file is passed over, by what a read of its path gave: nothing was there, the call failed, something else was there, too many
--- links led on, or the bytes are no index
+-- why a file is passed over, by what a read of its path gave: nothing was there, the call failed, something else was there, there were too many
+-- links, or the bytes are no index
 abbrev pub IsWhy : Kind → DiskAnswer → PassWhy → Type 0
 IsWhy hash (disk_answers.Refused disk_errors.Absent) whys.Absent = Unit {0}
 IsWhy hash (disk_answers.Refused disk_errors.Failed) whys.Failed = Unit {0}

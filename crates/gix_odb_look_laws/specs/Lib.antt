@@ -1,4 +1,4 @@
--- What a look-up has at hand, what it read last, one exchange behind another, the listed files of a tree, the calls of a listing, an object
+-- What a look-up has as it starts, what it read last, one exchange after another, the listed files of a tree, the calls of a listing, an object
 -- that moves, and objects that hash to an id.
 pub mod AtHand
 pub mod JustRead

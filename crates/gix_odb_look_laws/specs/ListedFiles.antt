@@ -1,4 +1,4 @@
--- The files of packs that a tree lists for a store, and what it means that one unchanging tree answers.
+-- The files of packs that a tree lists for a store, and when one unchanging tree answers.
 use Rattle.std.specs.Prelude.{◌≡◌, ◌&&◌, ◌++◌, Bool, true, false, List, [], ◌∷◌, Option, Some, None, Result, Ok, Err}
 use Rattle.std.specs.List.{filter, filter_map}
 use Rattle.odb_base.specs.Path.{Path}
@@ -26,7 +26,7 @@ use Rattle.gix_odb_looks.specs.OpenStream.{GivesNext}
 
 -- ---- the listed files of a tree
 
--- a look finds a file
+-- a stat finds a file
 abbrev pub finds_file : Result Meta Refusal → Bool
 finds_file (Ok meta) = is_file meta.kind
 finds_file (Err refusal) = false
@@ -35,7 +35,7 @@ abbrev pub row_where : Bool → ListingRow → Option ListingRow
 row_where true row = Some row
 row_where false row = None
 
--- an index whose pack is a file or isn't, by a look at the index itself: one that is a file has a row
+-- an index whose pack is a file or isn't, by a stat of the index itself: one that is a file has a row
 abbrev pub row_found : Path → (has_pack : Bool) → Result Meta Refusal → Option ListingRow
 row_found path has_pack (Ok meta) = row_where (is_file meta.kind && has_pack) (row_of path meta)
 row_found path has_pack (Err refusal) = None
@@ -68,7 +68,7 @@ abbrev pub IsOrFails : DiskAnswer → DiskAnswer → Type 0
 IsOrFails (answers.Refused disk_errors.Failed) own = Unit {0}
 IsOrFails answer own = answer ≡ own
 
--- An opening is answered as the tree says, unless it failed. The stream that it gives is to give what the folder's directory lists.
+-- An opening of a folder is answered by the tree, unless it failed. Its stream is to give what the folder's directory lists.
 abbrev pub Opens : Result (List Entry) Refusal → DiskAnswer → (left : List Entry) → Type 0
 Opens entries (answers.Dir dir) left = entries ≡ Ok left
 Opens entries answer left = IsOrFails answer (dir_answer 0 entries)
@@ -80,7 +80,7 @@ IsOfTree tree coming (asks.OpenDir path) answer left = Opens (opened tree path) 
 IsOfTree tree coming (asks.NextEntry dir) answer left = GivesNext coming answer left
 IsOfTree tree coming ask answer left = IsOrFails answer (answer_of tree ask) × (left ≡ coming)
 
--- an event of the core leaves the streams alone, and so does a new core
+-- an event of the core leaves the streams alone, as does a new core
 abbrev pub IsToldOfTree : Tree → (coming : List Entry) → Ask → Answer → (left : List Entry) → Type 0
 IsToldOfTree tree coming (part_asks.Disk ask) (told.Disk answer) left = IsOfTree tree coming ask answer left
 IsToldOfTree tree coming (part_asks.Core event) (told.Core answer) left = left ≡ coming

@@ -21,7 +21,7 @@ pub record Call : Type 0 where
   pub ask : DiskAsk
   pub answer : DiskAnswer
 
--- what a listing comes to behind calls. One that has ended stays so
+-- the result of a listing after calls. One that has ended stays as it is
 abbrev pub behind_calls : (folders : List Path) → ListStep → List Call → ListStep
 behind_calls folders step [] = step
 behind_calls folders (steps.More lister) (call ∷ calls) = behind_calls folders (fed folders lister call.answer) calls
@@ -35,7 +35,7 @@ AreCalls folders (steps.More lister) (call ∷ calls) = (ask_of lister ≡ call.
 AreCalls folders (steps.Listed listing) (call ∷ calls) = ⊥
 AreCalls folders steps.Broken (call ∷ calls) = ⊥
 
--- a call was made and answered so
+-- a call was made, with this answer
 abbrev pub WasCalled : List Call → DiskAsk → DiskAnswer → Type 0
 WasCalled calls ask answer = Contains calls (record { ask = ask; answer = answer })
 
@@ -44,7 +44,7 @@ abbrev pub AreCallsOfTree : Tree → (coming : List Entry) → List Call → Typ
 AreCallsOfTree tree coming [] = Unit {0}
 AreCallsOfTree tree coming (call ∷ calls) = (left : List Entry) × IsOfTree tree coming call.ask call.answer left × AreCallsOfTree tree left calls
 
--- Here `Told ask answer` says that a call was made and answered so.
+-- Here `Told ask answer` says that a call was made, with this answer.
 module _ (Told : DiskAsk → DiskAnswer → Type 0) where
   -- an index was itself a file, of the time and length of its row
   pub record IsIndexSeen (row : ListingRow) : Type 0 where

@@ -16,7 +16,7 @@ use Rattle.gix_odb_looks.specs.Exchange.{Exchange, IsAnswerTo}
 use Rattle.gix_odb_looks.specs.LookUpOrder.{Setting, view_of}
 use Rattle.gix_odb_looks.specs.Reply.{IsAnswer}
 
--- each view that exchanges hand over is of a core that had published a list
+-- each view that exchanges pass is of a core that had published a list
 abbrev pub ArePublished : List Exchange → Type 0
 ArePublished exchanges = (exchange : Exchange) → Contains exchanges exchange → (view : View) → view_of exchange.answer ≡ Some view → view.read ≡ true
 

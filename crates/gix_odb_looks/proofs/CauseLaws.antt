@@ -119,7 +119,7 @@ module _ (setting : Setting) (view : View) (want : Want) (id : ObjectId) (exchan
 
 -- ---- why a look-up is refused
 
--- an error that no pack gives: of the loose objects of a folder, of the lists of packs, or want of memory, which refuses no look-up
+-- an error that no pack gives: of the loose objects of a folder, of the lists of packs, or out of memory, which refuses no look-up
 abbrev IsOfLists : Error → Type 0
 IsOfLists (errors.Loose error) = Unit {0}
 IsOfLists (errors.LoadIndex error) = Unit {0}
@@ -142,7 +142,7 @@ module _ (Shown : Path → List ℕ → Type 0) (setting : Setting) (hash : Kind
     counts : Counts past look.head
     knows : KnowsAt Shown setting hash id past look.head look.stage
 
-  -- ---- one exchange more
+  -- ---- one more exchange
 
   module _ (past : List Exchange) (exchange : Exchange) (head : LookHead) where
     abbrev more : List Exchange
@@ -258,7 +258,7 @@ module _ (Shown : Path → List ℕ → Type 0) (setting : Setting) (hash : Kind
   list_caused exchanges errors.NoMemory of cause = absurd cause
   list_caused exchanges error of cause = absurd of
 
-  -- a look-up that the loose objects of a folder or the lists of packs refuse has a cause that was told
+  -- a look-up that the loose objects of a folder or the lists of packs refuse has a cause in its exchanges
   list_refusal_caused : (view : View) (exchanges : List Exchange) → AreAsked setting (started setting view want id) exchanges
       → AreTrue Shown setting hash exchanges → (slots number : ℕ) → AreNumbered slots number exchanges
       → (error : Error) → IsOfLists error
@@ -274,7 +274,7 @@ module _ (Shown : Path → List ℕ → Type 0) (setting : Setting) (hash : Kind
       (subst (λ (q : Want). IsListCaused Shown setting hash id exchanges q error) known.stands.want_is
       (subst (KnowsAt Shown setting hash id exchanges look.head) done known.knows))
 
-  -- each error that a look-up is refused by has its cause, in what was told or shown
+  -- each error that a look-up is refused by has its cause, in what was answered or shown
   pub each_refusal_has_its_cause : kind_of id ≡ hash → (view : View) → IsShownView Shown setting hash view → (exchanges : List Exchange)
       → AreAsked setting (started setting view want id) exchanges
       → AreTrue Shown setting hash exchanges → (slots number : ℕ) → AreNumbered slots number exchanges

@@ -1,4 +1,4 @@
--- Laws of look-ups: what is handed to the core was shown, and so was what is found in packs.
+-- Laws of look-ups: what is passed to the core was shown, as was what is found in packs.
 mod PackErrors
 pub mod Known
 mod Views
@@ -47,7 +47,7 @@ module _ (Shown : Path → List ℕ → Type 0) (setting : Setting) (hash : Kind
   abbrev look : LookUp
   look = behind setting (started setting view want id) exchanges
 
-  -- a file that a look-up hands to the core was shown at its path, and a listing that it publishes has only rows of indices of the folders
+  -- a file that a look-up passes to the core was shown at its path, and a listing that it publishes has only rows of indices of the folders
   pub what_is_handed_was_shown : (ask : Ask) → ask_of look ≡ Some ask → IsHandedBy Shown setting hash ask
   what_is_handed_was_shown ask is =
       stage_hands Shown setting hash want id exchanges look.stage ask (look_known Shown setting hash want id same view shown exchanges asked truth).stage is

@@ -1,4 +1,4 @@
--- Laws of what a look-up hands to the disk and the core: its events are few, its calls of the disk change nothing, and the streams that it
+-- Laws of what a look-up passes to the disk and the core: its events are few, its calls of the disk change nothing, and the streams that it
 -- reads are its own.
 pub mod Stages
 pub mod Reading
@@ -65,7 +65,7 @@ stage_asks (stages.Refreshing refresh purpose notes) ask is = same_ask AsksOfLoo
 stage_asks (stages.Checking list_no notes) ask is = same_ask AsksOfLooks ask (asks.Core events.Look) tt is
 stage_asks (stages.Done reply) ask is = absurd (cc is)
 
--- a look-up asks the core to be looked at, to store a file, to pass one over, and to publish a listing
+-- a look-up asks the core for its state, to store a file, to pass one over, and to publish a listing
 pub look_ups_ask_these_events_alone : (look : LookUp) (event : Event) → ask_of look ≡ Some (asks.Core event) → IsOfLooks event
 look_ups_ask_these_events_alone look event is = stage_asks look.stage (asks.Core event) is
 
@@ -151,7 +151,7 @@ module _ (setting : Setting) (view : View) (want : Want) (id : ObjectId) (exchan
   is_own_stream dir (folder, here) =
       record { folder = folder; last = here.last; left = here.left; stream = here.stream; told = here.told; of = here.of; number = here.number }
 
-  -- it reads and closes no stream but the one that it opened last
+  -- it reads and closes only the stream that it opened last
   pub streams_of_look_ups_are_their_own : (dir : ℕ)
       → (ask_of look ≡ Some (asks.Disk (disk_asks.NextEntry dir))) ⊎ (ask_of look ≡ Some (asks.Disk (disk_asks.CloseDir dir)))
       → IsOwnStream exchanges dir

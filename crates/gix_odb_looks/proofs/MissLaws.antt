@@ -1,4 +1,4 @@
--- What it means that a look-up found nothing: it missed no object that lay still in a pack, and it asked each folder.
+-- What follows where a look-up found nothing: it missed no object that stayed unchanged in a pack, and it asked each folder.
 pub mod Lists
 pub mod Replies
 mod Trying
@@ -34,7 +34,7 @@ use Rattle.gix_odb_looks.proofs.MissLaws.Folders.{IsLookPassing, IsPassing, look
 use Rattle.gix_odb_looks.proofs.MissLaws.Lists.{first_in, later_in}
 use Rattle.gix_odb_looks.proofs.MissLaws.Track.{never_missed, starts}
 
--- an object that lies still in a pack while a look-up works, with fair answers, is not said to be missing
+-- an object that stays unchanged in a pack while a look-up works, with fair answers, is not said to be missing
 pub nothing_still_in_packs_is_missed : (setting : Setting) (hash : Kind) (view : View) (want : Want) (id : ObjectId) (exchanges : List Exchange)
     → kind_of id ≡ hash → (place : PackedPlace) → Contains (folders_of setting) place.folder
     → AreAsked setting (started setting view want id) exchanges → AreFair hash id place [] exchanges

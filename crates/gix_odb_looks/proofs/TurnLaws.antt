@@ -79,7 +79,7 @@ module _ (bounds : Bounds) where
       (record { own = refl; begun = omega arith; enough = omega arith })
   started_left view want id false few enough = record { own = refl; begun = omega arith; enough = omega arith }
 
--- a lap has room for a listing and what is behind it
+-- a lap has room for a listing and what follows it
 lap_is_wide : (slots folders entries : ℕ)
     → (3 * entries + 3) + (folders - 0) * (3 * entries + 3) + (4 * slots + folders + 3) ≤ turns_of_lap slots (suc folders) entries
 lap_is_wide slots folders entries =

@@ -31,20 +31,20 @@ use Rattle.gix_odb_looks.specs.Found.{IsInIndex, IsInPack}
 use Rattle.gix_odb_refresh.specs.Shown.{folders_of}
 pub use Rattle.gix_odb_refresh.specs.Caused.{IsBlocked, IsNoFolder, IsRefused}
 
--- a pack could not be read, or its bytes are none
+-- a pack could not be read, or its bytes are no pack
 abbrev pub IsNoPack : Kind → DiskAnswer → Type 0
 IsNoPack hash (disk_answers.File bytes time) = is_pack hash bytes ≡ false
 IsNoPack hash (disk_answers.Refused error) = (error ≡ disk_errors.Failed) ⊎ IsBlocked error
 IsNoPack hash answer = ⊥
 
--- the number of the list that an answer tells: that of its view, or the one that made a listing outdated
+-- the number of the list that an answer has: that of its view, or the one that made a listing outdated
 abbrev pub TellsNumber : Answer → ℕ → Type 0
 TellsNumber (told.Core (Ok (effects.Outdated number))) now = number ≡ now
 TellsNumber answer now = (view : View) × (view_of answer ≡ Some view) × (view.list_no ≡ now)
 
 -- Here `Shown path bytes` says that a file with these bytes was shown at this path since the store was opened.
 module _ (Shown : Path → List ℕ → Type 0) (setting : Setting) (hash : Kind) (id : ObjectId) where
-  -- An index gives the id an offset, at which its pack refuses what is wanted by this error. No limit refuses a header, and for a
+  -- An index gives the id an offset, at which its pack refuses what is wanted with this error. No limit refuses a header, and for a
   -- test no pack is read.
   abbrev pub IsPackError : Want → pack.Error → Type 0
   IsPackError Object error = IsInPack Shown setting hash id (λ pack offset. entry_at hash pack offset setting.limit ≡ Err error)
@@ -52,7 +52,7 @@ module _ (Shown : Path → List ℕ → Type 0) (setting : Setting) (hash : Kind
   IsPackError Header error = IsInPack Shown setting hash id (λ pack offset. header_at hash pack offset ≡ Err error)
   IsPackError Presence error = ⊥
 
-  -- an index gives the id an offset, and its pack was read and is none
+  -- an index gives the id an offset, and its pack was read and is no pack
   pub record IsUnloaded (exchanges : List Exchange) : Type 0 where
     pub path : Path
     pub offset : ℕ
@@ -61,8 +61,8 @@ module _ (Shown : Path → List ℕ → Type 0) (setting : Setting) (hash : Kind
     pub told : WasTold exchanges (asks.Disk (disk_asks.Read (pack_path path))) (told.Disk answer)
     pub none : IsNoPack hash answer
 
-  -- Others published more lists than the look-up may meet: `begun` is the number of the list in the first view that it was handed,
-  -- `own` counts the lists that it published, and `now` is the number that the last answer told.
+  -- Others published more lists than the look-up may meet: `begun` is the number of the list in the first view that it got,
+  -- `own` counts the lists that it published, and `now` is the number that the last answer had.
   pub record IsUnsettled (exchanges : List Exchange) (begun own now : ℕ) : Type 0 where
     pub first : first_number exchanges ≡ Some begun
     pub published : own ≡ published_in exchanges

@@ -17,7 +17,7 @@ pub use Rattle.gix_odb_refresh.specs.Exchange.{Exchange, IsAnswerTo, AreAnswered
 use Rattle.gix_odb_looks.specs.LookUpOrder.{Setting, ask_of, fed, view_of}
 use Rattle.gix_odb_looks.specs.declared.look_up.LookUp.{LookUp}
 
--- the look-up behind exchanges
+-- the look-up after exchanges
 abbrev pub behind : Setting → LookUp → List Exchange → LookUp
 behind setting look [] = look
 behind setting look (exchange ∷ exchanges) = behind setting (fed setting look exchange.answer) exchanges
@@ -27,7 +27,7 @@ abbrev pub AreAsked : Setting → LookUp → List Exchange → Type 0
 AreAsked setting look [] = Unit {0}
 AreAsked setting look (exchange ∷ exchanges) = (ask_of look ≡ Some exchange.ask) × AreAsked setting (fed setting look exchange.answer) exchanges
 
--- ---- what exchanges tell
+-- ---- what exchanges show
 
 -- this one is the last of them
 abbrev pub IsLast : List Exchange → Exchange → Type 0
@@ -44,7 +44,7 @@ abbrev pub number_or : Option ℕ → Option View → Option ℕ
 number_or other None = other
 number_or other (Some view) = Some view.list_no
 
--- the number of the list in the first view that was handed over, if one was
+-- the number of the list in the first view that was passed, if one was
 abbrev pub first_number : List Exchange → Option ℕ
 first_number [] = None
 first_number (exchange ∷ exchanges) = number_or (first_number exchanges) (view_of exchange.answer)

@@ -1,4 +1,4 @@
--- An object that lies still in a pack, and what a look-up is answered while it does.
+-- An object that stays unchanged in a pack, and what a look-up is answered while it does.
 use Rattle.std.specs.Prelude.{◌≡◌, ℕ, true, List, [], ◌∷◌, ◌++◌, map, All, Contains, Option, Some, None}
 use Rattle.odb_base.specs.Path.{Name, Path}
 use Rattle.odb_asks.specs.declared.ask.DiskAnswer.{DiskAnswer}
@@ -68,7 +68,7 @@ IsStreamFair place (Some stream) answer = Unit {0}
 
 -- ---- answers of the core
 
--- a view that a listing comes to has its rows
+-- the view of a published listing has its rows
 abbrev pub HasRows : Event → core.Answer → Type 0
 HasRows (events.Publish listing) answer =
     (view : View) → Refreshes answer view → All (λ (row : ListingRow). (slot : ℕ) × HasRow view slot row) listing.rows
@@ -92,7 +92,7 @@ module _ (hash : Kind) (id : ObjectId) (place : PackedPlace) where
   IsDiskFair past (disk_asks.NextEntry dir) answer = IsStreamFair place (stream_in past) answer
   IsDiskFair past ask answer = Unit {0}
 
-  -- what is shown of the place's index is sound, and it is of the one pack beside it
+  -- what is shown of the place's index is sound, and it is of the one pack of the same name
   pub record IsIndexFair (index : SnapshotIndex) : Type 0 where
     pub file : FileBytes
     pub single : index.index ≡ Single file
@@ -118,7 +118,7 @@ module _ (hash : Kind) (id : ObjectId) (place : PackedPlace) where
   IsFair past (asks.Core event) (told.Core answer) = IsCoreFair event answer
   IsFair past ask answer = IsAnswerTo ask answer
 
-  -- each exchange behind others is fair
+  -- each exchange after others is fair
   abbrev pub AreFair : (past coming : List Exchange) → Type 0
   AreFair past [] = Unit {0}
   AreFair past (exchange ∷ exchanges) = IsFair past exchange.ask exchange.answer × AreFair (past ++ exchange ∷ []) exchanges

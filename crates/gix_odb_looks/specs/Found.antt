@@ -30,7 +30,7 @@ pub record IsEntryReply (hash : Kind) (limit : Option ℕ) (pack : List ℕ) (of
   pub there : entry_at hash pack offset limit ≡ Ok entry
   pub is : reply ≡ replies.Found entry.kind entry.bytes
 
--- the same of the header of one
+-- a pack has an entry at an offset, whose header is this reply
 pub record IsHeaderReply (hash : Kind) (pack : List ℕ) (offset : ℕ) (reply : Reply) : Type 0 where
   pub header : pack_header.Header
   pub there : header_at hash pack offset ≡ Ok header
@@ -45,7 +45,7 @@ module _ (Shown : Path → List ℕ → Type 0) (setting : Setting) (hash : Kind
     pub shown : Shown path bytes
     pub gives : Gives hash bytes id offset
 
-  -- and its pack was shown, whose content at the offset is so
+  -- and its pack was shown, whose content at the offset is such
   pub record IsInPack (Content : (pack : List ℕ) → (offset : ℕ) → Type 0) : Type 0 where
     pub path : Path
     pub offset : ℕ
@@ -55,7 +55,7 @@ module _ (Shown : Path → List ℕ → Type 0) (setting : Setting) (hash : Kind
     pub shown : Shown (pack_path path) pack
     pub content : Content pack offset
 
-  -- what was found in packs, as the reply to whoever wants so much. For a test the row of an index is enough
+  -- what was found in packs, as the reply to what is wanted. For a test the row of an index is enough
   abbrev pub IsFound : Want → Reply → Type 0
   IsFound Object reply = IsInPack (λ pack offset. IsEntryReply hash setting.limit pack offset reply)
   IsFound Header reply = IsInPack (λ pack offset. IsHeaderReply hash pack offset reply)

@@ -1,4 +1,4 @@
--- How many turns a look-up may take, by what it is told: a lap is one way through all that a list names, and through the folders.
+-- How many turns a look-up may take, by its answers: a lap is one way through all that a list names, and through the folders.
 use Rattle.std.specs.Prelude.{◌≡◌, ◌≢◌, ℕ, ◌+◌, ◌*◌, ◌≤◌, List, [], ◌∷◌, length, Option, Some, None, Ok}
 use Rattle.gix_odb_events.specs.Answers as core
 use Rattle.gix_odb_events.specs.View.{last_state}
@@ -14,13 +14,13 @@ use Rattle.gix_odb_looks.specs.Exchange.{Exchange}
 use Rattle.gix_odb_looks.specs.LookUpOrder.{view_of}
 pub use Rattle.gix_odb_refresh.specs.Laps.{HasAtMost, AreWithin, turns_of_lap}
 
--- ---- what is told of lists
+-- ---- what is known of lists
 
 -- a view has no more loaded and listed indices than there are slots
 abbrev pub HasFew : (slots : ℕ) → View → Type 0
 HasFew slots view = (length view.snapshot.indices + length view.todo ≤ slots) × (view.list_no ≤ last_state)
 
--- an answer behind the number of a list, and the number behind it: numbers never fall, a publish makes the next number of its base, and
+-- an answer after the number of a list, and the number after it: numbers never fall, a publish makes the next number of its base, and
 -- confirms it where nothing is new; an outdated listing has another base
 abbrev pub number_by : (before : ℕ) → Answer → ℕ
 number_by before (told.Core (Ok (effects.Outdated number))) = number

@@ -63,7 +63,7 @@ ask_at (stages.Done reply) = None
 abbrev pub ask_of : LookUp → Option Ask
 ask_of look = ask_at look.stage
 
--- the path with which the stream was opened that a call of the disk may be on
+-- the directory of the open stream that a call of the disk may read
 abbrev pub opened_at : LookStage → Option Path
 opened_at (stages.Refreshing refresh purpose notes) = refreshes.opened_in refresh
 opened_at stage = None
@@ -76,14 +76,14 @@ first_of (Some begun) view = Some begun
 first_of None None = None
 first_of None (Some view) = Some view.list_no
 
--- the first view that a call is handed tells where it began
+-- the first view that a call gets says where it began
 abbrev pub seen : LookHead → Answer → LookHead
 seen head answer = record head { begun = first_of head.begun (view_of answer) }
 
 abbrev pub at : LookHead → LookStage → LookUp
 at head stage = record { head = head; stage = stage }
 
--- an answer of the other kind, of the disk or of the core, leaves the stage
+-- an answer of the other kind, of the disk or of the core, leaves the stage unchanged
 abbrev pub fed_at : Setting → LookHead → LookStage → Answer → LookUp
 fed_at setting head (stages.Trying trier part) answer = at head (by_tried setting head part (trier_fed trier answer))
 fed_at setting head (stages.Loose round call) (told.Disk answer) = at head (by_verdict setting head round (folder_verdict call answer))

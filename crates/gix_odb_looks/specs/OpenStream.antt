@@ -56,7 +56,7 @@ pub record IsStreamOf (tree : Tree) (folder : Path) (disk : Volume) (dir : ℕ) 
   pub fixed : opened tree folder ≡ Ok (given ++ coming)
   pub now : IsOpenStream disk dir coming
 
--- the entries that a stream has given, behind an answer to a call for its next one
+-- the entries that a stream has given, after an answer to a call for its next one
 abbrev pub given_by : List Entry → DiskAnswer → List Entry
 given_by given (answers.Entry entry) = given ++ entry ∷ []
 given_by given answer = given
@@ -80,6 +80,6 @@ pub record ListsFile (tree : Tree) (folder : Path) (name : Name) : Type 0 where
   pub named : entry.name ≡ name
   pub file : entry.kind ≡ kinds.File
 
--- the entry that a look at a name tells
+-- the entry by the stat of a name
 abbrev pub entry_from : Name → Meta → Entry
 entry_from name meta = record { name = name; kind = meta.kind; ino = meta.ino }

@@ -7,7 +7,7 @@ use Rattle.gix_odb_calls.specs.declared.call.Reply.TheVariants as replies
 use Rattle.gix_object.specs.declared.want.Want.{Want}
 use Rattle.gix_object.specs.declared.want.Want.TheVariants.{Object, Header, Presence}
 
--- an error of a find, a look for a header or a test
+-- an error of a find, a look-up of a header or a test
 abbrev pub IsFindError : CallError → Type 0
 IsFindError (call_errors.Find error) = Unit {0}
 IsFindError error = ⊥

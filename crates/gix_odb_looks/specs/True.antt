@@ -1,4 +1,4 @@
--- What exchanges with a disk and a core say that tell the truth.
+-- What true exchanges with a disk and a core say.
 use Rattle.std.specs.Prelude.{◌≡◌, ℕ, List, Contains, Some}
 use Rattle.odb_base.specs.Path.{Path}
 use Rattle.odb_asks.specs.declared.ask.DiskAnswer.{DiskAnswer}
@@ -23,7 +23,7 @@ module _ (Shown : Path → List ℕ → Type 0) (setting : Setting) (hash : Kind
   ShowsRead (disk_asks.Read path) (disk_answers.File bytes time) = Shown path bytes
   ShowsRead ask answer = Unit {0}
 
-  -- an exchange tells the truth, which no answer of another kind than its ask does
+  -- an exchange is true, which no answer of another kind than its ask is
   abbrev pub IsTrue : Ask → Answer → Type 0
   IsTrue (asks.Disk ask) (told.Disk answer) = Suits ask answer × ShowsRead ask answer
   IsTrue (asks.Core event) (told.Core answer) = (view : View) → view_of (told.Core answer) ≡ Some view → IsShownView Shown setting hash view

@@ -1,7 +1,7 @@
 //! Look-ups that find objects in the packs of a store too: the order of their work.
 //!
 //! A look-up is a machine: it names one call of the disk or one event of the store's core at a time, takes the answer,
-//! and comes to a reply. It tries the loaded indices of the handle's snapshot, the loose folders, the list of the core,
+//! and ends with a reply. It tries the loaded indices of the handle's snapshot, the loose folders, the list of the core,
 //! and lists the folders of packs until the list that was tried is the newest: `specs/LookUpOrder.antt`. The calls of a
 //! handle, in `gix_odb`, make one.
 //! ```rust

@@ -31,7 +31,7 @@ pub struct Setting<'a> {
     pub max_changes: u32,
 }
 
-/// A look-up on a handle on its way.
+/// The state of a look-up on a handle.
 ///
 /// `ask` names the next call of the disk or the next event of the store's core, `feed` takes its answer, and so on until
 /// the look-up has its reply.
@@ -47,7 +47,7 @@ pub struct LookHead {
     pub want: Want,
     /// The id that is sought.
     pub id: ObjectId,
-    /// The number of the list in the first view that the core handed over.
+    /// The number of the list in the first view that the core passed.
     pub begun: Option<u64>,
     /// How many lists the look-up published itself.
     pub own: u64,
@@ -73,17 +73,17 @@ pub enum Purpose {
     Again,
 }
 
-/// How far a look-up has come among the loose folders.
+/// The state of a look-up among the loose folders.
 #[derive(Drop)]
 pub struct LooseRound {
-    /// The place of the folder that comes next, among those beside the objects directory.
+    /// The place of the folder that comes next, among those besides the objects directory.
     pub next: usize,
     pub notes: Notes,
     /// The list that was tried before them.
     pub part: Part,
 }
 
-/// Where a look-up stands.
+/// The stage of a look-up.
 #[derive(Drop)]
 pub enum LookStage {
     /// The indices of a list are tried.
@@ -102,7 +102,7 @@ pub enum LookStage {
         purpose: Purpose,
         notes: Notes,
     },
-    /// The core is to be looked at: whether the list of this number, which was tried, is still the newest.
+    /// The core's state is to be read: whether the list of this number, which was tried, is still the newest.
     Checking {
         list_no: u64,
         notes: Notes,
@@ -110,7 +110,7 @@ pub enum LookStage {
     Done(Reply),
 }
 
-/// A look-up at a stage.
+/// Returns a look-up at a stage.
 fn at(head: LookHead, stage: LookStage) -> LookUp
     ensures at { result ≡ order.at head stage }
 {
@@ -118,7 +118,7 @@ fn at(head: LookHead, stage: LookStage) -> LookUp
 }
 
 impl LookHead {
-    /// The first view that a look-up is handed tells where it began.
+    /// Returns the head, which notes the list's number in the first view that an answer passes.
     fn seen(self, answer: &Answer) -> LookHead
         ensures seen { result ≡ order.seen self answer.now }
     {
@@ -132,7 +132,7 @@ impl LookHead {
     }
 }
 
-/// The view that an answer hands over.
+/// Returns the view that an answer passes.
 fn view_in(answer: &Answer) -> Option<&View>
     ensures view { option_copied result ≡ order.view_of answer.now }
 {
@@ -143,7 +143,8 @@ fn view_in(answer: &Answer) -> Option<&View>
 }
 
 impl LookUp {
-    /// A new look-up of an id, from a handle's snapshot. It asks nothing yet; where the snapshot has all that it takes, it is done.
+    /// Returns a new look-up of an id, from a handle's snapshot. It asks nothing yet; where the snapshot has all that is
+    /// needed, it is done.
     pub fn start(
         alloc: Global,
         setting: &Setting<'_>,
@@ -172,7 +173,7 @@ impl LookUp {
         Ok(LookUp { head, stage })
     }
 
-    /// What comes next: a call of the disk, or an event of the store's core; there is none where the look-up is done.
+    /// Returns what comes next: a call of the disk, or an event of the store's core; `None` where the look-up is done.
     pub fn ask(&self, alloc: Global) -> Result<Option<Ask>, NoMemory>
         ensures asked { IfOk result (λ ask. ask ≡ order.ask_of self.now) }
     {
@@ -185,7 +186,7 @@ impl LookUp {
         }
     }
 
-    /// The path with which the stream was opened that the next call of the disk is on, where it is on one.
+    /// Returns the directory of the open stream that the next call of the disk reads, where it reads one.
     pub fn opened(&self) -> Option<&PathText>
         ensures opened { option_map (λ path. path.now) result ≡ order.opened_in self.now }
     {
@@ -195,7 +196,8 @@ impl LookUp {
         }
     }
 
-    /// The look-up after the answer to what it asked for, on the handle that it was started on. An answer of the other kind, of the disk or of the core, leaves the stage.
+    /// Returns the look-up after the answer to what it asked for, on the handle that it was started on. An answer of the
+    /// other kind, of the disk or of the core, leaves the stage unchanged.
     pub fn feed(
         self,
         alloc: Global,
@@ -208,7 +210,7 @@ impl LookUp {
         answered::fed(alloc, setting, head.seen(&answer), stage, answer)
     }
 
-    /// The reply of a look-up that is done, which is lent: `into_reply` moves it out.
+    /// Returns the reply of a look-up that is done, which is lent: `into_reply` moves it out.
     pub fn reply(&self) -> Option<&Reply>
         ensures reply { option_map (λ reply. reply.now) result ≡ result_ok (order.result_of self.now) }
     {
@@ -218,7 +220,7 @@ impl LookUp {
         }
     }
 
-    /// The reply of a look-up that is done, or the look-up that goes on.
+    /// Returns the reply of a look-up that is done. The error is the look-up that goes on.
     pub fn into_reply(self) -> Result<Reply, LookUp>
         ensures replied { result ≡ order.result_of self }
     {

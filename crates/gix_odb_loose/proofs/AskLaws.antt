@@ -1,4 +1,4 @@
--- Of two writes of the same data under the same name: those that were answered alike so far ask the same next. For callers.
+-- Two writes of the same data under the same name that got the same answers so far ask the same next. For callers.
 use Rattle.std.specs.Prelude.{◌≡◌, List, [], ◌∷◌, ◌++◌, Some, Result, refl}
 use Rattle.std.proofs.Common.{sym, ap, ◌∙◌, subst, append-nil, append_assoc}
 use Rattle.std.proofs.lemmas.List.{map-append}
@@ -59,9 +59,9 @@ module _ (job : WriteJob) where
       last : Exchange
       last = exchanged (ask_in (record job { stage = stage })) answer
 
-  -- ---- answered alike
+  -- ---- the same answers
 
-  -- Two writes with the same answers made the same calls, and came to the same stage or end.
+  -- Two writes with the same answers made the same calls, and are at the same stage or end.
   pub asked_same : (onward other : Onward) (past others : List Exchange) → IsAlong job onward past → IsAlong job other others → answers_in past ≡ answers_in others → asks_in past ≡ asks_in others
   asked_same onward other past others along along' same = along.asked ∙ ap (asks_along job (Stage job.stage)) same ∙ sym along'.asked
 
@@ -102,12 +102,12 @@ module _ (job : WriteJob) where
       both_next (onward_by job onward a.answer) past others x y more rest behind (asked_behind onward a (past ++ x ∷ more) asked)
       (subst (λ (g : DiskAnswer). Asked (onward_by job onward g) (others ++ y ∷ rest)) (sym first) (asked_behind onward b (others ++ y ∷ rest) asked'))
 
-  -- Two writes that were answered alike so far ask the same next, whatever comes after it.
+  -- Two writes that got the same answers so far ask the same next, whatever follows.
   pub next_ask_same : (onward other : Onward) (past others : List Exchange) (x y : Exchange) (more rest : List Exchange) → IsAlong job onward (past ++ x ∷ more)
       → IsAlong job other (others ++ y ∷ rest) → answers_in past ≡ answers_in others → x.ask ≡ y.ask
   next_ask_same onward other past others x y more rest along along' same = both_next (Stage job.stage) past others x y more rest same along.asked along'.asked
 
-  -- ---- a call that has its data at hand
+  -- ---- a call with its data in memory
 
   call_along : (now : WriteJob) (onward : Onward) (past : List Exchange) → now ≡ record job { stage = now.stage } → IsAlong job onward past
       → IsCallAlong job (written_to now (advance_to now onward)) past

@@ -30,12 +30,12 @@ module _ {D : Type 0} (answered : D → DiskAsk → DiskAnswer → D → Type 0)
     pub unasked : (ask : DiskAsk) (given_by : DiskAnswer → Result A Error) → after ≡ before → result ≡ Err NoMemory → AsksOnce answered ask before after given_by result
     unasked ask given_by same none = inl (sym same, none)
 
-    -- a path was asked for, which is the object's; what it gave is the result, or memory ran out for that
+    -- a path was asked for, the object's; its answer is the result, or memory ran out for that
     pub asked_at : (ask_at : Path → DiskAsk) (given_at : Path → DiskAnswer → Result A Error) (at to : Path) → at ≡ to → (answer : DiskAnswer) → answered before (ask_at at) answer after
         → (result ≡ given_at at answer) ⊎ (result ≡ Err NoMemory) → AsksOnce answered (ask_at to) before after (given_at to) result
     asked_at ask_at given_at at to same answer made is = subst (λ (p : Path). AsksOnce answered (ask_at p) before after (given_at p) result) same (inr (answer, (after, made, refl), is))
 
--- a call that was refused for want of memory
+-- a call that was refused because memory ran out
 pub want_of_memory : {A : Type 0} (result : Result A Error) → IsErrAnd result (λ e. e ≡ NoMemory) → result ≡ Err NoMemory
 want_of_memory (Ok x) h = absurd h
 want_of_memory (Err error) h = ap (λ (e : Error). Err e) h

@@ -1,4 +1,4 @@
--- Each answer leaves a call with fewer asks, for callers: a call with so many asks left has at most so many turns.
+-- Each answer leaves a call with fewer asks, for callers: a call with n asks left has at most n turns.
 use Rattle.std.proofs.Common.{◌≡◌, ◌<◌, ◌≤◌, ◌+◌, ◌-◌, ℕ, Bool, true, false, length, drop, Some, None, refl, sym, ap, ◌∙◌, subst, arith}
 use Rattle.std.specs.Prelude.{nat_le, min, if◌then◌else◌}
 use Rattle.std.proofs.lemmas.Grind.{common_steps}
@@ -90,7 +90,7 @@ module _ (job : WriteJob) where
   filled_left number written (answers.File bytes time) = omega arith
   filled_left number written (answers.Refused error) = omega arith
 
-  -- what is asked next, where a stage waits for no data
+  -- what is asked next, at a stage that appends no piece
   other_left : (stage : WriteStage) (given : DiskAnswer) → written_in stage ≡ None
       → writes_left n (onward_ask (supplied job (next_write job.head.size 0 stage given))) < writes_left n (wants.Disk stage)
   other_left (stages.Making number) given none = omega (arith, supplied_left (made_by number given), fewer_left n job.head.size (stages.Making number) 0 given tt)

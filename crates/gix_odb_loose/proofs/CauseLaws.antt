@@ -1,4 +1,4 @@
--- A cause that is seen in one way is seen in each wider way: of one moment, of some moment of a call.
+-- A cause by narrower evidence is a cause by wider evidence: of one moment, of some moment of a call.
 pub mod Write
 use Rattle.std.specs.Prelude.{ℕ, ◌⊎◌, Option}
 use Rattle.std.proofs.Common.{inl, inr}

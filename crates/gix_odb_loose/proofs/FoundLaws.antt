@@ -1,4 +1,4 @@
--- An object that was written is found, for callers: what a find makes of the file that a write leaves.
+-- An object that was written is found, for callers: what a find returns from the file that a write leaves.
 use Rattle.std.specs.Prelude.{◌≡◌, ℕ, ◌^◌, ◌<◌, List, [], ◌∷◌, ◌++◌, take, drop, length, Option, Some, Result, Ok}
 use Rattle.std.proofs.Common.{sym, ap, ◌∙◌, subst, append_assoc}
 use Rattle.odb_base.specs.Path.{Path}
@@ -30,7 +30,7 @@ use Rattle.gix_odb_loose.specs.declared.write_order.WriteHead.{WriteHead}
 -- ---- what is read back
 
 module _ (head : WriteHead) (number : ℕ) (id : ObjectId) (bytes : List ℕ) (before left : Option State) (back : ReadsBack head number id bytes before left) where
-  -- where the directory of the object stands at its own names, nothing else is to be assumed
+  -- where no link is on the way to the object's directory, nothing else is assumed
   pub reads_back_own : StandsPlain (tree_of back.state) (prefix_path head.objects id)
       → read_of (tree_of (written back.state (Some (Rename back.source back.target)))) (loose_path head.objects id) ≡ Ok (header_of head.kind head.size ++ bytes, 0)
   unfolding loose_path prefix_path
@@ -45,11 +45,11 @@ module _ (head : WriteHead) (number : ℕ) (id : ObjectId) (bytes : List ℕ) (b
       (ap (λ (p : Path). crosses (tree_of back.state) p back.target) path_is
       ∙ crosses_plain (tree_of back.state) (prefix_path head.objects id) plain name back.target (ap (spot (tree_of back.state)) (sym path_is) ∙ there))
 
--- a file of a header and as many data as it says holds the object, for each limit that these are within
+-- a file of a header and as many data as it says holds the object, for each limit that allows them
 pub holds_object : (limit : Option ℕ) (kind : Kind) (bytes : List ℕ) → length bytes < 2 ^ 64 → IsWithin limit (length bytes) → HoldsObject limit (header_of kind (length bytes) ++ bytes) kind bytes
 holds_object limit kind bytes fits within = record { spelled = IsLoose-header_of kind (length bytes) bytes fits; within = within }
 
--- so a read of the path that gives it gives the object, which is what a find answers by
+-- so a read of the path that gives this file gives the object, which is what a find returns
 pub gives_object : (limit : Option ℕ) (tree : Tree) (head : WriteHead) (id : ObjectId) (bytes : List ℕ) (time : ℕ) → length bytes ≡ head.size → length bytes < 2 ^ 64 → IsWithin limit (length bytes)
     → read_of tree (loose_path head.objects id) ≡ Ok (header_of head.kind head.size ++ bytes, time) → Gives (read_of tree (loose_path head.objects id)) (λ file. HoldsObject limit file head.kind bytes)
 gives_object limit tree head id bytes time size fits within read =
@@ -60,8 +60,8 @@ gives_object limit tree head id bytes time size fits within read =
       holds = subst (λ (n : ℕ). HoldsObject limit (header_of head.kind n ++ bytes) head.kind bytes) size (holds_object limit head.kind bytes fits within);
     }
 
--- An object that was written is found: where its directory stands at its own names once the calls before the rename were made,
--- a find in the state that the write left comes to it, whatever else is there.
+-- An object that was written is found: where no link was on the way to its directory before the rename, a find in the state
+-- that the write left returns it, whatever else is there.
 pub written_is_found : (store : Store) (kind : Kind) (size : ℕ) (hash : HashKind) (known : Option ObjectId) (source : Option (List ℕ)) (s : State) (new : Option State) (exchanges : List Exchange)
     (id : ObjectId)
     → (writes : Writes (write_head store kind size) hash known source (Some s) new exchanges id) → size < 2 ^ 64 → IsWithin (store_limit store) size

@@ -18,7 +18,7 @@ use Rattle.gix_odb_loose.specs.declared.call.LooseJob.TheVariants as jobs
 use Rattle.gix_odb_loose.specs.declared.find.Error.{Error}
 use Rattle.gix_odb_loose.specs.declared.find.Error.TheVariants as errors
 
--- ---- where a file lies
+-- ---- the path of an object's file
 
 behind_two_digits : (id : ObjectId) → hex_of id ≡ codes "abcdef" → loose_path (codes "o" ∷ []) id ≡ codes "o" ∷ codes "ab" ∷ codes "cdef" ∷ []
 unfolding loose_path
@@ -67,7 +67,7 @@ no_header : found_in None (codes "hello") ≡ Err errors.Decode
 unfolding loose_of spelled kind_of_word number_of
 no_header = refl
 
--- ---- what a look for a header replies: the limit and the data don't count
+-- ---- what a header look-up replies: the limit and the data don't count
 
 header_of_hello : header_by at (answers.File (hello ++ 33 ∷ []) 7) ≡ Ok (Some (5, Blob))
 unfolding loose_of spelled kind_of_word number_of

@@ -1,4 +1,4 @@
--- The laws of what a test, a find and a look for a header make of the answer to their ask.
+-- The laws of the results of a test, a find and a header look-up by the answer to their ask.
 pub mod File
 pub mod Read
 pub mod Look
@@ -11,7 +11,7 @@ use Rattle.gix_odb_loose.specs.LooseFile.{IsFinding, id_asked}
 use Rattle.gix_odb_loose.specs.LooseOrder.{job_of, started, started_for}
 use Rattle.gix_odb_loose.specs.declared.store.Store.{Store}
 
--- The call of whoever wants so much of the object of an id is that of its job, which only asks what is there, for this id.
+-- The call of a caller who wants this much of an object is that of its job, which writes nothing, for this id.
 pub started_for-is : (store : Store) (want : Want) (id : ObjectId) → started store (job_of want id) ≡ started_for store want id
 started_for-is store Object id = refl
 started_for-is store Header id = refl

@@ -1,4 +1,4 @@
--- The path of an object's file: hex digits are names, and an id's digits may be cut behind the first two.
+-- The path of an object's file: hex digits are names, and an id's digits may be cut after the first two.
 use Rattle.std.proofs.Common.{◌≡◌, ℕ, zero, suc, ◌*◌, ◌^◌, ◌<◌, ◌≤◌, ◌==◌, true, false, List, [], ◌∷◌, ◌++◌, length, take, drop, get_or, sym, ap, ◌∙◌, arith, append_assoc}
 use Rattle.std.proofs.Common.{refl}
 use Rattle.std.specs.List.{list_any}

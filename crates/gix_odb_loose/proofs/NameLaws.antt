@@ -1,4 +1,4 @@
--- Laws of the names of a write, for callers: a temporary file never stands where an object's path ends.
+-- Laws of the names of a write, for callers: a temporary file is never where an object's path ends.
 use Rattle.std.proofs.Common.{◌≡◌, ℕ, List, [], ◌∷◌, ◌++◌, get_or, drop, Ok, refl, sym, ap, ◌∙◌, append_assoc}
 use Rattle.std.specs.Prelude.{take}
 use Rattle.odb_base.specs.Path.{Name, Path}
@@ -23,7 +23,7 @@ pub prefix_path-is : (objects : Path) (id : ObjectId) → prefix_path objects id
 unfolding prefix_path
 prefix_path-is objects id = refl
 
--- ---- hex digits are no front of a temporary name
+-- ---- hex digits are no prefix of a temporary name
 
 behind_two : (text : List ℕ) → get_or (drop 2 text) 0 0 ≡ get_or text 2 0
 behind_two [] = refl
@@ -42,7 +42,7 @@ same_last (a ∷ []) [] x y is = absurd (cc)
 same_last (a ∷ c ∷ d) [] x y is = absurd (cc)
 same_last (a ∷ d) (b ∷ e) x y is = same_last d e x y (cc)
 
--- ---- where they stand
+-- ---- where they are
 
 pub temporary_spot : (t : Tree) (objects : Path) (number : ℕ) (s : Path) → spot t (temp_path objects number) ≡ Ok s → IsTemporary s
 temporary_spot t objects number s is = let named = spot_named t objects (temp_name number) s (ap (spot t) (sym (temp_path-is objects number)) ∙ is) in (named.0, number, named.1)

@@ -1,4 +1,4 @@
--- What a write leaves where the disk tells its states: the object's path reads as the header and the data.
+-- What a write leaves where the disk reports its states: the object's path reads as the header and the data.
 use Rattle.std.specs.Prelude.{◌≡◌, ℕ, zero, suc, List, [], ◌∷◌, ◌++◌, map, Option, Some, Result, Ok, Err, refl}
 use Rattle.std.proofs.Common.{sym, ap, ◌∙◌, subst, append-nil, append_assoc}
 use Rattle.std.specs.List.{concat}
@@ -76,7 +76,7 @@ record Holds (path : Path) (bytes : List ℕ) (left : Option State) : Type 0 whe
   spot : Path
   file : HasFile (tree_of state) path spot bytes 0
 
--- a tree after a change of a state, as one of its own
+-- a tree after a change of a state, in a variable
 to_tree : (s : State) (change : Change) (path spot : Path) (bytes : List ℕ) → IsTree (changed (tree_of s) change) → HasFile (changed (tree_of s) change) path spot bytes 0 → (left : Option State)
     → left ≡ Some (written s (Some change)) → Holds path bytes left
 to_tree s change path spot bytes tree file left is =

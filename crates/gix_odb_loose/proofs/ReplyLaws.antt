@@ -70,7 +70,7 @@ module _ (path : Path) (limit : Option ℕ) (id : ObjectId) (tree : Tree) (given
     pub Says-found : Says path limit (jobs.Find id) tree Failed Wanting (replies.Found (found_by path limit given))
     Says-found = record { held = found_held (found_by path limit given) refl; missed = found_missed (found_by path limit given) refl; refused = found_refused (found_by path limit given) refl }
 
-    -- ---- a look for a header
+    -- ---- a header look-up
 
     header_held : (result : Result (Option (ℕ × Kind)) Error) → header_by path given ≡ result → (answer : Answer) → answer_in (replies.Header result) ≡ Some answer
         → Gives (read_of tree path) (λ bytes. Holds limit (jobs.Header id) bytes answer)
@@ -203,7 +203,7 @@ write_told (Err writing.LinkLoop) error e = (λ f. cc (e, f), λ f. cc (e, f))
 write_told (Err writing.Exists) error e = (λ f. cc (e, f), λ f. cc (e, f))
 write_told (Err writing.NotEmpty) error e = (λ f. cc (e, f), λ f. cc (e, f))
 
--- the asks of these calls: a tree never answers that the call failed, or that memory ran out
+-- the asks of these calls: a tree never answers that the call failed or memory ran out
 tree_told : (store : Store) (job : LooseJob) (tree : Tree) (ask : DiskAsk) (error : DiskError) → disk_ask_of (started store job) ≡ Some ask → answer_of tree ask ≡ answers.Refused error
     → (error ≢ disk_errors.Failed) × (error ≢ disk_errors.NoMemory)
 unfolding answer_of
@@ -220,15 +220,15 @@ tree_told store (jobs.Write kind size bytes id) tree ask error is e =
     let path = temp_path (store_path store) 0 in
     let same : ask ≡ asks.NewFile path = cc is in write_told (change_of_new_file tree path) error (ap (answer_of tree) (sym same) ∙ e)
 
--- none is a call of streams
+-- none is a call on streams
 asks_still : (store : Store) (job : LooseJob) (ask : DiskAsk) → disk_ask_of (started store job) ≡ Some ask → is_of_streams ask ≡ false
 asks_still store (jobs.Contains id) ask is = let same : asks.Look (loose_path (store_path store) id) true ≡ ask = cc is in ap is_of_streams (sym same)
 asks_still store (jobs.Find id) ask is = let same : asks.Read (loose_path (store_path store) id) ≡ ask = cc is in ap is_of_streams (sym same)
 asks_still store (jobs.Header id) ask is = let same : asks.Read (loose_path (store_path store) id) ≡ ask = cc is in ap is_of_streams (sym same)
 asks_still store (jobs.Write kind size bytes id) ask is = let same : asks.NewFile (temp_path (store_path store) 0) ≡ ask = cc is in ap is_of_streams (sym same)
 
--- The reply to what a disk in memory answers now says what its tree shows; an error by a failed call has a listed number,
--- and none is for want of memory.
+-- The reply to the present answer of a disk in memory says what its tree shows; an error by a failed call has a listed number,
+-- and none is because memory ran out.
 pub Says-now : (store : Store) (job : LooseJob) (disk : Volume) (ask : DiskAsk) (reply : LooseReply) → disk_ask_of (started store job) ≡ Some ask
     → reply_of (fed (started store job) (answer_now disk ask)) ≡ Some reply
     → Says (loose_path (store_path store) (id_asked (store_hash store) job)) (store_limit store) job (tree_of disk.state) (next_fails disk ≡ true) ⊥ reply

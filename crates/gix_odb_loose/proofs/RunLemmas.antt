@@ -1,4 +1,4 @@
--- From the disk's one answer to what the store's calls that find promise.
+-- From the disk's one answer to the promises of the store's finding calls.
 use Rattle.std.specs.Prelude.{◌≡◌, ◌↔◌, ⊤, ℕ, Bool, IsTrue, true, false, List, Option, Some, None, Result, Ok, Err, IfOk, IfErr, IfSome, refl}
 use Rattle.std.proofs.Common.{sym, ap, ◌∙◌, subst}
 use Rattle.odb_base.specs.Path.{Path}
@@ -26,9 +26,9 @@ use Rattle.gix_odb_loose.specs.declared.find.Error.{Error}
 use Rattle.gix_odb_loose.specs.declared.find.Error.TheVariants as errors
 use Rattle.gix_odb_loose.specs.declared.store.Store.{Store}
 
--- ---- what a told tree answers
+-- ---- the answers of a tree that is reported
 
--- a look or a read leaves the disk as it was
+-- a stat or a read leaves the disk unchanged
 abbrev IsReading : DiskAsk → Type 0
 IsReading (asks.Look path follow) = Unit {0}
 IsReading (asks.Read path) = Unit {0}
@@ -168,7 +168,7 @@ test_told None path given told result e = tt
 test_told (Some s) path given told (Ok there) e = tested_by-Ok (tree_of s) path given told there e
 test_told (Some s) path given told (Err error) e = tt
 
--- ---- what the calls of a store answer, which go to the path of an object
+-- ---- the results of a store's calls on the path of an object
 
 module _ (state : Option State) (store : Store) (id : ObjectId) (at : Path) (given : DiskAnswer) (Failed : Type 0) (same : at ≡ path_in store id)
     (cause : given ≡ answers.Refused disk_errors.Failed → Failed) where
@@ -196,7 +196,7 @@ module _ (state : Option State) (store : Store) (id : ObjectId) (at : Path) (giv
     pub find_cause : (error : Error) → Err error ≡ found_by at (store_limit store) given → FindRefused store id state Failed error
     find_cause error is = subst (λ (p : Path). FindCause p (store_limit store) (GaveIn state p) Failed ⊤ error) same (find_refused state at (store_limit store) given Failed cause told error (sym is))
 
-    -- a look for a header
+    -- a header look-up
     abbrev TellsAt : Path → Result (Option (ℕ × Kind)) Error → Type 0
     TellsAt path result = IfSome state (λ s. AnswersRead (read_of (tree_of s) path) (λ bytes x. HoldsHeader bytes x.1 x.0) Failed result)
 

@@ -1,4 +1,4 @@
--- The cause of a refused write stands in its exchanges, or in the source of its data.
+-- The cause of a refused write is in its exchanges, or in the source of its data.
 use Rattle.std.specs.Prelude.{◌≡◌, ◌⊎◌, ℕ, zero, suc, ◌<◌, List, [], ◌∷◌, ◌++◌, map, All, Contains, slice_index_or, refl}
 use Rattle.std.proofs.Common.{inl, inr, sym, subst, arith}
 use Rattle.std.proofs.lemmas.Bool.{cases_lt}

@@ -1,4 +1,4 @@
--- Each run of a write that has its data at hand is a history, for callers: what it has done, and how many calls that took.
+-- Each run of a write with its data in memory is a history, for callers: what it has done, and how many calls that took.
 pub mod Data
 mod Lengths
 use Rattle.std.specs.Prelude.{◌≡◌, ℕ, ◌+◌, ◌<◌, ◌≤◌, ◌==◌, Bool, true, false, nat_le, List, [], ◌∷◌, ◌++◌, length, take, Option, Ok, Err, Result, if◌then◌else◌, refl}
@@ -65,7 +65,7 @@ module _ (job : WriteJob) where
     settled : HasDone job (supplied_with job number written) past
     settled = by_end (nat_le (length job.bytes) written) refl
 
-  -- what is asked for is given at once
+  -- what is asked for is passed at once
   settled_at : (appended : List ℕ) (stage : WriteStage) (past : List Exchange) → FedTo job appended (wants.Disk stage) → Past appended stage past → HasDone job stage past
   settled_at appended (stages.Making number) past fed history = record { history = (history.0, refl, history.2); next = tt }
   settled_at appended (stages.Heading number) past fed history = record { history = (refl, history.1, history.2); next = tt }
@@ -137,7 +137,7 @@ module _ (head : WriteHead) (hash : HashKind) (known : Option ObjectId) (bytes :
   pub IsAlong-done : (onward : Onward) (past : List Exchange) → IsAlong job onward past → HasDoneTo job onward past
   IsAlong-done onward past along = subst (λ (o : Onward). HasDoneTo job o past) (sym along.reached) (done_along job (Stage (stages.Making 0)) [] past nothing_done along.asked)
 
-  -- They are as many as the measure of its calls has gone down, at most.
+  -- They are at most as many as the measure of its calls has gone down by.
   pub IsAlong-left : (onward : Onward) (past : List Exchange) → IsAlong job onward past
       → length past + writes_left (length bytes) (onward_ask onward) ≤ writes_left (length bytes) (wants.Disk (stages.Making 0))
   IsAlong-left onward past along =

@@ -204,17 +204,17 @@ module _ (head : WriteHead) (Named : ObjectId → Type 0) (SourceFailed : Type 0
         moved_next (answers.File bytes time) = unmoved (answers.File bytes time) (λ e. cc e)
         moved_next (answers.Refused error) = unmoved (answers.Refused error) (λ e. cc e)
 
-  -- a piece that doesn't fit is one byte too long, and what it counts
+  -- a piece that doesn't fit is one byte too long, and its count
   abbrev pub CountsTooMany : WriteStage → List ℕ → Type 0
   CountsTooMany (stages.Filling number written) piece = head.size < written + length piece → (written + length piece ≡ head.size + 1) × Counted (grown written (length piece))
   CountsTooMany stage piece = Unit {0}
 
-  -- a piece is appended behind whole ones, and has some bytes
+  -- a piece is appended after whole ones, and isn't empty
   abbrev pub IsNextPiece : WriteStage → List ℕ → Type 0
   IsNextPiece (stages.Filling number written) piece = IsInPieces written × (1 ≤ length piece) × (length piece ≤ piece_size)
   IsNextPiece stage piece = Unit {0}
 
-  -- A write that stands at a stage is carried on by the answer to its ask.
+  -- A write at a stage is carried on by the answer to its ask.
   pub IsHistory-next : (stage : WriteStage) (appended piece : List ℕ) (past : List Exchange) (answer : DiskAnswer) → CountsTooMany stage piece → IsNextPiece stage piece
       → IsHistory head Named SourceFailed Counted appended stage past
       → IsHistoryOnward head Named SourceFailed Counted (data_after stage piece answer appended) (next_write head.size (length piece) stage answer)
@@ -229,7 +229,7 @@ module _ (head : WriteHead) (Named : ObjectId → Type 0) (SourceFailed : Type 0
   IsHistory-next (stages.Moving number id) appended piece past answer counts next is = moved_next past number id appended is.0 is.1 is.2 answer
   IsHistory-next (stages.Removing number refusal) appended piece past answer counts next is = inr (number, past, is, (answer, refl))
 
-  -- The end of the data carries on a write that asks for data: they are as many as were told, or the write is refused.
+  -- The end of the data carries on a write that asks for data: their length is the size, or the write is refused.
   pub IsHistory-ended : (number written : ℕ) (id : ObjectId) (appended : List ℕ) (past : List Exchange) → Named id → ((written ≡ head.size → ⊥) → (written < head.size) × Counted written)
       → IsHistory head Named SourceFailed Counted appended (stages.Filling number written) past
       → IsHistory head Named SourceFailed Counted appended (ended_with head.size id number written) past

@@ -14,7 +14,7 @@ use Rattle.gix_odb_loose.specs.declared.write_order.WriteStage.{WriteStage}
 use Rattle.gix_odb_loose.specs.declared.write_order.WriteStage.TheVariants as stages
 
 module _ (most : ℕ) where
-  -- so many calls are more than are left
+  -- this number of calls is more than are left
   abbrev Above : ℕ → List ℕ → WriteAsk → Type 0
   Above bound held wanted = writes_left most wanted < bound
 
@@ -38,7 +38,7 @@ module _ (most : ℕ) where
   moved_left : (number : ℕ) (id : ObjectId) (answer : DiskAnswer) → writes_left most (moved_by number id answer) < 2
   moved_left number id = by_moved (Above 2) [] number (λ held refusal. omega arith) id (omega arith)
 
-  -- a piece that fits leaves fewer appends behind it
+  -- a piece that fits leaves fewer appends after it
   abbrev pub LeavesFewer : (size : ℕ) → WriteStage → (len : ℕ) → Type 0
   LeavesFewer size (stages.Filling number written) len = written + len ≤ size → pieces_of (most - (written + len)) < pieces_of (most - written)
   LeavesFewer size stage len = Unit {0}

@@ -1,5 +1,5 @@
--- Laws of the temporary file of a write, for callers: a write that stands at a stage after the making of its file has asked
--- for that file, and was answered that it is made.
+-- Laws of the temporary file of a write, for callers: a write at a stage after the creation of its file has asked for that
+-- file, and got the answer that it is made.
 use Rattle.std.proofs.Common.{◌≡◌, inl, inr, ℕ, ◌<◌, List, [], ◌∷◌, Contains, Some, refl, sym, ap, ◌∙◌, subst, arith}
 use Rattle.std.proofs.lemmas.List.Elements.{Contains-append_left, Contains-append_right}
 use Rattle.odb_asks.specs.declared.ask.DiskAsk.{DiskAsk}

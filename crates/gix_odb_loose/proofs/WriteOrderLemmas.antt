@@ -1,4 +1,4 @@
--- What an answer leads to, outcome by outcome, in place of the table of all answers: something is shown of what a write asks for next,
+-- What an answer leads to, outcome by outcome, in place of the table of all answers: a property of what a write asks for next,
 -- and of the data that it has appended by then.
 use Rattle.std.specs.Prelude.{◌≡◌, ℕ, ◌+◌, Bool, true, false, nat_lt, nat_le, List, ◌++◌, Ok, Err, if◌then◌else◌, refl}
 use Rattle.odb_asks.specs.declared.ask.DiskAnswer.{DiskAnswer}
@@ -15,7 +15,7 @@ use Rattle.gix_odb_loose.specs.declared.write_order.WriteAsk.TheVariants as want
 use Rattle.gix_odb_loose.specs.declared.write_order.WriteStage.TheVariants as stages
 
 module _ (P : List ℕ → WriteAsk → Type 0) (appended : List ℕ) (number : ℕ) where
-  -- the making of the temporary file: it is made, or the next name is tried, or the write ends
+  -- the creation of the temporary file: it is made, or the next name is tried, or the write ends
   module _ (done : P appended (wants.Disk (stages.Heading number))) (next : nat_lt (number + 1) temp_names ≡ true → P appended (wants.Disk (stages.Making (number + 1))))
       (ends : (refusal : Refusal) → P appended (wants.Done (Err refusal))) where
     by_name : (more : Bool) → nat_lt (number + 1) temp_names ≡ more

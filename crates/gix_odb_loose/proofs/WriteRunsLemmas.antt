@@ -1,4 +1,4 @@
--- Lemmas on what a write promises: how it begins, what its asks were refused by, its run, and the clauses of each call.
+-- Lemmas on the promises of a write: its start, what refused its asks, its run, and the clauses of each call.
 pub mod RefusedAsks
 pub mod Begins
 pub mod Ends

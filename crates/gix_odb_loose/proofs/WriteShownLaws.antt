@@ -1,4 +1,4 @@
--- What the exchanges of a write show, for callers: its calls are its own, a refused one renamed nothing and left no file, and
+-- What the exchanges of a write show, for callers: its calls are its own, a refused one renamed nothing and left no file.
 pub mod Own
 pub mod Unmade
 use Rattle.std.specs.Prelude.{◌≡◌, ◌⊎◌, ℕ, zero, suc, ◌<◌, ◌≤◌, ◌&&◌, false, List, [], All, Option, Some, None, refl}
@@ -26,7 +26,7 @@ use Rattle.gix_odb_loose.specs.declared.write_order.WriteHead.{WriteHead}
 use Rattle.gix_odb_loose.specs.declared.write_order.WriteStage.{WriteStage}
 use Rattle.gix_odb_loose.specs.declared.write_order.WriteStage.TheVariants as stages
 
--- an answer that refuses isn't that it is done
+-- an answer that refuses isn't Done
 undone : (ask : DiskAsk) (answer : DiskAnswer) → IsRefused ask answer → is_done answer ≡ false
 undone ask answers.Done h = absurd h
 undone ask (answers.Meta meta) h = refl
@@ -206,7 +206,7 @@ module _ (head : WriteHead) (Named : ObjectId → Type 0) where
             | inr one ↦ cleared one.0 one.1 past (history_made [] one.1 (stages.Removing one.0 refusal) one.2) one.3
           ]
 
-    -- ---- a write that memory ran out of
+    -- ---- a write that ran out of memory
 
     module _ (past : List Exchange) (run : IsBrokenRun head Named SourceFailed Counted past) where
       pub broken_unnamed : RenamedNothing past

@@ -1,4 +1,4 @@
--- What a call of a store answers, by what the tree shows where the disk tells it.
+-- What a call of a store returns, by what the tree shows where the disk reports it.
 use Rattle.std.specs.Prelude.{⊤, ◌≡◌, ℕ, List, Option, Some, None, Result, Ok, Err, IfSome}
 use Rattle.odb_base.specs.Path.{Path}
 use Rattle.odb_nodes.specs.Tree.{State, tree_of}
@@ -13,7 +13,7 @@ use Rattle.gix_odb_loose.specs.declared.store.Store.{Store}
 use Rattle.gix_odb_loose.specs.declared.find.Error.{Error}
 use Rattle.gix_odb_loose.specs.declared.find.Error.TheVariants as errors
 
--- a call comes to an answer, unless a call of the disk failed or memory ran out
+-- a call ends with an answer, unless a call of the disk failed or memory ran out
 abbrev pub ComesTo : {A : Type 0} → Type 0 → Result A Error → A → Type 0
 ComesTo Failed (Ok x) answer = x ≡ answer
 ComesTo Failed (Err errors.NoMemory) answer = Unit {0}
@@ -22,17 +22,16 @@ ComesTo Failed (Err errors.Decode) answer = ⊥
 ComesTo Failed (Err (errors.OutOfMemory size)) answer = ⊥
 ComesTo Failed (Err (errors.SizeMismatch actual expected path)) answer = ⊥
 
--- What a call answers by what a read of the object's path gives, where `Holds bytes x` says that a file with these
--- bytes holds the answer x.
+-- The result of a call, by what a read of the object's path gives. `Holds bytes x`: a file with these bytes holds the answer x.
 pub record AnswersRead {A : Type 0} (read : Reading) (Holds : List ℕ → A → Type 0) (Failed : Type 0) (result : Result (Option A) Error) : Type 0 where
   -- what is found is held by the file, and what the file holds is found
   pub found : (x : A) → result ≡ Ok (Some x) → Gives read (λ bytes. Holds bytes x)
   pub finds : (x : A) → Gives read (λ bytes. Holds bytes x) → ComesTo Failed result (Some x)
-  -- a not-found means that nothing is at the path, and where nothing is there it is answered
+  -- a not-found means that nothing is at the path, and nothing at the path gives a not-found
   pub none : result ≡ Ok None → read ≡ Err Absent
   pub misses : read ≡ Err Absent → ComesTo Failed result None
 
--- what a read of a path gave in a call that leaves the tree as it is. A disk that doesn't tell its state may have given anything
+-- what a read of a path gave in a call that leaves the tree unchanged; any reading, if the disk doesn't report its state
 abbrev pub GaveIn : Option State → Path → Reading → Type 0
 GaveIn state path read = IfSome state (λ s. read ≡ read_of (tree_of s) path)
 
@@ -42,22 +41,22 @@ GaveIn state path read = IfSome state (λ s. read ≡ read_of (tree_of s) path)
 abbrev pub path_in : Store → ObjectId → Path
 path_in store id = loose_path (store_path store) id
 
--- what a find answered that puts data into a buffer, by what the buffer holds then
+-- the result of a find that puts data into a buffer, by what the buffer holds afterwards
 abbrev pub put_in : {E : Type 0} → Result (Option Kind) E → List ℕ → Result (Option Object) E
 put_in (Ok (Some kind)) bytes = Ok (Some (record { kind = kind; bytes = bytes }))
 put_in (Ok None) bytes = Ok None
 put_in (Err error) bytes = Err error
 
--- a find answers by the object that the file at the path holds
+-- a find returns the object that the file at the path holds
 abbrev pub Finds : Store → ObjectId → State → (Failed : Type 0) → Result (Option Object) Error → Type 0
 Finds store id state Failed result =
     AnswersRead (read_of (tree_of state) (path_in store id)) (λ bytes object. HoldsObject (store_limit store) bytes object.kind object.bytes) Failed result
 
--- a look for a header answers by the header that the file begins with
+-- a header look-up returns the header that the file begins with
 abbrev pub TellsHeader : Store → ObjectId → State → (Failed : Type 0) → Result (Option (ℕ × Kind)) Error → Type 0
 TellsHeader store id state Failed result = AnswersRead (read_of (tree_of state) (path_in store id)) (λ bytes header. HoldsHeader bytes header.1 header.0) Failed result
 
--- the causes of their errors, and of those of a test; want of memory is free
+-- the causes of the errors of a find, and below of a header look-up and a test; running out of memory is always allowed
 abbrev pub FindRefused : Store → ObjectId → Option State → (Failed : Type 0) → Error → Type 0
 FindRefused store id state Failed error = FindCause (path_in store id) (store_limit store) (GaveIn state (path_in store id)) Failed ⊤ error
 

@@ -15,7 +15,7 @@ use Rattle.gix_odb_loose.specs.declared.find.Error.{Error}
 use Rattle.gix_odb_loose.specs.declared.find.Error.TheVariants.{NoMemory}
 use Rattle.gix_odb_loose.specs.declared.store.Store.{Store}
 
--- the calls that exchanges are, each with its answer
+-- the disk calls of exchanges, each with its answer
 abbrev pub calls_of : List Exchange → List (DiskAsk × DiskAnswer)
 calls_of [] = []
 calls_of (x ∷ xs) = (x.ask, x.answer) ∷ calls_of xs
@@ -27,19 +27,19 @@ object_result (Ok None) = Ok None
 object_result (Err error) = Err error
 
 module _ {D : Type 0} (answered : D → DiskAsk → DiskAnswer → D → Type 0) where
-  -- exchanges are all calls that lead from one disk to another
+  -- the exchanges are all calls that lead from one disk to another
   abbrev pub AreAllCalls : List Exchange → (before after : D) → Type 0
   AreAllCalls exchanges before after = Makes answered (calls_of exchanges) before after
 
-  -- No call was made, and memory ran out; or this one was made, once, and its answer gave the result, unless memory ran out
-  -- for that.
+  -- No call was made, and memory ran out; or this one call was made, and its answer gave the result, unless memory ran out for
+  -- that.
   abbrev pub AsksOnce : {A : Type 0} → DiskAsk → (before after : D) → (given_by : DiskAnswer → Result A Error) → Result A Error → Type 0
   AsksOnce ask before after given_by result =
       (Makes answered [] before after × (result ≡ Err NoMemory)) ⊎
       ((answer : DiskAnswer) × Makes answered ((ask, answer) ∷ []) before after × ((result ≡ given_by answer) ⊎ (result ≡ Err NoMemory)))
 
   module _ (store : Store) (id : ObjectId) (before after : D) where
-    -- a test of presence looks at the object's path, links followed
+    -- a test of presence stats the object's path, links followed
     abbrev pub TestAsks : Result Bool Error → Type 0
     TestAsks result = AsksOnce (asks.Look (path_in store id) true) before after (tested_by (path_in store id)) result
 
@@ -47,6 +47,6 @@ module _ {D : Type 0} (answered : D → DiskAsk → DiskAnswer → D → Type 0)
     abbrev pub FindAsks : Result (Option Object) Error → Type 0
     FindAsks result = AsksOnce (asks.Read (path_in store id)) before after (λ answer. object_result (found_by (path_in store id) (store_limit store) answer)) result
 
-    -- and so does a look for a header
+    -- and so does a header look-up
     abbrev pub HeaderAsks : Result (Option (ℕ × Kind)) Error → Type 0
     HeaderAsks result = AsksOnce (asks.Read (path_in store id)) before after (header_by (path_in store id)) result

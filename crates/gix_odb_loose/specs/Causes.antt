@@ -1,10 +1,10 @@
--- Why a call was refused: each `find::Error` and each `write::Error`, and what was seen where it is answered.
+-- Why a call was refused: each `find::Error` and each `write::Error`, and what was seen where it is returned.
 --
--- `Gave read` says that a read of the object's path gave `read` in the call, `Failed` that a call of the disk failed
--- in it, and `Wanting` that memory ran out. `Refuses ask` says that this call of the disk failed, or found a part of
--- its way absent, of the wrong kind or a link loop, `Exists ask` that something was there already, and `Done ask` that
--- it was done. A write removes its file last, so a file that it made and then appends to or renames was not removed by
--- it. A store's call, the machine and a run over a changing tree each have their own.
+-- `Gave read`: a read of the object's path gave `read` in the call. `Failed`: a call of the disk failed in it. `Wanting`:
+-- memory ran out. `Refuses ask`: this call of the disk failed, or found a part of its way absent, of the wrong kind or a link
+-- loop. `Exists ask`: something was there already. `Done ask`: it was done. A write removes its file last, so a file that it
+-- made and then appends to or renames was not removed by it. A store's call, the machine and a run over a changing tree each
+-- have their own.
 use Rattle.std.specs.Prelude.{◌≡◌, ◌≢◌, ◌⊎◌, ℕ, ◌<◌, false, List, [], length, All, Option, Ok, Err}
 use Rattle.std.specs.List.{concat}
 use Rattle.odb_asks.specs.declared.ask.DiskAsk.{DiskAsk}
@@ -31,7 +31,7 @@ use Rattle.gix_odb_loose.specs.declared.find.Action.TheVariants.{OpenOrMap}
 use Rattle.gix_odb_loose.specs.declared.call.LooseJob.{LooseJob}
 use Rattle.gix_odb_loose.specs.declared.call.LooseJob.TheVariants as jobs
 
--- some read of the object's path gave what has P
+-- some read of the object's path gave a reading with property P
 abbrev pub Seen : (Reading → Type 0) → (Reading → Type 0) → Type 0
 Seen Gave P = (read : Reading) × Gave read × P read
 
@@ -69,7 +69,7 @@ pub record HasOtherLength (limit : Option ℕ) (expected actual : ℕ) (read : R
   pub length_is : length rest ≡ actual
   pub differs : actual ≢ expected
 
--- What each error of a find says, of the path of the sought object.
+-- The cause of each error of a find, where `path` is that of the sought object.
 abbrev pub FindCause : (path : Path) (limit : Option ℕ) (Gave : Reading → Type 0) (Failed Wanting : Type 0) → Error → Type 0
 FindCause path limit Gave Failed Wanting (errors.SizeMismatch actual expected at) = (at ≡ path) × Seen Gave (HasOtherLength limit expected actual)
 FindCause path limit Gave Failed Wanting errors.Decode = Seen Gave HasNoHeader
@@ -77,7 +77,7 @@ FindCause path limit Gave Failed Wanting (errors.OutOfMemory size) = Seen Gave (
 FindCause path limit Gave Failed Wanting (errors.Io action at) = (action ≡ OpenOrMap) × (at ≡ path) × (Failed ⊎ Seen Gave IsUnreadable)
 FindCause path limit Gave Failed Wanting errors.NoMemory = Wanting
 
--- What each error of a look for a header says. The size is only told, so it has no limit, and isn't compared.
+-- The cause of each error of a header look-up. The size is only returned: it has no limit, and isn't compared.
 abbrev pub HeaderCause : (path : Path) (Gave : Reading → Type 0) (Failed Wanting : Type 0) → Error → Type 0
 HeaderCause path Gave Failed Wanting (errors.SizeMismatch actual expected at) = ⊥
 HeaderCause path Gave Failed Wanting errors.Decode = Seen Gave HasNoHeader
@@ -85,7 +85,7 @@ HeaderCause path Gave Failed Wanting (errors.OutOfMemory size) = ⊥
 HeaderCause path Gave Failed Wanting (errors.Io action at) = (action ≡ OpenOrMap) × (at ≡ path) × (Failed ⊎ Seen Gave IsUnreadable)
 HeaderCause path Gave Failed Wanting errors.NoMemory = Wanting
 
--- What each error of a test of presence says: only a call that failed is one.
+-- The cause of each error of a test of presence: only a failed call is one.
 abbrev pub TestCause : (path : Path) (Failed Wanting : Type 0) → Error → Type 0
 TestCause path Failed Wanting (errors.SizeMismatch actual expected at) = ⊥
 TestCause path Failed Wanting errors.Decode = ⊥
@@ -93,7 +93,7 @@ TestCause path Failed Wanting (errors.OutOfMemory size) = ⊥
 TestCause path Failed Wanting (errors.Io action at) = (action ≡ OpenOrMap) × (at ≡ path) × Failed
 TestCause path Failed Wanting errors.NoMemory = Wanting
 
--- What each error of a call says.
+-- The cause of each error of a call.
 abbrev pub Cause : LooseJob → (path : Path) (limit : Option ℕ) (Gave : Reading → Type 0) (Failed Wanting : Type 0) → Error → Type 0
 Cause (jobs.Contains id) path limit Gave Failed Wanting error = TestCause path Failed Wanting error
 Cause (jobs.Find id) path limit Gave Failed Wanting error = FindCause path limit Gave Failed Wanting error
@@ -102,7 +102,7 @@ Cause (jobs.Write kind size bytes id) path limit Gave Failed Wanting error = ⊥
 
 -- ---- a write
 
--- What each message says: a temporary file couldn't be made, or all sixteen names were taken, each when it was tried; the
+-- The cause of each message: a temporary file couldn't be made, or all sixteen names were taken, each when it was tried; the
 -- header or a piece of the data couldn't be appended to the file that was made; or the source of the data failed.
 abbrev pub IoCause : WriteHead → (Refuses Exists Done : DiskAsk → Type 0) (SourceFailed : Type 0) → Message → Type 0
 IoCause head Refuses Exists Done SourceFailed messages.CreateTempFile =
@@ -112,7 +112,7 @@ IoCause head Refuses Exists Done SourceFailed messages.WriteHeader =
 IoCause head Refuses Exists Done SourceFailed messages.StreamData =
     SourceFailed ⊎ ((number : ℕ) × (piece : List ℕ) × Done (asks.NewFile (temp_path head.objects number)) × Refuses (asks.Append (temp_path head.objects number) piece))
 
--- Pieces of data were appended to the file that was made: fewer bytes than were told, or one more.
+-- Pieces of data were appended to the file that was made: fewer bytes than the size says, or one more.
 pub record AppendsOther (head : WriteHead) (Done : DiskAsk → Type 0) (actual : ℕ) : Type 0 where
   pub number : ℕ
   pub made : Done (asks.NewFile (temp_path head.objects number))
@@ -120,9 +120,9 @@ pub record AppendsOther (head : WriteHead) (Done : DiskAsk → Type 0) (actual :
   pub each : All (λ (piece : List ℕ). Done (asks.Append (temp_path head.objects number) piece)) pieces
   pub counted : CountsOther head.size (concat pieces) actual
 
--- What each error of a write says, where `Named id` says that the object gets this id, and `Counted actual` that there
--- were so many bytes of data, and not as many as were told: so many were appended. A file is renamed that was made, after the
--- directory of the object was made or was there.
+-- The cause of each error of a write. `Named id`: the object gets this id. `Counted actual`: there were `actual` bytes of data,
+-- which isn't the size, and that many were appended. A file that is renamed was made, and then the directory of the object was
+-- made or was there.
 abbrev pub WriteCause : WriteHead → (Named : ObjectId → Type 0) (Refuses Exists Done : DiskAsk → Type 0) (SourceFailed Wanting : Type 0) (Counted : ℕ → Type 0) → WriteError → Type 0
 WriteCause head Named Refuses Exists Done SourceFailed Wanting Counted (write_errors.Io message at) = (at ≡ head.objects) × IoCause head Refuses Exists Done SourceFailed message
 WriteCause head Named Refuses Exists Done SourceFailed Wanting Counted write_errors.IoRaw = (id : ObjectId) × Named id × Refuses (asks.MakeDir (prefix_path head.objects id))

@@ -23,7 +23,7 @@ unfoldable pub left_by : Option State → List Exchange → Option State
 left_by state [] = state
 left_by state (x ∷ xs) = left_by (state_told_after state x.ask x.answer) xs
 
--- what a disk answered is its tree's answer at that moment, unless the call failed or memory ran out
+-- the disk's answer is its tree's at that moment, unless the call failed or memory ran out
 abbrev pub IsGiven : Option State → Exchange → Type 0
 IsGiven state x = IfSome state (λ s. AnswersAsk x.answer (answer_of (tree_of s) x.ask))
 

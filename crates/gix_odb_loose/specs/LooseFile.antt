@@ -1,4 +1,4 @@
--- Loose files: where the file of an object lies, and what its bytes hold as answers of calls.
+-- Loose files: the path of an object's file, and what its bytes hold as answers of calls.
 use Rattle.std.specs.Prelude.{◌≡◌, ℕ, true, List, [], ◌∷◌, ◌++◌, length, take, drop, Option, Some, None, Result, Ok}
 use Rattle.odb_base.specs.Path.{Path}
 use Rattle.odb_nodes.specs.Tree.{Tree}
@@ -17,7 +17,7 @@ use Rattle.gix_odb_loose.specs.declared.call.LooseJob.TheVariants.{Contains, Fin
 unfoldable pub loose_path : Path → ObjectId → Path
 loose_path objects id = objects ++ take 2 (hex_of id) ∷ drop 2 (hex_of id) ∷ []
 
--- the id that a call is about: of a write, the one that was handed in, else the object's own
+-- the id that a write is about: the known one, else the object's own
 abbrev pub id_written : HashKind → Kind → List ℕ → Option ObjectId → ObjectId
 id_written hash kind bytes (Some id) = id
 id_written hash kind bytes None = object_id hash kind bytes
@@ -28,7 +28,7 @@ id_asked hash (Find id) = id
 id_asked hash (Header id) = id
 id_asked hash (Write kind size bytes id) = id_written hash kind bytes id
 
--- a call that only asks what is there
+-- a call that finds, tests or reads a header, and writes nothing
 abbrev pub IsFinding : LooseJob → Type 0
 IsFinding (Contains id) = Unit {0}
 IsFinding (Find id) = Unit {0}
@@ -39,7 +39,7 @@ IsFinding (Write kind size bytes id) = ⊥
 abbrev pub Reading : Type 0
 Reading = Result (List ℕ × ℕ) Refusal
 
--- a read gives a file, and something holds of its bytes
+-- a read gives a file, and its bytes have a property
 pub record Gives (read : Reading) (P : List ℕ → Type 0) : Type 0 where
   pub bytes : List ℕ
   pub time : ℕ
@@ -64,13 +64,13 @@ pub record HoldsHeader (bytes : List ℕ) (kind : Kind) (size : ℕ) : Type 0 wh
   pub rest : List ℕ
   pub spelled : IsLoose bytes kind size rest
 
--- what a call may be answered with
+-- what a call may answer
 pub data Answer : Type 0 where
   Object : (kind : Kind) (bytes : List ℕ) → Answer
   HeaderOf : (kind : Kind) (size : ℕ) → Answer
   Presence : Answer
 
--- The bytes of a loose file hold an answer of a call. Any file answers that the object is there.
+-- The bytes of a loose file hold an answer of a call. Any file answers a test of presence with yes.
 abbrev pub Holds : Option ℕ → LooseJob → List ℕ → Answer → Type 0
 Holds limit (Contains id) bytes Presence = Unit {0}
 Holds limit (Find id) bytes (Object kind found) = HoldsObject limit bytes kind found

@@ -1,4 +1,4 @@
--- The order of work of a call: which call of the disk comes next, and what is made of its answer.
+-- The order of work of a call: which call of the disk is next, and what its answer leads to.
 pub mod Answered
 use Rattle.std.specs.Prelude.{ℕ, true, List, length, Option, Some, None}
 use Rattle.odb_base.specs.Path.{Path}
@@ -33,21 +33,21 @@ use Rattle.gix_odb_loose.specs.declared.call.Stage.{Stage}
 use Rattle.gix_odb_loose.specs.declared.call.Stage.TheVariants as stages
 use Rattle.gix_odb_loose.specs.LooseOrder.Answered.{tested_by, found_by, header_by}
 
--- ---- what is wanted of the object of an id
+-- ---- what a caller wants of an object
 
--- the job of whoever wants it
+-- the job of a caller who wants this much
 abbrev pub job_of : Want → ObjectId → LooseJob
 job_of Object id = jobs.Find id
 job_of Header id = jobs.Header id
 job_of Presence id = jobs.Contains id
 
--- a test looks at the path, links followed; a find and a header read it
+-- a test stats the path, links followed; a find and a header look-up read it
 abbrev pub want_ask : Want → Path → DiskAsk
 want_ask Object path = asks.Read path
 want_ask Header path = asks.Read path
 want_ask Presence path = asks.Look path true
 
--- what is made of the answer
+-- the reply to the answer
 abbrev pub want_reply : Want → Path → Option ℕ → DiskAnswer → LooseReply
 want_reply Object path limit answer = replies.Found (found_by path limit answer)
 want_reply Header path limit answer = replies.Header (header_by path answer)
@@ -59,7 +59,7 @@ want_reply Presence path limit answer = replies.Contains (tested_by path answer)
 abbrev pub begun : Store → Kind → ℕ → List ℕ → Option ObjectId → WriteJob
 begun store kind size bytes id = write_of (write_head store kind size) (store_hash store) id bytes
 
--- a new call that only asks has its path
+-- a new call that only asks for an object has its path
 abbrev pub asking_of : Store → Want → ObjectId → Stage
 asking_of store want id = stages.Asking want (loose_path (store_path store) id) (store_limit store)
 
@@ -73,7 +73,7 @@ first_stage store (jobs.Write kind size bytes id) = stages.Writing (begun store 
 abbrev pub started : Store → LooseJob → LooseCall
 started store job = record { stage = first_stage store job }
 
--- the call of whoever wants so much of the object of an id
+-- the call of a caller who wants this much of the object with this id
 abbrev pub started_for : Store → Want → ObjectId → LooseCall
 started_for store want id = record { stage = asking_of store want id }
 
@@ -86,7 +86,7 @@ asked_at (stages.Done reply) = loose_asks.Done reply
 abbrev pub ask_of : LooseCall → LooseAsk
 ask_of call = asked_at call.stage
 
--- the same with the reply lent
+-- what is asked, with the reply borrowed
 abbrev pub asked_as : Next → LooseAsk
 asked_as (nexts.Disk ask) = loose_asks.Disk ask
 asked_as (nexts.Done reply) = loose_asks.Done reply.now
@@ -112,14 +112,14 @@ disk_ask_of call = stage_ask call.stage
 abbrev pub reply_of : LooseCall → Option LooseReply
 reply_of call = stage_reply call.stage
 
--- ---- what is made of an answer
+-- ---- after an answer
 
 -- a write goes on, or has its reply
 abbrev pub written_to : WriteJob → Advance → Stage
 written_to job (advances.Stage stage) = stages.Writing (record job { stage = stage })
 written_to job (advances.Reply answer) = stages.Done (replies.Wrote answer)
 
--- a finding call is done after its one answer, a write at its end; a call that is done stays as it is
+-- a finding call is done after its one answer, a write at its end; a call that is done stays unchanged
 abbrev pub next_stage : Stage → DiskAnswer → Stage
 next_stage (stages.Asking want path limit) answer = stages.Done (want_reply want path limit answer)
 next_stage (stages.Writing job) answer = written_to job (advance_by job answer)
@@ -128,7 +128,7 @@ next_stage (stages.Done reply) answer = stages.Done reply
 abbrev pub fed : LooseCall → DiskAnswer → LooseCall
 fed call answer = record { stage = next_stage call.stage answer }
 
--- how many calls of the disk are still to come
+-- how many calls of the disk are left
 abbrev pub asks_left : Stage → ℕ
 asks_left (stages.Asking want path limit) = 1
 asks_left (stages.Writing job) = writes_left (length job.bytes) (wants.Disk job.stage)
@@ -139,6 +139,6 @@ temporary_at (stages.Asking want path limit) = None
 temporary_at (stages.Writing job) = temporary_of job.head (number_made job.stage)
 temporary_at (stages.Done reply) = None
 
--- the temporary file of a write, where it was made
+-- the temporary file of a write, if it was made
 abbrev pub temporary_in : LooseCall → Option Path
 temporary_in call = temporary_at call.stage

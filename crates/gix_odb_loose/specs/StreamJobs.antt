@@ -1,4 +1,4 @@
--- A write from a source on its way, turn by turn. No public clause cites this.
+-- A write from a source in progress, turn by turn. No public clause cites this.
 pub mod Reads
 pub mod Progress
 pub mod AtStage
@@ -26,11 +26,11 @@ use Rattle.gix_odb_loose.specs.StreamJobs.Standing.{StandsAt, StandsBefore, Wait
 abbrev pub IsUnderway : Begun → Option State → ℕ → List Exchange → Option (List ℕ) → ℕ → StreamJob → Type 0
 IsUnderway w state now past rest source_now job = StandsAt w state now past rest source_now job job.stage
 
--- one that memory ran out of
+-- a write that ran out of memory
 abbrev pub IsBroken : Begun → Option State → ℕ → List Exchange → Option (List ℕ) → ℕ → StreamJob → Type 0
 IsBroken w state now past rest source_now job = BreaksAt w state now past rest source_now job job.stage
 
--- what one turn comes to: the write goes on, ends, or wants memory
+-- after one turn: the write goes on, ends, or ran out of memory
 abbrev pub TurnsTo : {E : Type 0} → Begun → Option State → ℕ → List Exchange → Option (List ℕ) → ℕ → StreamJob → Result (Option (Result ObjectId Refusal)) E → Type 0
 TurnsTo w state now past rest source_now job (Ok None) = IsUnderway w state now past rest source_now job
 TurnsTo w state now past rest source_now job (Ok (Some end)) = IsAtItsEnd w state now past rest source_now end
@@ -46,25 +46,25 @@ AnsweredTo w state now past rest source_now job (wants.Disk stage) = StandsBefor
 AnsweredTo w state now past rest source_now job (wants.Data number written) = WaitsAt w state now past rest source_now job number written
 AnsweredTo w state now past rest source_now job (wants.Done end) = (job.head ≡ w.head) × IsAtItsEnd w state now past rest source_now end
 
--- what one call of the disk comes to: its answer led on, or memory ran out before it
+-- after one call of the disk: its answer led on, or memory ran out before it
 abbrev pub AsksTo : {E : Type 0} → Begun → Option State → ℕ → List Exchange → Option (List ℕ) → ℕ → StreamJob → Result WriteAsk E → Type 0
 AsksTo w state now past rest source_now job (Ok wanted) = AnsweredTo w state now past rest source_now job wanted
 AsksTo w state now past rest source_now job (Err error) = IsBroken w state now past rest source_now job
 
--- some exchanges are all calls that were made since a first disk, and it stands so by them
+-- the exchanges are all calls made since a first disk, and have the property `Stands`
 abbrev pub Since : {D : Type 0} → (answered : D → DiskAsk → DiskAnswer → D → Type 0) (first now : D) → (Stands : List Exchange → Type 0) → Type 0
 Since answered first now Stands = (past : List Exchange) × AreAllCalls answered past first now × Stands past
 
--- some write is underway
+-- some write is in progress
 abbrev pub IsSomeUnderway : {D : Type 0} → (answered : D → DiskAsk → DiskAnswer → D → Type 0) → D → Option State → ℕ → Option (List ℕ) → ℕ → StreamJob → Type 0
 IsSomeUnderway {D} answered disk state now rest source_now job = (w : Begun) × (first : D) × Since answered first disk (λ past. IsUnderway w state now past rest source_now job)
 
--- what all turns come to: the end, or want of memory
+-- after all turns: the end, or memory ran out
 abbrev pub RunsTo : {E : Type 0} → Begun → Option State → ℕ → List Exchange → Option (List ℕ) → ℕ → Result (Result ObjectId Refusal) E → Type 0
 RunsTo w state now past rest source_now (Ok end) = IsAtItsEnd w state now past rest source_now end
 RunsTo w state now past rest source_now (Err error) = IsBrokenOff w state now past rest source_now
 
--- what a write answers that ended so: its reply, or that there was no memory to tell why it was refused
+-- the result of a write with this end: its reply, or that memory ran out for its error
 abbrev pub IsToldBy : WriteHead → Result ObjectId Refusal → Result ObjectId Error → Type 0
 IsToldBy head (Ok id) result = result ≡ Ok id
 IsToldBy head (Err refusal) result = (result ≡ Err (error_from head refusal)) ⊎ (result ≡ Err errors.NoMemory)

@@ -1,4 +1,4 @@
--- Which calls of the disk a write of these data makes, by the answers that it is given: the same from a source as at hand.
+-- Which calls of the disk a write of these data makes, by the answers that it gets: the same from a source as from memory.
 use Rattle.std.specs.Prelude.{◌≡◌, ◌⊎◌, ℕ, List, [], ◌∷◌, ◌++◌, map, Option, Result, Err}
 use Rattle.odb_asks.specs.declared.ask.DiskAsk.{DiskAsk}
 use Rattle.odb_asks.specs.declared.ask.DiskAnswer.{DiskAnswer}
@@ -29,7 +29,7 @@ write_of head hash known bytes = record { head = head; stage = stages.Making 0; 
 
 -- ---- by the answers
 
--- the next call of a write, where it goes on
+-- the next call of a write, if it goes on
 abbrev pub next_asks : WriteJob → Onward → List DiskAsk
 next_asks job (Stage stage) = ask_in (record job { stage = stage }) ∷ []
 next_asks job (End end) = []
@@ -39,12 +39,12 @@ abbrev pub onward_by : WriteJob → Onward → DiskAnswer → Onward
 onward_by job (Stage stage) answer = next_in (record job { stage = stage }) answer
 onward_by job (End end) answer = End end
 
--- what answers lead to, one after another
+-- what a list of answers leads to
 unfoldable pub onward_along : WriteJob → Onward → List DiskAnswer → Onward
 onward_along job onward [] = onward
 onward_along job onward (answer ∷ given) = onward_along job (onward_by job onward answer) given
 
--- the calls of the disk that were answered so
+-- the calls of the disk with these answers
 unfoldable pub asks_along : WriteJob → Onward → List DiskAnswer → List DiskAsk
 asks_along job onward [] = []
 asks_along job onward (answer ∷ given) = next_asks job onward ++ asks_along job (onward_by job onward answer) given
@@ -63,21 +63,21 @@ pub record IsAlong (job : WriteJob) (onward : Onward) (past : List Exchange) : T
   pub asked : asks_in past ≡ asks_along job (Stage job.stage) (answers_in past)
 
 -- The exchanges of a write that was broken off: its answers led it to a stage, and then the temporary file was asked to be
--- removed, where it had made one.
+-- removed, if it had made one.
 pub record IsCutOff (job : WriteJob) (past : List Exchange) : Type 0 where
   pub stage : WriteStage
   pub before : List Exchange
   pub along : IsAlong job (Stage stage) before
   pub removed : IsRemovedAfter job.head (number_made stage) before past
 
--- The exchanges of a write with this result: they lead it to its end, or it was broken off, where the source of its data
--- failed or memory ran out. Memory may run out too for the paths that an error tells.
+-- The exchanges of a write with this result: they lead to its end, or it was broken off because the source of its data failed
+-- or memory ran out. Memory may also run out for the paths of an error.
 abbrev pub RunsAlong : WriteJob → (SourceFailed : Type 0) → List Exchange → Result ObjectId Error → Type 0
 RunsAlong job SourceFailed past result =
     ((end : Result ObjectId Refusal) × IsAlong job (End end) past × ((result ≡ wrote_by job.head end) ⊎ (result ≡ Err errors.NoMemory)))
     ⊎ (IsCutOff job past × ((SourceFailed × (result ≡ Err (errors.Io messages.StreamData job.head.objects))) ⊎ (result ≡ Err errors.NoMemory)))
 
--- ---- of a call that has its data at hand
+-- ---- a call with its data in memory
 
 abbrev pub IsReplyAlong : WriteJob → LooseReply → List Exchange → Type 0
 IsReplyAlong job (replies.Wrote result) past = (end : Result ObjectId Refusal) × (result ≡ wrote_by job.head end) × IsAlong job (End end) past

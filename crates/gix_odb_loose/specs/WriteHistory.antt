@@ -1,4 +1,4 @@
--- What a write has asked of its disk, and was answered, when it stands at a stage, and when it ends.
+-- The asks of a write and their answers, at a stage and at its end.
 pub mod WentWell
 pub mod Refused
 use Rattle.std.specs.Prelude.{◌≡◌, ◌⊎◌, ℕ, ◌<◌, List, [], ◌∷◌, ◌++◌, length, Option, Some, None, Result, Ok, Err}
@@ -24,7 +24,7 @@ use Rattle.gix_odb_loose.specs.WriteHistory.Refused.{IsRefused}
 
 -- ---- by the stage
 
--- The exchanges of a write that goes well, and the data that they appended, when it stands at a stage.
+-- The exchanges of a write that goes well, and the data that they appended, at a stage.
 abbrev pub GoesWell : WriteHead → (Named : ObjectId → Type 0) (appended : List ℕ) → WriteStage → List Exchange → Type 0
 GoesWell head Named appended (stages.Making number) past = (number < temp_names) × (appended ≡ []) × (past ≡ tried head number)
 GoesWell head Named appended (stages.Heading number) past = (appended ≡ []) × (past ≡ made head number) × (number < temp_names)
@@ -33,7 +33,7 @@ GoesWell head Named appended (stages.Foldering number id) past = (length appende
 GoesWell head Named appended (stages.Moving number id) past = (length appended ≡ head.size) × Named id × IsFoldered head number id appended past
 GoesWell head Named appended (stages.Removing number refusal) past = ⊥
 
--- all went well up to a stage, and then the ask of this stage was answered so
+-- all went well up to a stage, and then the ask of this stage got such an answer
 pub record IsAnswered (head : WriteHead) (Named : ObjectId → Type 0) (So : DiskAsk → DiskAnswer → Type 0) (stage : WriteStage) (past : List Exchange) : Type 0 where
   pub appended : List ℕ
   pub before : List Exchange
@@ -43,13 +43,12 @@ pub record IsAnswered (head : WriteHead) (Named : ObjectId → Type 0) (So : Dis
   pub so : So (write_ask head piece stage) answer
   pub is : past ≡ before ++ exchanged (write_ask head piece stage) answer ∷ []
 
--- the disk had no memory for an ask
+-- the disk ran out of memory for an ask
 abbrev pub Wants : DiskAsk → DiskAnswer → Type 0
 Wants ask answer = answer ≡ answers.Refused disk_errors.NoMemory
 
 -- The exchanges of a write that made its temporary file and then was refused, before the file is removed: its last ask was
--- refused, or the source failed, or the data had another length than was told, which is that of the appended ones. All
--- before went well.
+-- refused, or the source failed, or the data had another length than expected, that of the appended ones. All before went well.
 abbrev pub IsStopped : WriteHead → (Named : ObjectId → Type 0) (SourceFailed : Type 0) (Counted : ℕ → Type 0) (number : ℕ) → Refusal → List Exchange → Type 0
 IsStopped head Named SourceFailed Counted number (refusals.Io messages.CreateTempFile) past = ⊥
 IsStopped head Named SourceFailed Counted number (refusals.Io messages.WriteHeader) past = IsAnswered head Named IsRefused (stages.Heading number) past
@@ -61,7 +60,7 @@ IsStopped head Named SourceFailed Counted number (refusals.SizeMismatch actual) 
     Counted actual × ((appended : List ℕ) × IsFilled head number appended past × CountsOther head.size appended actual)
 IsStopped head Named SourceFailed Counted number refusals.NoMemory past = (stage : WriteStage) × (number_made stage ≡ Some number) × IsAnswered head Named Wants stage past
 
--- The exchanges of a write, and the data that they appended, when it stands at a stage: all went well, or it was refused.
+-- The exchanges of a write, and the data that they appended, at a stage: all went well, or it was refused.
 abbrev pub IsHistory : WriteHead → (Named : ObjectId → Type 0) (SourceFailed : Type 0) (Counted : ℕ → Type 0) (appended : List ℕ) → WriteStage → List Exchange → Type 0
 IsHistory head Named SourceFailed Counted appended (stages.Removing number refusal) past = IsStopped head Named SourceFailed Counted number refusal past
 IsHistory head Named SourceFailed Counted appended stage past = GoesWell head Named appended stage past
@@ -74,7 +73,7 @@ IsUnmade head Named (refusals.Io messages.CreateTempFile) past = (past ≡ tried
 IsUnmade head Named refusals.NoMemory past = (number : ℕ) × IsAnswered head Named Wants (stages.Making number) past
 IsUnmade head Named refusal past = ⊥
 
--- some exchanges, and then the temporary file was asked to be removed, where one was made
+-- some exchanges, and then the temporary file was asked to be removed, if one was made
 abbrev pub IsRemovedAfter : WriteHead → (made : Option ℕ) → List Exchange → List Exchange → Type 0
 IsRemovedAfter head None before past = past ≡ before
 IsRemovedAfter head (Some number) before past = (answer : DiskAnswer) × (past ≡ before ++ exchanged (asks.Remove (temp_path head.objects number)) answer ∷ [])
@@ -84,7 +83,7 @@ abbrev pub IsRefusedRun : WriteHead → (Named : ObjectId → Type 0) (SourceFai
 IsRefusedRun head Named SourceFailed Counted refusal past =
     IsUnmade head Named refusal past ⊎ ((number : ℕ) × (before : List Exchange) × IsStopped head Named SourceFailed Counted number refusal before × IsRemovedAfter head (Some number) before past)
 
--- the exchanges of a write that memory ran out of between two asks: the file that it made was asked to be removed last
+-- the exchanges of a write that ran out of memory between two asks: the file that it made was asked to be removed last
 pub record IsBrokenRun (head : WriteHead) (Named : ObjectId → Type 0) (SourceFailed : Type 0) (Counted : ℕ → Type 0) (past : List Exchange) : Type 0 where
   pub stage : WriteStage
   pub appended : List ℕ

@@ -1,4 +1,4 @@
--- A write whose data are all at hand: which piece comes next, and when the end is told; how many calls of the disk are left.
+-- A write with its data in memory: the next piece, the end of the data, and how many calls of the disk are left.
 use Rattle.std.specs.Prelude.{ℕ, ◌+◌, ◌-◌, ◌/◌, nat_le, List, [], length, take, drop, Option, Some, None, if◌then◌else◌}
 use Rattle.odb_asks.specs.declared.ask.DiskAsk.{DiskAsk}
 use Rattle.odb_asks.specs.declared.ask.DiskAnswer.{DiskAnswer}
@@ -16,7 +16,7 @@ use Rattle.gix_odb_loose.specs.declared.write_at_hand.Advance.{Advance}
 use Rattle.gix_odb_loose.specs.declared.write_at_hand.Advance.TheVariants as advances
 use Rattle.gix_odb_loose.specs.declared.write_at_hand.WriteJob.{WriteJob}
 
--- the piece that stands behind so many bytes
+-- the piece after `written` bytes
 abbrev pub piece_at : ℕ → List ℕ → ℕ → List ℕ
 piece_at size bytes written = take (room_behind size written) (drop written bytes)
 
@@ -32,7 +32,7 @@ piece_in job = piece_of job.head.size job.bytes (written_in job.stage)
 abbrev pub name_of : WriteJob → ObjectId
 name_of job = name_for job.known job.hash job.head job.bytes
 
--- where data are asked for, the next piece is to be appended, and the end of the data is told as soon as none are left
+-- where data are asked for, the next piece is to be appended, or the data have ended if none are left
 abbrev pub supplied_with : WriteJob → (number written : ℕ) → WriteStage
 supplied_with job number written =
     if nat_le (length job.bytes) written then ended_with job.head.size (name_of job) number written else stages.Filling number written
@@ -55,16 +55,16 @@ advance_to job (End end) = advances.Reply (wrote_by job.head end)
 abbrev pub advance_by : WriteJob → DiskAnswer → Advance
 advance_by job answer = advance_to job (next_in job answer)
 
--- how many pieces so many bytes take: one for each that is begun
+-- how many pieces this many bytes take: the last may be shorter
 abbrev pub pieces_of : ℕ → ℕ
 pieces_of len = (len + (piece_size - 1)) / piece_size
 
--- where the next piece comes behind so many bytes: a call for each piece, and those of the end
+-- the calls that are left after `written` bytes: one for each piece, and those of the end
 abbrev pub pieces_left : (most written : ℕ) → ℕ
 pieces_left most written = 4 + pieces_of (most - written)
 
--- How many calls of the disk are still to come, at most, where so many bytes of data can come in all: all pieces but the last
--- are whole. The one measure of a write, by what it asks for next; the asking for data is no call of the disk.
+-- How many calls of the disk are left, at most, where there can be `most` bytes of data in all: all pieces but the last are
+-- whole. The one measure of a write, by what it asks for next; asking for data is no call of the disk.
 abbrev pub writes_left : (most : ℕ) → WriteAsk → ℕ
 writes_left most (wants.Disk (stages.Making number)) = 6 + pieces_of most + (temp_names - number)
 writes_left most (wants.Disk (stages.Heading number)) = 5 + pieces_of most
@@ -75,7 +75,7 @@ writes_left most (wants.Disk (stages.Removing number refusal)) = 1
 writes_left most (wants.Data number written) = pieces_left most written
 writes_left most (wants.Done end) = 0
 
--- what a write asks for next that has its data at hand, by what an answer led to
+-- what a write with its data in memory asks for next, by what an answer led to
 abbrev pub onward_ask : Onward → WriteAsk
 onward_ask (Stage stage) = wants.Disk stage
 onward_ask (End end) = wants.Done end

@@ -13,7 +13,7 @@ abbrev pub name_for : Option ObjectId → HashKind → WriteHead → List ℕ �
 name_for (Some id) hash head bytes = id
 name_for None hash head bytes = hash_of hash (header_of head.kind head.size ++ bytes)
 
--- a naming has taken in this data, and has told no id yet
+-- a naming of exactly these data, before it returns an id
 abbrev pub Names : Option ObjectId → HashKind → WriteHead → List ℕ → Option Naming → Type 0
 Names (Some known) hash head bytes (Some (Known id)) = id ≡ known
 Names None hash head bytes (Some (Hashing hasher)) = HasTaken hasher (header_of head.kind head.size ++ bytes) × (hasher_kind hasher ≡ hash)

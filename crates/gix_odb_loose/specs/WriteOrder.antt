@@ -23,17 +23,17 @@ use Rattle.gix_odb_loose.specs.declared.write_order.WriteHead.{WriteHead}
 use Rattle.gix_odb_loose.specs.declared.write_order.WriteStage.{WriteStage}
 use Rattle.gix_odb_loose.specs.declared.write_order.WriteStage.TheVariants as stages
 
--- the words of an error's message
+-- the text of an error's message
 abbrev pub message_text : Message → List ℕ
 message_text messages.CreateTempFile = codes "create named temp file in"
 message_text messages.WriteHeader = codes "write header to tempfile in"
 message_text messages.StreamData = codes "stream all data into tempfile in"
 
--- the directory that an object's file lies in: the first two hex digits of the id
+-- the directory of an object's file: the first two hex digits of the id
 unfoldable pub prefix_path : Path → ObjectId → Path
 prefix_path objects id = objects ++ take 2 (hex_of id) ∷ []
 
--- how many temporary names are tried: enough for the writes of one time, and a write ends soon where all are taken
+-- how many temporary names are tried: enough for concurrent writes, and a write ends soon where all are taken
 abbrev pub temp_names : ℕ
 temp_names = 16
 
@@ -44,7 +44,7 @@ temp_name number = codes "tmp_obj_" ++ decimal number
 unfoldable pub temp_path : Path → ℕ → Path
 temp_path objects number = objects ++ temp_name number ∷ []
 
--- The next call of the disk of a stage. `piece` is the next piece of the data.
+-- The next call of the disk at a stage. `piece` is the next piece of the data.
 abbrev pub write_ask : WriteHead → List ℕ → WriteStage → DiskAsk
 write_ask head piece (stages.Making number) = asks.NewFile (temp_path head.objects number)
 write_ask head piece (stages.Heading number) = asks.Append (temp_path head.objects number) (header_of head.kind head.size)
@@ -53,7 +53,7 @@ write_ask head piece (stages.Foldering number id) = asks.MakeDir (prefix_path he
 write_ask head piece (stages.Moving number id) = asks.Rename (temp_path head.objects number) (loose_path head.objects id)
 write_ask head piece (stages.Removing number refusal) = asks.Remove (temp_path head.objects number)
 
--- how many bytes of data stand in the temporary file, where a piece is to be appended
+-- how many bytes of data are in the temporary file, where a piece is to be appended
 abbrev pub written_in : WriteStage → Option ℕ
 written_in (stages.Filling number written) = Some written
 written_in stage = None
@@ -67,7 +67,7 @@ number_in (stages.Foldering number id) = number
 number_in (stages.Moving number id) = number
 number_in (stages.Removing number refusal) = number
 
--- the same, where the file was made
+-- the number of the temporary file, if it was made
 abbrev pub number_made : WriteStage → Option ℕ
 number_made (stages.Making number) = None
 number_made stage = Some (number_in stage)
@@ -76,9 +76,9 @@ abbrev pub temporary_of : WriteHead → Option ℕ → Option Path
 temporary_of head None = None
 temporary_of head (Some number) = Some (temp_path head.objects number)
 
--- ---- what is made of an answer
+-- ---- after an answer
 
--- want of memory is passed on, and each other refusal is this one
+-- running out of memory is passed on, and each other refusal is this one
 abbrev pub refused_by : Refusal → DiskAnswer → Refusal
 refused_by refusal (answers.Refused disk_errors.NoMemory) = refusals.NoMemory
 refused_by refusal answer = refusal
@@ -94,7 +94,7 @@ abbrev pub headed_by : ℕ → DiskAnswer → WriteAsk
 headed_by number answers.Done = wants.Data number 0
 headed_by number answer = wants.Disk (stages.Removing number (refused_by (refusals.Io messages.WriteHeader) answer))
 
--- how many bytes there are after a piece; a count of 64 bits stands still at the greatest
+-- how many bytes there are after a piece; a count of 64 bits stays at the greatest
 abbrev pub grown : ℕ → ℕ → ℕ
 grown written piece = min (written + piece) (2 ^ 64 - 1)
 
@@ -114,7 +114,7 @@ abbrev pub moved_by : ℕ → ObjectId → DiskAnswer → WriteAsk
 moved_by number id answers.Done = wants.Done (Ok id)
 moved_by number id answer = wants.Disk (stages.Removing number (refused_by (refusals.Persist id) answer))
 
--- What comes after an answer. Whatever the removal is answered, the write ends as it was refused.
+-- What follows an answer. Whatever the answer to the removal, the write ends with its refusal.
 abbrev pub next_write : (size piece : ℕ) → WriteStage → DiskAnswer → WriteAsk
 next_write size piece (stages.Making number) answer = made_by number answer
 next_write size piece (stages.Heading number) answer = headed_by number answer
@@ -123,7 +123,7 @@ next_write size piece (stages.Foldering number id) answer = foldered_by number i
 next_write size piece (stages.Moving number id) answer = moved_by number id answer
 next_write size piece (stages.Removing number refusal) answer = wants.Done (Err refusal)
 
--- the stage after the end of the data, which have this id, where so many bytes were appended
+-- the stage after the end of the data, which have this id, where `written` bytes were appended
 abbrev pub ended_with : ℕ → ObjectId → (number written : ℕ) → WriteStage
 ended_with size id number written = if written == size then stages.Foldering number id else stages.Removing number (refusals.SizeMismatch written)
 

@@ -1,4 +1,4 @@
--- What a write calls of its own, and what it leaves.
+-- Which calls are a write's own, and what it leaves.
 use Rattle.std.specs.Prelude.{◌≡◌, ◌⊎◌, ℕ, ◌<◌, List, [], ◌∷◌, ◌++◌, All, Some, None}
 use Rattle.odb_asks.specs.declared.ask.DiskAsk.{DiskAsk}
 use Rattle.odb_asks.specs.declared.ask.DiskAsk.TheVariants as asks
@@ -25,7 +25,7 @@ LeavesNothing head past = MadeOnly None past ⊎ IsCleared head past
 
 -- ---- what is a write's own
 
--- The calls of a write's own, whose temporary file has this number: the making of a temporary file, appends to its file, the
+-- The calls of a write whose temporary file has this number: the creation of a temporary file, appends to its file, the
 -- directory of its object, the rename to the object's path, and the removal of its file. It makes no others.
 abbrev pub IsOwn : WriteHead → (Named : ObjectId → Type 0) (number : ℕ) → DiskAsk → Type 0
 IsOwn head Named number (asks.NewFile path) = (one : ℕ) × (one < temp_names) × (path ≡ temp_path head.objects one)

@@ -1,15 +1,15 @@
--- The pieces that the data of an object are appended in.
+-- The pieces in which the data of an object are appended.
 use Rattle.std.specs.Prelude.{◌≡◌, ℕ, ◌+◌, ◌-◌, ◌*◌, ◌≤◌, nat_lt, min, List, [], ◌∷◌, ◌++◌, length, All, if◌then◌else◌}
 
 -- The most bytes of one append. Each piece is held in memory whole, and each costs a call of the disk.
 abbrev pub piece_size : ℕ
 piece_size = 65536
 
--- the most bytes of a piece behind `written` bytes: one byte above the size is taken, and shows that there are too many
+-- the most bytes of a piece after `written` bytes: one more than the size is taken, to see that there are too many
 abbrev pub room_behind : ℕ → ℕ → ℕ
 room_behind size written = if nat_lt written size then min piece_size (size - written + 1) else 1
 
--- so many bytes are whole pieces
+-- this many bytes are whole pieces
 abbrev pub IsInPieces : ℕ → Type 0
 IsInPieces len = (count : ℕ) × (len ≡ piece_size * count)
 

@@ -1,4 +1,4 @@
--- What one write of a store does to its disk, and why it ends so.
+-- What one write of a store does to its disk, and why it ended as it did.
 pub mod ReadBack
 pub mod RefusedAsks
 use Rattle.std.specs.Prelude.{◌≡◌, ◌⊎◌, ⊤, ℕ, ◌<◌, List, length, Option, Some, Result, Ok, Err, IfSome}
@@ -31,24 +31,24 @@ use Rattle.gix_odb_loose.specs.declared.write_order.Refusal.{Refusal}
 use Rattle.gix_odb_loose.specs.declared.write_order.WriteHead.{WriteHead}
 use Rattle.gix_odb_loose.specs.WriteRuns.RefusedAsks.{Refuses, FoundThere}
 
--- what a write into a store is about
+-- the head of a write into a store
 abbrev pub write_head : Store → Kind → ℕ → WriteHead
 write_head store kind size = record { objects = store_path store; kind = kind; size = size }
 
--- The exchanges of a write that was refused by this error: all went well up to an ask that was refused, or up to the end or
--- a failure of the source, and then the file that was made was asked to be removed. Memory may run out at any time, also
--- for the paths that an error tells.
+-- The exchanges of a write that was refused with this error: all went well up to an ask that was refused, or up to the end or a
+-- failure of the source, and then the file that was made was asked to be removed. Memory may run out at any time, also for the
+-- paths of an error.
 abbrev pub IsRefusedWrite : WriteHead → (Named : ObjectId → Type 0) (SourceFailed : Type 0) (Counted : ℕ → Type 0) → List Exchange → Error → Type 0
 IsRefusedWrite head Named SourceFailed Counted exchanges error =
     ((refusal : Refusal) × IsRefusedRun head Named SourceFailed Counted refusal exchanges × ((error ≡ error_from head refusal) ⊎ (error ≡ errors.NoMemory))) ⊎
     (IsBrokenRun head Named SourceFailed Counted exchanges × (error ≡ errors.NoMemory))
 
--- the object gets this id, where the source tells its data
+-- the object gets this id, where the source reports its data
 abbrev pub NamedFrom : WriteHead → HashKind → (known : Option ObjectId) → Option (List ℕ) → ObjectId → Type 0
 NamedFrom head hash known source id = IfSome source (λ bytes. id ≡ name_for known hash head bytes)
 
--- The last exchange gave the temporary file the name of the object, after the header and all data were appended to it.
--- There are as many data as were told, and the id is the known one, or that of header and data.
+-- The last exchange renamed the temporary file to the object's name, after the header and all data were appended to it. There
+-- are as many data as the size says, and the id is the known one, or that of header and data.
 pub record Writes (head : WriteHead) (hash : HashKind) (known : Option ObjectId) (source : Option (List ℕ)) (state new : Option State) (exchanges : List Exchange) (id : ObjectId) : Type 0 where
   pub bytes : List ℕ
   pub number : ℕ
@@ -57,10 +57,10 @@ pub record Writes (head : WriteHead) (hash : HashKind) (known : Option ObjectId)
   pub size : length bytes ≡ head.size
   pub name : id ≡ name_for known hash head bytes
   pub whole : IfSome source (λ all. all ≡ bytes)
-  -- where the disk tells its states, the object's path reads as the header and the data
+  -- where the disk reports its states, the object's path reads as the header and the data
   pub read_back : IfSome state (λ _. ReadsBack head number id bytes (left_by state moved.before) new)
 
--- A read of the source failed behind what was appended, and the removal of the temporary file was asked next.
+-- A read of the source failed after what was appended, and the removal of the temporary file was asked next.
 abbrev pub IsStoppedBySource : WriteHead → List Exchange → Result ObjectId Error → Type 0
 IsStoppedBySource head exchanges result = IsFailedRead head exchanges × ((result ≡ Err (errors.Io messages.StreamData head.objects)) ⊎ (result ≡ Err errors.NoMemory))
 
@@ -68,9 +68,9 @@ IsStoppedBySource head exchanges result = IsFailedRead head exchanges × ((resul
 
 -- where the data of a write come from
 pub data Content : Type 0 where
-  -- these bytes are at hand, and no read of them fails
+  -- these bytes are in memory, and no read of them fails
   AtHand : (bytes : List ℕ) → Content
-  -- a source has them left, where it tells that, and these are its counts of faults before the write and after it
+  -- a source has `left` left, if it reports that; its counts of faults before the write and after it
   Streamed : (left : Option (List ℕ)) (before now : ℕ) → Content
 
 abbrev pub bytes_told : Content → Option (List ℕ)
@@ -82,17 +82,17 @@ abbrev pub HasFailed : Content → Type 0
 HasFailed (AtHand bytes) = ⊥
 HasFailed (Streamed left before now) = Rose before now
 
--- the source's count of faults is as it was
+-- the source's count of faults is unchanged
 abbrev pub HasNotFailed : Content → Type 0
 HasNotFailed (AtHand bytes) = ⊤
 HasNotFailed (Streamed left before now) = now ≡ before
 
--- what a source had left before a write, where it tells that, and its counts of faults
+-- what a source had left before a write, if it reports that, and its counts of faults
 abbrev pub streamed : {S : Type 0} → (left : S → Option (List ℕ)) (faults : S → ℕ) (before now : S) → Content
 streamed left faults before now = Streamed (left before) (faults before) (faults now)
 
--- the state of a disk before a write and after, where it tells that, and its counts of faults; and which exchanges are all
--- calls that were made of it in between
+-- the state of a disk before a write and after, if it reports that, and its counts of faults; and which exchanges are all calls
+-- that were made of it in between
 pub record DiskSeen : Type 1 where
   pub state : Option State
   pub state_now : Option State
@@ -110,7 +110,7 @@ disk_seen state faults answered before now =
       AreCalls = λ exchanges. AreAllCalls answered exchanges before now;
     }
 
--- a write that was made: what it was given, what it left of the disk, and what it answered
+-- a write that was made: what it was given, what it did to the disk, and its result
 pub record Write : Type 1 where
   pub head : WriteHead
   pub hash : HashKind
@@ -120,36 +120,36 @@ pub record Write : Type 1 where
   pub disk : DiskSeen
   pub answer : Result ObjectId Error
 
--- a write of this kind and size into a store, by where its data come from, what it left of the disk, and what it answered
+-- a write of this kind and size into a store, by where its data come from, what it did to the disk, and its result
 abbrev pub write_into : Store → Kind → (size : ℕ) (known : Option ObjectId) → Content → DiskSeen → Result ObjectId Error → Write
 write_into store kind size known content disk answer = record { head = write_head store kind size; hash = store_hash store; known = known; content = content; disk = disk; answer = answer }
 
--- the object gets this id, where its data are told
+-- the object gets this id, if its data are known
 abbrev pub GetsName : Write → ObjectId → Type 0
 GetsName w id = NamedFrom w.head w.hash w.known (bytes_told w.content) id
 
--- What a write does to its disk, and why it ends so.
+-- What a write does to its disk, and why it ended as it did.
 pub record WriteRuns (w : Write) : Type 0 where
-  -- the calls of the disk that it made, all of them, and what they were answered and left
+  -- the calls of the disk that it made, all of them, with their answers and the states after them
   pub exchanges : List Exchange
   pub made : w.disk.AreCalls exchanges
   pub given : AreGiven w.disk.state exchanges
   pub left : w.disk.state_now ≡ left_by w.disk.state exchanges
   -- each is one of the write's own
   pub own : AreOwn w.head (GetsName w) exchanges
-  -- and they are those of a write that has the same data at hand, where they are told: each is the one that the answers
-  -- before it led to, up to the end, or to where the source failed or memory ran out
+  -- and they are those of a write with the same data in memory, if they are known: each is the one that the answers before it
+  -- led to, up to the end, or to where the source failed or memory ran out
   pub asks : (bytes : List ℕ) → bytes_told w.content ≡ Some bytes → RunsAlong (write_of w.head w.hash w.known bytes) (HasFailed w.content) exchanges w.answer
   -- no read of the source failed; or one did, and the removal of the temporary file was asked next
   pub spared : HasNotFailed w.content ⊎ IsStoppedBySource w.head exchanges w.answer
-  -- an object that was written got its name last
+  -- if an object was written, the rename to its name was the last step
   pub wrote : (id : ObjectId) → w.answer ≡ Ok id → Writes w.head w.hash w.known (bytes_told w.content) w.disk.state w.disk.state_now exchanges id
-  -- a refused write went well up to what refused it, and removed last the temporary file that it made
+  -- a refused write went well up to what refused it, and then removed the temporary file that it made
   pub stopped : (error : Error) → w.answer ≡ Err error → IsRefusedWrite w.head (GetsName w) (HasFailed w.content) (OtherLength (bytes_told w.content) w.head.size) exchanges error
-  -- so it made no name of an object, and left no file but one whose removal was refused too
+  -- so it made no name of an object, and left no file unless its removal was refused too
   pub unnamed : (error : Error) → w.answer ≡ Err error → RenamedNothing exchanges
   pub cleared : (error : Error) → w.answer ≡ Err error → LeavesNothing w.head exchanges
-  -- where no temporary file could be made, the disk is as it was
+  -- if no temporary file could be made, the disk is unchanged
   pub untouched : (at : Path) → w.answer ≡ Err (errors.Io messages.CreateTempFile at) → w.disk.state_now ≡ w.disk.state
   -- and it has its cause
   pub refused : (error : Error) → w.answer ≡ Err error

@@ -1,4 +1,4 @@
-//! A call of a store as a machine: it names a call of the disk, is fed the answer, and comes to a reply.
+//! A call of a store as a machine: it asks for a call of the disk, takes the answer, and ends with a reply.
 ghost use Rattle.std.specs.Prelude.{◌≡◌, true, None, Some, IfOk, MatchResult};
 ghost use Rattle.gix_hash.specs.ObjectId.{kind_of};
 ghost use Rattle.gix_odb_loose.specs.Store.{store_hash};
@@ -22,7 +22,7 @@ pub enum LooseJob {
     Contains(ObjectId),
     Find(ObjectId),
     Header(ObjectId),
-    /// An object is to be written, which is to have `size` bytes, under the id where it is known to have one.
+    /// An object is to be written: `size` bytes of data, under this id if it is known.
     Write {
         kind: Kind,
         size: u64,
@@ -39,7 +39,7 @@ pub enum LooseAsk {
     Done(LooseReply),
 }
 
-/// What a call comes to.
+/// The result of a call.
 #[derive(Debug, Drop)]
 pub enum LooseReply {
     Contains(Result<bool, find::Error>),
@@ -48,10 +48,10 @@ pub enum LooseReply {
     Wrote(Result<ObjectId, write::Error>),
 }
 
-/// Where a call stands.
+/// The stage of a call.
 #[derive(Drop)]
 pub enum Stage {
-    /// The path is to be looked at for whether the object is there, and to be read for its data or its header.
+    /// The path is to be statted for a test of presence, or read for the data or the header.
     Asking {
         want: Want,
         path: PathText,
@@ -62,16 +62,16 @@ pub enum Stage {
     Done(LooseReply),
 }
 
-/// What a call does next, with its reply lent.
+/// What a call does next, with its reply borrowed.
 #[derive(Drop)]
 pub enum Next<'a> {
     Disk(DiskAsk),
     Done(&'a LooseReply),
 }
 
-/// A call of a store on its way.
+/// A call of a store in progress.
 ///
-/// `ask` names the next call of the disk, `feed` takes its answer, and so on until the call is done. The path of
+/// `ask` returns the next call of the disk, `feed` takes its answer, and so on until the call is done. The path of
 /// the object is made at the start.
 #[derive(Drop)]
 pub struct LooseCall {
@@ -118,7 +118,7 @@ impl LooseCall {
         }
     }
 
-    /// The call of the disk that comes next; there is none where the call is done.
+    /// The next call of the disk; None once the call is done.
     pub fn disk_ask(&self, alloc: Global) -> Result<Option<DiskAsk>, NoMemory>
         ensures ask { IfOk result (λ ask. ask ≡ disk_ask_of self.now) }
     {
@@ -128,9 +128,9 @@ impl LooseCall {
         }
     }
 
-    /// The call after the answer to its call of the disk. A call that is done stays as it is.
+    /// The call after the answer to its call of the disk. A call that is done stays unchanged.
     ///
-    /// An answer that the disk ran out of memory is no want of memory here: the reply says so.
+    /// An answer that the disk ran out of memory is no `NoMemory` here: the reply reports it.
     pub fn feed(self, alloc: Global, answer: DiskAnswer) -> Result<LooseCall, NoMemory>
         ensures fed { IfOk result (λ call. call ≡ fed_with self answer) }
     {
@@ -138,7 +138,7 @@ impl LooseCall {
         Ok(LooseCall { stage })
     }
 
-    /// The temporary file of a write, where it was made and is neither moved nor removed.
+    /// The temporary file of a write, if it was made and is neither moved nor removed.
     pub fn temporary_file(&self, alloc: Global) -> Result<Option<PathText>, NoMemory>
         ensures path { IfOk result (λ path. path ≡ temporary_in self.now) }
     {
@@ -220,7 +220,7 @@ fn id_copy(alloc: Global, answer: &Result<ObjectId, write::Error>) -> Result<Loo
 }
 
 impl Stage {
-    // What a call does next that stands here.
+    // What a call at this stage does next.
     fn next(&self, alloc: Global) -> Result<Next<'_>, NoMemory>
         ensures next { IfOk result (λ next. asked_as next ≡ asked_at self.now) }
     {
@@ -234,7 +234,7 @@ impl Stage {
         }
     }
 
-    // The stage after the answer to its ask.
+    // The stage after the answer to the call's ask.
     fn fed(self, alloc: Global, answer: DiskAnswer) -> Result<Stage, NoMemory>
         ensures next { IfOk result (λ next. next ≡ next_stage self answer) }
     {
@@ -246,7 +246,7 @@ impl Stage {
     }
 }
 
-// A call that only asks for the object of an id, before it has asked the disk.
+// A call that only asks for an object, before its first call of the disk.
 fn asking(alloc: Global, store: &Store, want: Want, id: ObjectId) -> Result<Stage, NoMemory>
     requires hash { kind_of id ≡ store_hash store.now }
     ensures first { IfOk result (λ stage. stage ≡ asking_of store.now want id) }
@@ -319,7 +319,7 @@ fn write_fed(alloc: Global, job: WriteJob, answer: DiskAnswer) -> Result<Stage, 
     Ok(advanced(job, advance))
 }
 
-// A write goes on, or has its reply.
+// The stage of a write after an advance: it goes on, or has its reply.
 fn advanced(job: WriteJob, advance: Advance) -> Stage
     ensures next { result ≡ written_to job advance }
 {
@@ -333,7 +333,7 @@ fn advanced(job: WriteJob, advance: Advance) -> Stage
     }
 }
 
-/// A look at a path, links followed.
+/// A stat of a path, links followed.
 pub fn look_at(alloc: Global, path: &PathText) -> Result<DiskAsk, NoMemory>
     ensures ask { IfOk result (λ ask. ask ≡ DiskAsk.Look path.now true) }
 {

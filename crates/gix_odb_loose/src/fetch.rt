@@ -6,10 +6,10 @@ use odb_base::{ByteList, NoMemory};
 use odb_sources::Source;
 use std::alloc::Global;
 
-/// How many bytes one read asks for, at most: they pass through an array of this length, which lies on the stack.
+/// The most bytes that one read asks for: the length of an array on the stack that they pass through.
 const CHUNK: usize = 8_192;
 
-/// What a source gave.
+/// What a source returned.
 #[derive(Drop)]
 pub enum Fetched {
     Piece(ByteList),

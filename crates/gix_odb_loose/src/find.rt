@@ -6,7 +6,7 @@ use odb_base::{NoMemory, PathText};
 use std::alloc::Global;
 use std::{error, fmt};
 
-/// What was to be done with a file.
+/// What was being done with a file.
 #[derive(Clone, Copy, Debug)]
 pub enum Action {
     OpenOrMap,
@@ -23,7 +23,7 @@ impl fmt::Display for Action {
     }
 }
 
-/// Why a find, a look for a header or a test of presence was refused.
+/// Why a find, a header look-up or a test of presence was refused.
 #[derive(Debug, Drop)]
 pub enum Error {
     /// The data are longer or shorter than the header says. Lengths in bytes.
@@ -38,8 +38,8 @@ pub enum Error {
     OutOfMemory {
         size: u64,
     },
-    /// A call of the disk failed; or, in a find or a look for a header, the path or a part of its way is of the
-    /// wrong kind or a link loop, or the file is empty.
+    /// A call of the disk failed; or, in a find or header look-up, the path or a part of its way has the wrong kind
+    /// or is a link loop, or the file is empty.
     Io {
         action: Action,
         path: PathText,

@@ -1,9 +1,9 @@
-//! Bytes at hand as a source.
+//! Bytes in memory as a source.
 ghost use Rattle.std.specs.Prelude.{◌≡◌, Some};
 
 use odb_sources::{Failed, Source};
 
-/// Bytes of a caller's. No read of them fails.
+/// Borrowed bytes. No read of them fails.
 #[derive(Drop)]
 pub struct Lent<'a> {
     left: &'a [u8],

@@ -1,12 +1,12 @@
 //! A folder of loose objects: a file for each, with a header and then the data.
 //!
-//! What a call finds is what the file at the object's path holds; nothing at that path is no error, and each
-//! error has its cause. `LooseCall` is the order of work of every call, one call of the disk at a time. The finding calls
-//! of `Store` make the one call of the disk that it names, and read the answer by the same functions; the writing calls
-//! go through the same stages while they read their data.
-//! Read `store` first; `specs/LooseFile.antt` says what a file holds. The calls that write stand in `store_writes`, the
-//! machine of a write in `write_order`; `write_at_hand` and `write_streamed` hand it its data. `find` and `write` have
-//! the errors.
+//! A call finds what the file at the object's path holds; no file there is no error, and each error has its cause.
+//! `LooseCall` is the order of work of every call, one call of the disk at a time. The finding calls of `Store` make
+//! the one call of the disk that it asks for, and read the answer by the same functions; the writing calls go through
+//! the same stages while they read their data.
+//! Read `store` first; `specs/LooseFile.antt` says what a file holds. The calls that write are in `store_writes`, the
+//! machine of a write in `write_order`; `write_at_hand` and `write_streamed` pass it its data. `find` and `write`
+//! have the errors.
 //! ```rust
 //! let store = Store::at(alloc, &PathText::parse(alloc, "/o")?, gix_hash::Kind::Sha1)?;
 //! let mut out = Vec::new(alloc);

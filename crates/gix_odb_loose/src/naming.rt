@@ -1,4 +1,4 @@
-//! The name that a written object gets: the id that was handed in, or the hash of its header and data.
+//! The name of a written object: the id that was passed in, or the hash of its header and data.
 ghost use Rattle.std.specs.Prelude.{◌≡◌, ℕ, List, Option, Some, [], ◌++◌, IfOk};
 ghost use Rattle.gix_odb_loose.specs.WriteNames.{Names, name_for};
 ghost use Rattle.gix_hash.specs.Hash.{HasTaken, hasher_kind};
@@ -13,7 +13,7 @@ use gix_object::encode;
 use odb_base::NoMemory;
 use std::alloc::Global;
 
-/// A known id is taken as it is, and nothing is hashed then.
+/// A known id is taken as it is, and nothing is hashed.
 #[derive(Drop)]
 pub enum Naming {
     Known(ObjectId),
@@ -21,7 +21,7 @@ pub enum Naming {
 }
 
 impl Naming {
-    /// No data have been taken in.
+    /// A naming before any data.
     pub fn start(
         alloc: Global,
         hash: gix_hash::Kind,
@@ -36,7 +36,7 @@ impl Naming {
         }
     }
 
-    /// Takes in the next bytes of the data.
+    /// Adds the next bytes of the data.
     pub fn update(&mut self, bytes: &[u8])
         ensures taken { (known : Option id_of_object) (hash : hash_kind) (head : head_of_write) (before : List ℕ) →
             Names known hash head before (Some self.old) → Names known hash head (before ++ bytes.now) (Some self.new) }
@@ -59,7 +59,7 @@ impl Naming {
     }
 }
 
-// A hasher that has taken in the header.
+// A hasher after the header.
 fn hasher_of(alloc: Global, hash: gix_hash::Kind, head: &WriteHead) -> Result<Hasher, NoMemory>
     ensures taken { IfOk result (λ hasher. HasTaken hasher (header_of head.now.kind head.now.size)) }
     ensures kind { IfOk result (λ hasher. hasher_kind hasher ≡ hash) }

@@ -1,4 +1,4 @@
-//! The paths of a store: of an object's file, of the directory that it lies in, and of a temporary file.
+//! The paths of a store: of an object's file, of its directory, and of a temporary file.
 ghost use Rattle.std.specs.Prelude.{◌≡◌, ◌++◌, ◌∷◌, [], true, IfOk};
 ghost use Rattle.std.specs.String.{string_bytes};
 ghost use Rattle.odb_base.specs.Path.{is_name};
@@ -20,7 +20,7 @@ pub fn object_path(alloc: Global, objects: &PathText, id: &ObjectId) -> Result<P
     joined(alloc, &folder, rest)
 }
 
-/// The directory that an object's file lies in.
+/// The directory of an object's file.
 pub fn prefix_folder(alloc: Global, objects: &PathText, id: &ObjectId) -> Result<PathText, NoMemory>
     ensures path { IfOk result (λ path. path ≡ prefix_path objects.now id.now) }
 {

@@ -19,7 +19,7 @@ pub enum Flaw {
     NoHeader,
 }
 
-/// The answer of a test to a look at the path.
+/// The result of a test of presence, from the answer to a stat of the path.
 pub fn tested(
     alloc: Global,
     path: &PathText,
@@ -35,7 +35,7 @@ pub fn tested(
     }
 }
 
-/// The answer of a find to a read of the path.
+/// The result of a find, from the answer to a read of the path.
 pub fn found(
     alloc: Global,
     path: &PathText,
@@ -50,7 +50,7 @@ pub fn found(
     }
 }
 
-/// The answer of a look for a header to a read of the path.
+/// The result of a header look-up, from the answer to a read of the path.
 pub fn headed(
     alloc: Global,
     path: &PathText,
@@ -64,7 +64,7 @@ pub fn headed(
     }
 }
 
-// The answer to a read that gave no file.
+// The result for a read that returned no file.
 fn unread<T>(
     alloc: Global,
     path: &PathText,
@@ -79,7 +79,7 @@ fn unread<T>(
     }
 }
 
-// The object that a file holds, whose bytes are moved and not copied.
+// The object in a file, whose bytes are moved, not copied.
 fn object_in(
     alloc: Global,
     path: &PathText,
@@ -136,7 +136,7 @@ fn spelled(bytes: &[u8]) -> Result<(Kind, u64, usize), Flaw>
     }
 }
 
-// The bytes behind the first ones, in the same room.
+// The bytes after the first `len`, in the same buffer.
 fn behind(bytes: ByteList, len: usize) -> ByteList
     requires within { len ≤ length bytes }
     ensures rest { result ≡ drop len bytes }

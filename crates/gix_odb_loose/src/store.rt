@@ -23,7 +23,7 @@ use std::alloc::Global;
 /// The options of a store. The default has no limit.
 #[derive(Clone, Copy, Default, PartialEq, Eq)]
 pub struct Options {
-    /// The most bytes of data that an object may have to be found, if there is a limit.
+    /// The largest size in bytes of an object's data that a find allows, if there is a limit.
     pub alloc_limit_bytes: Option<u64>,
 }
 
@@ -95,15 +95,15 @@ impl Store {
         self.object_hash
     }
 
-    /// The most bytes that a found object may have, where there is a limit.
+    /// The largest size in bytes of an object's data that a find allows, if there is a limit.
     pub(crate) fn limit(&self) -> Option<u64>
         ensures limit { result ≡ store_limit self.now }
     {
         self.options.alloc_limit_bytes
     }
 
-    /// The path of an object's file: `xx/rest` in the objects directory, the first two hex digits of the id and
-    /// the others.
+    /// The path of an object's file: `xx/rest` in the objects directory: the first two hex digits of the id, then the
+    /// others.
     pub fn object_path(&self, alloc: Global, id: &ObjectId) -> Result<PathText, NoMemory>
         requires hash { kind_of id.now ≡ store_hash self.now }
         ensures path { IfOk result (λ path. path ≡ path_in self.now id.now) }
@@ -113,7 +113,7 @@ impl Store {
 
     /// Whether the object has a file: whether its path leads to one, links followed.
     ///
-    /// What else is there, or nothing, is a no. The only error beside want of memory is `Io`, and it says that a
+    /// Anything else at the path, or nothing, is a no. Apart from memory, the only error is `Io`, which means that a
     /// call of the disk failed.
     pub fn contains<D: Disk>(
         &self,
@@ -137,7 +137,7 @@ impl Store {
         there
     }
 
-    /// Finds an object, whose data are put into `out`, cleared before. Where none is found, or the find is refused,
+    /// Finds an object and puts its data into `out`, cleared before. Where none is found, or the find is refused,
     /// `out` is left empty.
     ///
     /// None means that nothing is at the object's path. An empty file is `Io`, one without a header `Decode`, one
@@ -172,7 +172,7 @@ impl Store {
         }
     }
 
-    /// The same, with the object's data left in `out`, and nothing beside them: its kind.
+    /// `try_find` that returns only the kind: `out` holds the object's data and nothing else.
     pub fn find_into<D: Disk>(
         &self,
         alloc: Global,
@@ -206,8 +206,8 @@ impl Store {
         }
     }
 
-    /// The size in bytes and the kind that the header of an object's file says. The data aren't looked at: they may
-    /// be of another length, and the limit doesn't count.
+    /// The size in bytes and the kind from the header of an object's file. The data aren't checked: they may have
+    /// another length, and the limit doesn't count.
     ///
     /// None means that nothing is at the object's path. An empty file is `Io`, and one without a header `Decode`.
     pub fn try_header<D: Disk>(
@@ -233,7 +233,7 @@ impl Store {
     }
 }
 
-// The disk's answer to a look at a path, links followed.
+// The disk's answer to a stat of a path, links followed.
 fn look<D: Disk>(alloc: Global, disk: &mut D, path: &PathText) -> Result<DiskAnswer, NoMemory>
     ensures told { IfOk result (λ given. IfSome (D.state disk.old) (λ s. AnswersAsk given (meta_answer (looked (tree_of s) path.now true)))) }
     ensures cause { IfOk result (λ given. given ≡ DiskAnswer.Refused DiskError.Failed → Rose (D.faults disk.old) (D.faults disk.new)) }

@@ -23,10 +23,10 @@ use odb_sources::{MemSink, Source};
 use std::alloc::Global;
 
 impl Store {
-    /// Writes an object whose data are these bytes, and answers its id.
+    /// Writes an object with these bytes as data, and returns its id.
     ///
-    /// The object gets its name last, by a rename. After a refusal there is no name of an object that wasn't there
-    /// before, and the temporary file is left only where its removal was refused too.
+    /// The rename to the object's name is the last step. After a refusal there is no new name of an object, and the
+    /// temporary file is left only where its removal was refused too.
     pub fn write_buf<D: Disk>(
         &self,
         alloc: Global,
@@ -45,7 +45,7 @@ impl Store {
         self.run_write(alloc, disk, kind, from.len() as u64, None, &mut data)
     }
 
-    /// The same under an id that the object is known to have. It isn't tested.
+    /// `write_buf` under an id that the object is known to have. The id isn't checked.
     pub fn write_buf_with_known_id<D: Disk>(
         &self,
         alloc: Global,
@@ -65,10 +65,10 @@ impl Store {
         self.run_write(alloc, disk, kind, from.len() as u64, Some(id), &mut data)
     }
 
-    /// Writes an object whose data are the bytes of a source, which are to be `size`, and answers its id.
+    /// Writes an object with `size` bytes of data from a source, and returns its id.
     ///
-    /// The data are read in pieces of 65,536 bytes between the calls of the disk, and one byte above the size at most.
-    /// Fewer or more are `SizeMismatch`, and a source that fails is `Io`: nothing is appended after a failure.
+    /// The data are read in pieces of 65,536 bytes between the calls of the disk, at most one byte more than `size`.
+    /// Fewer or more bytes are `SizeMismatch`, and a source that fails is `Io`: nothing is appended after a failure.
     pub fn write_stream<D: Disk, S: Source>(
         &self,
         alloc: Global,
@@ -91,7 +91,7 @@ impl Store {
         self.run_write(alloc, disk, kind, size, None, from)
     }
 
-    /// The same under an id that the object is known to have. It isn't tested.
+    /// `write_stream` under an id that the object is known to have. The id isn't checked.
     pub fn write_stream_with_known_id<D: Disk, S: Source>(
         &self,
         alloc: Global,
@@ -115,7 +115,7 @@ impl Store {
         self.run_write(alloc, disk, kind, size, Some(id), from)
     }
 
-    /// Writes an object that gives its own data, and answers its id. The data are put into memory first.
+    /// Writes an object that produces its own data, and returns its id. The data are put into memory first.
     pub fn write<D: Disk, O: WriteTo>(
         &self,
         alloc: Global,
@@ -136,7 +136,7 @@ impl Store {
         self.write_buf(alloc, disk, object.kind(), data.bytes())
     }
 
-    // Writes an object of this kind and size whose data a source gives: what the write answers.
+    // Writes an object of this kind and size with data from a source: the result of the write.
     fn run_write<D: Disk, S: Source>(
         &self,
         alloc: Global,
@@ -159,7 +159,7 @@ impl Store {
         answer
     }
 
-    // A write into the store that has asked nothing and read nothing.
+    // A new write into the store, which has asked nothing and read nothing.
     fn new_write(
         &self,
         alloc: Global,
@@ -178,7 +178,7 @@ impl Store {
     }
 }
 
-// All turns of a write that is underway, and what it answers.
+// Runs a write in progress to its end, and returns its result.
 fn answered<D: Disk, S: Source>(
     alloc: Global,
     disk: &mut D,
@@ -202,7 +202,7 @@ fn answered<D: Disk, S: Source>(
     told(alloc, &job.head, end)
 }
 
-// What a write answers that ended so.
+// The result of a write with this end.
 fn told(
     alloc: Global,
     head: &WriteHead,

@@ -8,7 +8,7 @@ use std::alloc::Global;
 use std::fmt;
 use thiserror::Error;
 
-/// What was to be done in the objects directory.
+/// What was being done in the objects directory.
 #[derive(Clone, Copy, Debug)]
 pub enum Message {
     CreateTempFile,
@@ -16,7 +16,7 @@ pub enum Message {
     StreamData,
 }
 
-/// The exact words of each, as they stand before the path of the objects directory.
+/// The exact text of each, as printed before the path of the objects directory.
 impl fmt::Display for Message {
     ghost output = { λ message. Some (message_text message) };
 
@@ -29,7 +29,7 @@ impl fmt::Display for Message {
     }
 }
 
-/// Why a write was refused. No name of an object was made then.
+/// Why a write was refused. It made no name of an object.
 #[derive(Debug, Drop, Error)]
 pub enum Error {
     /// The temporary file couldn't be made or filled, or the source of the data failed. The path is that of the
@@ -42,7 +42,7 @@ pub enum Error {
     /// The temporary file couldn't be given the name of the object.
     #[error("could not turn the temporary file into {target}")]
     Persist { target: PathText },
-    /// There were fewer or more bytes of data than was said. `actual` stops at `expected + 1`.
+    /// There were fewer or more bytes of data than expected. `actual` stops at `expected + 1`.
     #[error("expected {expected} bytes of data, and got {actual}")]
     SizeMismatch { expected: u64, actual: u64 },
     #[error("out of memory")]

@@ -1,4 +1,4 @@
-//! A write whose data are all at hand: it hands them to the machine as they are asked for.
+//! A write with all its data in memory: it passes them to the machine as they are asked for.
 ghost use Rattle.std.specs.Prelude.{◌≡◌, IfOk};
 ghost use Rattle.gix_odb_loose.specs.WriteJobs.{piece_at, piece_in, next_in, advance_by, supplied_with};
 ghost use Rattle.gix_odb_loose.specs.WriteOrder.{number_made, temporary_of};
@@ -12,7 +12,7 @@ use odb_asks::DiskAnswer;
 use odb_base::{ByteList, NoMemory, PathText};
 use std::alloc::Global;
 
-/// A write on its way. It waits for no data: the next piece, or their end, is handed over as soon as it is asked for.
+/// A write in progress. It never waits for data: the next piece, or the end, is passed as soon as it is asked for.
 #[derive(Drop)]
 pub struct WriteJob {
     pub head: WriteHead,
@@ -23,16 +23,16 @@ pub struct WriteJob {
     pub known: Option<ObjectId>,
 }
 
-/// What the answer to its ask leads to.
+/// What follows the answer to a write's ask.
 #[derive(Clone, Copy)]
 pub enum Onward {
     /// The write goes on.
     Stage(WriteStage),
-    /// It ends so.
+    /// It ends with this result.
     End(Result<ObjectId, Refusal>),
 }
 
-/// What the answer to its ask makes of a write: its next stage, or its reply.
+/// A write after the answer to its ask: its next stage, or its reply.
 #[derive(Drop)]
 pub enum Advance {
     Stage(WriteStage),
@@ -50,7 +50,7 @@ impl WriteJob {
         }
     }
 
-    // The piece that stands behind so many bytes: as many as the machine takes, or those that are left.
+    // The piece after `written` bytes: as many as the machine takes, or those that are left.
     fn piece_behind(&self, written: u64) -> &[u8]
         ensures piece { result.now ≡ piece_at self.now.head.size self.now.bytes written }
     {
@@ -65,7 +65,7 @@ impl WriteJob {
         &rest[..count]
     }
 
-    /// The path of the temporary file, where it was made.
+    /// The path of the temporary file, if it was made.
     pub fn temporary_file(&self, alloc: Global) -> Result<Option<PathText>, NoMemory>
         ensures path { IfOk result (λ path. path ≡ temporary_of self.now.head (number_made self.now.stage)) }
     {
@@ -75,7 +75,7 @@ impl WriteJob {
         }
     }
 
-    /// What comes after the answer to its ask. Where no data are left, their end is told at once.
+    /// What follows the answer to the write's ask. Where no data are left, their end follows at once.
     pub fn next(&self, alloc: Global, answer: &DiskAnswer) -> Result<Onward, NoMemory>
         ensures next { IfOk result (λ next. next ≡ next_in self.now answer.now) }
     {
@@ -89,7 +89,7 @@ impl WriteJob {
         }
     }
 
-    /// The same, with the reply where the write ends.
+    /// `next` with the reply where the write ends.
     pub fn advance(&self, alloc: Global, answer: &DiskAnswer) -> Result<Advance, NoMemory>
         ensures by_answer { IfOk result (λ made. made ≡ advance_by self.now answer.now) }
     {
@@ -99,7 +99,7 @@ impl WriteJob {
         }
     }
 
-    // The stage after data were asked for: the next piece is to be appended, or their end is told.
+    // The stage after data were asked for: the next piece is to be appended, or the data have ended.
     fn supply(&self, alloc: Global, number: u64, written: u64) -> Result<WriteStage, NoMemory>
         ensures supplied { IfOk result (λ stage. stage ≡ supplied_with self.now number written) }
     {

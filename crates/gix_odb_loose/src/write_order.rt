@@ -1,5 +1,5 @@
-//! A write as a machine: it asks for calls of the disk and for its data, piece by piece. What stands in front hands it the
-//! data, and tells it their end.
+//! A write as a machine: it asks for calls of the disk and for its data, piece by piece. Its caller passes it the
+//! data and their end.
 ghost use Rattle.std.specs.Prelude.{◌≡◌, IfOk};
 ghost use Rattle.gix_odb_loose.specs.WriteOrder.{write_ask, written_in, number_made, next_write};
 ghost use Rattle.gix_odb_loose.specs.WriteOrder.{ended_with, source_failed};
@@ -23,11 +23,11 @@ use std::alloc::Global;
 /// each costs a call of the disk.
 pub const PIECE_SIZE: u64 = 65_536;
 
-/// How many temporary names are tried: enough for the writes of one time, and a write ends soon where all are taken, by
-/// files that others left.
+/// How many temporary names are tried: enough for concurrent writes, and a write ends soon where files left by others
+/// have taken them all.
 const TEMP_NAMES: u64 = 16;
 
-/// Why a write is refused, without the paths that its error tells.
+/// Why a write is refused, without the paths of its error.
 #[derive(Clone, Copy)]
 pub enum Refusal {
     Io(Message),
@@ -37,14 +37,14 @@ pub enum Refusal {
     NoMemory,
 }
 
-/// Where a write stands. The number is that of the temporary file.
+/// The stage of a write. `number` is that of the temporary file.
 #[derive(Clone, Copy)]
 pub enum WriteStage {
     /// The temporary file is to be made.
     Making { number: u64 },
     /// The header is to be appended to it.
     Heading { number: u64 },
-    /// A piece of the data is to be appended, behind so many bytes of data.
+    /// A piece of the data is to be appended, after `written` bytes of data.
     Filling { number: u64, written: u64 },
     /// The directory of the object is to be made.
     Foldering { number: u64, id: ObjectId },
@@ -59,25 +59,25 @@ pub enum WriteStage {
 pub enum WriteAsk {
     /// The call of the disk of this stage.
     Disk(WriteStage),
-    /// The next piece of the data, or their end, behind so many bytes of data in the temporary file of this number.
-    /// `WriteHead::most` says how many bytes the machine takes.
+    /// The next piece of the data, or their end, after `written` bytes of data in the temporary file `number`.
+    /// `WriteHead::most` is how many bytes the machine takes.
     Data { number: u64, written: u64 },
-    /// Nothing more: the write ended so.
+    /// Nothing more: the write ended with this result.
     Done(Result<ObjectId, Refusal>),
 }
 
-/// What a write is about.
+/// What is to be written, and where.
 #[derive(Drop)]
 pub struct WriteHead {
     /// The objects directory.
     pub objects: PathText,
     pub kind: Kind,
-    /// How many bytes of data there are to be.
+    /// The size of the data in bytes.
     pub size: u64,
 }
 
 impl WriteStage {
-    /// Whether a piece of the data is to be appended, and behind how many bytes.
+    /// How many bytes are appended so far, if the next ask appends a piece of the data.
     pub fn filling(&self) -> Option<u64>
         ensures written { result ≡ written_in self.now }
     {
@@ -87,7 +87,7 @@ impl WriteStage {
         }
     }
 
-    /// The number of the temporary file, where it was made.
+    /// The number of the temporary file, if it was made.
     pub fn number_made(&self) -> Option<u64>
         ensures number { result ≡ number_made self.now }
     {
@@ -101,7 +101,7 @@ impl WriteStage {
         }
     }
 
-    /// What comes after the answer to its ask. `piece` is the length of the piece that was to be appended.
+    /// What a write asks for after the answer to its ask. `piece` is the length of the piece that was to be appended.
     pub fn next(self, size: u64, piece: u64, answer: &DiskAnswer) -> WriteAsk
         ensures next { result ≡ next_write size piece self answer.now }
     {
@@ -117,7 +117,7 @@ impl WriteStage {
 }
 
 impl WriteHead {
-    /// The call of the disk of a stage. `piece` is the next piece of the data, which is moved into it.
+    /// The call of the disk at a stage. `piece` is the next piece of the data, which is moved into it.
     pub fn ask_at(
         &self,
         alloc: Global,
@@ -185,8 +185,8 @@ impl WriteHead {
         })
     }
 
-    /// The most bytes that the machine takes as the next piece, behind so many. One byte above the size is taken, and shows
-    /// that there are too many.
+    /// The most bytes that the machine takes as the next piece, after `written`. One byte more than the size is
+    /// taken, to see that there are too many.
     pub fn most(&self, written: u64) -> u64
         ensures most { result ≡ room_behind self.now.size written }
     {
@@ -197,7 +197,7 @@ impl WriteHead {
         }
     }
 
-    /// What a write answers that ended so.
+    /// The result of a write with this end.
     pub fn reply(
         &self,
         alloc: Global,
@@ -211,7 +211,7 @@ impl WriteHead {
         }
     }
 
-    /// The error of a refused write, with the paths that it tells.
+    /// The error of a refused write, with its paths.
     pub fn error(&self, alloc: Global, refusal: Refusal) -> Result<Error, NoMemory>
         ensures error { IfOk result (λ error. error ≡ error_from self.now refusal) }
     {
@@ -233,7 +233,7 @@ impl WriteHead {
     }
 }
 
-/// The stage after the end of the data, which have this id, where so many bytes were appended.
+/// The stage after the end of the data, which have this id, where `written` bytes were appended.
 pub fn ended(number: u64, written: u64, size: u64, id: ObjectId) -> WriteStage
     ensures ended { result ≡ ended_with size id number written }
 {
@@ -257,7 +257,7 @@ pub fn failed(number: u64) -> WriteStage
     }
 }
 
-// What comes after the answer to the making of the temporary file.
+// What follows the answer to the creation of the temporary file.
 fn made(number: u64, answer: &DiskAnswer) -> WriteAsk
     ensures next { result ≡ made_by number answer.now }
 {
@@ -274,7 +274,7 @@ fn made(number: u64, answer: &DiskAnswer) -> WriteAsk
     }
 }
 
-// What comes after the answer to the append of the header.
+// What follows the answer to the append of the header.
 fn headed(number: u64, answer: &DiskAnswer) -> WriteAsk
     ensures next { result ≡ headed_by number answer.now }
 {
@@ -284,7 +284,7 @@ fn headed(number: u64, answer: &DiskAnswer) -> WriteAsk
     }
 }
 
-// What comes after the answer to the append of a piece.
+// What follows the answer to the append of a piece.
 fn filled(number: u64, written: u64, size: u64, piece: u64, answer: &DiskAnswer) -> WriteAsk
     ensures next { result ≡ filled_by number written size piece answer.now }
 {
@@ -308,7 +308,7 @@ fn filled(number: u64, written: u64, size: u64, piece: u64, answer: &DiskAnswer)
     }
 }
 
-// What comes after the answer to the making of the object's directory.
+// What follows the answer to the creation of the object's directory.
 fn foldered(number: u64, id: ObjectId, answer: &DiskAnswer) -> WriteAsk
     ensures next { result ≡ foldered_by number id answer.now }
 {
@@ -320,7 +320,7 @@ fn foldered(number: u64, id: ObjectId, answer: &DiskAnswer) -> WriteAsk
     }
 }
 
-// What comes after the answer to the rename.
+// What follows the answer to the rename.
 fn moved(number: u64, id: ObjectId, answer: &DiskAnswer) -> WriteAsk
     ensures next { result ≡ moved_by number id answer.now }
 {
@@ -337,7 +337,7 @@ fn removing(number: u64, refusal: Refusal) -> WriteAsk
     WriteAsk::Disk(WriteStage::Removing { number, refusal })
 }
 
-// Want of memory is passed on.
+// Running out of memory is passed on.
 fn refused(refusal: Refusal, answer: &DiskAnswer) -> Refusal
     ensures refusal { result ≡ refused_by refusal answer.now }
 {

@@ -1,5 +1,5 @@
-//! A write whose data come from a source, a piece at a time: the source is read where the machine asks for data, so that
-//! between two turns a write stands at a stage that asks the disk.
+//! A write whose data come from a source, a piece at a time. The source is read where the machine asks for data, so
+//! between two turns a write is at a stage that asks the disk.
 ghost use Rattle.std.specs.Prelude.{◌≡◌, ◌<◌, ◌≤◌, ◌++◌, ℕ, List, [], length, nat_lt, false, Option, IfOk, OnOk, Some, None};
 ghost use Rattle.odb_asks.specs.StreamAsks.{is_of_streams};
 ghost use Rattle.odb_nodes.specs.Tree.{State};
@@ -26,18 +26,18 @@ use odb_sources::Source;
 use std::alloc::Global;
 use std::mem;
 
-/// A write on its way, with the piece of its data that is to be appended next.
+/// A write in progress, with the piece of its data that is appended next.
 #[derive(Drop)]
 pub struct StreamJob {
     pub head: WriteHead,
     pub stage: WriteStage,
-    /// The naming of the data, until their end was told.
+    /// The naming of the data, until their end.
     pub naming: Option<Naming>,
-    /// The piece that is to be appended. It is empty elsewhere.
+    /// The piece that is to be appended. Empty at other stages.
     pub piece: ByteList,
-    /// Whether the source came to its end.
+    /// Whether the source has ended.
     pub has_ended: bool,
-    /// The removal of the temporary file. It is ready before the file is made, so that it wants no memory.
+    /// The removal of the temporary file. It is ready before the file is made, so it needs no memory.
     pub removal: DiskAsk,
 }
 
@@ -68,9 +68,9 @@ impl StreamJob {
         })
     }
 
-    /// One call of the disk, and the reading of the next piece where its answer leads to that. How the write ends, if it does.
+    /// Makes one call of the disk, and reads the next piece if the answer leads to that. Returns the end, if reached.
     ///
-    /// Where memory runs out, the removal of the temporary file is ready, if one was made.
+    /// If memory runs out, the removal of the temporary file is ready, if one was made.
     pub fn turn<D: Disk, S: Source>(
         &mut self,
         alloc: Global,
@@ -94,8 +94,8 @@ impl StreamJob {
         self.go_on(alloc, from, wanted)
     }
 
-    /// All turns of a write that is underway: how it ends. Where memory runs out, the removal of the temporary file is
-    /// asked, if one was made.
+    /// Runs a write in progress: how it ends. If memory runs out, the removal of the temporary file is asked, if one
+    /// was made.
     pub fn run<D: Disk, S: Source>(
         &mut self,
         alloc: Global,
@@ -124,7 +124,7 @@ impl StreamJob {
         }
     }
 
-    /// Asks to remove the temporary file of a write that memory ran out of, where one was made.
+    /// Asks to remove the temporary file of a write that ran out of memory, if one was made.
     pub fn clear<D: Disk>(&self, alloc: Global, disk: &mut D)
         ensures cleared { (w : Begun) (first : D) (rest : Option (List ℕ)) (source_now : ℕ) →
             Since D.answered first disk.old (λ past. IsBroken w (D.state disk.old) (D.faults disk.old) past rest source_now self.now) →
@@ -139,7 +139,7 @@ impl StreamJob {
         }
     }
 
-    // The call of the disk of its stage: what the answer leads to.
+    // Makes the call of the disk of its stage: what the answer leads to.
     fn asked<D: Disk>(&mut self, alloc: Global, disk: &mut D) -> Result<WriteAsk, NoMemory>
         ensures asks { (w : Begun) (first : D) (rest : Option (List ℕ)) (source_now : ℕ) →
             Since D.answered first disk.old (λ past. IsUnderway w (D.state disk.old) (D.faults disk.old) past rest source_now self.old) →
@@ -161,7 +161,7 @@ impl StreamJob {
         Ok(wanted)
     }
 
-    // The call of the disk of a stage, which takes the piece that it appends.
+    // The call of the disk at a stage, which takes the piece that it appends.
     #[tactic(auto, using(crate::proofs::StillAskLaws::write_asked_still))]
     fn ask(&mut self, alloc: Global, stage: &WriteStage) -> Result<DiskAsk, NoMemory>
         ensures ask { IfOk result (λ ask. ask ≡ write_ask self.old.head self.old.piece stage.now) }
@@ -200,7 +200,7 @@ impl StreamJob {
         }
     }
 
-    // Stands at a stage that an answer led to. The removal of a file that is to be made is made ready.
+    // Goes to a stage that an answer led to. If a file is to be made, its removal is prepared.
     fn stand(&mut self, alloc: Global, stage: WriteStage) -> Result<(), NoMemory>
         ensures goes_on { (w : Begun) (state : Option State) (now : ℕ) (past : List Exchange) (rest : Option (List ℕ)) (source_now : ℕ) →
             StandsBefore w state now past rest source_now self.old stage → GoesOn w state now past rest source_now self.new result }
@@ -218,7 +218,7 @@ impl StreamJob {
         }
     }
 
-    // Reads the next piece behind so many bytes, or tells the end of the data, or that the source failed.
+    // Reads the next piece after `written` bytes, or reports the end of the data or a failure of the source.
     fn read_on<S: Source>(
         &mut self,
         alloc: Global,
@@ -256,7 +256,7 @@ impl StreamJob {
         }
     }
 
-    // Takes a piece of at most so many bytes. A shorter one is the last.
+    // Takes a piece of at most `most` bytes. A shorter one is the last.
     fn take(&mut self, piece: ByteList, most: usize)
         ensures piece { self.new.piece ≡ piece }
         ensures has_ended { self.new.has_ended ≡ nat_lt (length piece) most }
@@ -273,7 +273,7 @@ impl StreamJob {
         drop(mem::replace(&mut self.piece, piece));
     }
 
-    // Tells the end of the data, behind so many bytes.
+    // Ends the data, after `written` bytes.
     fn end(&mut self, number: u64, written: u64)
         ensures ended { IsEnded number written self.old.head.size self.old.naming self.new.stage }
         ensures head { self.new.head ≡ self.old.head }

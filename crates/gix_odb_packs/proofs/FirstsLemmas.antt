@@ -1,4 +1,4 @@
--- Entries by their names: each unless a set has its name, which then has it.
+-- Entries by their names: each whose name isn't in a set yet, to which it is added then.
 use Rattle.std.proofs.Common.{◌≡◌, Bool, true, false, cond, not, ◌||◌, List, [], ◌∷◌, map, Ordering, Less, Equal, Greater, ℕ, ◌+◌, ◌<◌, ◌++◌}
 use Rattle.std.proofs.Common.{drop, get_or, length, append_assoc, inl, inr, refl, sym, ap, ◌∙◌}
 use denote.Ref.{Bor}
@@ -54,7 +54,7 @@ placed test key x xs more Equal h =
     ∙ ap (λ (name : Name). test name || (test x.now || list_any test (names_of xs))) (sym (equal_names key.now x.now h))
 placed test key x xs more Greater h = ap (λ (b : Bool). test x.now || b) more ∙ or_swap (test key.now) (test x.now) (list_any test (names_of xs))
 
--- a set that a name was put into has it besides those that it had
+-- a set after a name was put into it has this name and those that it had
 inserted : (test : Name → Bool) (key : Bor Name) (keys : List (Bor Name))
     → list_any test (names_of (insert_key by_name keys key)) ≡ (test key.now || list_any test (names_of keys))
 inserted test key [] = refl
@@ -62,7 +62,7 @@ inserted test key (x ∷ xs) = placed test key x xs (inserted test key xs) (by_n
 
 -- ---- entries
 
--- only which names there are counts
+-- only which names there are matters
 same_firsts : (names others : List Name) (entries : List Entry) → ((name : Name) → list_any (same_name name) names ≡ list_any (same_name name) others)
     → firsts_without names entries ≡ firsts_without others entries
 same_firsts names others [] same = refl

@@ -1,4 +1,4 @@
--- The index of a slot is the only one of it that a view shows: so what stands at a path, and a pack, are found by it.
+-- The index of a slot is the only one of it that a view shows: so what is at a path, and a pack, are found by it.
 use Rattle.std.proofs.Common.{◌≡◌, ◌&&◌, zero, suc, Bool, true, false, cond, List, [], ◌∷◌, Contains, Option, Some, None, refl, sym, ap, ◌∙◌, arith}
 use Rattle.std.specs.Prelude.{◌==◌}
 use Rattle.std.specs.List.{find}

@@ -1,4 +1,4 @@
--- What loading an index comes to: how many turns it takes, and why it is passed over or ends.
+-- How loading an index ends: how many turns it takes, and why it is passed over or ends.
 use Rattle.std.proofs.Common.{◌≡◌, ℕ, ◌<◌, Bool, true, false, cond, Ok, Err, refl, ap, arith}
 use Rattle.odb_asks.specs.declared.ask.DiskAnswer.{DiskAnswer}
 use Rattle.odb_asks.specs.declared.ask.DiskAnswer.TheVariants as answers
@@ -84,7 +84,7 @@ module _ (Failed : Type 0) (Refuses : Refusal → Type 0) where
   read-passes hash place answers.End fails = missed-passes place answers.End fails
   read-passes hash place answers.Done fails = missed-passes place answers.Done fails
 
-  -- a failure that is noted in the core was one before, or is the answer; and so is a refusal that ends the work
+  -- a failure that is noted in the core was one before, or is the answer, as is a refusal that ends the work
   pub fed-comes : (hash : Kind) (loader : IndexLoader) (answer : Answer) → Passes Failed loader → (answer ≡ told.Disk (answers.Refused disk_errors.Failed) → Failed)
       → ((event : Event) (refusal : Refusal) → ask_of loader ≡ asks.Core event → answer ≡ told.Core (Err refusal) → Refuses refusal)
       → Comes (fed hash loader answer)

@@ -1,4 +1,4 @@
--- Rows that are put among others, one after another, are what a stable sort makes of them.
+-- Rows that are put among others, one after another, end in the order of a stable sort.
 use Rattle.std.proofs.Common.{◌≡◌, ℕ, suc, ◌+◌, ◌<◌, ◌≤◌, ◌==◌, ◌&&◌, Bool, true, false, not, cond, nat_lt, List, [], ◌∷◌, ◌++◌, length, get_or, refl, sym}
 use Rattle.std.proofs.Common.{ap, ◌∙◌, subst, arith, inl, inr, append_assoc, append-nil, None, Less, Equal, Greater}
 use Rattle.std.specs.Cmp.{IsStrictWeakOrder}
@@ -135,7 +135,7 @@ rows_of_len n ordered (row ∷ rows) fall =
           ∙ ap (λ (rest : List ListingRow). of_len n ordered ++ rest) (sym (with_other n row rows differs))
     ]
 
--- ---- one list alone
+-- ---- one list only
 
 dropped : {X : Type 0} (b : Bool) (x y : X) (xs ys : List X) → x ≡ y → cond b (x ∷ xs) xs ≡ cond b (y ∷ ys) ys → xs ≡ ys
 dropped true x y xs ys is same = cc
@@ -199,7 +199,7 @@ sorted_falls (row ∷ rows) sorted = (
   sorted_falls rows (rest_sorted row rows sorted),
 )
 
--- rows tie that have one length
+-- rows of one length tie
 tie_is : (m n : ℕ) → (not (nat_lt m n) && not (nat_lt n m)) ≡ (m == n)
 tie_is m n =
     elim (cases_order m n) [

@@ -1,4 +1,4 @@
--- Where a multi-pack index says that an object stands.
+-- Where a multi-pack index says that an object is.
 use Rattle.std.proofs.Common.{◌≡◌, ℕ, Bool, true, false, cond, List, map, slice_get, Contains, Option, Some, None, option_map, refl, sym, ap, ◌∙◌}
 use Rattle.std.specs.Prelude.{option_and_then}
 use Rattle.std.proofs.lemmas.Bool.{and_parts}
@@ -20,7 +20,7 @@ id_seen row = row.id
 abbrev spot_of : PackRow → Spot
 spot_of row = record { place = row.pack; offset = row.offset }
 
--- ---- the ids of what bytes tell rise
+-- ---- the ids of a parsed index rise
 
 if_some : {X : Type 0} (b : Bool) (o : Option X) (x : X) → cond b o None ≡ Some x → o ≡ Some x
 if_some true o x h = h
@@ -54,7 +54,7 @@ rises : (bytes : List ℕ) (index : MultiIndex) → multi_index_of bytes ≡ Som
 unfolding multi_index_of
 rises bytes index is = with_parts (kind_in bytes) (packs_in bytes) (parts_of bytes) index (if_some _ _ index is)
 
--- ---- where an object stands
+-- ---- where an object is
 
 by_parts : (row : Option PackRow) (id : ObjectId) (pack offset : ℕ) → option_map id_seen row ≡ Some id → option_map (λ (row : PackRow). row.pack) row ≡ Some pack
     → option_map (λ (row : PackRow). row.offset) row ≡ Some offset → row ≡ Some (record { id = id; pack = pack; offset = offset })

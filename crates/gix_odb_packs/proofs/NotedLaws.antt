@@ -1,5 +1,5 @@
--- While indices are tried, each call of the disk that fails ends the try or is noted, where an index was read after the core is told of it; and
--- what was noted stays so.
+-- While indices are tried, each call of the disk that fails ends the try or is noted, after the core's answer where an index was read; and
+-- what was noted stays noted.
 use Rattle.std.proofs.Common.{◌≡◌, ◌⊎◌, inl, inr, ℕ, ◌||◌, Bool, true, false, cond, List, [], ◌∷◌, unwrap_or, Result, Ok, Err, refl}
 use Rattle.odb_asks.specs.declared.ask.DiskAnswer.{DiskAnswer}
 use Rattle.odb_asks.specs.declared.ask.DiskAnswer.TheVariants as disk_answers

@@ -1,4 +1,4 @@
--- An index that gives an id an offset in its one pack, among indices that are tried: the try comes to no miss while that index is ahead or at hand.
+-- An index that gives an id an offset in its one pack, among indices that are tried: no try ends with a miss while that index is pending or loading.
 use Rattle.std.proofs.Common.{◌≡◌, ◌⊎◌, inl, inr, List, [], ◌∷◌, Contains, Option, Some, None, Ok, refl, sym, ap, ◌∙◌, subst}
 use Rattle.std.specs.List.{All, find}
 use Rattle.std.proofs.lemmas.Bool.{and_parts}
@@ -36,11 +36,11 @@ use Rattle.gix_odb_packs.specs.declared.trier.Trier.{Trier}
 use Rattle.gix_odb_packs.proofs.ReachLemmas.{IsPresent, Leads, Reaches, first_or_later, found_is, none_in, present-noted, reaches-index}
 
 module _ (hash : Kind) (id : ObjectId) (target : Path) where
-  -- an index at the path gives the id an offset in the pack beside it
+  -- an index at the path gives the id an offset in the pack of the same name
   abbrev pub LeadsIfThere : SnapshotIndex → Type 0
   LeadsIfThere index = index.path ≡ target → Leads (pack_path target) hash id index
 
-  -- ---- what is ahead
+  -- ---- what is pending
 
   abbrev pub HasIndex : List SnapshotIndex → Type 0
   HasIndex indices = (index : SnapshotIndex) × Contains indices index × (index.path ≡ target)
@@ -70,7 +70,7 @@ module _ (hash : Kind) (id : ObjectId) (target : Path) where
   IsKept (steps.Missed why) = ⊥
   IsKept (steps.Broken refusal) = Unit {0}
 
-  -- the index is at hand or ahead, or its pack is at hand
+  -- the index is loading or pending, or its pack is being read
   abbrev pub IsOnWay : Ahead → Stage → Type 0
   IsOnWay ahead (stages.Loading loader) = IsAtHand loader ⊎ HasTodo ahead.todo
   IsOnWay ahead (stages.ReadingPack wanted) = (wanted.path ≡ pack_path target) ⊎ IsAhead ahead.indices ahead.todo
@@ -82,7 +82,7 @@ module _ (hash : Kind) (id : ObjectId) (target : Path) where
     pub searchable : IsSearchable trier.ahead
     pub way : IsOnWay trier.ahead trier.stage
 
-  -- what a try comes to that is no miss
+  -- the result of a try that is no miss
   abbrev pub IsNoMiss : Tried → Type 0
   IsNoMiss (ends.More trier) = IsTracked trier
   IsNoMiss (ends.Hit what) = Unit {0}
@@ -146,7 +146,7 @@ module _ (hash : Kind) (id : ObjectId) (target : Path) where
     todo_goes ahead able (todo ∷ rest) has =
         record { of_id = own; searchable = record { lead = able.lead; present = able.present }; way = first_or_todo todo rest has }
 
-    -- behind a search that reached the pack, or found nothing while the index is still to be loaded
+    -- after a search that reached the pack, or found nothing while the index is still to be loaded
     search_goes : (ahead : Ahead) → IsSearchable ahead → (search : Sought) → Reaches (pack_path target) search ⊎ HasTodo ahead.todo
         → IsNoMiss (at_search goal ahead search)
     search_goes ahead able Nowhere (inl reaches) = absurd reaches
@@ -172,7 +172,7 @@ module _ (hash : Kind) (id : ObjectId) (target : Path) where
         at_search goal (record ahead { indices = left_by found rest (rest_behind goal ahead.notes.absent rest) })
         (first_of found (search goal ahead.notes.absent rest))
 
-    -- what the first index comes to
+    -- what the search in the first index leads to
     first_goes : (ahead : Ahead) (index : SnapshotIndex) (rest : List SnapshotIndex) → IsPresent (pack_path target) ahead.notes.absent → All LeadsIfThere rest
         → (index.path ≡ target → Reaches (pack_path target) (tried goal ahead.notes.absent index)) → IsAhead (index ∷ rest) ahead.todo
         → (IsAhead rest ahead.todo → IsNoMiss (seeks ahead rest))

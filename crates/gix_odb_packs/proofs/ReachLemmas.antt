@@ -56,7 +56,7 @@ found test (y ∷ xs) x among own =
       ]
     ]
 
--- what a search finds passes, and is as each element is
+-- what a search finds passes the test, and has what each element has
 pub found_is : {A : Type 0} (P : A → Type 0) (test : A → Bool) (xs : List A) → All P xs → (x : A) → find test xs ≡ Some x → P x × (test x ≡ true)
 found_is P test [] all x e = absurd (cc e)
 found_is {A = A} P test (y ∷ xs) all x e =

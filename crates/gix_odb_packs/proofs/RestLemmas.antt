@@ -1,4 +1,4 @@
--- What is left of a list behind some of its items.
+-- What is left of a list after some of its items.
 use Rattle.std.proofs.Common.{◌≡◌, ℕ, zero, suc, List, [], ◌∷◌, drop, slice_get, refl}
 use Rattle.gix_odb_events.specs.Shown.{first_of}
 

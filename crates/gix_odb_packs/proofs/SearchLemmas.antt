@@ -1,4 +1,4 @@
--- A search among indices, by the first of them and what is left behind it.
+-- A search among indices, by the first of them and what is left after it.
 use Rattle.std.proofs.Common.{◌≡◌, ◌<◌, List, [], ◌∷◌, drop, length, Option, Some, refl, sym, ap, ◌∙◌, arith}
 use Rattle.std.proofs.lemmas.Option.{same_Some}
 use Rattle.gix_odb_events.specs.Shown.{first_of}
@@ -27,7 +27,7 @@ shorter index [] is = cc is
 shorter index (first ∷ items) is = omega arith
 
 module _ (goal : Goal) (absent : List AbsentFile) (index : SnapshotIndex) where
-  -- an index with nothing is left behind
+  -- an index with nothing is skipped
   pub search_on : (items : List SnapshotIndex) → Some index ≡ first_of items → tried goal absent index ≡ Nowhere
       → search goal absent (drop 1 items) ≡ search goal absent items
   search_on [] is nowhere = refl

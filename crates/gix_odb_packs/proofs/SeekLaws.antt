@@ -1,4 +1,4 @@
--- What trying loaded indices comes to, where it is known what each of them comes to.
+-- What trying loaded indices results in, where the result of each of them is known.
 use Rattle.std.proofs.Common.{Bool, true, false, cond, List, [], ◌∷◌, All, None}
 use Rattle.std.proofs.lemmas.List.Elements.{All-head, All-tail}
 use Rattle.odb_base.specs.Path.{Path}
@@ -20,7 +20,7 @@ use Rattle.gix_odb_packs.specs.declared.trier.Tried.TheVariants as ends
 
 -- Here `IsHit`, `IsBad` and `IsWanted` say what holds of an object that is found, of an error, and of a pack that is to be read.
 module _ (IsHit : Found → Type 0) (IsBad : Error → Type 0) (IsWanted : WantedPack → Type 0) where
-  -- what a search comes to is so
+  -- what holds of the result of a search
   abbrev pub Comes : Sought → Type 0
   Comes Nowhere = Unit {0}
   Comes (Finds found) = IsHit found
@@ -39,7 +39,7 @@ module _ (IsHit : Found → Type 0) (IsBad : Error → Type 0) (IsWanted : Wante
       skipped_comes (record { slot = index.slot; place = place_in index.index spot; path = path; offset = spot.offset }) wanted
       (was_absent absent index.slot path)
 
-  -- the work goes on behind a search that came to nothing, and ends or reads a pack behind another
+  -- the work goes on after a search that found nothing, and ends or reads a pack after another
   pub search_ends : (P : Tried → Type 0) (goal : Goal) (ahead : Ahead) (sought : Sought) → Comes sought → P (at_todo goal ahead ahead.todo)
       → ((found : Found) → IsHit found → P (ends.Hit found))
       → ((error : Error) → IsBad error → P (ends.Bad error))
@@ -56,7 +56,7 @@ module _ (IsHit : Found → Type 0) (IsBad : Error → Type 0) (IsWanted : Wante
   first_comes (Fails error) other first further = first
   first_comes (Wants pack) other first further = first
 
-  -- a search comes to what one of the indices comes to
+  -- the result of a search is that of one of the indices
   pub search_comes : (goal : Goal) (absent : List AbsentFile) (P : SnapshotIndex → Type 0)
       → ((index : SnapshotIndex) → P index → Comes (tried goal absent index))
       → (indices : List SnapshotIndex)

@@ -1,4 +1,4 @@
--- Where an index says that an object stands.
+-- Where an index says that an object is.
 use Rattle.std.proofs.Common.{◌≡◌, ℕ, ◌<◌, true, List, length, map, drop, slice_get, Contains, Some, None, option_map, refl, sym, ap, ◌∙◌, subst, arith}
 use Rattle.std.specs.List.{zip}
 use Rattle.std.specs.Int.{w32, from_be_bytes}

@@ -31,7 +31,7 @@ below_next : (a b : ObjectId) (ids : List ObjectId) → is_rising (a ∷ b ∷ i
 unfolding is_rising
 below_next a b ids rising = less (id_cmp a b) (and_parts (is_lt (id_cmp a b)) (is_rising (b ∷ ids)) rising).0
 
--- the first id is below each other
+-- the first id is below each other one
 first_below : (a : ObjectId) (ids : List ObjectId) (n : ℕ) (other : ObjectId) → is_rising (a ∷ ids) ≡ true → slice_get ids n ≡ Some other → id_cmp a other ≡ Less
 first_below a [] n other rising get = cc get
 first_below a (b ∷ ids) zero other rising get = ap (id_cmp a) (sym (same_Some b other get)) ∙ below_next a b ids rising
@@ -75,7 +75,7 @@ module _ {X : Type 0} (id_in : X → ObjectId) (id : ObjectId) where
 
 -- ---- rows of two tables
 
--- what is told of the first of each pair
+-- what is known of the first of each pair
 pub first_parts : {X Y Z : Type 0} (f : X × Y → Z) (g : Z → X) → ((pair : X × Y) → g (f pair) ≡ pair.0) → (xs : List X) (ys : List Y)
     → length xs ≡ length ys → map g (map f (zip xs ys)) ≡ xs
 first_parts f g own [] ys same = refl

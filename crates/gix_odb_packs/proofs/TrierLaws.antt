@@ -1,4 +1,4 @@
--- What trying the indices of a list comes to.
+-- How trying the indices of a list ends.
 use Rattle.std.proofs.Common.{◌≡◌, Bool, true, false, List, [], ◌∷◌, Option, Some, None, Result, Ok, Err, refl, sym, subst, ℕ, inl, inr}
 use Rattle.std.specs.Prelude.{slice_get, unwrap_or, if◌then◌else◌}
 use Rattle.std.proofs.lemmas.Bool.{or_cases}
@@ -151,7 +151,7 @@ module _ (goal : Goal) (Failed : Type 0) (Refuses : Refusal → Type 0) where
   abbrev Noted : Notes → Type 0
   Noted notes = notes.failed ≡ true → Failed
 
-  -- What trying comes to: it goes on for its goal, finds what is wanted, or ends. A failure that is noted is one, and so is a refusal.
+  -- How trying ends: it goes on for its goal, finds what is wanted, or ends. A failure that is noted is one, as is a refusal.
   abbrev pub Comes : Tried → Type 0
   Comes (ends.More trier) = (trier.goal ≡ goal) × Noted trier.ahead.notes × Passes Failed trier.stage
   Comes (ends.Hit found) = Fits goal.want found
@@ -224,7 +224,7 @@ module _ (goal : Goal) (Failed : Type 0) (Refuses : Refusal → Type 0) where
     by_answer-comes (stages.StoringPack pack file) (told.Disk answer) passes fails refuses = (refl, noted, tt)
     by_answer-comes (stages.PassingPack pack) (told.Disk answer) passes fails refuses = (refl, noted, tt)
 
--- an answer to a trier: a failure that it notes was noted before, or is the answer; and so is a refusal that ends it
+-- an answer to a trier: a failure that it notes was noted before, or is the answer, as is a refusal that ends it
 pub fed-comes : (Failed : Type 0) (Refuses : Refusal → Type 0) (trier : Trier) (answer : Answer) → (trier.ahead.notes.failed ≡ true → Failed)
     → Passes Failed trier.stage
     → (answer ≡ told.Disk (answers.Refused disk_errors.Failed) → Failed)

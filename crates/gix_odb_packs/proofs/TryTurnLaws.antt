@@ -16,14 +16,14 @@ use Rattle.gix_odb_packs.specs.declared.trier.Tried.TheVariants as ends
 use Rattle.gix_odb_packs.specs.declared.trier.Trier.{Trier}
 use Rattle.gix_odb_packs.proofs.LoadLaws.{loader_turns}
 
--- the index that stands next is loaded, and its pack is read and stored or passed over
+-- the next index is loaded, and its pack is read and stored or passed over
 abbrev pub stage_turns : Stage → ℕ
 stage_turns (stages.Loading loader) = 2 + loader_turns loader
 stage_turns (stages.ReadingPack pack) = 2
 stage_turns (stages.StoringPack pack file) = 1
 stage_turns (stages.PassingPack pack) = 1
 
--- of each index ahead that is loaded the pack is read, and each other one is read, too
+-- of each pending index that is loaded the pack is read; each other one is read first
 abbrev pub ahead_turns : Ahead → ℕ
 ahead_turns ahead = 2 * length ahead.indices + 4 * length ahead.todo
 
@@ -46,7 +46,7 @@ trier_turns-pos trier = omega (arith, some_turns trier.stage)
 
 -- ---- a search
 
--- a search that comes to something leaves fewer indices than it was given
+-- a search that found something leaves fewer indices than it was given
 abbrev Leaves : Sought → (left all : ℕ) → Type 0
 Leaves searches.Nowhere left all = left ≤ all
 Leaves sought left all = left + 1 ≤ all
@@ -70,14 +70,14 @@ search_leaves goal absent [] = omega arith
 search_leaves goal absent (index ∷ rest) =
     first_leaves (tried goal absent index) (search goal absent rest) rest (rest_behind goal absent rest) (search_leaves goal absent rest)
 
--- ---- what trying comes to next
+-- ---- what trying does next
 
 todo_tries : (turns : ℕ) (goal : Goal) (ahead : Ahead) (todo : List Todo) → 2 * length ahead.indices + 4 * length todo ≤ turns
     → TriesFor turns (at_todo goal ahead todo)
 todo_tries turns goal ahead [] room = tt
 todo_tries turns goal ahead (first ∷ rest) room = omega arith
 
--- what is to be had for a search: two turns for a pack that is to be read
+-- what is left for a search: two turns for a pack that is to be read
 abbrev search_turns : Sought → ℕ
 search_turns (searches.Wants pack) = 2
 search_turns sought = 0
@@ -101,7 +101,7 @@ left_turns (searches.Finds found) left all rest fewer = omega arith
 left_turns (searches.Fails error) left all rest fewer = omega arith
 left_turns (searches.Wants pack) left all rest fewer = omega arith
 
--- trying goes on among what is ahead
+-- trying goes on among what is pending
 pub seek_tries : (turns : ℕ) (goal : Goal) (ahead : Ahead) → ahead_turns ahead ≤ turns → TriesFor turns (seek goal ahead)
 seek_tries turns goal ahead room =
     let sought = search goal ahead.notes.absent ahead.indices in
@@ -109,7 +109,7 @@ seek_tries turns goal ahead room =
     let fewer = left_turns sought (length left) (length ahead.indices) (4 * length ahead.todo) (search_leaves goal ahead.notes.absent ahead.indices) in
     search_tries turns goal (record ahead { indices = left }) sought (omega (arith, fewer))
 
--- an index that was loaded is searched, for which two turns are had
+-- an index that was loaded is searched, for which two turns are left
 pub loaded_tries : (turns : ℕ) (goal : Goal) (ahead : Ahead) (index : SnapshotIndex) → 2 + ahead_turns ahead ≤ turns
     → TriesFor turns (at_search goal ahead (tried goal ahead.notes.absent index))
 loaded_tries turns goal ahead index room =

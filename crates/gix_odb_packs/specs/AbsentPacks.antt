@@ -12,10 +12,10 @@ abbrev pub is_among : Option (BTreeSet Path) → Path → Bool
 is_among None path = false
 is_among (Some paths) path = contains path_cmp paths path
 
--- whether a path stands under a slot
+-- whether a path is listed under a slot
 abbrev pub in_index : BTreeMap ℕ (BTreeSet Path) → (slot : ℕ) → Path → Bool
 in_index index slot path = is_among (get nat_cmp index slot) path
 
--- a path stands under a slot exactly where its pack is in the list
+-- a path is listed under a slot exactly where its pack is in the list
 abbrev pub IsIndexOf : BTreeMap ℕ (BTreeSet Path) → List AbsentFile → Type 0
 IsIndexOf index list = (slot : ℕ) (path : Path) → in_index index slot path ≡ was_absent list slot path

@@ -12,7 +12,7 @@ use Rattle.gix_odb_packs.specs.declared.goal.Found.TheVariants as found
 use Rattle.gix_object.specs.declared.want.Want.{Want}
 use Rattle.gix_object.specs.declared.want.Want.TheVariants.{Object, Header, Presence}
 
--- an error of a pack, as one of a look for an object. Bytes that are no pack can't be loaded
+-- an error of a pack, as one of a search for an object. Bytes that are no pack can't be loaded
 abbrev pub error_of : pack.Error → Error
 error_of pack_errors.BadPack = errors.LoadPack
 error_of pack_errors.BadEntry = errors.Pack

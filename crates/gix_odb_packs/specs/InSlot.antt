@@ -1,4 +1,4 @@
--- What the index that a view shows of a slot tells of a path. No public clause cites this.
+-- What the index that a view shows of a slot says of a path. No public clause cites this.
 use Rattle.std.specs.Prelude.{Option, Some, None, if◌then◌else◌}
 use Rattle.gix_pack_files.specs.FileBytes.{FileBytes}
 use Rattle.gix_odb_events.specs.declared.loaded.SnapshotIndex.{SnapshotIndex}
@@ -7,7 +7,7 @@ use Rattle.gix_odb_packs.specs.TryOrder.Pack.{pack_among}
 use Rattle.gix_odb_packs.specs.declared.search.WantedPack.{WantedPack}
 use Rattle.gix_odb_packs.specs.declared.index_loader.IndexPlace.{IndexPlace}
 
--- the index, where it stands at the path
+-- the index, where it is at the path
 abbrev pub at_path : IndexPlace → Option SnapshotIndex → Option SnapshotIndex
 at_path place None = None
 at_path place (Some shown) = if is_at place shown then Some shown else None

@@ -34,7 +34,7 @@ look_of path follow = asks.Look path follow
 abbrev pub pack_of : ListingRow → Path
 pack_of row = pack_path row.path
 
--- a folder is opened, its stream is read and closed; then each index is looked at, links not followed, and its pack, links followed
+-- a folder is opened, its stream is read and closed; then each index is statted, links not followed, and its pack, links followed
 abbrev pub ask_at : Path → ListStage → DiskAsk
 ask_at folder stages.Opening = open_of folder
 ask_at folder (stages.Reading dir entries) = asks.NextEntry dir
@@ -64,7 +64,7 @@ abbrev pub behind_folder : ListHead → Option Path → ListStep
 behind_folder head None = ends.Listed (listing_of head)
 behind_folder head (Some folder) = more (record head { folder = pack_folder folder; next = head.next + 1 }) stages.Opening
 
--- the next index of a folder is looked at, if there is one
+-- the next index of a folder is statted, if there is one
 abbrev pub at_paths : List Path → ListHead → List Path → ListStep
 at_paths folders head [] = behind_folder head (slice_get folders head.next)
 at_paths folders head (path ∷ left) = more head (stages.Index path left)
@@ -84,7 +84,7 @@ read head dir entries answer = more head (stages.Breaking dir)
 abbrev pub closed : List Path → ListHead → List Entry → ListStep
 closed folders head entries = at_paths folders head (index_paths head.folder entries)
 
--- what an index's row has of a look at it
+-- the row of an index from its stat
 abbrev pub row_of : Path → Meta → ListingRow
 row_of path meta = record { path = path; time = meta.time; len = meta.len; multi = None }
 

@@ -1,4 +1,4 @@
--- How one index of a list is loaded: it is read, and then stored in the core, or passed over where it can't be had.
+-- How one index of a list is loaded: it is read, and then stored in the core, or passed over where it can't be loaded.
 use Rattle.std.specs.Prelude.{ℕ, ◌==◌, ◌&&◌, Bool, List, Option, Some, None, Result, Ok, Err, if◌then◌else◌}
 use Rattle.std.specs.List.{find}
 use Rattle.odb_base.specs.Path.{Path}
@@ -62,14 +62,14 @@ why_of answer = whys.WrongKind
 abbrev pub index_or_bad : Kind → IndexPlace → List ℕ → IndexLoader
 index_or_bad hash place bytes = if is_index hash bytes then Storing place (record { kind = hash; bytes = bytes }) else Passing place whys.Bad
 
--- bytes that are an index are to be stored; other bytes are passed over, and so is a path that gives none
+-- bytes that are an index are to be stored; other bytes are passed over, as is a path that gives none
 abbrev pub index_read : Kind → IndexPlace → DiskAnswer → IndexLoader
 index_read hash place (answers.File bytes time) = index_or_bad hash place bytes
 index_read hash place answer = Passing place (why_of answer)
 
 -- ---- an index that was stored
 
--- an index that is shown stands in a slot, at a path
+-- an index that is shown is in a slot, at a path
 abbrev pub is_at : IndexPlace → SnapshotIndex → Bool
 is_at place shown = shown.slot == place.slot && same_path shown.path place.path
 
@@ -96,9 +96,9 @@ shown_or_own place file None = own_index place file
 abbrev pub index_stored : IndexPlace → FileBytes → Effect → SnapshotIndex
 index_stored place file effect = shown_or_own place file (shown_behind place effect)
 
--- ---- what comes of an answer
+-- ---- what follows an answer
 
--- An answer of the other kind than what was asked for leaves the stage, here and below.
+-- An answer of the other kind than what was asked for leaves the stage unchanged, here and below.
 abbrev pub after_disk : Kind → IndexLoader → DiskAnswer → IndexLoader
 after_disk hash (Reading place) answer = index_read hash place answer
 after_disk hash loader answer = loader

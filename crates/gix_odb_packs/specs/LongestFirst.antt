@@ -2,7 +2,7 @@
 use Rattle.std.specs.Prelude.{List, [], ◌∷◌, nat_lt, if◌then◌else◌}
 use Rattle.gix_odb_events.specs.declared.listing.ListingRow.{ListingRow}
 
--- a row stands before the first one that is shorter
+-- a row is put before the first one that is shorter
 abbrev pub put_row : ListingRow → List ListingRow → List ListingRow
 put_row row [] = row ∷ []
 put_row row (other ∷ rows) = if nat_lt other.len row.len then row ∷ other ∷ rows else other ∷ put_row row rows

@@ -1,4 +1,4 @@
--- The folder that packs stand in, and the indices among its entries.
+-- The folder of packs, and the indices among its entries.
 use Rattle.std.specs.Prelude.{◌++◌, ◌&&◌, Bool, true, false, List, [], ◌∷◌, length, map, filter, codes, nat_eq, nat_lt, if◌then◌else◌}
 use Rattle.std.specs.List.{ends_with, list_any}
 use Rattle.odb_base.specs.Path.{Name, Path, is_name, same_name}
@@ -6,7 +6,7 @@ use Rattle.odb_nodes.specs.declared.entry.Entry.{Entry}
 use Rattle.odb_nodes.specs.declared.meta.Kind.{Kind}
 use Rattle.odb_nodes.specs.declared.meta.Kind.TheVariants.{File}
 
--- the folder of a store's folder that packs stand in
+-- the folder of packs of a store's folder
 abbrev pub pack_folder : Path → Path
 pack_folder folder = folder ++ codes "pack" ∷ []
 

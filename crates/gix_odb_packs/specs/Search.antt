@@ -35,7 +35,7 @@ abbrev pub given_or_not : Result Found Error → Sought
 given_or_not (Ok found) = Finds found
 given_or_not (Err error) = Fails error
 
--- only a multi-pack index has several packs, and tells which one
+-- only a multi-pack index has several packs, and says which one
 abbrev pub place_in : LoadedIndex → Spot → Option ℕ
 place_in (Single file) spot = None
 place_in (Multi bytes) spot = Some spot.place
@@ -66,7 +66,7 @@ tried goal absent index = at_spot goal.want goal absent index (spot_in index.ind
 
 -- ---- indices, one after another
 
--- the first search that comes to something
+-- the first search that finds something
 abbrev pub first_of : Sought → Sought → Sought
 first_of Nowhere further = further
 first_of search further = search
@@ -75,12 +75,12 @@ abbrev pub search : Goal → List AbsentFile → List SnapshotIndex → Sought
 search goal absent [] = Nowhere
 search goal absent (index ∷ rest) = first_of (tried goal absent index) (search goal absent rest)
 
--- what is left behind a search that came to something, or behind the further one
+-- what is left after a search that found something, or after the other one
 abbrev pub left_by : Sought → (rest further : List SnapshotIndex) → List SnapshotIndex
 left_by Nowhere rest further = further
 left_by search rest further = rest
 
--- what is left of the indices behind the one at which the search ends
+-- what is left of the indices after the one at which the search ends
 abbrev pub rest_behind : Goal → List AbsentFile → List SnapshotIndex → List SnapshotIndex
 rest_behind goal absent [] = []
 rest_behind goal absent (index ∷ rest) = left_by (tried goal absent index) rest (rest_behind goal absent rest)

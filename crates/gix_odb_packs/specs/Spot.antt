@@ -1,4 +1,4 @@
--- Where an index says that the object of an id stands.
+-- Where an index says that the object of an id is.
 use Rattle.std.specs.Prelude.{ℕ, List, Option, option_map}
 use Rattle.std.specs.List.{find}
 use Rattle.std.specs.Ordering.{is_eq}

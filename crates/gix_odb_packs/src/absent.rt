@@ -18,7 +18,7 @@ use std::marker::Model;
 type PathIndex = BTreeMap<u16, BTreeSet<PathText>>;
 
 /// The packs that were absent, in the order in which they were noted, which contracts see as that list. Whether a pack is among
-/// them is told without going through it.
+/// them is found without going through the list.
 #[derive(Drop)]
 pub struct AbsentPacks {
     files: Vec<AbsentFile>,
@@ -40,7 +40,7 @@ impl Model for AbsentPacks {
 }
 
 impl AbsentPacks {
-    /// No pack.
+    /// Returns an empty list.
     pub(crate) fn new(alloc: Global) -> AbsentPacks
         ensures empty { result ≡ [] }
     {
@@ -50,14 +50,14 @@ impl AbsentPacks {
         }
     }
 
-    /// The packs, in the order in which they were noted.
+    /// Returns the packs, in the order in which they were noted.
     pub fn as_slice(&self) -> &[AbsentFile]
         ensures packs { result.now ≡ self.now }
     {
         &self.files
     }
 
-    /// Whether a pack of a slot was absent.
+    /// Returns whether a pack of a slot was absent.
     pub(crate) fn has(&self, slot: u16, path: &PathText) -> bool
         ensures has { result ≡ was_absent self.now slot path.now }
     {
@@ -67,7 +67,7 @@ impl AbsentPacks {
         }
     }
 
-    /// Adds a pack of a slot. Want of memory changes nothing.
+    /// Adds a pack of a slot. Running out of memory changes nothing.
     pub(crate) fn push(&mut self, alloc: Global, slot: u16, path: PathText) -> Result<(), NoMemory>
         ensures ok { OnOk result (self.new ≡ self.old ++ (record { slot = slot; path = path }) ∷ []) }
         ensures err { OnErr result (self.new ≡ self.old) }
@@ -83,7 +83,7 @@ impl AbsentPacks {
     }
 }
 
-/// Puts a path under a slot. Want of memory leaves what is there.
+/// Puts a path under a slot. Running out of memory changes nothing.
 fn put(alloc: Global, index: &mut PathIndex, slot: u16, path: PathText) -> Result<(), NoMemory>
     ensures put { OnOk result ((other : ℕ) (place : Path) → in_index index.new other place ≡ (in_index index.old other place || (slot == other && same_path path place))) }
     ensures kept { OnErr result ((other : ℕ) (place : Path) → in_index index.new other place ≡ in_index index.old other place) }
@@ -94,7 +94,7 @@ fn put(alloc: Global, index: &mut PathIndex, slot: u16, path: PathText) -> Resul
     }
 }
 
-/// Puts the first path under a slot. Want of memory changes nothing.
+/// Puts the first path under a slot. Running out of memory changes nothing.
 fn put_first(
     alloc: Global,
     index: &mut PathIndex,
@@ -111,7 +111,7 @@ fn put_first(
     Ok(())
 }
 
-/// Adds a path. Want of memory changes nothing.
+/// Adds a path. Running out of memory changes nothing.
 fn add(paths: &mut BTreeSet<PathText>, path: PathText) -> Result<(), NoMemory>
     ensures added { OnOk result ((place : Path) → contains path_cmp paths.new place ≡ (contains path_cmp paths.old place || same_path path place)) }
     ensures kept { OnErr result (paths.new.keys ≡ paths.old.keys) }

@@ -1,4 +1,4 @@
-//! The folder that packs stand in, and the indices among its entries.
+//! The folder of packs, and the indices among its entries.
 ghost use Rattle.std.specs.Prelude.{◌≡◌, ◌++◌, ◌∷◌, [], IfOk, OnOk, map, if◌then◌else◌};
 ghost use Rattle.gix_odb_packs.specs.PackFolder.{firsts, index_paths, is_index_entry, is_index_name, pack_folder};
 
@@ -10,7 +10,7 @@ use std::collections::BTreeSet;
 /// Paths, in order.
 pub(crate) type PathList = Sequence<PathText>;
 
-/// The folder of a store's folder that packs stand in.
+/// Returns the folder of packs of a store's folder.
 pub fn pack_folder(alloc: Global, folder: &PathText) -> Result<PathText, NoMemory>
     ensures folder { IfOk result (λ path. path ≡ pack_folder folder.now) }
 {
@@ -21,7 +21,7 @@ pub fn pack_folder(alloc: Global, folder: &PathText) -> Result<PathText, NoMemor
     }
 }
 
-/// Whether a name is that of an index: it ends in `.idx`, and has something before it.
+/// Returns whether a name is that of an index: it ends in `.idx`, and has something before it.
 fn is_index_name(name: &PathName) -> bool
     ensures index { result ≡ is_index_name name.now }
 {
@@ -29,7 +29,7 @@ fn is_index_name(name: &PathName) -> bool
     name.is_name() && bytes.len() > 4 && bytes.ends_with(b".idx")
 }
 
-/// The entries, each unless an earlier one has its name.
+/// Returns the entries, each unless an earlier one has its name.
 fn firsts<'a>(alloc: Global, entries: &'a [Entry]) -> Result<Vec<&'a Entry>, NoMemory>
     ensures firsts { IfOk result (λ found. map (λ entry. entry.now) found.items ≡ firsts entries.now) }
 {
@@ -43,7 +43,7 @@ fn firsts<'a>(alloc: Global, entries: &'a [Entry]) -> Result<Vec<&'a Entry>, NoM
     Ok(found)
 }
 
-/// Adds the path of an index to others, if an entry is one.
+/// Adds the path of an entry to others, if the entry is an index.
 fn put_index(
     alloc: Global,
     folder: &PathText,
@@ -62,7 +62,7 @@ fn put_index(
     Ok(())
 }
 
-/// The paths of the indices among the entries of a folder, each once, in the order of the entries.
+/// Returns the paths of the indices among the entries of a folder, each once, in the order of the entries.
 pub(crate) fn index_paths(
     alloc: Global,
     folder: &PathText,

@@ -28,13 +28,13 @@ pub enum Found {
 /// Why an index that has the id leads to no object.
 #[derive(Clone, Copy, Debug, Error)]
 pub enum Error {
-    /// The pack could not be read, or is none.
+    /// The pack could not be read, or is no pack.
     #[error("the pack could not be read")]
     LoadPack,
-    /// No entry stands at the offset that the index names.
+    /// There is no entry at the offset that the index names.
     #[error("there is no entry where the index says")]
     Pack,
-    /// The entry has a type that is no kind.
+    /// The entry has a type that is no kind of object.
     #[error("{code} is no type of an entry")]
     EntryType { code: u8 },
     /// The entry is a delta.
@@ -58,7 +58,7 @@ fn error_of(error: data::Error) -> Error
 }
 
 impl Goal {
-    /// What a pack gives at an offset. The outer error is want of memory.
+    /// Returns what a pack gives at an offset. The outer error: memory ran out.
     pub(crate) fn given_by(
         &self,
         alloc: Global,

@@ -21,10 +21,10 @@ pub struct IndexPlace {
     pub path: PathText,
 }
 
-/// Loading an index on its way.
+/// The state of loading an index.
 ///
 /// `ask` names the next call of the disk or the next event of the store's core, `feed` takes its answer. What the loaded index
-/// serves for is its caller's.
+/// is used for is up to the caller.
 #[derive(Drop)]
 pub enum IndexLoader {
     /// The index is to be read.
@@ -34,19 +34,19 @@ pub enum IndexLoader {
         place: IndexPlace,
         file: Shared<index::File>,
     },
-    /// It can't be had, which is to be noted in the core.
+    /// It can't be loaded, which is to be noted in the core.
     Passing {
         place: IndexPlace,
         why: PassWhy,
     },
 }
 
-/// What loading comes to.
+/// The result of a step of loading.
 #[derive(Drop)]
 pub enum LoadStep {
     /// It goes on.
     More(IndexLoader),
-    /// The index is stored. It is given as the core shows it, or as it was read where its slot no longer holds its path.
+    /// The index is stored. It is as the core shows it, or as it was read where its slot no longer holds its path.
     Loaded(SnapshotIndex),
     /// The index is passed over.
     Missed(PassWhy),
@@ -54,7 +54,7 @@ pub enum LoadStep {
     Broken(Refusal),
 }
 
-/// A copy of a path, as the call of the disk that reads it.
+/// Returns the call of the disk that reads a path, which is copied.
 pub(crate) fn read_of(alloc: Global, path: &PathText) -> Result<Ask, NoMemory>
     ensures asks { IfOk result (λ ask. ask ≡ order.read_of path.now) }
 {
@@ -62,7 +62,7 @@ pub(crate) fn read_of(alloc: Global, path: &PathText) -> Result<Ask, NoMemory>
     Ok(Ask::Disk(DiskAsk::Read { path }))
 }
 
-/// The event that a file of a slot could not be read.
+/// Returns the event that a file of a slot could not be read.
 pub(crate) fn pass_of(
     alloc: Global,
     slot: u16,
@@ -75,7 +75,7 @@ pub(crate) fn pass_of(
     Ok(Ask::Core(Event::PassOver { slot, path, why }))
 }
 
-/// The event that an index was read.
+/// Returns the event that an index was read.
 fn put_index(alloc: Global, place: &IndexPlace, file: &Shared<index::File>) -> Result<Ask, NoMemory>
     ensures asks { IfOk result (λ ask. ask ≡ put_index place.now file.now) }
 {
@@ -86,7 +86,7 @@ fn put_index(alloc: Global, place: &IndexPlace, file: &Shared<index::File>) -> R
 }
 
 impl IndexPlace {
-    /// Where a listed index is.
+    /// Returns where a listed index is.
     pub fn of(alloc: Global, todo: &Todo) -> Result<IndexPlace, NoMemory>
         ensures place { IfOk result (λ place. place ≡ place_of todo.now) }
     {
@@ -106,7 +106,7 @@ impl IndexLoader {
         IndexLoader::Reading(place)
     }
 
-    /// What comes next: a call of the disk, or an event of the store's core.
+    /// Returns what comes next: a call of the disk, or an event of the store's core.
     pub fn ask(&self, alloc: Global) -> Result<Ask, NoMemory>
         ensures asked { IfOk result (λ ask. ask ≡ ask_of self.now) }
     {
@@ -117,8 +117,8 @@ impl IndexLoader {
         }
     }
 
-    /// What it comes to after the answer to what it asked for, where ids come from a hash. An answer of the other kind, of the disk or of
-    /// the core, leaves the stage.
+    /// Returns the step after the answer to what was asked for, where ids come from a hash. An answer of the other kind, of
+    /// the disk or of the core, leaves the stage unchanged.
     pub fn feed(self, alloc: Global, hash: Kind, answer: Answer) -> Result<LoadStep, NoMemory>
         ensures fed { IfOk result (λ step. step ≡ order.fed hash self answer) }
     {
@@ -129,7 +129,7 @@ impl IndexLoader {
     }
 }
 
-/// The stage after the disk answered. Want of memory ends the work.
+/// Returns the stage after the disk answered. Fails where memory runs out.
 fn after_disk(
     alloc: Global,
     hash: Kind,
@@ -147,7 +147,7 @@ fn after_disk(
     }
 }
 
-/// What it comes to after the core answered. Want of memory ends the work.
+/// Returns the step after the core answered. Fails where memory runs out.
 fn after_core(
     alloc: Global,
     loader: IndexLoader,
@@ -165,7 +165,7 @@ fn after_core(
     }
 }
 
-/// What it comes to after the core was handed an index.
+/// Returns the step after the core stored an index.
 fn after_storing(
     alloc: Global,
     place: IndexPlace,
@@ -188,7 +188,7 @@ fn after_storing(
     }
 }
 
-/// What it comes to after the core was told of an index that can't be had.
+/// Returns the step after the core noted an index that can't be loaded.
 fn after_passing(
     place: IndexPlace,
     why: PassWhy,
@@ -206,7 +206,7 @@ fn after_passing(
     }
 }
 
-/// An event that was refused ends the work, and so does want of memory.
+/// Ends the work by a refusal of the core. Fails where memory ran out.
 fn broken(refusal: Refusal) -> Result<LoadStep, NoMemory>
     ensures broken { IfOk result (λ step. step ≡ LoadStep.Broken refusal) }
 {
@@ -216,7 +216,7 @@ fn broken(refusal: Refusal) -> Result<LoadStep, NoMemory>
     }
 }
 
-/// Why a file is passed over, by the answer to its read.
+/// Returns why a file is passed over, by the answer to its read.
 fn why_of(answer: &DiskAnswer) -> PassWhy
     ensures why { result ≡ order.why_of answer.now }
 {
@@ -228,7 +228,7 @@ fn why_of(answer: &DiskAnswer) -> PassWhy
     }
 }
 
-/// The stage after bytes were read of an index.
+/// Returns the stage after bytes were read of an index.
 fn index_or_bad(
     alloc: Global,
     hash: Kind,
@@ -249,7 +249,7 @@ fn index_or_bad(
     }
 }
 
-/// The stage after an index was read. Want of memory ends it.
+/// Returns the stage after an index was read. Fails where memory runs out.
 fn index_read(
     alloc: Global,
     hash: Kind,

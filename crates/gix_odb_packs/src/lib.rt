@@ -1,7 +1,7 @@
 //! How packs are found among the files of a store: the folders are listed, and the indices of a list are tried.
 //!
 //! Machines do it: `Lister` names one call of the disk at a time, `Trier` one call of the disk or one event of the store's
-//! core, and so does `IndexLoader`, by which `Trier` loads an index; each takes the answer and goes on, or ends. A call on a
+//! core, as does `IndexLoader`, by which `Trier` loads an index; each takes the answer and goes on, or ends. A call on a
 //! handle drives them in the order that it has for them. `specs/{ListOrder,LoadOrder,TryOrder}.antt` say in which order they
 //! work, `specs/Goal.antt` what an index and a pack give.
 //! ```rust

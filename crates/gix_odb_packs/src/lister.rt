@@ -12,7 +12,7 @@ use odb_base::{NoMemory, PathText, Sequence};
 use odb_nodes::{DiskError, Entry, Kind};
 use std::alloc::Global;
 
-/// A listing of the folders of packs on its way.
+/// The state of a listing of the folders of packs.
 ///
 /// `ask` names the next call of the disk, `feed` takes its answer.
 #[derive(Drop)]
@@ -28,7 +28,7 @@ pub struct ListHead {
     base: u64,
     /// The folder of packs that is listed.
     folder: PathText,
-    /// The place of the folder that comes next, among those beside the objects directory.
+    /// The place of the folder that comes next, among those besides the objects directory.
     next: usize,
     /// The rows that were found.
     rows: ListingRowList,
@@ -37,7 +37,7 @@ pub struct ListHead {
 /// The entries of a stream, in its order.
 pub type EntryList = Sequence<Entry>;
 
-/// Where a listing stands in its folder.
+/// The stage of a listing in its folder.
 #[derive(Drop)]
 pub enum ListStage {
     /// The folder is to be opened.
@@ -56,31 +56,31 @@ pub enum ListStage {
     Breaking {
         dir: DirId,
     },
-    /// An index is to be looked at; the others are left.
+    /// An index is to be statted; the others are left.
     Index {
         path: PathText,
         left: Rest<PathText>,
     },
-    /// The pack of an index is to be looked at.
+    /// The pack of an index is to be statted.
     Pack {
         row: ListingRow,
         left: Rest<PathText>,
     },
 }
 
-/// What a listing comes to.
+/// The result of a step of a listing.
 #[derive(Drop)]
 pub enum ListStep {
     /// It goes on.
     More(Lister),
     /// All folders were listed: the rows come in the order in which they are tried.
     Listed(Listing),
-    /// A call failed, or what was to be a folder is none.
+    /// A call failed, or a folder of packs is no directory.
     Broken,
 }
 
 impl Lister {
-    /// A new listing after the list of a number, which begins with the objects directory.
+    /// Returns a new listing after the list of a number, which begins with the objects directory.
     pub fn start(alloc: Global, objects: &PathText, base: u64) -> Result<Lister, NoMemory>
         ensures begun { IfOk result (λ lister. lister ≡ started objects.now base) }
     {
@@ -95,14 +95,14 @@ impl Lister {
         })
     }
 
-    /// The folder of packs that is listed: the calls on its stream have no path of their own.
+    /// Returns the folder of packs that is listed: the calls on its stream have no path of their own.
     pub fn folder(&self) -> &PathText
         ensures folder { result.now ≡ self.now.head.folder }
     {
         &self.head.folder
     }
 
-    /// The call of the disk that comes next.
+    /// Returns the call of the disk that comes next.
     pub fn ask(&self, alloc: Global) -> Result<DiskAsk, NoMemory>
         ensures asked { IfOk result (λ ask. ask ≡ ask_of self.now) }
     {
@@ -116,7 +116,7 @@ impl Lister {
         }
     }
 
-    /// What it comes to behind the answer to what it asked for, where these are the folders beside the objects directory.
+    /// Returns the step after the answer to what was asked for, where these are the folders besides the objects directory.
     pub fn feed(
         self,
         alloc: Global,
@@ -134,7 +134,7 @@ impl Lister {
     }
 }
 
-/// What it comes to behind the answer to what a stage asked for.
+/// Returns the step after the answer to what a stage asked for.
 fn fed_at(
     alloc: Global,
     folders: &[PathText],
@@ -187,7 +187,7 @@ fn look_of(alloc: Global, path: &PathText, follow: bool) -> Result<DiskAsk, NoMe
     Ok(DiskAsk::Look { path, follow })
 }
 
-/// The look at the pack of an index, links followed.
+/// Returns the stat of the pack of an index, links followed.
 fn pack_look(alloc: Global, row: &ListingRow) -> Result<DiskAsk, NoMemory>
     ensures asks { IfOk result (λ ask. ask ≡ order.look_of (order.pack_of row.now) true) }
 {
@@ -201,7 +201,7 @@ fn more(head: ListHead, stage: ListStage) -> ListStep
     ListStep::More(Lister { head, stage })
 }
 
-/// The next folder is listed, or all are.
+/// Lists the next folder, or ends where all are listed.
 fn behind_folder(alloc: Global, folders: &[PathText], head: ListHead) -> Result<ListStep, NoMemory>
     ensures behind { IfOk result (λ listed. listed ≡ behind_folder head (slice_get folders.now head.next)) }
 {
@@ -233,7 +233,7 @@ fn behind_folder(alloc: Global, folders: &[PathText], head: ListHead) -> Result<
     }
 }
 
-/// The stream of a folder is read from its beginning.
+/// Reads the stream of a folder from its beginning.
 fn reading(alloc: Global, head: ListHead, dir: DirId) -> ListStep
     ensures reading { result ≡ order.more head (ListStage.Reading dir []) }
 {
@@ -241,7 +241,7 @@ fn reading(alloc: Global, head: ListHead, dir: DirId) -> ListStep
     more(head, ListStage::Reading { dir, entries })
 }
 
-/// What it comes to that a folder was to be opened. One that isn't there has no packs.
+/// Returns the step after a folder was opened. One that isn't there has no packs.
 fn opened(
     alloc: Global,
     folders: &[PathText],
@@ -260,7 +260,7 @@ fn opened(
     }
 }
 
-/// What it comes to that a stream was read.
+/// Returns the step after a stream was read.
 fn read(
     head: ListHead,
     dir: DirId,
@@ -279,7 +279,7 @@ fn read(
     }
 }
 
-/// What it comes to that a stream was closed: the indices among its entries are looked at.
+/// Returns the step after a stream was closed: the indices among its entries are to be statted.
 fn closed(
     alloc: Global,
     folders: &[PathText],
@@ -293,7 +293,7 @@ fn closed(
     at_paths(alloc, folders, head, left)
 }
 
-/// The next index of the folder is looked at, if there is one.
+/// Stats the next index of the folder, if there is one.
 fn at_paths(
     alloc: Global,
     folders: &[PathText],
@@ -319,7 +319,7 @@ fn at_paths(
     }
 }
 
-/// What it comes to that an index was looked at: its pack is looked at, where it is a file itself.
+/// Returns the step after an index was statted: its pack is statted next, where the index is a file itself.
 fn by_index(
     alloc: Global,
     folders: &[PathText],
@@ -354,7 +354,7 @@ fn by_index(
 }
 
 impl ListHead {
-    /// One row more. Want of memory leaves the rows.
+    /// Adds one row. Running out of memory leaves the rows.
     fn put(&mut self, row: ListingRow) -> Result<(), NoMemory>
         ensures put { OnOk result (self.new ≡ with_row self.old row) }
     {
@@ -363,7 +363,7 @@ impl ListHead {
     }
 }
 
-/// What it comes to that the pack of an index was looked at: where it leads to a file, the index has its row.
+/// Returns the step after the pack of an index was statted: where it leads to a file, the index has its row.
 fn by_pack(
     alloc: Global,
     folders: &[PathText],
@@ -391,7 +391,7 @@ fn by_pack(
     }
 }
 
-/// The next index of the folder is looked at, behind one that has this row.
+/// Stats the next index of the folder, after one that has this row.
 fn behind_row(
     alloc: Global,
     folders: &[PathText],

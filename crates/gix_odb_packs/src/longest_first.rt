@@ -5,7 +5,7 @@ ghost use Rattle.gix_odb_packs.specs.LongestFirst.{longest_first};
 use gix_odb_events::ListingRowList;
 use odb_base::{NoMemory, Sequence};
 
-/// The rows of a listing, the longest files first; those of one length stay in their order.
+/// Sorts the rows of a listing, the longest files first; those of one length stay in their order.
 pub fn longest_first(rows: ListingRowList) -> Result<ListingRowList, NoMemory>
     ensures ordered { IfOk result (λ ordered. ordered ≡ longest_first rows) }
 {

@@ -7,7 +7,7 @@ use gix_odb_events::Shared;
 use odb_base::Sequence;
 use std::marker::Model;
 
-/// What is left of a shared list, which contracts see as the list of it.
+/// What is left of a shared list, which contracts see as a list.
 #[derive(Drop)]
 pub struct Rest<T> {
     list: Shared<Sequence<T>>,
@@ -26,21 +26,21 @@ impl<T> Model for Rest<T> {
 }
 
 impl<T> Rest<T> {
-    /// The whole of a list.
+    /// Returns the whole of a list.
     pub fn all(list: Shared<Sequence<T>>) -> Rest<T>
         ensures all { result ≡ list }
     {
         Rest { list, next: 0 }
     }
 
-    /// The first item that is left.
+    /// Returns the first item that is left.
     pub fn first(&self) -> Option<&T>
         ensures first { option_copied result ≡ first_of self.now }
     {
         self.list.value().get(self.next)
     }
 
-    /// Leaves the first item behind.
+    /// Skips the first item.
     pub fn advance(&mut self)
         ensures rest { self.new ≡ drop 1 self.old }
     {

@@ -26,7 +26,7 @@ pub struct Notes {
     pub absent: AbsentPacks,
 }
 
-/// A pack that has to be read, since an index says that the object stands in it.
+/// A pack that has to be read, since an index says that it has the object.
 #[derive(Drop)]
 pub struct WantedPack {
     /// The slot of the index.
@@ -34,11 +34,11 @@ pub struct WantedPack {
     /// The place of the pack among those of a multi-pack index, if the index is one.
     pub place: Option<u32>,
     pub path: PathText,
-    /// Where the object stands in the pack.
+    /// The offset of the object in the pack, in bytes.
     pub offset: u64,
 }
 
-/// What a search comes to.
+/// The result of a search.
 #[derive(Drop)]
 pub(crate) enum Sought {
     /// No index has the object in a pack that could be read.
@@ -50,7 +50,7 @@ pub(crate) enum Sought {
 }
 
 impl Notes {
-    /// Nothing was tried.
+    /// Returns notes where nothing was tried.
     pub fn new(alloc: Global) -> Notes
         ensures empty { result ≡ record { failed = false; absent = [] } }
     {
@@ -60,7 +60,7 @@ impl Notes {
         }
     }
 
-    /// The notes, with a failure.
+    /// Returns the notes, with a failure.
     pub fn failing(self) -> Notes
         ensures failing { result ≡ record self { failed = true } }
     {
@@ -71,7 +71,7 @@ impl Notes {
         }
     }
 
-    /// The notes without the packs that were absent.
+    /// Returns the notes without the packs that were absent.
     pub fn without_absent(self, alloc: Global) -> Notes
         ensures without { result ≡ record self { absent = [] } }
     {
@@ -81,7 +81,7 @@ impl Notes {
         }
     }
 
-    /// Notes that a pack was absent. Want of memory leaves the notes.
+    /// Notes that a pack was absent. Running out of memory leaves the notes.
     pub(crate) fn note_absent(
         &mut self,
         alloc: Global,
@@ -95,7 +95,7 @@ impl Notes {
     }
 }
 
-/// What a look into a pack comes to.
+/// Returns the result of a search from what a pack gave.
 fn given_or_not(given: Result<Found, Error>) -> Sought
     ensures search { result ≡ given_or_not given }
 {
@@ -105,7 +105,7 @@ fn given_or_not(given: Result<Found, Error>) -> Sought
     }
 }
 
-/// The place of a pack as its number has it: only a multi-pack index has several.
+/// Returns the place of a pack as its number has it: only a multi-pack index has several.
 fn place_in(index: &LoadedIndex, spot: Spot) -> Option<u32>
     ensures place { result ≡ place_in index.now spot }
 {
@@ -116,7 +116,7 @@ fn place_in(index: &LoadedIndex, spot: Spot) -> Option<u32>
 }
 
 impl Goal {
-    /// The search in one pack of an index that has the id.
+    /// Searches in one pack of an index that has the id.
     fn in_pack(
         &self,
         alloc: Global,
@@ -141,7 +141,7 @@ impl Goal {
         }))
     }
 
-    /// The search in one index.
+    /// Searches in one index.
     pub(crate) fn tried(
         &self,
         alloc: Global,
@@ -162,7 +162,7 @@ impl Goal {
         }
     }
 
-    /// The search in indices, one after another, up to the first that ends it or wants a pack. The others are left.
+    /// Searches in indices, one after another, up to the first that ends it or wants a pack. The others are left.
     pub(crate) fn search(
         &self,
         alloc: Global,

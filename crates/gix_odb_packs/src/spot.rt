@@ -1,4 +1,4 @@
-//! Where an index says that an object stands.
+//! Where an index says that an object is.
 ghost use Rattle.std.specs.Prelude.{◌≡◌};
 ghost use Rattle.gix_odb_packs.specs.Spot.{in_multi, in_single, spot_in};
 
@@ -7,7 +7,7 @@ use gix_multi_index as multi_index;
 use gix_odb_events::LoadedIndex;
 use gix_pack_files::index;
 
-/// Where an index says that an object stands: the place of its pack among the packs of the index, and the offset there.
+/// Where an index says that an object is: the place of its pack among the packs of the index, and the offset there, in bytes.
 #[derive(Clone, Copy)]
 pub(crate) struct Spot {
     pub place: u32,
@@ -45,7 +45,7 @@ fn in_multi(index: &multi_index::File, id: &ObjectId) -> Option<Spot>
     }
 }
 
-/// Where an index says that the object of an id stands, if it has the id.
+/// Returns where an index says that the object of an id is, if it has the id.
 pub(crate) fn spot_in(index: &LoadedIndex, id: &ObjectId) -> Option<Spot>
     ensures spot { result ≡ spot_in index.now id.now }
 {

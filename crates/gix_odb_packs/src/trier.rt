@@ -21,7 +21,7 @@ use read::pack_read;
 use std::alloc::Global;
 use stored::{pack_passed, pack_stored};
 
-/// Trying the indices of a list on its way.
+/// The state of trying the indices of a list.
 ///
 /// `ask` names the next call of the disk or the next event of the store's core, `feed` takes its answer.
 #[derive(Drop)]
@@ -41,7 +41,7 @@ pub struct Ahead {
     notes: Notes,
 }
 
-/// Where the work stands.
+/// The stage of the work.
 #[derive(Drop)]
 pub enum Stage {
     /// An index is being loaded.
@@ -57,14 +57,14 @@ pub enum Stage {
     PassingPack(WantedPack),
 }
 
-/// What trying comes to.
+/// The result of a step of trying.
 #[derive(Drop)]
 pub enum Tried {
     /// It goes on.
     More(Trier),
     /// An index led to the object.
     Hit(Found),
-    /// No index led to it.
+    /// No index led to the object.
     Missed(Notes),
     /// An index that has the id leads to no object.
     Bad(Error),
@@ -72,7 +72,7 @@ pub enum Tried {
     Broken(Refusal),
 }
 
-/// The event that a pack was read.
+/// Returns the event that a pack was read.
 fn put_pack(alloc: Global, pack: &WantedPack, file: &Shared<data::File>) -> Result<Ask, NoMemory>
     ensures asks { IfOk result (λ ask. ask ≡ order.put_pack pack.now file.now) }
 {
@@ -86,7 +86,7 @@ fn put_pack(alloc: Global, pack: &WantedPack, file: &Shared<data::File>) -> Resu
 }
 
 impl Trier {
-    /// Begins to try indices that are loaded, and behind them those that are still to be loaded.
+    /// Begins to try indices that are loaded, and after them those that are still to be loaded.
     pub fn start(
         alloc: Global,
         goal: Goal,
@@ -104,7 +104,7 @@ impl Trier {
         seek(alloc, goal, ahead)
     }
 
-    /// What comes next: a call of the disk, or an event of the store's core.
+    /// Returns what comes next: a call of the disk, or an event of the store's core.
     pub fn ask(&self, alloc: Global) -> Result<Ask, NoMemory>
         ensures asked { IfOk result (λ ask. ask ≡ ask_of self.now) }
     {
@@ -116,7 +116,8 @@ impl Trier {
         }
     }
 
-    /// What it comes to behind the answer to what it asked for. An answer of the other kind, of the disk or of the core, leaves the stage.
+    /// Returns the step after the answer to what was asked for. An answer of the other kind, of the disk or of the core,
+    /// leaves the stage unchanged.
     pub fn feed(self, alloc: Global, answer: Answer) -> Result<Tried, NoMemory>
         ensures fed { IfOk result (λ tried. tried ≡ order.fed self answer) }
     {
@@ -132,14 +133,14 @@ impl Trier {
     }
 }
 
-/// The same work at a stage.
+/// Returns the same work at a stage.
 fn at(goal: Goal, ahead: Ahead, stage: Stage) -> Tried
     ensures at { result ≡ order.at goal ahead stage }
 {
     Tried::More(Trier { goal, ahead, stage })
 }
 
-/// What it comes to after an answer to the loading of an index.
+/// Returns the step after an answer to the loading of an index.
 fn fed_loading(
     alloc: Global,
     goal: Goal,
@@ -158,7 +159,7 @@ fn fed_loading(
     }
 }
 
-/// What it comes to after the read of a pack.
+/// Returns the step after the read of a pack.
 fn fed_reading(
     alloc: Global,
     goal: Goal,
@@ -177,7 +178,7 @@ fn fed_reading(
     }
 }
 
-/// What it comes to after a pack was to be stored.
+/// Returns the step after a pack was to be stored.
 fn fed_storing(
     alloc: Global,
     goal: Goal,
@@ -208,7 +209,7 @@ fn fed_storing(
     }
 }
 
-/// What it comes to after a pack was to be passed over.
+/// Returns the step after a pack was to be passed over.
 fn fed_passing(
     alloc: Global,
     goal: Goal,
@@ -235,7 +236,7 @@ fn fed_passing(
     }
 }
 
-/// An event that was refused ends the work. So does want of memory.
+/// Ends the work by a refusal of the core. Fails where memory ran out.
 fn broken(refusal: Refusal) -> Result<Tried, NoMemory>
     ensures broken { IfOk result (λ tried. tried ≡ Tried.Broken refusal) }
 {
@@ -245,7 +246,7 @@ fn broken(refusal: Refusal) -> Result<Tried, NoMemory>
     }
 }
 
-/// The search in the loaded indices that are left, and behind them in those that are still to be loaded.
+/// Searches in the loaded indices that are left, and after them in those that are still to be loaded.
 fn seek(alloc: Global, goal: Goal, mut ahead: Ahead) -> Result<Tried, NoMemory>
     ensures sought { IfOk result (λ tried. tried ≡ seek goal ahead) }
 {
@@ -253,7 +254,7 @@ fn seek(alloc: Global, goal: Goal, mut ahead: Ahead) -> Result<Tried, NoMemory>
     at_search(alloc, goal, ahead, found)
 }
 
-/// What a search leads to: it ends the work, wants a pack, or leaves the indices that are still to be loaded.
+/// Returns what a search leads to: it ends the work, wants a pack, or leaves the indices that are still to be loaded.
 fn at_search(alloc: Global, goal: Goal, ahead: Ahead, found: Sought) -> Result<Tried, NoMemory>
     ensures at { IfOk result (λ tried. tried ≡ at_search goal ahead found) }
 {
@@ -271,7 +272,7 @@ fn at_search(alloc: Global, goal: Goal, ahead: Ahead, found: Sought) -> Result<T
     }
 }
 
-/// The next index that is still to be loaded is loaded, if there is one.
+/// Loads the next index that is still to be loaded, if there is one.
 fn at_todo(alloc: Global, goal: Goal, mut ahead: Ahead) -> Result<Tried, NoMemory>
     ensures at { IfOk result (λ tried. tried ≡ at_todo goal ahead ahead.todo) }
 {
@@ -285,7 +286,7 @@ fn at_todo(alloc: Global, goal: Goal, mut ahead: Ahead) -> Result<Tried, NoMemor
     }
 }
 
-/// An index that is still to be loaded is loaded.
+/// Loads an index that is still to be loaded.
 fn at_index(alloc: Global, goal: Goal, ahead: Ahead, todo: &Todo) -> Result<Tried, NoMemory>
     ensures loads { IfOk result (λ tried. tried ≡ order.at goal ahead (Stage.Loading (IndexLoader.Reading (load.place_of todo.now)))) }
 {
@@ -298,7 +299,7 @@ fn at_index(alloc: Global, goal: Goal, ahead: Ahead, todo: &Todo) -> Result<Trie
     }
 }
 
-/// Nothing is left to be tried.
+/// Ends where nothing is left to be tried.
 fn missed(ahead: Ahead) -> Tried
     ensures missed { result ≡ Tried.Missed ahead.notes }
 {

@@ -1,4 +1,4 @@
--- What each exchange of a machine keeps holds behind all of them; and machines behind one exchange more.
+-- What each exchange of a machine preserves holds after all of them; and machines after one more exchange.
 use Rattle.std.proofs.Common.{◌≡◌, ℕ, ◌+◌, List, [], ◌∷◌, ◌++◌, length, Contains, Option, Some, None, refl, sym, ap, subst, append_assoc, append-nil, arith}
 use Rattle.gix_odb_events.specs.declared.answer.Answer.{Answer}
 use Rattle.gix_odb_events.specs.declared.answer.Ask.{Ask}
@@ -6,7 +6,7 @@ use Rattle.gix_odb_refresh.specs.Exchange.{Exchange}
 use Rattle.gix_odb_refresh.proofs.ListerLaws.Lists.{has_first, has_later}
 use Rattle.gix_odb_refresh.specs.Asked.{AreAsked, behind, one_more, turns_of}
 
--- Here `Holds past machine` is what holds of a machine behind exchanges, and `Meets` what is known of each exchange.
+-- Here `Holds past machine` is what holds of a machine after exchanges, and `Meets` what is known of each exchange.
 module _ {Machine : Type 0} (ask_of : Machine → Option Ask) (fed : Machine → Answer → Machine) (Holds : List Exchange → Machine → Type 0)
     (Meets : Exchange → Type 0)
     (kept : (past : List Exchange) (machine : Machine) (exchange : Exchange) → Holds past machine → ask_of machine ≡ Some exchange.ask → Meets exchange
@@ -26,7 +26,7 @@ module _ {Machine : Type 0} (ask_of : Machine → Option Ask) (fed : Machine →
       → Holds exchanges (behind ask_of fed machine exchanges)
   holds_behind machine exchanges holds asked meets = holds_from [] machine exchanges holds asked meets
 
--- ---- behind one exchange more
+-- ---- after one more exchange
 
 module _ {Machine : Type 0} (ask_of : Machine → Option Ask) (fed : Machine → Answer → Machine) where
   pub behind-push : (machine : Machine) (exchanges : List Exchange) (exchange : Exchange)
@@ -48,7 +48,7 @@ module _ {Machine : Type 0} (ask_of : Machine → Option Ask) (fed : Machine →
       ap (λ (asks : Option Ask). one_more asks (turns_of ask_of fed (fed machine exchange.answer) exchanges)) asked.0 in
       omega (arith, rest, here)
 
-  -- an exchange behind those after which it asks nothing is none
+  -- where it asks nothing after exchanges, one more exchange is no turn of it
   pub turns_of-ended : (machine : Machine) (exchanges : List Exchange) (exchange : Exchange) → ask_of (behind ask_of fed machine exchanges) ≡ None
       → turns_of ask_of fed machine (exchanges ++ exchange ∷ []) ≡ turns_of ask_of fed machine exchanges
   turns_of-ended machine [] exchange ended = ap (λ (asks : Option Ask). one_more asks 0) ended

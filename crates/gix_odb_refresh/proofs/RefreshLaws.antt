@@ -1,4 +1,4 @@
--- Laws of refreshes: what one hands to the core, which streams it reads, why it is refused, and how many turns it takes.
+-- Laws of refreshes: what one passes to the core, which streams it reads, why it is refused, and how many turns it takes.
 pub mod Known
 pub mod Causes
 pub mod Differ
@@ -45,7 +45,7 @@ use Rattle.gix_odb_refresh.proofs.RefreshLaws.Turns.{StepHasTurns, lap_is_wide, 
 pub a_read_snapshot_is_ready : (snapshot : View) → snapshot.read ≡ true → started snapshot ≡ steps.Read snapshot
 a_read_snapshot_is_ready snapshot is = ap (λ (read : Bool). if read then steps.Read snapshot else steps.More stages.Reading) is
 
--- and stays so
+-- and stays ready
 pub a_ready_refresh_stays_ready : (setting : Setting) (step : RefreshStep) → IsReady step → (further : List Exchange) → behind setting step further ≡ step
 a_ready_refresh_stays_ready setting step ready [] = refl
 a_ready_refresh_stays_ready setting (steps.Read view) ready (exchange ∷ further) = a_ready_refresh_stays_ready setting (steps.Read view) ready further
@@ -56,7 +56,7 @@ a_ready_refresh_stays_ready setting (steps.Outdated list_no) ready (exchange ∷
 a_ready_refresh_stays_ready setting (steps.More refresh) ready (exchange ∷ further) = absurd ready
 a_ready_refresh_stays_ready setting (steps.Refused error) ready (exchange ∷ further) = absurd ready
 
--- as it does behind one answer
+-- as it does after one answer
 pub a_ready_step_stays : (objects : Path) (folders : List Path) (step : RefreshStep) → IsReady step → (answer : Answer) → step_fed objects folders step answer ≡ step
 a_ready_step_stays objects folders (steps.More refresh) ready answer = absurd ready
 a_ready_step_stays objects folders (steps.Read view) ready answer = refl
@@ -112,7 +112,7 @@ refresh_asks_of_looks stages.Reading = tt
 refresh_asks_of_looks (stages.Listing lister) = tt
 refresh_asks_of_looks (stages.Publishing listing) = tt
 
--- the core is looked at, and a listing is published: events that look-ups ask too
+-- the core's state is read, and a listing is published: events that look-ups ask too
 pub refreshes_ask_events_of_looks_alone : (step : RefreshStep) (event : Event) → asked_of step ≡ Some (asks.Core event) → IsOfLooks event
 refreshes_ask_events_of_looks_alone step event is = by_ask (λ step ask. AsksOfLooks ask) refresh_asks_of_looks step (asks.Core event) is
 
@@ -145,7 +145,7 @@ module _ (setting : Setting) (snapshot : View) (exchanges : List Exchange) (aske
   knows : Knows setting exchanges refresh
   knows = refresh_knows setting snapshot exchanges asked
 
-  -- ---- what is handed to the core
+  -- ---- what is passed to the core
 
   abbrev HandsRows : Event → Type 0
   HandsRows (events.Publish listing) = All (IsIndexRow setting) listing.rows
@@ -160,11 +160,11 @@ module _ (setting : Setting) (snapshot : View) (exchanges : List Exchange) (aske
   hands_rows (steps.Outdated list_no) known = tt
   hands_rows (steps.Refused error) known = tt
 
-  -- the rows of a listing that is handed to the core are of indices in the folders of packs
+  -- the rows of a listing that is passed to the core are of indices in the folders of packs
   pub rows_are_of_the_folders : (listing : Listing) → asked_of refresh ≡ Some (asks.Core (events.Publish listing)) → All (IsIndexRow setting) listing.rows
   rows_are_of_the_folders listing is = handed_on HandsRows refresh (events.Publish listing) (hands_rows refresh knows) is
 
-  -- so what is handed to the core is of the folders, whatever was shown of them
+  -- so what is passed to the core is of the folders, whatever was shown of them
   pub what_a_refresh_hands_on_is_of_the_folders : (Shown : Path → List ℕ → Type 0) (hash : HashKind) (event : Event) → asked_of refresh ≡ Some (asks.Core event)
       → IsHanded Shown setting hash event
   what_a_refresh_hands_on_is_of_the_folders Shown hash event is = handed_on (IsHanded Shown setting hash) refresh event (by refresh knows) is
@@ -201,7 +201,7 @@ module _ (setting : Setting) (snapshot : View) (exchanges : List Exchange) (aske
   is_own_stream dir (folder, here) =
       record { folder = folder; last = here.last; left = here.left; stream = here.stream; told = here.told; of = here.of; number = here.number }
 
-  -- it reads and closes no stream but the one that it opened last
+  -- it reads and closes only the stream that it opened last
   pub streams_of_refreshes_are_their_own : (dir : ℕ)
       → (asked_of refresh ≡ Some (asks.Disk (disk_asks.NextEntry dir))) ⊎ (asked_of refresh ≡ Some (asks.Disk (disk_asks.CloseDir dir)))
       → IsOwnStream exchanges dir
@@ -261,7 +261,7 @@ module _ (setting : Setting) (snapshot : View) (exchanges : List Exchange) (aske
 
   -- ---- how many turns it takes
 
-  -- no more than a lap has, where no stream gives more entries than so many
+  -- at most as many as a lap has, where no stream gives more than `entries` entries
   pub a_refresh_takes_at_most_a_lap : (slots entries : ℕ) → AreWithin entries None exchanges → AreAnswered exchanges
       → length exchanges ≤ turns_of_lap slots (length (folders_of setting)) entries
   a_refresh_takes_at_most_a_lap slots entries within answered =

@@ -10,9 +10,9 @@ abbrev pub one_more : Option Ask → (later : ℕ) → ℕ
 one_more None later = 0
 one_more (Some ask) later = later + 1
 
--- Here `ask_of machine` is what a machine asks next, if anything, and `fed machine answer` is the machine behind an answer.
+-- Here `ask_of machine` is what a machine asks next, if anything, and `fed machine answer` is the machine after an answer.
 module _ {Machine : Type 0} (ask_of : Machine → Option Ask) (fed : Machine → Answer → Machine) where
-  -- the machine behind exchanges
+  -- the machine after exchanges
   abbrev pub behind : Machine → List Exchange → Machine
   behind machine [] = machine
   behind machine (exchange ∷ exchanges) = behind (fed machine exchange.answer) exchanges

@@ -1,4 +1,4 @@
--- Why a listing breaks off, and why an event is none.
+-- Why a listing breaks off, and why an event is refused.
 use Rattle.std.specs.Prelude.{◌≡◌, ◌⊎◌, List, Contains, Err}
 use Rattle.odb_base.specs.Path.{Path}
 use Rattle.odb_asks.specs.declared.ask.DiskAnswer.TheVariants as disk_answers
@@ -14,11 +14,11 @@ use Rattle.gix_odb_refresh.specs.Exchange.{Exchange, WasTold}
 use Rattle.gix_odb_refresh.specs.Shown.{folders_of}
 use Rattle.gix_odb_refresh.specs.Store.{Setting}
 
--- the wrong kind stands there, or a part of its way is one or a link loop
+-- the path leads to the wrong kind, or a part of its way is one or a link loop
 abbrev pub IsBlocked : DiskError → Type 0
 IsBlocked error = (error ≡ disk_errors.WrongKind) ⊎ (error ≡ disk_errors.LinkLoop)
 
--- the folder of packs of one of the folders is none
+-- the folder of packs of one of the folders is no directory
 pub record IsNoFolder (setting : Setting) (exchanges : List Exchange) : Type 0 where
   pub folder : Path
   pub among : Contains (folders_of setting) folder
@@ -26,7 +26,7 @@ pub record IsNoFolder (setting : Setting) (exchanges : List Exchange) : Type 0 w
   pub blocked : IsBlocked error
   pub told : WasTold exchanges (asks.Disk (disk_asks.OpenDir (pack_folder folder))) (told.Disk (disk_answers.Refused error))
 
--- the core refused an event so
+-- the core refused an event with this refusal
 pub record IsRefused (exchanges : List Exchange) (refusal : Refusal) : Type 0 where
   pub event : Event
   pub told : WasTold exchanges (asks.Core event) (told.Core (Err refusal))

@@ -16,8 +16,8 @@ pub record Exchange : Type 0 where
   pub ask : Ask
   pub answer : Answer
 
--- an answer is of the kind of its ask: calls of the disk are answered by the disk, events by the core, and a new core by that core; a look
--- by a view and a listing by what it came to, unless the event is refused
+-- an answer is of the kind of its ask: calls of the disk are answered by the disk, events by the core, and a new core by that core; a read of the
+-- core's state by a view and a listing by its result, unless the event is refused
 abbrev pub IsAnswerTo : Ask → Answer → Type 0
 IsAnswerTo (asks.Disk ask) (told.Disk answer) = Unit {0}
 IsAnswerTo (asks.Core event) (told.Core (Err refusal)) = Unit {0}
@@ -34,7 +34,7 @@ abbrev pub AreAnswered : List Exchange → Type 0
 AreAnswered [] = Unit {0}
 AreAnswered (exchange ∷ exchanges) = IsAnswerTo exchange.ask exchange.answer × AreAnswered exchanges
 
--- ---- what exchanges tell
+-- ---- what exchanges show
 
 -- a call of the disk failed in one of them
 pub record HasFailed (exchanges : List Exchange) : Type 0 where
@@ -42,6 +42,6 @@ pub record HasFailed (exchanges : List Exchange) : Type 0 where
   pub among : Contains exchanges exchange
   pub failed : exchange.answer ≡ told.Disk (disk_answers.Refused disk_errors.Failed)
 
--- this was asked and answered so in one of them
+-- one of them has this ask and this answer
 abbrev pub WasTold : List Exchange → Ask → Answer → Type 0
 WasTold exchanges ask answer = Contains exchanges (record { ask = ask; answer = answer })

@@ -3,13 +3,13 @@ use Rattle.std.specs.Prelude.{ℕ, ◌+◌, ◌*◌, ◌≤◌, List, [], ◌∷
 use Rattle.gix_odb_refresh.specs.Exchange.{Exchange}
 use Rattle.gix_odb_refresh.specs.Stream.{Stream, stream_by}
 
--- ---- what is told of streams: none gives more entries than so many
+-- ---- what is known of streams: none gives more entries than so many
 
 abbrev pub HasAtMost : (entries : ℕ) → Option Stream → Type 0
 HasAtMost entries None = Unit {0}
 HasAtMost entries (Some stream) = length stream.entries ≤ entries
 
--- behind a stream that is open, or none
+-- after an open stream, or none
 abbrev pub AreWithin : (entries : ℕ) → Option Stream → List Exchange → Type 0
 AreWithin entries before [] = Unit {0}
 AreWithin entries before (exchange ∷ exchanges) =

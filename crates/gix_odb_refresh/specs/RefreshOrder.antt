@@ -2,13 +2,13 @@
 -- folders of packs are listed, and the listing is published.
 --
 --   what is asked                  what is answered                           what comes next
---   a look at the core             a list that was read before                Read: there is nothing to list
+--   a read of the core's state     a list that was read before                Read: there is nothing to list
 --                                  one that was never read                    the folders are listed, after the list of that number
 --   the calls of the listing       of its last one, all folders are listed    the listing is published
---                                  a call fails, or a folder is none          Refused
+--                                  a call fails, or a folder is no directory  Refused
 --   the listing is published       it is the core's list, or what it is now   Current: its own, or the same as before
 --                                  another list was published since           Outdated
---   a look or a publish            the core refuses                           Refused
+--   a read or a publish            the core refuses                           Refused
 use Rattle.std.specs.Prelude.{ℕ, true, false, List, Option, Some, None, Ok, Err, if◌then◌else◌}
 use Rattle.odb_base.specs.Path.{Path}
 use Rattle.gix_odb_events.specs.Answers.{view_in}
@@ -38,19 +38,19 @@ ask_of stages.Reading = asks.Core events.Look
 ask_of (stages.Listing lister) = asks.Disk (lists.ask_of lister)
 ask_of (stages.Publishing listing) = asks.Core (events.Publish listing)
 
--- the path with which the stream was opened that a call of the disk may be on
+-- the directory of the open stream that a call of the disk may read
 abbrev pub opened_in : Refresh → Option Path
 opened_in (stages.Listing lister) = Some lister.head.folder
 opened_in refresh = None
 
 -- ---- answers
 
--- the view that an answer hands over
+-- the view that an answer passes
 abbrev pub view_of : Answer → Option View
 view_of (told.Disk answer) = None
 view_of (told.Core answer) = view_in answer
 
--- the view that an event hands over which wasn't refused
+-- the view that an event passes which wasn't refused
 abbrev pub view_shown : Effect → Option View
 view_shown effect = view_in (Ok effect)
 
@@ -78,7 +78,7 @@ by_published listing (effects.Unchanged view) = steps.Current view false
 by_published listing (effects.Outdated list_no) = steps.Outdated list_no
 by_published listing effect = steps.More (stages.Publishing listing)
 
--- an answer of the other kind, of the disk or of the core, leaves the refresh
+-- an answer of the other kind, of the disk or of the core, leaves the refresh unchanged
 abbrev pub fed : (objects : Path) → (folders : List Path) → Refresh → Answer → RefreshStep
 fed objects folders stages.Reading (told.Core (Ok effect)) = by_look objects (view_shown effect)
 fed objects folders stages.Reading (told.Core (Err refusal)) = steps.Refused (of_refusal refusal)
@@ -105,7 +105,7 @@ abbrev pub asked_of : RefreshStep → Option Ask
 asked_of (steps.More refresh) = Some (ask_of refresh)
 asked_of step = None
 
--- a step after the answer to what it asked for; one that has ended stays so
+-- a step after the answer to what it asked for; one that has ended stays as it is
 abbrev pub step_fed : (objects : Path) → (folders : List Path) → RefreshStep → Answer → RefreshStep
 step_fed objects folders (steps.More refresh) answer = fed objects folders refresh answer
 step_fed objects folders step answer = step

@@ -1,4 +1,4 @@
--- What a refresh is told, and why one is refused.
+-- What a refresh is answered, and why one is refused.
 use Rattle.std.specs.Prelude.{◌≡◌, ◌⊎◌, ℕ, false, List, Some, Ok, Err}
 use Rattle.gix_odb_events.specs.Answers.{view_in}
 use Rattle.gix_odb_events.specs.declared.event.Effect.{Effect}
@@ -31,7 +31,7 @@ turns_of setting step exchanges = any.turns_of asked_of (step_fed setting.object
 
 -- ---- causes
 
--- a listing has broken off: a call of the disk failed, or a folder of packs is none
+-- a listing has broken off: a call of the disk failed, or a folder of packs is no directory
 abbrev pub HasBroken : Setting → List Exchange → Type 0
 HasBroken setting exchanges = HasFailed exchanges ⊎ IsNoFolder setting exchanges
 
@@ -43,7 +43,7 @@ IsCaused setting exchanges errors.GenerationOverflow = IsRefused exchanges refus
 IsCaused setting exchanges (errors.Unsettled begun own now) = ⊥
 IsCaused setting exchanges errors.NoMemory = IsRefused exchanges refusals.NoMemory
 
--- a look at the core showed a list that was never read
+-- a read of the core's state showed a list that was never read
 pub record ShowedUnread (exchanges : List Exchange) : Type 0 where
   pub effect : Effect
   pub view : View
@@ -51,11 +51,11 @@ pub record ShowedUnread (exchanges : List Exchange) : Type 0 where
   pub unread : view.read ≡ false
   pub told : WasTold exchanges (asks.Core events.Look) (told.Core (Ok effect))
 
--- the look itself was refused
+-- the read of the core's state was refused
 abbrev pub LookRefused : List Exchange → Type 0
 LookRefused exchanges = (refusal : Refusal) × WasTold exchanges (asks.Core events.Look) (told.Core (Err refusal))
 
--- The store was unread: by the handle's snapshot, and by the core's list, where the core could be looked at.
+-- The store was unread: by the handle's snapshot, and by the core's list, where the core's state could be read.
 pub record WasUnread (snapshot : View) (exchanges : List Exchange) : Type 0 where
   pub handle : snapshot.read ≡ false
   pub core : ShowedUnread exchanges ⊎ LookRefused exchanges

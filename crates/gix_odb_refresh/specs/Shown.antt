@@ -55,7 +55,7 @@ module _ (Shown : Path → List ℕ → Type 0) (setting : Setting) (hash : Kind
   abbrev pub IsPackShown : PackFile → Type 0
   IsPackShown pack = (file : FileBytes) → loaded pack.state ≡ Some file → IsPackShownAt pack.path file
 
-  -- an index of one of the folders, which was shown there, with the one pack beside it that it is of
+  -- an index of one of the folders, which was shown there, with the one pack of the same name that it is of
   pub record IsIndexShown (index : SnapshotIndex) : Type 0 where
     pub file : FileBytes
     pub single : index.index ≡ Single file
@@ -70,7 +70,7 @@ module _ (Shown : Path → List ℕ → Type 0) (setting : Setting) (hash : Kind
     pub kept : All IsIndexShown view.snapshot.kept
     pub todo : All (λ (todo : Todo). IsIndexPath setting todo.path) view.todo
 
-  -- what a look-up hands to the core: files that were shown, and rows of indices of the folders
+  -- what a look-up passes to the core: files that were shown, and rows of indices of the folders
   abbrev pub IsHanded : Event → Type 0
   IsHanded (events.PutIndex slot path file) = IsIndexPath setting path × IsIndexShownAt path file
   IsHanded (events.PutPack pack path file) = IsPackShownAt path file

@@ -1,4 +1,4 @@
--- The stream that a look-up reads, as its exchanges tell of it.
+-- The stream that a look-up reads, as its exchanges show it.
 use Rattle.std.specs.Prelude.{ℕ, List, [], ◌∷◌, ◌++◌, Option, Some, None}
 use Rattle.odb_base.specs.Path.{Path}
 use Rattle.odb_asks.specs.declared.ask.DiskAnswer.{DiskAnswer}
@@ -25,7 +25,7 @@ abbrev pub reads : Option Stream → DiskAnswer → Option Stream
 reads (Some stream) (disk_answers.Entry entry) = Some (record stream { entries = stream.entries ++ entry ∷ [] })
 reads before answer = before
 
--- the stream behind one exchange more: none where it was closed, or where a folder wasn't opened
+-- the stream after one more exchange: none where it was closed, or where a folder wasn't opened
 abbrev pub stream_by : Option Stream → Ask → Answer → Option Stream
 stream_by before (asks.Disk (disk_asks.OpenDir folder)) (told.Disk answer) = opens folder answer
 stream_by before (asks.Disk (disk_asks.NextEntry dir)) (told.Disk answer) = reads before answer

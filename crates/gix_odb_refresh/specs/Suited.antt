@@ -12,7 +12,7 @@ use Rattle.gix_odb_events.specs.declared.answer.Ask.{Ask}
 use Rattle.gix_odb_events.specs.declared.answer.Ask.TheVariants as asks
 use Rattle.gix_odb_refresh.specs.Exchange.{Exchange, IsAnswerTo}
 
--- why a path can't be read, looked at or opened
+-- why a path can't be read, statted or opened
 abbrev pub IsRefusal : DiskError → Type 0
 IsRefusal disk_errors.Absent = Unit {0}
 IsRefusal disk_errors.WrongKind = Unit {0}

@@ -5,7 +5,7 @@ ghost use Rattle.gix_odb_refresh.specs.LoadIndex.{of_refusal};
 use gix_odb_calls::load_index::Error;
 use gix_odb_events::Refusal;
 
-/// The error of a call whose event was refused.
+/// Returns the error of a call whose event was refused.
 pub fn of_refusal(refusal: Refusal) -> Error
     ensures error { result ≡ of_refusal refusal }
 {

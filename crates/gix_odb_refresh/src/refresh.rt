@@ -15,7 +15,7 @@ use odb_asks::DiskAnswer;
 use odb_base::{NoMemory, PathText};
 use std::alloc::Global;
 
-/// A refresh on its way, which begins by reading the core.
+/// The state of a refresh, which begins by reading the core's state.
 ///
 /// `ask` names the next call of the disk or the next event of the store's core, `feed` takes its answer.
 #[derive(Drop)]
@@ -28,14 +28,14 @@ pub enum Refresh {
     Publishing(Listing),
 }
 
-/// What follows an answer to a refresh.
+/// The step after an answer to a refresh.
 #[derive(Drop)]
 pub enum RefreshStep {
     /// It goes on.
     More(Refresh),
     /// The core's list was read before, and this view shows it.
     Read(View),
-    /// The core's list is the listing; `own` says that the listing made it, which otherwise changed nothing.
+    /// The core's list is the listing; `own` says whether the listing made it or changed nothing.
     Current { view: View, own: bool },
     /// Another list, of this number, was published since the core was read.
     Outdated { list_no: u64 },
@@ -44,14 +44,14 @@ pub enum RefreshStep {
 }
 
 impl Refresh {
-    /// A refresh whose core was read, and had the list of this number then.
+    /// Returns a refresh whose core was read, and had the list of this number then.
     pub fn listing(alloc: Global, parts: &StoreParts, base: u64) -> Result<Refresh, NoMemory>
         ensures lists { IfOk result (λ refresh. refresh ≡ order.listing_from parts.now.objects base) }
     {
         Ok(Refresh::Listing(Lister::start(alloc, &parts.objects, base)?))
     }
 
-    /// What comes next: a call of the disk, or an event of the store's core.
+    /// Returns what comes next: a call of the disk, or an event of the store's core.
     pub fn ask(&self, alloc: Global) -> Result<Ask, NoMemory>
         ensures asked { IfOk result (λ ask. ask ≡ ask_of self.now) }
     {
@@ -65,7 +65,7 @@ impl Refresh {
         }
     }
 
-    /// The directory of the open stream that the next call reads, where it reads one.
+    /// Returns the directory of the open stream that the next call reads, where it reads one.
     pub fn opened(&self) -> Option<&PathText>
         ensures opened { option_map (λ path. path.now) result ≡ opened_in self.now }
     {
@@ -75,8 +75,8 @@ impl Refresh {
         }
     }
 
-    /// What follows the answer to what it asked for, in a store of these parts. An answer of the other kind, of the disk or
-    /// of the core, leaves it.
+    /// Returns the step after the answer to what was asked for, in a store of these parts. An answer of the other kind, of the
+    /// disk or of the core, leaves the refresh unchanged.
     pub fn feed(
         self,
         alloc: Global,
@@ -94,7 +94,7 @@ impl Refresh {
     }
 }
 
-/// What follows an answer of the disk.
+/// Returns the step after an answer of the disk.
 fn by_disk(
     alloc: Global,
     parts: &StoreParts,
@@ -115,7 +115,7 @@ fn by_disk(
     }
 }
 
-/// What follows a step of the listing.
+/// Returns the step after a step of the listing.
 fn by_listed(step: ListStep) -> RefreshStep
     ensures by { result ≡ order.by_listed step }
 {
@@ -126,7 +126,7 @@ fn by_listed(step: ListStep) -> RefreshStep
     }
 }
 
-/// What follows an event that wasn't refused.
+/// Returns the step after an event that wasn't refused.
 fn by_effect(
     alloc: Global,
     parts: &StoreParts,
@@ -145,7 +145,7 @@ fn by_effect(
     }
 }
 
-/// The view that an effect hands over.
+/// Returns the view that an effect passes.
 fn shown_by(effect: Effect) -> Option<View>
     ensures view { result ≡ view_shown effect }
 {
@@ -166,7 +166,7 @@ fn shown_by(effect: Effect) -> Option<View>
     }
 }
 
-/// What follows a look at the core: the folders are listed where its list was never read.
+/// Returns the step after the core's state was read: the folders are listed where its list was never read.
 fn by_look(alloc: Global, parts: &StoreParts, view: Option<View>) -> Result<RefreshStep, NoMemory>
     ensures by { IfOk result (λ step. step ≡ order.by_look parts.now.objects view) }
 {
@@ -177,7 +177,7 @@ fn by_look(alloc: Global, parts: &StoreParts, view: Option<View>) -> Result<Refr
     }
 }
 
-/// What follows a listing that was published, or came too late.
+/// Returns the step after a listing was published, or came too late.
 fn by_published(listing: Listing, effect: Effect) -> RefreshStep
     ensures by { result ≡ order.by_published listing effect }
 {
@@ -192,7 +192,7 @@ fn by_published(listing: Listing, effect: Effect) -> RefreshStep
     }
 }
 
-/// What follows an event that was refused.
+/// Returns the step after an event was refused.
 fn by_refusal(refresh: Refresh, refusal: Refusal) -> RefreshStep
     ensures fed { (objects : Path) → (folders : List Path) → result ≡ order.fed objects folders refresh (told.Core (Err refusal)) }
 {

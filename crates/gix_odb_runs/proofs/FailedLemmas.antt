@@ -1,4 +1,4 @@
--- A call of a disk in memory fails where its number is listed, if it has one, and nowhere else.
+-- A call of a disk in memory fails iff it has a number that is listed.
 use Rattle.std.proofs.Common.{◌≡◌, ℕ, Bool, true, false, List, [], ◌∷◌, Option, Some, None, Ok, Err, Result, refl, sym, ap, ◌∙◌}
 use Rattle.std.specs.Prelude.{if◌then◌else◌, ◌&&◌}
 use Rattle.odb_nodes.specs.Tree.{Tree, tree_of}
@@ -86,11 +86,11 @@ has_failed-either false answer told = told
 pub has_failed-now : (disk : Volume) (ask : DiskAsk) → has_failed (answer_now disk ask) ≡ fails_now disk ask
 has_failed-now disk ask = has_failed-either (fails_now disk ask) (answer_in (tree_of disk.state) disk.streams ask) (has_failed-in (tree_of disk.state) disk.streams ask)
 
--- a call that isn't of streams has a number
+-- a call that isn't on streams has a number
 pub fails_now-still : (disk : Volume) (ask : DiskAsk) → is_of_streams ask ≡ false → fails_now disk ask ≡ next_fails disk
 fails_now-still disk ask still = ap (λ b. b && next_fails disk) (counted-still ask still)
 
--- and the tree alone answers it, unless it fails
+-- and only the tree determines its answer, unless it fails
 pub answer_by_tree : (disk : Volume) (ask : DiskAsk) → is_of_streams ask ≡ false
     → answer_now disk ask ≡ (if fails_now disk ask then answers.Refused disk_errors.Failed else answer_of (tree_of disk.state) ask)
 answer_by_tree disk ask still =

@@ -1,4 +1,4 @@
--- A core that isn't whole has no handle; and one at which a handle is registered is held.
+-- A core that isn't whole has no handle; a core with a registered handle is held.
 use Rattle.std.proofs.Common.{◌≡◌, ℕ, [], ◌∷◌, length, subst, arith}
 use Rattle.gix_odb_core.specs.Handles.{Handles, IsRegistered}
 use Rattle.gix_odb_core.specs.History.{History, present}

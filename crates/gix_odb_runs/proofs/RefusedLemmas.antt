@@ -1,4 +1,4 @@
--- What makes something is refused by a failure, or by its way.
+-- A call that makes something is refused by a failure, or by its way.
 use Rattle.std.proofs.Common.{◌≡◌, ◌≢◌, ℕ, Bool, true, false, List, take, Ok, Err, Result, refl, sym, ap, ◌∙◌, subst, inl, inr}
 use Rattle.std.specs.Prelude.{if◌then◌else◌}
 use Rattle.odb_asks.specs.Ask.{answer_of, fails_now, write_answer}

@@ -1,4 +1,4 @@
--- What a call of the disk that writes was answered, and the change that it made.
+-- The answer to a call of the disk that writes, and the change that it made.
 pub mod Quiet
 use Rattle.std.proofs.Common.{◌≡◌, ◌≢◌, ℕ, Bool, true, false, List, Option, Some, None, Result, Ok, Err, refl, sym, ap, ◌∙◌, subst}
 use Rattle.std.specs.Prelude.{if◌then◌else◌}
@@ -21,7 +21,7 @@ use Rattle.gix_odb_runs.proofs.FailedLemmas.{answer_by_tree}
 
 -- ---- a call that writes
 
--- the answer to a call and its change are what the tree makes of it
+-- the answer to a call and its change follow from the tree
 pub record Told (tree : Tree) (ask : DiskAsk) (told : Result Change writing.Refusal) : Type 0 where
   pub still : is_of_streams ask ≡ false
   pub answer : answer_of tree ask ≡ write_answer told
@@ -47,7 +47,7 @@ pub told_remove : (tree : Tree) (path : Path) → Told tree (asks.Remove path) (
 unfolding answer_of change_of_ask
 told_remove tree path = record { still = refl; answer = refl; change = refl }
 
--- the call made the change that the tree makes of it
+-- the call made the change that follows from the tree
 pub record Made (disk : Volume) (ask : DiskAsk) (told : Result Change writing.Refusal) : Type 0 where
   pub change : Change
   pub is : told ≡ Ok change
@@ -64,7 +64,7 @@ module _ (disk : Volume) (ask : DiskAsk) (told : Result Change writing.Refusal) 
   done_is (Ok change) e = (change, refl)
   done_is (Err refusal) e = absurd (cc e)
 
-  -- a call that was done made it
+  -- a call that was done made this change
   pub done_made : answers.Done ≡ answer_now disk ask → Made disk ask told
   done_made given = by_failing (fails_now disk ask) refl (given ∙ answer_by_tree disk ask tells.still)
     where
@@ -86,7 +86,7 @@ module _ (disk : Volume) (ask : DiskAsk) (told : Result Change writing.Refusal) 
       by_failing true fails undone = refl
       by_failing false fails undone = tells.change ∙ by_told told (λ e. undone (e ∙ sym tells.answer))
 
-  -- what holds of the change that the tree makes holds of the one that was made
+  -- a property of the change that follows from the tree holds of the one that was made
   pub change_by-all : (P : Option Change → Type 0) → P None → ((change : Change) → told ≡ Ok change → P (Some change)) → P (change_by disk ask)
   change_by-all P none some = by_failing (fails_now disk ask)
     where

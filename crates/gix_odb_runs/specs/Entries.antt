@@ -7,7 +7,7 @@ use Rattle.gix_odb_runs.specs.declared.record.Did.{Did}
 use Rattle.gix_odb_runs.specs.declared.record.Did.TheVariants.{Nothing, Disk, Core}
 use Rattle.gix_odb_runs.specs.declared.record.Record.{Record}
 
--- the entry of the journal of a store that is told, if one is
+-- the entry of a store's journal in this record, if there is one
 abbrev pub entry_told : (store : ℕ) → Did → Option ℕ
 entry_told store Nothing = None
 entry_told store (Disk op path failed) = None
@@ -16,6 +16,6 @@ entry_told store (Core other entry) = if other == store then Some entry else Non
 abbrev pub entries_told : (store : ℕ) → List Record → List ℕ
 entries_told store records = filter_map (λ record_of. entry_told store record_of.did) records
 
--- The records that tell an event of a store's core name the entries 1 to n of its journal, in order and each once.
+-- The records with an event of a store's core name the entries 1 to n of its journal, in order and each once.
 abbrev pub TellsEachEntry : List History → List Record → Type 0
 TellsEachEntry cores records = (store : ℕ) → entries_told store records ≡ range_with_len 1 (length (history_at cores store).entries)

@@ -1,4 +1,4 @@
--- Cores at which a handle is registered: it takes one to come to a core that was made before.
+-- Cores with a registered handle: another handle can join a core only while one is registered there.
 use Rattle.std.specs.Prelude.{◌≢◌, length}
 use Rattle.gix_odb_core.specs.History.{History, present}
 

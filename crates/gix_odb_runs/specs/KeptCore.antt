@@ -1,11 +1,11 @@
--- What a kept core is seen as, and what holds of its fields. No public clause cites this.
+-- The model and the invariant of a kept core. No public clause cites this.
 use Rattle.std.specs.Prelude.{◌≡◌, length}
 use Rattle.gix_odb_core.specs.History.{History, present}
 use Rattle.gix_odb_runs.specs.declared.kept_core.CoreState.{CoreState}
 use Rattle.gix_odb_runs.specs.declared.kept_core.CoreState.TheVariants.{Held, Left}
 use Rattle.gix_odb_runs.specs.declared.kept_core.KeptCore.TheInside.{Inside}
 
--- the history of a whole core, or of that of which this is left
+-- the history of a whole core, or of the one of which this remains
 abbrev pub history_in : CoreState → History
 history_in (Held core) = core.value
 history_in (Left remains) = remains

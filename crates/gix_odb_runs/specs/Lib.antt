@@ -1,4 +1,4 @@
--- What a run is, by its events: the cores of its stores, its disk, and what its records tell; Made and KeptCore are for the code of cores.
+-- A run by its events: the cores of its stores, its disk, and what its records say; Made and KeptCore are for the code of cores.
 pub mod Event
 pub mod Cores
 pub mod JournalKept

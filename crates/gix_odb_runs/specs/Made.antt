@@ -1,14 +1,14 @@
--- What the code makes of cores. No public clause cites this.
+-- How the code makes cores. No public clause cites this.
 use Rattle.std.specs.Prelude.{ℕ, false, List}
 use Rattle.gix_odb_core.specs.History.{History, opened}
 use Rattle.gix_odb_events.specs.declared.event.Event.TheVariants as events
 use Rattle.gix_odb_runs.specs.Cores.{answer_behind, history_at}
 use Rattle.gix_odb_runs.specs.Event.{CoreAnswer}
 
--- what the registration of a seat answers at a core that was just made
+-- the answer of a new core to the registration of a seat
 abbrev pub first_answer : (slots folders seat : ℕ) → CoreAnswer
 first_answer slots folders seat = answer_behind (opened slots folders 0 0) seat (events.Register false)
 
--- what the registration of a seat answers at the core of a store
+-- the answer of a store's core to the registration of a seat
 abbrev pub joined_answer : List History → (store seat : ℕ) → CoreAnswer
 joined_answer cores store seat = answer_behind (history_at cores store) seat (events.Register false)

@@ -1,4 +1,4 @@
--- Whether an event is a turn of a handle. A misused turn is none: nothing comes of it.
+-- Whether an event is a turn of a handle. An invalid turn is none: it has no effect.
 use Rattle.std.specs.Prelude.{ℕ, Bool, true, false, ◌&&◌, ◌==◌}
 use Rattle.gix_odb_calls.specs.declared.step.Outcome.{Outcome}
 use Rattle.gix_odb_calls.specs.declared.step.Outcome.TheVariants as outcomes
@@ -6,7 +6,7 @@ use Rattle.gix_odb_calls.specs.declared.step.Step.{Step}
 use Rattle.gix_odb_calls.specs.declared.step.Step.TheVariants as steps
 use Rattle.gix_odb_runs.specs.Event.{Event}
 
--- whether something came of a step
+-- whether a step was valid, by its outcome
 abbrev pub is_done : Outcome → Bool
 is_done outcomes.Applied = true
 is_done outcomes.Pending = true

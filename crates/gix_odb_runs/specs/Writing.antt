@@ -1,4 +1,4 @@
--- A write on a handle: what it is to write, and what it asked of the disk and changed since it began.
+-- A write on a handle: its object, and its asks of the disk and changes since it began.
 use Rattle.std.specs.Prelude.{◌≡◌, ◌⊎◌, ℕ, ◌+◌, ◌<◌, ◌≤◌, Bool, true, List, take, slice_get, Option, Some, None}
 use Rattle.odb_base.specs.Path.{Path}
 use Rattle.odb_asks.specs.Ask.{op_of, answer_now}
@@ -40,7 +40,7 @@ pub record ToWrite : Type 0 where
   pub bytes : List ℕ
   pub known : Option ObjectId
 
--- what a write into an objects directory is to write
+-- the object of a write into an objects directory
 abbrev pub to_write : (objects : Path) (hash : HashKind) (kind : Kind) (size : ℕ) (bytes : List ℕ) (known : Option ObjectId) → ToWrite
 to_write objects hash kind size bytes known = record { objects = objects; hash = hash; kind = kind; size = size; bytes = bytes; known = known }
 
@@ -54,9 +54,9 @@ head_to_write w = record { objects = w.objects; kind = w.kind; size = w.size }
 abbrev pub name_to_write : ToWrite → ObjectId
 name_to_write w = name_for w.known (w.hash) (head_to_write w) w.bytes
 
--- ---- what was asked of the disk
+-- ---- the asks of the disk
 
--- in the event at a place, which is a turn of the handle, this call of the disk was made and was answered so
+-- in the event at a place, which is a turn of the handle, this call of the disk was made and got this answer
 pub record AskedAt (first : Volume) (events : List Event) (handle place : ℕ) (ask : DiskAsk) (answer : DiskAnswer) : Type 0 where
   pub event : Event
   pub there : slice_get events place ≡ Some event
@@ -65,8 +65,8 @@ pub record AskedAt (first : Volume) (events : List Event) (handle place : ℕ) (
   pub asked : event.asked ≡ OfDisk ask answer
   pub given : answer ≡ answer_now (disk_after first (take place events)) ask
 
--- the same in some turn of the handle since its call began. (Events are numbered from 1, so the events from place
--- `begun` on are those after the step that began it.)
+-- this call and answer, in some turn of the handle since its call began. (Events are numbered from 1, so the events after the
+-- step that began it are those from place `begun` on.)
 pub record AskedSince (first : Volume) (events : List Event) (handle begun : ℕ) (ask : DiskAsk) (answer : DiskAnswer) : Type 0 where
   pub place : ℕ
   pub later : begun ≤ place
@@ -90,7 +90,7 @@ TakenSince first events handle begun ask = AskedSince first events handle begun 
 abbrev pub DoneSince : Volume → List Event → (handle begun : ℕ) → DiskAsk → Type 0
 DoneSince first events handle begun ask = AskedSince first events handle begun ask answers.Done
 
--- The cause of an error of a write. Its data are at hand, so no source of them fails.
+-- The cause of an error of a write. Its data are in memory, so no source of them fails.
 abbrev pub CauseOfWrite : Volume → List Event → (handle begun : ℕ) → ToWrite → loose_write.Error → Type 0
 CauseOfWrite first events handle begun w error =
     WriteCause (head_to_write w) (λ id. id ≡ name_to_write w) (RefusedSince first events handle begun) (TakenSince first events handle begun)
@@ -128,12 +128,12 @@ IsMaking objects (Some number) did =
 abbrev pub TurnsMadeOnly : List Event → (handle begun : ℕ) → Path → Option ℕ → Type 0
 TurnsMadeOnly events handle begun objects number = EachTurn events handle begun (λ e. IsNewFile e.entry.change → IsMaking objects number e.entry.did)
 
--- the event at a place left a path and its way alone, the file that the path leads to included
+-- the event at a place left a path and its way unchanged, with the file that the path leads to
 abbrev pub LeavesAlone : Volume → List Event → Path → (place : ℕ) → Type 0
 LeavesAlone first events path place = SameOnWay (tree_at first events place) (tree_at first events (place + 1)) true path
 
--- From one place of a run to another, no step but the turns of a handle changed what stands on the way of a path, the
--- file that it leads to included.
+-- From one place of a run to another, only the turns of a handle changed anything on the way of a path, including the file that
+-- it leads to.
 abbrev pub LeftAlone : Volume → List Event → (handle : ℕ) → Path → (from to : ℕ) → Type 0
 LeftAlone first events handle path from to =
     (place : ℕ) (e : Event) → from ≤ place → place < to → slice_get events place ≡ Some e → ¬ (IsTurnOf handle e)

@@ -1,4 +1,4 @@
-//! The cores of a world's stores: how they are made, what clones and closes do to them, and the journals that they leave.
+//! The cores of a world's stores: how they are made, how clones and closes change them, and the journals that they leave.
 ghost use Rattle.std.specs.Prelude.{◌≡◌, ◌<◌, ◌≤◌, [], All, IfOk, IsSome, None, OnOk, Some, false, length, map};
 ghost use Rattle.gix_odb_core.specs.History.{History, opened, present};
 ghost use Rattle.gix_odb_core.specs.Journal.{entries_of};
@@ -63,8 +63,8 @@ fn core_with(
     }
 }
 
-/// Registers a seat at the core of a store, where it is free and another one is registered: what that did, and the view that it
-/// handed over.
+/// Registers a seat at the core of a store, where it is free and another one is registered: the `Did`, and the view
+/// of the answer.
 pub fn joined(
     alloc: Global,
     cores: &mut Vec<KeptCore>,
@@ -88,7 +88,7 @@ pub fn joined(
     Ok((did, view))
 }
 
-/// Removes a seat from the core of a store at which it is registered: what that did.
+/// Removes a seat from the core of a store at which it is registered: the `Did`.
 pub fn removed(alloc: Global, cores: &mut Vec<KeptCore>, store: usize, seat: u32) -> Did
     requires there { store < length cores.old.items }
     requires registered { IsSome (registered_at cores.old.items store seat) }
@@ -104,14 +104,14 @@ pub fn removed(alloc: Global, cores: &mut Vec<KeptCore>, store: usize, seat: u32
     }
 }
 
-/// What an event of a core did, with the answer.
+/// The `Did` of an event of a core, with the answer.
 #[derive(Drop)]
 pub struct EventDone {
     pub did: Did,
     pub answer: Result<Effect, Refusal>,
 }
 
-/// Makes an event of the core of a store, which a handle asks for that is registered there: what that did, and the answer.
+/// Applies an event of a registered handle to the core of a store: the `Did`, and the answer.
 pub fn applied(
     alloc: Global,
     cores: &mut Vec<KeptCore>,
@@ -136,7 +136,7 @@ pub fn applied(
     Ok(EventDone { did, answer })
 }
 
-/// The journals of cores that are no longer of use.
+/// The journals of cores that are no longer in use.
 pub fn journals_of(alloc: Global, cores: Vec<KeptCore>) -> Result<JournalList, NoMemory>
     ensures entries { IfOk result (λ journals. map entries_of journals ≡ map (λ (h : History). h.entries) cores.items) }
     ensures journals { IfOk result (λ journals. All IsJournal cores.items) }

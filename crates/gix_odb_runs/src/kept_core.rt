@@ -1,4 +1,4 @@
-//! The core of a store as a run keeps it: whole while a handle is registered at it, and then what is left of it.
+//! The core of a store as a run keeps it: whole while a handle is registered at it, and then what remains of it.
 ghost use Rattle.std.specs.Prelude.{◌≡◌, IfOk, None, OnOk, Some, false, length};
 ghost use Rattle.gix_odb_core.specs.Handles.{IsRegistered, registered};
 ghost use Rattle.gix_odb_core.specs.History.{opened, present};
@@ -18,14 +18,14 @@ use std::mem::replace;
 
 /// The core of a store as a run keeps it, which contracts see as its history.
 ///
-/// It is whole while a handle is registered at it. Once the last one is removed no handle comes any more, since one comes by the
-/// making of the core, or as a clone of one that is registered there. So nothing is asked of it then but its journal.
+/// It is whole while a handle is registered at it. Once the last one is removed no handle can join any more: a handle
+/// joins by making the core, or as a clone of a registered one. Then it is asked only for its journal.
 #[derive(Drop)]
 pub struct KeptCore {
     state: CoreState,
 }
 
-/// A whole core stands in a box of its own, so that what is left of one takes no more than it needs.
+/// A whole core is in a box of its own, so that what remains of one takes no more than it needs.
 #[derive(Drop)]
 enum CoreState {
     Held(Box<Core>),
@@ -55,7 +55,7 @@ impl KeptCore {
         }
     }
 
-    /// A whole core, or what is left of it where no handle is registered.
+    /// A whole core, or what remains of it if no handle is registered.
     fn kept(core: Box<Core>) -> KeptCore
         ensures same { result ≡ core.value }
     {
@@ -66,7 +66,7 @@ impl KeptCore {
         }
     }
 
-    /// What is left of a core at which no handle is registered.
+    /// What remains of a core without a registered handle.
     fn left(core: Box<Core>) -> KeptCore
         requires none { length (present core.value).handles ≡ 0 }
         ensures same { result ≡ core.value }
@@ -76,7 +76,7 @@ impl KeptCore {
         }
     }
 
-    /// What stands in the place of a core for a moment. It takes no memory.
+    /// A placeholder for a core. It takes no memory.
     fn empty(alloc: Global) -> KeptCore
         ensures opened { result ≡ opened 0 0 0 0 }
     {
@@ -85,7 +85,7 @@ impl KeptCore {
         }
     }
 
-    /// The number of the entry that comes next in its journal.
+    /// The number of the next entry in its journal.
     pub(crate) fn next_entry(&self) -> u64
         ensures number { result ≡ number_behind self.now.entries }
     {
@@ -95,7 +95,7 @@ impl KeptCore {
         }
     }
 
-    /// Registers a free seat, beside the handles that are registered: the view that this hands over.
+    /// Registers a free seat, besides the handles that are registered: the view of the answer.
     pub(crate) fn join(&mut self, alloc: Global, seat: u32) -> Result<View, NoMemory>
         requires held { IsHeld self.old }
         requires free { registered (present self.old).handles seat ≡ None }
@@ -132,7 +132,7 @@ impl KeptCore {
         }
     }
 
-    /// Removes a registered handle. Where it was the last one, what is left of the core is kept from then on.
+    /// Removes a registered handle. If it was the last one, only what remains of the core is kept from then on.
     pub(crate) fn remove(&mut self, alloc: Global, seat: u32)
         requires registered { IsRegistered (present self.old).handles seat }
         ensures entered { self.new ≡ entered self.old seat Event.Remove (answer_behind self.old seat Event.Remove) }
@@ -153,7 +153,7 @@ impl KeptCore {
         }
     }
 
-    /// Its journal by itself, when it is no longer of use.
+    /// Its journal, moved out when the core is no longer in use.
     pub(crate) fn into_journal(self) -> Journal
         ensures entries { entries_of result ≡ self.entries }
         ensures journal { IsJournal self }
@@ -174,7 +174,7 @@ pub(crate) fn register(alloc: Global, core: &mut Core, seat: u32) -> Result<View
     match core.apply(alloc, seat, Event::Register { stable: false }) {
         Ok(Effect::Seen(view)) => Ok(view),
         Err(Refusal::NoMemory) => Err(NoMemory),
-        // A registration is answered by a view, and refused for want of memory alone.
+        // The answer to a registration is a view, and it is refused only for lack of memory.
         _ => unreachable!(),
     }
 }
@@ -218,7 +218,7 @@ fn remove(alloc: Global, core: &mut Core, seat: u32)
     }
 }
 
-/// The number of the entry that comes behind those of a journal.
+/// The number of the entry after those of a journal.
 fn number_after(journal: &Journal) -> u64
     ensures number { result ≡ number_behind (entries_of journal.now) }
 {

@@ -1,8 +1,8 @@
-//! What a run of a world is: its events and their records, and the disk and the cores of the stores after them.
+//! A run of a world: its events and their records, and the disk and the cores of the stores after them.
 //!
-//! A step of a world does one thing at most beside its outcome: a call of the disk, an event of the core of a store, or a
-//! change that another program makes. Here is what is told of it, and how an event is brought to the core of a store; which
-//! step does what stands in `gix_odb_world`. Read `specs/Event.antt` and `specs/Run.antt` first, then `record` and `cores`.
+//! Besides its outcome, a step of a world has at most one effect: a call of the disk, an event of the core of a
+//! store, or a change by another program. This crate records these, and applies events to cores; `gix_odb_world` says
+//! which step has which. Read `specs/Event.antt` and `specs/Run.antt` first, then `record` and `cores`.
 //! ```rust
 //! let (core, view) = cores::core_with(alloc, 32, 1, seat)?;
 //! cores.push(core)?;

@@ -12,18 +12,18 @@ use odb_disk::MemDisk;
 use odb_nodes::{Change, DiskError};
 use std::alloc::Global;
 
-/// What a step did beside its outcome.
+/// The effect of a step besides its outcome.
 #[derive(Drop)]
 pub enum Did {
     Nothing,
-    /// One call of the disk, at a path; it failed where its number was listed. The path is boxed, since few steps have one.
+    /// One call of the disk, at a path; it failed if its number was listed. The path is boxed, since few steps have one.
     Disk {
         op: Op,
         path: Boxed<PathText>,
         failed: bool,
     },
-    /// One event of the core of a store, which is the entry of a number in the core's journal. Stores are numbered from 0,
-    /// in the order in which they were opened, and entries from 1.
+    /// One event of the core of a store, as the number of its entry in the core's journal. Stores are numbered from
+    /// 0, in the order in which they were opened, and entries from 1.
     Core {
         store: u64,
         entry: u64,
@@ -31,7 +31,7 @@ pub enum Did {
 }
 
 impl Did {
-    /// What a turn did that made a call of the disk, of a stream that was opened with a path if it is on one.
+    /// The effect of a turn with a call of the disk. `opened` is the path with which its stream was opened, if any.
     pub fn of(
         alloc: Global,
         opened: Option<&PathText>,
@@ -49,7 +49,7 @@ impl Did {
     }
 }
 
-/// The path that the record of a call has: the one that the call names, or that with which its stream was opened.
+/// The path in the record of a call: the path of the call, or the one with which its stream was opened.
 fn path_recorded(
     alloc: Global,
     opened: Option<&PathText>,
@@ -85,7 +85,7 @@ pub struct Record {
     pub faults: u64,
 }
 
-/// A change as a record has it, if there is one.
+/// A change in the form of a record, if there is one.
 pub fn boxed_change(alloc: Global, change: Option<Change>) -> Result<ChangeMade, NoMemory>
     ensures same { IfOk result (λ boxed. boxed ≡ change) }
 {
@@ -98,7 +98,7 @@ pub fn boxed_change(alloc: Global, change: Option<Change>) -> Result<ChangeMade,
     }
 }
 
-/// A copy of a change, as a record has it.
+/// A copy of a change, in the form of a record.
 pub fn copy_of_change(alloc: Global, change: &Change) -> Result<Boxed<Change>, NoMemory>
     ensures copy { IfOk result (λ copy. copy ≡ change.now) }
 {
@@ -112,7 +112,7 @@ pub type OutcomeList = Sequence<Outcome>;
 /// The records of a run, one for each step.
 pub type RecordList = Sequence<Record>;
 
-/// A whole run: what each step came to, and the disk and the journals of the stores' cores after the last one.
+/// A whole run: the outcome of each step, and the disk and the journals of the stores' cores after the last one.
 #[derive(Drop)]
 pub struct Run {
     pub outcomes: OutcomeList,

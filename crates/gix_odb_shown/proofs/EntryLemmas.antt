@@ -1,4 +1,4 @@
--- What a read of a path finds stands among the entries of its directory.
+-- What a read of a path finds is among the entries of its directory.
 use Rattle.std.proofs.Common.{◌≡◌, inl, inr, ℕ, zero, suc, true, false, cond, List, [], ◌∷◌, ◌++◌, Option, Some, None, Result, Ok, Err, unwrap_or, refl, sym, ap, ◌∙◌, subst, append_assoc}
 use Rattle.std.specs.Result.{result_ok}
 use Rattle.std.specs.Option.{option_map}
@@ -32,7 +32,7 @@ module _ (t : Tree) (name : Name) where
   inside Dir further = further
   inside (Link target) further = Blocked
 
-  -- what a pass along a path says of one name more
+  -- what a pass along a path says of one more name
   abbrev pub by_name : Pass → Pass
   by_name (Reached path node) = inside node.content (next path)
   by_name (Onward path) = Onward (path ++ name ∷ [])

@@ -106,14 +106,14 @@ before_rest : (directory : Path) (name : Name) (names : Path) → path_cmp direc
 before_rest [] name names = refl
 before_rest (step ∷ steps) name names = ap (λ o. ordering_then o (path_cmp steps (steps ++ name ∷ names))) (tied_itself nat_list_cmp_total step) ∙ before_rest steps name names
 
--- what begins with a path comes behind it
+-- what begins with a path comes after it
 from_place : (place rest q : Path) → q ≡ place ++ rest → is_le (path_cmp place q) ≡ true
 from_place place [] q is = ap (λ (p : Path). is_le (path_cmp place p)) (is ∙ append-nil place) ∙ ap is_le (tied_itself path_order place)
 from_place place (name ∷ names) q is = ap (λ (p : Path). is_le (path_cmp place p)) is ∙ ap is_le (before_rest place name names)
 
 -- ---- the folders at a place and below it, from one on
 
--- each is before those behind it
+-- each is before those after it
 abbrev pub Ascends : List Path → Type 0
 Ascends [] = Unit {0}
 Ascends (x ∷ xs) = ((y : Path) → IsIn xs y → path_cmp x y ≡ Less) × Ascends xs
@@ -153,7 +153,7 @@ module _ (test : Path → Bool) where
   ascends_filter (x ∷ xs) sorted = ascends_by x xs sorted.0 (ascends_filter xs sorted.1) (test x)
 
 module _ (watched : List Path) (place : Path) (old : List Path) where
-  -- those so far are added, and the others come behind them
+  -- those so far are added, and the others come after them
   pub record AreInside (new rest : List Path) : Type 0 where
     pub more : List Path
     pub added : new ≡ old ++ more
@@ -212,7 +212,7 @@ module _ (watched : List Path) (place : Path) (old : List Path) where
     ];
   }
 
-  -- behind the first that doesn't begin with the place none does
+  -- after the first that doesn't begin with the place none does
   le_cases : (q : Path) → is_le (path_cmp place q) ≡ true → (path_cmp place q ≡ Less) ⊎ (place ≡ q)
   le_cases q le = by (path_cmp place q) refl le
     where

@@ -1,4 +1,4 @@
--- Laws of what watched paths have shown, for callers: what is kept tells of the trees so far, from moment to moment.
+-- Laws of what watched paths have shown, for callers: what is kept says what the trees so far showed, from moment to moment.
 use Rattle.std.proofs.Common.{◌≡◌, ◌⊎◌, inl, inr, ℕ, ◌+◌, ◌≤◌, Bool, true, false, List, Option, Some, None, is_some, if◌then◌else◌, ◌||◌, refl, sym, ap, ◌∙◌, subst, arith}
 use Rattle.std.specs.FinMap as finite
 use Rattle.std.specs.FinSet as set
@@ -81,7 +81,7 @@ module _ (trees : ℕ → Tree) (since : Since) (now : ℕ) (old new : Kept) (k 
     | inr next ↦ inr (record { folder = h.folder; among = among h.folder h.begun h.watched; shows = subst (λ (m : ℕ). Shows h.folder (trees m) path time bytes) next h.shows })
   ]
 
-  -- After a change that shows no second content, and that was noted, what is kept tells of the trees up to the next moment.
+  -- After a change that shows no second content, and that was noted, what is kept says what the trees up to the next moment showed.
   pub keeps_on : AreBegun since now → Notes old old.folders (trees (now + 1)) new → Fits new (trees (now + 1)) → Keeps trees since (now + 1) new
   keeps_on begun n fits = record {
     folders = λ folder. ap (λ (f : Folders). set.contains f folder) n.folders_are ∙ k.folders folder;
@@ -117,7 +117,7 @@ keeps_still trees since now kept k begun same = record {
   fits = subst (λ (t : Tree). Fits kept t) (sym same) k.fits;
 }
 
--- ---- a folder more
+-- ---- one more folder
 
 module _ (trees : ℕ → Tree) (since : Since) (now : ℕ) (folder : Path) (old new : Kept) (k : Keeps trees since now old) (n : Notes old (one_more old.folders folder) (trees now) new) (fits : Fits new (trees now))
   where
@@ -135,11 +135,11 @@ module _ (trees : ℕ → Tree) (since : Since) (now : ℕ) (folder : Path) (old
         ap (λ (f : Folders). set.contains f other) n.folders_are ∙ set.contains-insert path_order old.folders folder other
         ∙ ap (λ b. eq_by_cmp path_cmp other folder || b) (k.folders other) ∙ sym (or_own (since other) (eq_by_cmp path_cmp other folder))
 
-    -- a folder that was watched stays so, since the same moment
+    -- a folder that was watched stays watched, since the same moment
     was_watched : (other : Path) (begun : ℕ) → since other ≡ Some begun → later other ≡ Some begun
     was_watched other begun watched = ap (λ o. option_or o (if eq_by_cmp path_cmp other folder then Some now else None)) watched
 
-    -- one that is watched is so since before, or since now
+    -- one that is watched has been since before, or since now
     is_watched : (other : Path) (o : Option ℕ) (b : Bool) (begun : ℕ) → since other ≡ o → option_or o (if b then Some now else None) ≡ Some begun → (since other ≡ Some begun) ⊎ (begun ≡ now)
     is_watched other None true begun is e = let same : now ≡ begun = cc in inr (sym same)
     is_watched other None false begun is e = absurd (cc)
@@ -166,7 +166,7 @@ module _ (trees : ℕ → Tree) (since : Since) (now : ℕ) (folder : Path) (old
           shows = s.shows;
         }
 
-    -- A folder that is watched from now on, and of which the tree was noted: what is kept tells of it too.
+    -- A folder is watched from now on, and the tree was noted for it: what is kept says what it showed too.
     pub keeps_watched : AreBegun since now → Keeps trees later now new
     keeps_watched begun = record {
       folders = folders_later;

@@ -164,7 +164,7 @@ pub fits_after : (old : Kept) (before after : Tree) (new : Kept) → Fits old be
     → ((folder : Path) → set.contains old.folders folder ≡ true → Knows new.linked after folder) → IsTree after → Fits new after
 fits_after old before after new fits first_only n knows is_tree = fits_noted old old.folders after new n (first_agrees old after first_only) fits.only knows is_tree
 
--- ---- a folder more
+-- ---- one more folder
 
 module _ (folders : Folders) (folder : Path) where
   abbrev pub one_more : Folders
@@ -214,7 +214,7 @@ module _ (old : Kept) (folder : Path) (tree : Tree) (fits : Fits old tree) where
   own_lies path time bytes known =
       let l = fits.only path time bytes known in record { folder = l.folder; among = among_more old.folders folder l.folder l.among; name = l.name; path_is = l.path_is }
 
-  -- what was known of those that are watched already is known beside what is looked up of it
+  -- what was known of those that are watched already is known besides what is read of it
   module _ (nothing revealed : Revealed) (none : (nothing.linked.items ≡ []) × (nothing.plain.items ≡ [])) (looks : LooksAt tree folder nothing revealed)
       (new : Folders) (relinks : Relinks old.linked revealed new) where
     own_linked : revealed.linked.items ≡ folder ∷ [] → set.contains new folder ≡ true

@@ -81,7 +81,7 @@ old_pushed {X = X} xs ys y x is one = subst (λ (l : List X). IsIn l x) (sym is)
 pub last_pushed : {X : Type 0} (xs ys : List X) (y : X) → ys ≡ xs ++ y ∷ [] → IsIn ys y
 last_pushed {X = X} xs ys y is = subst (λ (l : List X). IsIn l y) (sym is) (in_right xs (y ∷ []) y (inl refl))
 
--- the same of a list with more
+-- an element of a list with more is among these or was one before
 pub in_more : {X : Type 0} (xs more ys : List X) (x : X) → ys ≡ xs ++ more → IsIn ys x → IsIn xs x ⊎ IsIn more x
 in_more {X = X} xs more ys x is one = in_either xs more x (subst (λ (l : List X). IsIn l x) is one)
 

@@ -11,7 +11,7 @@ last_name-push [] name = refl
 last_name-push (first ∷ []) name = refl
 last_name-push (first ∷ other ∷ path) name = last_name-push (other ∷ path) name
 
--- what is left of a path behind the directory that it lies in is its last name
+-- what is left of a path after the directory that it lies in is its last name
 behind_last : (path directory last : Path) → parent_of path ≡ Some directory → directory ++ last ≡ path → (name : Name) → last_name path ≡ Some name → last ≡ name ∷ []
 behind_last path directory last parent is name named =
     let s = parent_of-some path directory parent in

@@ -42,7 +42,7 @@ module _ (t : Tree) (path : Path) (lone : onward_of (pass t true [] path) ≡ No
     | inr none ↦ absurd (false≢true none)
   ]
 
--- ---- a directory of which this holds, and of each path in it at which something stands
+-- ---- a directory of which this holds, and of each path in it at which there is something
 
 module _ (t : Tree) (directory : Path) (paths : List Path) (are : AreWatchedIn t directory paths) (lone : onward_of (pass t true [] directory) ≡ None)
     (each : (path : Path) → IsIn paths path → onward_of (pass t true [] path) ≡ None) where
@@ -89,7 +89,7 @@ module _ (t : Tree) (directory : Path) (paths : List Path) (are : AreWatchedIn t
 
 -- ---- path by path
 
--- where a look says so no link leads on
+-- where a test says so no link leads on
 pub lone_by : (t : Tree) (path : Path) → is_some (onward_of (pass t true [] path)) ≡ false → onward_of (pass t true [] path) ≡ None
 lone_by t path = by (onward_of (pass t true [] path))
   where

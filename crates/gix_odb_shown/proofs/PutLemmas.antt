@@ -33,7 +33,7 @@ file_content (File bytes time) file = record { bytes = bytes; time = time; is = 
 file_content Dir file = absurd (false≢true file)
 file_content (Link target) file = absurd (false≢true file)
 
--- ---- the put of a file over one that stands at a place
+-- ---- the put of a file over one that is at a place
 
 over_file : (t : Tree) (place : Path) (content : Content) (node : Node) (old : Content) → is_file_content old ≡ true → put_over t place content node old ≡ (record node { content = content })
 over_file t place content node (File bytes time) file = refl

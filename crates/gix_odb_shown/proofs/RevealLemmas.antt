@@ -1,4 +1,4 @@
--- What is looked at, of what a change touches, is all that the change reveals.
+-- What is read, of what a change touches, is all that the change reveals.
 use Rattle.std.proofs.Common.{◌≡◌, ◌⊎◌, inl, inr, ℕ, Bool, true, false, not, ◌&&◌, ◌||◌, List, [], ◌∷◌, ◌++◌, Some, Result, Ok, Err, IfOk, refl, sym, ◌∙◌, subst}
 use Rattle.std.specs.FinSet as set
 use Rattle.std.specs.List.{starts_with}

@@ -1,4 +1,4 @@
--- Folders and watched paths are looked at, one after the other.
+-- Folders and watched paths are read, one after the other.
 use Rattle.std.proofs.Common.{◌≡◌, ◌⊎◌, inl, inr, ℕ, List, [], ◌∷◌, ◌++◌, Result, Ok, Err, OnOk, refl, sym, ap, ◌∙◌, subst}
 use Rattle.odb_base.specs.Path.{Path}
 use Rattle.odb_nodes.specs.Tree.{Tree}
@@ -15,7 +15,7 @@ use Rattle.gix_odb_shown.proofs.ListLemmas.{in_more, in_pushed, last_pushed, new
 abbrev file_of : (path : Path) (time : ℕ) (bytes : List ℕ) → ShownFile
 file_of path time bytes = record { key = (path, time); bytes = bytes }
 
--- nothing is looked at
+-- nothing is read
 pub nothing_seen : (t : Tree) (revealed : Revealed) → revealed.files.items ≡ [] → revealed.plain.items ≡ [] → IsSeen t [] [] revealed
 nothing_seen t revealed files plain = record {
   shown = λ file one. absurd (subst (λ (l : List ShownFile). IsIn l file) files one);
@@ -27,7 +27,7 @@ nothing_seen t revealed files plain = record {
 }
 
 module _ (t : Tree) (folders : List Path) (named : List (Path × Path)) (old new : Revealed) (seen : IsSeen t folders named old) (folder : Path) where
-  -- what is linked stays so
+  -- what is linked stays linked
   linked_stays : AddsLinked folder old new → (other : Path) → IsIn old.linked.items other → IsIn new.linked.items other
   linked_stays adds other one = old_pushed old.linked.items new.linked.items folder other adds.linked one
 
@@ -153,7 +153,7 @@ module _ (t : Tree) (folders : List Path) (named : List (Path × Path)) (old new
       ];
     }
 
--- a path that follows a link is looked at
+-- a path that follows a link is read
 pub linked_answer : {A E : Type 0} (t : Tree) (folder path : Path) (old new : Revealed) (files : List ShownFile) → files ≡ old.files.items ++ file_at t path → (answer : Result A E)
     → OnOk answer (new.files.items ≡ files) → OnOk answer (new.linked.items ≡ old.linked.items ++ folder ∷ []) → OnOk answer (new.plain.items ≡ old.plain.items)
     → OnOk answer (LooksAtPath t folder path old new)

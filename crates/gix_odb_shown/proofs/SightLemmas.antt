@@ -1,4 +1,4 @@
--- Where a path comes in the tree after a change, told by the tree before.
+-- Where a path leads in the tree after a change, by the tree before.
 use Rattle.std.proofs.Common.{◌≡◌, ◌≢◌, inl, inr, ℕ, true, false, cond, List, [], ◌∷◌, ◌++◌, length, drop, append-nil, append_assoc, arith, Option, Some, None, refl, sym, ap, ◌∙◌, subst}
 use lib.Pointwise.{pointwise_decides}
 use Rattle.std.proofs.lemmas.Bool.{and_parts, false≢true, false_from_ne_true}
@@ -54,7 +54,7 @@ beyond_goes : (o : Option Node) (names : Path) (f g : Pass) → GoesAs f g → G
 beyond_goes None names f g goes = refl
 beyond_goes (Some node) names f g goes = past_goes node.content names f g goes
 
--- nothing stands where a pass misses or is blocked
+-- nothing is where a pass misses or is blocked
 missing_empty : (u : Tree) (p : Pass) → p ≡ Missing → IsEmpty u p
 missing_empty u p is = subst (IsEmpty u) (sym is) tt
 
@@ -69,7 +69,7 @@ same_place place path is = (pointwise_decides bytes_decides path place).0 is
 own_place : (place path : Path) → path ≡ place → is_place place path ≡ true
 own_place place path same = (pointwise_decides bytes_decides path place).1 same
 
--- a path that doesn't begin with a place goes as before where the trees differ there alone
+-- a path that doesn't begin with a place leads where it did if the trees differ only there
 apart_goes : (t u : Tree) (place path : Path) → ((q : Path) → q ≢ place → node_at u q ≡ node_at t q) → begins path place ≡ false → GoesAs (pass u true [] path) (pass t true [] path)
 apart_goes t u place path others apart =
     same_goes (pass u true [] path) (pass t true [] path) (same_pass t u [] path (λ q front. others q (λ same. false≢true (sym apart ∙ ap (begins path) (sym same) ∙ front))))
@@ -212,7 +212,7 @@ module _ (t : Tree) (is_tree : IsTree t) (from to : Path) (possible : is_possibl
       (ap (λ (w : Path). pass t true w rest) (append-nil from) ∙ sym (pass_from t is_tree true [] from rest can.node can.at))
       (below_goes [] rest))
 
-  -- what stood at the source is gone
+  -- what was at the source is gone
   module _ (other : begins path to ≡ false) (source : begins path from ≡ true) where
     ends_apart : from ≢ to
     ends_apart same = false≢true (sym other ∙ ap (begins path) (sym same) ∙ source)
@@ -245,7 +245,7 @@ module _ (t : Tree) (is_tree : IsTree t) (from to : Path) (possible : is_possibl
         (record { name = s.name; names = drop (length from) path; whole = whole; lacks = ap (node_at after) (sym s.is) ∙ source_gone }) (stays ∙ d.at)
         ∙ ap (λ (c : Content). past c (s.name ∷ drop (length from) path) Missing) d.content
 
-  -- what lies below neither goes as before
+  -- what lies below neither leads where it did
   off_goes : begins path to ≡ false → begins path from ≡ false → GoesAs (pass after true [] path) (pass t true [] path)
   off_goes other apart =
       same_goes (pass after true [] path) (pass t true [] path) (same_pass t after [] path (λ q front.
@@ -367,7 +367,7 @@ change_so t (Append place bytes) is_tree sees path = absurd (false≢true sees.1
 change_so t (Remove place) is_tree sees path = removed_so t is_tree place sees.0 path
 change_so t (SetTime place time) is_tree sees path = absurd (false≢true sees.1)
 
--- A path comes in the tree after the change where its arrival says.
+-- A path leads in the tree after the change where its arrival says.
 pub arrives_so : (t : Tree) (change : Option Change) → IsSight t change → (path : Path) → IsArrival t (changed_by t change) change path (arrival_of change path)
 arrives_so t None sight path = same_goes (pass t true [] path) (pass t true [] path) refl
 arrives_so t (Some change) sight path = change_so t change sight.is_tree sight.can path

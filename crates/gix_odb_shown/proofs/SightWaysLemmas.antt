@@ -15,9 +15,9 @@ use Rattle.gix_odb_shown.specs.declared.sight.Arrival.{Arrival}
 use Rattle.gix_odb_shown.specs.declared.sight.Arrival.TheVariants.{Like, LedTo, AtFile, Nowhere}
 use Rattle.gix_odb_shown.proofs.SightLemmas.{arrives_so}
 
--- ---- what a pass comes to
+-- ---- the end of a pass
 
--- the file that a pass comes to, if no link leads on
+-- the file at which a pass ends, if no link leads on
 abbrev pub file_at_pass : Pass → Option (List ℕ × ℕ)
 file_at_pass (Reached path node) = result_ok (file_of node.content)
 file_at_pass (Onward path) = None
@@ -36,7 +36,7 @@ file_goes (Onward path) q goes = ap file_at_pass goes
 file_goes Missing q goes = ap file_at_pass goes
 file_goes Blocked q goes = ap file_at_pass goes
 
--- where nothing stands, or an empty directory, no link leads on and nothing is read
+-- where nothing is, or an empty directory, no link leads on and nothing is read
 empty_onward : (u : Tree) (p : Pass) → IsEmpty u p → None ≡ onward_of p
 empty_onward u (Reached path node) bare = refl
 empty_onward u (Onward path) never = absurd never

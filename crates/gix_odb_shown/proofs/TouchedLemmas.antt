@@ -62,7 +62,7 @@ touched_at t (Append path bytes) q possible tied =
 touched_at t (Remove path) q possible tied = at_own t (Remove path) q path (inl refl) tied
 touched_at t (SetTime path time) q possible tied = at_own t (SetTime path time) q path (inl refl) tied
 
--- ---- what a path with one name more begins with
+-- ---- what a path with one more name begins with
 
 pub front_or_whole : (path : Path) (name : Name) (q : Path) → begins (path ++ name ∷ []) q ≡ true → (begins path q ≡ true) ⊎ (q ≡ path ++ name ∷ [])
 front_or_whole path name [] is = inl (begins-append [] path)

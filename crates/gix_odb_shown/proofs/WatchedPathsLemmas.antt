@@ -57,7 +57,7 @@ module _ (directory : Path) where
   put_one None path one = absurd one
   put_one (Some place) path one = put_named (last_name place) path one
 
--- ---- what stands in a directory
+-- ---- what is in a directory
 
 abbrev liked : Path → Arrival → Path
 liked other (Like like) = like
@@ -69,7 +69,7 @@ abbrev begins_some : Option Path → Path → Bool
 begins_some None base = false
 begins_some (Some path) base = begins path base
 
--- what stands under a name in the tree after a change stood there before, or it is what the change puts
+-- what is under a name in the tree after a change was there before, or it is what the change puts
 abbrev pub IsThere : (t : Tree) → Option Change → (last like : Path) → Name → Node → Type 0
 IsThere t change last like name node = (node_at t (like ++ name ∷ []) ≡ Some node) ⊎ (place_put change ≡ Some (last ++ name ∷ []))
 
@@ -77,7 +77,7 @@ module _ (t : Tree) (last like : Path) (name : Name) (node : Node) where
   abbrev own : Path
   own = last ++ name ∷ []
 
-  -- what stands where nothing was put stood there before
+  -- what is where nothing was put was there before
   stays_there : (change : Change) → last ≡ like → node_at (changed t change) own ≡ node_at t own → node_at (changed t change) own ≡ Some node → node_at t (like ++ name ∷ []) ≡ Some node
   stays_there change same kept at = ap (λ (p : Path). node_at t (p ++ name ∷ [])) (sym same) ∙ sym kept ∙ at
 
@@ -107,7 +107,7 @@ module _ (t : Tree) (last like : Path) (name : Name) (node : Node) where
   ]
 
   module _ (from to : Path) where
-    -- a path behind the target in a directory that isn't is the target
+    -- a path after the target in a directory that isn't is the target
     target_is : begins last to ≡ false → (rest : Path) → own ≡ to ++ rest → (front : Option Path) → parent_of rest ≡ front → to ≡ own
     target_is outside rest is None parent = sym (is ∙ ap (λ (r : Path). to ++ r) (parent_of-nothing rest parent) ∙ append-nil to)
     target_is outside rest is (Some front) parent =
@@ -164,7 +164,7 @@ module _ (t : Tree) (last like : Path) (name : Name) (node : Node) where
 
 -- ---- the paths that are found
 
--- the paths that are found of a directory, by where the last of the paths comes along which it is followed
+-- the paths that are found of a directory, by where the last of the paths leads along which it is followed
 abbrev pub paths_by : Tree → Option Change → (directory : Path) → Arrival → List Path
 paths_by t change directory (Like like) = paths_like t change like directory
 paths_by t change directory (LedTo onward) = []

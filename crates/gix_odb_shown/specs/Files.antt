@@ -29,11 +29,11 @@ file_at tree path = file_read path (named_kind (last_name path)) (read_of tree p
 abbrev pub listed : Tree → Path → List Entry
 listed tree directory = unwrap_or (result_ok (opened tree directory)) []
 
--- the watched paths of a directory at whose names something stands, by another path that leads there
+-- the watched paths of a directory at whose names there is something, by another path that leads there
 abbrev pub listed_paths : Tree → (like directory : Path) → List Path
 listed_paths tree like directory = flat_map (λ entry. watched_path directory entry.name) (listed tree like)
 
--- the same after a change: that of what the change puts may be among them too
+-- the watched paths after a change: that of what the change puts may be among them too
 abbrev pub paths_like : Tree → Option Change → (like directory : Path) → List Path
 paths_like tree change like directory = listed_paths tree like directory ++ put_path directory (place_put change)
 

@@ -9,7 +9,7 @@ use Rattle.odb_nodes.specs.Tree.{Tree}
 use Rattle.gix_odb_shown.specs.Watched.{Shows}
 use Rattle.gix_odb_shown.specs.Kept.{Kept, Fits}
 
--- the moment since when a folder is watched, if it is
+-- the moment since which a folder is watched, if it is
 abbrev pub Since : Type 0
 Since = Path → Option ℕ
 
@@ -17,11 +17,11 @@ Since = Path → Option ℕ
 abbrev pub AreBegun : Since → ℕ → Type 0
 AreBegun since now = (folder : Path) (begun : ℕ) → since folder ≡ Some begun → begun ≤ now
 
--- the same with one folder more, which is watched since now, unless it is watched already
+-- the moments with one more folder, which is watched since now, unless it is watched already
 abbrev pub with_since : Since → (now : ℕ) → Path → Since
 with_since since now folder other = option_or (since other) (if eq_by_cmp path_cmp other folder then Some now else None)
 
--- a path showed bytes that count under a time, at a moment from that on since when its folder is watched
+-- a path showed bytes that count under a time, at a moment since its folder was watched
 pub record HasShown (trees : ℕ → Tree) (since : Since) (now : ℕ) (path : Path) (time : ℕ) (bytes : List ℕ) : Type 0 where
   pub folder : Path
   pub begun : ℕ

@@ -88,8 +88,8 @@ Knows linked tree folder =
     (name : Name) (kind : WatchedKind) → watched_kind name ≡ Some kind → (place : Path) → on_way tree true (pack_directory folder ++ name ∷ []) place ≡ true
     → (set.contains linked folder || starts_with same_name (pack_directory folder ++ name ∷ []) place) ≡ true
 
--- What is kept fits a tree: all that the tree shows in the watched folders is kept, nothing else than what such paths showed is, and each folder
--- in which a path follows a link is kept as linked. The tree is that of a disk, so that nothing stands where nothing stands above it.
+-- What is kept fits a tree: all that the tree shows in the watched folders is kept, and only what such paths showed is, and each folder
+-- in which a path follows a link is kept as linked. The tree is that of a disk, so that nothing is below a place where nothing is.
 pub record Fits (kept : Kept) (tree : Tree) : Type 0 where
   pub is_tree : IsTree tree
   pub whole : (path : Path) (time : ℕ) (bytes : List ℕ) → ShowsInOne kept.folders tree path time bytes → finite.get kept.contents (path, time) ≡ Some bytes

@@ -1,4 +1,4 @@
--- What a change would make watched paths show, as it is handed from the judging of the change to its noting.
+-- What a change would make watched paths show, as it is passed from the judging of the change to its noting.
 use Rattle.std.specs.Prelude.{◌≡◌, ◌⊎◌, ◌++◌, ◌||◌, ◌&&◌, ℕ, Bool, true, not, List, [], ◌∷◌, Some}
 use Rattle.std.specs.List.{list_any, starts_with}
 use Rattle.std.specs.Ordering.{eq_by_cmp}
@@ -24,19 +24,19 @@ abbrev pub Relinks : (old : Folders) → Revealed → (new : Folders) → Type 0
 Relinks old revealed new =
     (folder : Path) → set.contains new folder ≡ (is_in revealed.linked.items folder || (not (is_in revealed.plain.items folder) && set.contains old folder))
 
--- what is shown is kept beside what was, and which folders are linked
+-- what is shown is kept besides what was, and which folders are linked
 pub record Learns (old : Kept) (revealed : Revealed) (new : Kept) : Type 0 where
   pub folders : new.folders ≡ old.folders
   pub linked : Relinks old.linked revealed new.linked
   pub contents : new.contents ≡ with_files old.contents revealed.files.items
 
--- It is what the paths of these folders show in a tree beside what they showed in the one before, and in which of them links are followed in it.
+-- It is what the paths of these folders show in a tree besides what they showed in the one before, and in which of them links are followed in it.
 pub record IsRevealed (folders : Folders) (before after : Tree) (revealed : Revealed) : Type 0 where
   pub is_tree : IsTree after
   pub reveals : Reveals folders before after revealed.files.items
   pub knows : (folder : Path) → set.contains folders folder ≡ true → (old new : Folders) → Knows old before folder → Relinks old revealed new → Knows new after folder
 
--- ---- what is looked at
+-- ---- what is read
 
 -- only places that a path begins with lie on its way
 abbrev pub IsPlainPath : Tree → (path : Path) → Type 0
@@ -45,7 +45,7 @@ IsPlainPath tree path = (place : Path) → on_way tree true path place ≡ true 
 abbrev pub IsPlain : Tree → (folder : Path) → Type 0
 IsPlain tree folder = (name : Name) (kind : WatchedKind) → watched_kind name ≡ Some kind → IsPlainPath tree (pack_directory folder ++ name ∷ [])
 
--- a folder is among the linked ones now, or among the plain ones, as it is
+-- a folder is added to the linked ones, or to the plain ones, as it is
 pub record AddsLinked (folder : Path) (old new : Revealed) : Type 0 where
   pub linked : new.linked.items ≡ old.linked.items ++ folder ∷ []
   pub plain : new.plain.items ≡ old.plain.items
@@ -72,7 +72,7 @@ pub record LooksAtPath (tree : Tree) (folder path : Path) (old new : Revealed) :
   pub added : new.files.items ≡ old.files.items ++ file_at tree path
   pub sorted : AddsLinked folder old new ⊎ AddsNothing tree path old new
 
--- Folders and watched paths of folders were looked at: all that they show is among the files, and which of them are linked or plain.
+-- Folders and watched paths of folders were read: all that they show is among the files, and which of them are linked or plain.
 pub record IsSeen (tree : Tree) (folders : List Path) (named : List (Path × Path)) (revealed : Revealed) : Type 0 where
   pub shown : (file : ShownFile) → IsIn revealed.files.items file
       → (folder : Path) × (IsIn folders folder ⊎ ((path : Path) × IsIn named (folder, path))) × Shows folder tree file.key.0 file.key.1 file.bytes

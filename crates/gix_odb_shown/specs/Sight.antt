@@ -1,4 +1,4 @@
--- A tree as it is, or as it will be after a change, told by the tree before the change. No public clause cites this.
+-- A tree as it is, or as it will be after a change, by the tree before the change. No public clause cites this.
 use Rattle.std.specs.Prelude.{◌≡◌, ◌++◌, ℕ, Bool, true, false, List, [], ◌∷◌, length, drop, Option, Some, None, Result, Ok, Err, if◌then◌else◌}
 use lib.Pointwise.{pointwise}
 use Rattle.std.specs.List.{starts_with}
@@ -17,7 +17,7 @@ use Rattle.gix_odb_shown.specs.declared.sight.Arrival.{Arrival}
 use Rattle.gix_odb_shown.specs.declared.sight.Arrival.TheVariants.{Like, LedTo, AtFile, Nowhere}
 use Rattle.gix_odb_shown.specs.declared.watched.WatchedKind.{WatchedKind}
 
--- whether what a change puts somewhere is told by the change and by what stood elsewhere; else it depends on the file that stood there
+-- whether what a change puts somewhere follows from the change and from what was elsewhere; else it depends on the file that was there
 abbrev pub is_whole : Change → Bool
 is_whole (PutFile path time bytes) = true
 is_whole (MakeDir path dev) = true
@@ -27,7 +27,7 @@ is_whole (Append path bytes) = false
 is_whole (Remove path) = true
 is_whole (SetTime path time) = false
 
--- a change, if there is one, is possible in a tree and told whole
+-- a change, if there is one, is possible in a tree and whole
 abbrev pub CanSee : Tree → Option Change → Type 0
 CanSee tree None = Unit {0}
 CanSee tree (Some change) = (is_possible_in tree change ≡ true) × (is_whole change ≡ true)
@@ -36,13 +36,13 @@ pub record IsSight (tree : Tree) (change : Option Change) : Type 0 where
   pub is_tree : IsTree tree
   pub can : CanSee tree change
 
--- ---- where a path comes
+-- ---- where a path leads
 
 -- whether a path is a place
 abbrev pub is_place : (place path : Path) → Bool
 is_place place path = pointwise same_name path place
 
--- what lies behind one path, behind another
+-- what lies below one path, below another
 abbrev pub moved : (from to path : Path) → Path
 moved from to path = to ++ drop (length from) path
 
@@ -59,7 +59,7 @@ moved_arrival from to path = if starts_with same_name path to then Like (moved t
 abbrev pub empty_arrival : (place path : Path) → Arrival
 empty_arrival place path = if starts_with same_name path place then Nowhere else Like path
 
--- where a path comes after a change that is told whole, or after none
+-- where a path leads after a change that is whole, or after none
 abbrev pub arrival_of : Option Change → Path → Arrival
 arrival_of None path = Like path
 arrival_of (Some (PutFile place time bytes)) path = file_arrival place path
@@ -88,7 +88,7 @@ GoesAs (Onward path) before = before ≡ Onward path
 GoesAs Missing before = before ≡ Missing
 GoesAs Blocked before = before ≡ Blocked
 
--- a path comes to a file that a change put
+-- a path leads to a file that a change put
 pub record IsPut (after : Tree) (change : Option Change) (path : Path) : Type 0 where
   pub node : Node
   pub reached : pass after true [] path ≡ Reached path node
@@ -96,7 +96,7 @@ pub record IsPut (after : Tree) (change : Option Change) (path : Path) : Type 0 
   pub put : file_put change ≡ Some file
   pub content : file_of node.content ≡ Ok file
 
--- nothing stands there, or a directory with nothing in it
+-- nothing is there, or a directory with nothing in it
 pub record IsBare (after : Tree) (path : Path) (node : Node) : Type 0 where
   pub directory : node.content ≡ Dir
   pub bare : (name : Name) → node_at after (path ++ name ∷ []) ≡ None
@@ -107,14 +107,14 @@ IsEmpty after (Onward path) = ⊥
 IsEmpty after Missing = Unit {0}
 IsEmpty after Blocked = Unit {0}
 
--- a path comes there in the tree after a change, or after none
+-- a path leads there in the tree after a change, or after none
 abbrev pub IsArrival : (before after : Tree) → Option Change → Path → Arrival → Type 0
 IsArrival before after change path (Like like) = GoesAs (pass after true [] path) (pass before true [] like)
 IsArrival before after change path (LedTo onward) = pass after true [] path ≡ Onward onward
 IsArrival before after change path AtFile = IsPut after change path
 IsArrival before after change path Nowhere = IsEmpty after (pass after true [] path)
 
--- where a change that is told whole puts something
+-- where a change that is whole puts something
 abbrev pub place_put : Option Change → Option Path
 place_put None = None
 place_put (Some (PutFile place time bytes)) = Some place
@@ -125,7 +125,7 @@ place_put (Some (Append place bytes)) = None
 place_put (Some (Remove place)) = None
 place_put (Some (SetTime place time)) = None
 
--- The last of the paths along which a path is followed, by where that leads: no link leads on from it. None where more links come than are
+-- The last of the paths along which a path is followed, by where that leads: no link leads on from it. None where there are more links than are
 -- followed.
 abbrev pub IsLast : Tree → Result Place Refusal → Option Path → Type 0
 IsLast tree told None = told ≡ Err LinkLoop
@@ -154,14 +154,14 @@ pub record HasName (t : Tree) (name : Name) (told : Result Place Refusal) : Type
   pub node : Node
   pub stands : node_at t (place.path ++ name ∷ []) ≡ Some node
 
--- These are paths of a directory, and among them all with a watched name at which something stands.
+-- These are paths of a directory, and among them all with a watched name at which there is something.
 pub record AreWatchedIn (tree : Tree) (directory : Path) (paths : List Path) : Type 0 where
   pub whole : (name : Name) (kind : WatchedKind) → watched_kind name ≡ Some kind → HasName tree name (followed tree true directory) → IsIn paths (directory ++ name ∷ [])
   pub only : (path : Path) → IsIn paths path → (name : Name) × (path ≡ directory ++ name ∷ [])
 
 -- ---- a change of a file, as the put of one
 
--- the put of a file makes the same of a tree as a change
+-- the put of a file does the same to a tree as a change
 pub record IsPutOf (tree : Tree) (change put : Change) : Type 0 where
   pub possible : is_possible_in tree put ≡ true
   pub whole : is_whole put ≡ true

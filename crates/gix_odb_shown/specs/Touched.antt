@@ -59,7 +59,7 @@ pub record AddsBelow (watched : List Path) (place : Path) (old new : List Path) 
   pub only : (folder : Path) → IsIn more folder → IsIn watched folder
   pub whole : (folder : Path) → IsIn watched folder → starts_with same_name (pack_directory folder) place ≡ true → IsIn more folder
 
--- the same of those that lie at it, or below it, themselves
+-- the folders that lie at it, or below it, themselves are added
 pub record AddsInside (watched : List Path) (place : Path) (old new : List Path) : Type 0 where
   pub more : List Path
   pub added : new ≡ old ++ more

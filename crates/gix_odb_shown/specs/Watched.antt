@@ -1,4 +1,4 @@
--- Which paths are watched: the indices, the packs and the multi-pack index that stand in the `pack` directory of a folder.
+-- Which paths are watched: the indices, the packs and the multi-pack index that are in the `pack` directory of a folder.
 use Rattle.std.specs.Prelude.{◌≡◌, ◌++◌, ◌||◌, ℕ, Bool, true, false, List, [], ◌∷◌, codes, nat_eq, Option, Some, None, Ok, if◌then◌else◌}
 use Rattle.std.specs.List.{ends_with}
 use Rattle.odb_base.specs.Path.{Name, Path, same_name}
@@ -7,11 +7,11 @@ use Rattle.odb_nodes.specs.Tree.Follow.{read_of}
 use Rattle.gix_odb_shown.specs.declared.watched.WatchedKind.{WatchedKind}
 use Rattle.gix_odb_shown.specs.declared.watched.WatchedKind.TheVariants.{PackOrIndex, MultiIndex}
 
--- the directory of a folder that packs stand in
+-- the pack directory of a folder
 abbrev pub pack_directory : Path → Path
 pack_directory folder = folder ++ codes "pack" ∷ []
 
--- what a name in it is that is watched: an index or a pack by its ending, or the multi-pack index
+-- the kind of a name in it that is watched: an index or a pack by its ending, or the multi-pack index
 abbrev pub watched_kind : Name → Option WatchedKind
 watched_kind name =
     if ends_with nat_eq name (codes ".idx") || ends_with nat_eq name (codes ".pack") then Some PackOrIndex
@@ -21,7 +21,7 @@ abbrev pub is_some_kind : Option WatchedKind → Bool
 is_some_kind None = false
 is_some_kind (Some kind) = true
 
--- the same of a path's last name, if it has one
+-- the kind of a path's last name, if it has one
 abbrev pub named_kind : Option Name → Option WatchedKind
 named_kind None = None
 named_kind (Some name) = watched_kind name

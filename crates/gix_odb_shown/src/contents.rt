@@ -28,7 +28,7 @@ impl Model for Contents {
 }
 
 impl Contents {
-    /// Nothing was shown.
+    /// Returns empty contents: nothing was shown.
     pub(crate) fn new(alloc: Global) -> Contents
         ensures empty { result ≡ finite.empty }
     {
@@ -37,7 +37,7 @@ impl Contents {
         }
     }
 
-    /// Whether other bytes than a file's are kept under its key.
+    /// Returns whether other bytes than a file's are kept under its key.
     fn differs(&self, file: &ShownFile) -> bool
         ensures differs { result ≡ differs self.now file.now }
     {
@@ -47,7 +47,7 @@ impl Contents {
         }
     }
 
-    /// Whether other bytes are kept under the key of one of these files.
+    /// Returns whether other bytes are kept under the key of one of these files.
     pub(crate) fn differs_from_one(&self, files: &[ShownFile]) -> bool
         ensures differs { result ≡ list_any (differs self.now) files.now }
     {

@@ -1,4 +1,4 @@
-//! What the paths have shown that indices and packs stand at: no such path shows two contents while its folder is watched.
+//! What the paths of indices and packs have shown: no such path shows two contents while its folder is watched.
 //!
 //! `specs/Watched.antt` says which paths are watched, `specs/HasShown.antt` what they have shown over a family of trees.
 //! ```rust

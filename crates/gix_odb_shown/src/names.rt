@@ -1,4 +1,4 @@
-//! Names in directories, and what lies behind a path.
+//! Names in directories, and what follows a path.
 ghost use Rattle.std.specs.Prelude.{◌≡◌, ◌∷◌, ◌++◌, [], true, IfOk, Some};
 ghost use Rattle.std.specs.List.{starts_with};
 ghost use Rattle.odb_base.specs.Path.{Name, is_name, last_name, same_name};
@@ -6,7 +6,7 @@ ghost use Rattle.odb_base.specs.Path.{Name, is_name, last_name, same_name};
 use odb_base::{BadPath, NoMemory, PathName, PathText};
 use std::alloc::Global;
 
-/// The path of a name in a directory.
+/// Returns the path of a name in a directory.
 pub(crate) fn joined(
     alloc: Global,
     directory: &PathText,
@@ -22,7 +22,7 @@ pub(crate) fn joined(
     }
 }
 
-/// What is left of a path behind the directory that it lies in: its last name.
+/// Returns what is left of a path after the directory that it lies in: its last name.
 pub(crate) fn behind_directory(alloc: Global, path: &PathText) -> Result<PathText, NoMemory>
     ensures last { IfOk result (λ last. (name : Name) → last_name path.now ≡ Some name → last ≡ name ∷ []) }
 {
@@ -32,7 +32,7 @@ pub(crate) fn behind_directory(alloc: Global, path: &PathText) -> Result<PathTex
     }
 }
 
-/// What is left of a path behind one that it begins with.
+/// Returns what is left of a path after one that it begins with.
 pub(crate) fn behind(alloc: Global, path: &PathText, front: &PathText) -> Result<PathText, NoMemory>
     requires front { starts_with same_name path.now front.now ≡ true }
     ensures behind { IfOk result (λ rest. front.now ++ rest ≡ path.now) }

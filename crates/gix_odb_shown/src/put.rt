@@ -14,7 +14,7 @@ use odb_nodes::{Change, DiskError};
 use odb_tree::Tree;
 use std::alloc::Global;
 
-/// The put of a file that does the same to a tree as a change of the file there. None where the change is told whole.
+/// Returns the put of a file that does the same to a tree as a change of the file there. None where the change is whole.
 pub(crate) fn as_put(
     alloc: Global,
     tree: &Tree,
@@ -36,7 +36,7 @@ pub(crate) fn as_put(
     }
 }
 
-/// The put of a file with more bytes at the place where a path leads.
+/// Returns the put of a file with more bytes at the place where a path leads.
 fn longer(alloc: Global, tree: &Tree, path: &PathText, more: &ByteList) -> Result<Change, NoMemory>
     requires is_tree { IsTree tree.now }
     requires possible { is_possible_in tree.now (Change.Append path.now more.now) ≡ true }
@@ -52,7 +52,7 @@ fn longer(alloc: Global, tree: &Tree, path: &PathText, more: &ByteList) -> Resul
     })
 }
 
-/// The place of the file that a path leads to.
+/// Returns the place of the file that a path leads to.
 fn place_of(alloc: Global, tree: &Tree, path: &PathText) -> Result<PathText, NoMemory>
     requires file { result_ok (file_spot tree.now path.now) ≢ None }
     ensures place { IfOk result (λ place. Some place ≡ result_ok (file_spot tree.now path.now)) }
@@ -70,7 +70,7 @@ fn joined(mut bytes: ByteList, more: &ByteList) -> Result<ByteList, NoMemory>
     Ok(bytes)
 }
 
-/// The put of a file with another time at its place.
+/// Returns the put of a file with another time at its place.
 fn timed(alloc: Global, tree: &Tree, place: &PathText, time: u64) -> Result<Change, NoMemory>
     requires is_tree { IsTree tree.now }
     requires possible { is_possible_in tree.now (Change.SetTime place.now time) ≡ true }
@@ -81,7 +81,7 @@ fn timed(alloc: Global, tree: &Tree, place: &PathText, time: u64) -> Result<Chan
     Ok(Change::PutFile { path, time, bytes })
 }
 
-/// The bytes and the time of the file that a path leads to.
+/// Returns the bytes and the time of the file that a path leads to.
 fn file_read(alloc: Global, tree: &Tree, path: &PathText) -> Result<(ByteList, u64), NoMemory>
     requires file { IsOk (read_of tree.now path.now) }
     ensures read { IfOk result (λ file. read_of tree.now path.now ≡ Ok file) }

@@ -18,7 +18,7 @@ use odb_nodes::Change;
 use odb_tree::Tree;
 use std::alloc::Global;
 
-/// What a change would make watched paths show. It is handed from the judging of a change to its noting.
+/// What a change would make watched paths show. It is passed from the judging of a change to its noting.
 #[derive(Drop)]
 pub struct Revealed {
     pub(crate) files: Vec<ShownFile>,
@@ -29,7 +29,7 @@ pub struct Revealed {
 }
 
 impl Revealed {
-    /// Nothing is looked at.
+    /// Returns a `Revealed` for which nothing was read.
     pub(crate) fn nothing(alloc: Global) -> Revealed
         ensures files { result.files.items ≡ [] }
         ensures linked { result.linked.items ≡ [] }
@@ -43,7 +43,7 @@ impl Revealed {
     }
 }
 
-/// What the folders and the paths show after a change that it touches.
+/// Returns what the folders and the paths show after a change that it touches.
 pub(crate) fn seen_after(
     alloc: Global,
     tree: &Tree,
@@ -60,7 +60,7 @@ pub(crate) fn seen_after(
     seen(alloc, &after, touched)
 }
 
-/// The same after the put of a file that stands for a change.
+/// Returns what they show after the put of a file that stands for a change.
 pub(crate) fn seen_put(
     alloc: Global,
     tree: &Tree,
@@ -124,7 +124,7 @@ pub(crate) fn look_at(
     Ok(())
 }
 
-/// Whether the way of a pack directory follows a link, or that of one of these paths in it.
+/// Returns whether the way of a pack directory follows a link, or that of one of these paths in it.
 fn is_linked(
     alloc: Global,
     sight: &Sight<'_>,

@@ -40,7 +40,7 @@ impl Model for Shown {
 }
 
 impl Shown {
-    /// No folder is watched.
+    /// Returns a `Shown` that watches no folder.
     pub fn new(alloc: Global) -> Shown
         ensures empty { result ≡ nothing_kept }
     {
@@ -69,7 +69,7 @@ impl Shown {
         self.learn(revealed)
     }
 
-    /// Whether a watched path would show a second content after a change.
+    /// Returns whether a watched path would show a second content after a change.
     pub fn is_second(&self, alloc: Global, tree: &Tree, change: &Change) -> Result<bool, NoMemory>
         requires fits { Fits self.now tree.now }
         requires possible { is_possible_in tree.now change.now ≡ true }
@@ -79,7 +79,7 @@ impl Shown {
         Ok(self.has_second(&revealed))
     }
 
-    /// Notes what a change makes watched paths show. It is told of the tree before the change.
+    /// Notes what a change makes watched paths show, by the tree before the change.
     pub fn note(&mut self, alloc: Global, tree: &Tree, change: &Change) -> Result<(), NoMemory>
         requires fits { Fits self.old tree.now }
         requires possible { is_possible_in tree.now change.now ≡ true }
@@ -91,7 +91,7 @@ impl Shown {
         self.keep(revealed)
     }
 
-    /// What a change would make watched paths show, but for what they show already.
+    /// Returns what a change would make watched paths show, except what they show already.
     pub fn revealed(
         &self,
         alloc: Global,
@@ -112,14 +112,14 @@ impl Shown {
         }
     }
 
-    /// Whether a path would show a second content among what a change would make them show.
+    /// Returns whether a path would show a second content among what a change would make them show.
     pub fn has_second(&self, revealed: &Revealed) -> bool
         ensures second { (before after : TreeValue) → Fits self.now before → IsRevealed self.now.folders before after revealed.now → IsTrue result ↔ IsSecond self.now after }
     {
         self.contents.differs_from_one(&revealed.files)
     }
 
-    /// Keeps what a change made watched paths show, in which no second content is.
+    /// Keeps what a change made watched paths show, in which there is no second content.
     pub fn keep(&mut self, revealed: Revealed) -> Result<(), NoMemory>
         ensures notes { OnOk result ((before after : TreeValue) → Fits self.old before → IsRevealed self.old.folders before after revealed → Notes self.old self.old.folders after self.new) }
         ensures fits { OnOk result ((before after : TreeValue) → Fits self.old before → IsRevealed self.old.folders before after revealed → (IsSecond self.old after → ⊥) → Fits self.new after) }
@@ -127,7 +127,7 @@ impl Shown {
         self.learn(revealed)
     }
 
-    /// Keeps what is shown beside what was, and which folders are linked.
+    /// Keeps what is shown besides what was, and which folders are linked.
     fn learn(&mut self, revealed: Revealed) -> Result<(), NoMemory>
         ensures learns { OnOk result (Learns self.old revealed self.new) }
     {

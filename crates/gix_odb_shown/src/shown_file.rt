@@ -18,7 +18,7 @@ pub(crate) struct ShownFile {
     pub bytes: ByteList,
 }
 
-/// What a tree shows at paths.
+/// Returns what a tree shows at paths.
 pub(crate) fn files_read(
     alloc: Global,
     sight: &Sight<'_>,
@@ -52,7 +52,7 @@ pub(crate) fn add_file(
     Ok(())
 }
 
-/// The entries of a directory, or none where there is no directory.
+/// Returns the entries of a directory, or none where there is no directory.
 pub(crate) fn listed(
     alloc: Global,
     tree: &Tree,

@@ -1,6 +1,6 @@
 //! A tree as it is, or as it will be after a change, with no copy of it.
 //!
-//! After a change each path is followed as some path is in the tree before, or it comes to what the change puts. So a path
+//! After a change each path is followed as some path is in the tree before, or it leads to what the change puts. So a path
 //! is followed in the tree after it by walks in the tree before, one for each link on its way.
 ghost use Rattle.std.specs.Prelude.{◌≡◌, ◌++◌, [], true, Some, None, is_some, IfOk, OnOk};
 ghost use Rattle.std.specs.List.{starts_with};
@@ -26,7 +26,7 @@ use std::marker::Model;
 /// The most links that are followed on the way of a path.
 const MAX_LINKS: u8 = 40;
 
-/// A tree as it is, or as it will be after a change that is told whole.
+/// A tree as it is, or as it will be after a change that is whole.
 #[derive(Drop)]
 pub(crate) struct Sight<'a> {
     tree: &'a Tree,
@@ -48,7 +48,7 @@ impl<'a> Model for Sight<'a> {
     ghost invariant = { λ s. IsSight s.tree.now (option_copied s.change) };
 }
 
-/// Where a path comes in the tree after a change, told by the tree before.
+/// Where a path leads in the tree after a change, by the tree before.
 #[derive(Drop)]
 pub(crate) enum Arrival {
     /// It is followed as this path is in the tree before.
@@ -62,7 +62,7 @@ pub(crate) enum Arrival {
 }
 
 impl<'a> Sight<'a> {
-    /// The tree as it is.
+    /// Returns the tree as it is.
     pub(crate) fn now(tree: &'a Tree) -> Sight<'a>
         requires is_tree { IsTree tree.now }
         ensures now { result ≡ tree.now }
@@ -70,7 +70,7 @@ impl<'a> Sight<'a> {
         Sight { tree, change: None }
     }
 
-    /// The tree as it will be after a change.
+    /// Returns the tree as it will be after a change.
     pub(crate) fn after(tree: &'a Tree, change: &'a Change) -> Sight<'a>
         requires is_tree { IsTree tree.now }
         requires possible { is_possible_in tree.now change.now ≡ true }
@@ -83,14 +83,14 @@ impl<'a> Sight<'a> {
         }
     }
 
-    /// Whether a link leads on from a path.
+    /// Returns whether a link leads on from a path.
     pub(crate) fn leads_on(&self, alloc: Global, path: &PathText) -> Result<bool, NoMemory>
         ensures leads { IfOk result (λ leads. leads ≡ is_some (onward_of (pass self.now true [] path.now))) }
     {
         Ok(self.onward(alloc, path)?.is_some())
     }
 
-    /// The bytes and the time of the file that a path leads to, if it leads to one.
+    /// Returns the bytes and the time of the file that a path leads to, if it leads to one.
     pub(crate) fn read(
         &self,
         alloc: Global,
@@ -104,7 +104,7 @@ impl<'a> Sight<'a> {
         }
     }
 
-    /// The paths of a directory at whose names something stands, as far as these are watched, and perhaps more.
+    /// Returns the paths of a directory at whose names there is something, as far as these are watched, and perhaps more.
     pub(crate) fn watched_paths(
         &self,
         alloc: Global,
@@ -118,7 +118,7 @@ impl<'a> Sight<'a> {
         }
     }
 
-    /// The same by the last of the paths along which the directory is followed.
+    /// Returns these paths by the last of the paths along which the directory is followed.
     fn watched_at(
         &self,
         alloc: Global,
@@ -136,7 +136,7 @@ impl<'a> Sight<'a> {
         }
     }
 
-    /// The last of the paths along which a path is followed with so many links left. None where more come.
+    /// Returns the last of the paths along which a path is followed with so many links left. None where there are more.
     fn last_way(
         &self,
         alloc: Global,
@@ -152,7 +152,7 @@ impl<'a> Sight<'a> {
         }
     }
 
-    /// The path that the first link on the way of a path leads on to, if there is a link.
+    /// Returns the path that the first link on the way of a path leads on to, if there is a link.
     fn onward(&self, alloc: Global, path: &PathText) -> Result<Option<PathText>, NoMemory>
         ensures onward { IfOk result (λ onward. onward ≡ onward_of (pass self.now true [] path.now)) }
     {
@@ -164,7 +164,7 @@ impl<'a> Sight<'a> {
         }
     }
 
-    /// What is read at a path from which no link leads on.
+    /// Reads a path from which no link leads on.
     fn read_at(&self, alloc: Global, path: &PathText) -> Result<Option<(ByteList, u64)>, NoMemory>
         requires last { onward_of (pass self.now true [] path.now) ≡ None }
         ensures read { IfOk result (λ file. file ≡ result_ok (read_of self.now path.now)) }
@@ -178,7 +178,7 @@ impl<'a> Sight<'a> {
     }
 }
 
-/// Where a path comes after a change that is told whole, or after none.
+/// Returns where a path leads after a change that is whole, or after none.
 fn arrival_after(
     alloc: Global,
     change: Option<&Change>,
@@ -254,7 +254,7 @@ fn empty_arrival(place: &PathText, path: PathText) -> Arrival
     Arrival::Like(path)
 }
 
-/// What lies behind one path, behind another.
+/// Returns what lies below one path, below another.
 fn moved(
     alloc: Global,
     from: &PathText,
@@ -268,7 +268,7 @@ fn moved(
     to.followed_by(alloc, &rest)
 }
 
-/// The path that the first link on the way of a path leads on to, in a tree as it is.
+/// Returns the path that the first link on the way of a path leads on to, in a tree as it is.
 fn onward_before(alloc: Global, tree: &Tree, path: &PathText) -> Result<Option<PathText>, NoMemory>
     ensures onward { IfOk result (λ onward. onward ≡ onward_of (pass tree.now true [] path.now)) }
 {
@@ -279,7 +279,7 @@ fn onward_before(alloc: Global, tree: &Tree, path: &PathText) -> Result<Option<P
     Ok(Some(ways.swap_remove(1)))
 }
 
-/// What is read at a path in a tree as it is.
+/// Reads a path in a tree as it is.
 fn read_before(
     alloc: Global,
     tree: &Tree,
@@ -294,7 +294,7 @@ fn read_before(
     }
 }
 
-/// The file that a change puts.
+/// Returns the file that a change puts.
 fn put_file(alloc: Global, change: Option<&Change>) -> Result<Option<(ByteList, u64)>, NoMemory>
     ensures file { IfOk result (λ file. file ≡ file_put (option_copied change.entry)) }
 {
@@ -304,8 +304,8 @@ fn put_file(alloc: Global, change: Option<&Change>) -> Result<Option<(ByteList, 
     }
 }
 
-/// The watched paths of a directory at whose names something stands, by another path that leads there before a change; and
-/// with them the path of the name that the change puts.
+/// Returns the watched paths of a directory at whose names there is something, by another path that leads there before
+/// a change; and with them the path of the name that the change puts.
 fn paths_like(
     alloc: Global,
     tree: &Tree,
@@ -321,7 +321,7 @@ fn paths_like(
     Ok(paths)
 }
 
-/// Adds the watched paths of a directory at whose names something stands, by another path that leads to it.
+/// Adds the watched paths of a directory at whose names there is something, by another path that leads to it.
 fn add_listed(
     alloc: Global,
     tree: &Tree,
@@ -359,7 +359,7 @@ fn add_put(
     Ok(())
 }
 
-/// Where a change puts something.
+/// Returns where a change puts something.
 fn put_place<'a>(change: Option<&'a Change>) -> Option<&'a PathText>
     ensures place { option_copied result ≡ place_put (option_copied change.entry) }
 {

@@ -53,7 +53,7 @@ pub(crate) fn touched_by(
     Ok(touched)
 }
 
-/// The folders that are watched and linked.
+/// Returns the folders that are watched and linked.
 fn both(
     alloc: Global,
     watched: &BTreeSet<PathText>,
@@ -108,7 +108,7 @@ fn add_folder(folders: &mut Vec<PathText>, folder: PathText) -> Result<(), NoMem
     Ok(())
 }
 
-/// Adds the folders that lie at a place or below it. They stand behind one another, from the place on.
+/// Adds the folders that lie at a place or below it. They follow one another, from the place on.
 fn add_inside(
     alloc: Global,
     watched: &BTreeSet<PathText>,
@@ -126,7 +126,7 @@ fn add_inside(
     Ok(())
 }
 
-/// The watched folder of which this is the pack directory.
+/// Returns the watched folder of which this is the pack directory.
 fn folder_of(
     alloc: Global,
     watched: &BTreeSet<PathText>,
@@ -155,7 +155,7 @@ fn folder_if(
     Ok(None)
 }
 
-/// Whether a folder is watched, and this is its pack directory.
+/// Returns whether a folder is watched, and this is its pack directory.
 fn is_folder_of(
     alloc: Global,
     watched: &BTreeSet<PathText>,
@@ -186,7 +186,7 @@ fn add_named(
     }
 }
 
-/// The same of a watched name in a directory.
+/// Adds a watched name in a directory with its folder.
 fn add_named_in(
     alloc: Global,
     watched: &BTreeSet<PathText>,
@@ -216,7 +216,7 @@ fn add_pair(
     Ok(())
 }
 
-/// Where a change puts, takes or writes something.
+/// Returns where a change puts, takes or writes something.
 fn places_of(alloc: Global, tree: &Tree, change: &Change) -> Result<Vec<PathText>, NoMemory>
     ensures places { IfOk result (λ places. places.items ≡ places_of tree.now change.now) }
 {
@@ -240,7 +240,7 @@ fn places_of(alloc: Global, tree: &Tree, change: &Change) -> Result<Vec<PathText
     Ok(places)
 }
 
-/// The place of the file that a path leads to.
+/// Returns the place of the file that a path leads to.
 #[tactic(auto, unfolding(odb_nodes::specs::Tree::Write::change_of_append))]
 pub(crate) fn file_spot(
     alloc: Global,

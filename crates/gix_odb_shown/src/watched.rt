@@ -15,7 +15,7 @@ pub(crate) enum WatchedKind {
     MultiIndex,
 }
 
-/// The directory of a folder that packs stand in.
+/// Returns the pack directory of a folder.
 pub(crate) fn pack_directory(alloc: Global, folder: &PathText) -> Result<PathText, NoMemory>
     ensures directory { IfOk result (λ path. path ≡ pack_directory folder.now) }
 {
@@ -26,7 +26,7 @@ pub(crate) fn pack_directory(alloc: Global, folder: &PathText) -> Result<PathTex
     }
 }
 
-/// What a name in it is that is watched.
+/// Returns the kind of a name in it that is watched.
 pub(crate) fn watched_kind(name: &str) -> Option<WatchedKind>
     ensures kind { result ≡ watched_kind name.now }
 {
@@ -40,7 +40,7 @@ pub(crate) fn watched_kind(name: &str) -> Option<WatchedKind>
     None
 }
 
-/// The same of a path's last name, if it has one.
+/// Returns the kind of a path's last name, if it has one.
 pub(crate) fn named_kind(path: &PathText) -> Option<WatchedKind>
     ensures kind { result ≡ named_kind (last_name path.now) }
 {
@@ -50,7 +50,7 @@ pub(crate) fn named_kind(path: &PathText) -> Option<WatchedKind>
     }
 }
 
-/// Whether a path has a last name, and one that is watched.
+/// Returns whether a path has a last name, and one that is watched.
 pub(crate) fn has_watched_name(path: &PathText) -> bool
     ensures watched { result ≡ is_watched_name (last_name path.now) }
 {
@@ -60,7 +60,7 @@ pub(crate) fn has_watched_name(path: &PathText) -> bool
     }
 }
 
-/// The time under which the bytes of a file count, by its own time.
+/// Returns the time under which the bytes of a file count, by its own time.
 pub(crate) fn counted(kind: WatchedKind, time: u64) -> u64
     ensures time { result ≡ counted kind time }
 {

@@ -24,7 +24,7 @@ new_row_not_held slots row place filled new is = by (holds row (Some filled)) re
     by false held = refl
 
 module _ (stable : Bool) (rows : List ListingRow) (slots : List Slot) (list : List ℕ) (differ : HasDifferentPaths rows) (apart : IsApart slots) where
-  -- what a new row takes, against what a settled slot keeps
+  -- the slot that a new row takes differs from each settled slot
   settled_and_taken : (place : ℕ) (row : ListingRow) (there : ℕ) (before after : Filled) → taker (taken stable rows slots list) place ≡ Some row
       → slot_at slots there ≡ Some before → settled stable rows (Some before) ≡ Some after → same_filled after (new_filled row) ≡ false
   settled_and_taken place row there before after at was is =

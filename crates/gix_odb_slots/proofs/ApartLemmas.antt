@@ -4,7 +4,7 @@ use Rattle.std.specs.List.{AllByRecursion, IsDistinct}
 use Rattle.gix_odb_events.specs.Slots.{slot_at, Slot}
 use Rattle.gix_odb_events.specs.declared.slot.Filled.{Filled}
 
--- what holds of each filled slot
+-- a property of each filled slot
 module _ (P : Filled → Type 0) where
   pub each_at : (slots : List Slot) → AllByRecursion P (filter_map (λ slot. slot) slots) → (place : ℕ) (filled : Filled) → slot_at slots place ≡ Some filled → P filled
   each_at [] all place filled is = absurd cc
@@ -18,7 +18,7 @@ module _ (P : Filled → Type 0) where
   each_from (None ∷ slots) all = each_from slots (λ place filled is. all (suc place) filled is)
   each_from (Some first ∷ slots) all = (all zero first refl, each_from slots (λ place filled is. all (suc place) filled is))
 
--- two filled slots differ, by their places, and back
+-- two filled slots differ, by their places, and conversely
 module _ (same : Filled → Filled → Bool) where
   pub apart_at : (slots : List Slot) → IsDistinct same (filter_map (λ slot. slot) slots)
       → (i j : ℕ) (one other : Filled) → i < j → slot_at slots i ≡ Some one → slot_at slots j ≡ Some other → same one other ≡ false

@@ -1,4 +1,4 @@
--- Counts that are summed up a slot at a time are counts over the filled slots.
+-- Counts summed one slot at a time are counts over the filled slots.
 use Rattle.std.proofs.Common.{◌≡◌, ℕ, ◌+◌, ◌<◌, true, false, cond, List, [], ◌∷◌, length, get_or, drop, take, Some, None, is_none, refl, sym, ap, subst, ◌∙◌, arith}
 use Rattle.std.specs.List.{cons_option, count_by, sum_by}
 use Rattle.std.proofs.lemmas.List.{drop_more}
@@ -33,7 +33,7 @@ disposable_small : (tally : Tally) (slots : List Slot) → IsSmall (with_disposa
 disposable_small tally [] small = small
 disposable_small tally (slot ∷ slots) small = slot_small tally (disposable_slot slot) (disposable_small (with_slot tally (disposable_slot slot)) slots small)
 
--- ---- a slot more
+-- ---- one more slot
 
 module _ (slots : List Slot) (list : List ℕ) (i : ℕ) (tally : Tally) (within : i < length list) (so_far : with_places slots tally (drop i list) ≡ with_places slots no_tally list) where
   pub listed_tally-step : with_places slots (with_slot tally (slot_at slots (get_or list i 0))) (drop (i + 1) list) ≡ with_places slots no_tally list
@@ -71,7 +71,7 @@ made indices open_indices packs open_packs = record { indices = indices; open_in
 same_made : {a b c d e f g h : ℕ} → a ≡ e → b ≡ f → c ≡ g → d ≡ h → made a b c d ≡ made e f g h
 same_made {b = b} {c = c} {d = d} {e = e} {f = f} {g = g} p q r s = ap (λ n. made n b c d) p ∙ ap (λ n. made e n c d) q ∙ ap (λ n. made e f n d) r ∙ ap (λ n. made e f g n) s
 
--- the counts over filled slots, on top of others
+-- the counts over filled slots, added to others
 abbrev over : Tally → List Filled → Tally
 over tally filled =
     made (tally.indices + length filled) (tally.open_indices + count_by (λ f. is_index_loaded f.index) filled) (tally.packs + sum_by (λ f. length f.packs) filled)

@@ -19,7 +19,7 @@ use Rattle.gix_odb_slots.proofs.SettledLemmas.{holds-settled, settled_cases}
 use Rattle.gix_odb_slots.proofs.SlotsAfterLemmas.{after_cases}
 use Rattle.gix_odb_slots.proofs.TakenLemmas.{taker}
 
--- ---- what a new row fills in, and what is put back
+-- ---- a slot that a new row takes, and one that is put back
 
 none-new : (folder : Path) (names : List (List ℕ)) → list_any (λ pack. is_disposable pack.state) (map (new_pack folder) names) ≡ false
 none-new folder [] = refl

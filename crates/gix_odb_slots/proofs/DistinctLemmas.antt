@@ -1,9 +1,9 @@
--- Lists without two equal elements: joined, filtered, paired, and numbers in a row.
+-- Lists without two equal elements: joined, filtered, paired, and ranges of numbers.
 use Rattle.std.proofs.Common.{◌≡◌, ℕ, zero, suc, ◌+◌, ◌-◌, ◌<◌, ◌≤◌, Bool, true, false, cond, List, [], ◌∷◌, ◌++◌, map, zip, nat_eq, refl, sym, ◌∙◌, arith, ne_eqb}
 use Rattle.std.specs.List.{AllByRecursion, IsDistinct, filter, range_with_len}
 use Rattle.gix_odb_slots.specs.Publish.{ring_from}
 
--- ---- what holds of each element
+-- ---- a property of each element
 
 module _ {X : Type 0} where
   pub each_true : (xs : List X) → AllByRecursion (λ _. Unit {0}) xs
@@ -34,7 +34,7 @@ module _ {X : Type 0} where
       by true is r = (is, r)
       by false is r = r
 
-  -- what holds of each that passes, of the whole list
+  -- a property of each element that passes, for the whole list
   pub each_that_passes : (P : X → Type 0) (p : X → Bool) (xs : List X) → AllByRecursion P (filter p xs) → AllByRecursion (λ x. p x ≡ true → P x) xs
   each_that_passes P p [] h = tt
   each_that_passes P p (x ∷ xs) h = by (p x) refl (each_that_passes P p xs) h
@@ -62,7 +62,7 @@ module _ {X : Type 0} (e : X → X → Bool) where
         | false ↦ IsDistinct-filter p xs d.1
       ]
 
-  -- P holds of the first ones and Q of the others, and what P holds of isn't equal to what Q holds of
+  -- P holds of the first ones and Q of the others, and elements with P aren't equal to elements with Q
   pub IsDistinct-append : (P Q : X → Type 0) → ((x y : X) → P x → Q y → e x y ≡ false) → (xs ys : List X) → AllByRecursion P xs → AllByRecursion Q ys → IsDistinct e xs
       → IsDistinct e ys → IsDistinct e (xs ++ ys)
   unfolding IsDistinct
@@ -100,7 +100,7 @@ module _ {A B : Type 0} where
     IsDistinct-seconds e xs ys d.1,
   )
 
--- ---- numbers in a row, and round
+-- ---- ranges of numbers, and wrapped around
 
 pub each_in_range : (a n : ℕ) → AllByRecursion (λ k. (a ≤ k) × (k < a + n)) (range_with_len a n)
 each_in_range a zero = tt

@@ -1,4 +1,4 @@
--- Slots keep few packs, whatever files and listings make of them.
+-- Slots keep few packs, whatever the files and listings.
 use Rattle.std.proofs.Common.{◌≡◌, ℕ, ◌≤◌, inl, inr, Bool, true, false, cond, All, List, length, get_or, map, Option, Some, None, refl, sym, subst, ◌∙◌}
 use Rattle.std.specs.List.{list_any}
 use Rattle.std.proofs.lemmas.Bool.{cases_lt}
@@ -16,7 +16,7 @@ use Rattle.gix_odb_events.specs.declared.listing.ListingRow.{ListingRow}
 use Rattle.gix_odb_events.specs.declared.slot.Filled.{Filled}
 use Rattle.gix_odb_events.specs.declared.slot.IndexFile.{IndexFile}
 
--- what stands at a place
+-- the slot at a place
 pub each_few : (slots : List Slot) → All HasFewPacks slots → (place : ℕ) → HasFewPacks (slot_at slots place)
 each_few slots all place = elim (cases_lt place (length slots)) [
   | inl within ↦ subst HasFewPacks (sym (slot_at-get_or slots place))
@@ -24,7 +24,7 @@ each_few slots all place = elim (cases_lt place (length slots)) [
   | inr past ↦ subst HasFewPacks (sym (slot_at-get_or slots place ∙ get_or_past slots place None past)) tt
 ]
 
--- what becomes of a slot
+-- a slot after a file
 pub few-index : (path : Path) (bytes : FileBytes) (slot : Slot) → HasFewPacks slot → HasFewPacks (slot_with_index path bytes slot)
 few-index path bytes None few = tt
 few-index path bytes (Some filled) few = by (index_with path bytes filled.index)

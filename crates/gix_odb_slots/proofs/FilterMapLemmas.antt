@@ -1,4 +1,4 @@
--- What a function gives of the elements of a list, where it gives something of each, and where it tells them apart.
+-- filter_map of a function that gives something for each element, and of one that gives different things for different elements.
 use Rattle.std.proofs.Common.{◌≡◌, ℕ, zero, suc, ◌<◌, Bool, true, false, List, [], ◌∷◌, length, get_or, Option, Some, None, is_some, filter_map, ◌||◌, ⊎_elim, refl, ap, ◌∙◌, arith}
 use Rattle.std.specs.List.{AllByRecursion, IsDistinct, cons_option, list_any}
 use Rattle.std.proofs.lemmas.Bool.{or_cases, or_left, or_right}
@@ -13,7 +13,7 @@ module _ {X Y : Type 0} (h : X → Option Y) where
       by None is rest = absurd cc
       by (Some y) is rest = ap suc rest
 
-  -- and each element gives what stands at its place
+  -- and each element gives the item at its place
   pub get_or-filter_map : (xs : List X) → AllByRecursion (λ x. is_some (h x) ≡ true) xs → (k : ℕ) (d : X) (e : Y) → k < length xs → h (get_or xs k d) ≡ Some (get_or (filter_map h xs) k e)
   get_or-filter_map [] all k d e within = let no : ⊥ = omega arith in absurd no
   get_or-filter_map (x ∷ xs) all zero d e within = by (h x) all.0
@@ -27,7 +27,7 @@ module _ {X Y : Type 0} (h : X → Option Y) where
       by None is = absurd cc
       by (Some y) is = refl
 
-  -- elements that differ give things that differ
+  -- elements that differ give items that differ
   pub IsDistinct-filter_map : (differ : X → X → Bool) (e : Y → Y → Bool) → ((x z : X) (y w : Y) → differ x z ≡ false → h x ≡ Some y → h z ≡ Some w → e y w ≡ false)
       → (xs : List X) → IsDistinct differ xs → IsDistinct e (filter_map h xs)
   unfolding IsDistinct
@@ -46,7 +46,7 @@ module _ {X Y : Type 0} (h : X → Option Y) where
       by None is rest = rest
       by (Some y) is rest = (each y is xs d.0, rest)
 
-  -- what stands among them was given by an element
+  -- each item was given by an element
   pub any-filter_map : (e : Y → Y → Bool) (y : Y) (p : X → Bool) → ((x : X) (w : Y) → h x ≡ Some w → e y w ≡ true → p x ≡ true) → (xs : List X)
       → list_any (e y) (filter_map h xs) ≡ true → list_any p xs ≡ true
   any-filter_map e y p tells [] any = any

@@ -49,7 +49,7 @@ same_parts_flip path time other later =
     ∙ ap (λ (b : Bool). is_eq (path_cmp other path) && b) (same_time_flip time later)
     ∙ tied_then (path_cmp other path) (option_cmp nat_cmp later time)
 
--- a slot holds a row where its index has the row's parts
+-- a slot holds a row if its index has the row's parts
 held_parts : (row : ListingRow) (filled : Filled)
     → is_eq (parts_cmp (index_path filled.index) (index_time filled.index filled.time) row.path (row_time row.multi row.time)) ≡ holds row (Some filled)
 held_parts row filled = same_parts (index_path filled.index) (index_time filled.index filled.time) row.path (row_time row.multi row.time) ∙ by row.multi filled.index
@@ -80,7 +80,7 @@ row_has-filled key filled row path time =
 
 -- ---- the keys of rows
 
--- a row more
+-- one more row
 pub row_keys-step : (rows : List ListingRow) (i : ℕ) (row : ListingRow) (key other : IndexKey) (had has : Bool) → i < length rows → row ≡ get_or rows i row
     → key.path.now ≡ row.path → key.multi_time ≡ row_time row.multi row.time
     → had ≡ list_any (row_has other) (take i rows) → has ≡ cond (is_eq (key_cmp key other)) true had
@@ -119,7 +119,7 @@ none_kept (row ∷ rows) = none_kept rows
 
 -- ---- the first slot of each key
 
--- a slot more, before the others
+-- one more slot, before the others
 pub first_places-step : (slots : List Slot) (i next : ℕ) (slot : Slot) (key other : IndexKey) (filled : Filled) (had has : Option ℕ) → i < length slots → i + 1 ≡ next
     → slot ≡ get_or slots i slot → slot ≡ Some filled → key.path.now ≡ index_path filled.index → key.multi_time ≡ index_time filled.index filled.time
     → had ≡ position_from (slot_has other) next (drop next slots) → has ≡ cond (is_eq (key_cmp key other)) (Some i) had
@@ -156,7 +156,7 @@ place_by_key : (key : IndexKey) (row : ListingRow) (slots : List Slot) → key.p
     → position (slot_has key) slots ≡ position (holds row) slots
 place_by_key key row slots path time = position_from-zero (slot_has key) slots ∙ same_places key row slots 0 path time ∙ sym (position_from-zero (holds row) slots)
 
--- a row more, and the slot that holds it
+-- one more row, and the slot that holds it
 pub places_of_rows-step : (slots : List Slot) (rows : List ListingRow) (i : ℕ) (row : ListingRow) (key : IndexKey) (place : Option ℕ) (old new : List (Option ℕ)) → i < length rows
     → row ≡ get_or rows i row → key.path.now ≡ row.path → key.multi_time ≡ row_time row.multi row.time
     → place ≡ position (slot_has key) slots → old ≡ map (λ r. position (holds r) slots) (take i rows) → new ≡ old ++ place ∷ []

@@ -1,4 +1,4 @@
--- What settling keeps of a filled slot.
+-- Settling a filled slot: what is kept.
 use Rattle.std.proofs.Common.{◌≡◌, Bool, true, false, List, [], ◌∷◌, Some, map, ◌⊎◌, inl, inr, refl, subst}
 use Rattle.std.specs.List.{AllZip}
 use Rattle.gix_odb_events.specs.OnDiskFile.{loaded, put_back, trashed, with_state}
@@ -57,7 +57,7 @@ keeps-settled stable rows before after is = by (settled_cases stable rows before
     by (inl (kept, to)) = subst (λ (f : Filled). KeepsFiles before f) to (keeps-put_back before)
     by (inr (kept, to)) = subst (λ (f : Filled). KeepsFiles before f) to (keeps-trashed before)
 
--- what is kept has its path
+-- what is kept has the same path
 pub keeps_path : (before after : Filled) → KeepsFiles before after → index_path after.index ≡ index_path before.index
 keeps_path before after keeps = by before.index after.index keeps.index
   where

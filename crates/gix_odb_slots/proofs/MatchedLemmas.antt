@@ -1,4 +1,4 @@
--- What was looked up of rows and slots, by their places.
+-- The rows and slots that were looked up, by their places.
 use Rattle.std.proofs.Common.{◌≡◌, ℕ, suc, ◌+◌, ◌<◌, ◌≤◌, Bool, true, false, cond, not, ◌||◌, List, [], ◌∷◌, ◌++◌, length, get_or}
 use Rattle.std.proofs.Common.{take, filter, map, Some, None, Option, All, is_none, is_some, position, refl, sym, ap, ◌∙◌, arith}
 use Rattle.std.specs.List.{cons_option, filter_map, list_any, position_from}
@@ -19,7 +19,7 @@ use Rattle.gix_odb_slots.proofs.SlotsAfterLemmas.{slot_at-get_or}
 pub any_slot-here : (p : Slot → Bool) (slots : List Slot) (place : ℕ) (passes : Bool) → place < length slots → passes ≡ p (slot_at slots place) → passes ≡ true → true ≡ list_any p slots
 any_slot-here p slots place passes within is pass = sym (list_any_at p slots place None within (ap p (sym (slot_at-get_or slots place)) ∙ sym is ∙ pass))
 
--- a slot more that fails it
+-- one more slot, which fails it
 pub any_slot-more : (p : Slot → Bool) (slots : List Slot) (place : ℕ) (passes : Bool) → place < length slots → passes ≡ p (slot_at slots place) → passes ≡ false
     → list_any p (take place slots) ≡ false → list_any p (take (place + 1) slots) ≡ false
 any_slot-more p slots place passes within is fails so_far =
@@ -27,7 +27,7 @@ any_slot-more p slots place passes within is fails so_far =
     ∙ ap (λ (b : Bool). b || p (get_or slots place None)) so_far
     ∙ ap p (sym (slot_at-get_or slots place)) ∙ sym is ∙ fails
 
--- a slot more that a function is applied to
+-- one more slot that a function is applied to
 pub map_slots-step : {Y : Type 0} (h : Slot → Y) (slots : List Slot) (place : ℕ) (y : Y) (old new : List Y) → place < length slots → y ≡ h (slot_at slots place)
     → old ≡ map h (take place slots) → new ≡ old ++ y ∷ [] → new ≡ map h (take (place + 1) slots)
 map_slots-step {Y = Y} h slots place y old new within gives so_far put =
@@ -94,7 +94,7 @@ module _ (slots : List Slot) where
       All-cons (λ (place : Option ℕ). ForSome place (λ number. number < most)) (place_of row) (map place_of rows)
       (λ number is. omega (arith, few, (position-Some (holds row) slots number None is).0)) (places-within rows most few)
 
-  -- those that are there are the list
+  -- the places that are present are the list
   pub list_after-places : (rows : List ListingRow) → filter_map (λ (place : Option ℕ). place) (map (λ row. position (holds row) slots) rows) ≡ filter_map (λ row. position (holds row) slots) rows
   list_after-places [] = refl
   list_after-places (row ∷ rows) = ap (cons_option (place_of row)) (list_after-places rows)

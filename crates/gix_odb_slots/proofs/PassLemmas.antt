@@ -1,4 +1,4 @@
--- A file that is passed over changes nothing where no file of the slot turns missing by it.
+-- A file that is passed over changes nothing if no file of the slot becomes missing by it.
 use Rattle.std.proofs.Common.{◌≡◌, ℕ, Bool, true, false, cond, ◌||◌, ◌&&◌, List, [], ◌∷◌, map, set, Some, None, refl, ap, ◌∙◌}
 use Rattle.std.specs.List.{list_any}
 use Rattle.std.proofs.lemmas.List.{set-get_or}
@@ -49,7 +49,7 @@ slot-same path (Some filled) stays =
     ap (λ (index : IndexFile). Some (record filled { index = index; packs = map (passed_at path) filled.packs })) (index-same path filled.index each.0)
     ∙ ap (λ (packs : List PackFile). Some (record filled { packs = packs })) (files-same path filled.packs each.1)
 
--- what stands at a place, put there
+-- the slot at a place, set to itself
 put_same : (slots : List Slot) (place : ℕ) → set slots place (slot_at slots place) ≡ slots
 put_same slots place = ap (set slots place) (slot_at-get_or slots place) ∙ set-get_or slots place None
 

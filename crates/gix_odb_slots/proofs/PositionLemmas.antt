@@ -1,4 +1,4 @@
--- The first place at which a test passes, and what stands there.
+-- The first place at which a test passes, and the element there.
 use Rattle.std.proofs.Common.{◌≡◌, suc, ◌+◌, ◌<◌, Bool, true, false, ◌||◌, cond, not, List, [], ◌∷◌, length, position, Some, refl, arith, lt-ltb}
 use Rattle.std.specs.List.{list_any, position_or_len}
 

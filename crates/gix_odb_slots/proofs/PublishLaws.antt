@@ -42,7 +42,7 @@ any_from_place row slots place filled is held =
 -- ---- each row has a slot
 
 module _ (stable : Bool) (rows : List ListingRow) (slots : List Slot) (list : List ℕ) (room : length (new_rows slots rows) ≤ length (free_places stable rows slots list)) where
-  -- where there is room, each row is held by some slot afterwards: a kept one by the slot that held it, a new one by the slot that it takes
+  -- where there is room, each row is held by some slot afterwards: a kept row by the slot that held it, a new row by the slot that it takes
   pub each_row_is_held : AllPass (λ row. list_any (holds row) (slots_after stable rows slots list)) rows
   each_row_is_held k d within = by (is_new slots (get_or rows k d)) refl
     where

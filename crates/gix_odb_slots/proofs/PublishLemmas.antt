@@ -18,7 +18,7 @@ range_with_len-more a (suc n) =
     let s : suc n + 1 ≡ suc (n + 1) = omega arith in
     rw s (ap (λ l. a ∷ l) (range_with_len-more (a + 1) n ∙ ap (λ k. range_with_len (a + 1) n ++ k ∷ []) e))
 
--- one number more that a test takes or leaves
+-- one more number that a test takes or leaves
 pub filter-range_more : (p : ℕ → Bool) (from place : ℕ) → from ≤ place
     → filter p (range_with_len from (place + 1 - from)) ≡ filter p (range_with_len from (place - from)) ++ (cond (p place) (place ∷ []) [])
 filter-range_more p from place h =
@@ -27,7 +27,7 @@ filter-range_more p from place h =
     ap (λ k. filter p (range_with_len from k)) n ∙ ap (filter p) (range_with_len-more from (place - from)) ∙ filter-append p _ _
     ∙ ap (λ k. filter p (range_with_len from (place - from)) ++ cond (p k) (k ∷ []) []) at
 
--- one item more of which a function gives something or nothing
+-- one more item, for which a function gives something or nothing
 pub filter_map-take_more : {X Y : Type 0} (h : X → Option Y) (xs : List X) (i : ℕ) (d : X) → i < length xs
     → filter_map h (take (i + 1) xs) ≡ filter_map h (take i xs) ++ option_to_list (h (get_or xs i d))
 filter_map-take_more {Y = Y} h xs i d within =
@@ -42,7 +42,7 @@ pub nothing : (places : List ℕ) → ◌≡◌ {A = List (ℕ × ListingRow)} (
 nothing [] = refl
 nothing (place ∷ places) = refl
 
--- a place more that is free or not
+-- one more place, free or not
 pub free_places-step : (stable : Bool) (rows : List ListingRow) (slots : List Slot) (from place : ℕ) (begun old new : List ℕ) (free : Bool)
     → from ≤ place → free ≡ is_free stable rows (slot_at slots place)
     → old ≡ begun ++ filter (λ k. is_free stable rows (slot_at slots k)) (range_with_len from (place - from))
@@ -62,7 +62,7 @@ within-step n place old new free below all put = subst (All (λ k. k < n)) (sym 
     one true = All-cons (λ k. k < n) place [] below (All-nil (λ k. k < n))
     one false = All-nil (λ k. k < n)
 
--- a row more that takes a place, if it is new and one is left
+-- one more row, which takes a place if it is new and one is left
 with_taken-step : (slots : List Slot) (row : ListingRow) (rows : List ListingRow) (left : List ℕ) (after : List Slot) (new : Bool) → new ≡ is_new slots row
     → with_taken (zip (drop (cond new 1 0) left) (new_rows slots rows)) (with_taken (zip left (cond new (row ∷ []) [])) after) ≡ with_taken (zip left (new_rows slots (row ∷ rows))) after
 with_taken-step slots row rows left after new is = by new left ∙ ap (λ (b : Bool). with_taken (zip left (cond b (row ∷ new_rows slots rows) (new_rows slots rows))) after) is

@@ -1,4 +1,4 @@
--- Which indices are one: by their paths, their kinds and, of multi-indices, their times.
+-- When two indices are the same: by their paths, their kinds and, for multi-indices, their times.
 use Rattle.std.proofs.Common.{◌≡◌, ℕ, Bool, true, false, nat_eq, List, Option, Some, None, ◌⊎◌, inl, inr, ⊎_elim, refl, sym, ap, ◌∙◌, ne_eqb}
 use Rattle.std.proofs.lemmas.Bool.{and_cases, and_left, and_right, eqb-false}
 use Rattle.gix_odb_slots.specs.Publish.{is_kept, settled}
@@ -21,7 +21,7 @@ same_index_flip (Multi one) time (Single other) later is = refl
 same_index_flip (Multi one) time (Multi other) later is =
     ⊎_elim (λ h. and_left _ _ (same_path_flip one.path other.path h)) (λ h. and_right _ _ (flip_time time later h)) (and_cases _ _ is)
 
--- the index of a new row is that of a slot where the slot holds the row
+-- the index of a new row is that of a slot iff the slot holds the row
 pub same_index-new : (filled : Filled) (row : ListingRow) → same_index filled.index filled.time (new_index row.path row.multi) row.time ≡ holds row (Some filled)
 same_index-new filled row = by filled.index row.multi
   where
@@ -41,7 +41,7 @@ same_index-rows one other differ = by one.multi other.multi
     by (Some m) None = refl
     by (Some m) (Some n) = and_left _ _ differ
 
--- ---- settling leaves it the same index
+-- ---- settling keeps the index
 
 left_put_back : (one : IndexFile) (time : ℕ) (other : IndexFile) (later : ℕ) → same_index (index_put_back one) time other later ≡ same_index one time other later
 left_put_back (Single one) time (Single other) later = refl
@@ -55,7 +55,7 @@ left_trashed (Single one) time (Multi other) later = refl
 left_trashed (Multi one) time (Single other) later = refl
 left_trashed (Multi one) time (Multi other) later = refl
 
--- whether two slots hold one index
+-- whether two slots hold the same index
 abbrev pub same_filled : Filled → Filled → Bool
 same_filled one other = same_index one.index one.time other.index other.time
 

@@ -1,4 +1,4 @@
--- What settling makes of a filled slot, and that it stays the slot of the same row.
+-- A filled slot after settling, and that it remains the slot of the same row.
 use Rattle.std.proofs.Common.{◌≡◌, Bool, true, false, List, cond, Some, None, ◌⊎◌, inl, inr, refl, sym, ap, ◌∙◌}
 use Rattle.gix_odb_slots.specs.Publish.{is_kept, settled}
 use Rattle.gix_odb_events.specs.Slots.{filled_put_back, filled_trashed, holds}
@@ -7,7 +7,7 @@ use Rattle.gix_odb_events.specs.declared.slot.Filled.{Filled}
 use Rattle.gix_odb_slots.proofs.SlotLemmas.{holds-put_back, holds-trashed}
 
 module _ (stable : Bool) (rows : List ListingRow) where
-  -- what a filled slot becomes, if it stays filled: put back, or trashed
+  -- a slot that stays filled is put back or trashed
   pub settled_cases : (before after : Filled) → settled stable rows (Some before) ≡ Some after
       → ((is_kept rows (Some before) ≡ true) × (filled_put_back before ≡ after)) ⊎ ((is_kept rows (Some before) ≡ false) × (filled_trashed before ≡ after))
   settled_cases before after is = by (is_kept rows (Some before)) stable refl is

@@ -1,4 +1,4 @@
--- What settling leaves of a slot, and of which row a slot is.
+-- A slot after settling, and which row a slot holds.
 use Rattle.std.proofs.Common.{◌≡◌, ℕ, true, List, Option, Some, None, refl, eq-eqb}
 use Rattle.std.proofs.lemmas.Bool.{and_parts, and_from}
 use lib.Pointwise.{pointwise_decides}

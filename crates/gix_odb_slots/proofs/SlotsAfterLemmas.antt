@@ -1,4 +1,4 @@
--- What a publish leaves at a place: what the row that takes it fills in, or what settling leaves.
+-- The slot at a place after a publish: filled by the row that takes it, or settled.
 use Rattle.std.proofs.Common.{Contains, ◌≡◌, ℕ, ◌<◌, ◌≤◌, Bool, true, false, not, ◌&&◌, cond, nat_eq, List, [], ◌∷◌, length, map, set, get_or, slice_get, Option, Some}
 use Rattle.std.proofs.Common.{None, unwrap_or, option_map, ◌⊎◌, inl, inr, ⊎_elim, refl, sym, ap, subst, ◌∙◌, eqb-true, get_or-set_same, get_or-set_other, length-set}
 use Rattle.std.specs.List.{AllByRecursion, IsDistinct}
@@ -25,7 +25,7 @@ pub slot_at-set_other : (slots : List Slot) (place other : ℕ) (slot : Slot) �
 slot_at-set_other slots place other slot differ =
     slot_at-get_or (set slots place slot) other ∙ get_or-set_other slots place other slot None (eqb-false other place differ) ∙ sym (slot_at-get_or slots other)
 
--- only places of the slots have something
+-- only places within the slots are filled
 pub filled_within : (slots : List Slot) (place : ℕ) (filled : Filled) → slot_at slots place ≡ Some filled → place < length slots
 filled_within slots place filled is =
     ⊎_elim (λ (h : place < length slots). h)
@@ -113,7 +113,7 @@ module _ (stable : Bool) (rows : List ListingRow) (slots : List Slot) (list : Li
       (each_true (free_places stable rows slots list))
       (each_filter (Contains rows) (is_new slots) rows (recursion_from_All (Contains rows) rows (All-contains_itself rows)))) place row is).1
 
-  -- a filled place that isn't free is not taken: what settling leaves stands there
+  -- a filled place that isn't free is not taken: the settled slot is there
   pub unfree_after : (place : ℕ) (filled : Filled) → slot_at slots place ≡ Some filled → is_free stable rows (Some filled) ≡ false
       → slot_at (slots_after stable rows slots list) place ≡ settled stable rows (Some filled)
   unfree_after place filled is unfree = slots_after-at place (filled_within slots place filled is)
@@ -123,7 +123,7 @@ module _ (stable : Bool) (rows : List ListingRow) (slots : List Slot) (list : Li
       by None at = refl
       by (Some row) at = let free : is_free stable rows (Some filled) ≡ true = rw is at (taken_free place row at) in let no : true ≡ false = sym free ∙ unfree in absurd cc
 
-  -- what a row keeps is put back
+  -- a slot that a row keeps is put back
   pub kept_after : (place : ℕ) (filled : Filled) → slot_at slots place ≡ Some filled → is_kept rows (Some filled) ≡ true
       → slot_at (slots_after stable rows slots list) place ≡ Some (filled_put_back filled)
   kept_after place filled is kept = unfree_after place filled is (by stable (is_kept rows (Some filled)) kept) ∙ rw kept refl

@@ -10,7 +10,7 @@ use Rattle.gix_odb_events.specs.PackFiles.{PackFile}
 use Rattle.gix_odb_slots.specs.declared.counts.Tally.{Tally}
 use Rattle.gix_odb_events.specs.declared.slot.Filled.{Filled}
 
--- the counts over so many slots
+-- the counts over n slots
 record IsOver (n : ℕ) (tally : Tally) : Type 0 where
   indices : tally.indices ≤ n
   open_indices : tally.open_indices ≤ n

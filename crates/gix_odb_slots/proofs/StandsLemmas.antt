@@ -1,4 +1,4 @@
--- A listing that has no work at a slot and has no new row leaves the slots, and no other listing does.
+-- A listing with no unsettled slot and no new row leaves the slots unchanged, and no other listing does.
 use Rattle.std.proofs.Common.{◌≡◌, ◌≢◌, ℕ, Bool, true, false, cond, ◌||◌, not, List, [], ◌∷◌, length, map, drop, get_or, Some, None, ◌⊎◌, inl, inr, refl, sym, ap, ◌∙◌}
 use Rattle.std.specs.List.{list_any, zip}
 use Rattle.gix_pack_files.specs.FileBytes.{FileBytes}
@@ -22,7 +22,7 @@ either : (a b : Bool) → (a || b) ≡ true → (a ≡ true) ⊎ (b ≡ true)
 either true b h = inl refl
 either false b h = inr h
 
--- ---- a change of each item of a list, beside a test of which items it changes
+-- ---- a change of each item of a list, and a test of which items it changes
 
 module _ {A : Type 0} (test : A → Bool) (change : A → A) where
   all-same : ((item : A) → test item ≡ false → change item ≡ item) → (items : List A) → list_any test items ≡ false → map change items ≡ items
@@ -39,7 +39,7 @@ module _ {A : Type 0} (test : A → Bool) (change : A → A) where
         | inr more ↦ any-changes each items more (ap (λ (l : List A). drop 1 l) same)
       ]
 
--- ---- which files change where they are put back, and where they are trashed
+-- ---- which files change when they are put back, and when they are trashed
 
 module _ {A : Type 0} where
   put_back-same : (state : FileState A) → is_disposable state ≡ false → put_back state ≡ state
@@ -78,7 +78,7 @@ module _ {A : Type 0} where
   file-trashed-changes : (file : OnDiskFile A) → is_trashable file.state ≡ true → with_state trashed file ≢ file
   file-trashed-changes file wanted same = trashed-changes file.state wanted (ap (λ (f : OnDiskFile A). f.state) same)
 
--- what a single index is, and a multi-pack index
+-- a single index, and a multi-pack index
 abbrev single_of : IndexFile → OnDiskFile FileBytes → OnDiskFile FileBytes
 single_of (Single file) other = file
 single_of (Multi file) other = other

@@ -10,7 +10,7 @@ module _ {Y : Type 0} where
   taker [] place = None
   taker (pair ∷ pairs) place = cond (nat_eq place pair.0) (Some pair.1) (taker pairs place)
 
-  -- what holds of each pair's place and row holds of a place that is taken and of the row that takes it
+  -- properties of each pair's place and row hold of a place that is taken and of the row that takes it
   pub taker_gives : (P : ℕ → Type 0) (Q : Y → Type 0) (pairs : List (ℕ × Y)) → AllByRecursion (λ pair. P pair.0 × Q pair.1) pairs → (place : ℕ) (row : Y)
       → taker pairs place ≡ Some row → P place × Q row
   taker_gives P Q [] h place row is = absurd cc
@@ -48,7 +48,7 @@ module _ {Y : Type 0} where
       by false true at bt isx isy rest = let this : pair.1 ≡ y = cc in flip y x (rw this at (later one x isx))
       by false false at bt isx isy rest = rest isx isy
 
-  -- where there are places enough, each row takes one
+  -- if there are enough places, each row takes one
   pub each_taken : (places : List ℕ) (rows : List Y) → IsDistinct nat_eq places → length rows ≤ length places → AllByRecursion (λ row. (place : ℕ) × (taker (zip places rows) place ≡ Some row)) rows
   unfolding IsDistinct
   each_taken places [] d room = tt

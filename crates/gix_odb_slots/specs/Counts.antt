@@ -1,4 +1,4 @@
--- What is counted of slots.
+-- Counts over slots.
 use Rattle.std.specs.Prelude.{ℕ, List, count_by, Option, Some, None, if◌then◌else◌}
 use Rattle.std.specs.List.{filter_map}
 use Rattle.gix_odb_events.specs.OnDiskFile.{is_loaded}

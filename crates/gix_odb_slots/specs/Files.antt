@@ -1,4 +1,4 @@
--- What becomes of the files of a slot that were read, or passed over.
+-- The files of a slot after one was read or passed over.
 use Rattle.std.specs.Prelude.{Bool, false, ◌&&◌, ◌||◌, not, map, Option, Some, None, if◌then◌else◌}
 use Rattle.std.specs.List.{list_any}
 use Rattle.odb_base.specs.Path.{Path}
@@ -26,12 +26,12 @@ abbrev pub with_index : Filled → Option IndexFile → Option Filled
 with_index filled None = None
 with_index filled (Some index) = Some (record filled { index = index })
 
--- what a slot holds once an index is stored in it, if it is
+-- what a slot holds after an index is stored in it, if it is
 abbrev pub slot_with_index : Path → FileBytes → Slot → Option Filled
 slot_with_index path bytes None = None
 slot_with_index path bytes (Some filled) = with_index filled (index_with path bytes filled.index)
 
--- the same of a pack: it is stored in each file of the slot that has its path and isn't loaded
+-- a pack is stored in each file of the slot that has its path and isn't loaded
 abbrev pub stored_at : {A : Type 0} → Path → A → OnDiskFile A → OnDiskFile A
 stored_at path bytes file = if same_path file.path path then with_state (stored bytes) file else file
 
@@ -41,7 +41,7 @@ slot_with_pack path bytes (Some filled) = if list_any (takes path) filled.packs 
 
 -- ---- files that were passed over
 
--- whether a file turns missing once this path is passed over: it stands there, and is still to be read
+-- whether a file becomes missing when this path is passed over: it has this path, and isn't read yet
 abbrev pub turns_missing : {A : Type 0} → Path → OnDiskFile A → Bool
 turns_missing path file = same_path file.path path && is_unloaded file.state
 
@@ -49,7 +49,7 @@ abbrev pub index_turns_missing : Path → IndexFile → Bool
 index_turns_missing path (Single file) = turns_missing path file
 index_turns_missing path (Multi file) = turns_missing path file
 
--- whether one of the files of a slot does
+-- whether one of the files of a slot becomes missing
 abbrev pub slot_turns_missing : Path → Slot → Bool
 slot_turns_missing path None = false
 slot_turns_missing path (Some filled) = index_turns_missing path filled.index || list_any (turns_missing path) filled.packs

@@ -1,4 +1,4 @@
--- What tells indices apart, and the order by which maps find them. No public clause cites this module.
+-- The keys of indices, and the order by which maps find them. No public clause cites this module.
 use Rattle.std.specs.Prelude.{ℕ, Bool, false, List, Option, Some, None}
 use Rattle.std.specs.Ordering.{is_eq, nat_cmp, ordering_then}
 use Rattle.std.specs.Option.{option_cmp}

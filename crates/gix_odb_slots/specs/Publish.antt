@@ -35,7 +35,7 @@ abbrev pub place_after : List ℕ → ℕ
 place_after [] = 0
 place_after (place ∷ places) = max (place + 1) (place_after places)
 
--- the places of so many slots, upwards from one of them, and round
+-- the places of `count` slots, upwards from `start`, wrapping around
 abbrev pub ring_from : ℕ → ℕ → List ℕ
 ring_from start count = range_with_len start (count - start) ++ range_with_len 0 (count - (count - start))
 
@@ -50,13 +50,13 @@ taken stable rows slots list = zip (free_places stable rows slots list) (new_row
 
 -- ---- the slots and the list afterwards
 
--- what is kept is put back; what isn't is trashed while a handle is stable, and else let go
+-- what is kept is put back; what isn't is trashed while a handle is stable, and emptied otherwise
 abbrev pub settled : Bool → List ListingRow → Slot → Slot
 settled stable rows None = None
 settled stable rows (Some filled) =
     if is_kept rows (Some filled) then Some (filled_put_back filled) else (if stable then Some (filled_trashed filled) else None)
 
--- whether a file changes where its slot is trashed: it is loaded, and isn't garbage yet
+-- whether a file changes when its slot is trashed: it is loaded, and isn't garbage yet
 abbrev pub is_trashable : {A : Type 0} → FileState A → Bool
 is_trashable state = is_loaded state && not (is_disposable state)
 
@@ -64,12 +64,12 @@ abbrev pub is_index_trashable : IndexFile → Bool
 is_index_trashable (Single file) = is_trashable file.state
 is_index_trashable (Multi file) = is_trashable file.state
 
--- whether a file of a slot changes where the slot is trashed
+-- whether a file of a slot changes when the slot is trashed
 abbrev pub has_trashable : Filled → Bool
 has_trashable filled = is_index_trashable filled.index || list_any (λ pack. is_trashable pack.state) filled.packs
 
--- whether a listing has work at a slot, which is not left as it is: a kept one has a file that is garbage or missing; another one is let go, or
--- while a handle is stable has a file that becomes garbage
+-- whether a listing changes a slot: a kept one has a file that is garbage or missing; another one is emptied, or while a handle
+-- is stable has a file that becomes garbage
 abbrev pub is_unsettled : Bool → List ListingRow → Slot → Bool
 is_unsettled stable rows None = false
 is_unsettled stable rows (Some filled) = if is_kept rows (Some filled) then has_disposable filled else (not stable || has_trashable filled)
@@ -82,7 +82,7 @@ with_taken (pair ∷ pairs) slots = with_taken pairs (slice_set slots pair.0 (So
 abbrev pub slots_after : Bool → List ListingRow → List Slot → List ℕ → List Slot
 slots_after stable rows slots list = with_taken (taken stable rows slots list) (map (settled stable rows) slots)
 
--- the new list: for each row, the slot that holds it then
+-- the new list: for each row, the slot that then holds it
 abbrev pub list_after : List ListingRow → List Slot → List ℕ
 list_after rows slots = filter_map (λ row. position (holds row) slots) rows
 

@@ -1,4 +1,4 @@
--- How the counts over slots are summed up, a slot at a time.
+-- How the counts over slots are summed, one slot at a time.
 use Rattle.std.specs.Prelude.{ℕ, ◌+◌, ◌<◌, ◌^◌, List, [], ◌∷◌, length, count_by, sum_by, Some, None, if◌then◌else◌}
 use Rattle.gix_odb_slots.specs.Counts.{disposable_slot, loaded_packs}
 use Rattle.gix_odb_events.specs.Slots.{Slot, is_index_loaded, slot_at}
@@ -15,12 +15,12 @@ tally_of filled =
       open_packs = sum_by (λ f. loaded_packs f.packs) filled;
     }
 
--- ---- a slot at a time. No public clause cites these
+-- ---- one slot at a time. No public clause cites these
 
 abbrev pub no_tally : Tally
 no_tally = record { indices = 0; open_indices = 0; packs = 0; open_packs = 0 }
 
--- one filled slot more
+-- one more filled slot
 abbrev pub with_filled : Tally → Filled → Tally
 with_filled tally filled =
     record {
@@ -34,12 +34,12 @@ abbrev pub with_slot : Tally → Slot → Tally
 with_slot tally None = tally
 with_slot tally (Some filled) = with_filled tally filled
 
--- the slots of these places more
+-- and the slots of these places
 abbrev pub with_places : List Slot → Tally → List ℕ → Tally
 with_places slots tally [] = tally
 with_places slots tally (place ∷ places) = with_places slots (with_slot tally (slot_at slots place)) places
 
--- those of these slots more that have a file that is garbage or missing
+-- and those of these slots that have a file that is garbage or missing
 abbrev pub with_disposable : Tally → List Slot → Tally
 with_disposable tally [] = tally
 with_disposable tally (slot ∷ slots) = with_disposable (with_slot tally (disposable_slot slot)) slots

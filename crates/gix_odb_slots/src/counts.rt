@@ -35,7 +35,7 @@ fn loaded_packs(packs: &[PackFile]) -> usize
 }
 
 impl Tally {
-    /// One filled slot more.
+    /// The counts with one more filled slot.
     fn with_filled(self, filled: &Filled) -> Tally
         requires small { IsSmall (with_filled self filled.now) }
         ensures tally { result ≡ with_filled self filled.now }
@@ -50,7 +50,7 @@ impl Tally {
         }
     }
 
-    /// The slot at a place more, if it is filled.
+    /// The counts with the slot at a place, if it is filled.
     fn with_place(self, slots: &SlotList, place: u16) -> Tally
         requires small { IsSmall (with_slot self (slot_at slots.now place)) }
         ensures tally { result ≡ with_slot self (slot_at slots.now place) }
@@ -61,7 +61,7 @@ impl Tally {
         }
     }
 
-    /// The slot at a place more, if one of its files is garbage, or was missing.
+    /// The counts with the slot at a place, if one of its files is garbage or missing.
     fn with_disposable(self, slots: &SlotList, place: usize) -> Tally
         requires small { IsSmall (with_slot self (disposable_slot (slot_at slots.now place))) }
         ensures tally { result ≡ with_slot self (disposable_slot (slot_at slots.now place)) }
@@ -72,7 +72,7 @@ impl Tally {
         }
     }
 
-    /// A filled slot more, if one of its files is garbage, or was missing.
+    /// The counts with a filled slot, if one of its files is garbage or missing.
     fn with_filled_if_disposable(self, filled: &Filled) -> Tally
         requires small { IsSmall (with_slot self (disposable_slot (Some filled.now))) }
         ensures tally { result ≡ with_slot self (disposable_slot (Some filled.now)) }
@@ -106,7 +106,7 @@ pub fn listed_tally(slots: &SlotList, list: &[u16]) -> Tally
     tally
 }
 
-/// Counts over the filled slots with a file that is garbage, or was missing.
+/// Counts over the filled slots with a file that is garbage or missing.
 pub fn disposable_tally(slots: &SlotList) -> Tally
     requires packs { All HasFewPacks slots.now }
     requires few { length slots.now ≤ most_slots }

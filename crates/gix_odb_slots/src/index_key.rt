@@ -1,4 +1,4 @@
-//! What tells indices apart, and which rows and slots have one index.
+//! The keys of indices, and which rows and slots have the same index.
 ghost use Rattle.std.specs.Prelude.{◌≡◌, IfOk, List, map};
 ghost use Rattle.std.specs.List.{list_any, position};
 ghost use Rattle.std.specs.BTreeMap.{get};
@@ -12,11 +12,11 @@ use odb_base::{NoMemory, PathText};
 use std::alloc::Global;
 use std::collections::{BTreeMap, BTreeSet};
 
-/// What tells an index from others: its path and its kind, and of a multi-pack index its time.
+/// The key of an index: its path and its kind, and the time of a multi-pack index.
 #[derive(Clone, Copy, PartialEq, Eq, PartialOrd, Ord)]
 struct IndexKey<'a> {
     path: &'a PathText,
-    /// When a multi-pack index was changed last. A pack index has none.
+    /// When a multi-pack index was last changed. A pack index has none.
     multi_time: Option<u64>,
 }
 
@@ -68,7 +68,7 @@ fn first_places(alloc: Global, slots: &[Slot]) -> Result<BTreeMap<IndexKey<'_>, 
     ensures first { IfOk result (λ places. (key : IndexKey) → get key_cmp places key ≡ position (slot_has key) slots.now) }
 {
     let mut places = BTreeMap::new(alloc);
-    // Of slots of one key the first is put last, and stays.
+    // Of slots with the same key, the first is put last, and stays.
     for place in (0..slots.len()).rev() {
         if let Some(filled) = &slots[place] {
             places.insert(IndexKey::of_filled(filled.value()), place)?;
@@ -77,7 +77,7 @@ fn first_places(alloc: Global, slots: &[Slot]) -> Result<BTreeMap<IndexKey<'_>, 
     Ok(places)
 }
 
-/// Whether what a slot holds has one of these keys.
+/// Whether the contents of a slot have one of these keys.
 fn has_one_of<'a>(keys: &BTreeSet<IndexKey<'a>>, slot: &'a Slot) -> bool
     ensures kept { (rows : List ListingRow) → ((key : IndexKey) → contains key_cmp keys.now key ≡ list_any (row_has key) rows) → result ≡ is_kept rows slot.now }
 {
@@ -87,7 +87,7 @@ fn has_one_of<'a>(keys: &BTreeSet<IndexKey<'a>>, slot: &'a Slot) -> bool
     }
 }
 
-/// For each slot, whether a row keeps what it holds.
+/// For each slot, whether a row keeps its contents.
 pub(crate) fn kept_slots<'a>(
     alloc: Global,
     rows: &'a [ListingRow],

@@ -1,8 +1,8 @@
-//! The slots of a store's core: what each holds, what listings and files make of them, and what is counted and reported of them.
+//! The slots of a store's core: what each holds, how listings and files change them, and counts and reports of them.
 //!
-//! A slot holds an index or a multi-pack index, and a file for each of its packs; what slots are, and what views show of
-//! them, stands in `gix_odb_events`. Nothing here knows of handles, events or counters: `gix_odb_core` does. Read `matched`
-//! first, then `publish` and `put`.
+//! A slot holds an index or a multi-pack index, and a file for each of its packs; `gix_odb_events` says what slots
+//! are, and what views show of them. Nothing here knows of handles, events or counters: `gix_odb_core` does. Read
+//! `matched` first, then `publish` and `put`.
 //! ```rust
 //! let matched = Matched::new(alloc, rows, slots)?;
 //! let free = free_places(alloc, false, &matched, list)?;

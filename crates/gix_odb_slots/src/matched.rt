@@ -1,4 +1,4 @@
-//! The rows of a listing beside slots: which slots a row keeps, and which slot holds each row.
+//! The rows of a listing and slots: which slots a row keeps, and which slot holds each row.
 ghost use Rattle.std.specs.Prelude.{◌≡◌, ◌<◌, IfOk, get_or, length, map};
 ghost use Rattle.std.specs.List.{position};
 ghost use Rattle.gix_odb_slots.specs.Publish.{is_kept, is_new};
@@ -9,12 +9,12 @@ use gix_odb_events::{ListingRow, Slot};
 use odb_base::NoMemory;
 use std::alloc::Global;
 
-/// The rows of a listing beside slots, each looked up once among the others.
+/// The rows of a listing and slots, each looked up once among the others.
 #[derive(Drop)]
 pub struct Matched<'a> {
     pub rows: &'a [ListingRow],
     pub slots: &'a [Slot],
-    /// For each slot, whether a row keeps what it holds.
+    /// For each slot, whether a row keeps its contents.
     kept: Vec<bool>,
     /// For each row, the first slot that holds it.
     places: Vec<Option<usize>>,
@@ -50,7 +50,7 @@ impl<'a> Matched<'a> {
         &self.slots[place]
     }
 
-    /// Whether a row keeps what the slot at a place holds.
+    /// Whether a row keeps the contents of the slot at a place.
     pub(crate) fn is_kept(&self, place: usize) -> bool
         requires within { place < length self.now.slots.now }
         ensures kept { result ≡ is_kept self.now.rows.now (slot_at self.now.slots.now place) }
@@ -58,7 +58,7 @@ impl<'a> Matched<'a> {
         self.kept[place]
     }
 
-    /// Whether no slot holds a row, by the row's place.
+    /// Whether no slot holds the row at a place.
     pub(crate) fn is_new(&self, place: usize) -> bool
         requires within { place < length self.now.rows.now }
         ensures new { (row : ListingRow) → row ≡ get_or self.now.rows.now place row → result ≡ is_new self.now.slots.now row }

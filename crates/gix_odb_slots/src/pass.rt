@@ -1,4 +1,4 @@
-//! Files that were passed over: they are missing where none was loaded.
+//! Files that were passed over: they are missing unless they were loaded.
 ghost use Rattle.std.specs.Prelude.{◌≡◌, IfOk, map};
 ghost use Rattle.std.specs.List.{list_any};
 ghost use Rattle.gix_odb_events.specs.OnDiskFile.{file_path, file_state, file_at, passed};
@@ -11,7 +11,7 @@ use gix_odb_events::{
 use odb_base::{NoMemory, PathText};
 use std::alloc::Global;
 
-/// Whether a file turns missing once a path is passed over: it stands there, and is still to be read.
+/// Whether a file becomes missing when a path is passed over: it has this path, and isn't read yet.
 fn turns_missing<F>(path: &PathText, file: &OnDiskFile<Shared<F>>) -> bool
     ensures missing { result ≡ turns_missing path.now file.now }
 {
@@ -33,7 +33,7 @@ fn is_any_turning_missing(path: &PathText, packs: &[PackFile]) -> bool
     packs.iter().any(|pack| turns_missing(path, pack))
 }
 
-/// Whether a file of the slot at a place turns missing once a path is passed over. Where none does, the slots stay as they are.
+/// Whether a file of the slot at a place becomes missing when a path is passed over. If none does, the slots stay unchanged.
 pub fn slot_turns_missing(path: &PathText, slots: &SlotList, place: usize) -> bool
     ensures missing { result ≡ slot_turns_missing path.now (slot_at slots.now place) }
 {
@@ -47,7 +47,7 @@ pub fn slot_turns_missing(path: &PathText, slots: &SlotList, place: usize) -> bo
     }
 }
 
-/// A copy of a file, which is missing where it has this path and isn't loaded.
+/// A copy of a file, which is missing if it has this path and isn't loaded.
 fn passed_at<F: Drop>(
     path: &PathText,
     file: &OnDiskFile<Shared<F>>,
@@ -60,7 +60,7 @@ fn passed_at<F: Drop>(
     file.try_clone()
 }
 
-/// A copy of an index, which is missing where it has this path and isn't loaded.
+/// A copy of an index, which is missing if it has this path and isn't loaded.
 fn index_passed(path: &PathText, index: &IndexFile) -> Result<IndexFile, NoMemory>
     ensures index { IfOk result (λ copy. copy ≡ index_passed path.now index.now) }
 {
@@ -70,7 +70,7 @@ fn index_passed(path: &PathText, index: &IndexFile) -> Result<IndexFile, NoMemor
     }
 }
 
-/// Copies of packs, each missing where it has this path and isn't loaded.
+/// Copies of packs, each missing if it has this path and isn't loaded.
 fn packs_passed(
     alloc: Global,
     path: &PathText,
@@ -97,7 +97,7 @@ fn filled_passed(alloc: Global, path: &PathText, filled: &Filled) -> Result<Fill
     })
 }
 
-/// What becomes of the slot at a place, once the file of a path was passed over. Beyond the slots there is nothing.
+/// The slot at a place after the file of a path was passed over. Empty beyond the slots.
 pub fn slot_passed(
     alloc: Global,
     path: &PathText,

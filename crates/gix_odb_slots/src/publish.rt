@@ -1,7 +1,7 @@
 //! What publishing a listing does to the slots and the list.
 //!
-//! The rows are looked up among the slots once, and the slots among the rows (`Matched`). So a listing takes the time of
-//! its rows and the slots together, times the logarithm of these numbers.
+//! The rows are looked up among the slots once, and the slots among the rows (`Matched`). So a listing takes time
+//! proportional to the number of rows and slots, times its logarithm.
 ghost use Rattle.std.specs.Prelude.{◌≡◌, ◌≤◌, ◌<◌, ◌-◌, ◌++◌, ◌∷◌, [], IfOk, OnOk, All, Some, drop, is_none, is_some, length, map, filter, take, if◌then◌else◌};
 ghost use Rattle.std.specs.Option.{ForSome, option_to_list};
 ghost use Rattle.std.specs.List.{filter_map, list_any, range_with_len, zip};
@@ -37,7 +37,7 @@ fn place_after(list: &[u16]) -> usize
     after
 }
 
-/// Adds a place, where it is wanted.
+/// Adds a place, if it is wanted.
 fn put_if(places: &mut Vec<usize>, place: usize, wanted: bool) -> Result<(), NoMemory>
     ensures put { OnOk result (places.new.items ≡ places.old.items ++ (if wanted then place ∷ [] else [])) }
 {
@@ -85,7 +85,7 @@ pub fn free_places(
     Ok(places)
 }
 
-/// How many of these have no place.
+/// How many of these are None.
 fn count_without(places: &[Option<usize>]) -> usize
     ensures count { result ≡ length (filter is_none places.now) }
 {
@@ -99,7 +99,7 @@ pub fn count_new(matched: &Matched) -> usize
     count_without(matched.places())
 }
 
-/// What becomes of a slot that no new row takes.
+/// The slot at a place after a listing, if no new row takes it.
 fn settled(alloc: Global, stable: bool, matched: &Matched, place: usize) -> Result<Slot, NoMemory>
     requires within { place < length matched.now.slots.now }
     ensures settled { IfOk result (λ slot. slot ≡ settled stable matched.now.rows.now (slot_at matched.now.slots.now place)) }
@@ -127,7 +127,7 @@ fn all_settled(alloc: Global, stable: bool, matched: &Matched) -> Result<Vec<Slo
     Ok(after)
 }
 
-/// Lets a row take the first of the free slots that are left, if it is new and one is. Gives what is left then.
+/// Puts a row into the first of the free slots that are left, if it is new and there is one. Returns those left then.
 fn take_one<'a>(
     alloc: Global,
     after: &mut Vec<Slot>,
@@ -152,7 +152,7 @@ fn take_one<'a>(
     Ok(more)
 }
 
-/// Lets the new rows take free slots.
+/// Puts the new rows into free slots.
 fn take(
     alloc: Global,
     after: &mut Vec<Slot>,
@@ -171,7 +171,7 @@ fn take(
     Ok(())
 }
 
-/// Adds the number of a slot, where there is one.
+/// Adds the number of a slot, if there is one.
 fn put_place(list: &mut Sequence<u16>, place: Option<usize>) -> Result<(), NoMemory>
     requires few { ForSome place (λ place. place < most_slots) }
     ensures put { OnOk result (list.new ≡ list.old ++ option_to_list place) }
@@ -194,7 +194,7 @@ fn listed(alloc: Global, places: &[Option<usize>]) -> Result<Sequence<u16>, NoMe
     Ok(list)
 }
 
-/// The new list, where the slots stay as they are: for each row, the slot that holds it.
+/// The new list, where the slots stay unchanged: for each row, the slot that holds it.
 pub fn list_as_is(alloc: Global, matched: &Matched) -> Result<Sequence<u16>, NoMemory>
     requires few { length matched.now.slots.now ≤ most_slots }
     ensures list { IfOk result (λ list. list ≡ list_after matched.now.rows.now matched.now.slots.now) }
@@ -237,7 +237,7 @@ fn is_any_filled(slots: &[Slot], places: &[usize]) -> bool
     false
 }
 
-/// Whether one of so many free slots, the first of them, holds something.
+/// Whether one of the first `news` free slots holds something.
 pub fn takes_over(slots: &[Slot], free: &[usize], news: usize) -> bool
     requires room { news ≤ length free.now }
     ensures over { result ≡ list_any (λ place. is_some (slot_at slots.now place)) (take news free.now) }

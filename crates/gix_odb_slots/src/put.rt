@@ -18,7 +18,7 @@ fn takes<F>(path: &PathText, file: &OnDiskFile<Shared<F>>) -> bool
     *file.path() == *path && !file.is_loaded()
 }
 
-/// The index with what was read, where it takes it.
+/// The index, with what was read if it takes it.
 fn index_with(
     path: &PathText,
     read: &Shared<index::File>,
@@ -56,7 +56,7 @@ fn filled_with_index(
     }
 }
 
-/// What the slot at a place holds once an index is stored in it, if it is. Beyond the slots there is nothing.
+/// The contents of the slot at a place after an index is stored in it, if it is. None beyond the slots.
 pub fn slot_with_index(
     path: &PathText,
     read: &Shared<index::File>,
@@ -71,7 +71,7 @@ pub fn slot_with_index(
     }
 }
 
-/// A pack with what was read, where it takes it; else a copy.
+/// A pack with what was read, if it takes it; else a copy.
 fn stored_at(
     path: &PathText,
     read: &Shared<data::File>,
@@ -87,7 +87,7 @@ fn stored_at(
     Ok(OnDiskFile::new(stands, state))
 }
 
-/// The packs, each with what was read where it takes it.
+/// The packs, each with what was read if it takes it.
 fn packs_with(
     alloc: Global,
     path: &PathText,
@@ -103,7 +103,7 @@ fn packs_with(
     Ok(copies)
 }
 
-/// The packs with what was read, to be owned by several.
+/// The packs with what was read, to be shared.
 fn shared_packs_with(
     alloc: Global,
     path: &PathText,
@@ -149,7 +149,7 @@ fn filled_with_pack(
     }))
 }
 
-/// What the slot at a place holds once a pack is stored in it, if it is. Beyond the slots there is nothing.
+/// The contents of the slot at a place after a pack is stored in it, if it is. None beyond the slots.
 pub fn slot_with_pack(
     alloc: Global,
     path: &PathText,

@@ -1,4 +1,4 @@
-//! What is reported of listed slots.
+//! Reports on listed slots.
 ghost use Rattle.std.specs.Prelude.{◌≡◌, ◌++◌, map, IfOk, OnOk, option_map};
 ghost use Rattle.std.specs.List.{filter_map};
 ghost use Rattle.std.specs.Option.{option_to_list};
@@ -9,7 +9,7 @@ use gix_odb_events::{Listed, ListedList, Shared, SlotList};
 use odb_base::{NoMemory, Sequence};
 use std::alloc::Global;
 
-/// Adds an item, where there is one.
+/// Adds an item, if there is one.
 fn put<T: Drop>(list: &mut Sequence<T>, item: Option<T>) -> Result<(), NoMemory>
     ensures put { OnOk result (list.new ≡ list.old ++ option_to_list item) }
 {
@@ -19,7 +19,7 @@ fn put<T: Drop>(list: &mut Sequence<T>, item: Option<T>) -> Result<(), NoMemory>
     Ok(())
 }
 
-/// What a report says of the slot at a place, if it is filled.
+/// The row of a report for the slot at a place, if it is filled.
 fn listed_at(slots: &SlotList, place: u16) -> Result<Option<Listed>, NoMemory>
     ensures listed { IfOk result (λ listed. listed ≡ option_map listed_of (slot_at slots.now place)) }
 {
@@ -29,7 +29,7 @@ fn listed_at(slots: &SlotList, place: u16) -> Result<Option<Listed>, NoMemory>
     }
 }
 
-/// What a report says of the listed slots, in the order of the list.
+/// The rows of a report for the listed slots, in the order of the list.
 fn listed_places(
     alloc: Global,
     slots: &SlotList,
@@ -44,7 +44,7 @@ fn listed_places(
     Ok(list)
 }
 
-/// What a report says of the listed slots, in the order of the list, as it is shared.
+/// The rows of a report for the listed slots, in the order of the list, to be shared.
 pub fn report_listed(
     alloc: Global,
     slots: &SlotList,

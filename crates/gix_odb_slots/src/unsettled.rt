@@ -1,4 +1,4 @@
-//! At which slots a listing has work: those that it leaves otherwise than it finds them.
+//! Which slots a listing changes.
 ghost use Rattle.std.specs.Prelude.{◌≡◌, ◌<◌, length};
 ghost use Rattle.std.specs.List.{list_any};
 ghost use Rattle.gix_odb_events.specs.OnDiskFile.{file_state};
@@ -8,14 +8,14 @@ ghost use Rattle.gix_odb_slots.specs.Publish.{has_trashable, is_index_trashable,
 use crate::Matched;
 use gix_odb_events::{Filled, IndexFile, OnDiskFile, PackFile};
 
-/// Whether a file changes where its slot is trashed: it is loaded, and is not garbage yet.
+/// Whether a file changes when its slot is trashed: it is loaded, and is not garbage yet.
 fn is_trashable<T>(file: &OnDiskFile<T>) -> bool
     ensures trashable { result ≡ is_trashable (file_state file.now) }
 {
     file.is_loaded() && !file.is_disposable()
 }
 
-/// Whether an index changes where its slot is trashed.
+/// Whether an index changes when its slot is trashed.
 fn is_index_trashable(index: &IndexFile) -> bool
     ensures trashable { result ≡ is_index_trashable index.now }
 {
@@ -25,21 +25,21 @@ fn is_index_trashable(index: &IndexFile) -> bool
     }
 }
 
-/// Whether a pack changes where its slot is trashed.
+/// Whether a pack changes when its slot is trashed.
 fn is_any_trashable(packs: &[PackFile]) -> bool
     ensures trashable { result ≡ list_any (λ pack. is_trashable pack.state) packs.now }
 {
     packs.iter().any(|pack| is_trashable(pack))
 }
 
-/// Whether a file of a slot changes where the slot is trashed.
+/// Whether a file of a slot changes when the slot is trashed.
 fn has_trashable(filled: &Filled) -> bool
     ensures trashable { result ≡ has_trashable filled.now }
 {
     is_index_trashable(&filled.index) || is_any_trashable(filled.packs.value().as_slice())
 }
 
-/// Whether a listing has work at a slot: a kept one has a file that is garbage or missing; another one is let go, or
+/// Whether a listing changes a slot: a kept one has a file that is garbage or missing; another one is emptied, or
 /// while a handle is stable has a file that becomes garbage.
 fn is_unsettled(stable: bool, matched: &Matched, place: usize) -> bool
     requires within { place < length matched.now.slots.now }
@@ -55,7 +55,7 @@ fn is_unsettled(stable: bool, matched: &Matched, place: usize) -> bool
     }
 }
 
-/// Whether a listing has work at one of the slots. Where it has none and no row is new, the slots stay as they are.
+/// Whether a listing changes one of the slots. If it doesn't and no row is new, the slots stay unchanged.
 pub fn is_any_unsettled(stable: bool, matched: &Matched) -> bool
     ensures unsettled { result ≡ list_any (is_unsettled stable matched.now.rows.now) matched.now.slots.now }
 {

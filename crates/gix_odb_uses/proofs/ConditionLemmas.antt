@@ -1,4 +1,4 @@
--- Which condition an answer of a find tells.
+-- The condition of an object, by the answer of a find.
 use Rattle.std.proofs.Common.{ℕ, List, inr}
 use Rattle.odb_nodes.specs.Tree.{State}
 use Rattle.gix_hash.specs.declared.object_id.ObjectId.{ObjectId}
@@ -11,7 +11,7 @@ use Rattle.gix_odb_uses.specs.declared.asking.Condition.{Condition}
 use Rattle.gix_odb_uses.specs.declared.asking.Condition.TheVariants as conditions
 
 module _ (store : Store) (id : ObjectId) (s : State) (Failed : Type 0) where
-  -- by an object that was found
+  -- from an object that was found
   pub by_found : (kind : Kind) (bytes : List ℕ) → IsHeld store id s kind bytes → (condition : Condition) → TellsFound (store_hash store) id kind bytes condition → IsIn store id s Failed condition
   by_found kind bytes is conditions.Sound tells = (kind, bytes, is, tells)
   by_found kind bytes is conditions.Damaged tells = inr (inr (kind, bytes, is, tells))

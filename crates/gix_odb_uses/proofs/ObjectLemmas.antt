@@ -1,4 +1,4 @@
--- What the answers of finds and of looks for headers come to for the calls over them.
+-- From the answers of finds and header look-ups to the calls built on them.
 use Rattle.std.proofs.Common.{◌≡◌, ℕ, ◌+◌, ◌≤◌, ◌<◌, List, [], ◌∷◌, ◌++◌, length, take, get_or, Option, Some, None, Result, Ok, Err, refl, sym, ap, subst, arith}
 use Rattle.std.specs.List.{AllZip, Contains}
 use Rattle.std.specs.Option.{IfSome}
@@ -18,18 +18,18 @@ use Rattle.gix_odb_loose.specs.declared.find.Error.{Error}
 use Rattle.gix_odb_loose.specs.declared.store.Store.{Store}
 use Rattle.gix_odb_uses.specs.Objects.{IsAbsent, IsHeld, IsKindAt}
 
--- ---- what a disk tells, and results
+-- ---- what a disk reports, and results
 
--- what holds of a value wherever there is one
+-- a property of a value, if there is one
 pub if_told : {A : Type 0} (told : Option A) (Holds : A → Type 0) → ((x : A) → told ≡ Some x → Holds x) → IfSome told Holds
 if_told None Holds each = tt
 if_told (Some x) Holds each = each x refl
 
--- what holds of a value that is told
+-- a property of a value that is reported
 pub at_told : {A : Type 0} (told : Option A) (Holds : A → Type 0) (x : A) → told ≡ Some x → IfSome told Holds → Holds x
 at_told told Holds x is holds = subst (λ o. IfSome o Holds) is holds
 
--- what holds of the error that a result was made of
+-- a property of the error that a result was made of
 pub if_err_made : {A E : Type 0} (result : Result A E) (error : E) (Holds : E → Type 0) → IsErrAnd result (λ e. e ≡ error) → Holds error → IfErr result Holds
 if_err_made (Ok x) error Holds is holds = absurd is
 if_err_made (Err e) error Holds is holds = subst Holds (sym is) holds
@@ -74,10 +74,10 @@ module _ (store : Store) (id : ObjectId) (s : State) (Failed : Type 0) where
       let given = tells.found (size, kind) is in
       record { bytes = given.bytes; time = given.time; given = given.given; holds = (size, given.holds) }
 
--- ---- errors of finds and of looks for headers
+-- ---- errors of finds and header look-ups
 
 module _ (store : Store) (id : ObjectId) (before after : Option State) (same : after ≡ before) (Failed Fails : Type 0) (fails : Failed → Fails) where
-  -- a cause that is seen in a part of a call which leaves the state alone is one in the whole call
+  -- a cause that is seen in a part of a call that leaves the state unchanged is one in the whole call
   pub find_refused : (error : Error) → FindRefused store id before Failed error → FindRefused store id after Fails error
   find_refused error refused =
       FindCause-wider (GaveIn before (path_in store id)) (GaveIn after (path_in store id)) (λ read gave. subst (λ (state : Option State). GaveIn state (path_in store id) read) (sym same) gave)
@@ -95,7 +95,7 @@ pub some_among : (ids : List ObjectId) (i : ℕ) → i < length ids → (id : Ob
 some_among [] i within = absurd (omega arith)
 some_among (id ∷ ids) i within = (id, (0, omega arith, refl))
 
--- one id more has its kind
+-- one more id has its kind
 pub kinds_more : (Is : ObjectId → Option Kind → Type 0) (ids : List ObjectId) (i : ℕ) (d : ObjectId) (kinds next : List (Option Kind)) (kind : Option Kind)
     → i < length ids → AllZip Is (take i ids) kinds → Is (get_or ids i d) kind → next ≡ kinds ++ kind ∷ [] → AllZip Is (take (i + 1) ids) next
 kinds_more Is ids i d kinds next kind within each is added =

@@ -1,4 +1,4 @@
--- Reads of the paths of objects that calls make over finds and looks for headers.
+-- Reads of the paths of objects by calls built on finds and header look-ups.
 use Rattle.std.proofs.Common.{◌≡◌, ℕ, zero, suc, ◌+◌, ◌<◌, List, [], ◌∷◌, ◌++◌, length, take, get_or, Result, inl, inr, refl, sym, subst}
 use Rattle.std.proofs.lemmas.List.{take_more}
 use Rattle.odb_base.specs.Path.{Path}
@@ -19,7 +19,7 @@ module _ {D : Type 0} (answered : D → DiskAsk → DiskAnswer → D → Type 0)
   may_read path before after given_by result asked = elim asked [ inl none ↦ inl none.0 | inr once ↦ inr (once.0, once.1) ]
 
   module _ (store : Store) where
-    -- the path of one object more
+    -- the path of one more object
     one_more : (ids : List ObjectId) (first now next : D) (id : ObjectId) → MayReadEach answered store ids first now → MayRead answered (path_in store id) now next
         → MayReadEach answered store (ids ++ id ∷ []) first next
     one_more [] first now next id none read = (next, subst (λ (d : D). MayRead answered (path_in store id) d next) (sym none) read, refl)

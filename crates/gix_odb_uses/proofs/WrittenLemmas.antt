@@ -1,4 +1,4 @@
--- What the clauses of writes come to for the calls over them.
+-- From the clauses of writes to the calls built on them.
 use Rattle.std.proofs.Common.{◌≡◌, ℕ, ◌≤◌, List, length, Option, Some, None, Result, Ok, Err, true, inl, inr, refl, sym, subst, arith, ◌∙◌}
 use Rattle.std.specs.Option.{IfSome}
 use Rattle.std.proofs.lemmas.Option.{same_Some}
@@ -36,11 +36,11 @@ seen state state_now faults faults_now AreCalls = record { state = state; state_
 
 module _ (Made AreCalls : List Exchange → Type 0) (wider : (exchanges : List Exchange) → Made exchanges → AreCalls exchanges) (store : Store) (kind : Kind) (size : ℕ) (known : Option ObjectId)
     (content : Content) (answer : Result ObjectId Error) where
-  -- what the write is that left a disk so
+  -- the write that left a disk in this way
   abbrev Runs : DiskSeen → Type 0
   Runs disk = WriteRuns (write_into store kind size known content disk answer)
 
-  -- a write runs so between earlier and later counts of faults too, in a call that makes more calls
+  -- a write also runs between earlier and later counts of faults, in a call that makes more calls
   runs_longer : (state new : Option State) (earlier faults now later : ℕ) → earlier ≤ faults → now ≤ later → Runs (seen state new faults now Made) → Runs (seen state new earlier later AreCalls)
   runs_longer state new earlier faults now later since until run =
       let w = write_into store kind size known content (seen state new faults now Made) answer in
@@ -76,7 +76,7 @@ module _ (Made AreCalls : List Exchange → Type 0) (wider : (exchanges : List E
 -- ---- bytes that are kept
 
 module _ {D : Type 0} (state : D → Option State) (faults : D → ℕ) (answered : D → DiskAsk → DiskAnswer → D → Type 0) (store : Store) (bytes : List ℕ) where
-  -- the write that a call begins with, behind which the object's path is read, and the state is as the write left it
+  -- the write that a call begins with; the object's path is read after it, and the state is as the write left it
   pub first_write : (before middle after : D) (id : ObjectId) (found : Result (Option Object) FindError) → id ≡ blob_id store bytes → state after ≡ state middle → faults middle ≤ faults after
       → FindAsks answered store id middle after found
       → IsWrite store Blob bytes None (disk_seen state faults answered before middle) (Ok id) → IsWrite store Blob bytes None (kept_on state faults answered store bytes before after) (Ok (blob_id store bytes))
@@ -100,7 +100,7 @@ module _ {D : Type 0} (state : D → Option State) (faults : D → ℕ) (answere
 
 -- ---- an object that is copied
 
--- bytes at hand that were written can be read at the object's path, unless a link was replaced
+-- bytes in memory that were written can be read at the object's path, unless a link was replaced
 module _ (Made : List Exchange → Type 0) (store : Store) (known : Option ObjectId) (kind : Kind) (bytes : List ℕ) (before after : Option State) (faults now : ℕ) (id : ObjectId) where
   pub reads_back : IsWrite store kind bytes known (seen before after faults now Made) (Ok id) → (s : State) → before ≡ Some s
       → (early : Option State) × (number : ℕ) × ReadsBack (write_head store kind (length bytes)) number id bytes early after

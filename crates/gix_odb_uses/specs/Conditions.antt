@@ -1,4 +1,4 @@
--- What a condition says of the file of an object.
+-- What each condition says of the file of an object.
 use Rattle.std.specs.Prelude.{◌≡◌, ◌≢◌, ◌⊎◌, ℕ, List, Option, Some, None}
 use Rattle.odb_nodes.specs.Tree.{State}
 use Rattle.gix_hash.specs.declared.kind.Kind.{Kind as HashKind}
@@ -30,23 +30,23 @@ IsCutOrLonger store id state = (expected : ℕ) × (actual : ℕ) × HasOtherLen
 abbrev pub IsTooLarge : Store → ObjectId → State → Type 0
 IsTooLarge store id state = (size : ℕ) × HasLargeSize (store_limit store) size (read_at store id state)
 
--- an object is in a condition, where `Failed` says that a call of the disk failed
+-- an object is in a condition; `Failed`: a call of the disk failed
 abbrev pub IsIn : Store → ObjectId → State → (Failed : Type 0) → Condition → Type 0
 IsIn store id state Failed conditions.Sound = HoldsSound store id state
 IsIn store id state Failed conditions.Absent = IsAbsent store id state
 IsIn store id state Failed conditions.Damaged = HasNoHeader (read_at store id state) ⊎ (IsCutOrLonger store id state ⊎ HoldsOther store id state)
 IsIn store id state Failed conditions.Unread = Failed ⊎ (IsUnreadable (read_at store id state) ⊎ IsTooLarge store id state)
 
--- ---- how a condition is told
+-- ---- how the condition is found
 
--- by an object that was found: whether its hash is this id
+-- from an object that was found: whether its hash is this id
 abbrev pub TellsFound : HashKind → ObjectId → Kind → List ℕ → Condition → Type 0
 TellsFound hash id kind bytes conditions.Sound = object_id hash kind bytes ≡ id
 TellsFound hash id kind bytes conditions.Damaged = object_id hash kind bytes ≢ id
 TellsFound hash id kind bytes conditions.Absent = ⊥
 TellsFound hash id kind bytes conditions.Unread = ⊥
 
--- by the error of a find; want of memory tells none
+-- from the error of a find; running out of memory gives none
 abbrev pub condition_by : Error → Option Condition
 condition_by errors.Decode = Some conditions.Damaged
 condition_by (errors.SizeMismatch actual expected path) = Some conditions.Damaged

@@ -1,4 +1,4 @@
--- What callers tell of objects in a store: which its files hold, and why one wasn't told.
+-- What a caller learns of objects in a store: which its files hold, and why a call was refused.
 use Rattle.std.specs.Prelude.{◌≡◌, ℕ, List, Contains, Option, Some, None, Err}
 use Rattle.odb_nodes.specs.Tree.{State, tree_of}
 use Rattle.odb_nodes.specs.Tree.Follow.{Absent, read_of}
@@ -27,6 +27,6 @@ abbrev pub IsKindAt : Store → State → ObjectId → Option Kind → Type 0
 IsKindAt store state id (Some kind) = Gives (read_at store id state) (λ file. (size : ℕ) × HoldsHeader file kind size)
 IsKindAt store state id None = IsAbsent store id state
 
--- the look for the header of one of these objects was refused so
+-- the header look-up of one of these objects was refused with this error
 abbrev pub IsRefusedAmong : Store → List ObjectId → Option State → (Failed : Type 0) → Error → Type 0
 IsRefusedAmong store ids state Failed error = (id : ObjectId) × Contains ids id × HeaderRefused store id state Failed error

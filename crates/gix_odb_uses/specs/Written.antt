@@ -1,4 +1,4 @@
--- What callers tell of objects that they write: what was done to the disk, and why one wasn't kept or copied.
+-- What a caller knows of objects that it writes: what was done to the disk, and why one wasn't kept or copied.
 use Rattle.std.specs.Prelude.{⊤, ◌≡◌, ℕ, Bool, true, false, List, [], length, Option, Some, None, Result, Ok, Err, IfSome}
 use Rattle.odb_base.specs.Faults.{Rose}
 use Rattle.odb_asks.specs.declared.ask.DiskAsk.{DiskAsk}
@@ -23,9 +23,9 @@ use Rattle.gix_odb_uses.specs.Reads.{MayRead}
 use Rattle.gix_odb_uses.specs.declared.error.Error.{Error}
 use Rattle.gix_odb_uses.specs.declared.error.Error.TheVariants.{NotKept, NotRead, NotWritten}
 
--- What was done to the disk is a write of these bytes into a store, which answered so. `WriteRuns` says what a write does:
--- an object that is written gets its name last, and a refused write has its cause, makes no name of an object, and leaves no
--- file but one whose removal was refused too.
+-- What was done to the disk is a write of these bytes into a store, with this answer. `WriteRuns` says what a write does: the
+-- rename to the object's name is its last step, and a refused write has its cause, makes no name of an object, and leaves no
+-- file unless its removal was refused too.
 abbrev pub IsWrite : Store → Kind → List ℕ → (known : Option ObjectId) → DiskSeen → Result ObjectId WriteError → Type 0
 IsWrite store kind bytes known disk answer = WriteRuns (write_into store kind (length bytes) known (AtHand bytes) disk answer)
 
@@ -39,14 +39,14 @@ seen_by state faults before now AreCalls =
 abbrev pub blob_id : Store → List ℕ → ObjectId
 blob_id store bytes = object_id (store_hash store) Blob bytes
 
--- what a call that keeps bytes made of a disk: the calls of a write, and then a read of the object's path, if any
+-- what a call that keeps bytes did to a disk: the calls of a write, and then a read of the object's path, if any
 abbrev pub kept_on : {D : Type 0} → (state : D → Option State) (faults : D → ℕ) (answered : D → DiskAsk → DiskAnswer → D → Type 0) → Store → List ℕ → (before now : D) → DiskSeen
 kept_on {D} state faults answered store bytes before now =
     seen_by state faults before now
     (λ exchanges. (between : D) × AreAllCalls answered exchanges before between × MayRead answered (path_in store (blob_id store bytes)) between now)
 
 -- Bytes weren't kept: the write was refused; or they were written, and then the find was refused, or the file doesn't hold
--- them, where the disk tells its state.
+-- them, where the disk reports its state.
 abbrev pub IsRefusedKeep : Store → List ℕ → DiskSeen → Error → Type 0
 IsRefusedKeep store bytes disk (NotWritten error) = IsWrite store Blob bytes None disk (Err error)
 IsRefusedKeep store bytes disk (NotRead error) =
@@ -56,16 +56,15 @@ IsRefusedKeep store bytes disk NotKept =
 
 -- ---- an object that is copied
 
--- an object of the first store was written into the second one under its id, and the write answered so
+-- an object of the first store was written into the second one under its id, and the write gave this answer
 pub record IsCopy (from to : Store) (id : ObjectId) (disk : DiskSeen) (answer : Result ObjectId WriteError) : Type 0 where
   pub kind : Kind
   pub bytes : List ℕ
-  -- the file of the first store holds it, where the disk tells its state
+  -- the file of the first store holds it, where the disk reports its state
   pub held : IfSome disk.state (λ s. IsHeld from id s kind bytes)
   pub written : IsWrite to kind bytes (Some id) disk answer
 
--- what a call that copies an object made of a disk: a read of its path in the first store, if any, and then the calls of a
--- write
+-- what a call that copies an object did to a disk: a read of its path in the first store, if any, and then the calls of a write
 abbrev pub copied_on : {D : Type 0} → (state : D → Option State) (faults : D → ℕ) (answered : D → DiskAsk → DiskAnswer → D → Type 0) → (from : Store) → ObjectId → (before now : D) → DiskSeen
 copied_on {D} state faults answered from id before now =
     seen_by state faults before now (λ exchanges. (between : D) × MayRead answered (path_in from id) before between × AreAllCalls answered exchanges between now)
@@ -88,9 +87,9 @@ IsRefusedCopy from to id disk (NotRead error) = FindRefused from id disk.state (
 IsRefusedCopy from to id disk (NotWritten error) = IsCopy from to id disk (Err error)
 IsRefusedCopy from to id disk NotKept = ⊥
 
--- ---- what a source gives
+-- ---- data from a source
 
--- a length that isn't the told one is that of what the source had, or one above the told one
+-- a length that isn't the expected one is that of what the source had, or the expected one plus one
 abbrev pub TellsLength : (size : ℕ) → Option (List ℕ) → WriteError → Type 0
 TellsLength size left (write_errors.SizeMismatch expected actual) = (expected ≡ size) × OtherLength left size actual
 TellsLength size left error = ⊤

@@ -1,4 +1,4 @@
-//! Calls that ask: the kinds of objects, and whether an object is sound, damaged or absent.
+//! Calls that only read: the kinds of objects, and whether an object is sound, damaged or absent.
 ghost use Rattle.std.specs.Prelude.{◌≡◌, ◌≤◌, ◌++◌, ◌∷◌, [], All, IfOk, IfErr, IfSome, OnOk, Some};
 ghost use Rattle.std.specs.List.{AllZip};
 ghost use Rattle.odb_base.specs.Faults.{Rose};
@@ -84,7 +84,7 @@ pub enum Condition {
     Unread,
 }
 
-/// Tells a damaged object from an absent one. The only error is want of memory.
+/// Distinguishes a damaged object from an absent one. The only error is `NoMemory`.
 pub fn condition_of<D: Disk>(
     alloc: Global,
     disk: &mut D,
@@ -107,7 +107,7 @@ pub fn condition_of<D: Disk>(
     }
 }
 
-// The condition of an object of which this was found.
+// The condition of an object that was found with this kind and data.
 fn condition_found(
     alloc: Global,
     hash: gix_hash::Kind,
@@ -124,7 +124,7 @@ fn condition_found(
     }
 }
 
-// The condition of an object that a find was refused of.
+// The condition of an object whose find was refused.
 fn condition_refused(error: &find::Error) -> Result<Condition, NoMemory>
     ensures refused { IfOk result (λ condition. condition_by error.now ≡ Some condition) }
 {

@@ -1,7 +1,7 @@
-//! A store of loose objects as a caller uses it: bytes are kept and found again, objects are copied, put and told apart.
+//! A store of loose objects as a caller uses it: keeping bytes and finding them again, copying and checking objects.
 //!
-//! Each call is generic over disks: `HostDisk` for a real folder, `MemDisk` for one in memory. Where the disk tells its
-//! tree, what is answered is what the files hold; on every disk each error has its cause.
+//! Each call is generic over disks: `HostDisk` for a real folder, `MemDisk` for one in memory. Where the disk reports
+//! its tree, the answers are what the files hold; on every disk each error has its cause.
 //! ```rust
 //! let id = keep(alloc, &mut disk, &store, b"hello\n")?;
 //! if condition_of(alloc, &mut disk, &store, &id)? == Condition::Sound {

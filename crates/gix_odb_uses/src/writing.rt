@@ -1,4 +1,4 @@
-//! Calls that write: bytes are kept and found again, an object is copied, what a source gives is put.
+//! Calls that write: keeping bytes and finding them again, copying an object, storing data from a source.
 ghost use Rattle.std.specs.Prelude.{◌≡◌, ◌≤◌, ◌↔◌, None, Some, IfOk, IfErr, IfSome, IsTrue};
 ghost use Rattle.gix_hash.specs.ObjectId.{kind_of};
 ghost use Rattle.gix_object.specs.Id.{object_id};
@@ -17,7 +17,7 @@ use odb_asks::Disk;
 use odb_sources::Source;
 use std::alloc::Global;
 
-/// Keeps bytes as a blob, and sees that they are found again: the id of the blob.
+/// Keeps bytes as a blob, and checks that they are found again: the id of the blob.
 pub fn keep<D: Disk>(
     alloc: Global,
     disk: &mut D,
@@ -53,7 +53,7 @@ fn is_blob(kind: Option<Kind>, found: &[u8], bytes: &[u8]) -> bool
     }
 }
 
-/// Copies an object from one store to another, under its id. Tells whether there was one to copy.
+/// Copies an object from one store to another, under its id. Returns whether there was one to copy.
 pub fn copy<D: Disk>(
     alloc: Global,
     disk: &mut D,
@@ -82,7 +82,7 @@ pub fn copy<D: Disk>(
     }
 }
 
-/// Puts what a source gives, which is to be `size` bytes, as a blob: its id. The bytes pass through memory in pieces.
+/// Stores `size` bytes from a source as a blob: its id. The bytes pass through memory in pieces.
 ///
 /// `StdSource::new(reader)` makes a source of a reader.
 pub fn put<D: Disk, S: Source>(

@@ -1,4 +1,4 @@
--- What each event of a lawful run takes on of every handle holds after all of them.
+-- What each event of a lawful run preserves for every handle holds after all of them.
 use Rattle.std.proofs.Common.{◌≡◌, ℕ, zero, suc, ◌+◌, ◌≤◌, List, [], ◌∷◌, ◌++◌, length, take, Some, sym, subst, arith, inl, inr}
 use Rattle.std.specs.Prelude.{slice_get}
 use Rattle.std.proofs.Math.Seq.{take-length}
@@ -14,7 +14,7 @@ module _ (Holds : List Event → (handle : ℕ) → Status → Type 0) where
   abbrev pub HoldsAfter : List Event → Type 0
   HoldsAfter events = (handle : ℕ) → Holds events handle (status_of events handle)
 
-  -- it holds of each handle after one event more
+  -- it holds of each handle after one more event
   abbrev pub GoesOver : Volume → List Event → Event → Type 0
   GoesOver first past e =
       Law first past e → HoldsAfter past

@@ -1,4 +1,4 @@
--- What is true of all that a handle was told that lists folders of packs: where its work begins, and after one event more.
+-- What is true of all answers to a handle that lists folders of packs: where its work begins, and after one more event.
 use Rattle.std.proofs.Common.{◌≡◌, ℕ, ◌+◌, ◌≤◌, List, [], ◌∷◌, ◌++◌, length, Contains, Some, None, inl, inr, refl, sym, ◌∙◌, ap, subst}
 use Rattle.std.proofs.lemmas.List.{length_push}
 use Rattle.odb_asks.specs.Ask.{answer_now}
@@ -34,7 +34,7 @@ module _ (first : Volume) (events : List Event) (e : Event) where
   abbrev whole : List Event
   whole = events ++ e ∷ []
 
-  -- where nothing is told in an event, all stays true
+  -- where an event has no answer to the handle, all stays true
   pub answered_later : (handle : ℕ) (store : Store) (begun : ℕ) → told_since whole handle begun ≡ told_since events handle begun
       → IsAnsweredWell first events handle store begun → IsAnsweredWell first whole handle store begun
   answered_later handle store begun same well = record {
@@ -43,7 +43,7 @@ module _ (first : Volume) (events : List Event) (e : Event) where
     within = λ entries most. subst (AreWithin entries None) (sym same) (well.within entries (most_before first events e store begun entries most));
   }
 
-  -- where work begins nothing was told
+  -- where work begins there is no answer yet
   pub none_told : (handle : ℕ) → told_since whole handle (length events + 1) ≡ []
   none_told handle = ap (told_since whole handle) (sym (length_push events e)) ∙ told_first whole handle
 
@@ -65,7 +65,7 @@ module _ (first : Volume) (events : List Event) (e : Event) where
     abbrev Most : ℕ → Type 0
     Most entries = HasAtMost (tree_at first whole) running.store.parts running.begun (length whole) entries
 
-    -- with one exchange more
+    -- with one more exchange
     answered_more : (exchange : Exchange) → told_since whole handle running.begun ≡ before ++ exchange ∷ []
         → IsSuited exchange.ask exchange.answer → IsAnswerTo exchange.ask exchange.answer
         → ((entries : ℕ) → Most entries → laps.HasAtMost entries (stream_by (stream_in before) exchange.ask exchange.answer))
@@ -82,7 +82,7 @@ module _ (first : Volume) (events : List Event) (e : Event) where
           (AreWithin-push entries None before exchange (well.within entries (most_before first events e running.store running.begun entries most)) (short entries most));
     }
 
-    -- the stream that was open has given no more entries than its folder had
+    -- the open stream has given no more entries than its folder had
     still_short : (entries : ℕ) → Most entries → laps.HasAtMost entries (stream_in before)
     still_short entries most = within_last entries None before (well.within entries (most_before first events e running.store running.begun entries most)) tt
 

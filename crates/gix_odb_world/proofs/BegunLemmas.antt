@@ -24,7 +24,7 @@ use Rattle.gix_odb_world.proofs.BegunLemmas.OneEvent.{Stems, holds_opened, none_
 use Rattle.gix_odb_world.proofs.BegunLemmas.OneTurn.{stems_cloned, stems_replied, stems_turned}
 use Rattle.gix_odb_world.proofs.ValidLaws.{valid_if_sound}
 
--- ---- what an event makes of all handles
+-- ---- what an event does to all handles
 
 module _ (events : List Event) (table : ℕ → Status) where
   stems_set : (number : ℕ) (status : Status) (handle : ℕ) → Stems events number status → (handle ≢ number → Stems events handle (table handle))
@@ -47,11 +47,11 @@ module _ (first : Volume) (past : List Event) (e : Event) (before : (handle : �
   abbrev table : ℕ → Status
   table = status_of past
 
-  -- a handle that the step isn't of keeps its steps
+  -- a handle to which the step doesn't belong keeps its steps
   others : (step : Step) → e.step ≡ step → (handle : ℕ) → ¬ (IsTaskOf handle step) → ¬ (IsIgnoreOf handle step) → Stems now handle (table handle)
   others step is handle no_task no_ignore = stems_kept past e handle (table handle) (λ _ t. no_task (subst (IsTaskOf handle) is t)) (λ _ i. no_ignore (subst (IsIgnoreOf handle) is i)) (before handle)
 
-  -- and so does each handle where no step was applied
+  -- as each handle does where no step was applied
   unapplied : e.outcome ≢ outcomes.Applied → (handle : ℕ) → Stems now handle (table handle)
   unapplied other handle = stems_kept past e handle (table handle) (λ applied. absurd (other applied)) (λ applied. absurd (other applied)) (before handle)
 

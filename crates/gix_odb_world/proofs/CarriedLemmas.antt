@@ -1,5 +1,5 @@
 -- The code of a turn carries out what the work asks for, a call of the disk, an event of a core, or a core for its store; and its handle is
--- told so.
+-- fed the answer.
 use Rattle.std.proofs.Common.{◌≡◌, ℕ, ◌<◌, ◌≤◌, List, [], length, Option, Some, None, Result, Ok, Err, refl, sym, ap, ◌∙◌, subst}
 use Rattle.std.specs.Prelude.{IfOk, IsSome, OnOk}
 use Rattle.odb_base.specs.Path.{Path}
@@ -35,9 +35,9 @@ use Rattle.gix_odb_world.specs.declared.turn.Carried.{Carried}
 use Rattle.gix_odb_world.specs.declared.turn.Told.{Told}
 use Rattle.gix_odb_world.specs.declared.turn.Told.TheVariants as tells
 
--- ---- what a handle is told is what was asked and answered
+-- ---- what a handle is fed is what was asked and answered
 
--- a core that was made so
+-- a core that was made for it
 told_core : (state : HandleParts) (store slots : ℕ) (answer : CoreAnswer) (own : Told) → TellsCore store slots answer own
     → record state { core = store; view = or_before (view_in answer) state.view } ≡ state_told state own
 told_core state store slots answer tells.Nothing is = absurd is
@@ -45,14 +45,14 @@ told_core state store slots answer (tells.Answer other) is = absurd is
 told_core state store slots answer (tells.Core number own view) is =
     ap (λ v. record state { core = store; view = or_before v state.view }) is.2 ∙ ap (λ n. record state { core = n; view = Some view }) (sym is.0)
 
--- the handle has what it is told
+-- the handle has what it is fed
 pub told_state : (state : HandleParts) (asked : Asked) (own : Told) → IsTold asked own → state_after asked state ≡ state_told state own
 told_state state OfNothing own is = sym (ap (state_told state) is)
 told_state state (OfDisk ask answer) own is = sym (ap (state_told state) is)
 told_state state (OfCore store seat event answer) own is = sym (ap (state_told state) is)
 told_state state (OfNewCore slots folders store seat answer) own is = told_core state store slots answer own is
 
--- only an opening has a core made, which is opened then
+-- only an opening has a core made, which opens its store
 opened_by_core : (state : HandleParts) (work : Work) (slots folders store : ℕ) (answer : CoreAnswer) → ask_on state work ≡ Some (asks.NewCore slots folders)
     → (own : Told) → TellsCore store slots answer own → fed_on state work (told.Core answer) ≡ work_told state work own
 opened_by_core state work slots folders store answer is tells.Nothing here = absurd here
@@ -64,7 +64,7 @@ opened_by_core state (Opening (opens.Done reply)) slots folders store answer is 
 opened_by_core state (Opening (opens.Registering given)) slots folders store answer is (tells.Core number own view) here =
     let same : given ≡ slots = cc is in ap (λ n. Opening (opens.Done (replies.Opened n))) (same ∙ sym here.1)
 
--- and its work goes on so
+-- and its work goes on with it
 pub told_work : (place : Stand) (disk : Volume) (state : HandleParts) (work : Work) (ask : Option Ask) → ask_on state work ≡ ask → (own : Told)
     → IsTold (told_now place disk ask) own → fed_after state work (answered (told_now place disk ask)) ≡ work_told state work own
 told_work place disk state work None asked own is = sym (ap (work_told state work) is)
@@ -96,12 +96,12 @@ can_at cores seat handle ask event is can =
     subst (λ core. (core < length cores) × CanHappen (present (history_at cores core)) seat event × IsSome (registered_at cores core seat)) (core_of handle)
     (subst (CanHappenAt cores seat (seen handle).state) is can)
 
--- and a core of so many slots can be made
+-- and a core with so many slots can be made
 pub few_at : (cores : List History) (seat : ℕ) (handle : Handle) (ask : Option Ask) (slots folders : ℕ) → ask ≡ Some (asks.NewCore slots folders)
     → CanHappenAt cores seat (seen handle).state ask → slots ≤ most_slots
 few_at cores seat handle ask slots folders is can = subst (CanHappenAt cores seat (seen handle).state) is can
 
--- what a handle is told of the core that it has
+-- what a handle is fed about the core that it has
 pub carried_by : (disk disk_then : Volume) (cores cores_then : List History) (seat : ℕ) (handle : Handle) (opened : Option Path) (ask own : Option Ask) (result : Result Carried NoMemory)
     → opened ≡ opened_by (seen handle).work → ask ≡ own
     → IfOk result (CarriesOut disk disk_then cores cores_then opened own (told_now (stand cores handle.core seat) disk own))
@@ -112,7 +112,7 @@ carried_by disk disk_then cores cores_then seat handle opened ask own result pat
     (subst (λ core. IfOk result (CarriesOut disk disk_then cores cores_then opened own (told_now (stand cores core seat) disk own))) (sym (core_of handle)) carried))
 
 module _ (disk : Volume) (cores : List History) (opened : Option Path) (core seat : ℕ) where
-  -- what is asked for so, at the core that has this number
+  -- the ask was carried out, at the core that has this number
   abbrev pub IsCarriedOut : Volume → List History → Option Ask → Carried → Type 0
   IsCarriedOut disk_then cores_then ask done = CarriesOut disk disk_then cores cores_then opened ask (told_now (stand cores core seat) disk ask) done
 

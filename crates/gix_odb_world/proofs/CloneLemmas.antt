@@ -39,11 +39,11 @@ free_by (Idle hash) parent free = absurd (cc free)
 free_by Running parent free = absurd (cc free)
 
 module _ (world : Course) (number from : ℕ) where
-  -- a number that isn't free is told first
+  -- a number that isn't free is reported first
   pub clone_taken : (why : Why) → Some why ≡ why_not_open (phase_now world number) true → why_not_now world (steps.Clone number from) ≡ Some why
   clone_taken why is = taken_by (phase_now world number) (phase_now world from) why is
 
-  -- for a free one the handle decides that it is to be a clone of
+  -- for a free number the handle decides that is to be cloned
   pub clone_if_free : None ≡ why_not_open (phase_now world number) true → why_not_now world (steps.Clone number from) ≡ why_not_idle (phase_now world from)
   clone_if_free free = free_by (phase_now world number) (phase_now world from) free
 

@@ -1,4 +1,4 @@
--- The files that an opening counts have different paths, each was shown in the opening, and where one tree stood, they are its listed files.
+-- The files that an opening counts have different paths, each was shown in the opening, and where the tree stayed so, they are its listed files.
 pub mod OfTree
 pub mod OneTurn
 pub mod Calls
@@ -56,7 +56,7 @@ use Rattle.gix_odb_world.specs.Told.{told_since}
 use Rattle.gix_odb_world.proofs.CountedFiles.Calls.{HasCalls, calls_behind_the_look}
 use Rattle.gix_odb_world.proofs.CountedFiles.OfTree.{of_tree_to}
 
--- ---- what a look that was answered shows
+-- ---- what an answered stat shows
 
 found_by : (b : Bool) (found : Result Meta Refusal) (meta : Meta) → answers.Meta meta ≡ (if b then answers.Refused errors.Failed else meta_answer found)
     → found ≡ Ok meta
@@ -82,7 +82,7 @@ file_by_meta (Ok place) meta is file =
     file_by_kind place.node.dev place.node.ino place.node.content (ap (λ (m : Meta). m.kind) same ∙ file)
 file_by_meta (Err refusal) meta is file = absurd (cc is)
 
--- a path at which a look finds a file shows one, a link in the last place followed
+-- a path at which a stat finds a file shows one, a link in the last place followed
 looked_file_is_shown : (tree : Tree) (path : Path) (meta : Meta) → looked tree path true ≡ Ok meta → meta.kind ≡ kinds.File
     → (bytes : List ℕ) × ShowsFile tree path bytes
 unfolding looked read_of
@@ -108,7 +108,7 @@ module _ (setting : Setting) (slots : Slots) where
   abbrev start : ListStep
   start = listed.More (lists.started setting.objects 0)
 
-  -- behind the look, and with what one tree answered from there on
+  -- after the stat, and with the answers of one tree from there on
   pub record HasCounted (look : Exchange) (listing : List Exchange) : Type 0 where
     pub has : HasCalls setting slots start listing
     pub of_tree : (tree : Tree) → AreOfTree tree [] (look ∷ listing) → AreOfTree tree [] listing
@@ -142,7 +142,7 @@ module _ (first : Volume) (events : List Event) (handle : ℕ) (store : Store) (
   abbrev trees : ℕ → Tree
   trees = tree_at first events
 
-  -- a look that was answered so was answered by the tree of some moment
+  -- a stat with this answer was answered by the tree of some moment
   looked_then : (path : Path) (follow : Bool) (meta : Meta) → WasTold exchanges (asks.Disk (disk_asks.Look path follow)) (told.Disk (answers.Meta meta))
       → Sometime begun (length events) (λ moment. looked (trees moment) path follow ≡ Ok meta)
   looked_then path follow meta was =
@@ -221,7 +221,7 @@ module _ (first : Volume) (events : List Event) (handle : ℕ) (store : Store) (
               (subst (λ (xs : List Exchange). AreOfTree tree [] xs) has.are (of_tree_to tree [] exchanges all.0 all.1))));
         }
 
-  -- An opening that comes to a number of slots comes to the one that was given, or to the one for files that it counted so.
+  -- An opening that ends with a number of slots has the one that was given, or the one for the files that it counted.
   pub number_is_counted : (slots : Slots) (number : ℕ) → IsNumber setting slots exchanges number
       → IsCountedNumber trees setting exchanges begun (length events) slots number
   number_is_counted (Given own) number is = is

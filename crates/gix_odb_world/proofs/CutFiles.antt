@@ -1,4 +1,4 @@
--- Temporary files whose way was cut off in an undisturbed run: each stands where it was made, as long as other programs leave
+-- Temporary files whose way was cut off in an undisturbed run: each stays where it was made, as long as other programs leave
 -- it and the way to its spot alone.
 pub mod Spot
 pub mod WasCut
@@ -46,7 +46,7 @@ module _ (run : LawfulRun) where
   abbrev AllKept : ℕ → Type 0
   AllKept = records.AllKept run
 
-  -- ---- one event more
+  -- ---- one more event
 
   module _ (now : ℕ) (e : Event) (there : slice_get events now ≡ Some e) (all : Files now) (calm : IsUndisturbed first events (now + 1)) where
     -- the turn of another write leaves it alone
@@ -69,7 +69,7 @@ module _ (run : LawfulRun) where
           | inr his ↦ stands.apart b.handle his.0 his.1 differs his.2 his.3.0 (his.3.1 ∙ same)
         ]
 
-    -- so does every event, where other programs do
+    -- as does every event, where other programs do
     left_alone : (handle made : ℕ) (path : Path) → HasMade first events handle made path now → (c : CutOff handle made path now)
         → OthersLeave first events c.cut.own.spot (c.place + 1) (now + 1) → Leaves c.cut.own.spot now
     left_alone handle made path hm c leave = by_kind (kind_at run now e there)
@@ -90,7 +90,7 @@ module _ (run : LawfulRun) where
         by_kind (Made m) = let before = c.before in leave now e (omega (arith, before)) (omega arith) there m.outside
         by_kind (Turned t) = elim (writers.quiet_or_writer run now e there t) [ inl none ↦ unchanged none | inr b ↦ by_writer b (b.handle == handle) refl ]
 
-    -- where it was left alone it stands there still
+    -- where it was left alone it is still there
     stands_next : (handle : ℕ) (s : Path) → Leaves s now → Stands handle now s → Stands handle (now + 1) s
     stands_next handle s same stands = record { stops = stops_kept (tree now) (tree (now + 1)) true s s same stands.stops; apart = apart }
       where
@@ -128,7 +128,7 @@ module _ (run : LawfulRun) where
               subst (Leaves c.cut.own.spot) is (left_alone handle made path hm c (λ place x from within at outside. leave place x from (omega (arith, within, is)) at outside))
         ]
 
-    -- a file stands where its own path leads
+    -- a file is where its own path leads
     own_stands : (handle made : ℕ) (path : Path) → HasMade first events handle made path now → (o : files.Own run handle made path now)
         → Stands handle now o.spot
     own_stands handle made path hm o = record {
@@ -214,7 +214,7 @@ module _ (run : LawfulRun) where
       | inr c ↦ inr (over_cut handle made path c)
     ]
 
-  -- after each event of an undisturbed run each temporary file stands alone, or was cut off
+  -- after each event of an undisturbed run each temporary file is alone, or was cut off
   pub cuts_at : (now : ℕ) → IsUndisturbed first events now → AllKept now
   cuts_at zero calm = λ handle made path hm. let before = hm.before in absurd (omega (arith, before))
   cuts_at (suc now) calm =

@@ -44,7 +44,7 @@ failed_is (answers.Entry entry) is = absurd (cc is)
 failed_is answers.End is = absurd (cc is)
 failed_is answers.Done is = absurd (cc is)
 
--- one that has failed did so before the turn, or its call of the disk failed
+-- where a call has failed, it did so before the turn, or the turn's call of the disk failed
 pub failed_or_told : (first : Volume) (events : List Event) (e : Event) (handle : ℕ) (running : Running) (since : running.begun ≤ length events) (ask : DiskAsk)
     → IsTurnWith first events e handle ask → FailedSince (events ++ e ∷ []) handle running.begun
     → FailedSince events handle running.begun ⊎ (told.Disk (answer_now (disk_after first events) ask) ≡ told.Disk (answers.Refused errors.Failed))
@@ -78,7 +78,7 @@ suits_open path false dir (Err Absent) = tt
 suits_open path false dir (Err WrongKind) = tt
 suits_open path false dir (Err LinkLoop) = tt
 
--- each call has one of its answers, where the call for the next entry is on a stream that is open
+-- each call has one of its answers, where the call for the next entry is on an open stream
 pub suits : (disk : Volume) (ask : DiskAsk) → ((dir : ℕ) → ask ≡ asks.NextEntry dir → Suits (asks.NextEntry dir) (answer_now disk (asks.NextEntry dir)))
     → Suits ask (answer_now disk ask)
 unfolding answer_of

@@ -34,7 +34,7 @@ module _ (first : Volume) (past : List Event) (handle : ℕ) (running : Running)
   abbrev disk : Volume
   disk = disk_after first past
 
-  -- one that asks for a call of it makes the call
+  -- a turn that asks for a call of the disk makes the call
   pub by_call : (ask : DiskAsk) → works.ask ≡ Some (parts.Disk ask) → CallsDisk first past handle running e
   by_call ask is =
       let told : e.asked ≡ OfDisk ask (answer_now disk ask) = works.told ∙ ap (told_now (stand_of past handle running) disk) is in

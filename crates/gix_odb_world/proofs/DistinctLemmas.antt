@@ -53,7 +53,7 @@ module _ {K : Type 0} {eq : K → K → Bool} (laws : IsEquivalence eq) where
   pub IsDistinct-by_count : (xs : List K) → (distinct_count eq xs == length xs) ≡ true → IsDistinct eq xs
   IsDistinct-by_count xs e = by_length xs (eqb-true (distinct_count eq xs) (length xs) e)
 
-  -- an item more at the end
+  -- one more item at the end
   member_push : (xs : List K) (x q : K) → is_member eq (xs ++ x ∷ []) q ≡ (eq x q || is_member eq xs q)
   member_push [] x q = rw (laws.symm q x) refl
   member_push (y ∷ xs) x q = ap (λ b. eq q y || b) (member_push xs x q) ∙ swapped (eq q y) (eq x q) (is_member eq xs q)
@@ -71,7 +71,7 @@ eqb-same n = grind arith
 eqb-apart : (m n : ℕ) → m ≢ n → (m == n) ≡ false
 eqb-apart m n other = grind (arith, other)
 
--- they are distinct where the map of the pairs has as many entries
+-- they are distinct where the map of the pairs has as many entries as there are pairs
 pub distinct_by_map : (pairs : List (ObjectId × ObjectId)) (map : BTreeMap ObjectId ObjectId) → tree.IsFromIterResult id_cmp pairs map
     → are_distinct id_cmp (keys_of pairs) ≡ (tree.btree_map_len map == length pairs)
 distinct_by_map pairs map made = rw (btree_map_len-from_list ids_ordered pairs map made, length-map pairs (λ (p : ObjectId × ObjectId). p.0)) refl

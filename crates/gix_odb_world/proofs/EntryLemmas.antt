@@ -96,7 +96,7 @@ module _ (past : List Event) (e : Event) (before : (handle : ℕ) → Stands pas
     of_event (outcomes.Reply reply) out suits = of_turn suits (ap misuse_of out)
     of_event (outcomes.Misuse why) out suits = subst (OfItsCore cores) (sym suits) tt
 
--- ---- one event more
+-- ---- one more event
 
 -- the numbers of so many entries
 abbrev number_at : ℕ → ℕ
@@ -219,7 +219,7 @@ counted from (suc count) small =
     let rest : map number_at (range_with_len (from + 1) count) ≡ range_with_len (from + 1 + 1) count = counted (from + 1) count (omega (arith, small)) in
     λ i. here i ∷ rest i
 
--- a list has at least as many items as something is told of
+-- a list has at least as many items as it has entries of a store
 length-told : (store : ℕ) (records : List Record) → length (entries_told store records) ≤ length records
 length-told store [] = omega arith
 length-told store (r ∷ records) = by (entry_told store r.did) (length-told store records)

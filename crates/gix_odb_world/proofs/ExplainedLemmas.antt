@@ -1,4 +1,4 @@
--- To a world that goes on by a step some events lead, as to the one before.
+-- Some events lead to a world after a step, as to the one before.
 use Rattle.std.proofs.Common.{[]}
 use Rattle.std.proofs.Math.Logic.{∥∥₁_map}
 use Rattle.std.proofs.lemmas.Grind.{merely}
@@ -15,6 +15,6 @@ goes_on_from old new step continues h =
 pub explained_on : (old new : Course) (step : Step) → Continues old step new → IsExplained old → IsExplained new
 explained_on old new step continues explained = ∥∥₁_map explained (goes_on_from old new step continues)
 
--- no event leads to a world that begins
+-- a new world has an empty history
 pub explained_anew : (world : Course) (first : Volume) → Explains first [] world → IsExplained world
 explained_anew world first explains = merely (record { first = first; events = []; explains = explains })

@@ -1,4 +1,4 @@
--- Where the handles of a world that some events lead to stand at its cores, by its own table, and what they may ask there.
+-- The seats, at its cores, of the handles of a world that some events lead to, by its own table, and what they may ask there.
 use Rattle.std.proofs.Common.{◌≡◌, ℕ, ◌+◌, ◌<◌, ◌≤◌, Bool, true, false, List, length, Option, Some, None, refl, sym, ap, ◌∙◌, subst, arith, inl, inr}
 use Rattle.std.specs.Prelude.{IsSome, unwrap_or}
 use Rattle.std.proofs.lemmas.Bool.{cases_lt}
@@ -163,7 +163,7 @@ module _ (world : Course) (h : HasHistory world) where
           let knows : Knows first events number running (Opening (opens.Done reply)) = subst (Knows first events number running) (sym same) runs.1 in
           knows.seen
 
--- ---- the same of a world of which it is known that some events lead there
+-- ---- a world of which it is known that some events lead there
 
 pub below : (a n : ℕ) → ¬ (¬ (a < n)) → a < n
 below a n known = elim (cases_lt a n) [ inl less ↦ less | inr more ↦ absurd (known (λ less. omega (arith, less, more))) ]

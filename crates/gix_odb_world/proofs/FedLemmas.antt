@@ -1,4 +1,4 @@
--- What the code of a turn makes of a handle that is told so.
+-- What the code of a turn does with a handle that is fed an answer.
 use Rattle.std.proofs.Common.{◌≡◌, true, Some, Result, Ok, Err, sym, ap, ◌∙◌, subst}
 use Rattle.std.specs.Prelude.{IfOk}
 use Rattle.odb_asks.specs.declared.ask.DiskAnswer.{DiskAnswer}
@@ -26,14 +26,14 @@ turns_by handle state work own (Ok turned) is turns =
     (λ other both. let same : work ≡ other = cc both in subst (λ w. IsTurned state w own turned) same turns)
 turns_by handle state work own (Err error) is turns = tt
 
--- an opening that isn't done goes on, or is refused
+-- an opening that isn't done continues, or is refused
 on_under_way : (stage : OpenStage) → IsUnderWay (Some (Opening stage)) → IsOn stage
 on_under_way opens.Looking under = tt
 on_under_way (opens.Listing lister percent minimum) under = tt
 on_under_way (opens.Registering slots) under = tt
 on_under_way (opens.Done reply) under = absurd under
 
--- so one that a call of the disk ends is refused
+-- so an opening that a call of the disk ends is refused
 pub refused_if_done : (opening : OpenState) (answer : DiskAnswer) (next : OpenState) → IsUnderWay (Some (Opening opening.stage))
     → next ≡ at_stage opening (openings.fed opening.info.value.objects opening.info.value.folders opening.info.value.slots opening.stage (told.Disk answer))
     → (reply : Reply) → next.stage ≡ opens.Done reply → refuses_opening reply ≡ true

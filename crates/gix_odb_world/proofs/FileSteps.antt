@@ -1,4 +1,4 @@
--- What a writer changes in a turn, and what stands at the path of his temporary file when he has made it.
+-- What a writer changes in a turn, and what lies at the path of its temporary file when it has made it.
 pub mod AtWrite
 use Rattle.std.proofs.Common.{◌≡◌, ℕ, ◌+◌, List, [], take, Option, Some, None, Result, Ok, Err, sym, ap, ◌∙◌, subst}
 use Rattle.std.specs.Result.{result_ok}
@@ -66,7 +66,7 @@ writer_moves disk w (stages.Foldering number id) c is = told_change _ _ _ c (tol
 writer_moves disk w (stages.Moving number id) c is = told_change _ _ _ c (told_rename _ _ _) (change_by_some disk _ c is)
 writer_moves disk w (stages.Removing number refusal) c is = told_change _ _ _ c (told_remove _ _) (change_by_some disk _ c is)
 
--- a change of a writer whose file stands at s; where it moves it, then not to the place of a temporary file
+-- a change of a writer whose file is at s; if it moves the file, the target is no place of a temporary file
 pub record Does (t : Tree) (s : Path) (c : Change) : Type 0 where
   pub own : IsOwnChange t s c
   pub onto : (p : Path) → c ≡ Rename s p → NotTemporary p
@@ -111,7 +111,7 @@ module _ (t : Tree) (is_tree : IsTree t) (objects : Path) (c : Change) where
               object_spot t objects id p (subst (λ q. writing.spot t (loose_path objects id) ≡ Ok q) same (replaceable_at t (loose_path objects id) r.0 r.2).is);
         }
 
-  -- a writer that has made his file
+  -- a writer that has made its file
   pub does : (stage : WriteStage) (number : ℕ) (s : Path) → number_made stage ≡ Some number → OwnSpot t (temp_path objects number) s
       → WriterMoves t objects stage c → Does t s c
   does (stages.Making n) number s made own moves = absurd (cc made)
@@ -122,7 +122,7 @@ module _ (t : Tree) (is_tree : IsTree t) (objects : Path) (c : Change) where
   does (stages.Moving n id) number s made own moves = let same : number ≡ n = cc made in does_rename (temp_path objects n) s (subst (λ m. OwnSpot t (temp_path objects m) s) same own) id moves
   does (stages.Removing n refusal) number s made own moves = let same : number ≡ n = cc made in does_remove (temp_path objects n) s (subst (λ m. OwnSpot t (temp_path objects m) s) same own) moves
 
-  -- one that has none yet makes it
+  -- a writer that has none yet makes it
   pub does_first : (stage : WriteStage) (s : Path) → number_made stage ≡ None → WriterMoves t objects stage c → Does t s c
   does_first (stages.Making n) s none moves = does_new (temp_path objects n) s moves
   does_first (stages.Heading n) s none moves = absurd (cc none)
@@ -131,7 +131,7 @@ module _ (t : Tree) (is_tree : IsTree t) (objects : Path) (c : Change) where
   does_first (stages.Moving n id) s none moves = absurd (cc none)
   does_first (stages.Removing n refusal) s none moves = absurd (cc none)
 
-  -- one that was cut off changes nothing
+  -- a writer that was cut off changes nothing
   pub does_nothing : (stage : WriteStage) (number : ℕ) → number_made stage ≡ Some number → Cut NotTemporary t objects
       → ¬ (WriterMoves t objects stage c)
   does_nothing (stages.Making n) number made cut moves = cc made
@@ -157,7 +157,7 @@ new_file_ask opened (asks.Append p bytes) path op is = absurd (cc)
 new_file_ask opened (asks.Rename from to) path op is = absurd (cc)
 new_file_ask opened (asks.Remove p) path op is = absurd (cc)
 
--- where a temporary file was made, at a spot where nothing stood
+-- where a temporary file was made, at a spot where nothing was
 pub record IsNewAt (first : Volume) (events : List Event) (made : ℕ) (e : Event) (path : Path) : Type 0 where
   pub spot : Path
   pub put : e.entry.change ≡ Some (PutFile spot 0 [])

@@ -57,7 +57,7 @@ VerdictSays trees Failed Refused told store begun now want id folder fails (verd
 VerdictSays trees Failed Refused told store begun now want id folder fails verdicts.Misses = (fails ≡ false) × (¬ (LeadsToFile (trees now) (loose_path folder id)))
 VerdictSays trees Failed Refused told store begun now want id folder fails (verdicts.Notes error) = LooseCause trees Failed store begun now want id error
 
--- the answer to a call of the disk: that it failed, or what the tree tells
+-- the answer to a call of the disk: that it failed, or what the tree says
 abbrev given_by : (fails : Bool) → (told : DiskAnswer) → DiskAnswer
 given_by fails told = cond fails (answers.Refused disk_errors.Failed) told
 

@@ -10,7 +10,7 @@ use Rattle.gix_odb_runs.specs.Event.{Event}
 use Rattle.gix_odb_world.specs.Told.{refresh_begun, refresh_now, told_since, turns_in_front}
 use Rattle.gix_odb_world.proofs.ToldLemmas.{view_kept}
 
--- it took a turn for all that its handle was told, where it asked for each
+-- it took a turn for each answer to its handle, where it asked for each
 pub front_asked : (events : List Event) (handle : ℕ) (store : Store) (modes : Modes) (begun : ℕ)
     → AreAsked (setting_in store) (refresh_begun events handle modes begun) (told_since events handle begun)
     → turns_in_front events handle store modes begun ≡ length (told_since events handle begun)
@@ -27,7 +27,7 @@ module _ (events : List Event) (e : Event) (handle : ℕ) (store : Store) (modes
   pub begun_same : refresh_begun whole handle modes begun ≡ refresh_begun events handle modes begun
   begun_same = ap started (view_kept events e handle begun since modes.core)
 
-  -- ---- where nothing is told
+  -- ---- where nothing is answered
 
   module _ (same : told_since whole handle begun ≡ told_since events handle begun) where
     pub now_same : refresh_now whole handle store modes begun ≡ refresh_now events handle store modes begun
@@ -36,7 +36,7 @@ module _ (events : List Event) (e : Event) (handle : ℕ) (store : Store) (modes
     pub front_same : turns_in_front whole handle store modes begun ≡ turns_in_front events handle store modes begun
     front_same = ap (λ refresh. turns_of setting refresh (told_since whole handle begun)) begun_same ∙ ap (turns_of setting (refresh_begun events handle modes begun)) same
 
-  -- ---- behind one exchange more
+  -- ---- after one more exchange
 
   module _ (exchange : Exchange) (more : told_since whole handle begun ≡ told_since events handle begun ++ exchange ∷ []) where
     pub now_more : refresh_now whole handle store modes begun ≡ step_fed store.parts.objects store.parts.folders (refresh_now events handle store modes begun) exchange.answer

@@ -87,13 +87,13 @@ opened old mid new shown number path folders hash replacements options opening f
     (λ first events e explains opens asked no_turn. runs_opening first events e number (store_at (length events + 1) path folders hash replacements options))
     (λ events. refl)
 
--- a bad opening is told where the number is free
+-- a bad opening is reported where the number is free
 pub bad_open : (phase : Phase) (openable : Bool) → why_not_open phase true ≡ None → openable ≡ false → why_not_open phase openable ≡ Some BadOpen
 bad_open NoneThere openable free bad = rw bad refl
 bad_open (Idle hash) openable free bad = absurd (cc free)
 bad_open Running openable free bad = absurd (cc free)
 
--- a number that isn't free is told first
+-- a number that isn't free is reported first
 pub taken : (phase : Phase) (openable : Bool) (why : Why) → Some why ≡ why_not_open phase true → why_not_open phase openable ≡ Some why
 taken NoneThere openable why is = absurd (cc is)
 taken (Idle hash) openable why is = sym is
@@ -101,7 +101,7 @@ taken Running openable why is = sym is
 
 -- ---- a close
 
--- what the removal of a handle from the core of a number asks
+-- what the core of a number is asked when a handle is removed
 abbrev removal : List History → (core number : ℕ) → Asked
 removal cores core number = OfCore core number core_events.Remove (answer_behind (history_at cores core) number core_events.Remove)
 

@@ -1,4 +1,4 @@
--- A history that goes on by one event: its disks, its statuses, its failed calls, and its law.
+-- A history with one more event: its disks, its statuses, its failed calls, and its law.
 use Rattle.std.proofs.Common.{◌≡◌, ℕ, zero, suc, ◌+◌, ◌<◌, ◌≤◌, List, [], ◌∷◌, ◌++◌, length, take, Some, refl, sym, ◌∙◌, ap, subst, arith, inl, inr, ◌⊎◌}
 use Rattle.std.specs.Prelude.{slice_get}
 use Rattle.std.proofs.lemmas.List.{take-append-le, length_push}
@@ -13,7 +13,7 @@ use Rattle.gix_odb_world.specs.Status.{Status, Free, status_of, status_after, st
 use Rattle.gix_odb_runs.specs.Run.{disk_after, disk_after_event, tree_at, IsTurnOf, Fails, FailedSince}
 use Rattle.gix_odb_world.specs.Headline.{Law, IsLawful}
 
--- ---- lists with one more at their end
+-- ---- lists with one more element at their end
 
 -- an element is one of the old ones, or the new one at its place
 pub slice_get-push : {A : Type 0} (xs : List A) (x : A) (place : ℕ) (y : A) → slice_get (xs ++ x ∷ []) place ≡ Some y
@@ -24,7 +24,7 @@ slice_get-push (z ∷ xs) x zero y e = inl (omega arith, e)
 slice_get-push (z ∷ xs) x (suc place) y e =
     elim (slice_get-push xs x place y e) [ inl old ↦ inl (omega (arith, old.0), old.1) | inr last ↦ inr (omega (arith, last.0), last.1) ]
 
--- the new one stands at the length of the old ones
+-- the new one is at the length of the old ones
 pub slice_get-last : {A : Type 0} (xs : List A) (x : A) → slice_get (xs ++ x ∷ []) (length xs) ≡ Some x
 slice_get-last [] x = refl
 slice_get-last (z ∷ xs) x = slice_get-last xs x
@@ -92,13 +92,13 @@ failed-kept events e handle begun failed =
       at = record { event = failed.at.event; there = slice_get-kept events e failed.place failed.at.event failed.at.there; turn = failed.at.turn; failed = failed.at.failed };
     }
 
--- one that fails in the last event
+-- a call fails in the last event
 pub failed_last : (events : List Event) (e : Event) (handle begun : ℕ) → begun ≤ length events → IsTurnOf handle e → Fails e.entry.did
     → FailedSince (events ++ e ∷ []) handle begun
 failed_last events e handle begun later turn failed =
     record { place = length events; later = later; at = record { event = e; there = slice_get-last events e; turn = turn; failed = failed } }
 
--- one that has failed did so before the last event, or in it
+-- where a call has failed, it did so before the last event, or in it
 pub failed_before : (events : List Event) (e : Event) (handle begun : ℕ) → (IsTurnOf handle e → ¬ (Fails e.entry.did))
     → FailedSince (events ++ e ∷ []) handle begun → FailedSince events handle begun
 failed_before events e handle begun sound failed =
@@ -107,7 +107,7 @@ failed_before events e handle begun sound failed =
       | inr last ↦ absurd (sound (subst (λ (x : Event). IsTurnOf handle x) (sym last.1) failed.at.turn) (subst (λ (x : Event). Fails x.entry.did) (sym last.1) failed.at.failed))
     ]
 
--- none has failed in a call that begins with the last event
+-- no call has failed yet in work that begins with the last event
 pub none_failed_yet : (events : List Event) (handle begun : ℕ) → length events ≤ begun → ¬ (FailedSince events handle begun)
 none_failed_yet events handle begun short failed = omega (arith, short, failed.later, slice_get_within events failed.place failed.at.event failed.at.there)
 

@@ -18,7 +18,7 @@ pub told_possible : (disk : Volume) (ask : DiskAsk) (told : Tree) → told ≡ t
 told_possible disk ask told shown change is is_tree =
     subst (λ t. is_possible_in t change ≡ true) (sym shown) (asked_possible (tree_of disk.state) is_tree ask change (sym is))
 
--- the change that was told of is noted
+-- the change that was judged is noted
 pub kept_made : {A E : Type 0} (old new : Kept) (told : Option Revealed) (revealed : Revealed) → told ≡ Some revealed → (change : Option Change) (made : Change) → change ≡ Some made
     → (answer : Result A E)
     → OnOk answer ((before after : Tree) → Fits old before → IsRevealed old.folders before after revealed → Notes old old.folders after new)

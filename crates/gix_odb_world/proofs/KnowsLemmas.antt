@@ -24,7 +24,7 @@ module _ (first : Volume) (events : List Event) (e : Event) where
     knows_push : (running : Running) (work : Work) → Knows first events handle running work → Knows first whole handle running work
     knows_push running work knows = (laws_at work).kept first events e handle running (at work).state other knows
 
-    -- a handle at work goes on as it is over an event that isn't its turn
+    -- a handle at work stays as it is over an event that isn't its turn
     runs_over : (status : Status) → Runs first events handle status → Runs first whole handle status
     runs_over Free runs = tt
     runs_over (Resting store modes) runs = tt

@@ -1,4 +1,4 @@
--- A lawful run that begins with a tree, and in which each handle had seen after each event what its status says.
+-- A lawful run that begins with a tree, and in which each handle knew after each event what its status says.
 use Rattle.std.specs.Prelude.{List}
 use Rattle.odb_asks.specs.MemDisk.{Volume}
 use Rattle.odb_nodes.specs.Tree.{IsTree, tree_of}

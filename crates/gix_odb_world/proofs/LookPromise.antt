@@ -1,4 +1,4 @@
--- The reply of a query keeps its promise, where all that its handle was told is true of the run.
+-- The reply of a query keeps its promise, where all answers to its handle are true of the run.
 use Rattle.std.proofs.Common.{◌≡◌, ℕ, ◌≤◌, true, false, List, length, Contains, Some, Ok, inl, inr, refl, sym, ◌∙◌, ap, subst, arith}
 use Rattle.odb_base.specs.Path.{Name, Path}
 use Rattle.odb_nodes.specs.Tree.{Tree}
@@ -57,7 +57,7 @@ use Rattle.gix_odb_world.proofs.FolderLemmas.{VerdictSays, folder_asks_still, fo
 use Rattle.gix_odb_world.proofs.PackedStill.Contents.{lies_indexed}
 use Rattle.gix_odb_world.proofs.RefusedLemmas.{never_for_memory, since_told}
 
--- what was so at some moment was so until later
+-- what held at some moment held until later
 sometime_later : (begun moment now : ℕ) → moment ≤ now → (P : ℕ → Type 0) → Sometime begun moment P → Sometime begun now P
 sometime_later begun moment now to P was =
     let own = was.to in record { moment = was.moment; from = was.from; to = omega (arith, own, to); was = was.was }
@@ -105,7 +105,7 @@ module _ (first : Volume) (events : List Event) (handle : ℕ) (store : Store) (
   abbrev IsHeld : Answer → Type 0
   IsHeld answer = Held trees store.parts store.opened begun now want id answer
 
-  -- ---- what was so of a moment of the query is so of the query
+  -- ---- what held at a moment of the query holds of the query
 
   module _ (moment : ℕ) (to : moment ≤ now) where
     shown_later : (folder : Path) (contents : Contents) → WasShown trees store.opened begun moment folder id contents
@@ -249,7 +249,7 @@ module _ (first : Volume) (events : List Event) (handle : ℕ) (store : Store) (
       passed : ¬ (LeadsToFile (trees at.moment) (loose_path folder id))
       passed = (said folder among verdicts.Misses has).1
 
-      -- no index gave it an offset throughout, with a pack beside it
+      -- no index gave it an offset throughout, with a pack of the same name
       not_in_pack : (name : Name) (offset : ℕ) → ¬ (Throughout begun now (λ moment. LiesAt store.parts want (trees moment) folder id (InPackFile name offset)))
       not_in_pack name offset always =
           let named = (always at.moment at.from at.to).named in

@@ -1,5 +1,5 @@
 -- What a machine has to show, so that a handle may be at it. The laws are no fields of the machine: they speak of statuses and promises,
--- which are folded by the machines and so stand above them.
+-- which are folded by the machines and so are defined above them.
 use Rattle.std.proofs.Common.{◌≡◌, ◌⊎◌, ℕ, ◌+◌, ◌<◌, ◌≤◌, List, [], ◌∷◌, ◌++◌, length, Option, Some, None, Result, Ok, Err, refl, sym, ◌∙◌, subst}
 use Rattle.odb_asks.specs.MemDisk.{Volume}
 use Rattle.odb_nodes.specs.Tree.{IsTree, tree_of}
@@ -57,7 +57,7 @@ TakesTurn first events handle running task (Some (work_asks.Disk ask)) = HasTurn
 TakesTurn first events handle running task (Some (work_asks.Core event)) = MayAskCore events handle running.store running.modes running.begun task event
 TakesTurn first events handle running task (Some (work_asks.NewCore slots folders)) = MayAskNewCore events handle running.store running.begun task slots folders
 
--- the last event is a turn of the handle that asked so, and made no call of the disk
+-- the last event is a turn of the handle with this ask, and made no call of the disk
 pub record IsTurnWithoutCall (first : Volume) (events : List Event) (e : Event) (handle : ℕ) (running : Running) (ask : Option Ask) : Type 0 where
   pub turn : IsTurnOf handle e
   pub did : NoCall e.entry.did
@@ -65,7 +65,7 @@ pub record IsTurnWithoutCall (first : Volume) (events : List Event) (e : Event) 
   pub change : e.entry.change ≡ None
   pub tree : IsTree (tree_of (disk_after first events).state)
 
--- the last event is a turn of the handle that asked so
+-- the last event is a turn of the handle with this ask
 abbrev pub IsTurnAsking : Volume → List Event → Event → (handle : ℕ) → Running → Option Ask → Type 0
 IsTurnAsking first events e handle running None = IsTurnWithoutCall first events e handle running None
 IsTurnAsking first events e handle running (Some (work_asks.Disk ask)) = IsTurnWith first events e handle ask
@@ -73,12 +73,12 @@ IsTurnAsking first events e handle running (Some (work_asks.Core event)) = IsTur
 IsTurnAsking first events e handle running (Some (work_asks.NewCore slots folders)) =
     IsTurnWithoutCall first events e handle running (Some (work_asks.NewCore slots folders))
 
--- what is told of what is asked after some events
+-- what is answered to what is asked after some events
 abbrev pub told_after : Volume → List Event → (handle : ℕ) → Running → Option Ask → Asked
 told_after first events handle running ask = told_now (stand_of events handle running) (disk_after first events) ask
 
--- What holds where a call begins: its handle is seated, the ids that it names are of the store's hash, as all that replace others are, the
--- size of what it is to write has 64 bits, no folder of the store comes twice, the store was opened before,
+-- What holds where a call begins: its handle is seated, the ids that it names are of the store's hash, as are all that replace others, the
+-- size of what it is to write has 64 bits, no folder occurs twice in the store, the store was opened before,
 -- and the handle's core is that of the store.
 pub record IsStarted (first : Volume) (events : List Event) (handle : ℕ) (store : Store) (modes : Modes) (call : Call) : Type 0 where
   pub seated : IsSeated (cores_after events) handle modes
@@ -101,7 +101,7 @@ pub record IsRunning (first : Volume) (events : List Event) (handle : ℕ) (runn
   pub start : IsTree (tree_of first.state)
   pub status : status_of events handle ≡ Working running
 
--- ---- what a turn comes to
+-- ---- how a turn ends
 
 module _ (first : Volume) (events : List Event) (e : Event) (handle : ℕ) (running : Running) where
   abbrev whole : List Event
@@ -111,18 +111,18 @@ module _ (first : Volume) (events : List Event) (e : Event) (handle : ℕ) (runn
   abbrev pub Keeps : Reply → Type 0
   Keeps reply = Promise first whole handle running.store running.modes running.begun running.task reply
 
-  -- a bound isn't reached, where no folder that may be listed has more entries than so many
+  -- a bound isn't reached, where no folder that may be listed has more than `entries` entries
   abbrev pub InTime : (bound : Store → Modes → Task → (entries : ℕ) → ℕ) → Type 0
   InTime bound =
       (entries : ℕ) → HasAtMost (tree_at first whole) running.store.parts running.begun (length events + 1) entries
       → running.turns + 1 < bound running.store running.modes running.task entries
 
-  -- the reply of a turn that asked so keeps its promise, or the machine goes on, knows as much and is within its bound
+  -- the reply of a turn that asked this keeps its promise, or the machine goes on, knows as much and is within its bound
   abbrev pub MachineComes : (m : Machine) → KnowsAt m → Asked → Result Reply m.State → Type 0
   MachineComes m Known asked (Ok reply) = Keeps reply
   MachineComes m Known asked (Err state) = Known first whole handle (gone_on asked running (m.work state)) state × InTime m.bound
 
-  -- the same of any work, within the bound of its task
+  -- the reply of a turn keeps its promise, or work goes on and knows as much, within the bound of its task
   abbrev pub ComesTo : Asked → Result Reply Work → Type 0
   ComesTo asked (Ok reply) = Keeps reply
   ComesTo asked (Err left) = Knows first whole handle (gone_on asked running left) left × InTime bound_of_task
@@ -139,7 +139,7 @@ pub record HasNoFile (call : LooseCall) : Type 0 where
   pub number : ℕ
   pub is : call ≡ write_at write (Making number)
 
--- What a machine has to show of the writes that it may be at. It need not be at one from its task on: another phase may come in front.
+-- What a machine has to show of the writes that it may be at. It need not be at one from its task on: another phase may come before.
 pub record KeepsWriteLaws (m : Machine) (Known : KnowsAt m) : Type 1 where
   -- where it writes nothing, its call of the disk changes nothing
   pub quiet : (first : Volume) (events : List Event) (handle : ℕ) (running : Running) (state : m.State) (ask : DiskAsk)
@@ -185,7 +185,7 @@ pub record KeepsLaws (m : Machine) (Known : KnowsAt m) : Type 1 where
       → ask_on code (m.work state) ≡ m.ask store state
   pub feeds : (store : Store) (modes : Modes) (code : HandleParts) → IsHandleOf store modes code → (state : m.State) (answer : Option Answer)
       → result_in (fed_after code (m.work state) answer) ≡ placed m (m.feed store state answer)
-  -- where a task begins at a state, that is all that it knows
+  -- a machine knows at a state what holds where a task begins at it
   pub starts : (first : Volume) (events : List Event) (e : Event) (handle : ℕ) (store : Store) (modes : Modes) (task : Task) (state : m.State)
       → BeginsAs first (events ++ e ∷ []) handle store modes task
       → begun_with store modes task ≡ m.work state
@@ -210,7 +210,7 @@ no_event (Some ask) event is = cc is
 
 -- ---- machines that make no change
 
--- one that never writes has only to show that its calls of the disk change nothing
+-- a machine that never writes has only to show that its calls of the disk change nothing
 pub writes_nothing : (m : Machine) (Known : KnowsAt m) → ((state : m.State) → m.writes state ≡ None)
     → ((first : Volume) (events : List Event) (handle : ℕ) (running : Running) (state : m.State) (ask : DiskAsk) → Known first events handle running state
     → m.ask running.store state ≡ Some (work_asks.Disk ask) → change_by (disk_after first events) ask ≡ None)

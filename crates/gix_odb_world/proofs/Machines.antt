@@ -1,4 +1,4 @@
--- Each work's machine keeps its laws. A further machine has one line here.
+-- Each work's machine keeps its laws. Another machine has one line here.
 use Rattle.gix_odb.specs.declared.call_state.CallStage.TheVariants.{Looking, Refreshing, Refused, Writing}
 use Rattle.gix_odb_world.specs.Work.{Work}
 use Rattle.gix_odb_world.specs.Work.{Opening, Calling}

@@ -34,7 +34,7 @@ use Rattle.gix_odb_world.proofs.WatchLemmas.{watched_after-push}
 
 -- ---- which folders are watched
 
--- one that is watched is so since before, or since now
+-- a folder that is watched has been since before, or since now
 one_since : (since : Since) (now : ℕ) (folder other : Path) (begun : ℕ) → with_since since now folder other ≡ Some begun → (since other ≡ Some begun) ⊎ (begun ≡ now)
 one_since since now folder other begun is = by (since other) refl (eq_by_cmp path_cmp other folder) is
   where
@@ -56,7 +56,7 @@ since_by : (number : ℕ) (step : Step) (outcome : Outcome) (since : Since) (oth
 since_by number (steps.Open handle path folders hash replacements options) outcomes.Applied since other begun is = too_since since number (path ∷ folders) other begun is
 since_by number step outcome since other begun is = inl is
 
--- one that is watched stays so
+-- a watched folder stays watched
 pub one_stays : (since : Since) (now : ℕ) (folder other : Path) (begun : ℕ) → since other ≡ Some begun → with_since since now folder other ≡ Some begun
 one_stays since now folder other begun is = ap (λ o. option_or o (if eq_by_cmp path_cmp other folder then Some now else None)) is
 
@@ -69,9 +69,9 @@ pub by_stays : (number : ℕ) (step : Step) (outcome : Outcome) (since : Since) 
 by_stays number (steps.Open handle path folders hash replacements options) outcomes.Applied since other begun is = too_stays since number (path ∷ folders) other begun is
 by_stays number step outcome since other begun is = is
 
--- ---- one event more
+-- ---- one more event
 
--- a folder is told by a path in its pack directory
+-- a path in its pack directory determines a folder
 one_folder : (a b : Path) (n m : Name) → pack_directory a ++ n ∷ [] ≡ pack_directory b ++ m ∷ [] → a ≡ b
 one_folder a b n m same =
     let both : Some (pack_directory a) ≡ Some (pack_directory b) = sym (parent_of-push (pack_directory a) n) ∙ ap parent_of same ∙ parent_of-push (pack_directory b) m in
@@ -85,7 +85,7 @@ same_read tree path one other time at reads too =
     let both : ◌≡◌ {A = Result (List ℕ × ℕ) Refusal} (Ok (one, time)) (Ok (other, at)) = sym reads ∙ too in
     let pair : ◌≡◌ {A = List ℕ × ℕ} (one, time) (other, at) = cc both in ap (λ (p : List ℕ × ℕ). p.0) pair
 
--- bytes that can't differ are the same
+-- bytes that can't differ are equal
 same_bytes : (one other : List ℕ) → ¬ (other ≢ one) → one ≡ other
 same_bytes one other never = by (same_name other one) refl
   where

@@ -30,7 +30,7 @@ use Rattle.gix_odb_world.proofs.DistinctLemmas.{IsDistinct-by_count}
 use Rattle.gix_odb_world.proofs.RunSteps.{front_of_front, length_take, there_in_whole}
 use Rattle.gix_odb_world.proofs.ValidLaws.{valid_if_sound}
 
--- two hashes that are the same
+-- two hashes that are compared as equal
 pub same_is : (one other : HashKind) → is_same_hash one other ≡ true → one ≡ other
 same_is Sha1 Sha1 is = refl
 same_is Sha1 Sha256 is = absurd (cc is)

@@ -1,4 +1,4 @@
--- The temporary files of writes in an undisturbed run: each stands alone, or was cut off, after each event.
+-- The temporary files of writes in an undisturbed run: each is alone, or was cut off, after each event.
 pub mod Ends
 pub mod Writer
 pub mod Standing
@@ -108,7 +108,7 @@ module _ (run : LawfulRun) where
       | inr is ↦ inl (new_next handle made path hm is)
     ]
 
-    -- a file that stands at its spot after the event did so before it
+    -- a file that is at its spot after the event was there before it
     pub own_before : Files run now → IsUndisturbed first events (now + 1) → (handle made : ℕ) (path : Path)
         → HasMade first events handle made path now → (a : Own run handle made path (now + 1))
         → (o : Own run handle made path now) × (o.spot ≡ a.spot)
@@ -123,7 +123,7 @@ module _ (run : LawfulRun) where
             let both : Some (PutFile o.spot 0 []) ≡ Some (PutFile a.spot 0 []) = sym o.put ∙ (ap (λ (x : Event). x.entry.change) one ∙ a.put) in
             cc both
 
-    -- nothing stood where a new file is made
+    -- nothing was where a new file is made
     pub new_vacant : (handle made : ℕ) (path : Path) → HasMade first events handle made path (now + 1) → made ≡ now
         → (a : Own run handle made path (now + 1)) → vacant (tree now) path ≡ Ok a.spot
     new_vacant handle made path hm is a =
@@ -133,7 +133,7 @@ module _ (run : LawfulRun) where
         let spots : new.spot ≡ a.spot = cc in
         subst (λ n. vacant (tree n) path ≡ Ok new.spot) is new.free ∙ ap Ok spots
 
-    -- so it isn't where another stands
+    -- so it isn't where another one is
     new_apart : Files run now → IsUndisturbed first events (now + 1)
         → (handle other made last : ℕ) (path twin : Path) → HasMade first events handle made path now → HasMade first events other last twin (now + 1)
         → last ≡ now
@@ -191,7 +191,7 @@ module _ (run : LawfulRun) where
           files.apart handle other made last path twin differs was been o.0 p.0 (o.1 ∙ (same ∙ sym p.1));
     }
 
-  -- after each event of an undisturbed run each temporary file stands alone, or was cut off
+  -- after each event of an undisturbed run each temporary file is alone, or was cut off
   pub files_at : (now : ℕ) → IsUndisturbed first events now → Files run now
   files_at zero calm = record {
     each = λ handle made path hm. let before = hm.before in absurd (omega (arith, before));

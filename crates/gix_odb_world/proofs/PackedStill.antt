@@ -1,4 +1,4 @@
--- While an object lies still in a pack, what a query is told is fair to it.
+-- While an object stays unchanged in a pack, the answers to a query are fair to it.
 pub mod Directory
 pub mod Answers
 pub mod Moments
@@ -39,7 +39,7 @@ use Rattle.gix_odb_world.proofs.Streams.{streams_stand}
 use Rattle.gix_odb_world.proofs.Streams.OneEvent.{StandsOpen}
 use Rattle.gix_odb_world.proofs.WriteTurn.Common.{IsTurnWith}
 
--- exchanges with a fair one behind them are fair
+-- exchanges with a fair one after them are fair
 pub AreFair-push : (hash : Kind) (id : ObjectId) (place : PackedPlace) (past exchanges : List Exchange) (exchange : Exchange)
     → AreFair hash id place past exchanges → IsFair hash id place (past ++ exchanges) exchange.ask exchange.answer
     → AreFair hash id place past (exchanges ++ exchange ∷ [])

@@ -49,7 +49,7 @@ all_push P (y ∷ xs) x all here = (all.0, all_push P xs x all.1 here)
 pub turns_none : (world : Course) (steps : List Step) (handle : ℕ) → PlaysTurns world world steps steps handle
 turns_none world steps handle = record { own = []; pending = tt; makes = makes_none world steps }
 
--- a pending turn more
+-- one more pending turn
 pub turns_more : (old mid new : Course) (begun between made : List Step) (handle : ℕ) → PlaysTurns old mid begun between handle
     → (one : MakesOne mid new between made (Turn handle)) → one.outcome ≡ Pending → PlaysTurns old new begun made handle
 turns_more old mid new begun between made handle turns one pending =
@@ -88,7 +88,7 @@ makes_one old new begun made step pushed more continues =
 
 -- ---- lines one after another
 
--- a line stands for one step at least
+-- a line stands for at least one step
 pub some_made : (line : Line) (own : List Made) → StandsFor line own → 0 < length own
 some_made (One step) own stands = omega (arith, ap length stands.1)
 some_made (Finish handle) own stands = omega (arith, ap length stands.2, length-append stands.0 (record { step = Turn handle; outcome = stands.1 } ∷ []))
@@ -145,7 +145,7 @@ has_played_none first world last no_last explains =
       plays = (refl, no_last);
     }
 
--- a line has one outcome at least
+-- a line has at least one outcome
 pub some_outcome : (old new : Course) (begun made : List Step) (line : Line) → PlaysLine old new begun made line → 0 < length new.outcomes
 some_outcome old new begun made line own =
     omega (

@@ -1,4 +1,4 @@
--- What goes by the call of a query goes by the query, and the other way round. For callers.
+-- What is defined by the call of a query, restated by the query. For callers.
 use Rattle.std.specs.Prelude.{ℕ, List, Option}
 use Rattle.std.proofs.Common.{sym, subst}
 use Rattle.gix_hash.specs.declared.object_id.ObjectId.{ObjectId}

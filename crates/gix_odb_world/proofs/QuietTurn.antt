@@ -1,4 +1,4 @@
--- What the moment after a turn shows whose call of the disk makes no change.
+-- What the moment after a turn shows, where the turn's call of the disk makes no change.
 use Rattle.std.proofs.Common.{◌≡◌, ℕ, ◌+◌, ◌≤◌, true, false, List, [], ◌∷◌, ◌++◌, length, None, sym, ◌∙◌, ap, subst}
 use Rattle.odb_nodes.specs.Tree.{tree_of}
 use Rattle.odb_nodes.specs.Tree.Write.{written}
@@ -21,11 +21,11 @@ module _ (first : Volume) (events : List Event) (e : Event) (handle : ℕ) (runn
   listed : Fails e.entry.did → fails_now disk ask ≡ true
   listed failed = subst Fails is.did.1 failed
 
-  -- where the call failed, one has failed since the task was set
+  -- where the call failed, a call has failed since the task was set
   pub failed_now : fails_now disk ask ≡ true → FailedSince whole handle running.begun
   failed_now fails = failed_last events e handle running.begun since is.turn (subst Fails (sym is.did.1) fails)
 
-  -- where it didn't, one that has failed did so before
+  -- where it didn't, a call that has failed did so before
   pub failed_earlier : fails_now disk ask ≡ false → FailedSince whole handle running.begun → FailedSince events handle running.begun
   failed_earlier works = failed_before events e handle running.begun (λ turn failed. absurd (cc (listed failed, works)))
 

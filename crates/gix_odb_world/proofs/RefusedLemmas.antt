@@ -45,7 +45,7 @@ module _ (cores : List History) (core handle : ℕ) (event : CoreEvent) (refusal
   cause_then : RefusalCause (present history) event refusal
   cause_then = each_refusal_has_its_cause history.entries (present history) (number_behind history.entries) handle event refusal refused
 
-  -- it leaves the core's shape, also where the core is none of them
+  -- it leaves the core's shape, also where there is no such core
   kept_then : present (history_at (slice_set cores core (entered history handle event (Err refusal))) core) ≡ present history
   kept_then =
       elim (history_at-set cores core (entered history handle event (Err refusal)) core) [
@@ -54,7 +54,7 @@ module _ (cores : List History) (core handle : ℕ) (event : CoreEvent) (refusal
             ∙ refused_entries_change_nothing history.opening history.entries (number_behind history.entries) (entry_of history handle event (Err refusal)) refusal refused refl
       ]
 
--- ---- one event more
+-- ---- one more event
 
 module _ (events : List Event) (e : Event) where
   abbrev whole : List Event
@@ -82,7 +82,7 @@ module _ (events : List Event) (e : Event) where
   refused_since_later handle core begun refusal since =
       record { number = since.number; later = since.later; at = refused_at_later handle core since.number refusal since.at }
 
-  -- where nothing is told in an event
+  -- where nothing is answered in an event
   pub refused_later : (handle core begun : ℕ) → told_since whole handle begun ≡ told_since events handle begun
       → AreRefused events handle core begun → AreRefused whole handle core begun
   refused_later handle core begun same all event refusal was =
@@ -95,7 +95,7 @@ module _ (events : List Event) (e : Event) where
       let none : told_since whole handle (length events + 1) ≡ [] = ap (told_since whole handle) (sym (length_push events e)) ∙ told_first whole handle in
       absurd (nothing_among (record { ask = parts.Core event; answer = told.Core (Err refusal) }) (subst (λ xs. WasTold xs (parts.Core event) (told.Core (Err refusal))) none was))
 
-  -- where one exchange more is told
+  -- where there is one more exchange
   module _ (handle core begun : ℕ) (all : AreRefused events handle core begun) where
     more : (exchange : Exchange) → told_since whole handle begun ≡ told_since events handle begun ++ exchange ∷ []
         → ((event : CoreEvent) (refusal : Refusal) → record { ask = parts.Core event; answer = told.Core (Err refusal) } ≡ exchange → RefusedSince whole handle core begun refusal)
@@ -151,7 +151,7 @@ module _ (events : List Event) (e : Event) where
           more (record { ask = parts.Core own; answer = told.Core answer }) same
           (λ event refusal is. refused_now refusal (sym (same_answer (Err refusal) answer (ap (λ (x : Exchange). x.answer) is))))
 
--- ---- refusals that a handle was told of
+-- ---- refusals that a handle got
 
 module _ (events : List Event) (handle core begun : ℕ) (all : AreRefused events handle core begun) where
   pub since_told : (refusal : Refusal) → IsRefused (told_since events handle begun) refusal → RefusedSince events handle core begun refusal

@@ -1,4 +1,4 @@
--- The run that a world comes to.
+-- The run of a world.
 use Rattle.std.proofs.Common.{◌≡◌, ℕ, ◌≤◌, List, length, map, sym, ap, ◌∙◌, subst}
 use Rattle.std.specs.List.{All}
 use Rattle.gix_odb_core.specs.History.{History}
@@ -62,7 +62,7 @@ pub headline_of : (first : Volume) (made : List Step) (steps : List Step) (world
 headline_of first made steps world run all own is =
     record { events = own.events; steps_are = own.steps_are ∙ all; is_run = is first own.events own.explains }
 
--- the lines are played by the run that the world comes to, and those that finish what a handle is at end in time
+-- the lines are played by the run of the world, and those that finish what a handle is at end in time
 pub is_played : (first : Volume) (lines : List Line) (steps : List Step) (last : List ℕ) (world : Course) (run : Run) → HasPlayed first lines steps last world
     → ((events : List Event) → Explains first events world → IsRun first events run)
     → IsPlayed first lines (record { run = run; steps = steps; last = last })

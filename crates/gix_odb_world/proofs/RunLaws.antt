@@ -1,4 +1,4 @@
--- The laws of runs, of which a world has known after each event what its handles are at.
+-- The laws of runs, in which a world knows after each event what its handles are at.
 pub mod KnownRun
 mod LastTold
 mod QueryTurns

@@ -122,7 +122,7 @@ module _ (first : Volume) (past : List Event) (e : Event) where
   abbrev pub after : Tree
   after = tree_of (disk_after_event disk e).state
 
-  -- where the disk wasn't called, the record's change alone takes it on
+  -- where the disk wasn't called, only the record's change changes it
   by_change_alone : (asked : Asked) (change : Option Change) → LeavesDisk asked → disk_after_asked disk asked change ≡ disk_after_change disk change
   by_change_alone OfNothing change leaves = refl
   by_change_alone (OfDisk ask answer) change leaves = absurd leaves

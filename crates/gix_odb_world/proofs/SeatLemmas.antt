@@ -154,7 +154,7 @@ module _ (past : List Event) (e : Event) where
           ap (λ a. fed_in running.store running.work (answered a)) (asked_by state ask at asks_it)
           ∙ ap (λ w. fed_in running.store w (answered (told (Some ask)))) at
 
-      -- a call of the disk registers nothing, and where an opening registers its handle it ends with that
+      -- a call of the disk registers nothing, and an opening that registers its handle ends with that
       out_still : (state : OpenStage) → running.work ≡ Opening state → IsOn state → IsNowhere before_it number
           → ((slots : ℕ) → ¬ (fed_in running.store running.work (answered e.asked) ≡ Ok (replies.Opened slots))) → IsNowhere (cores_after now) number
       out_still opens.Looking at on nowhere other = nowhere_now past e _ (asked_by opens.Looking (work_asks.Disk look) at refl) number nowhere
@@ -199,7 +199,7 @@ module _ (past : List Event) (e : Event) where
       at_rest OpenStore order stands reply out sound = opened_seat stands.0 stands.1 stands.2 stands.3 reply out sound
       at_rest (MakeCall call) order stands reply out sound = call_kept works.ask call works.told order stands
 
-      -- a refused opening leaves its number registered nowhere; no call is refused so
+      -- a refused opening leaves its number registered nowhere; no call is refused in this way
       freed : (task : Task) → StandsAt before_it number running.modes running.work task → (reply : Reply) → e.outcome ≡ outcomes.Reply reply
           → refuses_opening reply ≡ true → Promise first now number running.store running.modes running.begun task reply → IsNowhere (cores_after now) number
       freed OpenStore stands reply out refuses promise =

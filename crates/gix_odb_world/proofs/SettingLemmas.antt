@@ -1,4 +1,4 @@
--- What a look-up is told of a handle of the code is what it is told of the handle's store; and a copy of a handle has what the handle has.
+-- What a look-up takes from a handle of the code is what it takes from the handle's store; and a copy of a handle has what the handle has.
 use Rattle.std.proofs.Common.{◌≡◌, ℕ, Bool, true, false, Option, Some, None, refl, sym, ap, ◌∙◌}
 use Rattle.std.specs.Prelude.{if◌then◌else◌, ◌==◌}
 use Rattle.std.specs.Option.{option_map}
@@ -28,7 +28,7 @@ map_if : (b : Bool) (handle before : Option Handle) → option_map seen (if b th
 map_if true handle before = refl
 map_if false handle before = refl
 
--- a world whose table differs in the handle that has a number differs so as proofs see it
+-- where the tables of two worlds differ in the handle that has a number, they do so as proofs see them
 pub sets_seen : (old new : Course) (number : ℕ) (handle : Option Handle) → PutsHandle old new number handle → SetsHandle old new number (option_map seen handle)
 sets_seen old new number handle puts = record {
   table = λ other. ap (option_map seen) (puts.table other) ∙ map_if (other == number) handle (stored_at old other);
@@ -51,7 +51,7 @@ ignoring_seen (Some handle) idle = by handle.core handle.at idle
     by core (stands.Resting state) idle = refl
     by core (stands.Calling call) idle = absurd (cc idle)
 
--- handles that are alike have the same
+-- handles that are alike have equal parts
 pub parts_alike : (core : ℕ) (one other : HandleState) → IsAlike one other → parts_of core one ≡ parts_of core other
 parts_alike core one other alike =
     ap (λ info. record (parts_of core one) { info = info }) alike.info
@@ -59,7 +59,7 @@ parts_alike core one other alike =
     ∙ (ap (λ most. record (parts_of core one) { info = other.info.value; ignoring = other.ignore_replacements; max_changes = most }) alike.changes
     ∙ ap (λ view. record (parts_of core other) { view = Some view }) alike.view))
 
--- another handle on the store of one has what that has, but for its snapshot
+-- another handle on the store of one has what that has, except its snapshot
 pub shares_alike : (core : ℕ) (state other : HandleState) (view : View) (parent : Option Handle) → parent ≡ Some (record { core = core; at = stands.Resting state })
     → IsAlike other (with_view state view) → Some (seen_at core (stands.Resting other)) ≡ shared_with view (option_map seen parent)
 shares_alike core state other view parent is alike =

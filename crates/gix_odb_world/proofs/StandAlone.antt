@@ -1,4 +1,4 @@
--- In an undisturbed run the temporary files of writes stand alone.
+-- In an undisturbed run the temporary files of writes are alone.
 use Rattle.std.proofs.Common.{◌≡◌, ◌≢◌, ◌⊎◌, inl, inr, ℕ, ◌+◌, take, Some, Ok, sym, ap, ◌∙◌, subst}
 use Rattle.std.specs.Prelude.{slice_get, true}
 use Rattle.odb_base.specs.Path.{Path}

@@ -144,7 +144,7 @@ begun old mid new number call handle work sized reason there is sets notes =
     (λ first events e explains is asked others. runs_started old number call sized reason first events e explains is asked others)
     (λ events. refl)
 
--- the same where the call is a copy
+-- where the call is a copy
 pub begun_by : (old mid new : Course) (number : ℕ) (copy call : Call) (handle : Seen) (work : Work) → copy ≡ call → HasSize copy
     → why_not_now old (steps.Start number call) ≡ None → handle_at old number ≡ Some handle
     → work ≡ Calling (calls.started (setting_at handle.state) handle.state.info.object_hash (view_at handle.state) (sought_by handle.state) copy)

@@ -1,4 +1,4 @@
--- Each step of a world takes its history one event on.
+-- Each step of a world adds one event to its history.
 pub mod Apart
 use Rattle.std.proofs.Common.{◌≡◌, ◌≢◌, ℕ, ◌+◌, ◌<◌, Bool, true, false, List, [], ◌∷◌, ◌++◌, length, take, get_or, Some, None, Option, refl, sym, ◌∙◌, ap, subst, Vec, Global}
 use Rattle.std.specs.Prelude.{if◌then◌else◌, ◌==◌}
@@ -53,7 +53,7 @@ phase_of-matched (Resting store modes) (Some handle) match =
 phase_of-matched (Working running) None match = absurd match
 phase_of-matched (Working running) (Some handle) match = ap (phase_of_work handle.state.info.object_hash) (sym match.1)
 
--- the phases of a handle by the history and by the world are the same
+-- the phases of a handle by the history and by the world are equal
 phase_same : (first : Volume) (events : List Event) (world : Course) (handle : ℕ) → Explains first events world
     → phase_after events handle ≡ phase_now world handle
 phase_same first events world handle explains = phase_of-matched (status_of events handle) (handle_at world handle) (explains.handles handle)
@@ -71,7 +71,7 @@ why_not-same first events world (steps.Start handle call) explains = ap (λ phas
 why_not-same first events world (steps.Turn handle) explains = ap why_not_running (phase_same first events world handle explains)
 why_not-same first events world (steps.Disk change) explains = ap (λ disk. why_not_change disk change) (sym explains.disk)
 
--- the change that a step would make is the same, too
+-- as is the change that a step would make
 change-matched : (disk : Volume) (status : Status) (handle : Option Seen) → Matches status handle → would_change_in disk status ≡ change_by_handle disk handle
 change-matched disk Free None match = refl
 change-matched disk Free (Some handle) match = absurd match
@@ -116,7 +116,7 @@ module _ (first : Volume) (events : List Event) (world : Course) (explains : Exp
       (λ breaks. second_by (would_change_now world step) (subst (BreaksRule first events) would breaks))
       why is
 
--- ---- one event more
+-- ---- one more event
 
 pub goes_on : (first : Volume) (events : List Event) (old new : Course) (e : Event) → Explains first events old → Law first events e
     → new.outcomes ≡ old.outcomes ++ e.outcome ∷ [] → new.records ≡ old.records ++ e.entry ∷ [] → new.disk ≡ disk_after_event old.disk e
@@ -153,7 +153,7 @@ after_outside disk made change is = ap (λ c. tree_of (after_outside_change disk
 
 -- ---- a step without a change
 
--- what is watched stays so over a step that leaves the disk, but for the folders that it names
+-- what is watched stays watched over a step that leaves the disk; only the folders that it names are added
 stays_watched : (first : Volume) (events : List Event) (old : Course) (shown : Kept) (step : Step) (outcome : Outcome) (did : Did) (faults : ℕ) (asked : Asked) → LeavesDisk asked
     → Explains first events old
     → ((trees : ℕ → Tree) (since : Since) (now : ℕ) → trees now ≡ tree_of old.disk.state → AreBegun since now → Keeps trees since now old.shown
@@ -165,7 +165,7 @@ stays_watched first events old shown step outcome did faults asked leaves explai
     (ap (λ (d : Volume). tree_of d.state) (left_alone (disk_after first events) asked None leaves))
     (λ trees since now is begun k. watches trees since now (is ∙ ap (λ (d : Volume). tree_of d.state) (sym explains.disk)) begun k)
 
--- no step but a turn and another program's change changes the tree
+-- only a turn and another program's change change the tree
 would_not : (world : Course) (step : Step) → ¬ (IsTurn step) → ChangesAs step outcomes.Applied None → would_change_now world step ≡ None
 would_not world (steps.Turn handle) other made = absurd (other tt)
 would_not world (steps.Disk change) other made = absurd (cc made)
@@ -179,7 +179,7 @@ valid_apart world step other made none =
 
 -- ---- a misused step
 
--- it leaves all as it was, what is kept of watched paths too
+-- it leaves all as it was, also what is kept of watched paths
 pub misused_for : (old new : Course) (step : Step) (why : Why) → IsReasonNow old step (Some why) → Notes old new (outcomes.Misuse why) Nothing None → Continues old step new
 misused_for old new step why reason notes first events explains =
     let e : Event = quiet step (outcomes.Misuse why) None old.disk.calls.faults in (
@@ -210,7 +210,7 @@ pub table_noted : (old mid new : Course) (number : ℕ) (handle : Option Seen) (
 table_noted old mid new number handle outcome did change sets notes other =
     ap (λ handles. handle_at (record new { handles = handles }) other) notes.handles ∙ sets.table other
 
--- what a step tells of the core of a store, of which it changes the cores
+-- what a step records of the core of a store, of which it changes the cores
 pub record Tells (events : List Event) (old : Course) (cores : Vec History Global) (step : Step) (did : Did) : Type 0 where
   pub did_is : did ≡ did_of_asked None (cores_after events) (asked_applied events step)
   pub cores_are : cores.items ≡ cores_after_asked old.cores.items (asked_applied events step)
@@ -255,7 +255,7 @@ applied_at_core old mid new cores shown did step number handle next reason sets 
           (stays_watched first events old shown step outcomes.Applied did mid.disk.calls.faults asked told.leaves explains watches)),
     )
 
--- the same of a step that asks for nothing
+-- a step that asks for nothing sets one handle, and its status goes on as the handle does
 pub applied : (old mid new : Course) (shown : Kept) (step : Step) (number : ℕ) (handle : Option Seen) (next : ℕ → Status → Status)
     → why_not_now old step ≡ None → SetsHandle (record old { shown = shown }) mid number handle → Notes mid new outcomes.Applied Nothing None
     → ((trees : ℕ → Tree) (since : Since) (now : ℕ) → trees now ≡ tree_of old.disk.state → AreBegun since now → Keeps trees since now old.shown
@@ -322,7 +322,7 @@ made_change old new shown disk change made reason noted after made_is notes firs
 
 -- ---- a run of steps
 
--- one step more leads on
+-- one more step leads on
 pub IsRunOf-push : (first : Volume) (old new : Course) (made : List Step) (step : Step) → Continues old step new → IsRunOf first made old
     → IsRunOf first (made ++ step ∷ []) new
 IsRunOf-push first old new made step continues before =
@@ -334,7 +334,7 @@ IsRunOf-push first old new made step continues before =
       explains = on.explains;
     }
 
--- the same along a list of steps
+-- so it is along a list of steps
 pub IsRunOf-more : (first : Volume) (old new : Course) (step : Step) (steps : List Step) (index : ℕ) → index < length steps
     → step ≡ get_or steps index step → Continues old step new
     → IsRunOf first (take index steps) old → IsRunOf first (take (index + 1) steps) new

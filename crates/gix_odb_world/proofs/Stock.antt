@@ -1,4 +1,4 @@
--- What holds of the core of a store along a lawful run: it was made for the store, its journal is one, and only what was read was handed to it.
+-- What holds of the core of a store along a lawful run: it was made for the store, its journal is one, and it got only what was read.
 pub mod OneCore
 pub mod Owned
 pub mod Snapshots

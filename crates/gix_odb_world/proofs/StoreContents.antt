@@ -127,7 +127,7 @@ module _ (run : LawfulRun) where
         shows = shows_read folder (tree_at first events moment) name bytes time ends reads;
       }
 
-      -- what two reads of it give at states since the opening has the same bytes
+      -- two reads of it at states since the opening give the same bytes
       pub shows_one : (m n : ℕ) (one other : List ℕ) (time at : ℕ) → store.opened ≤ m → m ≤ length events → store.opened ≤ n → n ≤ length events
           → read_of (tree_at first events m) path ≡ Ok (one, time) → read_of (tree_at first events n) path ≡ Ok (other, at) → one ≡ other
       shows_one m n one other time at from_m to_m from_n to_n reads also =

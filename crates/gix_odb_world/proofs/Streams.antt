@@ -1,4 +1,4 @@
--- The stream that a handle at work reads stands open on the disk, and gives what its folder listed when it was opened.
+-- The stream that a handle at work reads is open on the disk, and gives what its folder listed when it was opened.
 pub mod OneEvent
 pub mod Apart
 pub mod Step
@@ -66,7 +66,7 @@ module _ (first : Volume) (events : List Event) (lawful : IsLawful first events)
   pub are_open : AreOpen first events
   are_open = subst (AreOpen first) (take-length events) (at_place (length events) (omega arith))
 
--- The stream that a handle at work reads stands open: no other handle reads or closes it, since each reads and closes its own, and a new stream has
+-- The stream that a handle at work reads is open: no other handle reads or closes it, since each reads and closes its own, and a new stream has
 -- the number of none that is open.
 pub streams_stand : (first : Volume) (events : List Event) → IsLawful first events → RunsThroughout first events
     → (handle : ℕ) (running : Running) → status_of events handle ≡ Working running
@@ -102,7 +102,7 @@ module _ (first : Volume) (events : List Event) (e : Event) (handle : ℕ) (runn
     stands : StandsOpen first events running own.stream
     stands = streams_stand first events ran.lawful ran.throughout handle running ran.status own.stream own.told
 
-    -- the call for the next entry is on a stream that is open
+    -- the call for the next entry is on an open stream
     pub next_entry_suits : Suits (asks.NextEntry dir) (answer_now disk (asks.NextEntry dir))
     next_entry_suits =
         let read = stream_gives_what_is_coming disk own.stream.dir stands.coming stands.is.now in
@@ -157,7 +157,7 @@ module _ (first : Volume) (events : List Event) (e : Event) (handle : ℕ) (runn
   opened_few entries folder (answers.Meta meta) = tt
   opened_few entries folder (answers.File bytes time) = tt
 
-  -- behind a call of the disk the stream that is open has given no more entries than a folder has
+  -- after a call of the disk the open stream has given no more entries than a folder has
   pub streams_are_short : (ask : DiskAsk) → ((dir : ℕ) → ask ≡ asks.NextEntry dir → IsOwnStream (told_since events handle running.begun) dir)
       → (entries : ℕ) → HasAtMost (tree_at first whole) running.store.parts running.begun (length whole) entries
       → laps.HasAtMost entries (stream_in (told_since events handle running.begun))

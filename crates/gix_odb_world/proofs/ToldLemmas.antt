@@ -1,4 +1,4 @@
--- What the handle of a query was told, and where its look-up stands, after one event more.
+-- The answers to the handle of a query, and the state of its look-up, after one more event.
 use Rattle.std.proofs.Common.{◌≡◌, ◌⊎◌, ◌&&◌, inl, inr, ℕ, zero, suc, ◌+◌, ◌≤◌, Bool, true, false, List, [], ◌∷◌, ◌++◌, length, drop, take, Option, Some, None, refl, sym, ◌∙◌, ap, arith}
 use Rattle.std.specs.Prelude.{◌==◌, unwrap_or, if◌then◌else◌}
 use Rattle.std.specs.List.{cons_option, filter_map}
@@ -22,7 +22,7 @@ use Rattle.gix_odb_world.specs.Seats.{IsSeated}
 use Rattle.gix_odb_world.specs.Told.{exchange_in, exchange_of, told_since, view_then}
 use Rattle.gix_odb_runs.specs.Turned.{is_done, is_turn_of, turns_handle}
 
--- ---- a look-up behind one exchange more
+-- ---- a look-up after one more exchange
 
 pub behind-push : (setting : Setting) (look : LookUp) (exchanges : List Exchange) (exchange : Exchange)
     → behind setting look (exchanges ++ exchange ∷ []) ≡ fed setting (behind setting look exchanges) exchange.answer
@@ -93,7 +93,7 @@ not_turned handle e never = by (is_turn_of handle e) refl
     by true is = absurd (never (turn_by handle e is))
     by false is = is
 
--- ---- what it was told
+-- ---- the answers to it
 
 module _ (events : List Event) (e : Event) (handle begun : ℕ) (since : begun ≤ length events) where
   abbrev whole : List Event
@@ -105,18 +105,18 @@ module _ (events : List Event) (e : Event) (handle begun : ℕ) (since : begun �
       ap (filter_map (exchange_in handle)) (drop-push events e begun since)
       ∙ filter_map-append (exchange_in handle) (drop begun events) (e ∷ [])
 
-  -- by what it was told, if it was told anything
+  -- by its exchange, if there was one
   pub told_by : (o : Option Exchange) → exchange_in handle e ≡ o → told_since whole handle begun ≡ told_since events handle begun ++ cons_option o []
   told_by o is = told-push ∙ ap (λ x. told_since events handle begun ++ cons_option x []) is
 
   none_told : exchange_in handle e ≡ None → told_since whole handle begun ≡ told_since events handle begun
   none_told is = told_by None is ∙ append-nil (told_since events handle begun)
 
-  -- an event that isn't its turn tells it nothing
+  -- an event that isn't its turn has no answer to it
   pub told_kept : ¬ (IsTurnOf handle e) → told_since whole handle begun ≡ told_since events handle begun
   told_kept other = none_told (ap (λ b. if b then exchange_of e.asked else None) (not_turned handle e other))
 
-  -- its turn tells it what was asked and answered
+  -- its turn has what was asked and answered
   pub told_turn : IsTurnOf handle e → (asked : Asked) → e.asked ≡ asked → (exchange : Exchange) → exchange_of asked ≡ Some exchange
       → told_since whole handle begun ≡ told_since events handle begun ++ exchange ∷ []
   told_turn turn asked asked_is exchange is =
@@ -127,12 +127,12 @@ module _ (events : List Event) (e : Event) (handle begun : ℕ) (since : begun �
   told_none turn asked asked_is is =
       none_told (ap (λ b. if b then exchange_of e.asked else None) (turned_by handle e turn) ∙ (ap exchange_of asked_is ∙ is))
 
-  -- what it saw then stays
+  -- what it saw then stays the same
   pub view_kept : (core : ℕ) → view_then whole handle core begun ≡ view_then events handle core begun
   unfolding view_then
   view_kept core = ap (λ past. unwrap_or (snapshot_of handle (history_at (cores_after past) core).entries) unseen) (take-push events e begun since)
 
--- where it begins it was told nothing
+-- where it begins it was answered nothing
 pub told_first : (events : List Event) (handle : ℕ) → told_since events handle (length events) ≡ []
 unfolding told_since
 told_first events handle = ap (filter_map (exchange_in handle)) (drop-all events)

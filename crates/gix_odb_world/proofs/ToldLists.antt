@@ -48,7 +48,7 @@ pub AreNumbered-push : (slots before : ℕ) (exchanges : List Exchange) (exchang
 AreNumbered-push slots before [] exchange all one = (one, tt)
 AreNumbered-push slots before (first ∷ exchanges) exchange all one = (all.0, AreNumbered-push slots (number_by before first.answer) exchanges exchange all.1 one)
 
--- ---- the stream that is open
+-- ---- the open stream
 
 pub AreWithin-push : (entries : ℕ) (before : Option Stream) (exchanges : List Exchange) (exchange : Exchange) → AreWithin entries before exchanges
     → laps.HasAtMost entries (stream_by (stream_from before exchanges) exchange.ask exchange.answer) → AreWithin entries before (exchanges ++ exchange ∷ [])

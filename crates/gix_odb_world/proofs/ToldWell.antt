@@ -1,4 +1,4 @@
--- What the handle of a query was told is true of the run: where the query begins, and after one event more.
+-- The answers to the handle of a query are true of the run: where the query begins, and after one more event.
 pub mod Numbers
 use Rattle.std.proofs.Common.{◌≡◌, ◌⊎◌, ℕ, ◌+◌, ◌<◌, ◌≤◌, true, List, [], ◌∷◌, ◌++◌, length, Contains, Some, None, Ok, inl, inr, refl, sym, ◌∙◌, ap, subst, arith}
 use Rattle.std.specs.Prelude.{unwrap_or}
@@ -67,7 +67,7 @@ use Rattle.gix_odb_world.proofs.ToldLemmas.{told_first, told_turn, view_first, v
 use Rattle.gix_odb_world.proofs.ToldLists.{AreAnswered-push, AreNumbered-push, AreWithin-push, among_more, last_among, nothing_among, number_after-push, one_of_more, within_last}
 use Rattle.gix_odb_world.proofs.ToldWell.Numbers.{numbers_rise}
 
--- a record that tells no call tells no failure
+-- a record that has no call has no failure
 pub no_failure : (did : Did) → NoCall did → ¬ (Fails did)
 no_failure Nothing none failed = failed
 no_failure (Disk op path failed) none fails = none
@@ -77,9 +77,9 @@ no_failure (Core store entry) none failed = failed
 low_state : (first : Volume) (events : List Event) (store : Store) (history : History) → IsOfStore first events store history → history.opening.state_id ≤ last_state
 low_state first events store history of = let same = ap (λ (s : Shape). s.state_id) of.opening in omega (arith, same)
 
--- ---- one event more
+-- ---- one more event
 
--- an exchange with the disk is none with a core, and tells what was asked and answered
+-- an exchange with the disk is none with a core, and has what was asked and answered
 no_event : (ask : DiskAsk) (event : CoreEvent) → ¬ (parts.Disk ask ≡ parts.Core event)
 no_event ask event is = cc is
 
@@ -104,7 +104,7 @@ module _ (first : Volume) (events : List Event) (e : Event) where
       most moment from (omega (arith, to, longer)) folder names listed_so
       (subst (λ tree. listed tree folder ≡ Ok names) (sym (tree_at-before first events e moment to)) is)
 
-  -- what the disk gave before it gave still
+  -- what the disk gave before it still gave
   pub given_later : (handle begun : ℕ) (ask : DiskAsk) (answer : DiskAnswer) → IsGiven first events handle begun ask answer → IsGiven first whole handle begun ask answer
   given_later handle begun ask answer given =
       let longer = count in
@@ -127,7 +127,7 @@ module _ (first : Volume) (events : List Event) (e : Event) where
       subst (λ cs. (core < length cs) × ((present (history_at (cores_after events) core)).list_no ≤ (present (history_at cs core)).list_no))
       (sym (cores_after-push events e ∙ ap (cores_after_asked (cores_after events)) is)) (numbers_rise (cores_after events) asked core within)
 
-  -- where a query is told nothing in an event, and no call of its failed in it, all stays true
+  -- where a query is answered nothing in an event, and no call of it failed in it, all stays true
   pub told_well_later : (handle : ℕ) (store : Store) (modes : Modes) (begun : ℕ) → told_since whole handle begun ≡ told_since events handle begun
       → (FailedSince whole handle begun → FailedSince events handle begun) → begun ≤ length events
       → IsToldWell first events handle store modes begun → IsToldWell first whole handle store modes begun
@@ -212,7 +212,7 @@ module _ (first : Volume) (events : List Event) (e : Event) where
     seen : view_then whole handle core begun ≡ view_then events handle core begun
     seen = view_kept events e handle begun knows.since core
 
-    -- what an exchange more has to show
+    -- what one more exchange has to show
     record IsToldTruly (exchange : Exchange) : Type 0 where
       truth : IsTrue (ShownSince first whole store) setting store.hash exchange.ask exchange.answer
       fitting : IsAnswerTo exchange.ask exchange.answer

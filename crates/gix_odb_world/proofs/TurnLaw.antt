@@ -57,7 +57,7 @@ changes_turn : (number : ℕ) (result : Result Reply Work) (change : Option Chan
 changes_turn number (Ok reply) change = tt
 changes_turn number (Err work) change = tt
 
--- something holds of a status, if it is one of work
+-- a property of running work, as one of a status
 abbrev OfWork : (Running → Type 0) → Status → Type 0
 OfWork P (Working running) = P running
 OfWork P status = Unit {0}
@@ -90,7 +90,7 @@ module _ (first : Volume) (events : List Event) (old : Course) (number : ℕ) (r
   abbrev pub made : Option Change
   made = change_asked old.disk ask
 
-  -- what the turn comes to
+  -- the reply of the turn, or the work that is left
   abbrev pub after : Result Reply Work
   after = fed_in running.store running.work (answered told)
 
@@ -124,7 +124,7 @@ module _ (first : Volume) (events : List Event) (old : Course) (number : ℕ) (r
 
     -- ---- its law
 
-    -- one in which nothing was asked has its reply
+    -- a turn in which nothing was asked has its reply
     ended : told ≡ OfNothing → (reply : Reply) × (after ≡ Ok reply)
     ended nothing =
         let end = end_of first events number running running.work runs.1 (told_nothing at old.disk ask nothing) in
@@ -166,7 +166,7 @@ module _ (first : Volume) (events : List Event) (old : Course) (number : ℕ) (r
           five = subst (ChangesAsAsked first events number running.store running.begun running.task ask) (sym change_is) (five_of first events number running running.task ask turns);
         }
 
-    -- what holds of the task holds of any that the same step set
+    -- what holds of the task holds of any that this step set
     of_task : (P : Task → Type 0) → P running.task → (task : Task) → BegunAs events number running.begun running.store task → P task
     of_task P here task began = subst P (one_task events number running.begun running.store running.task task stems.1.begins began) here
 

@@ -1,4 +1,4 @@
--- A turn takes the history of its world one event on.
+-- A turn adds one event to the history of its world.
 use Rattle.std.proofs.Common.{◌≡◌, ℕ, ◌+◌, Bool, true, false, List, [], ◌∷◌, ◌++◌, length, Some, None, Ok, Err, Option, Result, refl, sym, ◌∙◌, ap, subst, Vec, Global}
 use Rattle.std.specs.Prelude.{if◌then◌else◌, ◌==◌}
 use Rattle.odb_asks.specs.MemDisk.{Volume}
@@ -45,7 +45,7 @@ use Rattle.gix_odb_world.proofs.WatchLemmas.{keeps_made, turn_left}
 use Rattle.gix_odb_world.proofs.WorldLemmas.{matches_set}
 use Rattle.gix_odb_world.proofs.TurnLaw.{come, event, law, matches_next, runs_next}
 
--- a status after a turn that left its work so
+-- a status after a turn, by the reply or the work that is left
 abbrev next_from : Asked → Status → Result Reply Work → Status
 next_from asked status (Ok reply) = replied asked reply status
 next_from asked status (Err left) = turned asked status
@@ -64,7 +64,7 @@ set_twice : (b : Bool) (handle before : Option Seen) → (if b then handle else 
 set_twice true handle before = refl
 set_twice false handle before = refl
 
--- the handle of the code goes on as its modes do
+-- the handle of the code continues as its modes do
 handle_after : (store : Store) (modes : Modes) (state : HandleParts) (asked : Asked) → IsHandleOf store modes state
     → IsHandleOf store (modes_after asked modes) (state_after asked state)
 handle_after store modes state OfNothing own = own
@@ -189,7 +189,7 @@ module _ (old took mid new : Course) (disk : Volume) (cores : Vec History Global
   by_status (Resting store modes) is match = absurd (cc match.1)
   by_status (Working running) is match = let both : Some work ≡ Some running.work = match.1 in goes_at running is (sym (cc both)) match.0
 
--- what was kept after the turn, by what was told of its change before it
+-- what was kept after the turn, by what was judged of its change before it
 noted_by : (old took : Course) (number : ℕ) (shown : Kept) (revealed : Option Revealed) (change would : Option Change) → SetsHandle old took number None → change ≡ would
     → Fits old.shown (tree_of old.disk.state) → TellsChange old.shown.folders (tree_of old.disk.state) would revealed → ¬ (ShowsSecondBy old.shown (tree_of old.disk.state) would)
     → ((tree : Tree) → Fits took.shown tree → TellsChange took.shown.folders tree change revealed → (ShowsSecondBy took.shown tree change → ⊥) → NotesMade took.shown tree change shown)
@@ -200,7 +200,7 @@ noted_by old took number shown revealed change would takes same fits tells first
     (subst (λ c. TellsChange old.shown.folders (tree_of old.disk.state) c revealed) (sym same) tells)
     (λ second. first (subst (ShowsSecondBy old.shown (tree_of old.disk.state)) same second))
 
--- each history goes on by the turn
+-- each history gets one more event by the turn
 pub turned_on : (old took mid new : Course) (disk : Volume) (cores : Vec History Global) (shown : Kept) (number : ℕ) (state : HandleParts) (work : Work) (done : Carried) (outcome : Outcome)
     (handle : Option Seen) (revealed : Option Revealed)
     → handle_at old number ≡ Some (record { state = state; work = Some work }) → SetsHandle old took number None
@@ -250,7 +250,7 @@ pub keeps_turn : (old new : Course) (number : ℕ) (handle : Option Seen) (outco
     → KeepsTurn old new number handle outcome did change revealed
 keeps_turn old new number handle outcome did change revealed shown keeps settles = record { shown = shown; keeps = keeps; settles = settles }
 
--- what the code made of a turn of a handle is what the history has of it
+-- the result of the code's turn of a handle is what the history has of it
 pub takes_turn : (old new : Course) (number : ℕ) (handle : Seen) (ask : Option Ask) (change : Option Change) (revealed : Option Revealed) (disk : Volume) (cores : Vec History Global) (done : Done)
     → ask ≡ ask_by_handle (Some handle) → change ≡ change_asked old.disk ask
     → IsTree (tree_of old.disk.state)

@@ -1,4 +1,4 @@
--- What a lawful event tells of its step: one that isn't misused is valid, and keeps the rule of two contents.
+-- What a lawful event shows of its step: one that isn't misused is valid, and keeps the rule of two contents.
 use Rattle.std.proofs.Common.{◌≡◌, true, List, Option, Some, None, Result, Ok, Err, refl, sym, ◌∙◌, subst}
 use Rattle.std.specs.Result.{IfOk}
 use Rattle.odb_asks.specs.MemDisk.{Volume}
@@ -27,12 +27,12 @@ pub other_reason : (other : Option Why) (breaks : Type 0) (why : Why) → other 
 other_reason None breaks why is = absurd (cc is)
 other_reason (Some other) breaks why is = sym is
 
--- where no other reason holds, the rule of two contents is asked
+-- where no other reason holds, the rule of two contents decides
 pub by_rule : (other : Option Why) (breaks : Type 0) (why : Option Why) → other ≡ None → IsFirstReason None breaks why → IsFirstReason other breaks why
 by_rule None breaks why is by = by
 by_rule (Some other) breaks why is by = absurd (cc is)
 
--- a step that changes nothing has no reason but another one
+-- a step that changes nothing has no reason except another one
 pub reason_is : (other why : Option Why) → why ≡ other → IsFirstReason other ⊥ why
 reason_is None None is = λ breaks. breaks
 reason_is None (Some why) is = absurd (cc is)
@@ -42,7 +42,7 @@ pub if_reason_is : {E : Type 0} (answer : Result (Option Why) E) (other : Option
 if_reason_is (Ok why) other is = reason_is other why is
 if_reason_is (Err error) other is = tt
 
--- the first reason is the same by other words for each
+-- the first reason is the same for equivalent conditions
 pub same_reason : (other twin : Option Why) → other ≡ twin → (breaks does : Type 0) → (breaks → does) → (does → breaks) → (why : Option Why)
     → IsFirstReason other breaks why → IsFirstReason twin does why
 same_reason (Some other) (Some twin) same breaks does to from why is = is ∙ same

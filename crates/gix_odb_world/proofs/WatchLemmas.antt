@@ -113,7 +113,7 @@ pub keeps_none : (first : Volume) → IsTree (tree_of first.state) → Keeps (tr
 unfolding watched_from disk_after
 keeps_none first is_tree = keeps_nothing (tree_at first []) 0 is_tree
 
--- ---- one event more
+-- ---- one more event
 
 module _ (first : Volume) (events : List Event) (e : Event) where
   abbrev whole : List Event
@@ -144,7 +144,7 @@ module _ (first : Volume) (events : List Event) (e : Event) where
   this_tree : tree_at first whole now ≡ before
   this_tree = tree_at-before first events e now (omega arith) ∙ tree_now
 
-  -- what is kept tells of the next state, since what its event says
+  -- what is kept is right about the next state, given what its event says
   as_pushed : (kept : Kept) → Keeps (tree_at first whole) (watched_by (now + 1) e.step e.outcome (watched_after events)) (now + 1) kept
       → Keeps (tree_at first whole) (watched_after whole) (length whole) kept
   as_pushed kept k =
@@ -181,7 +181,7 @@ module _ (first : Volume) (events : List Event) (e : Event) where
       (λ trees since number is begun kept. subst (λ s. Keeps trees s number new) (sym (same number since)) (subst (Keeps trees since number) (sym noted) kept))
   keeps_made old new (Some change) k left same noted = keeps_changed old new change k left (same (now + 1) (watched_after events)) noted
 
--- what a turn that asked so leaves of the tree
+-- what a turn with this ask and answer leaves of the tree
 pub turn_left : (place : Stand) (disk : Volume) (ask : Option Ask)
     → IsLeft (tree_of disk.state) (tree_of (disk_after_asked disk (told_now place disk ask) (change_asked disk ask)).state) (change_asked disk ask)
 turn_left place disk None = refl
@@ -207,7 +207,7 @@ watches_first old mid new tree folder folders notes fits rest trees since now is
     rest trees (with_since since now folder) now is (begun_one since now folder begun)
     (keeps_watched trees since now folder old mid k (subst (λ t. Notes old (set.insert old.folders folder) t mid) (sym is) notes) (subst (Fits mid) (sym is) fits) begun)
 
--- and one more
+-- and one more folder
 watched_too-push : (since : Since) (now : ℕ) (folders : List Path) (folder : Path) → watched_too since now (folders ++ folder ∷ []) ≡ with_since (watched_too since now folders) now folder
 unfolding watched_too
 watched_too-push since now folders folder = fold_push (λ watched f. with_since watched now f) since folders folder

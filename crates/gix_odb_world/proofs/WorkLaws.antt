@@ -1,4 +1,4 @@
--- What holds of any work, since the machine that it is of keeps its laws.
+-- What holds of any work, since its machine keeps its laws.
 use Rattle.std.proofs.Common.{◌≡◌, ◌⊎◌, ℕ, List, Option, Some, None, Ok, Err, Result, refl, sym, ◌∙◌, ap}
 use Rattle.odb_asks.specs.MemDisk.{Volume}
 use Rattle.odb_asks.specs.declared.ask.DiskAsk.{DiskAsk}
@@ -32,7 +32,7 @@ pub code_asks : (store : Store) (modes : Modes) (code : HandleParts) → IsHandl
     → ask_on code work ≡ ask_in store work
 code_asks store modes code own work = ap (ask_on code) (sym (at work).is) ∙ (laws_at work).asks store modes code own (at work).state
 
--- and goes on as the work does
+-- and continues as the work does
 pub code_feeds : (store : Store) (modes : Modes) (code : HandleParts) → IsHandleOf store modes code → (work : Work) (answer : Option Answer)
     → result_in (fed_after code work answer) ≡ fed_in store work answer
 code_feeds store modes code own work answer =

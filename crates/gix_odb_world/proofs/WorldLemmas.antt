@@ -1,4 +1,4 @@
--- The table of a world's handles stands for what the handles do.
+-- The table of a world's handles represents what the handles do.
 use Rattle.std.proofs.Common.{◌≡◌, ℕ, zero, suc, ◌+◌, Bool, true, false, List, [], ◌∷◌, ◌++◌, length, take, Option, refl, sym, ap, ◌∙◌, subst, arith, inl, inr}
 use Rattle.std.specs.Prelude.{if◌then◌else◌, ◌==◌}
 use Rattle.std.proofs.lemmas.Bool.{cases_lt}
@@ -24,7 +24,7 @@ unfolding statuses_from
 throughout_none first zero handle = tt
 throughout_none first (suc now) handle = tt
 
--- nothing has happened in a world with no handles and no outcomes
+-- a world with no handles and no outcomes has an empty history
 pub explains_none : (world : Course) → IsTree (tree_of world.disk.state) → world.handles.entries ≡ [] → world.cores.items ≡ [] → world.shown ≡ nothing_kept → world.outcomes ≡ [] → world.records ≡ []
     → Explains world.disk [] world
 unfolding disk_after statuses_from cores_after
@@ -53,7 +53,7 @@ pub matches_set : (old new : Course) (table : ℕ → Status) (number : ℕ) (st
 matches_set old new table number status handle before sets here other =
     rw (sets other) (matches_either (other == number) status (table other) handle (handle_at old other) here (before other))
 
--- what held of each handle so far, and holds after one event more, holds throughout
+-- what held of each handle so far, and holds after one more event, holds throughout
 pub throughout-push : (first : Volume) (events : List Event) (e : Event) → RunsThroughout first events
     → ((handle : ℕ) → Runs first (events ++ e ∷ []) handle (status_of (events ++ e ∷ []) handle)) → RunsThroughout first (events ++ e ∷ [])
 throughout-push first events e before here now handle within = elim (cases_lt (length events) now) [

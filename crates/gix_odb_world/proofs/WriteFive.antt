@@ -144,6 +144,6 @@ module _ (first : Volume) (events : List Event) (handle : ℕ) (running : Runnin
         one = five;
       }))
 
-  -- so does a running write
+  -- as does a running write
   pub five_written : ChangesInTask first events handle running.store running.begun (MakeCall (call_to_write w)) (ask_at_stage w stage) (change_by now (ask_at_stage w stage))
   five_written = by_change (change_by now (ask_at_stage w stage)) (five_at first events handle running.begun writes.own now w stage writes.fits writes.stands)

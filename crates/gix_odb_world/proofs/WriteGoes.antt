@@ -1,4 +1,4 @@
--- A turn of a running write takes it on, or to its reply, whatever comes in front of it.
+-- A turn of a running write leads it on, or to its reply, whatever comes before it.
 use Rattle.std.proofs.Common.{◌≡◌, ℕ, ◌+◌, ◌*◌, ◌<◌, ◌≤◌, List, [], ◌∷◌, ◌++◌, length, Result, Ok, Err, refl, sym, ap, ◌∙◌, subst, arith}
 use Rattle.odb_asks.specs.Ask.{answer_now}
 use Rattle.odb_asks.specs.MemDisk.{Volume}
@@ -48,16 +48,16 @@ use Rattle.gix_odb_world.proofs.WriteTurn.Comes.{Goes}
 abbrev job_at : ToWrite → WriteStage → WriteJob
 job_at w stage = record { head = head_to_write w; stage = stage; bytes = w.bytes; hash = w.hash; known = w.known }
 
--- The most calls of the disk of a write beside those of its pieces: one for each temporary name, and some more. It is the measure of
+-- The most calls of the disk of a write besides those of its pieces: one for each temporary name, and some more. It is the measure of
 -- the calls that are left to a write of no bytes at its beginning.
 abbrev calls_beside_pieces : ℕ
 calls_beside_pieces = writes_left 0 (wants.Disk (Making 0))
 
--- they are fewer than the bound has for them, and it has one turn for each piece too, and laps for what stands in front
+-- they are fewer than the bound has for them, and it has one turn for each piece too, and laps for the refresh before it
 few_writes : (front turns pieces laps : ℕ) → front ≤ laps → turns + 1 ≤ calls_beside_pieces + pieces → (front + turns) + 1 < laps + (turns_beside_pieces + pieces)
 few_writes front turns pieces laps lead few = omega arith
 
--- the laps of a call are one at least
+-- a call has at least one lap
 pub more_laps : (changes lap : ℕ) → lap ≤ (changes + laps_without_change) * lap
 more_laps changes lap =
     let one : 1 ≤ changes + laps_without_change = omega arith in
@@ -65,7 +65,7 @@ more_laps changes lap =
     let both : 1 * lap ≤ (changes + laps_without_change) * lap = mul-le-mul one same in
     omega (arith, both)
 
--- ---- the whole turn, whatever comes in front of the write
+-- ---- the whole turn, whatever comes before the write
 
 module _ (first : Volume) (events : List Event) (e : Event) (handle : ℕ) (running : Running) (since : running.begun ≤ length events) where
   abbrev whole : List Event
@@ -75,7 +75,7 @@ module _ (first : Volume) (events : List Event) (e : Event) (handle : ℕ) (runn
     abbrev w : ToWrite
     w = writes.write
 
-    -- a write that goes on has had a turn of its own more, and not too many
+    -- a write that goes on has had one more turn of its own, and not too many
     pub record StageComes (next : LooseCall) : Type 0 where
       pub now : IsWriting first whole handle (gone_on (OfDisk (ask_at_stage w writes.stage) (answer_now (disk_after first events) (ask_at_stage w writes.stage))) running (Calling (Writing next))) next
       pub same : now.write ≡ w
@@ -114,7 +114,7 @@ module _ (first : Volume) (events : List Event) (e : Event) (handle : ℕ) (runn
           subst (λ (f : LooseCall). WriteComes (result_of_write (loose_order.fed f given))) (sym writes.is)
           (onward_comes (next_in (job_at w writes.stage) given) (stage_goes turn writes.stage writes.stands is given refl))
 
-  -- ---- behind what stood in front of it
+  -- ---- after the refresh before it
 
   module _ (call : LooseCall) (at : IsAtOwnWrite first events handle running call) (is : IsTurnWith first events e handle (ask_at_stage at.writing.write at.writing.stage)) where
     abbrev own : IsWriting first events handle running call
@@ -135,7 +135,7 @@ module _ (first : Volume) (events : List Event) (e : Event) (handle : ℕ) (runn
     more : told_since whole handle running.begun ≡ told_since events handle running.begun ++ told ∷ []
     more = told_turn events e handle running.begun at.since is.turn (OfDisk ask (answer_now (disk_after first events) ask)) is.asked told refl
 
-    -- what stood in front of it is ready still, and took no more turns
+    -- the refresh before it is still ready, and took no more turns
     ready : IsReady (refresh_now whole handle running.store running.modes running.begun)
     ready =
         subst IsReady

@@ -26,7 +26,7 @@ use Rattle.gix_odb_world.specs.Running.Write.{HoldsFile, Holds, IsUntouched, Sta
 use Rattle.gix_odb_runs.specs.Writing.{AskedAt, AskedSince, ChangedNothing, EachTurn, IsNewFile, IsRename, LeftAlone, ToWrite, head_to_write}
 use Rattle.gix_odb_world.proofs.HistoryLemmas.{slice_get-push, slice_get-last, slice_get-kept, tree_at-before}
 
--- ---- one event more
+-- ---- one more event
 
 module _ (first : Volume) (events : List Event) (e : Event) where
   abbrev whole : List Event
@@ -75,7 +75,7 @@ module _ (first : Volume) (events : List Event) (e : Event) where
       (subst (λ (u : Tree). SameOnWay (tree_at first whole place) u true path) new
       (alone place x later (omega (arith, within, long)) (slice_get-kept events e place x there) other))
 
-  -- and so did the last one
+  -- as did the last one
   pub alone_now : (handle : ℕ) (path : Path) (from : ℕ) → from ≤ length events → ¬ (IsTurnOf handle e)
       → LeftAlone first whole handle path from (length whole)
       → SameOnWay (tree_at first events (length events)) (tree_at first whole (length events + 1)) true path
@@ -83,7 +83,7 @@ module _ (first : Volume) (events : List Event) (e : Event) where
       subst (λ (t : Tree). SameOnWay t (tree_at first whole (length events + 1)) true path) (tree_at-before first events e (length events) (omega arith))
       (alone (length events) e soon (omega (arith, length_push events e)) (slice_get-last events e) other)
 
-  -- a file that nobody touched is there still
+  -- a file that nobody touched is still there
   holds_kept : (handle begun : ℕ) (path : Path) (bytes : List ℕ) → ¬ (IsTurnOf handle e) → HoldsFile first events handle begun path bytes
       → HoldsFile first whole handle begun path bytes
   holds_kept handle begun path bytes other h =
@@ -115,7 +115,7 @@ each_turn_push events e handle begun Q each here place x later there turn =
       | inr last ↦ subst Q last.1 (here (subst (λ (y : Event). IsTurnOf handle y) (sym last.1) turn))
     ]
 
--- there is none in a call that begins with the last event
+-- there is no turn yet in a call that begins with the last event
 pub each_turn_none : (events : List Event) (handle begun : ℕ) (Q : Event → Type 0) → length events ≤ begun → EachTurn events handle begun Q
 each_turn_none events handle begun Q short place x later there turn = absurd (omega (arith, short, later, slice_get_within events place x there))
 
@@ -148,7 +148,7 @@ pub unchanged_push : (events : List Event) (e : Event) (handle begun : ℕ) → 
     → ChangedNothing (events ++ e ∷ []) handle begun
 unchanged_push events e handle begun unchanged here = each_turn_push events e handle begun (λ x. x.entry.change ≡ None) unchanged here
 
--- what a write knows stands over an event that isn't its turn, whatever came in front of it
+-- what a write knows still holds after an event that isn't its turn, whatever came before it
 pub stands_push : (first : Volume) (events : List Event) (e : Event) (handle begun own : ℕ) (w : ToWrite) (stage : WriteStage)
     → ¬ (IsTurnOf handle e)
     → StandsAt first events handle begun own w stage → StandsAt first (events ++ e ∷ []) handle begun own w stage

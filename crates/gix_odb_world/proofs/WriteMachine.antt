@@ -66,7 +66,7 @@ own_placed : (result : Result Reply LooseCall) → calling_result (writing_resul
 own_placed (Ok reply) = refl
 own_placed (Err call) = refl
 
--- what the code of a write comes to by what stands in front of it then
+-- the result of a write's code by the refresh before it
 front_placed : (call : LooseCall) (step : RefreshStep) → calling_result (calls.result_of (fronted step call)) ≡ placed writing (front_result call step)
 front_placed call (fronts.More refresh) = refl
 front_placed call (fronts.Read view) = own_placed (result_of_write call)
@@ -149,7 +149,7 @@ write_happens first events handle running (InFront refresh call) knows event is 
 write_happens first events handle running (Own call) knows event is shape seat = absurd (no_event (disk_ask_of call) event is)
 write_happens first events handle running (Unlisted error) knows event is shape seat = absurd knows
 
--- what a turn of what stands in front comes to, by what it asks for
+-- how a turn of the refresh before it ends, by what it asks for
 module _ (first : Volume) (events : List Event) (e : Event) (handle : ℕ) (running : Running) (refresh : Refresh) (call : LooseCall) where
   abbrev FrontComes : Option Ask → Type 0
   FrontComes asked =

@@ -31,7 +31,7 @@ use Rattle.gix_odb_world.proofs.WriteTurn.Naming.{foldering, moving, removing}
 abbrev pub ask_at_stage : ToWrite → WriteStage → DiskAsk
 ask_at_stage w stage = write_ask (head_to_write w) (piece_of w.size w.bytes (written_in stage)) stage
 
--- what a write has done that stands at a stage
+-- what a write has done that is at a stage
 pub done_at : (first : Volume) (events : List Event) (handle begun turns : ℕ) (w : ToWrite) (stage : WriteStage) (s : StandsAt first events handle begun turns w stage)
     → HasDone (job_to_write w) stage s.past
 done_at first events handle begun turns w stage s = IsAlong-done (head_to_write w) (w.hash) w.known w.bytes (Stage stage) s.past s.along
@@ -51,7 +51,7 @@ module _ (t : TurnOfWrite) where
   parts_at (stages.Moving number id) s is answer given = moving t number id s is answer given
   parts_at (stages.Removing number refusal) s is answer given = removing t number refusal s is answer given
 
-  -- A write that stands at a stage knows as much after the answer, or its end keeps its promise.
+  -- A write that is at a stage knows as much after the answer, or its end keeps its promise.
   pub stage_goes : (stage : WriteStage) (s : Stands t stage) (is : Makes t (ask_at_stage w stage)) (answer : DiskAnswer) (given : answer ≡ answer_now disk (ask_at_stage w stage))
       → Goes t (call_at t stage s (ask_at_stage w stage) is answer given) (next_in (record (job_to_write w) { stage = stage }) answer)
   stage_goes stage s is answer given =

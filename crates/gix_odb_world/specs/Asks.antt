@@ -1,4 +1,4 @@
--- Which call of the disk or event of a core a turn makes, by the task of its handle and the turns that its work has had before.
+-- Which call of the disk or event of a core a turn makes, by the task of its handle and the number of turns that its work has had before.
 use Rattle.std.specs.Prelude.{◌≡◌, ◌⊎◌, ℕ, ◌+◌, ◌*◌, ◌<◌, ◌≤◌, List, length, Option, Some, None}
 use Rattle.odb_asks.specs.MemDisk.{Volume}
 use Rattle.odb_asks.specs.declared.ask.DiskAsk.{DiskAsk}
@@ -24,22 +24,22 @@ use Rattle.gix_odb_world.specs.Status.{Store, MakeCall, OpenStore, Task}
 use Rattle.gix_odb_world.specs.Told.{look_now, opening_now, refresh_now, turns_in_front}
 use Rattle.gix_odb_runs.specs.Writing.{DoneSince, ToWrite, name_to_write, to_write}
 
--- Work behind so many turns of its task asks so in its own turns, which are counted from 0.
+-- After `front` turns of other work, a task asks as `Asks` says by the number of its own turns, which are counted from 0.
 pub record AsksBehind (front turns : ℕ) (Asks : (own : ℕ) → Type 0) : Type 0 where
   pub own : ℕ
   pub turn : turns ≡ front + own
   pub asks : Asks own
 
--- What an opening asks for: what its order of work asks for behind all that its handle was told since it began.
+-- What an opening asks for: what its order of work asks for after all answers to its handle since it began.
 abbrev pub AsksAsOpening : List Event → (handle : ℕ) → Store → (begun : ℕ) → Ask → Type 0
 AsksAsOpening past handle store begun ask = openings.ask_of store.parts.objects store.parts.folders (opening_now past handle store begun) ≡ Some ask
 
--- What stands in front of a write asks for: what the order of work of refreshes asks for behind all that the handle was told since the write
+-- What the refresh before a write asks for: what the order of work of refreshes asks for after all answers to the handle since the write
 -- began.
 abbrev pub AsksAsRefresh : List Event → (handle : ℕ) → Store → (modes : Modes) → (begun : ℕ) → Ask → Type 0
 AsksAsRefresh past handle store modes begun ask = refreshes.asked_of (refresh_now past handle store modes begun) ≡ Some ask
 
--- What a query asks for: what the order of work of look-ups asks for behind all that the handle was told since the query began.
+-- What a query asks for: what the order of work of look-ups asks for after all answers to the handle since the query began.
 abbrev pub AsksAsLook : List Event → (handle : ℕ) → Store → (modes : Modes) → (begun : ℕ) → Query → Option Ask → Type 0
 AsksAsLook past handle store modes begun query ask = ask_of (look_now past handle store modes begun query) ≡ ask
 
@@ -64,7 +64,7 @@ pub data AsksToWrite (first : Volume) (past : List Event) (handle begun own : �
   Removes : (number : ℕ) (made : HasMadeFile first past handle begun w number)
       → AsksToWrite first past handle begun own w (asks.Remove (temp_path w.objects number))
 
--- Which call of the disk a write makes that has had so many turns: what stands in front of it makes calls until the store's list was read, and then
+-- Which call of the disk a write makes that has had so many turns: the refresh before it makes calls until the store's list is read, and then
 -- come its own turns, which are counted from there.
 abbrev pub AsksAsWrite : Volume → List Event → (handle : ℕ) → Store → (modes : Modes) → (begun turns : ℕ) → ToWrite → DiskAsk → Type 0
 AsksAsWrite first past handle store modes begun turns w ask =
@@ -72,7 +72,7 @@ AsksAsWrite first past handle store modes begun turns w ask =
     ⊎ (IsReady (refresh_now past handle store modes begun)
     × AsksBehind (turns_in_front past handle store modes begun) turns (λ own. AsksToWrite first past handle begun own w ask))
 
--- Which call of the disk a turn makes, where its handle has had so many turns since the step that set its task: an opening looks at the
+-- Which call of the disk a turn makes, where its handle has had so many turns since the step that set its task: an opening stats the
 -- objects directory and then lists the folders of packs, where it is to count the indices; a query makes the one that its look-up asks for.
 abbrev pub AsksInOrder : Volume → List Event → (handle : ℕ) → Store → (modes : Modes) → (begun turns : ℕ) → Task → DiskAsk → Type 0
 AsksInOrder first past handle store modes begun turns OpenStore ask = AsksAsOpening past handle store begun (parts.Disk ask)
@@ -82,21 +82,21 @@ AsksInOrder first past handle store modes begun turns (MakeCall call) ask =
     (λ kind size bytes known. AsksAsWrite first past handle store modes begun turns (to_write store.parts.objects store.hash kind size bytes known) ask)
     call
 
--- How many slots and folders a task may ask for in a core for its store: an opening asks for the slots that its order of work comes to, behind all
--- that its handle was told since it began, and for the folders of the store.
+-- How many slots and folders a task may ask for in a core for its store: an opening asks for the slots that its order of work needs, after all
+-- answers to its handle since it began, and for the folders of the store.
 abbrev pub MayAskNewCore : List Event → (handle : ℕ) → Store → (begun : ℕ) → Task → (slots folders : ℕ) → Type 0
 MayAskNewCore past handle store begun OpenStore slots folders =
     AsksAsOpening past handle store begun (parts.NewCore slots folders) × (slots ≤ most_slots) × (folders ≡ length (folder_list store.parts))
 MayAskNewCore past handle store begun (MakeCall call) slots folders = ⊥
 
--- Whether a task may end in a turn that asks for nothing: a query does whose look-up is done, since the snapshot had all that it took.
+-- Whether a task may end in a turn that asks for nothing: a query may whose look-up is done, since the snapshot had all that was needed.
 abbrev pub MayEndUnasked : List Event → (handle : ℕ) → Store → (modes : Modes) → (begun : ℕ) → Task → Type 0
 MayEndUnasked past handle store modes begun OpenStore = ⊥
 MayEndUnasked past handle store modes begun (MakeCall call) =
     by_call (λ query. AsksAsLook past handle store modes begun query None) (λ kind size bytes known. ⊥) call
 
--- Which event of the core of its store a task may ask for: a query asks for the one that its look-up asks for, a write for the one that what stands
--- in front of it asks for.
+-- Which event of the core of its store a task may ask for: a query asks for the one that its look-up asks for, a write for the one that the
+-- refresh before it asks for.
 abbrev pub MayAskCore : List Event → (handle : ℕ) → Store → (modes : Modes) → (begun : ℕ) → Task → CoreEvent → Type 0
 MayAskCore past handle store modes begun OpenStore event = ⊥
 MayAskCore past handle store modes begun (MakeCall call) event =

@@ -12,8 +12,8 @@ use Rattle.gix_odb_runs.specs.Cores.{or_before}
 use Rattle.gix_odb_runs.specs.Event.{Asked, OfCore, OfDisk, OfNewCore, OfNothing}
 use Rattle.gix_odb_world.specs.Work.{Work}
 
--- a store that was opened, or whose opening runs: the number of its open step, how many slots it was to have, the hash of its ids, the most
--- changes of the list that a call bears, and its parts
+-- a store that was opened, or whose opening runs: the number of its open step, how many slots it was to have, the hash of its ids, the number of
+-- changes of the list that a call tolerates, and its parts
 pub record Store : Type 0 where
   pub opened : ℕ
   pub slots : Slots
@@ -21,7 +21,7 @@ pub record Store : Type 0 where
   pub max_changes : ℕ
   pub parts : StoreData
 
--- what a look-up is told of a store
+-- the setting of a look-up in a store
 abbrev pub setting_in : Store → Setting
 setting_in store = record { objects = store.parts.objects; folders = store.parts.folders; limit = store.parts.limit; most = store.max_changes }
 
@@ -30,8 +30,8 @@ pub data Task : Type 0 where
   OpenStore : Task
   MakeCall : (call : Call) → Task
 
--- What a handle has of its own: its modes, which are whether it ignores replacements, and a further mode is one more field; and of the
--- core of its store the core's number, how many slots it was made with, and its snapshot, which is the view that the core last handed over to
+-- What a handle has of its own: its modes, which are whether it ignores replacements (another mode is one more field); and of the
+-- core of its store the core's number, how many slots it was made with, and its snapshot, which is the view that the core last passed to
 -- it. Before its opening registered it there it has number 0, no slots and no snapshot.
 pub record Modes : Type 0 where
   pub ignoring : Bool
@@ -39,19 +39,19 @@ pub record Modes : Type 0 where
   pub slots : ℕ
   pub view : Option View
 
--- what a handle sees in these: its snapshot, if it has one
+-- what a handle sees in these modes: its snapshot, if it has one
 abbrev pub view_in_modes : Modes → View
 view_in_modes modes = unwrap_or modes.view unseen
 
--- those of a handle whose store is opened
+-- the modes of a handle whose store was just opened
 abbrev pub modes_at_opening : Modes
 modes_at_opening = record { ignoring = false; core = 0; slots = 0; view = None }
 
--- those of a handle that ignores replacements from now on
+-- the modes of a handle that ignores replacements from now on
 abbrev pub now_ignoring : Modes → Modes
 now_ignoring modes = record modes { ignoring = true }
 
--- those after an event that asked so
+-- the modes after an event that asked this
 abbrev pub modes_after : Asked → Modes → Modes
 modes_after OfNothing modes = modes
 modes_after (OfDisk ask answer) modes = modes

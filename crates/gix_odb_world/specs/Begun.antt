@@ -1,4 +1,4 @@
--- From which steps a handle has its task, its store and its mode, and how many turns it took since.
+-- From which steps a handle has its task, its store and its mode, and how many turns it took since then.
 use Rattle.std.specs.Prelude.{◌≡◌, ◌⊎◌, take, ◌↔◌, ℕ, ◌+◌, ◌≤◌, true, List, count_by, drop, slice_get, Some}
 use Rattle.odb_base.specs.Path.{Path}
 use Rattle.gix_hash.specs.declared.kind.Kind.{Kind as HashKind}
@@ -34,7 +34,7 @@ pub record OpenedBy (events : List Event) (handle begun : ℕ) (store : Store) :
   pub replacements : List (ObjectId × ObjectId)
   pub options : Options
   pub opens : event.step ≡ steps.Open handle path folders hash replacements options
-  -- the store has what the step handed in
+  -- the store has what the step passed
   pub slots : store.slots ≡ options.slots
   pub hash_is : store.hash ≡ hash
   pub changes : store.max_changes ≡ options.max_changes

@@ -11,18 +11,18 @@ use Rattle.gix_odb_looks.specs.Laps.{turns_of_lap}
 use Rattle.gix_odb.specs.Contents.{StoreData, folder_list}
 use Rattle.gix_odb_world.specs.AtWork.{Modes, Store, Task, OpenStore, MakeCall}
 
--- ---- the numbers beside those of a lap, which is one way through all that a store's list names, and through its folders
+-- ---- the numbers besides those of a lap, which is one way through all that a store's list names, and through its folders
 
--- the laps that no change of the list causes: the first, and the one that finds the list as it was
+-- the laps that no change of the list causes: the first, and the one that finds the list unchanged
 abbrev pub laps_without_change : ℕ
 laps_without_change = 2
 
--- The turns of a write beside those of its pieces. It takes fewer: one for each of its `temp_names`, and one each for its header, its
+-- The turns of a write besides those of its pieces. It takes fewer: one for each of its `temp_names`, and one each for its header, its
 -- directory, its rename and the removal of its file.
 abbrev pub turns_beside_pieces : ℕ
 turns_beside_pieces = 40
 
--- the most changes of the list that a call may be told to bear: the bound is a number of 128 bits then
+-- the most changes of the list that a call may be set to tolerate: the bound is a number of 128 bits then
 abbrev pub most_changes : ℕ
 most_changes = 1000000
 
@@ -33,7 +33,7 @@ abbrev pub turns_of_write : Option ℕ → ℕ
 turns_of_write None = 0
 turns_of_write (Some bytes) = turns_beside_pieces + pieces_of bytes
 
--- the bound for a store with so many slots and folders, so many changes of the list that a call bears,
+-- the bound for a store with so many slots and folders, so many changes of the list that a call tolerates,
 -- and at most so many entries in a folder that it lists
 abbrev pub turn_bound : ℕ → ℕ → ℕ → ℕ → Option ℕ → ℕ
 turn_bound slots folders max_changes entries write =
@@ -60,8 +60,8 @@ abbrev pub bytes_to_write : Call → Option ℕ
 bytes_to_write (Write kind size bytes known) = Some (length bytes)
 bytes_to_write call = None
 
--- the bound of a call of a handle of a store that is to write so many bytes, if it is a write: the slots are those of the store's core, and it
--- bears the changes that its store was opened with
+-- the bound of a call of a handle of a store, with so many bytes if it is a write: the slots are those of the store's core, and the call
+-- tolerates the changes that its store was opened with
 abbrev pub bound_of_call : Store → Modes → (entries : ℕ) → (bytes : Option ℕ) → ℕ
 bound_of_call store modes entries bytes = turn_bound modes.slots (length (folder_list store.parts)) store.max_changes entries bytes
 

@@ -35,9 +35,9 @@ IsDirectoryMeta (Err refusal) = ⊥
 abbrev pub ShowsDirectory : Tree → Path → Type 0
 ShowsDirectory tree path = IsDirectoryMeta (looked tree path true)
 
--- What each error of an opening says, where `Failed` says that a call of the disk failed in the opening, and where its handle was told so since it
--- began. The slots that are too many are those that were given, or as many as the indices of the listing ask for. A store can't be listed where
--- a call of the disk failed, or a folder of packs is none.
+-- What each error of an opening says, where `Failed` says that a call of the disk failed in the opening, and `told` are the answers to its handle
+-- since it began. The slots that are too many are those that were given, or as many as the listed indices need. A store can't be listed where
+-- a call of the disk failed, or where a folder of packs is no directory.
 abbrev pub OpeningCause : (ℕ → Tree) → Type 0 → (told : List Exchange) → Store → ℕ → ℕ → opening.Error → Type 0
 OpeningCause trees Failed told store begun now opening_errors.NotADirectory = Sometime begun now (λ moment. ¬ ShowsDirectory (trees moment) store.parts.objects)
 OpeningCause trees Failed told store begun now (opening_errors.TooManySlots asked) =
@@ -46,7 +46,7 @@ OpeningCause trees Failed told store begun now opening_errors.Io = Failed
 OpeningCause trees Failed told store begun now (opening_errors.LoadIndex error) = openings.IsCaused (setting_in store) store.slots told (opening_errors.LoadIndex error)
 OpeningCause trees Failed told store begun now opening_errors.NoMemory = ⊥
 
--- a read of a path gave so much at some moment of a call
+-- a read of a path had this result at some moment of a call
 abbrev pub GaveSometime : (ℕ → Tree) → ℕ → ℕ → Path → Reading → Type 0
 GaveSometime trees begun now path read = Sometime begun now (λ moment. read ≡ read_of (trees moment) path)
 
@@ -56,9 +56,9 @@ pub record LooseCause (trees : ℕ → Tree) (Failed : Type 0) (store : Store) (
   pub among : Contains (folder_list store.parts) folder
   pub cause : Cause (job_of want id) (loose_path folder id) store.parts.limit (GaveSometime trees begun now (loose_path folder id)) Failed ⊥ error
 
--- What each error of a query says, where `Failed` says that a call of the disk failed in it, `Refused` which refusals of its core it was told
--- of, and where the handle was told so since it began: an error of the loose objects of a folder was given by what these read; one of the core
--- by a refusal; any other one by what was shown since the store was opened, or by what was asked and answered.
+-- What each error of a query says, where `Failed` says that a call of the disk failed in it, `Refused` which refusals its core answered,
+-- and `told` are the answers to the handle since it began: an error of the loose objects of a folder was caused by what these read; one of the
+-- core by a refusal; any other one by what was shown since the store was opened, or by what was asked and answered.
 abbrev pub FindCause : (ℕ → Tree) → Type 0 → (Refused : CoreRefusal → Type 0) → (told : List Exchange) → Store → ℕ → ℕ → Want → ObjectId → finding.Error → Type 0
 FindCause trees Failed Refused told store begun now want id (find_errors.Loose error) = LooseCause trees Failed store begun now want id error
 FindCause trees Failed Refused told store begun now want id (find_errors.LoadIndex error) =

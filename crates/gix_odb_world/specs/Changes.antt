@@ -30,7 +30,7 @@ change_applied (steps.Disk change) = Some change
 change_applied step = None
 
 -- The change that a record has: that of an applied step, and in a turn that isn't misused that of its call of the disk, which the
--- order of work tells.
+-- order of work determines.
 abbrev pub ChangesAs : Step → Outcome → Option Change → Type 0
 ChangesAs step outcomes.Applied made = made ≡ change_applied step
 ChangesAs step outcomes.Pending made = Unit {0}
@@ -38,7 +38,7 @@ ChangesAs step (outcomes.Reply reply) made = Unit {0}
 ChangesAs step (outcomes.Misuse why) made = made ≡ None
 
 -- One of the five changes of a write into an objects directory, whose temporary path has a number, and whose object an id:
--- an empty file with time 0 at the spot of the temporary path; at most one piece more in the file to which that path leads; the
+-- an empty file with time 0 at the spot of the temporary path; at most one more piece in the file to which that path leads; the
 -- directory of the object; a rename from the spot of the temporary path to that of the object's path; the removal of the spot of the
 -- temporary path. No write puts a link or sets a time.
 abbrev pub IsOneOfFive : Tree → Path → (number : ℕ) → ObjectId → Change → Type 0
@@ -58,14 +58,14 @@ pub record ChangesInWrite (first : Volume) (past : List Event) (handle begun : �
   pub own : (ask ≡ asks.NewFile (temp_path w.objects number)) ⊎ DoneSince first past handle begun (asks.NewFile (temp_path w.objects number))
   pub one : IsOneOfFive (tree_of (disk_after first past).state) w.objects number (name_to_write w) change
 
--- a turn changes the tree in a write alone
+-- a turn changes the tree only in a write
 abbrev pub ChangesInTask : Volume → List Event → (handle : ℕ) → Store → (begun : ℕ) → Task → DiskAsk → Option Change → Type 0
 ChangesInTask first past handle store begun task ask None = Unit {0}
 ChangesInTask first past handle store begun (MakeCall (Write kind size bytes known)) ask (Some change) =
     ChangesInWrite first past handle begun (to_write store.parts.objects store.hash kind size bytes known) ask change
 ChangesInTask first past handle store begun task ask (Some change) = ⊥
 
--- the same of what a turn asks for, if it asks for anything: only a call of the disk changes the tree
+-- a turn changes the tree as its ask does, if it asks for anything: only a call of the disk changes the tree
 abbrev pub ChangesAsAsked : Volume → List Event → (handle : ℕ) → Store → (begun : ℕ) → Task → Option Ask → Option Change → Type 0
 ChangesAsAsked first past handle store begun task None change = change ≡ None
 ChangesAsAsked first past handle store begun task (Some (work_asks.Disk ask)) change = ChangesInTask first past handle store begun task ask change

@@ -32,14 +32,14 @@ pub record WasShownRow (trees : ℕ → Tree) (setting : Setting) (begun now : �
   pub index : Sometime begun now (λ moment. IsFileOf (trees moment) row)
   pub pack : Sometime begun now (λ moment. (bytes : List ℕ) × ShowsFile (trees moment) (pack_path row.path) bytes)
 
--- The files that were counted from `begun` to `now`: their paths are different, each was shown, and where one tree stood at every moment, they are
--- all of its listed files, in the order in which they are tried.
+-- The files that were counted from `begun` to `now`: their paths are different, each was shown, and where the tree was the same at every moment, they
+-- are all of its listed files, in the order in which they are tried.
 pub record AreCounted (trees : ℕ → Tree) (setting : Setting) (begun now : ℕ) (rows : List ListingRow) : Type 0 where
   pub different : HasDifferentPaths rows
   pub shown : All (WasShownRow trees setting begun now) rows
   pub of_tree : (tree : Tree) → Throughout begun now (λ moment. trees moment ≡ tree) → rows ≡ longest_first (listed_in tree (folders_of setting))
 
--- the number of slots that was given, or the one for as many files as were counted by what the handle of the opening was told
+-- the number of slots that was given, or the one for as many files as were counted by the answers to the handle of the opening
 abbrev pub IsCountedNumber : (ℕ → Tree) → Setting → (told : List Exchange) → (begun now : ℕ) → Slots → ℕ → Type 0
 IsCountedNumber trees setting told begun now (Given slots) number = number ≡ slots
 IsCountedNumber trees setting told begun now (AsNeededByDiskState percent minimum) number =

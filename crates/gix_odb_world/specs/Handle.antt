@@ -1,4 +1,4 @@
--- What a handle of the code has and is at, how it stands for a store, and how its opening begins.
+-- What a handle of the code has and is at, how it represents a store, and how its opening begins.
 use Rattle.std.specs.Prelude.{◌≡◌, ℕ, Bool, true, false, List, Option, Some, None, unwrap_or}
 use Rattle.std.specs.BTreeMap.{get}
 use Rattle.odb_base.specs.Path.{Path}
@@ -53,7 +53,7 @@ seen_at core (stands.Calling call) = record { state = parts_of core call.handle;
 abbrev pub seen : Handle → Seen
 seen handle = seen_at handle.core handle.at
 
--- ---- what a look-up and a query are told of it
+-- ---- what a look-up and a query take from it
 
 abbrev pub setting_at : HandleParts → Setting
 setting_at handle = record {

@@ -1,6 +1,6 @@
 -- What is promised of every run: for every disk, options and list of steps there is one outcome for each step;
--- what is found was held by the store's files, a not-found means that no sound object lay still, a write names its
--- object last and changes nothing else of the tree than five changes tell, each call ends within its bound, and each
+-- what is found was held by the store's files, a not-found means that no sound object stayed unchanged throughout, a write
+-- gives its object its name last and makes only five kinds of changes to the tree, each call ends within its bound, and each
 -- error has its cause.
 use Rattle.std.specs.Prelude.{◌≡◌, false, ℕ, All, ◌+◌, ◌<◌, List, [], ◌∷◌, ◌++◌, map, length, take, slice_get, Option, Some, Result, Ok, Err}
 use Rattle.odb_base.specs.Path.{Path}
@@ -39,7 +39,7 @@ use Rattle.gix_odb_world.specs.Asks.{AsksAsTask}
 use Rattle.gix_odb_world.specs.Bound.{HasAtMost, bound_of_task}
 use Rattle.gix_odb_world.specs.Promise.{Promise}
 
--- a turn; no other step takes a call on
+-- a turn; no other step continues a call
 abbrev pub IsTurn : Step → Type 0
 IsTurn (steps.Turn handle) = Unit {0}
 IsTurn step = ⊥
@@ -71,12 +71,12 @@ abbrev pub FailsAsListed : Volume → Asked → Type 0
 FailsAsListed disk (OfDisk ask answer) = has_failed answer ≡ fails_now disk ask
 FailsAsListed disk asked = Unit {0}
 
--- A record tells the call of the disk that its event made, or the event of a core, or that it made neither. Of a call on an open stream,
+-- A record has the call of the disk that its event made, or the event of a core, or says that it made neither. For a call on an open stream,
 -- `asked` of `Works` says which path it has.
 abbrev pub TellsAsked : List History → Asked → Did → Type 0
 TellsAsked cores asked did = (opened : Option Path) × (did ≡ did_of_asked opened cores asked)
 
--- What a step asks that was applied, by what a handle did before: a close removes its handle from the core of its store, a clone
+-- What an applied step asks for, by the status of a handle: a close removes its handle from the core of its store, a clone
 -- registers its handle there, as one that isn't stable, and no other step asks for anything.
 abbrev pub asked_by_close : List History → (handle : ℕ) → Status → Asked
 asked_by_close cores handle (Resting store modes) = OfCore modes.core handle core_events.Remove (answer_behind (history_at cores modes.core) handle core_events.Remove)
@@ -96,12 +96,12 @@ asked_applied past step = OfNothing
 abbrev pub AsksAsApplied : List Event → Event → Type 0
 AsksAsApplied past e = e.outcome ≡ outcomes.Applied → e.asked ≡ asked_applied past e.step
 
--- the outcome of a turn that left its work so
+-- the outcome of a turn, by the reply or the work that is left
 abbrev pub outcome_of : Result Reply Work → Outcome
 outcome_of (Ok reply) = outcomes.Reply reply
 outcome_of (Err work) = outcomes.Pending
 
--- where a handle stands that is at this work: its seat at the core of its store has its number
+-- the stand of a handle at this work: its seat at the core of its store has its number
 abbrev pub stand_of : List Event → (handle : ℕ) → Running → Stand
 stand_of past handle running = stand (cores_after past) running.modes.core handle
 
@@ -111,14 +111,14 @@ pub record Works (first : Volume) (past : List Event) (handle : ℕ) (running : 
   -- the step that began the work set its task, and is the latest of its handle that set one
   pub begins : BegunAs past handle running.begun running.store running.task
   pub latest : NoneSince (IsTaskOf handle) past running.begun
-  -- the turns that it tells are all that its handle took since
+  -- its number of turns counts all that its handle took since
   pub counted : running.turns ≡ turns_since past handle running.begun
   -- its store is that of the latest open or clone step of its handle, and the modes of its handle are those that the steps since then set
   pub opened : HoldsStore past handle running.store running.modes
-  -- what it asks for, which the event tells with its answer
+  -- what it asks for, which the event has with its answer
   pub ask : Option Ask
   pub asks : ask_in running.store running.work ≡ ask
-  -- which is the one of this turn of the task: what its order of work asks for behind all that its handle was told since the task was set
+  -- which is the one of this turn of the task: what its order of work asks for after all answers to its handle since the task was set
   pub in_order : AsksAsTask first past handle running.store running.modes running.begun running.turns running.task ask
   pub asked : e.entry.did ≡ did_asked (opened_in running.work) (stand_of past handle running) (disk_after first past) ask
   pub told : e.asked ≡ told_now (stand_of past handle running) (disk_after first past) ask
@@ -127,7 +127,7 @@ pub record Works (first : Volume) (past : List Event) (handle : ℕ) (running : 
   pub changed : e.entry.change ≡ change_asked (disk_after first past) ask
   pub five : ChangesAsAsked first past handle running.store running.begun running.task ask e.entry.change
 
--- What an event may be after those before it.
+-- What an event may be, by those before it.
 pub record Law (first : Volume) (past : List Event) (e : Event) : Type 0 where
   -- it is misused exactly where the step isn't valid, with the first reason
   pub valid : IsReason first past e.step (misuse_of e.outcome)
@@ -136,7 +136,7 @@ pub record Law (first : Volume) (past : List Event) (e : Event) : Type 0 where
   pub failed : FailsAsListed (disk_after first past) e.asked
   -- the record has the disk's count of faults after the step
   pub faults : e.entry.faults ≡ (disk_after first (past ++ e ∷ [])).calls.faults
-  -- the record tells the call of the disk, or the event of a core, that the event made, and that no other event made one
+  -- the record has the call of the disk, or the event of a core, that the event made, and no other event made one
   pub did : TellsAsked (cores_after past) e.asked e.entry.did
   -- a close and a clone make their events of a core, and no other step that isn't a turn makes one
   pub applied : AsksAsApplied past e
@@ -156,7 +156,7 @@ pub record Law (first : Volume) (past : List Event) (e : Event) : Type 0 where
 abbrev pub IsLawful : Volume → List Event → Type 0
 IsLawful first events = (place : ℕ) (e : Event) → slice_get events place ≡ Some e → Law first (take place events) e
 
--- A run is what these events come to.
+-- A run is the result of these events.
 pub record IsRun (first : Volume) (events : List Event) (run : Run) : Type 0 where
   -- one outcome and one record for each event
   pub outcomes_are : map (λ e. e.outcome) events ≡ run.outcomes
@@ -168,10 +168,10 @@ pub record IsRun (first : Volume) (events : List Event) (run : Run) : Type 0 whe
   -- the journals handed back are those of the cores after these events, of which each is a journal
   pub journals_are : map entries_of run.journals ≡ map (λ (h : History). h.entries) (cores_after events)
   pub journals : All IsJournal (cores_after events)
-  -- the records that tell an event of a store's core name the entries of its journal, in order and each once
+  -- the records that have an event of a store's core name the entries of its journal, in order and each once
   pub entries : TellsEachEntry (cores_after events) run.records
   -- after each of the events each handle of an open store is registered at the core of its store, and its snapshot is the one that the
-  -- core's journal tells; and nothing else is registered at a core
+  -- core's journal has; and nothing else is registered at a core
   pub seats : HasSeatThroughout events
   pub registers_own : RegistersOwnThroughout events
   -- a handle's snapshot is never older than an earlier one that it had from the same core
@@ -181,7 +181,7 @@ pub record IsRun (first : Volume) (events : List Event) (run : Run) : Type 0 whe
   -- where the run is undisturbed, no write touches the temporary file of another, and a name that a write made stays whole
   pub alone : WritesStandAlone first events
   pub names : NamesStayWhole first events
-  -- what finds, listings and the core's events come to, when a task ends, and that nothing tells want of memory
+  -- how finds, listings and the core's events end, when a task ends, and that nothing reports that memory ran out
   pub laws : KeepsRunLaws first events
 
 -- The theorem about a run of steps from a disk.

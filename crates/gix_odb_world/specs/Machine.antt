@@ -1,4 +1,4 @@
--- A machine: work of one kind that a handle may be at. A public clause needs of it what it asks and where an answer leads it.
+-- A machine: work of one kind that a handle may be at. A public clause needs from it what it asks and where an answer leads it.
 use Rattle.std.specs.Prelude.{◌≡◌, ℕ, Option, Result, Ok, Err}
 use Rattle.gix_odb_calls.specs.declared.call.Reply.{Reply}
 use Rattle.gix_odb_loose.specs.declared.call.LooseCall.{LooseCall}
@@ -19,10 +19,10 @@ pub record Machine : Type 1 where
   pub writes : State → Option LooseCall
   -- the tasks at which it may be in a state
   pub IsFor : Task → State → Type 0
-  -- the most turns of a task of a handle in a store in which no folder that a call may list has more entries than so many
+  -- the most turns of a task of a handle in a store, where no folder that a call may list has more than `entries` entries
   pub bound : Store → Modes → Task → (entries : ℕ) → ℕ
 
--- some work is that of a machine at a state
+-- work as a machine and its state
 pub record At (work : Work) : Type 1 where
   pub machine : Machine
   pub state : machine.State

@@ -1,5 +1,5 @@
--- Which machine each kind of work is of, and what it asks and comes to. A further machine has one line here. A status keeps the code's
--- `Work`, and a function by its cases computes to a machine and its state; a sum of machines would need that function beside it.
+-- Which machine each kind of work is of, and what it asks and becomes. Another machine has one line here. A status keeps the code's
+-- `Work`, and a function by its cases computes to a machine and its state; a sum of machines would need that function too.
 pub mod Openings
 pub mod Queries
 pub mod Writes

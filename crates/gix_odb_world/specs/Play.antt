@@ -12,12 +12,12 @@ use Rattle.gix_odb_world.specs.declared.play.Play.{Play}
 use Rattle.gix_odb_world.specs.Headline.{Headline}
 use Rattle.gix_odb_world.specs.RunLaws.Pending.{AreLinesInTime}
 
--- A step that was made, and what it came to.
+-- A step that was made, and its outcome.
 pub record Made : Type 0 where
   pub step : Step
   pub outcome : Outcome
 
--- steps with what they came to
+-- steps with their outcomes
 unfoldable pub made_of : List Step → List Outcome → List Made
 made_of [] outcomes = []
 made_of (step ∷ steps) [] = []
@@ -38,7 +38,7 @@ Plays place (line ∷ lines) made last =
     (own : List Made) × (others : List Made) × (rest : List ℕ) × StandsFor line own × (made ≡ own ++ others)
     × (last ≡ (place + length own - 1) ∷ rest) × Plays (place + length own) lines others rest
 
--- The lines stand for the steps of a play, from this disk on, and what those came to is its run. Each line that finishes what a handle is at ends
+-- The lines stand for the steps of a play, from this disk on, and the run of these steps is its run. Each line that finishes a task ends
 -- in time.
 pub record IsPlayed (first : Volume) (lines : List Line) (play : Play) : Type 0 where
   pub headline : Headline first play.steps play.run

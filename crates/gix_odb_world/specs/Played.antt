@@ -1,4 +1,4 @@
--- How the code of a play stands for lines. No public clause cites this.
+-- What the code of a play does for lines. No public clause cites this.
 use Rattle.std.specs.Prelude.{◌≡◌, ℕ, List, [], ◌∷◌, ◌++◌, map}
 use Rattle.std.specs.List.{AllByRecursion}
 use Rattle.odb_asks.specs.MemDisk.{Volume}

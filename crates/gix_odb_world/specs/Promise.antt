@@ -36,22 +36,22 @@ pub record MadeCore (events : List Event) (slots folders : ℕ) : Type 0 where
   pub answer : CoreAnswer
   pub asked : event.asked ≡ OfNewCore slots folders core seat answer
 
--- An open store has the slots that were given, or as many as the files ask for that its opening counted, each of which was shown meanwhile; they
--- are those of the core that was made for it, and its objects directory was shown in the opening.
+-- An open store has the slots that were given, or as many as are needed for the files that its opening counted, each of which was shown meanwhile;
+-- they are those of the core that was made for it, and its objects directory was shown in the opening.
 pub record Opens (events : List Event) (trees : ℕ → Tree) (told : List Exchange) (store : Store) (begun now slots : ℕ) : Type 0 where
   pub number : IsCountedNumber trees (setting_in store) told begun now store.slots slots
   pub core : MadeCore events slots (length (folder_list store.parts))
   pub not_too_many : slots ≤ most_slots
   pub directory : Sometime begun now (λ moment. ShowsDirectory (trees moment) store.parts.objects)
 
--- A reply that the object isn't there: no call of the disk failed in the call, and no sound object of the id lay
--- still throughout.
+-- A reply that the object isn't there: no call of the disk failed in the call, and no sound object of the id stayed
+-- unchanged throughout.
 pub record Misses (trees : ℕ → Tree) (Failed : Type 0) (store : Store) (begun now : ℕ) (want : Want) (id : ObjectId) : Type 0 where
   pub no_failure : ¬ Failed
   pub none_still : ¬ Still trees store.parts begun now want id
 
 -- what a reply claims of its call: an answer that was held, that the object isn't there, an error with its cause; or
--- the call never ends with it
+-- that the call never ends with it
 pub data Claim : Type 0 where
   Holding : (answer : Answer) → Claim
   Missing : Claim
@@ -69,16 +69,16 @@ claim_of wants.Presence (replies.Tested true) = Holding Presence
 claim_of wants.Presence (replies.Tested false) = Missing
 claim_of want reply = Never
 
--- What a claim says, of the sought id, of a query whose handle was told so since it began. The store was opened at the moment after its open
--- step.
+-- What a claim says, of the sought id, of a query with these answers to its handle since it began. The store was opened at the moment after its
+-- open step.
 abbrev pub Keeps : (ℕ → Tree) → Type 0 → (Refused : Refusal → Type 0) → (told : List Exchange) → Store → ℕ → ℕ → Want → ObjectId → Claim → Type 0
 Keeps trees Failed Refused told store begun now want id (Holding answer) = Held trees store.parts store.opened begun now want id answer
 Keeps trees Failed Refused told store begun now want id Missing = Misses trees Failed store begun now want id
 Keeps trees Failed Refused told store begun now want id (Caused error) = FindCause trees Failed Refused told store begun now want id error
 Keeps trees Failed Refused told store begun now want id Never = ⊥
 
--- What a reply to an opening promises whose handle was told so since it began. A reply that an opening never ends with promises what nothing can
--- keep.
+-- What a reply to an opening promises, with these answers to its handle since it began. A reply that an opening never ends with promises what
+-- nothing can keep.
 abbrev pub OpeningPromise : List Event → (ℕ → Tree) → Type 0 → (told : List Exchange) → Store → ℕ → ℕ → Reply → Type 0
 OpeningPromise events trees Failed told store begun now (replies.Opened slots) = Opens events trees told store begun now slots
 OpeningPromise events trees Failed told store begun now (replies.Refused (call_errors.Open error)) = OpeningCause trees Failed told store begun now error
@@ -88,7 +88,7 @@ OpeningPromise events trees Failed told store begun now reply = ⊥
 abbrev pub QueryPromise : (ℕ → Tree) → Type 0 → (Refused : Refusal → Type 0) → (told : List Exchange) → Store → (modes : Modes) → ℕ → ℕ → Query → Reply → Type 0
 QueryPromise trees Failed Refused told store modes begun now query reply = Keeps trees Failed Refused told store begun now query.want (sought store.parts modes.ignoring query) (claim_of query.want reply)
 
--- What a reply that the last event gives promises, by the task that the handle was begun with.
+-- What a reply that the last event gives promises, by the task with which the handle began.
 abbrev pub Promise : Volume → List Event → (handle : ℕ) → Store → (modes : Modes) → ℕ → Task → Reply → Type 0
 Promise first events handle store modes begun OpenStore reply =
     OpeningPromise events (tree_at first events) (FailedSince events handle begun) (told_since events handle begun) store begun (length events) reply

@@ -1,4 +1,4 @@
--- The path with which the stream was opened that work is on.
+-- The directory of the open stream that work reads.
 use Rattle.std.specs.Prelude.{Option}
 use Rattle.odb_base.specs.Path.{Path}
 use Rattle.gix_odb.specs.CallOrder as calls
@@ -6,7 +6,7 @@ use Rattle.gix_odb.specs.OpenOrder as openings
 use Rattle.gix_odb_world.specs.Work.{Work}
 use Rattle.gix_odb_world.specs.Work.{Opening, Calling}
 
--- The path with which the stream was opened that the next call of work is on, where it is on one: whoever opened a stream knows it.
+-- The directory of the open stream that the next call of work reads, where it reads one: whoever opened a stream knows it.
 abbrev pub opened_in : Work → Option Path
 opened_in (Opening state) = openings.opened_in state
 opened_in (Calling state) = calls.opened_in state

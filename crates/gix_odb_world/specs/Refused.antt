@@ -15,8 +15,8 @@ use Rattle.gix_odb_runs.specs.Run.{IsTurnOf}
 abbrev pub shape_at : List Event → (core number : ℕ) → Shape
 shape_at events core number = present (history_at (cores_after (take number events)) core)
 
--- The event that has a number is a turn of the handle in which the core refused this event so: a listing that has so many more new rows than
--- slots are free, or an event that would raise a counter at its greatest value. That is so of the shape that the core had then, and it kept it.
+-- The event that has a number is a turn of the handle in which the core refused this event: a listing that has so many more new rows than
+-- slots are free, or an event that would raise a counter at its greatest value. This holds of the shape that the core had then, and it kept it.
 pub record RefusedAt (events : List Event) (handle core number : ℕ) (refusal : Refusal) : Type 0 where
   pub turn : Event
   pub there : slice_get events number ≡ Some turn
@@ -26,14 +26,14 @@ pub record RefusedAt (events : List Event) (handle core number : ℕ) (refusal :
   pub cause : RefusalCause (shape_at events core number) event refusal
   pub unchanged : shape_at events core (number + 1) ≡ shape_at events core number
 
--- the core refused an event so in a turn of the handle, after the step that began its call
+-- the core refused an event in a turn of the handle, after the step that began its call
 pub record RefusedSince (events : List Event) (handle core begun : ℕ) (refusal : Refusal) : Type 0 where
   pub number : ℕ
   pub later : begun ≤ number
   pub at : RefusedAt events handle core number refusal
 
--- Why a list could not be loaded, where `Refused` says of which refusal of the core a call was told, and `Caused` the cause of any other
--- error. Want of memory is no outcome: the whole run ends by it.
+-- Why a list could not be loaded, where `Refused` says which refusals of the core a call got, and `Caused` the cause of any other
+-- error. Running out of memory is no outcome: the whole run ends by it.
 abbrev pub LoadCause : (Refused : Refusal → Type 0) → (Caused : Type 0) → load.Error → Type 0
 LoadCause Refused Caused (load_errors.InsufficientSlots current needed) = Refused (refusals.InsufficientSlots current needed)
 LoadCause Refused Caused load_errors.GenerationOverflow = Refused refusals.GenerationOverflow

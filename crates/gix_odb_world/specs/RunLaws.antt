@@ -1,5 +1,5 @@
--- Laws of every run, which `World::run` promises beside the rest: what finds, listings and the core's events come to, when a task ends, and that
--- nothing tells want of memory. Read `Turn` first, then the file that a law's words come from.
+-- Laws of every run, which `World::run` promises besides the rest: how finds, listings and the core's events end, when a task ends, and that
+-- nothing reports that memory ran out. Read `Turn` first, then the file that a law's words come from.
 pub mod Turn
 pub mod Ends
 pub mod Stored
@@ -49,11 +49,11 @@ use Rattle.gix_odb_world.specs.RunLaws.Pending.{AreInTime, ArePending}
 use Rattle.gix_odb_world.specs.RunLaws.OwnAnswer.{IsOwnAnswer, NoCause}
 use Rattle.gix_odb_world.specs.RunLaws.Memory.{RanOut, TellsWant}
 
--- The laws of the events that follow a first disk. A moment is a number of events, and a place is that of an event: the event at a place is answered by
--- the tree of the moment with the same number.
+-- The laws of the events that follow a first disk. A moment is a number of events, and a place is that of an event, from 0: the event at a place
+-- is answered by the tree of the moment with the same number.
 pub record KeepsRunLaws (first : Volume) (events : List Event) : Type 0 where
-  -- Let a handle's snapshot, as its query began, have been read, and have an index with the sought id and the pack that each such index names for it; for
-  -- a test an index with the id is enough. Then the query ends in its first turn, which asks for nothing, and not by an answer that nothing is there.
+  -- Let a handle's snapshot, as its query began, be of a list that was read, with an index that has the sought id and the pack that each such index names
+  -- for it; for a test an index with the id is enough. Then the query ends in its first turn, which asks for nothing, and not with "not found".
   pub at_hand : (place : ℕ) (e : Event) (handle : ℕ) (running : Running) (query : Query) → IsQueryTurn events place e handle running query → running.turns ≡ 0
       → IsAtHand query.want (sought running.store.parts running.modes.ignoring query) (view_then events handle running.modes.core running.begun)
       → EndsUnasked query e
@@ -62,20 +62,20 @@ pub record KeepsRunLaws (first : Volume) (events : List Event) : Type 0 where
       → (before : ℕ) (read : Event) (path : Path) (bytes : List ℕ) (time : ℕ) → IsTurnBefore events handle running.begun before read place
       → Reads read path (answers.File bytes time) → IsIndexPath (setting_in running.store) path → is_index running.store.hash bytes ≡ true
       → (slot : ℕ) × AsksCore e (core_events.PutIndex slot path (record { kind = running.store.hash; bytes = bytes }))
-  -- and so it is with a pack
+  -- the same for a pack that it read
   pub stores_pack : (place : ℕ) (e : Event) (handle : ℕ) (running : Running) (query : Query) → IsQueryTurn events place e handle running query
       → (before : ℕ) (read : Event) (path : Path) (bytes : List ℕ) (time : ℕ) → IsTurnBefore events handle running.begun before read place
       → Reads read path (answers.File bytes time) → IsPackPath (setting_in running.store) path → is_pack running.store.hash bytes ≡ true
       → (pack : PackId) × AsksCore e (core_events.PutPack pack path (record { kind = running.store.hash; bytes = bytes }))
-  -- What a query stores it read in the turn before, as the file's path showed it then; and it passes a file over in the turn after a read of its path
-  -- alone, for what that read gave.
+  -- What a query stores it read in the turn before, as the file's path showed it then; and it passes a file over only in the turn after a read of
+  -- its path, for what that read gave.
   pub just_read : (place : ℕ) (e : Event) (handle : ℕ) (running : Running) (query : Query) → IsQueryTurn events place e handle running query
       → (event : CoreEvent) → AsksCore e event → IsBacked events (tree_at first events) handle running.begun place running.store.hash event
-  -- The rows of a listing that a query or a write hands to the core have different paths, each that of an index in the pack directory of one of the
+  -- The rows of a listing that a query or a write passes to the core have different paths, each that of an index in the pack directory of one of the
   -- folders of the handle's store, and none is of a multi-pack index. The index of each was itself a file in the call, and its pack's path showed one.
   pub rows_shown : (place : ℕ) (e : Event) (handle : ℕ) (running : Running) → IsTurnAt events place e handle running
       → (listing : Listing) → AsksCore e (core_events.Publish listing) → AreRowsShown (setting_in running.store) (tree_at first events) running.begun place listing.rows
-  -- where the tree stood still since the call began, they are the tree's listed files, in the order in which they are tried
+  -- where the tree stayed the same since the call began, they are the tree's listed files, in the order in which they are tried
   pub rows_of_tree : (place : ℕ) (e : Event) (handle : ℕ) (running : Running) → IsTurnAt events place e handle running
       → (listing : Listing) → AsksCore e (core_events.Publish listing) → StoodStill (tree_at first events) running.begun place
       → listing.rows ≡ longest_first (listed_in (tree_at first events running.begun) (folder_list running.store.parts))
@@ -85,14 +85,14 @@ pub record KeepsRunLaws (first : Volume) (events : List Event) : Type 0 where
       → (kind : Kind) (bytes : List ℕ) → e.outcome ≡ outcomes.Reply (replies.Found kind bytes)
       → ObjectsHash (tree_at first events) (length events) running.store
       → object_id running.store.hash kind bytes ≡ sought running.store.parts running.modes.ignoring (find_of asked)
-  -- A query isn't answered that nothing is there, in a store whose list had been read as the query began, while its object moves from a loose file of a
+  -- A query doesn't end with "not found", in a store whose list had been read as the query began, while its object moves from a loose file of a
   -- folder into a pack there.
   pub moved_found : (place : ℕ) (e : Event) (handle : ℕ) (running : Running) (query : Query) → IsQueryTurn events place e handle running query
       → HadPublished events running.modes.core running.begun
       → HasMoved (tree_at first events) running.store.parts running.begun (place + 1) query.want (sought running.store.parts running.modes.ignoring query)
       → ¬ (e.outcome ≡ outcomes.Reply (not_found query.want))
-  -- A query that is answered that nothing is there ended with a look at the core, whose view has the number of the list that the core published or
-  -- confirmed last for it.
+  -- A query that ends with "not found" ended with a read of the core's state, whose view has the number of the list that the core
+  -- published or confirmed last for it.
   pub misses_at_last_list : (place : ℕ) (e : Event) (handle : ℕ) (running : Running) (query : Query) → IsQueryTurn events place e handle running query
       → e.outcome ≡ outcomes.Reply (not_found query.want) → EndAtLastList (told_since (take (place + 1) events) handle running.begun)
   -- turns of one handle that are all pending, one after another, are fewer than the bound of its task, with those that it took for the task before
@@ -101,7 +101,7 @@ pub record KeepsRunLaws (first : Volume) (events : List Event) : Type 0 where
   pub own_answer : (place : ℕ) (e : Event) (handle : ℕ) (running : Running) → IsTurnAt events place e handle running
       → (reply : Reply) → e.outcome ≡ outcomes.Reply reply
       → NoCause first (take (place + 1) events) handle running.store running.modes running.begun running.task → IsOwnAnswer running.task reply
-  -- neither the disk nor a core answers an event by want of memory
+  -- neither the disk nor a core answers an event with `out of memory`
   pub no_want_answered : (place : ℕ) (e : Event) → slice_get events place ≡ Some e → ¬ (RanOut e.asked)
-  -- and no opening, query or write ends by an error that tells it
+  -- and no opening, query or write ends by an error that reports it
   pub no_want_told : (place : ℕ) (e : Event) → slice_get events place ≡ Some e → (error : CallError) → e.outcome ≡ outcomes.Reply (replies.Refused error) → ¬ (TellsWant error)

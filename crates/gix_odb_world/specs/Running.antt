@@ -23,7 +23,7 @@ use Rattle.gix_odb_world.specs.Status.{Running, Status, Working, status_of}
 abbrev pub KnowsAt : Machine → Type 1
 KnowsAt m = Volume → List Event → (handle : ℕ) → Running → m.State → Type 0
 
--- What it knows at the machine of each work. A further machine has one line here.
+-- What it knows at the machine of each work. Another machine has one line here.
 abbrev pub known_at : (work : Work) → KnowsAt (at work).machine
 known_at (works.Opening state) = IsOpening
 known_at (works.Calling (calls.Looking state)) = IsLooking
@@ -31,7 +31,7 @@ known_at (works.Calling (calls.Refreshing refresh call)) = KnowsOfWrite
 known_at (works.Calling (calls.Writing call)) = KnowsOfWrite
 known_at (works.Calling (calls.Refused error)) = KnowsOfWrite
 
--- what work knows that a handle is at
+-- what the work of a handle knows
 abbrev pub Knows : Volume → List Event → (handle : ℕ) → Running → Work → Type 0
 Knows first events handle running work = known_at work first events handle running (at work).state
 
@@ -40,6 +40,6 @@ abbrev pub Runs : Volume → List Event → ℕ → Status → Type 0
 Runs first events handle (Working running) = (running.begun ≤ length events) × Knows first events handle running running.work
 Runs first events handle status = Unit {0}
 
--- after each of the events each handle had seen what its status says
+-- after each of the events each handle knew what its status says
 abbrev pub RunsThroughout : Volume → List Event → Type 0
 RunsThroughout first events = (now handle : ℕ) → now ≤ length events → Runs first (take now events) handle (status_of (take now events) handle)

@@ -1,4 +1,4 @@
--- Where the handles of open stores stand at the cores of these.
+-- The seats of the handles of open stores at their cores.
 use Rattle.std.specs.Prelude.{◌≡◌, ◌≢◌, ◌↔◌, ◌≤◌, ℕ, List, IsSome, length, slice_get, take, Option, None, Some}
 use Rattle.gix_odb_core.specs.Handles.{IsRegistered}
 use Rattle.gix_odb_core.specs.History.{History, present}
@@ -9,7 +9,7 @@ use Rattle.gix_odb_runs.specs.Event.{Event}
 use Rattle.gix_odb_world.specs.Status.{Free, MakeCall, Modes, OpenStore, Resting, Status, Task, Working, status_of}
 
 -- A handle is registered at the core of its store, under its number, and at no other one; the core was made with as many slots as the handle says; and
--- the handle's snapshot is the view of its last entry in the core's journal that handed one over.
+-- the handle's snapshot is the view of its last entry in the core's journal that passed it one.
 pub record IsSeated (cores : List History) (handle : ℕ) (modes : Modes) : Type 0 where
   pub history : History
   pub there : slice_get cores modes.core ≡ Some history
@@ -32,7 +32,7 @@ HasSeat events handle Free = IsNowhere (cores_after events) handle
 HasSeat events handle (Resting store modes) = IsSeated (cores_after events) handle modes
 HasSeat events handle (Working running) = HasSeatAt (cores_after events) handle running.modes running.task
 
--- a handle that does this is one of the open store whose core has a number
+-- a handle at this task is one of the open store whose core has this number
 abbrev pub IsOpenAtTask : (core : ℕ) → Modes → Task → Type 0
 IsOpenAtTask core modes OpenStore = ⊥
 IsOpenAtTask core modes (MakeCall call) = modes.core ≡ core
@@ -57,8 +57,8 @@ RegistersOwnThroughout events = (now : ℕ) → now ≤ length events → Regist
 
 -- ---- snapshots
 
--- a view is no older than another: neither its list number, nor its state number, nor its generation, nor the number of the entry that handed it
--- over is less
+-- a view is no older than another: neither its list number, nor its state number, nor its generation, nor the number of the entry that passed
+-- it on is less
 pub record IsNoOlder (before now : View) : Type 0 where
   pub list_no : before.list_no ≤ now.list_no
   pub state_id : before.snapshot.marker.state_id ≤ now.snapshot.marker.state_id
@@ -75,8 +75,8 @@ open_modes Free = None
 open_modes (Resting store modes) = Some modes
 open_modes (Working running) = open_modes_at running.modes running.task
 
--- At two moments of a run at which a handle has a number that is one of an open store, and the store is the same, the later snapshot is there
--- where the earlier one was, and is no older. So it is too where the handle was closed and another one of the store began under its number.
+-- At two moments of a run at which a handle has a number that is one of an open store, and the store is the same, the later snapshot exists
+-- where the earlier one did, and is no older. This holds too where the handle was closed and another one of the store began under its number.
 abbrev pub SnapshotsNeverFall : List Event → Type 0
 SnapshotsNeverFall events =
     (earlier later handle : ℕ) (was is : Modes) (before : View) → earlier ≤ later → later ≤ length events

@@ -29,7 +29,7 @@ pub data Status : Type 0 where
   Resting : (store : Store) (modes : Modes) → Status
   Working : (running : Running) → Status
 
--- a handle that does this is at a write, of which this is the call of the objects directory
+-- a handle with this status is at a write, of which this is the call of the objects directory
 pub record IsAtWrite (status : Status) (running : Running) (call : LooseCall) : Type 0 where
   pub works : status ≡ Working running
   pub writes : write_in running.work ≡ Some call
@@ -78,11 +78,11 @@ refuses_opening reply = false
 abbrev pub after_reply : {A : Type 0} → (free rest : A) → Reply → A
 after_reply free rest reply = if refuses_opening reply then free else rest
 
--- a handle's work goes on as what is left of it, with a turn more that asked so
+-- a handle's work goes on as what is left of it, with one more turn, which asked this
 abbrev pub gone_on : Asked → Running → (left : Work) → Running
 gone_on asked running left = record running { modes = modes_after asked running.modes; turns = running.turns + 1; work = left }
 
--- a handle whose turn asked so and came to a reply, or to the work that is left
+-- a handle after a turn that asked this and ended with a reply, or with the work that is left
 abbrev pub come_to : Asked → Running → Result Reply Work → Status
 come_to asked running (Ok reply) = after_reply Free (Resting running.store (modes_after asked running.modes)) reply
 come_to asked running (Err left) = Working (gone_on asked running left)
@@ -103,12 +103,12 @@ replied asked reply status = status
 abbrev pub with_status : (ℕ → Status) → ℕ → Status → ℕ → Status
 with_status table handle status other = if other == handle then status else table other
 
--- a clone has the store and the modes of the handle that it is one of, and the snapshot that its own registration handed over
+-- a clone has the store and the modes of the handle that it is one of, and the snapshot that its own registration passed to it
 abbrev pub cloned : Asked → Status → Status
 cloned asked (Resting store modes) = Resting store (modes_after asked modes)
 cloned asked status = Free
 
--- what all handles do after a step that was applied, in the event that has a number and asked so
+-- what all handles do after a step that was applied, in the event that has a number and asked this
 abbrev pub applied : ℕ → Asked → Step → (ℕ → Status) → ℕ → Status
 applied number asked (steps.Open handle path folders hash replacements options) table =
     with_status table handle (opening_at number (store_at number path folders hash replacements options))
@@ -118,7 +118,7 @@ applied number asked (steps.Ignore handle) table = with_status table handle (ign
 applied number asked (steps.Start handle call) table = with_status table handle (started number call (table handle))
 applied number asked step table = table
 
--- what all handles do after a turn that takes its handle on; no other step takes a call on
+-- what all handles do after a turn that continues its handle; no other step continues a call
 abbrev pub after_turn_of : Step → (Status → Status) → (ℕ → Status) → ℕ → Status
 after_turn_of (steps.Turn handle) next table = with_status table handle (next (table handle))
 after_turn_of step next table = table

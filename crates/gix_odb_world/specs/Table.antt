@@ -57,16 +57,16 @@ abbrev pub phase_of_work : HashKind → Option Work → Phase
 phase_of_work hash None = Idle hash
 phase_of_work hash (Some work) = Running
 
--- what counts of a handle of the code for validity
+-- what matters for validity of a handle of the code
 abbrev pub phase_of_handle : Option Seen → Phase
 phase_of_handle None = NoneThere
 phase_of_handle (Some handle) = phase_of_work handle.state.info.object_hash handle.work
 
--- what counts for validity of the handle of a world that has a number
+-- what matters for validity of the handle of a world that has a number
 abbrev pub phase_now : Course → (number : ℕ) → Phase
 phase_now world number = phase_of_handle (handle_at world number)
 
--- the first reason why a step isn't valid, by the world's own table and disk, the rule of two contents aside
+-- the first reason why a step isn't valid, by the world's own table and disk, without the rule of two contents
 abbrev pub why_not_now : Course → Step → Option Why
 why_not_now world (steps.Open handle path folders hash replacements options) = why_not_open (phase_now world handle) (is_openable path folders hash replacements options.max_changes)
 why_not_now world (steps.Clone handle from) = why_not_clone (phase_now world handle) (phase_now world from)
@@ -124,7 +124,7 @@ ignoring_at (stands.Calling call) = stands.Calling call
 abbrev pub ignoring_handle : Handle → Handle
 ignoring_handle handle = record handle { at = ignoring_at handle.at }
 
--- the same as proofs see it
+-- the handle as proofs see it ignores replacements, if it is at rest
 abbrev pub seen_ignoring : Option Seen → Option Seen
 seen_ignoring None = None
 seen_ignoring (Some handle) = Some (record handle { state = record handle.state { ignoring = true } })
@@ -133,7 +133,7 @@ abbrev pub with_ignoring : Option Handle → Option Handle
 with_ignoring None = None
 with_ignoring (Some handle) = Some (ignoring_handle handle)
 
--- another handle at rest on the store of one, in its modes, with a snapshot of its own
+-- another handle at rest on the store of one, with its modes and a snapshot of its own
 abbrev pub shared_with : View → Option Seen → Option Seen
 shared_with view None = None
 shared_with view (Some parent) = Some (record { state = record parent.state { view = Some view }; work = None })
@@ -142,7 +142,7 @@ shared_with view (Some parent) = Some (record { state = record parent.state { vi
 abbrev pub at_rest : HandleParts → Option Seen
 at_rest state = Some (record { state = state; work = None })
 
--- a handle after its turn left its work so
+-- a handle after its turn, by the reply or the work that is left
 abbrev pub after_turn : HandleParts → Result Reply Work → Option Seen
 after_turn state (Ok reply) = after_reply None (at_rest state) reply
 after_turn state (Err work) = Some (record { state = state; work = Some work })
@@ -156,7 +156,7 @@ pub record SetsHandle (old new : Course) (number : ℕ) (handle : Option Seen) :
   pub outcomes : new.outcomes ≡ old.outcomes
   pub records : new.records ≡ old.records
 
--- the same of the handles in the table
+-- the handles in the table differ from others in the one that has a number, and in nothing else
 pub record PutsHandle (old new : Course) (number : ℕ) (handle : Option Handle) : Type 0 where
   pub table : (other : ℕ) → stored_at new other ≡ (if other == number then handle else stored_at old other)
   pub disk : new.disk ≡ old.disk
@@ -165,7 +165,7 @@ pub record PutsHandle (old new : Course) (number : ℕ) (handle : Option Handle)
   pub outcomes : new.outcomes ≡ old.outcomes
   pub records : new.records ≡ old.records
 
--- the world has one outcome and one record more, with its disk's count of faults, and differs in nothing else
+-- the world has one more outcome and one more record, with its disk's count of faults, and differs in nothing else
 pub record Notes (old new : Course) (outcome : Outcome) (did : Did) (change : Option Change) : Type 0 where
   pub outcomes : new.outcomes ≡ old.outcomes ++ outcome ∷ []
   pub records : new.records ≡ old.records ++ record { did = did; change = change; faults = old.disk.calls.faults } ∷ []
@@ -180,30 +180,30 @@ pub record Settles (old new : Course) (number : ℕ) (handle : Option Seen) (out
   pub sets : SetsHandle old mid number handle
   pub notes : Notes mid new outcome did change
 
--- the world has one outcome more than another
+-- the world has one more outcome than another
 abbrev pub HasOneMore : Course → Course → Type 0
 HasOneMore old new = (outcome : Outcome) × (new.outcomes ≡ old.outcomes ++ outcome ∷ [])
 
--- what a turn did whose work made this call of the disk, of a stream that was opened with a path if it is on one
+-- what a turn did whose work made this call of the disk, on a stream that was opened with a path if it is on one
 abbrev pub did_now : (opened : Option Path) → Volume → DiskAsk → Did
 did_now opened disk ask = did_of opened ask (answer_now disk ask)
 
--- the handle to which a view was handed over, if one was
+-- the handle after a view was passed to it, if one was
 abbrev pub seeing : HandleParts → Option View → HandleParts
 seeing state view = record state { view = or_before view state.view }
 
--- the handle after a turn that asked so
+-- the handle after a turn that asked this
 abbrev pub state_after : Asked → HandleParts → HandleParts
 state_after OfNothing state = state
 state_after (OfDisk ask answer) state = state
 state_after (OfCore store seat event answer) state = seeing state (view_in answer)
 state_after (OfNewCore slots folders store seat answer) state = record state { core = store; view = or_before (view_in answer) state.view }
 
--- what a turn of a handle that has a seat asked so, with the answer
+-- what a turn of a handle that has a seat asked, with the answer
 abbrev pub told_in : List History → Volume → (seat : ℕ) → HandleParts → Work → Asked
 told_in cores disk seat state work = told_now (stand cores state.core seat) disk (ask_on state work)
 
--- the path with which the stream was opened that the work of a handle is on, if it is at work
+-- the directory of the open stream that the work of a handle reads, if it is at work
 abbrev pub opened_by : Option Work → Option Path
 opened_by None = None
 opened_by (Some work) = opened_in work
@@ -225,14 +225,14 @@ own_answer cores seat state event = answer_behind (history_at cores state.core) 
 abbrev pub new_core : List History → (slots folders seat : ℕ) → Asked
 new_core cores slots folders seat = OfNewCore slots folders (length cores) seat (first_answer slots folders seat)
 
--- ---- what a handle is told
+-- ---- what a handle is fed
 
--- it is told that a core was made with so many slots, which has this number, and the view that its registration there passed to it
+-- it is fed that a core was made with so many slots, with its number, and the view that its registration there passed to it
 abbrev pub TellsCore : (number slots : ℕ) → CoreAnswer → Told → Type 0
 TellsCore number slots answer (tells.Core own_number own_slots view) = (own_number ≡ number) × (own_slots ≡ slots) × (view_in answer ≡ Some view)
 TellsCore number slots answer own = ⊥
 
--- what a handle is told in a turn that asked so
+-- what a handle is fed in a turn that asked this
 abbrev pub IsTold : Asked → Told → Type 0
 IsTold OfNothing own = own ≡ tells.Nothing
 IsTold (OfDisk ask answer) own = own ≡ tells.Answer (told.Disk answer)
@@ -247,13 +247,13 @@ IsToldTo (Some (asks.Core event)) (tells.Answer answer) = IsAnswerTo (asks.Core 
 IsToldTo (Some (asks.NewCore slots folders)) (tells.Core number own_slots view) = own_slots ≡ slots
 IsToldTo ask own = ⊥
 
--- what a handle has after it is told this
+-- what a handle has after it is fed this
 abbrev pub state_told : HandleParts → Told → HandleParts
 state_told state tells.Nothing = state
 state_told state (tells.Answer answer) = seeing state (view_of answer)
 state_told state (tells.Core number slots view) = record state { core = number; view = Some view }
 
--- and the work that it is at: an opening that is told of its core has opened its store
+-- and the work that it is at: an opening that is fed its core has opened its store
 abbrev pub work_told : HandleParts → Work → Told → Work
 work_told state work tells.Nothing = work
 work_told state work (tells.Answer answer) = fed_on state work answer
@@ -267,7 +267,7 @@ IsUnderWay (Some work) = Unit {0}
 
 -- ---- a turn
 
--- A turn that asked so was carried out, on the disk and on the cores; its handle is told so.
+-- A turn that asked this was carried out, on the disk and on the cores; its handle is fed the answer.
 pub record CarriesOut (disk disk_then : Volume) (cores cores_then : List History) (opened : Option Path) (ask : Option Ask) (asked : Asked) (done : Done) : Type 0 where
   pub did : done.did ≡ did_of_asked opened cores asked
   pub told_is : IsTold asked done.told
@@ -275,7 +275,7 @@ pub record CarriesOut (disk disk_then : Volume) (cores cores_then : List History
   pub disk_is : disk_then ≡ disk_after_asked disk asked (change_asked disk ask)
   pub cores_are : cores_then ≡ cores_after_asked cores asked
 
--- what a turn comes to in which a handle that has this, and is at this work, is told so
+-- the result of a turn in which a handle that has this, and is at this work, is fed this
 pub record IsTurned (state : HandleParts) (work : Work) (own : Told) (turned : Turned) : Type 0 where
   pub outcome : turned.outcome ≡ outcome_of (result_in (work_told state work own))
   pub handle : option_map seen turned.handle ≡ after_turn (state_told state own) (result_in (work_told state work own))
@@ -283,14 +283,14 @@ pub record IsTurned (state : HandleParts) (work : Work) (own : Told) (turned : T
 abbrev pub TurnsHandle : Seen → Told → Turned → Type 0
 TurnsHandle handle own turned = (work : Work) → handle.work ≡ Some work → IsTurned handle.state work own turned
 
--- What a turn comes to, as the history has it: what it did, the change that it made, and what its handle has and is at then.
+-- The result of a turn, as the history has it: what it did, the change that it made, and what its handle has and is at then.
 pub record Carried : Type 0 where
   pub did : Did
   pub change : Option Change
   pub state : HandleParts
   pub work : Work
 
--- A turn that asked so was carried out, on the disk and on the cores, and fed.
+-- A turn that asked this was carried out, on the disk and on the cores, and fed.
 pub record Carries (disk disk_then : Volume) (cores cores_then : List History) (state : HandleParts) (work : Work) (asked : Asked) (done : Carried) : Type 0 where
   pub did : done.did ≡ did_of_asked (opened_in work) cores asked
   pub change : done.change ≡ change_asked disk (ask_on state work)
@@ -299,14 +299,14 @@ pub record Carries (disk disk_then : Volume) (cores cores_then : List History) (
   pub disk_is : disk_then ≡ disk_after_asked disk asked (change_asked disk (ask_on state work))
   pub cores_are : cores_then ≡ cores_after_asked cores asked
 
--- A turn was settled behind what was told of its change: what is kept of watched paths is so by then.
+-- A turn was settled after its change was judged: what is kept of watched paths is kept by then.
 pub record KeepsTurn (old new : Course) (number : ℕ) (handle : Option Seen) (outcome : Outcome) (did : Did) (change : Option Change) (revealed : Option Revealed) : Type 0 where
   pub shown : Kept
   pub keeps : (tree : Tree) → Fits old.shown tree → TellsChange old.shown.folders tree change revealed → (ShowsSecondBy old.shown tree change → ⊥)
       → NotesMade old.shown tree change shown
   pub settles : Settles (record old { shown = shown }) new number handle outcome did change
 
--- a handle was told what its turn came to, and the turn was settled
+-- a handle was fed the answer of its turn, and the turn was settled
 pub record FeedsTurn (old new : Course) (number : ℕ) (handle : Seen) (done : Done) (change : Option Change) (revealed : Option Revealed) : Type 0 where
   pub turned : Turned
   pub turns : TurnsHandle handle done.told turned

@@ -1,5 +1,5 @@
--- What a handle at work asked and was answered since its work began, and where its work stands behind that: the look-up of a query, an opening,
--- what stands in front of a write.
+-- What a handle at work asked and was answered since its work began, and the state of its work after that: the look-up of a query, an opening,
+-- the refresh before a write.
 use Rattle.std.specs.Prelude.{ℕ, List, drop, take, Option, Some, None, unwrap_or, if◌then◌else◌}
 use Rattle.std.specs.List.{filter_map}
 use Rattle.gix_odb_core.specs.Replay.{snapshot_of}
@@ -31,7 +31,7 @@ exchange_of (OfDisk ask answer) = Some (record { ask = asks.Disk ask; answer = t
 exchange_of (OfCore store seat event answer) = Some (record { ask = asks.Core event; answer = told.Core answer })
 exchange_of (OfNewCore slots folders store seat answer) = None
 
--- the same of an event, where it is a turn of the handle
+-- what was asked and answered in an event, where it is a turn of the handle
 abbrev pub exchange_in : (handle : ℕ) → Event → Option Exchange
 exchange_in handle e = if is_turn_of handle e then exchange_of e.asked else None
 
@@ -39,7 +39,7 @@ exchange_in handle e = if is_turn_of handle e then exchange_of e.asked else None
 unfoldable pub told_since : List Event → (handle number : ℕ) → List Exchange
 told_since events handle number = filter_map (exchange_in handle) (drop number events)
 
--- What a handle of the store of a core saw at the event that has a number: its snapshot, which is the view that the core last handed over to
+-- What a handle of the store of a core saw at the event that has a number: its snapshot, which is the view that the core last passed to
 -- it by then.
 unfoldable pub view_then : List Event → (handle core number : ℕ) → View
 view_then events handle core number = unwrap_or (snapshot_of handle (history_at (cores_after (take number events)) core).entries) unseen
@@ -49,17 +49,17 @@ abbrev pub look_begun : List Event → (handle : ℕ) → Store → Modes → (b
 look_begun events handle store modes begun query =
     started (setting_in store) (view_then events handle modes.core begun) query.want (sought store.parts modes.ignoring query)
 
--- and where it stands: behind all that the handle was told since
+-- and its state after all answers to the handle since then
 abbrev pub look_now : List Event → (handle : ℕ) → Store → Modes → (begun : ℕ) → Query → LookUp
 look_now events handle store modes begun query =
     behind (setting_in store) (look_begun events handle store modes begun query) (told_since events handle begun)
 
--- where an opening stands that began at the event that has a number: behind all that its handle was told since
+-- the stage of an opening that began at the event that has a number, after all answers to its handle since then
 abbrev pub opening_now : List Event → (handle : ℕ) → Store → (begun : ℕ) → OpenStage
 opening_now events handle store begun = openings.behind (setting_in store) store.slots opens.Looking (told_since events handle begun)
 
--- what stands in front of a write of a handle that began at the event that has a number, as it begins; and behind all that the handle was told
--- since
+-- the refresh before a write of a handle that began at the event that has a number, as it begins; and after all answers to the handle
+-- since then
 abbrev pub refresh_begun : List Event → (handle : ℕ) → Modes → (begun : ℕ) → RefreshStep
 refresh_begun events handle modes begun = refreshes.started (view_then events handle modes.core begun)
 

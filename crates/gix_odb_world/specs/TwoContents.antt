@@ -18,7 +18,7 @@ use Rattle.gix_odb_world.specs.Status.{Status, Working, status_of}
 
 -- ---- since when folders are watched
 
--- the folders are watched from a moment on, but for those that are watched already
+-- the folders are watched from a moment on, except those that are watched already
 unfoldable pub watched_too : Since → (now : ℕ) → List Path → Since
 watched_too since now folders = fold (λ watched folder. with_since watched now folder) since folders
 
@@ -49,7 +49,7 @@ would_change first events (steps.Disk change) = Some change
 would_change first events (steps.Turn handle) = would_change_in (disk_after first events) (status_of events handle)
 would_change first events step = None
 
--- After the change a watched path would show a second content, beside one that it has shown at a state so far.
+-- After the change a watched path would show a second content, besides one that it has shown at a state so far.
 abbrev pub BreaksRule : Volume → List Event → Option Change → Type 0
 BreaksRule first events None = ⊥
 BreaksRule first events (Some change) =

@@ -36,7 +36,7 @@ pub record HasMade (first : Volume) (events : List Event) (handle made : ℕ) (p
 abbrev pub IsOutside : Event → Type 0
 IsOutside e = (change : Change) × (e.step ≡ steps.Disk change) × (e.outcome ≡ outcomes.Applied)
 
--- A run is undisturbed up to a state: no change of another program before it changed what stands on the way of the path of
+-- A run is undisturbed up to a state: no change of another program before it changed what lies on the way of the path of
 -- a temporary file, the file included, from the making of that file to the end of its write.
 abbrev pub IsUndisturbed : Volume → List Event → (now : ℕ) → Type 0
 IsUndisturbed first events now =
@@ -46,7 +46,7 @@ IsUndisturbed first events now =
 
 -- ---- what writes leave alone there
 
--- A rename replaced a link that a path crosses. The file at s, to which the path led, stands as it did, and the path leads to
+-- A rename replaced a link that a path crosses. The file at s, to which the path led, stays as it was, and the path leads to
 -- no file any more.
 pub record CutsOff (before after : Tree) (path s : Path) (e : Event) : Type 0 where
   pub from : Path
@@ -56,7 +56,7 @@ pub record CutsOff (before after : Tree) (path s : Path) (e : Event) : Type 0 wh
   pub file : SameOnWay before after true s
   pub gone : (r : Path) → file_spot after path ≢ Ok r
 
--- What a turn of another handle does to a temporary file, its path and the way to it, where its path leads to it: nothing, but
+-- What a turn of another handle does to a temporary file, its path and the way to it, where its path leads to it: nothing, except
 -- that it may rename onto a link on that way.
 abbrev pub IsSpared : Volume → List Event → Type 0
 IsSpared first events =
@@ -73,13 +73,13 @@ pub record StandsAlone (first : Volume) (events : List Event) (handle made : ℕ
   pub leads : file_spot (tree_at first events now) path ≡ Ok spot
   pub alone : LeftAlone first events handle path (made + 1) now
 
--- from one place of a run to another, no change of another program changed what stands on the way of a path, the file that it
+-- from one place of a run to another, no change of another program changed what lies on the way of a path, the file that it
 -- leads to included
 abbrev pub OthersLeave : Volume → List Event → Path → (from to : ℕ) → Type 0
 OthersLeave first events path from to =
     (place : ℕ) (e : Event) → from ≤ place → place < to → slice_get events place ≡ Some e → IsOutside e → LeavesAlone first events path place
 
--- A file stood alone until a turn of another handle cut its path off, which leads to no file since. As long as other programs
+-- A file was alone until a turn of another handle cut its path off, which leads to no file since. As long as other programs
 -- leave the file at its spot and the way to it alone, every event does.
 pub record IsCutOff (first : Volume) (events : List Event) (handle made : ℕ) (path : Path) (now : ℕ) : Type 0 where
   pub place : ℕ
@@ -96,7 +96,7 @@ pub record IsCutOff (first : Volume) (events : List Event) (handle made : ℕ) (
   pub stays : (step : ℕ) → place ≤ step → step < now → OthersLeave first events stood.spot (place + 1) (step + 1)
       → LeavesAlone first events stood.spot step
 
--- so a temporary file stands as its write left it, or was cut off
+-- so a temporary file is as its write left it, or was cut off
 abbrev pub IsKept : Volume → List Event → Type 0
 IsKept first events =
     (handle made now : ℕ) (path : Path) → IsUndisturbed first events now → HasMade first events handle made path now
@@ -116,7 +116,7 @@ AreApart first events =
     → HasMade first events handle made path now → HasMade first events other last twin now
     → file_spot (tree_at first events now) path ≡ Ok s → file_spot (tree_at first events now) twin ≡ Ok r → s ≢ r
 
--- What holds of the writes of an undisturbed run: none changes the temporary file of another, its path or the way to it, but
+-- What holds of the writes of an undisturbed run: none changes the temporary file of another, its path or the way to it, except
 -- that a rename may replace a link on that way.
 pub record WritesStandAlone (first : Volume) (events : List Event) : Type 0 where
   pub spared : IsSpared first events

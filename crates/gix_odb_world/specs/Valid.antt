@@ -26,7 +26,7 @@ use Rattle.gix_odb_world.specs.Status.{Status, Free, Resting, Working, status_of
 use Rattle.gix_odb_runs.specs.Run.{disk_after}
 use Rattle.gix_odb_world.specs.TwoContents.{BreaksRule, would_change}
 
--- what counts of a handle for validity; of an idle one the hash of its store does too
+-- what matters of a handle for validity; for an idle one the hash of its store too
 pub data Phase : Type 0 where
   NoneThere : Phase
   Idle : (hash : HashKind) → Phase
@@ -41,7 +41,7 @@ phase_of (Working running) = Running
 abbrev pub are_distinct : {A : Type 0} → (A → A → Ordering) → List A → Bool
 are_distinct cmp items = distinct_count (eq_by_cmp cmp) items == length items
 
--- The most folders of a store beside its objects directory: with it they are 256, so that the place of a folder has 8 bits, and the
+-- The most folders of a store besides its objects directory: with it they are 256, so that the place of a folder has 8 bits, and the
 -- bound of a call's turns, which has a sum over the folders, is a number of 128 bits.
 abbrev pub most_folders : ℕ
 most_folders = 255
@@ -54,7 +54,7 @@ are_good_folders objects folders = nat_le (length folders) most_folders && are_d
 abbrev pub are_good_replacements : HashKind → List (ObjectId × ObjectId) → Bool
 are_good_replacements hash replacements = are_distinct id_cmp (keys_of replacements) && list_all (is_pair_of hash) replacements
 
--- The conditions of opening: good folders, good replacements, and not too many changes that a call is to bear.
+-- The conditions of opening: good folders, good replacements, and not too many changes that a call is to tolerate.
 abbrev pub is_openable : Path → List Path → HashKind → List (ObjectId × ObjectId) → (changes : ℕ) → Bool
 is_openable objects folders hash replacements changes =
     are_good_folders objects folders && (are_good_replacements hash replacements && nat_le changes most_changes)
@@ -101,11 +101,11 @@ why_not_running Running = None
 abbrev pub why_not_change : Volume → Change → Option Why
 why_not_change disk change = if is_possible disk.state change then None else Some ImpossibleChange
 
--- what counts of a handle for validity after the events of a run
+-- what matters of a handle for validity after the events of a run
 abbrev pub phase_after : List Event → (handle : ℕ) → Phase
 phase_after events handle = phase_of (status_of events handle)
 
--- The first reason why a step isn't valid after the events of a run, the rule of two contents aside, or nothing where there is none.
+-- The first reason why a step isn't valid after the events of a run, without the rule of two contents, or nothing where there is none.
 -- Each step sees the whole history.
 abbrev pub why_not_after : Volume → List Event → Step → Option Why
 why_not_after first events (steps.Open handle path folders hash replacements options) = why_not_open (phase_after events handle) (is_openable path folders hash replacements options.max_changes)
@@ -116,7 +116,7 @@ why_not_after first events (steps.Start handle call) = why_not_start (phase_afte
 why_not_after first events (steps.Turn handle) = why_not_running (phase_after events handle)
 why_not_after first events (steps.Disk change) = why_not_change (disk_after first events) change
 
--- Of a step that breaks the rule of two contents or not, and of which another reason holds or none: the rule is the last reason.
+-- The first reason of a step that breaks the rule of two contents or not, and that has another reason or none: the rule is the last reason.
 abbrev pub IsFirstReason : (other : Option Why) → (breaks : Type 0) → Option Why → Type 0
 IsFirstReason (Some other) breaks why = why ≡ Some other
 IsFirstReason None breaks None = ¬ breaks

@@ -1,4 +1,4 @@
--- What the code of a world makes of what it keeps of watched paths. No public clause cites this.
+-- What the code of a world does with what it keeps of watched paths. No public clause cites this.
 use Rattle.std.specs.Prelude.{◌≡◌, ℕ, List, Option, Some, None}
 use Rattle.odb_base.specs.Path.{Path}
 use Rattle.odb_nodes.specs.Tree.{Tree}
@@ -10,18 +10,18 @@ use Rattle.gix_odb_shown.specs.Revealed.{IsRevealed}
 use Rattle.gix_odb_shown.specs.declared.revealed.Revealed.{Revealed}
 use Rattle.gix_odb_world.specs.TwoContents.{watched_too}
 
--- these folders are watched too from now on, while a tree stands
+-- these folders are watched too from now on, by this tree
 abbrev pub Watches : Kept → Kept → Tree → List Path → Type 0
 Watches old new tree folders =
     (trees : ℕ → Tree) (since : Since) (now : ℕ) → trees now ≡ tree → AreBegun since now → Keeps trees since now old
     → Keeps trees (watched_too since now folders) now new
 
--- after the change, if it is one, a watched path would show a second content
+-- after the change, if there is one, a watched path would show a second content
 abbrev pub ShowsSecondBy : Kept → Tree → Option Change → Type 0
 ShowsSecondBy kept tree None = ⊥
 ShowsSecondBy kept tree (Some change) = IsSecond kept (changed tree change)
 
--- what the change would make watched paths show, if it is one
+-- what the change would make watched paths show, if there is one
 abbrev pub TellsRevealed : Folders → Tree → Change → Option Revealed → Type 0
 TellsRevealed folders tree change None = ⊥
 TellsRevealed folders tree change (Some revealed) = IsRevealed folders tree (changed tree change) revealed
@@ -35,7 +35,7 @@ pub record NotesChange (old : Kept) (tree : Tree) (change : Change) (new : Kept)
   pub notes : Notes old old.folders (changed tree change) new
   pub fits : Fits new (changed tree change)
 
--- the same of the change of a turn, if it made one
+-- the change of a turn was noted, if it made one
 abbrev pub NotesMade : Kept → Tree → Option Change → Kept → Type 0
 NotesMade old tree None new = new ≡ old
 NotesMade old tree (Some change) new = NotesChange old tree change new

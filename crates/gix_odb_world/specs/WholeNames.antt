@@ -40,14 +40,14 @@ pub record GivesName (events : List Event) (place : ℕ) (w : ToWrite) (to : Pat
 abbrev pub ReadsWhole : Volume → List Event → Path → ToWrite → (moment : ℕ) → Type 0
 ReadsWhole first events path w moment = read_of (tree_at first events moment) path ≡ Ok (header_of w.kind w.size ++ w.bytes, 0)
 
--- the event at a place moved the file of a write onto the very name at which a path ends
+-- the event at a place moved the file of a write onto the same name at which a path ends
 pub record GivesAgain (first : Volume) (events : List Event) (path : Path) (place : ℕ) : Type 0 where
   pub write : ToWrite
   pub to : Path
   pub gives : GivesName events place write to
   pub onto : spot (tree_at first events place) path ≡ Ok to
 
--- A path holds the whole encoding of the write that was the last to move its file onto that very name, whose data are as
+-- A path holds the whole encoding of the write that was the last to move its file onto that name, whose data are as
 -- many as its header says, and since then nothing changed the path or its way.
 pub record HoldsWhole (first : Volume) (events : List Event) (path : Path) (place now : ℕ) : Type 0 where
   pub last : ℕ
@@ -59,7 +59,7 @@ pub record HoldsWhole (first : Volume) (events : List Event) (path : Path) (plac
   pub full : length gives.write.bytes ≡ gives.write.size
 
 -- In an undisturbed run, a name that a write made, whose rename replaced no link that its path crosses, holds a whole encoding
--- from its rename on, until a step other than a write's rename onto that very name changes the path or the way to it.
+-- from its rename on, until a step other than a write's rename onto that name changes the path or the way to it.
 abbrev pub NamesStayWhole : Volume → List Event → Type 0
 NamesStayWhole first events =
     (place now : ℕ) (w : ToWrite) (to : Path) → GivesName events place w to → crosses (tree_at first events place) (name_path w) to ≡ false

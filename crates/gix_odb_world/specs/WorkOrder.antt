@@ -1,4 +1,4 @@
--- What the code of a handle's work asks, and what an answer makes of it. No public clause cites this.
+-- What the code of a handle's work asks, and the work after an answer. No public clause cites this.
 use Rattle.std.specs.Prelude.{Option, Some, None, Result, Ok, Err}
 use Rattle.gix_odb_events.specs.declared.answer.Answer.{Answer}
 use Rattle.gix_odb_events.specs.declared.answer.Ask.{Ask}

@@ -1,4 +1,4 @@
--- How the code of a world stands for a history. No public clause needs more of it than its name.
+-- How the code of a world represents a history. No public clause needs more of it than its name.
 use Rattle.std.specs.Prelude.{◌≡◌, ℕ, List, [], ◌∷◌, ◌++◌, map, length, Option, Some, None}
 use Rattle.std.specs.Option.{option_map}
 use Rattle.std.specs.Ordering.{nat_cmp}
@@ -23,7 +23,7 @@ use Rattle.gix_odb_world.specs.Headline.{Law, IsLawful}
 abbrev pub stored_at : Course → ℕ → Option Handle
 stored_at world number = get nat_cmp world.handles number
 
--- the same as proofs see it
+-- that handle as proofs see it
 abbrev pub handle_at : Course → ℕ → Option Seen
 handle_at world number = option_map seen (stored_at world number)
 
@@ -47,7 +47,7 @@ pub record Explains (first : Volume) (events : List Event) (world : Course) : Ty
   pub lawful : IsLawful first events
   -- what is kept of the watched paths is what they have shown
   pub watched : Keeps (tree_at first events) (watched_after events) (length events) world.shown
-  -- it began with a tree, and each handle had seen what its status says after each event
+  -- it began with a tree, and after each event each handle knew what its status says
   pub start : IsTree (tree_of first.state)
   pub throughout : RunsThroughout first events
 
@@ -60,7 +60,7 @@ pub record HasHistory (world : Course) : Type 0 where
 abbrev pub IsExplained : Course → Type 0
 IsExplained world = ∥ HasHistory world ∥₁
 
--- a step takes the history one event on
+-- a step adds one event to the history
 pub record GoesOn (first : Volume) (events : List Event) (step : Step) (outcome : Outcome) (world : Course) : Type 0 where
   pub event : Event
   pub step_is : event.step ≡ step
@@ -68,7 +68,7 @@ pub record GoesOn (first : Volume) (events : List Event) (step : Step) (outcome 
   pub law : Law first events event
   pub explains : Explains first (events ++ event ∷ []) world
 
--- Every history that leads to the old world goes on by the step to the new one.
+-- Every history that leads to the old world continues by the step to the new one.
 abbrev pub Continues : Course → Step → Course → Type 0
 Continues old step new =
     (first : Volume) (events : List Event) → Explains first events old → (outcome : Outcome) × GoesOn first events step outcome new

@@ -40,7 +40,7 @@ pub record HasWritten (first : Volume) (events : List Event) (handle begun : ℕ
   pub made : ℕ
   pub later : begun ≤ made
   pub makes : AskedAt first events handle made (asks.NewFile (temp_path w.objects number)) answers.Done
-  -- the last turn alone renamed
+  -- only the last turn renamed
   pub source : Path
   pub target : Path
   pub renames : change_of_rename (tree_at first events (length past)) (temp_path w.objects number) (loose_path w.objects id)
@@ -68,7 +68,7 @@ pub record WasRefused (first : Volume) (events : List Event) (handle begun : ℕ
   pub cause : CauseOfWrite first events handle begun w error
 
 -- A write whose store could not be listed changed nothing. The store was unread, by the snapshot of the handle as the write began and by the
--- core's list, and the error has its cause in what the handle was told since, or in what its core refused.
+-- core's list, and the error has its cause in an answer to the handle since then, or in what its core refused.
 pub record WasUnlisted (events : List Event) (handle : ℕ) (store : Store) (modes : Modes) (begun : ℕ) (error : load.Error) : Type 0 where
   pub unchanged : ChangedNothing events handle begun
   pub unread : WasUnread (view_then events handle modes.core begun) (told_since events handle begun)

@@ -5,22 +5,22 @@ ghost use Rattle.gix_odb_world.specs.Valid.{most_folders};
 
 use gix_odb_loose::PIECE_SIZE;
 
-/// The turns of a lap through a store for its list, for each slot and for each entry of a folder that is listed: to read,
-/// look at, open, close and put one takes fewer.
+/// The turns of a lap through a store for its list, for each slot and for each entry of a listed folder: fewer are needed
+/// to read, stat, open, close and put one.
 const TURNS_EACH: u128 = 8;
 
-/// The turns of a lap for a folder, beside those for its entries: its listings and its loose file take fewer.
+/// The turns of a lap for a folder, besides those for its entries: its listings and its loose file take fewer.
 const TURNS_OF_FOLDER: u128 = 16;
 
-/// The laps that no change of the list causes: the first, and the one that finds the list as it was.
+/// The laps that no change of the list causes: the first, and the one that finds the list unchanged.
 const LAPS_WITHOUT_CHANGE: u128 = 2;
 
-/// The turns of a write beside those of its pieces. It takes fewer: one for each name that it tries, and one each for its
+/// The turns of a write besides those of its pieces. It takes fewer: one for each name that it tries, and one each for its
 /// header, its directory, its rename and the removal of its file.
 const TURNS_BESIDE_PIECES: u128 = 40;
 
 /// The most turns that a call may take, by the slots and the folders of its store, the changes of the list
-/// that it bears, the greatest number of entries in a `pack` or prefix folder, and the bytes of a write.
+/// that it tolerates, the greatest number of entries in a `pack` or prefix folder, and the bytes of a write.
 pub fn bound_of(
     slots: u16,
     folders: u32,

@@ -1,4 +1,4 @@
-//! How far a world has come: its disk, its handles and cores, and what its steps came to; and what each step makes of it.
+//! The state of a world: its disk, its handles and cores, and the outcomes of its steps; and what each step does to it.
 ghost use Rattle.std.specs.Prelude.{◌≡◌, ◌≢◌, ◌<◌, ◌^◌, ◌↔◌, ℕ, IsTrue, ◌++◌, ◌∷◌, [], List, IfOk, OnOk, length, None, Some};
 ghost use Rattle.odb_asks.specs.MemDisk.{Volume};
 ghost use Rattle.gix_odb_runs.specs.Event.{Event};
@@ -26,10 +26,10 @@ mod outside;
 mod reason;
 mod turning;
 
-/// A disk, the handles on it, the cores of their stores, what watched paths have shown, and what has come of the steps so far.
+/// A disk, the handles on it, the cores of their stores, what watched paths have shown, and the outcomes and records so far.
 ///
-/// In mid-step no events need lead to it: a core has its entry before the record tells it, and a handle is taken out of the
-/// table for its turn. So what holds of a world between two steps is said of `World`, and not of this type.
+/// Within a step no events need lead to it: a core has its entry before the record says so, and a handle is taken out of
+/// the table for its turn. So what holds of a world between two steps is a claim about `World`, and not about this type.
 #[derive(Drop)]
 pub struct Course {
     disk: MemDisk,
@@ -41,7 +41,7 @@ pub struct Course {
 }
 
 impl Course {
-    /// No step was made, and nothing is open.
+    /// Returns the state at which no step was made, and nothing is open.
     pub fn new(alloc: Global, disk: MemDisk) -> Course
         ensures explained { Explains disk [] result }
     {
@@ -70,7 +70,7 @@ impl Course {
         let _ = self.disk.tree();
     }
 
-    /// The first reason why a step isn't valid now, or `None` where it is.
+    /// Returns the first reason why a step isn't valid now, or `None` where it is.
     pub fn why_not(&self, alloc: Global, step: &Step) -> Result<Option<Why>, NoMemory>
         requires explained { IsExplained self.now }
         ensures reason { IfOk result (λ why. (first : Volume) (events : List Event) → Explains first events self.now → IsReason first events step.now why) }
@@ -78,7 +78,7 @@ impl Course {
         self.first_reason(alloc, step)
     }
 
-    /// The run of the steps so far. Every history that leads here is its own.
+    /// Returns the run of the steps so far. It is the run of every history that leads here.
     pub fn finish(self, alloc: Global) -> Result<Run, NoMemory>
         ensures run { IfOk result (λ run. (first : Volume) (events : List Event) → Explains first events self → IsRun first events run) }
     {
@@ -90,7 +90,7 @@ impl Course {
             outcomes,
             records,
         } = self;
-        // The proof takes from this call that the steps are counted by a number of 64 bits, as the entries of a journal are.
+        // The proof takes from this call that the count of steps fits in 64 bits, as that of a journal's entries does.
         let _ = records.len();
         match journals_of(alloc, cores) {
             Ok(journals) => Ok(Run {
@@ -106,7 +106,7 @@ impl Course {
         }
     }
 
-    /// Makes one step. Where memory runs out, nothing is said of what is left.
+    /// Makes one step. Where memory runs out, nothing is promised of the state that is left.
     pub fn advance(&mut self, alloc: Global, step: &Step) -> Result<(), NoMemory>
         requires explained { IsExplained self.old }
         ensures continues { OnOk result (Continues self.old step.now self.new) }
@@ -130,14 +130,14 @@ impl Course {
         }
     }
 
-    /// How many steps were made.
+    /// Returns how many steps were made.
     pub fn count(&self) -> usize
         ensures count { result ≡ length self.now.outcomes }
     {
         self.outcomes.len()
     }
 
-    /// Whether the last step was a turn after which its call goes on.
+    /// Returns whether the last step was a turn after which its call goes on.
     pub fn is_pending(&self) -> bool
         ensures pending { (before : List Outcome) (outcome : Outcome) → self.now.outcomes ≡ before ++ outcome ∷ [] → IsTrue result ↔ (outcome ≡ Outcome.Pending) }
         ensures fits { length self.now.outcomes < 2 ^ 64 }
@@ -145,7 +145,7 @@ impl Course {
         matches!(self.outcomes.as_slice(), [.., Outcome::Pending])
     }
 
-    /// What the last step came to.
+    /// Returns the outcome of the last step.
     pub fn last_outcome(&self, alloc: Global) -> Result<Outcome, NoMemory>
         requires some { self.now.outcomes ≢ [] }
         ensures last { IfOk result (λ outcome. (before : List Outcome) × (self.now.outcomes ≡ before ++ outcome ∷ [])) }
@@ -185,7 +185,7 @@ impl Course {
         self.note(Outcome::Applied, Did::Nothing, None)
     }
 
-    /// Begins a further handle on the store of an idle one.
+    /// Begins another handle on the store of an idle one.
     fn share(&mut self, alloc: Global, number: u32, from: u32) -> Result<(), NoMemory>
         requires explained { IsExplained self.old }
         ensures continues { OnOk result (Continues self.old (Step.Clone number from) self.new) }
@@ -203,7 +203,7 @@ impl Course {
         self.note(Outcome::Applied, did, None)
     }
 
-    /// Puts a handle under a number that shares the store of an idle one, in its modes, with a snapshot of its own.
+    /// Puts a handle under a number, which shares the store of an idle one, with its modes and a snapshot of its own.
     fn put_shared(&mut self, number: u32, from: u32, view: View) -> Result<(), NoMemory>
         requires idle { why_not_idle (phase_of_handle (handle_at self.old from)) ≡ None }
         ensures sets { OnOk result (SetsHandle self.old self.new number (shared_with view (handle_at self.old from))) }

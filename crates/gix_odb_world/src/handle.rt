@@ -27,8 +27,8 @@ pub enum HandleAt {
 }
 
 impl Handle {
-    /// What its work asks for next: a call of the disk, an event of the core of its store, or a core that is to be made for
-    /// it; there is nothing where the work is done, or the handle is at rest.
+    /// Returns what its work asks for next: a call of the disk, an event of the core of its store, or a core that is to be
+    /// made for it; `None` where the work is done, or the handle is at rest.
     pub fn ask(&self, alloc: Global) -> Result<Option<Ask>, NoMemory>
         ensures asked { IfOk result (λ ask. ask ≡ ask_by_handle (Some (seen self.now))) }
     {
@@ -39,7 +39,7 @@ impl Handle {
         }
     }
 
-    /// The path with which the stream was opened that its call of the disk is on, where it is on one.
+    /// Returns the directory of the open stream that its next call of the disk reads, where it reads one.
     pub fn opened(&self) -> Option<&PathText>
         ensures opened { option_map (λ path. path.now) result ≡ opened_by (seen self.now).work }
     {
@@ -50,7 +50,7 @@ impl Handle {
         }
     }
 
-    /// A handle at rest ignores replacements from now on.
+    /// Makes a handle at rest ignore replacements from now on.
     pub fn ignore(&mut self)
         ensures ignoring { self.new ≡ ignoring_handle self.old }
     {

@@ -14,15 +14,15 @@ use odb_base::{NoMemory, PathText};
 use std::alloc::Global;
 use std::collections::{BTreeMap, BTreeSet};
 
-/// The most folders of a store beside its objects directory: with it they are 256, so that the place of a folder has 8
+/// The most folders of a store besides its objects directory: with it they are 256, so that the place of a folder has 8
 /// bits, and the bound of a call's turns, which has a sum over the folders, is a number of 128 bits.
 const MAX_FOLDERS: usize = 255;
 
-/// The most changes of the list of indices that a call may be told to bear: the bound of its turns is a number of 128 bits
-/// then.
+/// The most changes of the list of indices that a call may be set to tolerate: the bound of its turns is a number of 128
+/// bits then.
 const MAX_CHANGES: u32 = 1_000_000;
 
-/// An opening that begins, or nothing where a condition of opening doesn't hold.
+/// Returns an opening that begins, or `None` where a condition of opening doesn't hold.
 pub fn begun(
     alloc: Global,
     path: &PathText,
@@ -48,7 +48,7 @@ pub fn begun(
     Ok(Some(opening))
 }
 
-/// Whether the conditions of opening hold.
+/// Returns whether the conditions of opening hold.
 pub fn is_good(
     alloc: Global,
     path: &PathText,
@@ -81,7 +81,7 @@ fn are_good_folders(alloc: Global, path: &PathText, folders: &PathList) -> Resul
     Ok(paths.len() == folders.len() + 1)
 }
 
-// The replacements by the ids that are replaced, or nothing where one of these comes twice, or an id is of another hash.
+// Maps each replaced id to its replacement; `None` where one is replaced twice, or an id is of another hash.
 fn good_replacements(
     alloc: Global,
     hash: Kind,
@@ -97,7 +97,7 @@ fn good_replacements(
     }
 }
 
-// The replacements by the ids that are replaced, or nothing where one of these comes twice.
+// Maps each replaced id to its replacement; `None` where one is replaced twice.
 fn replacement_map(
     alloc: Global,
     pairs: &IdPairs,
@@ -113,7 +113,7 @@ fn replacement_map(
     }
 }
 
-// The map of pairs.
+// Collects pairs into a map.
 fn collected(
     alloc: Global,
     pairs: &[(ObjectId, ObjectId)],

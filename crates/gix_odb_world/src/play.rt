@@ -10,13 +10,13 @@ use odb_base::{NoMemory, Sequence};
 use odb_disk::MemDisk;
 use std::alloc::Global;
 
-/// What lines came to: the run of the steps that they stand for, these steps, and for each line the place of its last step.
+/// The result of lines: the run of the steps that they stand for, these steps, and for each line the place of its last step.
 #[derive(Drop)]
 pub struct Play {
     pub run: Run,
     /// The steps that were made, one for each of the run's outcomes.
     pub steps: Sequence<Step>,
-    /// From 0, in the steps and in the run's outcomes.
+    /// Counted from 0, in the steps and in the run's outcomes.
     pub last: Sequence<usize>,
 }
 

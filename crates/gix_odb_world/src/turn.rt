@@ -1,5 +1,5 @@
-//! A turn of a handle: the one thing that its work asks for is carried out, of the disk or of the cores, the work is fed the
-//! answer, and where it is done the handle rests or is gone.
+//! A turn of a handle: it carries out the one thing that its work asks for, of the disk or of the cores, and feeds the work
+//! the answer; where the work is done, the handle rests or is gone.
 ghost use Rattle.std.specs.Prelude.{◌≡◌, ◌<◌, ◌≤◌, [], length, IfOk, IsSome, OnOk, None, Some, true};
 ghost use Rattle.std.specs.Option.{option_map};
 ghost use Rattle.odb_asks.specs.Ask.{after_ask, answer_now};
@@ -34,21 +34,21 @@ use odb_base::{Boxed, NoMemory};
 use odb_disk::{MemDisk, PathText};
 use std::alloc::Global;
 
-/// What a turn did, and what its handle is told for it.
+/// What a turn did, and what its handle is fed for it.
 #[derive(Drop)]
 pub struct Carried {
     pub did: Did,
     pub told: Told,
 }
 
-/// What a handle is told in a turn.
+/// What a handle is fed in a turn.
 #[derive(Drop)]
 pub enum Told {
     /// Nothing, since its work asked for nothing.
     Nothing,
     /// The answer of the disk, or of the core of its store.
     Answer(Answer),
-    /// That a core with so many slots was made for its store, which has this number and passed this view to the handle.
+    /// A core was made for its store, with so many slots; it has this number and passed this view to the handle.
     Core {
         number: usize,
         slots: u16,
@@ -56,14 +56,14 @@ pub enum Told {
     },
 }
 
-/// What a turn comes to: its outcome, and its handle after it, if it is not gone.
+/// The result of a turn: its outcome, and its handle after it, if it is not gone.
 #[derive(Drop)]
 pub struct Turned {
     pub outcome: Outcome,
     pub handle: Option<Handle>,
 }
 
-// ---- what is asked for is carried out
+// ---- carrying out
 
 /// Carries out the one thing that the work of a handle asked for, of the disk or of the cores. The handle has a seat there.
 pub fn carried_out(
@@ -106,7 +106,7 @@ fn on_disk(
     })
 }
 
-/// Makes a call of the disk: what it did, and the answer.
+/// Makes a call of the disk, and returns what it did with the answer.
 fn answered(
     alloc: Global,
     disk: &mut MemDisk,
@@ -169,9 +169,9 @@ fn at_new_core(
     })
 }
 
-// ---- the handle is told of it
+// ---- feeding the handle
 
-/// What a turn comes to in which a handle is told this.
+/// Returns the result of a turn in which a handle is fed this.
 pub fn fed(alloc: Global, handle: Handle, told: Told) -> Result<Turned, NoMemory>
     requires under_way { IsUnderWay (seen handle).work }
     requires answers { IsToldTo (ask_by_handle (Some (seen handle))) told }
@@ -185,7 +185,7 @@ pub fn fed(alloc: Global, handle: Handle, told: Told) -> Result<Turned, NoMemory
     }
 }
 
-/// What a turn of an opening comes to that is told this.
+/// Returns the result of a turn of an opening that is fed this.
 fn fed_opening(
     alloc: Global,
     core: usize,
@@ -227,7 +227,7 @@ fn fed_call(alloc: Global, core: usize, mut call: CallState, told: Told) -> Resu
 
 // ---- where the work is done, the handle rests or is gone
 
-/// What a turn comes to by which a store was opened: its handle rests.
+/// Returns the result of a turn that opened a store: its handle rests.
 fn opened(
     alloc: Global,
     core: usize,
@@ -249,7 +249,7 @@ fn opened(
     })
 }
 
-/// What a turn of an opening comes to that left it so. Where it is done it was refused, and the handle is gone.
+/// Returns the result of a turn that left an opening so. Where it is done it was refused, and the handle is gone.
 fn finished_opening(alloc: Global, core: usize, opening: OpenState) -> Result<Turned, NoMemory>
     requires refused { (reply : Reply) → opening.stage ≡ opens.Done reply → refuses_opening reply ≡ true }
     ensures outcome { IfOk result (λ turned. turned.outcome ≡ outcome_of (result_in (Opening opening.stage))) }
@@ -264,7 +264,7 @@ fn finished_opening(alloc: Global, core: usize, opening: OpenState) -> Result<Tu
     }
 }
 
-/// What a turn of a call comes to that left it so.
+/// Returns the result of a turn that left a call so.
 fn finished_call(alloc: Global, core: usize, call: CallState) -> Result<Turned, NoMemory>
     ensures outcome { IfOk result (λ turned. turned.outcome ≡ outcome_of (result_in (Calling call.stage))) }
     ensures handle { IfOk result (λ turned. option_map seen turned.handle ≡ after_turn (parts_of core call.handle) (result_in (Calling call.stage))) }
@@ -275,7 +275,7 @@ fn finished_call(alloc: Global, core: usize, call: CallState) -> Result<Turned, 
     }
 }
 
-/// What a turn comes to after which the work goes on.
+/// Returns the result of a turn after which the work goes on.
 fn going_on(core: usize, at: HandleAt) -> Turned
     ensures outcome { result.outcome ≡ Outcome.Pending }
     ensures handle { result.handle ≡ Some (record { core = core; at = at }) }
@@ -286,7 +286,7 @@ fn going_on(core: usize, at: HandleAt) -> Turned
     }
 }
 
-/// What a turn comes to that left a call done.
+/// Returns the result of a turn that finished a call.
 fn replied(alloc: Global, core: usize, state: HandleState, reply: Reply) -> Result<Turned, NoMemory>
     ensures outcome { IfOk result (λ turned. turned.outcome ≡ Outcome.Reply reply) }
     ensures handle { IfOk result (λ turned. option_map seen turned.handle ≡ after_reply None (tables.at_rest (parts_of core state)) reply) }
@@ -306,7 +306,7 @@ fn replied(alloc: Global, core: usize, state: HandleState, reply: Reply) -> Resu
     }
 }
 
-/// A handle after the reply to its work: none after a refused opening, else at rest.
+/// Returns a handle after the reply to its work: none after a refused opening, else one at rest.
 fn at_rest(core: usize, state: HandleState, reply: &Reply) -> Option<Handle>
     ensures rests { option_map seen result ≡ after_reply None (tables.at_rest (parts_of core state)) reply.now }
 {

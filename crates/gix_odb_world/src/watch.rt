@@ -1,4 +1,4 @@
-//! The rule of two contents: which folders are watched, what the work of a turn asks for, and what this would make their paths show.
+//! The rule of two contents: which folders are watched, what a turn asks for, and what this would make their paths show.
 ghost use Rattle.std.specs.Prelude.{◌≡◌, ◌∷◌, IfOk, None, OnOk, Some, true};
 ghost use Rattle.std.specs.Option.{option_map};
 ghost use Rattle.std.specs.Result.{result_err};
@@ -22,7 +22,7 @@ use odb_base::{Boxed, NoMemory};
 use odb_disk::{Change, MemDisk, PathText, Tree};
 use std::alloc::Global;
 
-/// What was judged of a turn that is valid: what its work asks for, the change that this makes, and what watched paths show by it.
+/// What was judged of a valid turn: what its work asks for, the change that this makes, and what watched paths show by it.
 #[derive(Drop)]
 pub struct Judged {
     pub ask: Option<Ask>,
@@ -61,8 +61,8 @@ fn watch_each(
     Ok(())
 }
 
-/// What the work of a handle asks for, the change that this would make, and what watched paths would show by it; or that this would be
-/// a second content.
+/// Returns what the work of a handle asks for, the change that this would make, and what watched paths would show by
+/// it. The error: it would be a second content.
 pub fn judged_work(
     alloc: Global,
     disk: &MemDisk,
@@ -79,7 +79,7 @@ pub fn judged_work(
     judged_ask(alloc, disk, shown, ask)
 }
 
-/// The same of what a piece of work asks for, which is handed on.
+/// Judges what a piece of work asks for, and passes this on.
 fn judged_ask(
     alloc: Global,
     disk: &MemDisk,
@@ -109,8 +109,8 @@ fn judged_ask(
     }
 }
 
-/// The change that would be made by what a piece of work asks for, and what watched paths would show by it; or that this would be a
-/// second content.
+/// Returns the change that the ask of a piece of work would make, and what watched paths would show by it. The error: it
+/// would be a second content.
 fn judged_part(
     alloc: Global,
     disk: &MemDisk,
@@ -128,7 +128,7 @@ fn judged_part(
     }
 }
 
-/// The same of a call of the disk.
+/// Judges a call of the disk: its change, and what watched paths would show by it.
 fn judged_call(
     alloc: Global,
     disk: &MemDisk,
@@ -153,7 +153,7 @@ fn judged_call(
     }
 }
 
-/// The same of a change that is possible, which is handed on.
+/// Judges a possible change, and passes it on.
 fn judged_boxed(
     alloc: Global,
     shown: &Shown,
@@ -179,7 +179,7 @@ fn judged_boxed(
     }
 }
 
-/// What a change that is possible would make watched paths show; or that this would be a second content.
+/// Returns what a possible change would make watched paths show. The error: it would be a second content.
 fn judged_change(
     alloc: Global,
     shown: &Shown,

@@ -1,4 +1,4 @@
-//! A world: its steps, one after another, and the run that they come to.
+//! A world: its steps, one after another, and their run.
 ghost use Rattle.std.specs.Prelude.{◌↔◌, ◌∷◌, ◌++◌, ◌<◌, ◌^◌, ◌≡◌, [], IfOk, IsTrue, List, OnErr, OnOk, length};
 ghost use Rattle.odb_asks.specs.MemDisk.{Volume};
 ghost use Rattle.gix_odb_runs.specs.Event.{Event};
@@ -15,7 +15,7 @@ use odb_disk::MemDisk;
 use std::alloc::Global;
 use std::marker::Model;
 
-/// A disk, the handles on it, and what has come of the steps so far. Some events lead there, from some first disk.
+/// A disk, the handles on it, and the results of the steps so far. Some events lead there, from some first disk.
 #[derive(Drop)]
 pub struct World {
     course: Course,
@@ -36,7 +36,7 @@ impl Model for World {
     ghost invariant = { λ world. IsExplained world.course };
 }
 
-/// The first reason why a step isn't valid now, or `None` where it is.
+/// Returns the first reason why a step isn't valid now, or `None` where it is.
 pub fn is_valid(alloc: Global, world: &World, step: &Step) -> Result<Option<Why>, NoMemory>
     ensures reason { IfOk result (λ why. (first : Volume) (events : List Event) → Explains first events world.now → IsReason first events step.now why) }
 {
@@ -44,7 +44,7 @@ pub fn is_valid(alloc: Global, world: &World, step: &Step) -> Result<Option<Why>
 }
 
 impl World {
-    /// A world at its first state: nothing open, and no step made.
+    /// Returns a world at its first state: nothing open, and no step made.
     pub fn new(alloc: Global, disk: MemDisk) -> World
         ensures explained { Explains disk [] result }
     {
@@ -53,7 +53,7 @@ impl World {
         }
     }
 
-    /// Makes the steps in their order: one outcome and one record for each.
+    /// Makes the steps in their order, with one outcome and one record for each.
     pub fn run(alloc: Global, disk: MemDisk, steps: &[Step]) -> Result<Run, NoMemory>
         ensures headline { IfOk result (λ run. Headline disk steps.now run) }
     {
@@ -65,8 +65,8 @@ impl World {
         Ok(run)
     }
 
-    /// Makes one step, and gives what it came to. Where memory runs out, the steps so far are forgotten, and the world is a new one
-    /// on its disk as it is then.
+    /// Makes one step, and returns its outcome. Where memory runs out, the steps so far are forgotten, and the world is a
+    /// new one on its disk as it is then.
     pub fn step(&mut self, alloc: Global, step: &Step) -> Result<Outcome, NoMemory>
         ensures goes_on { IfOk result (λ outcome. (first : Volume) (events : List Event) → Explains first events self.old → GoesOn first events step.now outcome self.new) }
         ensures anew { OnErr result (Explains self.new.disk [] self.new) }
@@ -81,7 +81,7 @@ impl World {
         }
     }
 
-    /// The run of the steps so far. Every history that leads to the world is its own.
+    /// Returns the run of the steps so far. It is the run of every history that leads to the world.
     pub fn finish(self, alloc: Global) -> Result<Run, NoMemory>
         ensures run { IfOk result (λ run. (first : Volume) (events : List Event) → Explains first events self → IsRun first events run) }
     {
@@ -104,14 +104,14 @@ impl World {
         }
     }
 
-    /// How many steps were made.
+    /// Returns how many steps were made.
     pub(crate) fn count(&self) -> usize
         ensures count { result ≡ length self.now.outcomes }
     {
         self.course.count()
     }
 
-    /// Whether the last step was a turn after which its call goes on.
+    /// Returns whether the last step was a turn after which its call goes on.
     pub(crate) fn is_pending(&self) -> bool
         ensures pending { (before : List Outcome) (outcome : Outcome) → self.now.outcomes ≡ before ++ outcome ∷ [] → IsTrue result ↔ (outcome ≡ Outcome.Pending) }
         ensures fits { length self.now.outcomes < 2 ^ 64 }

@@ -1,4 +1,4 @@
--- What a cache of objects keeps, and what its calls do to that.
+-- What a cache of objects keeps, and how its calls change that.
 use Rattle.std.specs.Prelude.{◌≡◌, ℕ, ◌⊎◌, List, Option, Some, None, option_map}
 use Rattle.std.specs.List.{find}
 use Rattle.std.specs.Ordering.{is_eq}
@@ -12,7 +12,7 @@ pub record Put : Type 0 where
   pub id : ObjectId
   pub object : Object
 
--- the same from its parts
+-- a put from its parts
 abbrev pub put_of : ObjectId → Kind → List ℕ → Put
 put_of id kind bytes = record { id = id; object = record { kind = kind; bytes = bytes } }
 
@@ -23,7 +23,7 @@ Entries = List Put
 abbrev pub entry_of : Entries → ObjectId → Option Object
 entry_of entries id = option_map (λ (put : Put). put.object) (find (λ (put : Put). is_eq (id_cmp put.id id)) entries)
 
--- what a get answered: the kind, with the bytes that were handed out, or none
+-- the answer of a get: the kind, with the bytes in its buffer, or none
 abbrev pub got : Option Kind → List ℕ → Option Object
 got None bytes = None
 got (Some kind) bytes = Some (record { kind = kind; bytes = bytes })
@@ -41,7 +41,7 @@ GainsNone before now = (id : ObjectId) (object : Object) → entry_of now id ≡
 abbrev pub KeepsAll : Entries → Entries → Type 0
 KeepsAll before now = (id : ObjectId) → entry_of now id ≡ entry_of before id
 
--- the last put, where it is told
+-- the last put, if it is reported
 abbrev pub IsLast : Option Put → Put → Type 0
 IsLast None put = Unit {0}
 IsLast (Some last) put = last ≡ put

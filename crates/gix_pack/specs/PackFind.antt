@@ -1,16 +1,16 @@
--- What a database of packs answers: objects with their locations, and the rows of a pack.
+-- The answers of a database of packs: objects with their locations, and the rows of a pack.
 use Rattle.std.specs.Prelude.{◌≡◌, ℕ, List, Vec, Option, Some, None, Result, Ok, Err}
 use Rattle.gix_hash.specs.declared.object_id.ObjectId.{ObjectId}
 use Rattle.gix_object.specs.Data.{Object, object_of}
 use Rattle.gix_object.specs.declared.data.Data.{Data}
 use Rattle.gix_pack_files.specs.declared.data.entry.Location.{Location}
 
--- an object that was found, and where it stands in a pack, if it does
+-- an object that was found, and its location in a pack, if it has one
 pub record Found : Type 0 where
   pub object : Object
   pub location : Option Location
 
--- what a find answered: an object, that there is none, or an error
+-- the result of a find: an object, that there is none, or an error
 abbrev pub found_at : {E : Type 0} → Result (Option (Data × Option Location)) E → Result (Option Found) E
 found_at (Ok (Some found)) = Ok (Some (record { object = object_of found.0; location = found.1 }))
 found_at (Ok None) = Ok None

@@ -1,4 +1,4 @@
-//! Caches in front of packs and objects.
+//! Caches of pack entries and objects.
 ghost use Rattle.std.specs.Prelude.{◌≡◌, [], Option, None, IfOk, OnOk, OnErr};
 ghost use Rattle.gix_pack.specs.Cache.{entry_of, got, put_of, Entries, GainsAtMost, GainsNone, IsLast, KeepsAll, Put};
 
@@ -7,9 +7,9 @@ use gix_object::Kind;
 use odb_base::NoMemory;
 use std::alloc::Global;
 
-/// A cache of the data of a pack's entries. It has no meaning, since it is never asked.
+/// A cache of the data of a pack's entries. It has no model, since it is never asked.
 pub trait DecodeEntry {
-    /// Keeps the data of an entry, if it likes.
+    /// Keeps the data of an entry, or doesn't.
     fn put(
         &mut self,
         alloc: Global,
@@ -20,7 +20,7 @@ pub trait DecodeEntry {
         entry_size: usize,
     ) -> Result<(), NoMemory>;
 
-    /// The kind and the size of an entry whose data are kept; these are put into `out`.
+    /// The kind and the size of an entry whose data are kept; the data are put into `out`.
     fn get(
         &mut self,
         alloc: Global,
@@ -35,10 +35,10 @@ pub trait Object {
     /// What it keeps.
     ghost entries: { Self → Entries };
 
-    /// The last object that was put, where the type tells that.
+    /// The last object that was put, if the type reports it.
     ghost last: { Self → Option Put };
 
-    /// Keeps an object, if it likes, and may let others go.
+    /// Keeps an object, or doesn't, and may drop others.
     fn put(&mut self, alloc: Global, id: ObjectId, kind: Kind, bytes: &[u8]) -> Result<(), NoMemory>
         ensures kept { OnOk result (GainsAtMost (entries self.old) (put_of id kind bytes.now) (entries self.new)) }
         ensures last { OnOk result (IsLast (last self.new) (put_of id kind bytes.now)) }

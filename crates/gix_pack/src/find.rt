@@ -1,4 +1,4 @@
-//! Databases that find objects and tell where in a pack they stand, and what is found at such a location.
+//! Databases that find objects and their locations in packs, and look-ups by location.
 ghost use Rattle.std.specs.Prelude.{◌≡◌, ℕ, Bool, List, Option, Result, IfOk, IfSome};
 ghost use Rattle.gix_hash.specs.declared.kind.Kind.{Kind as hash_kind};
 ghost use Rattle.gix_hash.specs.declared.object_id.ObjectId.{ObjectId as object_id};
@@ -16,7 +16,7 @@ use odb_base::{ByteList, NoMemory};
 use std::alloc::Global;
 use std::sync::Wait;
 
-/// The bytes of a pack's entry, its header in front, and the version of the pack.
+/// The bytes of a pack's entry, beginning with its header, and the version of the pack.
 #[derive(Debug, Drop)]
 pub struct Entry {
     pub bytes: ByteList,
@@ -25,35 +25,35 @@ pub struct Entry {
 
 /// A database that finds objects by their ids, and in packs by their locations.
 ///
-/// What a call answered is a meaning of its own, so that a layer in front can promise what the database
-/// behind it answered in that call. A location is asked for only where the database is stable: it then
-/// keeps the packs that it has loaded, and takes no object for another.
+/// The answer of a call is a relation of its own, so that a wrapper can promise what the wrapped database answered in
+/// that call. A location is asked for only if the database is stable: it then keeps the packs that it has loaded, and
+/// takes no object for another.
 pub trait Find {
     /// Why a find was refused.
     type Error: Drop;
 
-    /// The hash that ids have to be of.
+    /// The hash of ids.
     ghost hash: { Self → hash_kind };
 
-    /// Its locations stay what they are.
+    /// Its locations stay valid.
     ghost is_stable: { Self → Type 0 };
 
-    /// A location that it gave.
+    /// A location that it returned.
     ghost gave: { Self → location_data → Type 0 };
 
     /// A database is asked whether it has an id, gives an answer, and is another database afterwards.
     ghost tests: { Self → object_id → Result Bool Self.Error → Self → Type 0 };
 
-    /// The same of a find, which tells where the object stands.
+    /// A database is asked to find an id, and answers with the object and its location; otherwise like `tests`.
     ghost finds: { Self → object_id → Result (Option Found) Self.Error → Self → Type 0 };
 
-    /// The same of a look for a location.
+    /// A database is asked for the location of an id; otherwise like `tests`.
     ghost locates: { Self → object_id → Result (Option location_data) Self.Error → Self → Type 0 };
 
-    /// The same of the list of a pack's objects.
+    /// A database is asked for the list of a pack's objects; otherwise like `tests`.
     ghost lists: { Self → ℕ → Result (List (ℕ × object_id)) no_memory → Self → Type 0 };
 
-    /// The same of the entry at a location.
+    /// A database is asked for the entry at a location; otherwise like `tests`.
     ghost reads: { Self → location_data → Result entry_data no_memory → Self → Type 0 };
 
     /// Whether there is an object with this id.
@@ -69,8 +69,8 @@ pub trait Find {
         ensures stable { is_stable self.old → is_stable self.new }
         ensures given { KeepsGiven (gave self.old) (gave self.new) };
 
-    /// Finds an object, whose data are put into `out`, cleared before, and where it stands in a pack, if it
-    /// does. None is an object that isn't there.
+    /// Finds an object, whose data are put into `out`, cleared before, and its location in a pack, if it has one.
+    /// None is an object that isn't there.
     fn try_find<'a, R: Wait>(
         &mut self,
         rt: &R,
@@ -85,7 +85,7 @@ pub trait Find {
         ensures stable { is_stable self.old → is_stable self.new }
         ensures given { KeepsGiven (gave self.old) (gave self.new) };
 
-    /// The same, with a cache of the data of entries, which it may ask and fill.
+    /// `try_find` with a cache of the data of entries, which it may ask and fill.
     fn try_find_cached<'a, R: Wait, C: DecodeEntry>(
         &mut self,
         rt: &R,
@@ -101,7 +101,7 @@ pub trait Find {
         ensures stable { is_stable self.old → is_stable self.new }
         ensures given { KeepsGiven (gave self.old) (gave self.new) };
 
-    /// Where an object stands in a pack. None is an object that stands in none.
+    /// The location of an object in a pack. None is an object that is in none.
     fn location_by_oid<R: Wait>(
         &mut self,
         rt: &R,
@@ -116,7 +116,7 @@ pub trait Find {
         ensures stable { is_stable self.new }
         ensures given { KeepsGiven (gave self.old) (gave self.new) };
 
-    /// The place and the id of each object of a pack that a given location names, in the order of its index.
+    /// The offset and the id of each object of the pack of a given location, in the order of its index.
     fn pack_offsets_and_oid<R: Wait>(
         &mut self,
         rt: &R,

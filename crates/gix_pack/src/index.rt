@@ -1,3 +1,3 @@
-//! Pack indices, as they are read and written.
+//! Reading and writing pack indices.
 pub use gix_pack_files::index::{BadIndex, Entry, File, Iter};
 pub use gix_pack_written::index::encode;

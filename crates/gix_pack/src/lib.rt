@@ -1,9 +1,8 @@
-//! Packs, their indices and multi-pack indices, read from bytes and written to them, under one name; the caches
-//! in front of them; and the databases that find objects in them.
+//! Packs, their indices and multi-pack indices, read from bytes and written to them, under one name; caches of pack
+//! entries and objects; and the databases that find objects in packs.
 //!
-//! Packs and their indices are read in `gix_pack_files`, multi-pack indices in `gix_multi_index`, and what both stand
-//! on in `gix_pack_tables`; they are written in `gix_pack_written` and `gix_multi_index_written`. A caller names this
-//! crate alone.
+//! `gix_pack_files` reads packs and their indices, `gix_multi_index` reads multi-pack indices, and both use
+//! `gix_pack_tables`; `gix_pack_written` and `gix_multi_index_written` write them. A caller needs only this crate.
 //! ```rust
 //! let pack = data::File::parse(bytes, Kind::Sha1)?;
 //! assert_eq!(rt; (pack.version(), pack.num_objects()), (2, 1));

@@ -1,4 +1,4 @@
--- Entries of packs: how a header is read, where it stands, and the object behind it.
+-- Entries of packs: how a header is read, where it is, and the object after it.
 pub mod Objects
 use Rattle.std.proofs.Common.{◌≡◌, ℕ, zero, suc, ◌+◌, ◌-◌, ◌*◌, ◌/◌, ◌%◌, ◌^◌, ◌<◌, ◌≤◌, ◌&&◌, nat_le, nat_lt, Bool, true, false, cond, List}
 use Rattle.std.proofs.Common.{length, take, drop, get_or, slice_index, Some, None, Ok, Err, length-take-le, refl, sym, ap, ◌∙◌, arith}
@@ -89,12 +89,12 @@ pub head_that_fits : (header : List ℕ) → size_bits (drop 1 header) < 2 ^ 60
 unfolding head_whole
 head_that_fits header h = rw (small (slice_index header 0) (size_bits (drop 1 header)) h) refl
 
--- the bytes behind the last are the number 0
+-- the bytes after the last are the number 0
 pub bits_none : (bytes : List ℕ) → size_bits (drop (length bytes) bytes) ≡ 0
 unfolding size_bits
 bits_none bytes = rw (drop-length bytes) refl
 
--- a byte in front of a number is its lowest seven bits
+-- a byte before a number is its lowest seven bits
 pub bits_before : (bytes : List ℕ) (place : ℕ) → 0 < place → place ≤ length bytes
     → size_bits (drop (place - 1) bytes) ≡ get_or bytes (place - 1) 0 % 128 + 128 * size_bits (drop place bytes)
 unfolding size_bits
@@ -104,7 +104,7 @@ bits_before bytes (suc at) some within =
     let there : at < length bytes = omega arith in
     rw (less, drop-cons bytes at 0 there) refl
 
--- so many bytes of seven bits are a number below that power
+-- `len` bytes of seven bits are a number below that power
 pub bits_small : (len place byte value : ℕ) → 0 < place → place ≤ len → value < 128 ^ (len - place) → byte % 128 + 128 * value < 128 ^ (len - (place - 1))
 bits_small len place byte value some within below =
     let one : len - (place - 1) ≡ suc (len - place) = omega arith in

@@ -36,7 +36,7 @@ short_file kind bytes short =
     below_differs (length bytes) (wides_place kind (objects_in bytes) + 8 * wides_in kind bytes + 2 * len_in_bytes_of kind)
     (below_fixed (length bytes) (objects_in bytes) (wides_in kind bytes) (len_in_bytes_of kind) short)
 
--- the tables of a file of the right length lie in it
+-- the tables of a file of the right length are in it
 module _ (kind : Kind) (bytes : List ℕ) (fits : has_length kind bytes ≡ true) where
   whole : ids_place + objects_in bytes * (len_in_bytes_of kind + 8) ≤ length bytes
   whole = let long = length_of-fits kind bytes fits in omega arith
@@ -56,10 +56,10 @@ module _ (kind : Kind) (bytes : List ℕ) (fits : has_length kind bytes ≡ true
   pub offsets_room : objects_in bytes * 4 ≤ length (drop (offsets_place kind (objects_in bytes)) bytes)
   offsets_room = let all = whole in let rest = length-drop (offsets_place kind (objects_in bytes)) bytes in omega arith
 
--- what each table wants
+-- the length that each table needs
 pub ruleset table_rooms = (front_room, counts_room, table_room, offsets_place_room, offsets_room)
 
--- what is asked before the tables of such a file are read
+-- what is checked before the tables of such a file are read
 pub rows_in_file : (kind : Kind) (bytes : List ℕ) (n : ℕ) (ids : List ℕ) → has_length kind bytes ≡ true → n ≡ objects_in bytes → ids ≡ drop ids_place bytes → n * len_in_bytes_of kind ≤ length ids
 rows_in_file kind bytes n ids fits n_is ids_is = rw (n_is, ids_is) (table_room kind bytes fits)
 
@@ -82,7 +82,7 @@ not_second true true c h = cc h
 not_second true false c h = refl
 not_second false b c h = refl
 
--- the three tests that the tables stand
+-- the three checks of the tables
 abbrev rises_in : Kind → List ℕ → Bool
 rises_in kind bytes = is_rising (index_ids kind bytes)
 
@@ -116,7 +116,7 @@ tables_told kind bytes n ids counts offsets wides rising agree named n_is ids_is
     ∙ all_three (rises_in kind bytes) (counts_in kind bytes) (names_in kind bytes)
     (rw (n_is, ids_is) at (sym rising_read ∙ rises)) (rw (n_is, ids_is, counts_is) at (sym agree_read ∙ agrees))
 
--- ---- what holds of an index
+-- ---- properties of an index
 
 has_length_of : (kind : Kind) (bytes : List ℕ) → is_index kind bytes ≡ true → has_length kind bytes ≡ true
 unfolding is_index
@@ -144,7 +144,7 @@ offsets_named : (kind : Kind) (bytes : List ℕ) → is_index kind bytes ≡ tru
 unfolding tables_agree
 offsets_named kind bytes h = (and_parts _ _ (tables_of kind bytes h)).1
 
--- the same of a count and of a table that were read
+-- the row of an id in a count and a table that were read
 pub row_read : (kind : Kind) (bytes : List ℕ) (n : ℕ) (ids : List ℕ) (id : ObjectId) (row : Option ℕ) → n ≡ objects_in bytes → ids ≡ drop ids_place bytes
     → IsRowOf (ids_of kind n ids) id row → IsRowOf (index_ids kind bytes) id row
 row_read kind bytes n ids id row n_is ids_is own = rw (n_is, ids_is) at own
@@ -168,7 +168,7 @@ row_narrow kind bytes row h =
     slice_get-map (from_be_bytes w32) (table 4 (objects_in bytes) (drop (offsets_place kind (objects_in bytes)) bytes)) row
     ∙ ap (option_map (from_be_bytes w32)) (row_at (offsets_place kind (objects_in bytes)) 4 (objects_in bytes) bytes row h)
 
--- the same of what was read on the way
+-- the four bytes of a row in what was read
 pub narrow_read : (kind : Kind) (bytes : List ℕ) (row n place number : ℕ) → n ≡ objects_in bytes → place ≡ offsets_place kind n → number ≡ number_at (place + row * 4) bytes → row < objects_in bytes
     → slice_get (narrow_offsets kind bytes) row ≡ Some number
 narrow_read kind bytes row n place number n_is place_is read below =
@@ -207,7 +207,7 @@ pub wide_read_room : (kind : Kind) (bytes : List ℕ) (wide n place : ℕ) → i
 wide_read_room kind bytes wide n place h below n_is place_is =
     rw (place_is ∙ ap (wides_place kind) n_is) (wide_room kind bytes wide h below)
 
--- the row of the wide offsets that a narrow one names is there
+-- the row of the wide offsets that a narrow one refers to exists
 pub wide_below : (kind : Kind) (bytes : List ℕ) (row narrow : ℕ) → is_index kind bytes ≡ true → slice_get (narrow_offsets kind bytes) row ≡ Some narrow → 2 ^ 31 ≤ narrow
     → narrow - 2 ^ 31 < wides_in kind bytes
 wide_below kind bytes row narrow h own high =

@@ -1,4 +1,4 @@
--- Packs: what their header and their length tell.
+-- Packs: what follows from their header and their length.
 use Rattle.std.proofs.Common.{◌≡◌, ℕ, ◌+◌, ◌≤◌, true, List, length}
 use Rattle.std.proofs.lemmas.Bool.{and_parts, leb-true}
 use Rattle.gix_hash.specs.Kind.{len_in_bytes_of}

@@ -9,7 +9,7 @@
 --     w wide offsets                              8 * w
 --     the pack's trailing hash, the index's own   2 * h
 --
--- Here h is the length of an id. A part's place is the sum of the parts before it.
+-- Here h is the length of an id. A part's offset is the sum of the parts before it.
 use Rattle.std.specs.Prelude.{ℕ, ◌+◌, ◌-◌, ◌*◌, ◌/◌, ◌==◌, ◌&&◌, Bool, List, [], ◌∷◌, ◌++◌, length, drop, map, nat_eq, Option, Some, None, if◌then◌else◌}
 use Rattle.std.specs.List.{list_all, starts_with, zip}
 use Rattle.gix_hash.specs.Kind.{len_in_bytes_of}
@@ -18,31 +18,31 @@ use Rattle.gix_hash.specs.declared.object_id.ObjectId.{ObjectId}
 use Rattle.gix_pack_tables.specs.Bytes.{same, number_at, numbers, long_numbers}
 use Rattle.gix_pack_tables.specs.Rows.{Row, ids_of, is_rising, counts_of, offset_in, is_named_below, wide_len}
 
--- what an index that has a version begins with
+-- the first bytes of an index that has a version
 abbrev pub index_start : List ℕ
 index_start = 255 ∷ 116 ∷ 79 ∷ 99 ∷ []
 
--- what each version 2 index begins with
+-- the first bytes of each version 2 index
 abbrev pub signature : List ℕ
 signature = index_start ++ 0 ∷ 0 ∷ 0 ∷ 2 ∷ []
 
--- where the 256 counts begin: behind the signature
+-- the offset of the 256 counts: after the signature
 abbrev pub counts_place : ℕ
 counts_place = 8
 
--- where the last of them stands: behind the signature and 255 counts
+-- the offset of the last of them: after the signature and 255 counts
 abbrev pub last_count_place : ℕ
 last_count_place = 1028
 
--- where the ids begin: behind the signature and 256 counts
+-- the offset of the ids: after the signature and 256 counts
 abbrev pub ids_place : ℕ
 ids_place = 1032
 
--- n: how many objects there are, by the last of the counts
+-- n: the number of objects, from the last of the counts
 abbrev pub objects_in : List ℕ → ℕ
 objects_in bytes = number_at last_count_place bytes
 
--- the place where the offsets begin, and that where the wide ones do
+-- where the offsets begin in the file, and below where the wide ones do
 abbrev pub offsets_place : Kind → ℕ → ℕ
 offsets_place kind n = ids_place + n * (len_in_bytes_of kind + 4)
 
@@ -57,7 +57,7 @@ wides_in kind bytes = (length bytes - (wides_place kind (objects_in bytes) + 2 *
 abbrev pub index_ids : Kind → List ℕ → List ObjectId
 index_ids kind bytes = ids_of kind (objects_in bytes) (drop ids_place bytes)
 
--- the offsets, as their four bytes tell them
+-- the offsets, in their four bytes
 abbrev pub narrow_offsets : Kind → List ℕ → List ℕ
 narrow_offsets kind bytes = numbers (objects_in bytes) (drop (offsets_place kind (objects_in bytes)) bytes)
 
@@ -65,11 +65,11 @@ narrow_offsets kind bytes = numbers (objects_in bytes) (drop (offsets_place kind
 abbrev pub wide_offsets : Kind → List ℕ → List ℕ
 wide_offsets kind bytes = long_numbers (wides_in kind bytes) (drop (wides_place kind (objects_in bytes)) bytes)
 
--- whether the length is that of so many objects and wide offsets, and no other
+-- whether the length is that of n objects and w wide offsets, and no other
 abbrev pub has_length : Kind → List ℕ → Bool
 has_length kind bytes = length bytes == wides_place kind (objects_in bytes) + wide_len * wides_in kind bytes + 2 * len_in_bytes_of kind
 
--- whether the ids rise strictly, the counts are theirs, and each offset that names a row of the wide ones names one of them
+-- whether the ids rise strictly, the counts are theirs, and each offset that refers to a row of the wide ones refers to an existing one
 unfoldable pub tables_agree : Kind → List ℕ → Bool
 tables_agree kind bytes =
     is_rising (index_ids kind bytes) && same (numbers 256 (drop counts_place bytes)) (counts_of (index_ids kind bytes))
@@ -87,6 +87,6 @@ index_offsets kind bytes = map (offset_in (wide_offsets kind bytes)) (narrow_off
 abbrev pub index_rows : Kind → List ℕ → List Row
 index_rows kind bytes = map (λ row. record { id = row.0; offset = row.1 }) (zip (index_ids kind bytes) (index_offsets kind bytes))
 
--- the rows that bytes have as an index, if they are one
+-- the rows of bytes as an index, if they are one
 abbrev pub rows_of_index : Kind → List ℕ → Option (List Row)
 rows_of_index kind bytes = if is_index kind bytes then Some (index_rows kind bytes) else None

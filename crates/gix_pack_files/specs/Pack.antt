@@ -21,15 +21,15 @@ use Rattle.gix_pack_files.specs.declared.data.entry.Entry as found
 use Rattle.gix_pack_files.specs.declared.data.Error.{Error}
 use Rattle.gix_pack_files.specs.declared.data.Error.TheVariants.{BadEntry, DeltaEntry, OutOfMemory, EntryType}
 
--- where the version stands: behind `PACK`
+-- the offset of the version: after `PACK`
 abbrev pub version_place : ℕ
 version_place = 4
 
--- where the number of objects stands: behind the version
+-- the offset of the number of objects: after the version
 abbrev pub count_place : ℕ
 count_place = 8
 
--- where the entries begin: behind `PACK`, the version and the number of objects, of four bytes each
+-- the offset of the entries: after `PACK`, the version and the number of objects, of four bytes each
 abbrev pub entries_place : ℕ
 entries_place = 12
 
@@ -42,22 +42,22 @@ objects_in bytes = number_at count_place bytes
 abbrev pub is_version : ℕ → Bool
 is_version number = number == 2 || number == 3
 
--- whether bytes are a pack: they begin as one, have room for a header and a trailing hash, and a version that is read
+-- whether bytes are a pack: they begin as one, have room for a header and a trailing hash, and have a known version
 unfoldable pub is_pack : HashKind → List ℕ → Bool
 is_pack kind bytes =
     starts_with nat_eq bytes (codes "PACK") && nat_le (entries_place + len_in_bytes_of kind) (length bytes) && is_version (version_in bytes)
 
--- what stands from a place on, up to the trailing hash
+-- the bytes from a place on, up to the trailing hash
 abbrev pub rest_at : HashKind → List ℕ → ℕ → List ℕ
 rest_at kind bytes offset = drop offset (take (trailer_place kind bytes) bytes)
 
 -- ---- the header of an entry
 
--- in how many bytes of seven bits a size is told at most: four of its 64 bits stand in the first byte of the header, and 60 are left
+-- the most bytes of seven bits that a size has: four of its 64 bits are in the first byte of the header, and 60 are left
 abbrev pub most_size_bytes : ℕ
 most_size_bytes = 9
 
--- how long a header is at most: its first byte, and those
+-- the length of the longest header: its first byte, and those
 abbrev pub longest_header : ℕ
 longest_header = 10
 
@@ -65,7 +65,7 @@ longest_header = 10
 abbrev pub header_len : List ℕ → ℕ
 header_len rest = position_or_len (λ b. nat_lt b 128) rest + 1
 
--- the number that bytes of seven bits are, the lowest first; bit 7 says that a byte follows
+-- the number in bytes of seven bits, the lowest first; bit 7 says that a byte follows
 unfoldable pub size_bits : List ℕ → ℕ
 size_bits [] = 0
 size_bits (b ∷ bytes) = b % 128 + 128 * size_bits bytes
@@ -101,7 +101,7 @@ head_at kind bytes offset =
 
 -- ---- entries
 
--- the kind that a type is: 1 to 4 are the four kinds, 6 and 7 are deltas, and 0 and 5 are no kind
+-- the kind of a type: 1 to 4 are the four kinds, 6 and 7 are deltas, and 0 and 5 are no kind
 unfoldable pub kind_of_code : ℕ → Result Kind Error
 kind_of_code code =
     if code == 1 then Ok Commit
@@ -130,7 +130,7 @@ header_at kind bytes offset = do
   object ← kind_of_code head.code
   Ok (record { kind = object; size = head.size; header_len = head.header_len })
 
--- the data of the entry at an offset, behind its header
+-- the data of the entry at an offset, after its header
 abbrev pub data_behind : List ℕ → ℕ → Header → List ℕ
 data_behind bytes offset header = part (offset + header.header_len) header.size bytes
 
@@ -147,12 +147,12 @@ entry_at kind bytes offset limit = do
   header ← header_at kind bytes offset
   object_behind kind bytes offset limit header
 
--- so many bytes of entries from an offset on, or nothing where they leave the entries
+-- `len` bytes of entries from an offset on, or None if they extend beyond the entries
 abbrev pub slice_at : HashKind → List ℕ → ℕ → ℕ → Option (List ℕ)
 slice_at kind bytes offset size =
     if nat_le entries_place offset && nat_le (offset + size) (trailer_place kind bytes) then Some (part offset size bytes) else None
 
--- an entry as it is seen, with its data in the place of where they lie in memory
+-- the model of an entry, with its data in place of their address in memory
 abbrev pub entry_seen : Result found.Entry Error → Result Entry Error
 entry_seen (Ok entry) = Ok (record { kind = entry.kind; size = entry.size; header_len = entry.header_len; bytes = entry.bytes.now })
 entry_seen (Err error) = Err error

@@ -9,7 +9,7 @@ abbrev pub head_seen : Result read.Head Error → Result Head Error
 head_seen (Ok head) = Ok (record { code = head.code; size = head.size; header_len = head.header_len })
 head_seen (Err error) = Err error
 
--- the header that bytes begin with
+-- the header at the start of bytes
 unfoldable pub head_from : List ℕ → Result Head Error
 head_from rest = if begins_with_header rest then Ok (head_of rest) else Err BadEntry
 
@@ -18,6 +18,6 @@ abbrev pub sized : List ℕ → ℕ → ℕ → Result Head Error
 sized header code len =
     if nat_lt (size_of header) (2 ^ 64) then Ok (record { code = code; size = size_of header; header_len = len }) else Err BadEntry
 
--- the header that bytes are, which end where it does
+-- the header in exactly these bytes
 unfoldable pub head_whole : List ℕ → Result Head Error
 head_whole header = sized header (code_of header) (length header)

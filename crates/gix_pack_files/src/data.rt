@@ -1,4 +1,4 @@
-//! Packs: the entries of objects, one behind another.
+//! Packs: the entries of objects, one after another.
 ghost use Rattle.std.specs.Prelude.{◌≡◌, ◌≤◌, ◌↔◌, length, option_map, true, IfOk, IfErr, IsOk, IsTrue};
 ghost use Rattle.gix_pack_files.specs.Pack.{entries_place, entry_at, entry_seen, head_at, header_at, is_pack, is_version as version_is_read};
 ghost use Rattle.gix_pack_files.specs.Pack.{kind_of_code, object_behind, objects_in, slice_at, version_in};
@@ -17,13 +17,13 @@ use odb_base::ByteList;
 use std::marker::Model;
 use thiserror::Error;
 
-/// Where the entries of a pack begin: behind `PACK`, the version and the number of objects, of four bytes each.
+/// The offset of the entries in a pack: after `PACK`, the version and the number of objects, of four bytes each.
 pub const ENTRIES_PLACE: u64 = 12;
 
-// Where the version stands: behind `PACK`.
+// The offset of the version: after `PACK`.
 const VERSION_PLACE: usize = 4;
 
-// Where the number of objects stands: behind the version.
+// The offset of the number of objects: after the version.
 const COUNT_PLACE: usize = 8;
 
 /// Why a pack, or an entry in it, is refused.
@@ -32,7 +32,7 @@ pub enum Error {
     /// The bytes don't begin with `PACK` and version 2 or 3, or are too short.
     #[error("the bytes are no pack of version 2 or 3")]
     BadPack,
-    /// No header stands at the offset, or the data reach into the trailing hash.
+    /// There is no header at the offset, or the data extend into the trailing hash.
     #[error("there is no entry at this offset")]
     BadEntry,
     /// The entry is a delta: a change of another object.
@@ -48,7 +48,7 @@ pub enum Error {
 
 /// A pack.
 ///
-/// It is seen as its bytes and the hash of its ids.
+/// Contracts see it as its bytes and the hash of its ids.
 #[derive(Drop)]
 pub struct File {
     file: FileBytes,
@@ -91,7 +91,7 @@ impl File {
         version_of(&self.file)
     }
 
-    /// The number of objects, as the pack's header tells it.
+    /// The number of objects in the pack's header.
     #[tactic(auto, using(crate::proofs::PackLemmas::has_room))]
     pub fn num_objects(&self) -> u32
         ensures count { result ≡ objects_in self.now.bytes }
@@ -100,7 +100,7 @@ impl File {
         self.file.number_at(COUNT_PLACE)
     }
 
-    // Where the entries end: at the trailing hash.
+    // The end of the entries: the offset of the trailing hash.
     #[tactic(auto, using(crate::proofs::PackLemmas::has_room))]
     fn entries_end(&self) -> u64
         ensures end { result ≡ trailer_place self.now.kind self.now.bytes }
@@ -134,7 +134,7 @@ impl File {
         })
     }
 
-    /// The object at an offset, where its size is within the limit.
+    /// The object at an offset, if its size is within the limit.
     #[tactic(auto, unfolding(crate::specs::Pack::entry_at))]
     pub fn entry(&self, offset: u64, limit: Option<u64>) -> Result<Entry<'_>, Error>
         ensures entry { entry_seen result ≡ entry_at self.now.kind self.now.bytes offset limit }
@@ -170,7 +170,7 @@ impl File {
         })
     }
 
-    /// So many bytes of entries from an offset on, or none where they leave the entries.
+    /// `len` bytes of entries from an offset on, or None if they extend beyond the entries.
     #[tactic(auto, using(crate::proofs::PackLemmas::has_room))]
     pub fn entry_slice(&self, offset: u64, len: u64) -> Option<&[u8]>
         ensures slice { option_map (λ slice. slice.now) result ≡ slice_at self.now.kind self.now.bytes offset len }
@@ -207,7 +207,7 @@ fn version_of(file: &FileBytes) -> u32
     file.number_at(VERSION_PLACE)
 }
 
-// The kind of an entry's type.
+// The kind of an entry's type code.
 #[tactic(auto, unfolding(crate::specs::Pack::kind_of_code))]
 fn kind_of(code: u8) -> Result<gix_object::Kind, Error>
     ensures kind { result ≡ kind_of_code code }

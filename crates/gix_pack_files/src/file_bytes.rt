@@ -1,4 +1,4 @@
-//! The bytes of a pack or of an index, kept with the hash that its ids are of.
+//! The bytes of a pack or of an index, kept with the hash of its ids.
 ghost use Rattle.std.specs.Prelude.{◌≡◌, ◌+◌, ◌≤◌, drop, length};
 ghost use Rattle.gix_hash.specs.Kind.{len_in_bytes_of};
 ghost use Rattle.gix_pack_tables.specs.Bytes.{long_number_at, number_at as number_of, part as part_of, trailer_place as place_of_trailer};
@@ -7,7 +7,7 @@ use gix_hash::Kind;
 use gix_pack_tables::bytes;
 use odb_base::ByteList;
 
-// A file that ends with a hash: its bytes, and the hash that its ids are of.
+// A file that ends with a hash: its bytes, and the hash of its ids.
 #[derive(Drop)]
 pub(crate) struct FileBytes {
     pub(crate) kind: Kind,
@@ -22,14 +22,14 @@ impl FileBytes {
         self.bytes.len()
     }
 
-    // How long an id is, and a hash at the end.
+    // The length of an id, and of the trailing hash.
     pub(crate) fn hash_len(&self) -> usize
         ensures len { result ≡ len_in_bytes_of self.now.kind }
     {
         self.kind.len_in_bytes()
     }
 
-    // Where the last hash begins.
+    // The offset of the trailing hash.
     pub(crate) fn trailer_place(&self) -> usize
         requires room { len_in_bytes_of self.now.kind ≤ length self.now.bytes }
         ensures place { result ≡ place_of_trailer self.now.kind self.now.bytes }
@@ -53,7 +53,7 @@ impl FileBytes {
         bytes::long_at(self.bytes.as_slice(), place)
     }
 
-    // The bytes behind the first so many.
+    // The bytes after the first `size`.
     pub(crate) fn behind(&self, size: usize) -> &[u8]
         requires room { size ≤ length self.now.bytes }
         ensures rest { result.now ≡ drop size self.now.bytes }
@@ -61,7 +61,7 @@ impl FileBytes {
         bytes::behind_first(self.bytes.as_slice(), size)
     }
 
-    // So many bytes from a place on.
+    // `size` bytes from a place on.
     pub(crate) fn part(&self, place: usize, size: usize) -> &[u8]
         requires room { place + size ≤ length self.now.bytes }
         ensures part { result.now ≡ part_of place size self.now.bytes }

@@ -1,4 +1,4 @@
-//! Pack indices, version 2: where the objects of a pack stand in it.
+//! Pack indices, version 2: the offsets of the objects of a pack.
 ghost use Rattle.std.specs.Prelude.{◌≡◌, ◌^◌, ◌<◌, ◌≤◌, ◌↔◌, length, slice_get, true, IfOk, IsOk, IsTrue, Some};
 ghost use Rattle.gix_pack_files.specs.IndexRows.{rows_left};
 ghost use Rattle.gix_pack_tables.specs.Rows.{IsPrefixRun, IsRowOf};
@@ -17,22 +17,22 @@ use std::ops::Range;
 use thiserror::Error;
 pub use walk::Iter;
 
-/// What each index begins with: the mark of indices that have a version, and version 2.
+/// The first bytes of each index: the magic number of indices with a version, and version 2.
 pub const SIGNATURE: [u8; 8] = [255, 116, 79, 99, 0, 0, 0, 2];
 
-// Where the 256 counts begin: behind the mark and the version.
+// The offset of the 256 counts: after the magic number and the version.
 const COUNTS_PLACE: usize = 8;
 
-// Where the last of them stands, which is the number of objects: behind the mark, the version and 255 counts of four bytes.
+// The offset of the last count, the number of objects: after the magic number, the version and 255 counts.
 const LAST_COUNT_PLACE: usize = 1028;
 
-// Where the ids begin: behind the mark, the version and the counts.
+// The offset of the ids: after the magic number, the version and the counts.
 const IDS_PLACE: usize = 1032;
 
-// How long a CRC value is.
+// The length of a CRC value.
 const CHECK_LEN: usize = 4;
 
-// How long an offset is that isn't wide.
+// The length of an offset that isn't wide.
 const OFFSET_LEN: usize = 4;
 
 /// The bytes are no pack index of version 2.
@@ -42,7 +42,7 @@ pub struct BadIndex;
 
 /// A pack index.
 ///
-/// It is seen as its bytes and the hash of its ids.
+/// Contracts see it as its bytes and the hash of its ids.
 #[derive(Drop)]
 pub struct File {
     file: FileBytes,
@@ -65,7 +65,7 @@ impl Model for File {
 pub struct Entry {
     pub oid: ObjectId,
     pub pack_offset: u64,
-    /// Always none: checks are not read.
+    /// Always None: CRC values are not read.
     pub crc32: Option<u32>,
 }
 
@@ -101,7 +101,7 @@ impl File {
         search::id_at(self.file.behind(IDS_PLACE), self.file.kind, n)
     }
 
-    /// The place in the pack of a row's object.
+    /// The offset in the pack of a row's object.
     pub fn pack_offset_at_index(&self, n: u32) -> u64
         requires row { n < objects_in self.now.bytes }
         ensures offset { slice_get (index_offsets self.now.kind self.now.bytes) n ≡ Some result }
@@ -113,7 +113,7 @@ impl File {
         self.wide_at(narrow - HIGH_BIT)
     }
 
-    // The offset of a row, as its four bytes tell it.
+    // The four bytes of a row's offset.
     #[tactic(auto, using(crate::proofs::IndexLemmas::has_ids))]
     fn narrow_at(&self, row: u32) -> u32
         requires row { row < objects_in self.now.bytes }
@@ -147,7 +147,7 @@ impl File {
         )
     }
 
-    /// The rows whose ids begin with a prefix.
+    /// The range of rows whose ids begin with a prefix.
     #[tactic(auto, using(crate::proofs::IndexLemmas::ids_room, crate::proofs::IndexLemmas::ids_rise, crate::proofs::IndexLemmas::has_ids))]
     pub fn lookup_prefix(&self, prefix: &Prefix) -> Range<u32>
         ensures run { IsPrefixRun (index_ids self.now.kind self.now.bytes) prefix.now result.start result.end }
@@ -206,7 +206,7 @@ fn has_tables(file: &FileBytes) -> bool
         && tables::are_named(n, offsets, wides_of(file) as u64)
 }
 
-// The number of objects, by the last of the counts.
+// The number of objects, from the last of the counts.
 fn count_of(file: &FileBytes) -> u32
     requires room { ids_place ≤ length file.now.bytes }
     ensures count { result ≡ objects_in file.now.bytes }
@@ -223,7 +223,7 @@ fn wides_of(file: &FileBytes) -> usize
     file.len().saturating_sub(fixed) / WIDE_LEN
 }
 
-// Where the offsets of so many objects begin: behind the ids and the CRC values.
+// Where the offsets of `count` objects begin: after the ids and the CRC values.
 fn offsets_place_of(kind: Kind, count: u32) -> usize
     ensures place { result ≡ offsets_place kind count }
     ensures small { result < 2 ^ 40 }
@@ -234,7 +234,7 @@ fn offsets_place_of(kind: Kind, count: u32) -> usize
     }
 }
 
-// Where the wide offsets of so many objects begin: behind the offsets.
+// Where the wide offsets of `count` objects begin: after the offsets.
 fn wides_place_of(kind: Kind, count: u32) -> usize
     ensures place { result ≡ wides_place kind count }
     ensures small { result < 2 ^ 40 }

@@ -1,7 +1,7 @@
-//! Packs and their indices, read from bytes. They are written in `gix_pack_written`.
+//! Packs and their indices, read from bytes. `gix_pack_written` writes them.
 //!
-//! Reading takes exactly what the grammars of `specs/` allow, and keeps the bytes. What is asked of an
-//! index is answered from its rows, whatever way they are searched.
+//! `parse` accepts exactly what the grammars of `specs/` allow, and keeps the bytes. Look-ups in an index are defined
+//! by its rows, whatever the search.
 //! ```rust
 //! let pack = data::File::parse(bytes, Kind::Sha1)?;
 //! assert_eq!(rt; (pack.version(), pack.num_objects()), (2, 1));

@@ -1,4 +1,4 @@
--- Lists row by row: pairs of two lists, what is left from a row on, and what holds of each row.
+-- Lists row by row: pairs of two lists, the rest from a row on, and properties of each row.
 use Rattle.std.proofs.Common.{◌≡◌, ℕ, zero, suc, ◌+◌, Bool, true, List, [], ◌∷◌, drop, slice_get, Some, sym, ap, ◌∙◌, arith}
 use Rattle.std.specs.List.{list_all, zip}
 use Rattle.std.proofs.lemmas.Bool.{and_parts}
@@ -15,7 +15,7 @@ drop_at [] i x h = cc h
 drop_at {X} (a ∷ xs) zero x h = ap (λ (y : X). y ∷ xs) (same_Some a x h)
 drop_at (a ∷ xs) (suc i) x h = let next : suc i + 1 ≡ suc (i + 1) = omega arith in rw next (drop_at xs i x h)
 
--- what holds of each row holds of one
+-- a property of each row holds of one
 pub of_row : {X : Type 0} (test : X → Bool) (rows : List X) (n : ℕ) (row : X) → list_all test rows ≡ true → slice_get rows n ≡ Some row → test row ≡ true
 of_row test [] n row all h = cc h
 of_row test (x ∷ rows) zero row all h = ap test (sym (same_Some x row h)) ∙ (and_parts (test x) (list_all test rows) all).0

@@ -1,4 +1,4 @@
--- The rows of a prefix stand side by side: a prefix that is below an id is below each later one, and above none where an id has it.
+-- The rows of a prefix are consecutive: a prefix that is below an id is below each later one, and once an id has it, above no later one.
 use Rattle.std.proofs.Common.{◌≡◌, ℕ, zero, suc, ◌+◌, ◌-◌, ◌*◌, ◌<◌, ◌≤◌, ◌⊎◌, inl, inr, true, List, [], ◌∷◌, take, drop}
 use Rattle.std.proofs.Common.{slice_get, Some, Ordering, Less, Equal, Greater, lit<, refl, sym, ap, ◌∙◌, arith}
 use Rattle.std.proofs.lemmas.List.{get_or-drop}
@@ -30,7 +30,7 @@ IsBytes-take (suc n) (b ∷ bytes) are (suc i) = IsBytes-take n bytes (λ j. are
 IsBytes-part : (place size : ℕ) (bytes : List ℕ) → IsBytes bytes → IsBytes (part place size bytes)
 IsBytes-part place size bytes are = IsBytes-take size (drop place bytes) (IsBytes-drop place bytes are)
 
--- so are those of an id that is made of a part
+-- so are those of an id made of a part
 bytes_from : (kind : Kind) (bytes : List ℕ) → IsBytes bytes → IsBytes (bytes_of (id_from kind bytes))
 bytes_from kind.Sha1 bytes are = are
 bytes_from kind.Sha256 bytes are = are
@@ -64,7 +64,7 @@ module _ (kind : Kind) (n : ℕ) (bytes : List ℕ) (prefix : PrefixOf) (are : I
   later_not_behind row later order below own h =
       not_above_later prefix (id_of_row kind bytes row) (id_of_row kind bytes later) (row_are row) (row_are later) (ids_rise row later order below) own h
 
-  -- the rows up to one that compares otherwise: those above the prefix's, and then those that have it
+  -- the rows up to the first that compares otherwise: those below the prefix, and then those that have it
   module _ (start behind : ℕ) (order : start ≤ behind) (within : behind ≤ n)
       (above : (row : ℕ) → row < start → row_cmp row ≡ Greater) (start_other : start < n → row_cmp start ≡ Greater → ⊥)
       (have : (row : ℕ) → start ≤ row → row < behind → row_cmp row ≡ Equal) (behind_other : behind < n → row_cmp behind ≡ Equal → ⊥) where
@@ -96,7 +96,7 @@ module _ (kind : Kind) (n : ℕ) (bytes : List ℕ) (prefix : PrefixOf) (are : I
         place_of : (row : ℕ) → (row < start) ⊎ ((start ≤ row) × (row < behind)) ⊎ (behind ≤ row)
         place_of row = grind arith
 
--- what two passes over the rows find: the first row that the prefix is not above, and the first from there on that doesn't have it
+-- what two passes over the rows find: the first row that isn't below the prefix, and the first from there on that doesn't have it
 pub prefix_run : (kind : Kind) (n : ℕ) (bytes : List ℕ) (prefix : PrefixOf) (start behind : ℕ) → IsBytes bytes → is_rising (ids_of kind n bytes) ≡ true → start ≤ behind → behind ≤ n
     → ((row : ℕ) (id : ObjectId) → 0 ≤ row → row < start → slice_get (ids_of kind n bytes) row ≡ Some id → prefix_cmp prefix id ≡ Greater)
     → ((id : ObjectId) → slice_get (ids_of kind n bytes) start ≡ Some id → prefix_cmp prefix id ≡ Greater → ⊥)

@@ -18,7 +18,7 @@ less Greater h = cc h
 pub back : (a b : ObjectId) → id_cmp a b ≡ Greater → id_cmp b a ≡ Less
 back a b h = id_order.antisymm b a ∙ ap ordering_reverse h
 
--- ---- the first id, and those behind it
+-- ---- the first id, and those after it
 
 pub none_rise : is_rising [] ≡ true
 unfolding is_rising
@@ -40,7 +40,7 @@ rising_apart a b more h =
 
 -- ---- rows
 
--- the first id is below each other
+-- the first id is below every other
 first_below : (id : ObjectId) (ids : List ObjectId) (row : ℕ) (other : ObjectId) → is_rising (id ∷ ids) ≡ true → slice_get ids row ≡ Some other → id_cmp id other ≡ Less
 first_below id [] row other rising h = cc h
 first_below id (next ∷ ids) zero other rising h =

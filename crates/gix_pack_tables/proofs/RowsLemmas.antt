@@ -80,7 +80,7 @@ first_byte Sha1 (b ∷ rest) = refl
 first_byte Sha256 [] = refl
 first_byte Sha256 (b ∷ rest) = refl
 
--- 1 for a byte that is counted, and 0 for another
+-- 1 for a byte that is counted, and 0 for others
 abbrev counted : ℕ → ℕ → ℕ
 counted byte later = cond (nat_le byte later) 1 0
 
@@ -103,7 +103,7 @@ by_first Less p x y is h = let below = ranked x y Less is in omega arith
 by_first Equal p x y is h = let tied = ranked x y Equal is in omega arith
 by_first Greater p x y is h = cc h
 
--- of two lists in order the first begins with a byte that is no higher
+-- of two lists in order, the first begins with a byte that is no higher
 pub first_no_higher : (xs ys : List ℕ) → is_lt (slice_cmp nat_cmp xs ys) ≡ true → slice_index xs 0 ≤ slice_index ys 0
 first_no_higher [] [] h = cc h
 first_no_higher [] (y ∷ ys) h = omega arith
@@ -123,7 +123,7 @@ none_left : (kind : Kind) (rest : List ℕ) (first : ℕ) → count_to (ids_of k
 unfolding table
 none_left kind rest first = refl
 
--- ids that rise and begin above a byte
+-- ids that rise and all begin above a byte
 pub none_to : (kind : Kind) (left : ℕ) (rest : List ℕ) (first : ℕ) → is_rising (ids_of kind left rest) ≡ true → (0 < left → first < slice_index rest 0)
     → count_to (ids_of kind left rest) first ≡ 0
 none_to kind zero rest first rising above = none_left kind rest first
@@ -167,7 +167,7 @@ unfolding table
 named_none test zero rest h = refl
 named_none test (suc m) rest h = absurd (omega arith)
 
--- the count at a byte, and those of the bytes behind it
+-- the count at a byte, and those of the bytes after it
 pub counts_next : (ids : List ObjectId) (first : ℕ) (rest : List ℕ) → first < 256
     → same (numbers (256 - first) rest) (map (count_to ids) (range_with_len first (256 - first)))
     ≡ ((number_at 0 rest == count_to ids first) && same (numbers (256 - (first + 1)) (drop 4 rest)) (map (count_to ids) (range_with_len (first + 1) (256 - (first + 1)))))
@@ -181,17 +181,17 @@ counts_done ids first rest h =
     let none : 256 - first ≡ 0 = omega arith in
     rw none refl
 
--- where rows are left there is room for one
+-- if rows are left there is room for one
 pub some_room : (kind : Kind) (left room : ℕ) → 0 < left → left * len_in_bytes_of kind ≤ room → len_in_bytes_of kind ≤ room
 some_room Sha1 left room some fits = omega arith
 some_room Sha256 left room some fits = omega arith
 
--- where rows are left, the others have room behind the first
+-- if rows are left, the others have room after the first
 pub room_rest : (kind : Kind) (left : ℕ) (rest : List ℕ) → 0 < left → left * len_in_bytes_of kind ≤ length rest → (left - 1) * len_in_bytes_of kind ≤ length (drop (len_in_bytes_of kind) rest)
 room_rest Sha1 left rest some fits = omega (arith, length-drop 20 rest)
 room_rest Sha256 left rest some fits = omega (arith, length-drop 32 rest)
 
--- a count that is another than that of the ids
+-- a count that differs from that of the ids
 false_first : (b c : Bool) → b ≡ false → false ≡ (b && c)
 false_first true c h = cc h
 false_first false c h = refl

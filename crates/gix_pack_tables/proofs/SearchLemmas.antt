@@ -1,4 +1,4 @@
--- The ids of a table by their rows, as a search goes through them.
+-- The ids of a table by their rows, in the order of a search.
 use Rattle.std.proofs.Common.{◌≡◌, ℕ, ◌+◌, ◌*◌, ◌<◌, ◌≤◌, ◌⊎◌, inl, inr, List, length, slice_get, Contains, Some, option_map, subst, sym, ap, ◌∙◌, arith}
 use Rattle.std.proofs.lemmas.List.{length-map}
 use Rattle.std.proofs.lemmas.Option.{same_Some, slice_get-get_or, slice_get-map}
@@ -18,7 +18,7 @@ pub row_id : (kind : Kind) (n : ℕ) (bytes : List ℕ) (row : ℕ) → row < n 
 row_id kind n bytes row h =
     slice_get-map (id_from kind) (table (len_in_bytes_of kind) n bytes) row ∙ ap (option_map (id_from kind)) (slice_get-table (len_in_bytes_of kind) n bytes row h)
 
--- where there is room for n ids there is room for each
+-- if there is room for n ids there is room for each
 pub row_fits : (kind : Kind) (n row room : ℕ) → row < n → n * len_in_bytes_of kind ≤ room → (row + 1) * len_in_bytes_of kind ≤ room
 row_fits Sha1 n row room below fits = omega arith
 row_fits Sha256 n row room below fits = omega arith
@@ -31,7 +31,7 @@ not_contained ids id n long none = λ (has : Contains ids id).
 last_or_before : (row next : ℕ) → row < next + 1 → (row < next) ⊎ (row ≡ next)
 last_or_before row next below = grind arith
 
--- what holds of the ids of some rows, and of the next one
+-- a property of the ids of some rows, and of the next one
 pub one_row_more : (ids : List ObjectId) (from next : ℕ) (found : ObjectId) (P : ObjectId → Type 0) → ((row : ℕ) (id : ObjectId) → from ≤ row → row < next → slice_get ids row ≡ Some id → P id)
     → slice_get ids next ≡ Some found → P found → (row : ℕ) (id : ObjectId) → from ≤ row → row < next + 1 → slice_get ids row ≡ Some id → P id
 one_row_more ids from next found P earlier at_next holds row id low below get =
@@ -42,7 +42,7 @@ one_row_more ids from next found P earlier at_next holds row id low below get =
           subst P (same_Some found id (sym at_next ∙ there)) holds
     ]
 
--- an id that is none of some rows' and not the next one's
+-- an id that is in none of some rows and not in the next one
 pub no_row_more : (ids : List ObjectId) (next : ℕ) (found id : ObjectId) → ((row : ℕ) → row < next → slice_get ids row ≡ Some id → ⊥)
     → slice_get ids next ≡ Some found → (found ≡ id → ⊥) → (row : ℕ) → row < next + 1 → slice_get ids row ≡ Some id → ⊥
 no_row_more ids next found id earlier at_next other row below get =

@@ -1,4 +1,4 @@
--- Parts of a file's bytes: numbers of four and of eight bytes, the highest byte first, tables of equally long rows, and the hash at the end.
+-- Parts of a file's bytes: numbers of four and eight bytes, big-endian, tables of rows of equal length, and the trailing hash.
 use Rattle.std.specs.Prelude.{ℕ, zero, suc, ◌-◌, Bool, List, [], ◌∷◌, length, take, drop, map, nat_eq}
 use Rattle.std.specs.Int.{w32, w64, from_be_bytes}
 use lib.Pointwise.{pointwise}
@@ -10,16 +10,16 @@ pub use Rattle.odb_base.specs.Limit.{is_within}
 abbrev pub same : List ℕ → List ℕ → Bool
 same = pointwise nat_eq
 
--- so many bytes from a place on
+-- `size` bytes from a place on
 abbrev pub part : ℕ → ℕ → List ℕ → List ℕ
 part place size bytes = take size (drop place bytes)
 
--- a table of n rows, each of so many bytes
+-- a table of n rows of `size` bytes each
 unfoldable pub table : ℕ → ℕ → List ℕ → List (List ℕ)
 table size zero bytes = []
 table size (suc n) bytes = take size bytes ∷ table size n (drop size bytes)
 
--- the number of four bytes at a place, and that of eight
+-- the number of four bytes at a place, and below that of eight
 abbrev pub number_at : ℕ → List ℕ → ℕ
 number_at place bytes = from_be_bytes w32 (part place 4 bytes)
 
@@ -33,6 +33,6 @@ numbers n bytes = map (from_be_bytes w32) (table 4 n bytes)
 abbrev pub long_numbers : ℕ → List ℕ → List ℕ
 long_numbers n bytes = map (from_be_bytes w64) (table 8 n bytes)
 
--- where the hash begins that ends a file
+-- the offset of the trailing hash of a file
 abbrev pub trailer_place : Kind → List ℕ → ℕ
 trailer_place kind bytes = length bytes - len_in_bytes_of kind

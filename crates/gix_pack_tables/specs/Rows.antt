@@ -1,4 +1,4 @@
--- The rows of an index or a multi-index, and what is asked of them: the row of an id, and the rows of a prefix.
+-- The rows of an index or a multi-index, and look-ups in them: the row of an id, and the rows of a prefix.
 use Rattle.std.specs.Prelude.{◌≡◌, ℕ, ◌-◌, ◌^◌, ◌<◌, ◌≤◌, ◌↔◌, ◌&&◌, ◌||◌, Bool, true, List, [], ◌∷◌, length, map}
 use Rattle.std.specs.Prelude.{slice_get, slice_index, count_by, Contains, Option, Some, None, nat_le, nat_lt, if◌then◌else◌}
 use Rattle.std.specs.List.{range_with_len}
@@ -12,18 +12,18 @@ use Rattle.gix_hash.specs.declared.object_id.ObjectId.{ObjectId}
 use Rattle.gix_hash.specs.declared.object_id.ObjectId.TheVariants.{Sha1, Sha256}
 use Rattle.gix_pack_tables.specs.Bytes.{table}
 
--- a row of an index: an id, and the place of its entry in the pack
+-- a row of an index: an id, and the offset of its entry in the pack
 pub record Row : Type 0 where
   pub id : ObjectId
   pub offset : ℕ
 
--- a row of a multi-index: an id, the number of its pack among the names, and the place of its entry there
+-- a row of a multi-index: an id, the number of its pack among the names, and the offset of its entry there
 pub record PackRow : Type 0 where
   pub id : ObjectId
   pub pack : ℕ
   pub offset : ℕ
 
--- the id that has these bytes
+-- the id with these bytes
 abbrev pub id_from : Kind → List ℕ → ObjectId
 id_from kind.Sha1 bytes = Sha1 bytes
 id_from kind.Sha256 bytes = Sha256 bytes
@@ -42,7 +42,7 @@ is_rising (id ∷ next ∷ ids) = is_lt (id_cmp id next) && is_rising (next ∷ 
 abbrev pub count_to : List ObjectId → ℕ → ℕ
 count_to ids first = count_by (λ id. nat_le (slice_index (bytes_of id) 0) first) ids
 
--- how long the counts are in a file: 256 of four bytes each
+-- the length of the counts in a file: 256 of four bytes each
 abbrev pub counts_len : ℕ
 counts_len = 1024
 
@@ -50,34 +50,34 @@ counts_len = 1024
 abbrev pub counts_of : List ObjectId → List ℕ
 counts_of ids = map (count_to ids) (range_with_len 0 256)
 
--- how long a wide offset is in its table
+-- the length of a wide offset in its table
 abbrev pub wide_len : ℕ
 wide_len = 8
 
--- the high bit of four bytes: it marks those that name a wide offset
+-- the high bit of four bytes: it marks those that refer to a wide offset
 abbrev pub high_bit : ℕ
 high_bit = 2 ^ 31
 
--- an index has fewer rows than this, so that what is left of four bytes beside the high bit names each of its wide offsets
+-- an index has fewer rows than this, so that the 31 bits beside the high bit can refer to each of its wide offsets
 abbrev pub rows_limit : ℕ
 rows_limit = 2 ^ 31
 
--- the offset that four bytes tell where there is a table of wide ones: with the high bit set, the other 31 bits are a row of that table
+-- the offset of four bytes, if there is a table of wide ones: with the high bit set, the other 31 bits are a row of that table
 abbrev pub offset_in : List ℕ → ℕ → ℕ
 offset_in wides narrow = if nat_lt narrow high_bit then narrow else slice_index wides (narrow - high_bit)
 
--- whether the row of the table of wide offsets that four bytes name, if they name one, is one of its first n
+-- whether four bytes refer to one of the first n rows of the table of wide offsets, if they refer to one
 abbrev pub is_named_below : ℕ → ℕ → Bool
 is_named_below n narrow = nat_lt narrow high_bit || nat_lt (narrow - high_bit) n
 
--- ---- what is asked
+-- ---- look-ups
 
--- the row of an id, or that it has none
+-- the row of an id, or None if it has none
 abbrev pub IsRowOf : List ObjectId → ObjectId → Option ℕ → Type 0
 IsRowOf ids id None = ¬ (Contains ids id)
 IsRowOf ids id (Some row) = slice_get ids row ≡ Some id
 
--- the rows of a prefix: a run of rows, in which a row stands exactly where its id has the prefix
+-- the rows of a prefix: a range of rows, in which a row is iff its id has the prefix
 pub record IsPrefixRun (ids : List ObjectId) (prefix : PrefixOf) (start behind : ℕ) : Type 0 where
   pub order : start ≤ behind
   pub within : behind ≤ length ids

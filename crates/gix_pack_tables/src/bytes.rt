@@ -1,4 +1,4 @@
-//! Numbers and ids at places of a file's bytes, and limits of sizes.
+//! Numbers and ids at offsets in a file's bytes, and limits of sizes.
 ghost use Rattle.std.specs.Prelude.{◌≡◌, ◌+◌, ◌≤◌, drop, length};
 ghost use Rattle.gix_hash.specs.Kind.{len_in_bytes_of};
 ghost use Rattle.gix_pack_tables.specs.Bytes.{long_number_at, number_at as number_of, part, trailer_place as place_of_trailer};
@@ -29,7 +29,7 @@ pub fn long_at(bytes: &[u8], place: usize) -> u64
     ])
 }
 
-/// The id that has these bytes.
+/// The id with these bytes.
 pub fn id_of(kind: Kind, bytes: &[u8]) -> ObjectId
     requires length { length bytes.now ≡ len_in_bytes_of kind }
     ensures id { result ≡ id_from kind bytes.now }
@@ -50,7 +50,7 @@ fn array_of<const N: usize>(bytes: &[u8]) -> [u8; N]
     array
 }
 
-/// The bytes behind the first so many.
+/// The bytes after the first `size`.
 pub fn behind_first(bytes: &[u8], size: usize) -> &[u8]
     requires room { size ≤ length bytes.now }
     ensures rest { result.now ≡ drop size bytes.now }
@@ -59,7 +59,7 @@ pub fn behind_first(bytes: &[u8], size: usize) -> &[u8]
     rest
 }
 
-/// So many bytes from a place on.
+/// `size` bytes from a place on.
 pub fn part_of(bytes: &[u8], place: usize, size: usize) -> &[u8]
     requires room { place + size ≤ length bytes.now }
     ensures part { result.now ≡ part place size bytes.now }
@@ -68,7 +68,7 @@ pub fn part_of(bytes: &[u8], place: usize, size: usize) -> &[u8]
     &rest[..size]
 }
 
-/// Where the hash begins that ends a file.
+/// The offset of the trailing hash of a file.
 pub fn trailer_place(kind: Kind, bytes: &[u8]) -> usize
     requires room { len_in_bytes_of kind ≤ length bytes.now }
     ensures place { result ≡ place_of_trailer kind bytes.now }

@@ -1,7 +1,6 @@
-//! What an index of one pack and an index of several stand on: numbers, ids and their counts in tables, read
-//! from bytes.
+//! What pack indices and multi-pack indices have in common: numbers, ids and their counts in tables, read from bytes.
 //!
-//! It answers from bytes that the caller holds, and keeps nothing. `gix_pack_written` has what is written.
+//! It reads bytes that the caller holds, and keeps nothing. `gix_pack_written` has what is written.
 //! ```rust
 //! let row = search::row_of(ids, Kind::Sha1, n, &id);
 //! ```

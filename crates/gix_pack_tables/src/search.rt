@@ -1,4 +1,4 @@
-//! What is asked of a table of ids: the row of an id, and the rows of a prefix.
+//! Look-ups in a table of ids: the row of an id, and the rows of a prefix.
 ghost use Rattle.std.specs.Prelude.{◌≡◌, ℕ, ◌+◌, ◌*◌, ◌<◌, ◌≤◌, ◌↔◌, true, length, slice_get, IsTrue, Some};
 ghost use Rattle.gix_hash.specs.Kind.{len_in_bytes_of};
 ghost use Rattle.gix_hash.specs.Prefix.{prefix_cmp};
@@ -18,7 +18,7 @@ pub fn id_at(ids: &[u8], kind: Kind, row: u32) -> ObjectId
     id_of(kind, part_of(ids, row as usize * size, size))
 }
 
-/// The row of an id among so many.
+/// The row of an id among n.
 #[tactic(auto, using(crate::proofs::SearchLemmas::row_fits, crate::proofs::SearchLemmas::not_contained))]
 pub fn row_of(ids: &[u8], kind: Kind, n: u32, id: &ObjectId) -> Option<u32>
     requires room { n * len_in_bytes_of kind ≤ length ids.now }
@@ -32,7 +32,7 @@ pub fn row_of(ids: &[u8], kind: Kind, n: u32, id: &ObjectId) -> Option<u32>
     None
 }
 
-/// The rows of a prefix among so many ids that rise: those that it is above are passed, and then those that have it.
+/// The rows of a prefix among n ids that rise: those below the prefix are passed, and then those that have it.
 pub fn rows_of_prefix(ids: &[u8], kind: Kind, n: u32, prefix: &Prefix) -> Range<u32>
     requires room { n * len_in_bytes_of kind ≤ length ids.now }
     requires rising { is_rising (ids_of kind n ids.now) ≡ true }
@@ -43,7 +43,7 @@ pub fn rows_of_prefix(ids: &[u8], kind: Kind, n: u32, prefix: &Prefix) -> Range<
     start..end
 }
 
-// The first row, from one on, whose id a prefix compares with in another way.
+// The first row, from one on, whose id compares with a prefix in another way.
 #[tactic(auto, using(crate::proofs::SearchLemmas::row_fits))]
 fn other_row(ids: &[u8], kind: Kind, n: u32, prefix: &Prefix, from: u32, order: Ordering) -> u32
     requires room { n * len_in_bytes_of kind ≤ length ids.now }

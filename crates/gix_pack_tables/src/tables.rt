@@ -8,13 +8,13 @@ ghost use Rattle.gix_pack_tables.specs.Rows.{count_to, counts_len, counts_of, id
 use crate::bytes::{behind_first, number_at};
 use gix_hash::Kind;
 
-/// The high bit of four bytes: it marks those that name a wide offset.
+/// The high bit of four bytes: it marks those that refer to a wide offset.
 pub const HIGH_BIT: u32 = 1 << 31;
 
-/// How many bytes a wide offset has in its table.
+/// The length of a wide offset in its table, in bytes.
 pub const WIDE_LEN: usize = 8;
 
-/// How many bytes the 256 counts have, of four each.
+/// The length of the 256 counts in bytes, four each.
 pub const COUNTS_LEN: usize = 1024;
 
 /// Whether each of n ids is below the next.
@@ -37,7 +37,7 @@ pub fn is_rising(kind: Kind, n: usize, ids: &[u8]) -> bool
     true
 }
 
-/// Whether each of n offsets that names a wide one names one of the first so many.
+/// Whether each of n offsets that refers to a wide one refers to one of the first `wides`.
 #[tactic(auto, using(crate::proofs::RowsLemmas::named_step, crate::proofs::RowsLemmas::named_none))]
 pub fn are_named(n: usize, offsets: &[u8], wides: u64) -> bool
     requires room { n * 4 ≤ length offsets.now }
@@ -55,14 +55,14 @@ pub fn are_named(n: usize, offsets: &[u8], wides: u64) -> bool
     true
 }
 
-/// Whether an offset names one of the first so many wide ones, if it names one.
+/// Whether an offset refers to one of the first `wides` wide ones, if it refers to one.
 pub fn is_named(narrow: u32, wides: u64) -> bool
     ensures named { result ≡ is_named_below wides narrow }
 {
     narrow < HIGH_BIT || ((narrow - HIGH_BIT) as u64) < wides
 }
 
-// Of n ids that rise, those that begin above a byte: how many they are, and their table. They come last.
+// Of n ids that rise, those that begin above a byte, which come last: their number, and their table.
 #[tactic(auto, using(crate::proofs::RowsLemmas::one_more, crate::proofs::RowsLemmas::none_to, crate::proofs::RowsLemmas::rising_rest, crate::proofs::RowsLemmas::some_room))]
 fn behind(ids: &[u8], kind: Kind, n: usize, first: usize) -> (usize, &[u8])
     requires ids { n * len_in_bytes_of kind ≤ length ids.now }

@@ -1,4 +1,4 @@
--- The bytes of two ids that the worked examples of the formats stand on.
+-- The bytes of two ids in the worked examples of the formats.
 use Rattle.std.proofs.Common.{ℕ, List, [], ◌∷◌}
 
 -- 1f7a7a472abf3dd9643fd615f6da379c4acb3e3a, and 83baae61804e65cc73a7201a7252750c76066a30

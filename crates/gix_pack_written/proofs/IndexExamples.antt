@@ -1,4 +1,4 @@
--- Indices on examples, by computation: the index of the two versions, and bytes that are none.
+-- Indices on examples, by computation: the index of the two versions, and bytes that are no index.
 use Rattle.std.proofs.Common.{◌≡◌, ◌+◌, ◌-◌, ◌^◌, ℕ, List, [], ◌∷◌, ◌++◌, take, replicate, Option, Some, None, refl}
 use Rattle.std.specs.List.{flat_map}
 use Rattle.gix_hash.specs.declared.kind.Kind.TheVariants as kind
@@ -10,7 +10,7 @@ use Rattle.gix_pack_written.specs.WrittenIndex.{index_front}
 use Rattle.gix_pack_written.specs.WrittenTables.{narrow_from}
 use Rattle.gix_pack_written.proofs.ExampleIds.{first, second}
 
--- so many counts of this number, below 256
+-- `count` counts of this number, below 256
 counts : ℕ → ℕ → List ℕ
 counts times count = flat_map (λ n. 0 ∷ 0 ∷ 0 ∷ n ∷ []) (replicate times count)
 
@@ -47,7 +47,7 @@ both : Reads whole (Some (row second 23 ∷ row first 12 ∷ []))
 unfolding is_index tables_agree whole two two_counts counts first second offsets table is_rising row
 both = refl
 
--- the high bit names a row of the wide offsets, and a row that nothing names is allowed
+-- the high bit refers to a row of the wide offsets, and a row that nothing refers to is allowed
 wide : Reads (two two_counts (second ++ first) (128 ∷ 0 ∷ 0 ∷ 1 ∷ 0 ∷ 0 ∷ 0 ∷ 12 ∷ []) (replicate 8 0 ++ 0 ∷ 0 ∷ 0 ∷ 1 ∷ 0 ∷ 0 ∷ 0 ∷ 0 ∷ [])) (Some (row second (2 ^ 32) ∷ row first 12 ∷ []))
 unfolding is_index tables_agree two two_counts counts first second table is_rising row
 wide = refl

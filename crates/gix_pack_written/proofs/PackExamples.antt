@@ -50,7 +50,7 @@ no_kind : header_at Sha1 (one_entry (90 ∷ 5 ∷ [])) 12 ≡ Err (EntryType 5)
 unfolding one_entry header_at head_at kind_of_code size_bits
 no_kind = refl
 
--- the data reach into the hash: a header is read, and no entry
+-- the data extend into the hash: a header is read, and no entry
 header_alone : header_at Sha1 (one_entry (58 ∷ [])) 12 ≡ Ok (record { kind = Blob; size = 10; header_len = 1 })
 unfolding one_entry header_at head_at kind_of_code size_bits
 header_alone = refl
@@ -64,7 +64,7 @@ limit_first : entry_at Sha1 (one_entry (58 ∷ [])) 12 (Some 9) ≡ Err (OutOfMe
 unfolding one_entry entry_at object_behind header_at head_at kind_of_code size_bits
 limit_first = refl
 
--- a cut header comes before its type
+-- a cut header is found before its type
 cut_delta : header_at Sha1 (one_entry (234 ∷ [])) 12 ≡ Err BadEntry
 unfolding one_entry header_at head_at kind_of_code size_bits
 cut_delta = refl
@@ -77,7 +77,7 @@ type_zero : header_at Sha1 (one_entry (10 ∷ [])) 12 ≡ Err (EntryType 0)
 unfolding one_entry header_at head_at kind_of_code size_bits
 type_zero = refl
 
--- the header itself runs into the hash
+-- the header itself extends into the hash
 cut_header : header_at Sha1 (one_entry (186 ∷ [])) 12 ≡ Err BadEntry
 unfolding one_entry header_at head_at kind_of_code size_bits
 cut_header = refl

@@ -1,4 +1,4 @@
--- Rows as the encoders keep them, and what the tables of an index tell of them.
+-- Rows as the encoders keep them, and the tables of an index made of them.
 pub mod Counts
 pub mod Offsets
 use Rattle.std.proofs.Common.{◌≡◌, ℕ, suc, ◌+◌, ◌-◌, ◌<◌, ◌≤◌, List, [], ◌∷◌, ◌++◌, length, map, drop, get_or, refl, sym, ap, ◌∙◌}
@@ -18,7 +18,7 @@ pub each_append : {A : Type 0} (P : A → Type 0) (xs ys : List A) → AllByRecu
 each_append P [] ys first rest = rest
 each_append P (x ∷ xs) ys first rest = (first.0, each_append P xs ys first.1 rest)
 
--- ---- where the objects of a pack stand
+-- ---- the offsets of the objects of a pack
 
 rows_from : (hash : Kind) (pack place : ℕ) (objects : List Object) → map row_of (placed_from hash pack place objects) ≡ map row_of_pair
     (zip (map (id_of_object hash) objects) (places_from place objects))

@@ -1,4 +1,4 @@
--- Packs that were written, read back: the front, each entry at its place, and where the entries end.
+-- Packs that were written, read back: the front, each entry at its offset, and the end of the entries.
 use Rattle.std.proofs.Common.{◌≡◌, ℕ, ◌+◌, ◌^◌, ◌<◌, ◌≤◌, nat_le, nat_lt, true, None, Ok, List, [], ◌∷◌, ◌++◌, length, take, drop, codes, append_assoc, length-append, subst, refl, sym, ap, ◌∙◌, arith}
 use Rattle.std.proofs.lemmas.Bool.{le-leb, lt-ltb}
 use Rattle.std.specs.List.{flat_map, zip, AllByRecursion}
@@ -37,7 +37,7 @@ code_is_small Tree = omega arith
 code_is_small Blob = omega arith
 code_is_small Tag = omega arith
 
--- a written header is read, whatever stands behind it
+-- a written header is read, whatever follows it
 head_is_read : (code size : ℕ) (header behind : List ℕ) → Tells code size header → size < 2 ^ 64
     → head_from (header ++ behind) ≡ Ok (record { code = code; size = size; header_len = length header })
 unfolding head_from
@@ -78,7 +78,7 @@ module _ (hash : HashKind) (trailer : List ℕ) (size : length trailer ≡ len_i
       ∙ ap (λ (its : List ℕ). drop (length front) its) (take-append_seam (front ++ rest) trailer)
       ∙ drop-append_seam front rest
 
-  -- the header of an object is read behind some bytes
+  -- the header of an object is read after some bytes
   header_is_read : (object : Object) (front behind bytes : List ℕ) → entries_place ≤ length front → length object.bytes < 2 ^ 64 → bytes ≡ (front ++ (entry_of object ++ behind)) ++ trailer
       → header_at hash bytes (length front) ≡ Ok (record { kind = object.kind; size = length object.bytes; header_len = length (header_of (code_of_kind object.kind) (length object.bytes)) })
   unfolding header_at
@@ -95,7 +95,7 @@ module _ (hash : HashKind) (trailer : List ℕ) (size : length trailer ≡ len_i
       = head_within hash bytes (length front) low (omega arith) ∙ ap head_from rest ∙ head_is_read (code_of_kind object.kind) (length object.bytes) header (object.bytes ++ behind) tells fits in
       rw (head, kind_is_read object.kind) refl
 
-  -- the entry of an object is read behind some bytes
+  -- the entry of an object is read after some bytes
   entry_is_read : (object : Object) (front behind bytes : List ℕ) → entries_place ≤ length front → length object.bytes < 2 ^ 64 → bytes ≡ (front ++ (entry_of object ++ behind)) ++ trailer
       → entry_at hash bytes (length front) None ≡ Ok (read_entry object)
   unfolding entry_at
@@ -112,7 +112,7 @@ module _ (hash : HashKind) (trailer : List ℕ) (size : length trailer ≡ len_i
       (length front + length header) (sym (length-append front header)) split in
       rw read (inside ∙ ap (λ (its : List ℕ). Ok (record { kind = object.kind; size = length object.bytes; header_len = length header; bytes = its })) held)
 
-  -- each object's entry is read at its place
+  -- each object's entry is read at its offset
   all_are_read : (objects : List Object) (front bytes : List ℕ) → entries_place ≤ length front → length (flat_map entry_of objects) < 2 ^ 64 → bytes ≡ (front ++ flat_map entry_of objects) ++ trailer
       → AllByRecursion (IsReadAt hash bytes) (zip objects (places_from (length front) objects))
   unfolding places_from
@@ -154,7 +154,7 @@ begins_as_pack hash count rest room =
     ≡ true = le-leb (entries_place + len_in_bytes_of hash) (length (magic_and_numbers count ++ rest)) (omega arith) in
     rw fits refl
 
--- the pack of some objects is read as their pack. Its hash is as long as its kind says, as that of each id is
+-- the pack of some objects is read as their pack. Its hash has the length of its kind, as each id has
 pub pack_is_read : (hash : HashKind) (objects : List Object) → length (pack_hash hash objects) ≡ len_in_bytes_of hash → length objects < 2 ^ 32
     → length (flat_map entry_of objects) < 2 ^ 64 → ReadsPack hash objects (pack_of hash objects)
 unfolding pack_of

@@ -40,7 +40,7 @@ place_of_size (suc m) number rest below =
           rw (le-ltb number 128 high, first) (omega arith)
     ]
 
--- what a written header tells, whatever stands behind it
+-- what a written header says, whatever follows it
 pub record Tells (code size : ℕ) (header : List ℕ) : Type 0 where
   pub code_is : (rest : List ℕ) → code_of (header ++ rest) ≡ code
   pub size_is : size_of header ≡ size

@@ -1,4 +1,4 @@
--- Tables of rows: their ids rise, each id that was given is there, and of rows with one id the first is taken.
+-- Tables of rows: their ids rise, each given id is there, and of rows with the same id the first is taken.
 pub mod Inserted
 pub mod Seen
 use Rattle.std.proofs.Common.{◌≡◌, ℕ, zero, suc, ◌<◌, ◌≤◌, ◌⊎◌, inl, inr, true, false, List, [], ◌∷◌, ◌++◌, length, map, Some, Ordering, Less, Equal, Greater, refl, sym, ap, subst, ◌∙◌, arith}
@@ -54,7 +54,7 @@ module _ {R : Type 0} (id_in : R → ObjectId) where
       let one = length-put_row row (table_of id_in given) in
       omega arith
 
-  -- ---- what holds of each row
+  -- ---- properties of each row
 
   each_by : (P : R → Type 0) (o : Ordering) (row other : R) (rows rest : List R) → P row → P other → AllByRecursion P rows → AllByRecursion P rest
       → AllByRecursion P (match_ordering o (row ∷ other ∷ rows) (row ∷ rows) (other ∷ rest))
@@ -144,9 +144,9 @@ module _ {R : Type 0} (id_in : R → ObjectId) where
       (All-weaker (λ (r : R). Contains (ids (table_of id_in given)) (id_in r)) (λ (r : R). Contains (ids (table_of id_in (row ∷ given))) (id_in r))
       (λ (r : R) h. kept row (table_of id_in given) (id_in r) h) given (has_each given))
 
-  -- ---- of rows with one id the first is taken
+  -- ---- of rows with the same id the first is taken
 
-  -- the ids behind one that is above an id are above it too
+  -- the ids after one that is above an id are above it too
   above : (id : ObjectId) (other : R) (rows : List R) → id_cmp id (id_in other) ≡ Less → is_rising (ids (other ∷ rows)) ≡ true → AllByRecursion (λ (r : R). id_cmp id (id_in r) ≡ Less) (other ∷ rows)
   above id other [] up rising = (up, tt)
   above id other (next ∷ rows) up rising =
@@ -167,7 +167,7 @@ module _ {R : Type 0} (id_in : R → ObjectId) where
     others [] up all = tt
     others (r ∷ rows) up all = (other_id r (ap is_eq up.0) all.0, others rows up.1 all.1)
 
-    -- ids behind one that is the row's own
+    -- ids after one that is the row's own
     alike : (other : R) (rows : List R) → id_cmp (id_in row) (id_in other) ≡ Equal → AllByRecursion (λ (r : R). id_cmp (id_in other) (id_in r) ≡ Less) rows
         → AllByRecursion (λ (r : R). id_cmp (id_in row) (id_in r) ≡ Less) rows
     alike other [] same up = tt

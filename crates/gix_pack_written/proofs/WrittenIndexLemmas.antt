@@ -1,4 +1,4 @@
--- Indices as they are written: they are those of their objects, and are read back.
+-- Indices as they are written: each is that of its objects, and is read back.
 pub mod Written
 use Rattle.std.proofs.Common.{◌≡◌, ℕ, ◌+◌, ◌-◌, ◌*◌, ◌/◌, ◌^◌, ◌<◌, ◌≤◌, ◌&&◌, nat_eq, Bool, true, cond, List, [], ◌∷◌, ◌++◌, length}
 use Rattle.std.proofs.Common.{map, drop, replicate, Some, None, append_assoc, length-append, refl, sym, ap, ◌∙◌, arith, eq-eqb}
@@ -31,7 +31,7 @@ room n h w all long = omega arith
 whole_length : (n h w all : ℕ) → all ≡ ids_place + n * h + 8 * n + 8 * w + 2 * h → all ≡ ids_place + n * (h + 8) + 8 * w + 2 * h
 whole_length n h w all long = omega arith
 
--- ---- lists one behind another
+-- ---- lists one after another
 
 two_long : (a b : List ℕ) (x y z : ℕ) → length a ≡ x → length b ≡ y → x + y ≡ z → length (a ++ b) ≡ z
 two_long a b x y z one two is = let both = length-append a b in omega arith

@@ -1,4 +1,4 @@
--- Packs as they are written: sizes by seven bits, headers, and entries one behind another.
+-- Packs as they are written: sizes by seven bits, headers, and entries one after another.
 use Rattle.std.proofs.Common.{◌≡◌, ℕ, zero, suc, ◌+◌, ◌*◌, ◌/◌, ◌%◌, ◌^◌, ◌<◌, ◌≤◌, inl, inr, List, [], ◌∷◌, ◌++◌, length, length-append, append_assoc, refl, sym, ap, ◌∙◌, arith}
 use Rattle.std.proofs.lemmas.Bool.{cases_lt, le-ltb, lt-ltb}
 use Rattle.std.proofs.Math.Nat.{pow-suc}
@@ -7,11 +7,11 @@ use Rattle.gix_pack_written.specs.WrittenPack.{code_of_kind, entry_of, header_of
 
 -- ---- sizes
 
--- seven bits less leave room for a byte less
+-- seven bits less need one byte less
 pub one_byte_less : (m number : ℕ) → number < 128 ^ suc m → number / 128 < 128 ^ m
 one_byte_less m number below = let more : 128 ^ suc m ≡ 128 ^ m * 128 = pow-suc 128 m in omega arith
 
--- a number that has room in so many bytes is written the same with room for one more
+-- a number that fits in `m` + 1 bytes is written the same with room for one more
 size_bytes_same : (m number : ℕ) → number < 128 ^ suc m → size_bytes (suc m) number ≡ size_bytes (suc (suc m)) number
 unfolding size_bytes
 size_bytes_same zero number below =
@@ -38,7 +38,7 @@ pub size_last : (number : ℕ) → number < 128 → size_bytes 9 number ≡ numb
 unfolding size_bytes
 size_last number low = rw (lt-ltb number 128 low) refl
 
--- a byte more is written
+-- one more byte is written
 pub size_written : (front list : List ℕ) (number left : ℕ) → front ++ size_bytes 9 number ≡ list ++ size_bytes 9 left → 128 ≤ left → left < 2 ^ 60
     → front ++ size_bytes 9 number ≡ (list ++ (128 + left % 128) ∷ []) ++ size_bytes 9 (left / 128)
 size_written front list number left so_far high below =
@@ -76,7 +76,7 @@ pub len_of_long : (code size : ℕ) → 16 ≤ size → length (header_of code s
 unfolding header_of
 len_of_long code size large = rw (le-ltb size 16 large) (omega arith)
 
--- these by one name
+-- these under one name
 pub ruleset header_lengths = (len_of_more, len_of_last, len_at_most, len_of_short, len_of_long)
 
 -- and of an entry, whose header has the same length for each type

@@ -29,7 +29,7 @@ same_itself (x ∷ xs) =
     let one : nat_eq x x ≡ true = grind arith in
     rw (one, same_itself xs) refl
 
--- a table of pieces of one size
+-- a table of pieces of equal size
 pub table_back : {X : Type 0} (size : ℕ) (f : X → List ℕ) (xs : List X) (rest : List ℕ) → AllByRecursion (λ (x : X). length (f x) ≡ size) xs → table size (length xs) (flat_map f xs ++ rest) ≡ map f xs
 unfolding table
 table_back size f [] rest sizes = refl
@@ -87,7 +87,7 @@ long_numbers_back xs rest small =
     ap (map (from_be_bytes w64)) (table_back 8 (to_be_bytes w64) xs rest (each_is (λ (x : ℕ). length (to_be_bytes w64 x) ≡ 8) eight xs))
     ∙ map_back (to_be_bytes w64) (from_be_bytes w64) xs (each_by (λ (x : ℕ). x < 2 ^ 64) (λ (x : ℕ). from_be_bytes w64 (to_be_bytes w64 x) ≡ x) from_be_bytes-to_be_bytes_8 xs small)
 
--- a number behind some bytes
+-- a number after some bytes
 pub number_back : (front : List ℕ) (n : ℕ) (rest : List ℕ) (place : ℕ) → length front ≡ place → n < 2 ^ 32 → number_at place (front ++ (to_be_bytes w32 n ++ rest)) ≡ n
 number_back front n rest place long small =
     ap (λ (bytes : List ℕ). from_be_bytes w32 (take 4 bytes)) (drop_at front (to_be_bytes w32 n ++ rest) place long)
@@ -183,7 +183,7 @@ named_wide n wide below = grind arith
 named_low : (n offset : ℕ) → offset < 2 ^ 31 → is_named_below n offset ≡ true
 named_low n offset low = grind arith
 
--- each wide offset is named by its row
+-- each wide offset is referred to by its row
 pub narrow_named : (n wide : ℕ) (offsets : List ℕ) → wide + length (filter is_wide offsets) ≤ n → list_all (is_named_below n) (narrow_from wide offsets) ≡ true
 unfolding narrow_from
 narrow_named n wide [] room = refl

@@ -1,4 +1,4 @@
--- What is written for objects, their pack and its index, and what is read back of it; then the rows as the encoders keep them.
+-- The encodings of objects, their pack and its index, and what is read back of them; then the rows as the encoders keep them.
 pub mod WrittenPack
 pub mod WrittenTables
 pub mod WrittenIndex

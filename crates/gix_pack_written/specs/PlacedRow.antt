@@ -25,7 +25,7 @@ offset_of row = row.offset
 abbrev pub placed_of : ObjectId × (ℕ × ℕ) → Placed
 placed_of entry = record { id = entry.0; pack = entry.1.0; offset = entry.1.1 }
 
--- the rows of objects in the pack of this number, the first of which stands at this place
+-- the rows of objects in the pack of this number, the first of which is at this offset
 abbrev pub placed_from : HashKind → ℕ → ℕ → List Object → List Placed
 placed_from hash pack place [] = []
 placed_from hash pack place (object ∷ objects) =
@@ -38,6 +38,6 @@ pub record IsPlaced (hash : HashKind) (row : Placed) : Type 0 where
   pub pack : row.pack < 2 ^ 32
   pub offset : row.offset < 2 ^ 64
 
--- the same of all rows, for some hash
+-- all rows are such, for some hash
 abbrev pub ArePlaced : List Placed → Type 0
 ArePlaced rows = (hash : HashKind) × AllByRecursion (IsPlaced hash) rows

@@ -1,4 +1,4 @@
--- What is read back of a pack that was written: its numbers, and each object at its place.
+-- What is read back of a pack that was written: its numbers, and each object at its offset.
 use Rattle.std.specs.Prelude.{◌≡◌, ℕ, ◌+◌, List, length, true, None, Ok}
 use Rattle.std.specs.List.{flat_map, zip, AllByRecursion}
 use Rattle.gix_hash.specs.declared.kind.Kind.{Kind as HashKind}
@@ -7,17 +7,17 @@ use Rattle.gix_pack_written.specs.WrittenPack.{code_of_kind, entry_of, header_of
 use Rattle.gix_pack_tables.specs.Bytes.{trailer_place}
 use Rattle.gix_pack_files.specs.Pack.{entries_place, is_pack, objects_in, version_in, entry_at, Entry}
 
--- the entry that is read of an object
+-- the entry that is read for an object
 abbrev pub read_entry : Object → Entry
 read_entry object =
     let header = header_of (code_of_kind object.kind) (length object.bytes) in
     record { kind = object.kind; size = length object.bytes; header_len = length header; bytes = object.bytes }
 
--- at the object's place in the bytes of a pack its entry is read
+-- the entry of an object is read at the object's offset in the bytes of a pack
 abbrev pub IsReadAt : HashKind → List ℕ → Object × ℕ → Type 0
 IsReadAt hash bytes object = entry_at hash bytes object.1 None ≡ Ok (read_entry object.0)
 
--- the bytes are read as a pack of version 2 that has these objects, each at its place, and no other entries
+-- the bytes are read as a pack of version 2 that has these objects, each at its offset, and no other entries
 pub record ReadsPack (hash : HashKind) (objects : List Object) (bytes : List ℕ) : Type 0 where
   pub pack : is_pack hash bytes ≡ true
   pub version : version_in bytes ≡ 2

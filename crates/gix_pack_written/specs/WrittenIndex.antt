@@ -27,13 +27,13 @@ index_bytes hash rows pack =
 unfoldable pub index_of : HashKind → List Object → List ℕ
 index_of hash objects = index_bytes hash (table_of (λ (row : Row). row.id) (rows_in_order hash objects)) (pack_hash hash objects)
 
--- the bytes are the index of a pack of these objects: its rows are the table of their places
+-- the bytes are the index of a pack of these objects: its rows are the table of their offsets
 pub record IsIndexOf (hash : HashKind) (objects : List Object) (bytes : List ℕ) : Type 0 where
   pub rows : List Row
   pub table : IsTableOf (λ row. row.id) (rows_in_order hash objects) rows
   pub bytes_are : bytes ≡ index_bytes hash rows (pack_hash hash objects)
 
--- the bytes are read as an index whose rows are the table of these objects' places
+-- the bytes are read as an index whose rows are the table of these objects' offsets
 pub record ReadsIndex (hash : HashKind) (objects : List Object) (bytes : List ℕ) : Type 0 where
   pub rows : List Row
   pub table : IsTableOf (λ row. row.id) (rows_in_order hash objects) rows

@@ -14,18 +14,18 @@ use Rattle.gix_pack_written.specs.declared.object.Object as given
 use Rattle.gix_pack_files.specs.Pack.{entries_place, most_size_bytes}
 use Rattle.gix_pack_tables.specs.Rows.{Row}
 
--- an object that is handed in
+-- an object that is given
 abbrev pub object_seen : given.Object → Object
 object_seen object = record { kind = object.kind; bytes = object.bytes }
 
--- the type that a kind is
+-- the type code of a kind
 abbrev pub code_of_kind : Kind → ℕ
 code_of_kind Commit = 1
 code_of_kind Tree = 2
 code_of_kind Blob = 3
 code_of_kind Tag = 4
 
--- a number as bytes of seven bits, the lowest first, in as few bytes as it needs, and so many at most
+-- a number as bytes of seven bits, the lowest first, in as few bytes as it needs, and at most `most`
 unfoldable pub size_bytes : ℕ → ℕ → List ℕ
 size_bytes zero number = []
 size_bytes (suc most) number = if nat_lt number 128 then number ∷ [] else (128 + number % 128) ∷ size_bytes most (number / 128)
@@ -42,7 +42,7 @@ entry_of object = header_of (code_of_kind object.kind) (length object.bytes) ++ 
 unfoldable pub pack_front : List Object → List ℕ
 pack_front objects = codes "PACK" ++ to_be_bytes w32 2 ++ to_be_bytes w32 (length objects) ++ flat_map entry_of objects
 
--- the hash that a pack ends with
+-- the trailing hash of a pack
 abbrev pub pack_hash : HashKind → List Object → List ℕ
 pack_hash hash objects = bytes_of (hash_of hash (pack_front objects))
 
@@ -50,7 +50,7 @@ pack_hash hash objects = bytes_of (hash_of hash (pack_front objects))
 unfoldable pub pack_of : HashKind → List Object → List ℕ
 pack_of hash objects = pack_front objects ++ pack_hash hash objects
 
--- the places of the entries, the first of which stands at this one
+-- the offsets of the entries, the first of which is at this one
 unfoldable pub places_from : ℕ → List Object → List ℕ
 places_from place [] = []
 places_from place (object ∷ objects) = place ∷ places_from (place + length (entry_of object)) objects
@@ -61,6 +61,6 @@ id_of_object hash object = object_id hash object.kind object.bytes
 abbrev pub row_of : ObjectId × ℕ → Row
 row_of pair = record { id = pair.0; offset = pair.1 }
 
--- the id and the place of each object, in their order
+-- the id and the offset of each object, in their order
 unfoldable pub rows_in_order : HashKind → List Object → List Row
 rows_in_order hash objects = map row_of (zip (map (id_of_object hash) objects) (places_from entries_place objects))

@@ -1,4 +1,4 @@
--- What the encoders of indices and multi-pack indices put into tables: a row for each different id, and offsets as four and as eight bytes.
+-- The tables of the encoders of indices and multi-pack indices: a row for each different id, and offsets as four and as eight bytes.
 use Rattle.std.specs.Prelude.{◌≡◌, ℕ, ◌+◌, Bool, true, List, [], ◌∷◌, map, not, nat_lt, Contains, Some, if◌then◌else◌}
 use Rattle.std.specs.List.{flat_map, find, All}
 use Rattle.std.specs.Int.{w32, w64, to_be_bytes}
@@ -7,19 +7,19 @@ use Rattle.gix_hash.specs.ObjectId.{id_cmp}
 use Rattle.gix_hash.specs.declared.object_id.ObjectId.{ObjectId}
 use Rattle.gix_pack_tables.specs.Rows.{high_bit, is_rising}
 
--- rows in a table: their ids rise strictly, each id of the given rows is there, and of the given rows with one id the first is taken
+-- rows in a table: their ids rise strictly, each id of the given rows is there, and of given rows with the same id the first is taken
 pub record IsTableOf {R : Type 0} (id_in : R → ObjectId) (given rows : List R) : Type 0 where
   pub rising : is_rising (map id_in rows) ≡ true
   pub each : All (λ row. Contains (map id_in rows) (id_in row)) given
   pub first : All (λ row. find (λ other. is_eq (id_cmp (id_in other) (id_in row))) given ≡ Some row) rows
 
--- a row put among rows whose ids rise: in its place, or in place of the row with its id
+-- a row inserted among rows whose ids rise: at its place, or instead of the row with its id
 abbrev pub put_row : {R : Type 0} → (R → ObjectId) → R → List R → List R
 put_row id_in row [] = row ∷ []
 put_row id_in row (other ∷ rows) =
     match_ordering (id_cmp (id_in row) (id_in other)) (row ∷ other ∷ rows) (row ∷ rows) (other ∷ put_row id_in row rows)
 
--- given rows put among others, the last of them first, so that each takes the place of later ones with its id
+-- given rows inserted among others, the last of them first, so that each replaces later ones with its id
 abbrev pub put_all : {R : Type 0} → (R → ObjectId) → List R → List R → List R
 put_all id_in [] rows = rows
 put_all id_in (row ∷ given) rows = put_row id_in row (put_all id_in given rows)
@@ -32,7 +32,7 @@ table_of id_in given = put_all id_in given []
 abbrev pub is_wide : ℕ → Bool
 is_wide offset = not (nat_lt offset high_bit)
 
--- offsets as four bytes tell them: wide ones are the high bit and their number among the wide ones, counted from this one
+-- offsets in four bytes: a wide one is the high bit and its number among the wide ones, counted from this one
 unfoldable pub narrow_from : ℕ → List ℕ → List ℕ
 narrow_from wide [] = []
 narrow_from wide (offset ∷ offsets) =

@@ -28,7 +28,7 @@ pub fn put_id(list: &mut ByteList, id: &ObjectId) -> Result<(), NoMemory>
     list.extend_from_slice(id.as_bytes())
 }
 
-/// So many zeros.
+/// `count` zeros.
 pub fn put_zeros(list: &mut ByteList, count: usize) -> Result<(), NoMemory>
     ensures put { OnOk result (list.new ≡ list.old ++ replicate count 0) }
 {

@@ -1,4 +1,4 @@
-//! Packs written: the objects in their order, with the shortest headers, and a hash.
+//! Writing packs: the objects in their order, with the shortest headers, and a hash.
 ghost use Rattle.std.specs.Prelude.{◌≡◌, ◌<◌, length, map, IfOk};
 ghost use Rattle.gix_pack_tables.specs.Rows.{rows_limit};
 ghost use Rattle.gix_pack_written.specs.WrittenPack.{object_seen, pack_of};

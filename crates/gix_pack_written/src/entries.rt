@@ -1,4 +1,4 @@
-//! Entries of packs written, with the shortest headers, and a pack of them up to its hash.
+//! Writing entries of packs, with the shortest headers, and a pack of them up to its hash.
 ghost use Rattle.std.specs.Prelude.{◌≡◌, ℕ, ◌++◌, ◌^◌, ◌<◌, ◌≤◌, length, map, IfOk, OnOk};
 ghost use Rattle.gix_pack_tables.specs.Rows.{rows_limit};
 ghost use Rattle.gix_pack_files.specs.Pack.{longest_header, most_size_bytes};
@@ -36,7 +36,7 @@ fn put_entry(pack: &mut ByteList, object: &Object) -> Result<(), NoMemory>
     pack.extend_from_slice(object.bytes.as_slice())
 }
 
-/// How long the entry of an object is.
+/// The length of an object's entry in bytes.
 #[tactic(auto, using(crate::proofs::WrittenPackLemmas::len_of_entry))]
 pub fn entry_len(object: &Object) -> u64
     ensures len { result ≡ length (entry_of (object_seen object.now)) }
@@ -45,7 +45,7 @@ pub fn entry_len(object: &Object) -> u64
     header_len(size) + size
 }
 
-// How long the header of a size is.
+// The length of the header for a size, in bytes.
 #[tactic(auto, using(crate::proofs::WrittenPackLemmas::header_lengths))]
 fn header_len(size: u64) -> u64
     ensures exact { (code : ℕ) → result ≡ length (header_bytes code size) }
@@ -63,7 +63,7 @@ fn header_len(size: u64) -> u64
     len
 }
 
-// The type that a kind is.
+// The type code of a kind.
 fn code_of(kind: gix_object::Kind) -> u8
     ensures code { result ≡ code_of_kind kind }
     ensures small { result < 8 }

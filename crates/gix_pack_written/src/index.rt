@@ -1,4 +1,4 @@
-//! Indices written: the tables one behind another, and the two hashes.
+//! Writing indices: the tables one after another, and the two hashes.
 ghost use Rattle.std.specs.Prelude.{◌≡◌, [], ◌++◌, ◌<◌, true, length, map, IfOk, OnOk};
 ghost use Rattle.std.specs.List.{AllByRecursion};
 ghost use Rattle.gix_hash.specs.Hash.{hash_of};
@@ -21,9 +21,9 @@ use gix_pack_files::index::SIGNATURE;
 use odb_base::{ByteList, NoMemory};
 use std::alloc::Global;
 
-/// The index (Git's pack index, version 2) of the pack of some objects: of objects with one id it has the first one's place.
+/// The index (Git's pack index, version 2) of the pack of some objects: for an id, the offset of the first object.
 ///
-/// CRC values are zeros. The only error is want of memory.
+/// CRC values are zeros. The only error is running out of memory.
 pub fn encode(alloc: Global, objects: &[Object], kind: Kind) -> Result<ByteList, NoMemory>
     requires few { length objects.now < rows_limit }
     ensures written { IfOk result (λ index. index ≡ index_of kind (map object_seen objects.now)) }
@@ -38,7 +38,7 @@ pub fn encode(alloc: Global, objects: &[Object], kind: Kind) -> Result<ByteList,
     Ok(index)
 }
 
-// The hash that the pack of some objects ends with.
+// The trailing hash of the pack of some objects.
 fn hash_of_pack(alloc: Global, objects: &[Object], kind: Kind) -> Result<ObjectId, NoMemory>
     requires few { length objects.now < rows_limit }
     ensures hash { IfOk result (λ hash. hash ≡ hash_of kind (pack_front (map object_seen objects.now))) }
@@ -78,7 +78,7 @@ fn put_front(index: &mut ByteList, rows: &[Placed], pack: &ObjectId) -> Result<(
     Ok(())
 }
 
-// The offsets as four bytes tell them: a wide one is the high bit and its number among the wide ones.
+// The offsets in four bytes: a wide one is the high bit and its number among the wide ones.
 fn put_narrow(list: &mut ByteList, rows: &[Placed]) -> Result<(), NoMemory>
     requires few { length rows.now < rows_limit }
     ensures put { OnOk result (list.new ≡ list.old ++ number_bytes (narrow_from 0 (map offset_of rows.now))) }

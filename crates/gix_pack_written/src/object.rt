@@ -1,4 +1,4 @@
-//! An object as the encoders of packs and indices are given it.
+//! An object as input of the encoders of packs and indices.
 use gix_object::Kind;
 use odb_base::ByteList;
 

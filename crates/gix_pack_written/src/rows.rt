@@ -1,4 +1,4 @@
-//! The rows of an index that is to be written: where each object stands, and of these a row for each different id, in their order.
+//! The rows of an index that is to be written: the offset of each object, and of these a row for each different id, in order.
 ghost use Rattle.std.specs.Prelude.{◌≡◌, ◌++◌, map, IfOk, OnOk};
 ghost use Rattle.std.specs.List.{AllByRecursion};
 ghost use Rattle.gix_pack_written.specs.PlacedRow.{id_of, placed_from, placed_of, IsPlaced};
@@ -15,7 +15,7 @@ use odb_base::NoMemory;
 use std::alloc::Global;
 use std::collections::BTreeMap;
 
-/// An id, the number of the pack that has its object, and the place of the object there. An index has one pack, 0.
+/// An id, the number of the pack that has its object, and the offset of the object there. An index has one pack, 0.
 #[derive(Clone, Copy)]
 pub struct Placed {
     pub id: ObjectId,
@@ -23,7 +23,7 @@ pub struct Placed {
     pub offset: u64,
 }
 
-/// Puts the rows of a pack's objects behind others. Places of 2^64 and more want more memory than there is.
+/// Appends the rows of a pack's objects to others. An offset of 2^64 or more counts as running out of memory.
 #[tactic(auto, using(crate::proofs::PlacedLemmas::placed_step, crate::proofs::PlacedLemmas::placed_end))]
 pub fn put_rows(
     alloc: Global,
@@ -44,7 +44,7 @@ pub fn put_rows(
     Ok(())
 }
 
-/// The table of some rows: of rows with one id, the first.
+/// The table of some rows: of rows with the same id, the first.
 pub fn table_of(alloc: Global, rows: Vec<Placed>) -> Result<Vec<Placed>, NoMemory>
     ensures table { IfOk result (λ table_rows. table_rows.items ≡ table id_of rows.items) }
 {
@@ -56,7 +56,7 @@ pub fn table_of(alloc: Global, rows: Vec<Placed>) -> Result<Vec<Placed>, NoMemor
     Ok(rows)
 }
 
-// The places of some rows by their ids. The last row comes first, so that a row takes the place of later ones.
+// The offsets of some rows by their ids. The last row is put first, so that a row replaces later ones.
 fn places_of(
     alloc: Global,
     mut rows: Vec<Placed>,

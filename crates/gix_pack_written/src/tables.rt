@@ -1,4 +1,4 @@
-//! The tables of an index that are told by its rows, put at the end of a list of bytes.
+//! The tables of an index that follow from its rows, appended to a list of bytes.
 ghost use Rattle.std.specs.Prelude.{◌≡◌, ◌+◌, ◌++◌, ◌<◌, ◌≤◌, true, false, length, map, OnOk};
 ghost use Rattle.std.specs.List.{filter, flat_map};
 ghost use Rattle.gix_hash.specs.ObjectId.{bytes_of};
@@ -26,7 +26,7 @@ pub fn put_counts(list: &mut ByteList, rows: &[Placed]) -> Result<(), NoMemory>
     Ok(())
 }
 
-// How many rows have ids that begin with this byte or a lower one, where the first so many are known to. The ids rise.
+// How many rows have ids that begin with this byte or a lower one, where the first `known` are known to. The ids rise.
 fn count_from(rows: &[Placed], known: usize, first: usize) -> usize
     requires rising { is_rising (map id_of rows.now) ≡ true }
     requires placed { ArePlaced rows.now }
@@ -69,7 +69,7 @@ pub fn is_wide(offset: u64) -> bool
     offset >= HIGH_BIT as u64
 }
 
-/// An offset as four bytes tell it, behind so many wide ones: a wide one is the high bit and its number among them.
+/// An offset in four bytes, after `wide` wide ones: a wide one is the high bit and its number among them.
 pub fn narrow_of(offset: u64, wide: u32) -> u32
     requires few { wide < rows_limit }
     ensures wide { offset_is_wide offset ≡ true → result ≡ high_bit + wide }

@@ -1,4 +1,4 @@
--- What the ends of the program say, by what its walks come to, or by the text that it writes about itself.
+-- What the ends of the program say, by the results of its walks, or by the text that it writes about itself.
 use Rattle.std.proofs.Common.{◌≡◌, inl, inr, ℕ, Bool, true, false, List, [], Ok, Err, refl, sym, ap, subst, ◌∙◌, arith}
 use Rattle.std.specs.Prelude.{Result}
 use Rattle.std.specs.FinMap as finite
@@ -45,7 +45,7 @@ ends_walks s asked (Err errors.OutputFailed) asks visits output told = (output r
 ends_walks s asked (Err errors.ErrorsFailed) asks visits output told = (told refl, record { asked = asked; asks = asks; visits = visits })
 ends_walks s asked (Err errors.NoMemory) asks visits output told = inr (record { asked = asked; asks = asks; visits = visits })
 
--- the same, where the words ask it in other terms
+-- the ends, if the words ask it in other terms
 pub ends_asked : (s : Session) (asked : Asked) (result : Result Status LineError) (by status : Status) → s.command ≡ Walk asked
     → by ≡ status_by result → status ≡ hinted by s.is_help
     → EndsAll (record { choices = asked.choices; state = s.state; folders = asked.folders; first = first_of s; last = last_of s }) result

@@ -1,4 +1,4 @@
--- What was written of one walk, and the walk that was built as it is chosen.
+-- What was written of one walk, and the walk that was built as chosen.
 use Rattle.std.proofs.Common.{◌≡◌, Bool, true, false, List, [], ◌∷◌, Option, Some, None, Ok, Err, refl, sym, ap, subst, ◌∙◌}
 use Rattle.std.proofs.lemmas.Bool.{or_parts}
 use Rattle.std.specs.Prelude.{Result, IfSome}
@@ -31,7 +31,7 @@ none_lost [] known = tt
 none_lost (item ∷ items) known =
     let parts = or_parts (is_want item) (list_any is_want items) known in (parts.0, none_lost items parts.1)
 
--- A walk that was run to its end on a disk that tells its tree, and that had its memory, gave the items of the tree's walk.
+-- A walk that was run to its end on a disk whose tree is known, without running out of memory, gave the items of the tree's walk.
 pub gave_walk : {T : Type 0} (order : T → Order) (built : Built T) (streams : Streams) (told : State) (items : List Item) → GaveAll (Some told) (begun order built streams) items
     → list_any is_want items ≡ false
     → IsWalk (walking order (tree_of told) built) items
@@ -102,7 +102,7 @@ first_is order folder choices walk streams root options sorted =
     with_parts : Options → Option Order → Path → Progress
     with_parts options order root = record { options = options; order = order; start = Some root; device = 0; stack = []; entered = false; streams = streams }
 
--- the same of a walk that was built as it is chosen
+-- a visit by a walk that was built as chosen
 built_visit : {T : Type 0} (order : T → Order) (v : Visit) (walk : Built T) (result : Result Status LineError) → walk.root ≡ v.folder → walk.options ≡ options_of v.choices
     → option_map order walk.sorter ≡ order_by v.choices.sort → EndsWritten (listing_at v (begun order walk v.before.streams)) result → EndsVisit v (settled result)
 built_visit order v walk result root options sorted wrote =

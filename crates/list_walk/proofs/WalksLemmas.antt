@@ -1,4 +1,4 @@
--- Walks one after the other: one more, one that was cut off, and what their status tells.
+-- Walks one after the other: one more, one that was cut off, and what their status says.
 use Rattle.std.proofs.Common.{◌≡◌, ◌⊎◌, inl, inr, ℕ, ◌+◌, ◌<◌, ◌≤◌, Bool, true, false, cond, List, [], ◌∷◌, ◌++◌, length}
 use Rattle.std.proofs.Common.{get_or, take, drop, refl, sym, ap, subst, ◌∙◌, append_assoc, append-nil, arith}
 use Rattle.std.specs.Prelude.{Option}
@@ -64,7 +64,7 @@ module _ (choices : Choices) (state : Option State) (first : Moment) where
   own_kind true status is = inl is
   own_kind false status is = inr is
 
-  -- the status tells whether there are errors, and nothing else
+  -- the status says whether there are errors, and nothing else
   pub kind : (folders : List Path) (now : Moment) (status : Status) → Visits choices state first folders now status → (status ≡ statuses.SomeErrors) ⊎ (status ≡ statuses.Done)
   kind folders now status none = inr refl
   kind folders now status (more front before after earlier own folder visits listed) =

@@ -22,8 +22,8 @@ use Rattle.walkdir.proofs.FailuresLaws.{fails_cut, fails_end, fails_more, fails_
 use Rattle.odb_program.proofs.AddsLaws.{adds_both, adds_front, adds_nothing}
 use Rattle.list_walk.proofs.LinesLemmas.{any_more, flat_more, yields_more}
 
--- What is written so far of a walk that has come to a place: its items, the text that is gathered, what was told, and the
--- disk's counts of faults.
+-- What is written so far of a walk: its items, the text that is gathered, what was reported, and the disk's counts of
+-- faults.
 pub record SoFar (nul : Bool) (state : Option State) (first at : Progress) (faults faults' : ℕ) (held held' told told' : Option (List ℕ)) (text : List ℕ) (status : Status) : Type 0 where
   pub items : List Item
   pub gave : Gave state first items at
@@ -45,7 +45,7 @@ begins nul state first faults held told text none = record {
   fails = fails_none first faults;
 }
 
--- the status with an item more
+-- the status with one more item
 abbrev pub status_with : Bool → Status → Status
 status_with true status = statuses.SomeErrors
 status_with false status = status
@@ -62,11 +62,11 @@ status_more items item = by_cases (list_any is_error items) (is_error item) ∙ 
     by_cases false true = refl
     by_cases false false = refl
 
--- fronts were written
+-- a prefix was written
 abbrev pub Front : Option (List ℕ) → Option (List ℕ) → List ℕ → Type 0
 Front before now bytes = (count : ℕ) × Adds before now (take count bytes)
 
--- all of a text is a front of it
+-- all of a text is a prefix of it
 pub all_of : (now next : Option (List ℕ)) (text : List ℕ) → Adds now next text → Front now next text
 all_of now next text added = (length text, subst (Adds now next) (sym (take-length text)) added)
 
@@ -110,7 +110,7 @@ module _ (nul : Bool) (state : Option State) (first at : Progress) (x y z : ℕ)
     fails = fails_end first at new x y z so_far.items so_far.fails fails;
   }
 
-  -- a front of the text that is gathered was written, and one call more was made
+  -- a prefix of the text that is gathered was written, and one more call was made
   pub front : (given : ℕ) (new : Progress) → FailsByFault at y given new z → Front now next text
       → IsFront (record { state = state; first = first; nul = nul; held = held; held' = next; told = told; told' = tells; disk_faults = x; disk_faults' = z })
   front given new fails added =
@@ -126,7 +126,7 @@ module _ (nul : Bool) (state : Option State) (first at : Progress) (x y z : ℕ)
         fails = fails_cut first at new x y z so_far.items so_far.fails given fails;
       }
 
-  -- the same of the line of an item more
+  -- a prefix of it with the line of one more item was written
   pub front_more : (item : Item) (new : Progress) → Steps state at (Some item) new → FailsByFault at y (failures_given (Some item)) new z
       → Front now next (text ++ line_of nul item) → Front tells more_told (error_of item)
       → IsFront (record { state = state; first = first; nul = nul; held = held; held' = next; told = told; told' = more_told; disk_faults = x; disk_faults' = z })
@@ -162,7 +162,7 @@ back_after order built streams first last now is left back =
 pub back_on : {D : Type 0} (streams : D → Streams) (a b : D) (before : Streams) (most : ℕ) → a ≡ b → AreBack before most (streams a) → AreBack before most (streams b)
 back_on streams a b before most same back = subst (λ d. AreBack before most (streams d)) same back
 
--- a disk that tells the same
+-- a disk that reports the same
 pub step_at : (told state : Option State) (at : Progress) (item : Option Item) (new : Progress) → told ≡ state → Steps told at item new → Steps state at item new
 step_at told state at item new same step = subst (λ x. Steps x at item new) same step
 
@@ -183,7 +183,7 @@ pub ends_cut : (o : Listing) (result : Result Status LineError) → IsErr result
 ends_cut o (Ok status) is_err front = absurd (IfOk-from_err {E = LineError} (Ok status) (λ _. ⊥) is_err)
 ends_cut o (Err error) is_err front = front
 
--- what is gathered was written, or a front of it
+-- what is gathered was written, or a prefix of it
 pub ends_by : (o : Listing) (result : Result Status LineError) (status : Status) (Whole Part : Type 0) → IfOk result (λ answer. (answer ≡ status) × Whole) → OnErr result Part
     → (Whole → EndsWritten o (Ok status))
     → (Part → IsFront o) → EndsWritten o result

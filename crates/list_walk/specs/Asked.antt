@@ -22,7 +22,7 @@ abbrev pub max_depth_by : Option ℕ → Options → Options
 max_depth_by None options = options
 max_depth_by (Some depth) options = record options { max_depth = max depth options.min_depth }
 
--- the choices that stand alone
+-- the choices without numbers
 abbrev pub flags_by : Choices → Options → Options
 flags_by choices options = record options {
   follow_links = choices.follow;
@@ -41,7 +41,7 @@ options_of choices = chosen_by choices default_options
 abbrev pub by_name : Order
 by_name a b = name_cmp (file_name_of a) (file_name_of b)
 
--- entries are sorted where that is chosen
+-- entries are sorted if that is chosen
 abbrev pub order_by : Bool → Option Order
 order_by true = Some by_name
 order_by false = None

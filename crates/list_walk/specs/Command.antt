@@ -8,7 +8,7 @@ use Rattle.list_walk.specs.declared.command.Command.TheVariants.{Walk, Help, Ver
 use Rattle.list_walk.specs.declared.misread.Misread.TheVariants.{NoWords}
 use Rattle.list_walk.specs.declared.words.Asked.{Asked}
 
--- what a word decides, if it does: that the program is asked about, or, as `--` does, that it isn't
+-- what a word decides, if anything: that the program is asked about, or, as `--` does, that it isn't
 unfoldable pub decided : List ℕ → Option (Option Command)
 decided word =
     if same_name word (codes "--") then Some None
@@ -20,7 +20,7 @@ abbrev pub by_first : Option (Option Command) → Option Command → Option Comm
 by_first (Some answer) later = answer
 by_first None later = later
 
--- the first word before `--` that asks about the program, wherever it stands
+-- the first word before `--` that asks about the program, at any place
 unfoldable pub about : List (List ℕ) → Option Command
 about [] = None
 about (word ∷ words) = by_first (decided word) (about words)

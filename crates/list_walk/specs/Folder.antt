@@ -6,7 +6,7 @@ use Rattle.list_walk.specs.declared.folder.Way.{Way}
 use Rattle.list_walk.specs.declared.misread.Misread.{Misread}
 use Rattle.list_walk.specs.declared.misread.Misread.TheVariants.{NoFolder, UpBehindName}
 
--- where a name begins: at the root, or where the program was started, where that is known
+-- where a name begins: at the root, or where the program was started, if that is known
 abbrev pub is_absolute : List ℕ → Bool
 is_absolute name = starts_with nat_eq name (codes "/")
 
@@ -18,7 +18,7 @@ abbrev pub or_same : Way → Option Path → Way
 or_same way None = way
 or_same way (Some path) = record way { path = path }
 
--- Up, where no name has led on yet. Behind a name a link may stand in its place, and then up isn't back.
+-- Up, if no name has been followed yet. A name may be a link, after which up isn't back.
 abbrev pub above : Way → Result Way Misread
 above way = if way.is_front then Ok (or_same way (parent_of way.path)) else Err UpBehindName
 

@@ -18,7 +18,7 @@ use Rattle.list_walk.specs.declared.status.Status.TheVariants as statuses
 
 -- ---- the items
 
--- A walk gave these items one after the other, and is here then. Its disk has this state.
+-- A walk gave these items one after the other, and is at this point. Its disk has this state.
 abbrev pub Gave : Option State → Progress → List Item → Progress → Type 0
 Gave state first items at = Yields (Steps state) first items at
 
@@ -34,7 +34,7 @@ pub record GaveSome (state : Option State) (first : Progress) (items : List Item
   pub at : Progress
   pub gave : Gave state first items at
 
--- an item is want of memory
+-- an item is out of memory
 abbrev pub is_want : Item → Bool
 is_want item = is_lost (Some item)
 
@@ -45,7 +45,7 @@ pub record Leaves (first now : Progress) : Type 0 where
 
 -- ---- their lines
 
--- an entry ends by a line feed, or by NUL where that is asked for
+-- an entry ends with a line feed, or with NUL if that is asked for
 abbrev pub end_of : Bool → List ℕ
 end_of true = 0 ∷ []
 end_of false = codes "\n"
@@ -55,7 +55,7 @@ unfoldable pub line_of : Bool → Item → List ℕ
 line_of nul (Ok entry) = text_of entry.path ++ end_of nul
 line_of nul (Err error) = []
 
--- the system's words for a disk's error; a disk that failed doesn't keep them, and others stand in their place
+-- the system's words for a disk's error; a disk that failed doesn't keep them, so others are used
 abbrev pub system_words : Option DiskError → List ℕ
 system_words None = []
 system_words (Some refusals.Absent) = codes " (No such file or directory)"
@@ -66,20 +66,20 @@ system_words (Some refusals.NotEmpty) = codes " (Directory not empty)"
 system_words (Some refusals.Failed) = codes " (refused by the system, or an entry that can't be listed)"
 system_words (Some refusals.NoMemory) = codes " (Cannot allocate memory)"
 
--- What is written of it on standard error: the text of an error behind the program's name, and the system's words. Nothing
--- is written of an entry.
+-- What is written of an item on standard error: the text of an error after the program's name, and the system's words.
+-- Nothing is written of an entry.
 unfoldable pub error_of : Item → List ℕ
 error_of (Ok entry) = []
 error_of (Err error) = codes "list_walk: " ++ (text_of_error error ++ (system_words (disk_error_of error) ++ codes "\n"))
 
--- the lines of items, one behind the other
+-- the lines of items, one after the other
 abbrev pub lines_of : Bool → List Item → List ℕ
 lines_of nul items = flat_map (line_of nul) items
 
 abbrev pub errors_of : List Item → List ℕ
 errors_of items = flat_map error_of items
 
--- of some bytes the sink took a front, and these are left
+-- the sink took a prefix of some bytes, and these are left
 abbrev pub TakesFront : Option (List ℕ) → Option (List ℕ) → List ℕ → List ℕ → Type 0
 TakesFront held held' bytes left = (front : List ℕ) × (bytes ≡ front ++ left) × Adds held held' front
 
@@ -107,7 +107,7 @@ pub record Listing : Type 0 where
   pub disk_faults : ℕ
   pub disk_faults' : ℕ
 
--- The lines of all items of the walk, none of them want of memory, were written, and the status is theirs. Beside failures
+-- The lines of all items of the walk, none of them out of memory, were written, and the status is theirs. Except failures
 -- that waited before, there are no more among them than the disk's count of faults rose by.
 pub record IsWhole (o : Listing) (status : Status) : Type 0 where
   pub items : List Item
@@ -118,8 +118,8 @@ pub record IsWhole (o : Listing) (status : Status) : Type 0 where
   pub errors : Adds o.told o.told' (errors_of items)
   pub fails : FailsByFault o.first o.disk_faults (failures_among items) gave.now o.disk_faults'
 
--- Fronts of the lines of items of the walk were written. Beside failures that waited before, there are no more among these
--- items than the disk's count of faults rose by.
+-- Prefixes of the lines of items of the walk were written. Except failures that waited before, there are no more among
+-- these items than the disk's count of faults rose by.
 pub record IsFront (o : Listing) : Type 0 where
   pub items : List Item
   pub gave : GaveSome o.state o.first items
@@ -129,7 +129,7 @@ pub record IsFront (o : Listing) : Type 0 where
   pub errors : Adds o.told o.told' (take error_count (errors_of items))
   pub fails : FailsByFault o.first o.disk_faults (failures_among items) gave.at o.disk_faults'
 
--- the walk came to its end, or it was cut off
+-- the walk reached its end, or it was cut off
 abbrev pub EndsWritten : Listing → Result Status LineError → Type 0
 EndsWritten o (Ok statuses.Done) = IsWhole o statuses.Done
 EndsWritten o (Ok statuses.SomeErrors) = IsWhole o statuses.SomeErrors

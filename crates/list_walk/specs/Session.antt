@@ -15,9 +15,9 @@ use Rattle.list_walk.specs.declared.words.Asked.{Asked}
 use Rattle.list_walk.specs.declared.status.Status.{Status}
 use Rattle.list_walk.specs.declared.status.Status.TheVariants as statuses
 
--- What was there before and after a session: what the words ask, and whether `help` is the only one; the disk, where it
--- tells, its streams and its counts of faults; what was written on standard output and on standard error; and the texts
--- that the program writes about itself.
+-- Before and after a session: what the words ask, and whether `help` is the only one; the disk, if it reports its tree, its
+-- streams and its counts of faults; what was written on standard output and on standard error; and the texts that the
+-- program writes about itself.
 pub record Session : Type 0 where
   pub command : Command
   pub is_help : Bool
@@ -64,7 +64,7 @@ pub record Texts (s : Session) (status : Status) : Type 0 where
   pub wrote : Wrote s.output text
   pub quiet : Wrote s.errors []
 
--- a front of such a text was written
+-- a prefix of such a text was written
 pub record TextCut (s : Session) : Type 0 where
   pub text : List ℕ
   pub status : Status
@@ -72,7 +72,7 @@ pub record TextCut (s : Session) : Type 0 where
   pub wrote : WroteFront s.output text
   pub quiet : Wrote s.errors []
 
--- What each status says. Want of memory is the one status without a cause.
+-- What each status says. Out of memory is the one status without a cause.
 abbrev pub Ends : Session → Status → Type 0
 Ends s statuses.Done = AllListed s statuses.Done ⊎ Texts s statuses.Done
 Ends s statuses.SomeErrors = (s.is_help ≡ false) × AllListed s statuses.SomeErrors
@@ -82,14 +82,14 @@ Ends s statuses.WriteFault = Rose s.output.faults s.output.faults' × (ListedCut
 Ends s statuses.ErrorFault = Rose s.errors.faults s.errors.faults' × ListedCut s
 Ends s statuses.NoMemory = (Wrote s.output [] × Wrote s.errors []) ⊎ ListedCut s
 
--- the status that a failed line comes to
+-- the status for a line that failed
 abbrev pub status_by : Result Status LineError → Status
 status_by (Ok status) = status
 status_by (Err errors.OutputFailed) = statuses.WriteFault
 status_by (Err errors.ErrorsFailed) = statuses.ErrorFault
 status_by (Err errors.NoMemory) = statuses.NoMemory
 
--- the status with where help is, if `help` is the only word and errors came of it
+-- the status, with a hint at help if `help` is the only word and gave errors
 abbrev pub hinted : Status → Bool → Status
 hinted statuses.SomeErrors is_help = if is_help then statuses.HelpSought else statuses.SomeErrors
 hinted status is_help = status

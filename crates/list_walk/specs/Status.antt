@@ -1,4 +1,4 @@
--- The exit status that each end of the program has, and what is told on standard error.
+-- The exit status of each end of the program, and its message on standard error.
 use Rattle.std.specs.Prelude.{ℕ, List, [], codes}
 use Rattle.list_walk.specs.declared.status.Status.{Status}
 use Rattle.list_walk.specs.declared.status.Status.TheVariants.{Done, NotUnderstood, SomeErrors, HelpSought, WriteFault, ErrorFault, NoMemory}
@@ -12,7 +12,7 @@ code_of WriteFault = 4
 code_of ErrorFault = 4
 code_of NoMemory = 5
 
--- what is told, without the program's name; nothing where the walks were made, whose errors have lines of their own
+-- the message, without the program's name; none if the walks were made, whose errors have lines of their own
 abbrev pub note_of : Status → List ℕ
 note_of Done = []
 note_of SomeErrors = []

@@ -1,4 +1,4 @@
--- Why words aren't understood, in words, as standard error tells it.
+-- Why words aren't understood, in the words on standard error.
 use Rattle.std.specs.Prelude.{ℕ, List, [], ◌∷◌, ◌++◌, codes}
 use Rattle.list_walk.specs.declared.misread.Misread.{Misread}
 use Rattle.list_walk.specs.declared.misread.Misread.TheVariants.{NoWords, NoFolderNamed, UpBehindName, NoFolder, NoSuchOption, NoNumber}
@@ -11,21 +11,21 @@ name_of MaxOpen = codes "--max-open"
 name_of MinDepth = codes "--min-depth"
 name_of MaxDepth = codes "--max-depth"
 
--- a word, or what stands for an empty one: each word is empty where one of them is no text
+-- a word, or a text for an empty one: each word is empty if one of them is no text
 abbrev pub or_none : List ℕ → List ℕ
 or_none [] = codes "(nothing, or no text)"
 or_none (first ∷ rest) = first ∷ rest
 
--- a word behind what is told, if there is one
+-- a word after the message, if there is one
 abbrev pub word_behind : List ℕ → List ℕ
 word_behind [] = []
 word_behind (first ∷ rest) = codes ": " ++ (first ∷ rest)
 
--- a word, and where help is
+-- a word, and the hint at help
 abbrev pub with_help : List ℕ → List ℕ
 with_help word = word ++ codes ": list_walk --help tells which there are"
 
--- what is told, with the first word that isn't understood, if it is one of them
+-- the message, with the first word that isn't understood, if it is one of them
 abbrev pub told_of : Misread → List ℕ → List ℕ
 told_of NoWords word = codes "no words: list_walk --help tells which there are"
 told_of NoFolderNamed word = codes "no folder is named: list_walk --help tells how"

@@ -23,7 +23,7 @@ pub record Moment : Type 0 where
   pub held : Option (List ℕ)
   pub told : Option (List ℕ)
 
--- a walk from a folder: how it is walked, the disk, where it tells, and the moments before and after
+-- a walk from a folder: how it is walked, the disk, if it reports its tree, and the moments before and after
 pub record Visit : Type 0 where
   pub choices : Choices
   pub state : Option State
@@ -31,7 +31,7 @@ pub record Visit : Type 0 where
   pub before : Moment
   pub after : Moment
 
--- what is written of it, where it begins so
+-- what is written of it, if it begins so
 abbrev pub listing_at : Visit → Progress → Listing
 listing_at v first = record {
   state = v.state;
@@ -48,20 +48,20 @@ listing_at v first = record {
 abbrev pub listing_of : Visit → Listing
 listing_of v = listing_at v (walk_of v.folder v.choices v.before.streams)
 
--- The lines of all items of the walk were written, and the status is theirs. Where the disk tells its tree, they are the
+-- The lines of all items of the walk were written, and the status is theirs. If the disk's tree is known, they are the
 -- items of that tree's walk. On every disk the failures among them are no more than its count of faults rose by.
 pub record Listed (v : Visit) (status : Status) : Type 0 where
   pub wrote : IsWhole (listing_of v) status
   pub walks : IfSome v.state (λ state. IsWalk (walking_of v.folder v.choices (tree_of state)) wrote.items)
   pub costs : Costs (failures_among wrote.items) v.before.disk_faults v.after.disk_faults
 
--- Fronts of the lines of items of the walk were written. The failures among these items are no more than the disk's count
+-- Prefixes of the lines of items of the walk were written. The failures among these items are no more than the disk's count
 -- of faults rose by.
 pub record CutOff (v : Visit) : Type 0 where
   pub wrote : IsFront (listing_of v)
   pub costs : Costs (failures_among wrote.items) v.before.disk_faults v.after.disk_faults
 
--- the walk came to its end, or it was cut off
+-- the walk reached its end, or it was cut off
 abbrev pub EndsVisit : Visit → Result Status LineError → Type 0
 EndsVisit v (Ok status) = Listed v status
 EndsVisit v (Err error) = CutOff v
@@ -73,7 +73,7 @@ abbrev pub worse : Status → Status → Status
 worse statuses.Done status = status
 worse other status = other
 
--- Folders were walked one after the other, and the lines of each were written behind those before it. The status tells
+-- Folders were walked one after the other, and the lines of each were written after those before it. The status says
 -- whether there are errors among their items.
 pub data Visits (choices : Choices) (state : Option State) (first : Moment) : List Path → Moment → Status → Type 0 where
   none : Visits choices state first [] first statuses.Done
@@ -81,7 +81,7 @@ pub data Visits (choices : Choices) (state : Option State) (first : Moment) : Li
       → Listed (record { choices = choices; state = state; folder = folder; before = before; after = after }) own
       → Visits choices state first (folders ++ folder ∷ []) after (worse status own)
 
--- the same of the first of some folders, and the walk from the next one was cut off
+-- the first of some folders were walked so, and the walk from the next one was cut off
 pub record VisitsCut (choices : Choices) (state : Option State) (folders : List Path) (first last : Moment) : Type 0 where
   pub front : List Path
   pub folder : Path
@@ -92,7 +92,7 @@ pub record VisitsCut (choices : Choices) (state : Option State) (folders : List 
   pub visits : Visits choices state first front before status
   pub cut : CutOff (record { choices = choices; state = state; folder = folder; before = before; after = last })
 
--- walks from folders: how they are walked, the disk, where it tells, and the moments before and after
+-- walks from folders: how they are walked, the disk, if it reports its tree, and the moments before and after
 pub record Journey : Type 0 where
   pub choices : Choices
   pub state : Option State
@@ -105,7 +105,7 @@ abbrev pub EndsAll : Journey → Result Status LineError → Type 0
 EndsAll j (Ok status) = Visits j.choices j.state j.first j.folders j.last status
 EndsAll j (Err error) = VisitsCut j.choices j.state j.folders j.first j.last
 
--- what a walk comes to that ended with a status: one that ran out of memory was cut off
+-- the result of a walk that ended with a status: one that ran out of memory was cut off
 abbrev pub settled : Result Status LineError → Result Status LineError
 settled (Ok statuses.Done) = Ok statuses.Done
 settled (Ok statuses.SomeErrors) = Ok statuses.SomeErrors

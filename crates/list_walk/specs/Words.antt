@@ -27,9 +27,9 @@ no_choices = record {
   max_depth = None;
 }
 
--- ---- the choices with one option more
+-- ---- the choices with one more option
 
--- an option that stands alone
+-- an option without a number
 unfoldable pub flagged : Choices → List ℕ → Option Choices
 flagged choices word =
     if same_name word (codes "--follow") then Some (record choices { follow = true })
@@ -39,7 +39,7 @@ flagged choices word =
     else if same_name word (codes "-0") then Some (record choices { nul = true })
     else None
 
--- an option that has a number
+-- an option with a number
 unfoldable pub count_of : List ℕ → Option Count
 count_of word =
     if same_name word (codes "--max-open") then Some MaxOpen
@@ -47,7 +47,7 @@ count_of word =
     else if same_name word (codes "--max-depth") then Some MaxDepth
     else None
 
--- of an option that is repeated the last one counts
+-- if an option is repeated the last one counts
 abbrev pub counted : Choices → Count → ℕ → Choices
 counted choices MaxOpen number = record choices { max_open = Some number }
 counted choices MinDepth number = record choices { min_depth = Some number }
@@ -62,12 +62,12 @@ abbrev pub with_folder : Words → Result Path Misread → Result Words Misread
 with_folder words (Err why) = Err why
 with_folder words (Ok path) = Ok (record words { folders = words.folders ++ path ∷ [] })
 
--- the number of an option, behind which any word may stand again
+-- the number of an option, after which any word may follow again
 abbrev pub with_number : Words → Count → Option ℕ → Result Words Misread
 with_number words count None = Err (NoNumber count)
 with_number words count (Some number) = Ok (record words { choices = counted words.choices count number; next = Any })
 
--- an option whose number stands behind `=`
+-- an option whose number follows `=`
 abbrev pub with_value_of : Words → Option Count → List ℕ → Result Words Misread
 with_value_of words None value = Err NoSuchOption
 with_value_of words (Some count) value = with_number words count (number_of value)
@@ -84,7 +84,7 @@ abbrev pub with_flag : Words → List ℕ → Option Choices → Result Words Mi
 with_flag words word (Some choices) = Ok (record words { choices = choices })
 with_flag words word None = with_count words word (count_of word)
 
--- behind `--` each word is a folder
+-- after `--` each word is a folder
 abbrev pub with_option : Words → List ℕ → Result Words Misread
 with_option words word =
     if same_name word (codes "--") then Ok (record words { next = Folder }) else with_flag words word (flagged words.choices word)
@@ -106,7 +106,7 @@ abbrev pub read_on : (Words → Result Words (List ℕ)) → List ℕ → Result
 read_on further word (Err why) = Err (told_of why word)
 read_on further word (Ok words) = further words
 
--- words one after the other, up to the first that isn't understood, of which this is told
+-- words one after the other, up to the first that isn't understood, with the message on it
 unfoldable pub words_of : Option Path → Words → List (List ℕ) → Result Words (List ℕ)
 words_of home read [] = Ok read
 words_of home read (word ∷ words) = read_on (λ more. words_of home more words) word (with_word home read.next read word)
@@ -124,7 +124,7 @@ abbrev pub asked_with : Next → List Path → Choices → Result Asked Misread
 asked_with next [] choices = Err NoFolderNamed
 asked_with next (folder ∷ folders) choices = asked_by_next next (folder ∷ folders) choices
 
--- or this is told of all words together
+-- or the message on all words together
 abbrev pub or_told : Result Asked Misread → Result Asked (List ℕ)
 or_told (Err why) = Err (told_of why [])
 or_told (Ok asked) = Ok asked

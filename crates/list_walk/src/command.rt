@@ -1,4 +1,4 @@
-//! What the words of the command line ask for.
+//! The command that the words of the command line give.
 ghost use Rattle.std.specs.Prelude.{◌≡◌, IfOk, map, string_bytes};
 ghost use Rattle.list_walk.specs.Command.{about, command_of, command_with, decided, seeks_help, walk_of_words};
 
@@ -8,17 +8,17 @@ use odb_base::{ByteList, NoMemory};
 use odb_disk::PathText;
 use std::alloc::Global;
 
-/// What the words of the command line ask for.
+/// The command that the words of the command line give.
 #[derive(Drop)]
 pub enum Command {
     Walk(Asked),
     Help,
     Version,
-    /// The words aren't understood. It has what is told of them.
+    /// The words aren't understood. It has the message on them.
     NotUnderstood(ByteList),
 }
 
-/// What the words ask for. A relative folder lies below the one that the program was started in, where that is known.
+/// The command of the words. A relative folder is below the one in which the program was started, if that is known.
 pub fn command_of(
     alloc: Global,
     home: &Option<PathText>,
@@ -47,7 +47,7 @@ fn about(words: &[String]) -> Option<Command>
     None
 }
 
-/// What a word decides, if it does: that the program is asked about, or, as `--` does, that it isn't.
+/// What a word decides, if anything: that the program is asked about, or, as `--` does, that it isn't.
 #[tactic(auto, unfolding(crate::specs::Command::decided))]
 fn decided(word: &str) -> Option<Option<Command>>
     ensures decided { result ≡ decided word.now }

@@ -8,18 +8,18 @@ use odb_base::NoMemory;
 use odb_disk::{BadPath, PathText};
 use std::alloc::{AllocError, Global};
 
-/// A path, as far as the parts of a name lead.
+/// The path so far, as the parts of a name lead.
 #[derive(Drop)]
 pub struct Way {
     pub path: PathText,
-    /// Whether no name has led on yet, so that `..` leads up: behind a name a link may stand in its place.
+    /// Whether no name has been followed yet, so that `..` goes up: a name may be a link, after which up isn't back.
     pub is_front: bool,
 }
 
-/// The path of a folder by its name: absolute, or behind `home`, where that is known.
+/// The path of a folder by its name: absolute, or below `home`, if that is known.
 ///
-/// Empty parts and `.` lead nowhere, so that slashes may stand twice and at the end. `..` leads up at the front; behind a
-/// name it isn't followed.
+/// Empty parts and `.` lead nowhere, so slashes may be doubled or at the end. `..` goes up at the front; after a name
+/// it isn't followed.
 #[tactic(auto, unfolding(crate::specs::Folder::folder_of))]
 pub fn folder_of(
     alloc: Global,

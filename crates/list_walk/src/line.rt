@@ -1,4 +1,4 @@
-//! The lines that are written: of entries to one sink, of errors to another.
+//! The lines that are written: entries to one sink, errors to another.
 ghost use Rattle.std.specs.Prelude.{◌≡◌, ◌≤◌, ℕ, Ok, Err, take, string_bytes, IfOk, OnOk, OnErr, IsErrOf};
 ghost use Rattle.list_walk.specs.Lines.{error_of, line_of, system_words};
 ghost use Rattle.odb_base.specs.Faults.{Rose};
@@ -8,14 +8,14 @@ use odb_disk::{DiskError, Failed, Sink, write_all};
 use std::alloc::{AllocError, Global};
 use walkdir::DirEntry;
 
-/// How many bytes are gathered before they are written: 32 KiB, so that one call of the sink serves many lines.
+/// The bytes that are gathered before they are written: 32 KiB, so that one call of the sink serves many lines.
 const PIECE: usize = 32_768;
 
-/// Lines of entries on their way to a sink.
+/// Lines of entries, buffered for a sink.
 #[derive(Drop)]
 pub struct Lines {
     text: String,
-    /// Whether they end by NUL, and not by a line feed.
+    /// Whether they end with NUL, not with a line feed.
     nul: bool,
 }
 
@@ -40,7 +40,7 @@ impl From<AllocError> for LineError {
     }
 }
 
-/// A failed sink is that of entries, unless it is told apart.
+/// A sink that failed is that of entries, unless it is said otherwise.
 impl From<Failed> for LineError {
     ghost use Rattle.std.specs.Prelude.{◌≡◌};
     ghost use Rattle.list_walk.specs.declared.line.LineError.TheVariants.{OutputFailed};
@@ -58,7 +58,7 @@ impl Lines {
     ghost use Rattle.odb_disk.specs.Source.{Adds};
     ghost use Rattle.list_walk.specs.Lines.{error_of, line_of, TakesFront};
 
-    /// No lines, which take no memory.
+    /// No lines. It allocates no memory.
     pub fn new(alloc: Global, nul: bool) -> Lines
         ensures empty { string_bytes result.text ≡ [] }
         ensures nul { result.nul ≡ nul }
@@ -94,7 +94,7 @@ impl Lines {
         }
     }
 
-    /// Adds the line of an entry, and writes what is gathered where that is much.
+    /// Adds the line of an entry, and writes what is gathered if that is much.
     #[tactic(auto, unfolding(crate::specs::Lines::line_of))]
     fn add<K: Sink>(
         &mut self,
@@ -161,7 +161,7 @@ fn tell<E: Sink>(alloc: Global, errors: &mut E, error: walkdir::Error) -> Result
     }
 }
 
-/// The line of an error, behind the program's name, with the system's words for it.
+/// The line of an error, after the program's name, with the system's words for it.
 #[tactic(auto, unfolding(crate::specs::Lines::error_of))]
 fn error_line(alloc: Global, error: walkdir::Error) -> Result<String, AllocError>
     ensures line { IfOk result (λ line. string_bytes line ≡ error_of (Err error)) }
@@ -170,7 +170,7 @@ fn error_line(alloc: Global, error: walkdir::Error) -> Result<String, AllocError
     format!(in alloc; "list_walk: {error}{words}\n")
 }
 
-/// The system's words for a disk's error. A disk that failed doesn't keep them, and others stand in their place.
+/// The system's words for a disk's error. A disk that failed doesn't keep them, so others are used.
 fn system_words(error: Option<DiskError>) -> &'static str
     ensures words { result.now ≡ system_words error }
 {

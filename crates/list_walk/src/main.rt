@@ -1,4 +1,4 @@
-//! Lists folder trees: `list_walk FOLDER.. [OPTION..]` prints a line for each entry of each folder, its path, and tells
+//! Lists folder trees: `list_walk FOLDER.. [OPTION..]` prints the path of each entry of each folder on a line, and
 //! each error on standard error.
 //!
 //! `command` says what the words ask for, `words` which options there are, `folder` which folder a name means, `run` what

@@ -1,4 +1,4 @@
-//! Why words aren't understood, and what is told of it.
+//! Why words aren't understood, and the message on it.
 ghost use Rattle.std.specs.Prelude.{◌≡◌, ◌++◌, IfOk, OnOk};
 ghost use Rattle.list_walk.specs.Told.{name_of, or_none, told_of, with_help, word_behind};
 
@@ -14,17 +14,17 @@ pub enum Misread {
     NoWords,
     /// None of them names a folder.
     NoFolderNamed,
-    /// A folder's name has `..` behind a name.
+    /// A folder's name has `..` after a name.
     UpBehindName,
     /// A word is no name of a folder.
     NoFolder,
     /// A word begins with `-` and is no option.
     NoSuchOption,
-    /// The number of an option is missing, or another word stands in its place.
+    /// The number of an option is missing, or another word is in its place.
     NoNumber(Count),
 }
 
-/// What is told of words that aren't understood, with the first word that isn't, if it is one of them.
+/// The message on words that aren't understood, with the first such word, if it is one of them.
 pub fn told_of(alloc: Global, why: Misread, word: &str) -> Result<ByteList, NoMemory>
     ensures told { IfOk result (λ told. told ≡ told_of why word.now) }
 {
@@ -59,7 +59,7 @@ fn add_no_such_option(out: &mut Vec<u8>, word: &str) -> Result<(), NoMemory>
     add_with_help(out, word)
 }
 
-/// Adds a word, and where help is.
+/// Adds a word, and the hint at help.
 fn add_with_help(out: &mut Vec<u8>, word: &str) -> Result<(), NoMemory>
     ensures ok { OnOk result (out.new.items ≡ out.old.items ++ with_help word.now) }
 {
@@ -74,7 +74,7 @@ fn add_no_number(out: &mut Vec<u8>, count: Count, word: &str) -> Result<(), NoMe
     add_count(out, count, word)
 }
 
-/// Adds the name of an option, and the word behind it.
+/// Adds the name of an option, and the word after it.
 fn add_count(out: &mut Vec<u8>, count: Count, word: &str) -> Result<(), NoMemory>
     ensures ok { OnOk result (out.new.items ≡ out.old.items ++ (name_of count ++ word_behind word.now)) }
 {
@@ -82,7 +82,7 @@ fn add_count(out: &mut Vec<u8>, count: Count, word: &str) -> Result<(), NoMemory
     add_word(out, word)
 }
 
-/// Adds a word behind what is told, if there is one.
+/// Adds a word after the message, if there is one.
 fn add_word(out: &mut Vec<u8>, word: &str) -> Result<(), NoMemory>
     ensures ok { OnOk result (out.new.items ≡ out.old.items ++ word_behind word.now) }
 {
@@ -93,7 +93,7 @@ fn add_word(out: &mut Vec<u8>, word: &str) -> Result<(), NoMemory>
     text(out, word.as_bytes())
 }
 
-/// A word, or what stands for an empty one: each word is empty where one of them is no text.
+/// A word, or a text for an empty one: each word is empty if one of them is no text.
 fn or_none(word: &str) -> &str
     ensures word { result.now ≡ or_none word.now }
 {

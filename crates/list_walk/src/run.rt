@@ -51,8 +51,8 @@ status  0 done          1 words not understood   2 there were errors
 /// What `--version` writes.
 pub const VERSION: &str = "list_walk 0.1.0\n";
 
-/// Does what the words of the command line say: walks each folder, and writes a line for each item, of an entry to `sink`
-/// and of an error to `errors`. A relative folder lies below `home`, where that is known.
+/// Does what the words of the command line say: walks each folder, and writes a line for each item, entries to `sink`
+/// and errors to `errors`. A relative folder is below `home`, if that is known.
 ///
 /// The disk's tree stays as it was, and so do its streams.
 pub fn run<K: Sink, E: Sink, D: Disk>(
@@ -94,7 +94,7 @@ pub fn run<K: Sink, E: Sink, D: Disk>(
     }
 }
 
-/// The status, which tells where help is if errors came of the word `help` alone.
+/// The status, with a hint at help if the word `help` alone gave errors.
 fn hinted(status: Status, words: &[String]) -> Status
     ensures status { result ≡ hinted status (seeks_help (map (λ word. string_bytes word) words.now)) }
 {
@@ -110,7 +110,7 @@ fn hinted(status: Status, words: &[String]) -> Status
     }
 }
 
-/// The status that the writing of lines comes to.
+/// The status for the result of writing lines.
 fn status_by(listed: Result<Status, LineError>) -> Status
     ensures status { result ≡ status_by listed }
 {
@@ -155,7 +155,7 @@ fn listed<K: Sink, E: Sink, D: Disk>(
     Ok(status)
 }
 
-/// Some errors are worse than none.
+/// Combines two statuses: some errors are worse than none.
 fn worse(status: Status, own: Status) -> Status
     ensures worse { result ≡ worse status own }
 {
@@ -194,7 +194,7 @@ fn visited<K: Sink, E: Sink, D: Disk>(
     }
 }
 
-/// What a walk comes to that ended with a status: one that ran out of memory was cut off.
+/// The result of a walk that ended with a status: one that ran out of memory was cut off.
 fn settled(ended: Result<Status, LineError>) -> Result<Status, LineError>
     ensures settled { result ≡ settled ended }
 {
@@ -210,7 +210,7 @@ fn settled(ended: Result<Status, LineError>) -> Result<Status, LineError>
     }
 }
 
-/// Makes a walk as it is chosen.
+/// Makes a walk with the chosen options.
 fn walk_of<K: Sink, E: Sink, D: Disk>(
     alloc: Global,
     root: PathText,
@@ -364,7 +364,7 @@ fn written<K: Sink, E: Sink, D: Disk, W: Steps>(
     ended(lines, sink, status)
 }
 
-/// Writes what is gathered, and answers with a status.
+/// Writes what is gathered, and returns a status.
 fn ended<K: Sink>(lines: Lines, sink: &mut K, status: Status) -> Result<Status, LineError>
     ensures ok { IfOk result (λ answer. (answer ≡ status) × Adds (K.held sink.old) (K.held sink.new) (string_bytes lines.text)) }
     ensures err { OnErr result ((count : ℕ) × Adds (K.held sink.old) (K.held sink.new) (take count (string_bytes lines.text))) }
@@ -377,7 +377,7 @@ fn ended<K: Sink>(lines: Lines, sink: &mut K, status: Status) -> Result<Status, 
     Ok(status)
 }
 
-/// Whether an item is want of memory.
+/// Whether an item is out of memory.
 fn is_want(item: &walkdir::Result<DirEntry>) -> bool
     ensures want { result ≡ is_want item.now }
 {

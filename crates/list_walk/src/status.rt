@@ -1,4 +1,4 @@
-//! How the program may end, and what it tells on standard error then.
+//! How the program may end, and its message on standard error.
 use odb_base::ByteList;
 use odb_program::SessionStatus;
 
@@ -7,17 +7,17 @@ use odb_program::SessionStatus;
 pub enum Status {
     /// 0: each item is an entry.
     Done,
-    /// 1: the words aren't understood. It has what is told of them.
+    /// 1: the words aren't understood. It has the message on them.
     NotUnderstood(ByteList),
     /// 2: an item is an error.
     SomeErrors,
-    /// 2: the same, and `help` is the only word.
+    /// 2: an item is an error, and `help` is the only word.
     HelpSought,
     /// 4: the sink of entries failed.
     WriteFault,
     /// 4: the sink of errors failed.
     ErrorFault,
-    /// 5: want of memory.
+    /// 5: out of memory.
     NoMemory,
 }
 

@@ -12,7 +12,7 @@ use odb_base::{ByteList, NoMemory, Sequence, parse_decimal};
 use odb_disk::PathText;
 use std::alloc::Global;
 
-/// What is listed: folders, one at least, in their order, and how each of them is walked.
+/// What is listed: folders, at least one, in their order, and how each of them is walked.
 #[derive(Drop)]
 pub struct Asked {
     pub folders: Sequence<PathText>,
@@ -24,13 +24,13 @@ pub struct Asked {
 pub struct Choices {
     /// `--follow`: links are followed.
     pub follow: bool,
-    /// `--sort`: the entries of each directory come in the order of the bytes of their names.
+    /// `--sort`: the entries of each directory are given in the order of the bytes of their names.
     pub sort: bool,
-    /// `--contents-first`: a directory comes after its contents.
+    /// `--contents-first`: a directory is given after its contents.
     pub contents_first: bool,
     /// `--same-file-system`: directories on other devices aren't entered.
     pub same_file_system: bool,
-    /// `-0`: an entry ends by NUL, and not by a line feed.
+    /// `-0`: an entry ends with NUL, not with a line feed.
     pub nul: bool,
     /// `--max-open N`
     pub max_open: Option<usize>,
@@ -40,7 +40,7 @@ pub struct Choices {
     pub max_depth: Option<usize>,
 }
 
-/// The words as far as they are read.
+/// The words that are read so far.
 #[derive(Drop)]
 pub struct Words {
     pub folders: Sequence<PathText>,
@@ -55,11 +55,11 @@ pub enum Next {
     Any,
     /// The number of an option.
     Number(Count),
-    /// A folder, since `--` stands before it.
+    /// A folder, since `--` precedes it.
     Folder,
 }
 
-/// An option that has a number.
+/// An option with a number.
 #[derive(Clone, Copy)]
 pub enum Count {
     MaxOpen,
@@ -67,7 +67,7 @@ pub enum Count {
     MaxDepth,
 }
 
-/// What is to be listed, where each word is understood and one of them is a folder; else what is told of it.
+/// What is to be listed, if each word is understood and one of them is a folder; else the message.
 pub fn asked_of(
     alloc: Global,
     home: &Option<PathText>,
@@ -81,7 +81,7 @@ pub fn asked_of(
     }
 }
 
-/// What is to be listed, or what is told of all words together.
+/// What is to be listed, or the message on all words together.
 fn or_told(
     alloc: Global,
     asked: Result<Asked, Misread>,
@@ -94,7 +94,7 @@ fn or_told(
     }
 }
 
-/// What words that are read to their end ask for: a folder has to be among them.
+/// What the words that are read ask for: there has to be a folder among them.
 fn asked_with(words: Words) -> Result<Asked, Misread>
     ensures asked { result ≡ asked_with words.next words.folders words.choices }
 {
@@ -124,7 +124,7 @@ fn asked_by_next(
     }
 }
 
-/// All words one after the other, where each is understood; else what is told of the first that isn't.
+/// Reads all words one after the other, if each is understood; else returns the message on the first that isn't.
 #[tactic(auto, unfolding(crate::specs::Words::words_of))]
 fn words_of(
     alloc: Global,
@@ -234,8 +234,8 @@ fn one_more(mut words: Words, folder: PathText) -> Result<Result<Words, Misread>
     Ok(Ok(words))
 }
 
-/// The words with an option: one that stands alone, one whose number is the next word, one whose number stands behind
-/// `=`, or `--`.
+/// The words with an option: one without a number, one whose number is the next word, one whose number follows `=`,
+/// or `--`.
 fn with_option(words: Words, option: &str) -> Result<Words, Misread>
     ensures words { result ≡ with_option words option.now }
 {
@@ -262,7 +262,7 @@ fn choosing(mut words: Words, choices: Choices) -> Words
     words
 }
 
-/// The choices with one that stands alone.
+/// The choices with an option without a number.
 #[tactic(auto, unfolding(crate::specs::Words::flagged))]
 fn flagged(mut choices: Choices, option: &str) -> Option<Choices>
     ensures choices { result ≡ flagged choices option.now }
@@ -278,7 +278,7 @@ fn flagged(mut choices: Choices, option: &str) -> Option<Choices>
     Some(choices)
 }
 
-/// The words with an option that has a number.
+/// The words with an option that takes a number.
 fn with_count(words: Words, option: &str) -> Result<Words, Misread>
     ensures words { result ≡ with_count words option.now (count_of option.now) }
 {
@@ -288,7 +288,7 @@ fn with_count(words: Words, option: &str) -> Result<Words, Misread>
     }
 }
 
-/// The words with an option whose number stands behind `=`.
+/// The words with an option whose number follows `=`.
 fn with_value(words: Words, option: &str) -> Result<Words, Misread>
     ensures words { result ≡ with_value words (before_first (λ b. b == 61) option.now) (after_first (λ b. b == 61) option.now) }
 {
@@ -299,7 +299,7 @@ fn with_value(words: Words, option: &str) -> Result<Words, Misread>
     }
 }
 
-/// What stands before the first `=`, and what after it. All of a text without one stands before it.
+/// The text before the first `=`, and the text after it; without one, all of it and nothing.
 fn at_equals(text: &str) -> (&str, &str)
     ensures before { result.0.now ≡ before_first (λ b. b == 61) text.now }
     ensures after { result.1.now ≡ after_first (λ b. b == 61) text.now }
@@ -310,7 +310,7 @@ fn at_equals(text: &str) -> (&str, &str)
     }
 }
 
-/// The option with a number that has a name.
+/// The option with a number that has this name.
 #[tactic(auto, unfolding(crate::specs::Words::count_of))]
 fn count_of(name: &str) -> Option<Count>
     ensures count { result ≡ count_of name.now }
@@ -336,7 +336,7 @@ fn with_number(words: Words, count: Count, number: &str) -> Result<Words, Misrea
     }
 }
 
-/// The choices with the number of an option. Of an option that is repeated the last one counts.
+/// The choices with the number of an option. If an option is repeated the last one counts.
 fn counted(mut choices: Choices, count: Count, number: usize) -> Choices
     ensures choices { result ≡ counted choices count number }
 {

@@ -14,7 +14,7 @@ taken_of : (rest : List ℕ) (next : Option (List ℕ)) (buffer : List ℕ) (n :
 taken_of rest None buffer n reads = absurd reads
 taken_of rest (Some after) buffer n reads = (after, refl, reads)
 
--- a read that follows
+-- one more read
 pub ReadSoFar-more : (left now next : Option (List ℕ)) (bytes buffer : List ℕ) (n : ℕ) → ReadSoFar left now bytes → Reads now next buffer (Ok n) → ReadSoFar left next (bytes ++ take n buffer)
 ReadSoFar-more None now next bytes buffer n so_far reads =
     let P : Option (List ℕ) → Type 0 = λ o. Reads o next buffer (Ok n) in subst P so_far reads

@@ -43,7 +43,7 @@ fn object_shown(alloc: Global, kind: Kind, bytes: &[u8]) -> Result<String, Alloc
     format!(in alloc; "{kind} {data}")
 }
 
-/// What a look for a header answers: the kind and the size, `none` or `refused`.
+/// What a query for a header answers: the kind and the size, `none` or `refused`.
 fn header<D: FindHeader, R: Wait>(
     rt: &R,
     alloc: Global,
@@ -84,7 +84,7 @@ fn id_shown<E: Drop>(alloc: Global, answer: Result<ObjectId, E>) -> Result<Strin
     }
 }
 
-/// What a write of bytes answers, under a known id where there is one.
+/// What a write of bytes answers, under a known id if there is one.
 fn wrote<D: Write, R: Wait>(
     rt: &R,
     alloc: Global,
@@ -104,7 +104,7 @@ fn wrote<D: Write, R: Wait>(
     }
 }
 
-/// What a write of `size` bytes of a source answers, under a known id where there is one.
+/// What a write of `size` bytes of a source answers, under a known id if there is one.
 fn streamed<D: Write, R: Wait>(
     rt: &R,
     alloc: Global,
@@ -140,9 +140,9 @@ fn gave<D: Write, R: Wait>(
 /// What is asked of a database.
 #[derive(Clone, Copy)]
 enum Call {
-    /// A find, a look for a header and a test of presence, of an id.
+    /// A find, a query for a header and a test of presence, of an id.
     Ask(&'static str),
-    /// A write of data, under an id where there is one.
+    /// A write of data, under an id if there is one.
     Write(Option<&'static str>, Kind, &'static str),
     /// A write of as many bytes as the first number says, from a source whose read with the second number fails.
     Stream(Option<&'static str>, Kind, u64, u64, &'static str),
@@ -241,7 +241,7 @@ fn answered<R: Wait>(
 /// Git's id of the blob `hello`.
 const HELLO: &str = "b6fc4c620b67d95f953a5c1c1230aaab5db5a1b0";
 
-/// An id that no object here has by its data.
+/// An id that no object here has for its data.
 const GIVEN: &str = "0000000000000000000000000000000000000000";
 
 /// What a row shows, the call, and what it answers.
@@ -297,7 +297,7 @@ fn check_row<R: Wait>(
     compare(shows, found.as_str(), want)
 }
 
-/// What each row gives, in turn, through a layer in front of a database of one object.
+/// The results of each row, in turn, through a layer over a database of one object.
 fn check<R: Wait>(rt: &R, alloc: Global, rows: &[Row]) -> Result<(), Fail> {
     let mut database = Front {
         inner: Shelf::new(gix_hash::Kind::Sha1),
@@ -308,8 +308,8 @@ fn check<R: Wait>(rt: &R, alloc: Global, rows: &[Row]) -> Result<(), Fail> {
     Ok(())
 }
 
-// A layer that answers something else than the database behind it, data behind what `out` held, a stream that is
-// taken although it is too short, too long or fails, an id that was handed in and isn't answered.
+// A layer that answers something else than the database below it, data after what `out` held, a stream that is taken
+// although it is too short, too long or fails, an id that was passed in and isn't returned.
 #[test]
 fn through_the_bounds(rt: HostRuntime) -> Result<(), Fail> {
     check(&rt, rt.alloc(), ROWS)

@@ -1,4 +1,4 @@
-//! A layer in front of a database, through which the tests ask it.
+//! A layer over a database, through which the tests ask it.
 ghost use Rattle.std.specs.Prelude.{◌≡◌};
 
 use gix_hash::ObjectId;
@@ -7,7 +7,7 @@ use odb_disk::Source;
 use std::alloc::Global;
 use std::sync::Wait;
 
-/// A layer in front of a database, which answers what the database behind it answered in that call.
+/// A layer over a database, which answers what the database below it answered in that call.
 #[derive(Drop)]
 pub struct Front<D> {
     pub inner: D,

@@ -136,7 +136,7 @@ fn prefix_shown(alloc: Global, digits: &[u8]) -> Result<String, AllocError> {
     }
 }
 
-// How a prefix stands to an id that begins with `e69de2`.
+// How a prefix compares with an id that begins with `e69de2`.
 fn beside_shown(alloc: Global, digits: &str) -> Result<String, Fail> {
     let id = ObjectId::from_hex(b"e69de29bb2d1d6434b8b29ae775ad8c2e48c5391")?;
     let order = Prefix::from_hex(digits.as_bytes())?.cmp_oid(&id);
@@ -183,7 +183,7 @@ fn kind_shown(alloc: Global, kind: Kind) -> Result<String, AllocError> {
     format!(in alloc; "{kind} {digits} {null}")
 }
 
-/// The id of bytes that are handed over in pieces of at most `most` bytes.
+/// The id of bytes that are passed in pieces of at most `most` bytes.
 fn hashed(kind: Kind, bytes: &[u8], most: usize) -> ObjectId
     requires some { 0 < most }
 {

@@ -1,10 +1,10 @@
-//! Ids of objects, beside those that Git tells.
+//! Ids of objects, compared with Git's.
 use gix_object::{Kind, compute_hash};
 use std::alloc::Global;
 use std::test::Fail;
 use test_words::compare;
 
-/// A kind, some data, and the ids that Git told by SHA-1 and by SHA-256.
+/// A kind, some data, and the ids that Git reported by SHA-1 and by SHA-256.
 const SHORT: &[(Kind, &str, &str, &str)] = &[
     (
         Kind::Commit,
@@ -56,7 +56,7 @@ const SHORT: &[(Kind, &str, &str, &str)] = &[
     ),
 ];
 
-/// The same of 70,000 letters `a`.
+/// The ids of 70,000 letters `a`.
 const LONG: &[(Kind, &str, &str)] = &[
     (
         Kind::Commit,
@@ -80,7 +80,7 @@ const LONG: &[(Kind, &str, &str)] = &[
     ),
 ];
 
-// Fails where an object has another id than these by SHA-1 and SHA-256.
+// Fails if an object has another id than these by SHA-1 and SHA-256.
 fn check(alloc: Global, kind: Kind, bytes: &[u8], sha1: &str, sha256: &str) -> Result<(), Fail> {
     let first = id_shown(alloc, gix_hash::Kind::Sha1, kind, bytes)?;
     compare(sha1, first.as_str(), sha1)?;
@@ -92,9 +92,9 @@ fn id_shown(alloc: Global, hash: gix_hash::Kind, kind: Kind, bytes: &[u8]) -> Re
     Ok(compute_hash(alloc, hash, kind, bytes)?.to_hex(alloc)?)
 }
 
-// Git's ids: an id of the data alone, of another header, or of a part of long data. Git 2.39.5 told them by
-// `git hash-object --literally -t KIND --stdin`, the second of each row in a repository made by
-// `git init --object-format=sha256`.
+// Git's ids: an id of the data alone, of another header, or of a part of long data. Git 2.39.5 reported them by `git
+// hash-object --literally -t KIND --stdin`, the second of each row in a repository made by `git init
+// --object-format=sha256`.
 #[test]
 fn ids_equal_those_of_git(rt: HostRuntime) -> Result<(), Fail> {
     for (kind, text, sha1, sha256) in SHORT {

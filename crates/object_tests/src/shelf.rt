@@ -9,10 +9,10 @@ use odb_disk::{Failed, MemSink, Source};
 use std::alloc::{AllocError, Global};
 use std::sync::Wait;
 
-/// How many bytes of a source are asked for at a time.
+/// The number of bytes of a source asked for at a time.
 const PIECE: usize = 16;
 
-/// A database of at most one object: a write takes the place of what was there.
+/// A database of at most one object: a write replaces what was there.
 #[derive(Drop)]
 pub struct Shelf {
     pub hash: gix_hash::Kind,
@@ -228,7 +228,7 @@ impl Write for Shelf {
     }
 }
 
-// The bytes of a source, which are to be as many as `size` says.
+// The bytes of a source, whose number has to be `size`.
 fn read_whole<S: Source>(alloc: Global, size: u64, from: &mut S) -> Result<ByteList, ShelfError>
     ensures drawn { IsDrawn (stream_of (S.left from.old) (S.faults from.old) (S.left from.new) (S.faults from.new)) }
     ensures whole { IfOk result (λ _. IsWhole size (S.left from.old) (S.left from.new)) }

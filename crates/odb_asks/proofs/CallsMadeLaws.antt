@@ -1,4 +1,4 @@
--- Laws of calls that were made one after another: none, one, and two runs joined.
+-- Laws of calls made one after another: none, one, and two runs joined.
 use Rattle.std.proofs.Common.{List, [], ◌∷◌, ◌++◌, refl, sym, subst}
 use Rattle.odb_asks.specs.CallsMade.{Makes, Leads, IsAnsweredBetween}
 
@@ -30,7 +30,7 @@ module _ {State Ask Answer : Type 0} (Answered : State → Ask → Answer → St
   pub answered_here : (before after : State) (ask : Ask) (answer : Answer) → Answered before ask answer after → IsAnsweredBetween Answered before after ask answer
   answered_here before after ask answer answered = record { here = before; there = after; earlier = leads_nowhere before; answered = answered; later = leads_nowhere after }
 
-  -- it lies between any states further apart
+  -- it is between any states further apart
   pub answered_wider : (first before after last : State) (ask : Ask) (answer : Answer)
       → Leads Answered first before → IsAnsweredBetween Answered before after ask answer → Leads Answered after last → IsAnsweredBetween Answered first last ask answer
   answered_wider first before after last ask answer earlier is later = record {

@@ -1,4 +1,4 @@
--- Laws of a disk in memory: what a call and a change of another program leave.
+-- Laws of a disk in memory: its state after a call and after a change of another program.
 use Rattle.std.proofs.Common.{◌≡◌, ℕ, ◌<◌, ◌^◌, true, List, length, Some, Result, Ok, Err, OnOk, OnErr, IsOk, is_ok, refl, sym, ap, ◌∙◌, subst}
 use Rattle.std.specs.Ordering.{nat_cmp}
 use Rattle.std.specs.FinSet as set
@@ -19,7 +19,7 @@ use Rattle.odb_asks.proofs.StreamsLemmas.{free_number}
 use Rattle.odb_nodes.proofs.TreeLemmas.{tree_of-state_of}
 use Rattle.odb_nodes.proofs.TreeLemmas.Changed.{IsTree-changed}
 
--- a tree stays a tree, made a change or refused one
+-- a tree stays a tree, whether it made a change or refused one
 pub IsTree-after : (r : Result (Unit {0}) Impossible) (t u : Tree) (change : Change) → IsTree t → OnOk r (u ≡ changed t change) → OnOk r (is_possible_in t change ≡ true) → OnErr r (u ≡ t) → IsTree u
 IsTree-after (Ok x) t u change is_tree made possible kept = subst IsTree (sym made) (IsTree-changed t change is_tree possible)
 IsTree-after (Err e) t u change is_tree made possible kept = subst IsTree (sym kept) is_tree
@@ -42,7 +42,7 @@ pub counted_call : (v : Volume) (made : Calls) → made ≡ calls.after_call (ne
 unfolding after_call
 counted_call v made is = ap (λ c. record v { calls = c }) is
 
--- ---- a change that another program makes
+-- ---- a change of another program
 
 pub outside_change : (v : Volume) (t : Tree) (change : Change) → v.state ≡ state_of t → record v { state = state_of (changed t change) } ≡ after_outside_change v change
 unfolding after_outside_change after_change
@@ -53,7 +53,7 @@ pub new_disk : (t : Tree) (listed : set.FinSet nat_cmp) (streams : Streams) (mad
 unfolding new_volume
 new_disk t listed streams made bare none same = λ i. record { state = state_of (bare i); streams = none i; calls = same i }
 
--- ---- a directory that is opened, by what its tree tells
+-- ---- a directory that is opened, by what its tree says
 
 module _ (t : Tree) (s : State) (path : Path) (same : state_of t ≡ s) where
   opened-state_of : opened t path ≡ opened (tree_of s) path

@@ -1,4 +1,4 @@
--- Laws of the calls that aren't of streams: a disk in memory counts them, its tree alone answers them, and they change no
+-- Laws of the calls that aren't on streams: a disk in memory counts them, its tree alone answers them, and they change no
 -- stream. For callers.
 use Rattle.std.specs.Prelude.{if◌then◌else◌, ◌&&◌}
 use Rattle.std.proofs.Common.{◌≡◌, Bool, true, false, cond, refl, sym, ap, ◌∙◌}

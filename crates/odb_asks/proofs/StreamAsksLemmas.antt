@@ -1,4 +1,4 @@
--- The calls of streams as values: the least number that is free, and what a call answers and leaves.
+-- The calls of streams as values: the least free number, what a call answers, and the streams after it.
 use Rattle.std.proofs.Common.{◌≡◌, ◌⊎◌, ℕ, ◌+◌, ◌<◌, ◌≤◌, ◌==◌, ◌||◌, unwrap_or, true, false, not, List, [], ◌∷◌, Option, Some}
 use Rattle.std.proofs.Common.{None, Result, Ok, Err, IfOk, IfSome, OnErr, refl, sym, ap, ◌∙◌, subst, inl, inr, arith}
 use Rattle.std.proofs.lemmas.Bool.{cases_eq, cases_lt}
@@ -100,7 +100,7 @@ module _ (ask : DiskAsk) (o new : Option State) (same : new ≡ o) where
 
 -- ---- on a disk in memory
 
--- what a call is answered that isn't of streams, and that it changes none
+-- what a call that isn't on a stream is answered, and that it changes no stream
 module _ (t : Tree) (s : Streams) where
   pub answer_in-still : (ask : DiskAsk) → is_of_streams ask ≡ false → answer_in t s ask ≡ answer_of t ask
   answer_in-still (asks.Look path follow) still = refl

@@ -1,5 +1,5 @@
--- Calls that were made one after another: what each was answered, and the states between them. `Answered` says what one
--- call is answered, and what it leaves: for a disk, `Disk.answered`.
+-- Calls made one after another: what each was answered, and the states between them. `Answered` says what one call is
+-- answered, and the state after it: for a disk, `Disk.answered`.
 use Rattle.std.specs.Prelude.{◌≡◌, List, [], ◌∷◌}
 
 module _ {State Ask Answer : Type 0} (Answered : State → Ask → Answer → State → Type 0) where
@@ -12,7 +12,7 @@ module _ {State Ask Answer : Type 0} (Answered : State → Ask → Answer → St
   abbrev pub Leads : State → State → Type 0
   Leads before after = (calls : List (Ask × Answer)) × Makes calls before after
 
-  -- of the calls that lead from one state to another, one was this, and was answered so
+  -- one of the calls that lead from one state to another was this one, and was answered so
   pub record IsAnsweredBetween (before after : State) (ask : Ask) (answer : Answer) : Type 0 where
     pub here : State
     pub there : State

@@ -4,7 +4,7 @@ use Rattle.odb_base.specs.Faults.{Rose}
 use Rattle.odb_nodes.specs.declared.disk_error.DiskError.{DiskError}
 use Rattle.odb_nodes.specs.declared.disk_error.DiskError.TheVariants as errors
 
--- the count of faults never falls, and a call fails only where it rose
+-- the count of faults never falls, and a call fails only if it rose
 pub record FailsOnlyByFault {A : Type 0} (before now : ℕ) (result : Result A DiskError) : Type 0 where
   pub later : before ≤ now
   pub failed : IsErrOf result errors.Failed → Rose before now

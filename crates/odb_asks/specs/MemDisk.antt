@@ -1,4 +1,4 @@
--- A disk in memory: its state, its open streams, and its calls, of which some are to fail.
+-- A disk in memory: its state, its open streams, and its calls, some of which will fail.
 use Rattle.std.specs.Prelude.{Bool, refl}
 use Rattle.std.specs.Ordering.{nat_cmp}
 use Rattle.std.specs.FinSet as set
@@ -33,6 +33,6 @@ after_call volume = record volume { calls = calls.after_call (next_fails volume)
 unfoldable pub after_outside_change : Volume → Change → Volume
 after_outside_change volume change = record volume { state = after_change volume.state change }
 
--- a new disk: the root alone, and the calls that are to fail
+-- a new disk: the root alone, and the calls that will fail
 unfoldable pub new_volume : set.FinSet nat_cmp → Volume
 new_volume listed = record { state = state_of bare_tree; streams = no_streams; calls = no_calls listed }

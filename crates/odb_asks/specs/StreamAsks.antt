@@ -1,4 +1,4 @@
--- The calls of streams as values: what they are answered, and what the streams are afterwards.
+-- The calls of streams as values: what they are answered, and how the streams are afterwards.
 use Rattle.std.specs.Prelude.{◌≡◌, ℕ, ◌+◌, max, fold, find, Bool, true, false, not, List, ◌∷◌, Option, Some, unwrap_or, Result, Ok, Err, IfSome}
 use Rattle.std.specs.List.{range_with_len}
 use Rattle.std.specs.FinMap as finite
@@ -22,13 +22,13 @@ is_of_streams ask = false
 
 -- ---- on any disk
 
--- an opening gave a new stream, or was refused and changed none
+-- an opening gave a new stream, or failed and changed none
 abbrev pub OpensAs : Option State → Path → Streams → Streams → DiskAnswer → Type 0
 OpensAs state path old new (answers.Dir dir) = Opens state path old new dir
 OpensAs state path old new (answers.Refused error) = (new ≡ old) × IfSome state (λ s. AnswersOpen (Err error) (opened (tree_of s) path))
 OpensAs state path old new answer = ⊥
 
--- a stream gave its first entry or told its end, or the call was refused and took nothing
+-- a stream gave its first entry or its end, or the call failed and took nothing
 abbrev pub GivesAs : Streams → Streams → ℕ → DiskAnswer → Type 0
 GivesAs old new dir (answers.Entry entry) = GivesFirst old new dir entry
 GivesAs old new dir answers.End = IsAtEnd old new dir
@@ -39,7 +39,7 @@ abbrev pub ClosesAs : Streams → Streams → ℕ → DiskAnswer → Type 0
 ClosesAs old new dir answers.Done = new ≡ with_closed old dir
 ClosesAs old new dir answer = ⊥
 
--- what a call of streams was answered, and what the streams are afterwards
+-- what a call of streams was answered, and how the streams are afterwards
 abbrev pub AnswersStreams : Option State → Streams → Streams → DiskAsk → DiskAnswer → Type 0
 AnswersStreams state old new (asks.OpenDir path) answer = OpensAs state path old new answer
 AnswersStreams state old new (asks.NextEntry dir) answer = GivesAs old new dir answer

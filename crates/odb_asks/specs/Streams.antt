@@ -39,7 +39,7 @@ left streams dir = option_map length (still_gives streams dir)
 abbrev pub open_count : Streams → ℕ
 open_count streams = finite.len streams.open_dirs
 
--- the same streams, but for one that gives these entries from now on
+-- the streams, except that one gives these entries from now on
 abbrev pub with_stream : Streams → ℕ → List Entry → Streams
 with_stream streams dir entries = record streams { open_dirs = finite.insert streams.open_dirs dir entries }
 
@@ -47,7 +47,7 @@ with_stream streams dir entries = record streams { open_dirs = finite.insert str
 abbrev pub with_opened : Streams → ℕ → List Entry → Streams
 with_opened streams dir entries = record { open_dirs = finite.insert streams.open_dirs dir entries; peak = max streams.peak (open_count (with_stream streams dir entries)) }
 
--- the streams after one was closed. Nothing changes where it isn't open
+-- the streams after one was closed. Nothing changes if it isn't open
 abbrev pub with_closed : Streams → ℕ → Streams
 with_closed streams dir = record streams { open_dirs = finite.remove streams.open_dirs dir }
 
@@ -67,8 +67,8 @@ abbrev pub AnswersOpen : Result ℕ DiskError → Result (List Entry) Refusal �
 AnswersOpen (Ok dir) told = IsOk told
 AnswersOpen (Err error) told = Answers {A = List Entry} (Err error) told
 
--- A new stream, under a number that no open stream has. What it gives is fixed: where the tree is told, the entries
--- of the directory that the path leads to, in the order of the bytes of their names.
+-- A new stream, under a number that no open stream has. What it gives is fixed: if the tree is known, the entries of the
+-- directory that the path leads to, in the order of the bytes of their names.
 pub record Opens (state : Option State) (path : Path) (old new : Streams) (dir : ℕ) : Type 0 where
   pub entries : List Entry
   pub was_free : still_gives old dir ≡ None
@@ -99,8 +99,8 @@ TakesNext old new dir None = IsClosed old new dir
 TakesNext old new dir (Some None) = IsAtEnd old new dir
 TakesNext old new dir (Some (Some entry)) = GivesFirst old new dir entry
 
--- What `next_entry` answers, and what it leaves: the first entry, which is given once; the end; or a refusal, which
--- takes nothing. A stream is absent where it isn't open.
+-- What `next_entry` answers, and the streams after it: the first entry, which is given once; the end; or an error, which
+-- takes nothing. A stream is absent if it isn't open.
 abbrev pub Gives : Streams → Streams → ℕ → Result (Option Entry) DiskError → Type 0
 Gives old new dir (Ok (Some entry)) = GivesFirst old new dir entry
 Gives old new dir (Ok None) = IsAtEnd old new dir
@@ -112,7 +112,7 @@ Gives old new dir (Err errors.NotEmpty) = ⊥
 Gives old new dir (Err errors.Failed) = new ≡ old
 Gives old new dir (Err errors.NoMemory) = new ≡ old
 
--- how streams are told apart, for models that hold them
+-- how streams are distinguished, for models that hold them
 abbrev pub coded_streams : Coded Streams
 coded_streams =
     code_by (finite.FinMap nat_cmp (List Entry) × ℕ) (coded× (finite.code coded_ℕ (coded_list coded_entry)) coded_ℕ) (λ s. (s.open_dirs, s.peak))

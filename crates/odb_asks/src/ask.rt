@@ -27,7 +27,7 @@ pub enum DiskAsk {
     Remove { path: PathText },
 }
 
-/// What a disk answered to a call.
+/// The answer of a disk to a call.
 #[derive(Drop)]
 pub enum DiskAnswer {
     Meta(Meta),
@@ -59,7 +59,7 @@ pub enum Op {
 }
 
 impl DiskAsk {
-    /// Which call it is.
+    /// The name of the call.
     pub fn op(&self) -> Op
         ensures op { result ≡ op_of self.now }
     {
@@ -77,8 +77,8 @@ impl DiskAsk {
         }
     }
 
-    /// The path that it names: of a rename, its source. A call on an open stream names none: whoever opened the
-    /// stream knows the path.
+    /// The path of the call; of a rename, the source. A call on an open stream has none: whoever opened the stream
+    /// knows the path.
     pub fn path(&self) -> Option<&PathText>
         ensures path { option_map (λ path. path.now) result ≡ path_asked self.now }
     {
@@ -127,7 +127,7 @@ impl DiskAsk {
     }
 }
 
-/// The answer to a look.
+/// The answer to a stat.
 fn look_answer(found: Result<Meta, DiskError>) -> DiskAnswer
     ensures told { result ≡ told_look found }
 {

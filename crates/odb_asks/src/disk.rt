@@ -52,11 +52,11 @@ impl DirId {
 
 /// A disk: a tree of directories, files and links that other programs change too.
 ///
-/// A state that is told shows a tree. A refused call leaves it as it was, and a call that writes makes the change
-/// that its word in `specs/Tree/Write.antt` of `odb_tree` gives. Each disk tells its open streams: `open_dir`,
+/// A state that is known shows a tree. A call that fails leaves it as it was, and a call that writes makes the change
+/// that its word in `specs/Tree/Write.antt` of `odb_tree` gives. Each disk reports its open streams: `open_dir`,
 /// `next_entry` and `close_dir` change them as `specs/Streams.antt` says, and no other call does.
 pub trait Disk {
-    /// The state of the disk, where it tells it.
+    /// The state of the disk, if it reports it.
     ghost state: { Self → Option State };
 
     /// The open streams, and the most that were open at one time so far.
@@ -65,11 +65,11 @@ pub trait Disk {
     /// How often a call has failed: a count that never falls.
     ghost faults: { Self → ℕ };
 
-    /// A disk is asked, gives an answer, and is another disk afterwards. Each call keeps to it, so what a caller
-    /// promises by it alone holds on every disk, also on one that tells no state.
+    /// A disk is asked, answers, and is another disk afterwards. Each call keeps to it, so what a caller promises by
+    /// it alone holds on every disk, also on one that reports no state.
     ghost answered: { Self → ask_value → answer_value → Self → Type 0 } = { λ _ _ _ _. Unit {0} };
 
-    /// Looks at a path. A link in the last place is followed where `follow` is set.
+    /// Stats a path. A link in the last place is followed if `follow` is set.
     fn look(&mut self, alloc: Global, path: &PathText, follow: bool) -> Result<Meta, DiskError>
         ensures answer { IfSome (state self.old) (λ s. Answers result (looked (tree_of s) path.now follow)) }
         ensures tree { IfSome (state self.old) (λ s. IsTree (tree_of s)) }
@@ -78,7 +78,7 @@ pub trait Disk {
         ensures cause { FailsOnlyByFault (faults self.old) (faults self.new) result }
         ensures answered { answered self.old (asks.Look path.now follow) (told_look result) self.new };
 
-    /// Reads the bytes and the time of a file, links followed.
+    /// Reads the bytes and the time of a file, following links.
     fn read(&mut self, alloc: Global, path: &PathText) -> Result<(ByteList, u64), DiskError>
         ensures answer { IfSome (state self.old) (λ s. Answers result (read_of (tree_of s) path.now)) }
         ensures tree { IfSome (state self.old) (λ s. IsTree (tree_of s)) }
@@ -87,7 +87,7 @@ pub trait Disk {
         ensures cause { FailsOnlyByFault (faults self.old) (faults self.new) result }
         ensures answered { answered self.old (asks.Read path.now) (told_read result) self.new };
 
-    /// Opens a directory, links followed. What its stream gives is fixed then.
+    /// Opens a directory, following links. What its stream will give is then fixed.
     fn open_dir(&mut self, alloc: Global, path: &PathText) -> Result<DirId, DiskError>
         ensures answer { IfSome (state self.old) (λ s. AnswersOpen result (opened (tree_of s) path.now)) }
         ensures opened { IfOk result (λ dir. Opens (state self.old) path.now (streams self.old) (streams self.new) dir) }
@@ -105,7 +105,7 @@ pub trait Disk {
         ensures cause { FailsOnlyByFault (faults self.old) (faults self.new) result }
         ensures answered { answered self.old (asks.NextEntry dir.now) (told_next result) self.new };
 
-    /// Closes a stream, and does nothing where it isn't open. It takes no memory, and is never refused.
+    /// Closes a stream; does nothing if it isn't open. It allocates no memory, and never fails.
     fn close_dir(&mut self, dir: DirId)
         ensures closed { streams self.new ≡ with_closed (streams self.old) dir }
         ensures tree { IfSome (state self.old) (λ s. IsTree (tree_of s)) }
@@ -113,7 +113,7 @@ pub trait Disk {
         ensures faults { faults self.new ≡ faults self.old }
         ensures answered { answered self.old (asks.CloseDir dir) answers.Done self.new };
 
-    /// Makes a directory where nothing stands. A link in the last place isn't followed.
+    /// Makes a directory where nothing is. A link in the last place isn't followed.
     fn make_dir(&mut self, alloc: Global, path: &PathText) -> Result<(), DiskError>
         ensures answer { IfSome (state self.old) (λ s. AnswersWrite result (done (change_of_make_dir (tree_of s) path.now))) }
         ensures tree { IfSome (state self.old) (λ s. IsTree (tree_of s)) }
@@ -123,7 +123,7 @@ pub trait Disk {
         ensures cause { FailsOnlyByFault (faults self.old) (faults self.new) result }
         ensures answered { answered self.old (asks.MakeDir path.now) (told_write result) self.new };
 
-    /// Makes an empty file where nothing stands. A link in the last place isn't followed.
+    /// Makes an empty file where nothing is. A link in the last place isn't followed.
     fn new_file(&mut self, alloc: Global, path: &PathText) -> Result<(), DiskError>
         ensures answer { IfSome (state self.old) (λ s. AnswersWrite result (done (change_of_new_file (tree_of s) path.now))) }
         ensures tree { IfSome (state self.old) (λ s. IsTree (tree_of s)) }
@@ -133,7 +133,7 @@ pub trait Disk {
         ensures cause { FailsOnlyByFault (faults self.old) (faults self.new) result }
         ensures answered { answered self.old (asks.NewFile path.now) (told_write result) self.new };
 
-    /// Adds bytes at the end of a file, links followed. Its time stays as it was where the tree is told.
+    /// Appends bytes to a file, following links. If the tree is known, its time stays as it was.
     fn append(&mut self, alloc: Global, path: &PathText, bytes: &[u8]) -> Result<(), DiskError>
         ensures answer { IfSome (state self.old) (λ s. AnswersWrite result (done (change_of_append (tree_of s) path.now bytes.now))) }
         ensures tree { IfSome (state self.old) (λ s. IsTree (tree_of s)) }

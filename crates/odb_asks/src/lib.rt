@@ -1,7 +1,7 @@
 //! Calls of a disk as values, and the trait of a disk.
 //!
-//! Each call of a disk answers by its tree, where the disk tells it, and fails only where the disk's count of faults rose.
-//! Read `disk` first, then `ask`. What a tree is stands in `odb_nodes`; a disk in memory stands above, in `odb_disk`.
+//! Each call of a disk answers by its tree, if the disk reports it, and fails only if the disk's count of faults
+//! rose. Read `disk` first, then `ask`. `odb_nodes` says what a tree is; `odb_disk` has a disk in memory.
 //! ```rust
 //! let ask = DiskAsk::Read { path: PathText::parse(alloc, "/o/a")? };
 //! let answer = ask.carry_out(alloc, &mut disk);

@@ -1,4 +1,4 @@
--- How what `parse` reads stands to the number that a text is.
+-- How what `parse` reads relates to the number in a text.
 use Rattle.std.proofs.Common.{◌≡◌, ◌≢◌, ℕ, ◌^◌, ◌<◌, ◌==◌, ◌&&◌, Bool, true, false, not, List, [], ◌∷◌, length, get_or, Option, Some, None, Result, Ok, Err, refl, sym, ap, ◌∙◌, arith}
 use Rattle.std.specs.Prelude.{IfSome}
 use Rattle.std.specs.Result.{result_ok, OkIff}
@@ -21,7 +21,7 @@ no_plus text h e = grind (arith, common_steps, h, e)
 abbrev Numeral : List ℕ → Type 0
 Numeral text = (all_ascii_digits text ≡ true) × (0 < length text) × (digits_value 10 text < 2 ^ 64)
 
--- a text that no number has
+-- a text of no number
 not_number : (text : List ℕ) (o : Option ℕ) → number_of text ≡ o → ((n : ℕ) → IsNumber text n → ⊥) → o ≡ None
 not_number text None e other = refl
 not_number text (Some n) e other = absurd (other n (IsNumber-number_of text n e))

@@ -1,4 +1,4 @@
--- The order of texts, by the numbers that their first bytes are.
+-- The order of texts, by their first bytes as numbers.
 use Rattle.std.proofs.Common.{◌≡◌, ◌≢◌, ℕ, zero, suc, ◌+◌, ◌*◌, ◌/◌, ◌%◌, ◌^◌, ◌<◌, Bool, true, false, cond, nat_lt, nat_eq}
 use Rattle.std.proofs.Common.{List, [], ◌∷◌, ◌++◌, ◌-◌, length, take, drop, inl, inr, refl, sym, ap, ap₂, subst, ◌∙◌, arith}
 use Rattle.std.specs.Ordering.{nat_cmp, ordering_then}
@@ -95,7 +95,7 @@ head_from-padded (suc n) (b ∷ text) k = ap (λ h. b * 256 ^ n + h) (head_from-
 pub head_of-take : (text : List ℕ) → from_be_bytes w64 (take 8 text) ≡ head_of text
 head_of-take text = from_be_bytes-head (take 8 text) ∙ head_from-take 8 text ∙ sym (head_of-from text)
 
--- the head of a text that stands in eight zeros
+-- the head of a text that is padded with zeros to eight bytes
 pub head_of-padded : (text : List ℕ) → from_be_bytes w64 (text ++ drop (length text) (replicate 8 0)) ≡ head_of text
 head_of-padded text =
     ap (λ zeros. from_be_bytes w64 (text ++ zeros)) (drop-replicate (length text) 8 0) ∙ from_be_bytes-head (text ++ replicate (8 - length text) 0)
@@ -127,7 +127,7 @@ not_Equal h k order is apart e = apart (is ∙ equal h k e)
 
 -- ---- the order of texts
 
--- a greater first byte outweighs all that stand behind it
+-- a greater first byte outweighs all that follow it
 outweighs : (n x y h k : ℕ) → x < y → h < 256 ^ n → x * 256 ^ n + h < y * 256 ^ n + k
 outweighs n x y h k l fits = omega (arith, mul-add-lt x (256 ^ n) h y l fits, mul_comm (256 ^ n) y)
 
@@ -156,7 +156,7 @@ head_from-order (suc n) (x ∷ s) (y ∷ t) own its apart =
       ]
     ]
 
--- where the heads of two texts differ, the texts are in the order of their heads
+-- if the heads of two texts differ, the texts are in the order of their heads
 pub head_order : (s t : List ℕ) → IsUtf8 s → IsUtf8 t → head_of s ≢ head_of t → slice_cmp nat_cmp s t ≡ nat_cmp (head_of s) (head_of t)
 head_order s t own its apart =
     let order = head_from-order 8 s t (text_bytes s own) (text_bytes t its) (λ e. apart (head_of-from s ∙ e ∙ sym (head_of-from t))) in

@@ -46,7 +46,7 @@ after_last-at xs k h at after =
     let n = suffix_len_is (λ x. not (is_dot x)) xs (k + 1) 0 (omega arith) behind (λ _. here) in
     ap (λ j. drop j xs) (omega arith)
 
--- no dot stands behind the first byte
+-- there is no dot after the first byte
 has_extension-none : (first : ℕ) (rest : List ℕ) → ((i : ℕ) → 0 < i → i < length (first ∷ rest) → get_or (first ∷ rest) i 0 ≢ 46) → list_any is_dot rest ≡ false
 has_extension-none first rest none =
     list_any_none is_dot rest (λ k d h. ne_eqb _ _ (λ e. none (suc k) (omega arith) (omega arith) (get_or_default rest k 0 d h ∙ e)))
@@ -58,7 +58,7 @@ extension_of-first [] none = refl
 extension_of-first (first ∷ rest) none =
     ap (λ t. cond t (Some (after_last is_dot (first ∷ rest))) None) (has_extension-none first rest none)
 
--- the last dot of a name stands at a later index
+-- the last dot of a name is at a later index
 extension_of-later : (name : Name) (k : ℕ) → 0 < k → k < length name → get_or name k 0 ≡ 46 → ((i : ℕ) → k < i → i < length name → get_or name i 0 ≢ 46) → extension_of name ≡ Some (drop (k + 1) name)
 unfolding extension_of has_extension
 extension_of-later [] k low h at after = absurd (omega arith)
@@ -101,7 +101,7 @@ extension_of-found_later name front back h l =
 
 -- ---- texts
 
--- the text of names, each behind a slash
+-- the text of names, each after a slash
 abbrev slashed : Path → List ℕ
 slashed = flat_map (λ n. 47 ∷ n)
 
@@ -186,7 +186,7 @@ named-cut true b (part ∷ parts) h = refl
 named-cut false b [] h = refl
 named-cut false b (part ∷ parts) h = refl
 
--- what a text spells whose parts behind the first slash are these
+-- what a text spells whose parts after the first slash are these
 pub path_of-parts : (text rest : List ℕ) → text ≡ 47 ∷ rest → 0 < length rest → let parts = slice_split is_slash rest in path_of text ≡ cond (list_all is_name parts) (Some parts) None
 unfolding path_of rooted
 path_of-parts text [] e h = absurd (omega arith)
@@ -194,7 +194,7 @@ path_of-parts text (b ∷ bytes) e h =
     let n = length-slice_split is_slash bytes in
     ap path_of e ∙ named-cut (is_slash b) b (slice_split is_slash bytes) (omega arith)
 
--- the parts behind the first slash are the names of the path that a text spells, if they are names
+-- the parts after the first slash are the names of the path that a text spells, if they are names
 pub path_of-are_names : (text rest : List ℕ) (parts path : Path) → text ≡ 47 ∷ rest → 0 < length rest → parts ≡ slice_split (λ b. b == 47) rest → path ≡ parts
     → list_all is_name path ≡ true → path_of text ≡ Some path
 path_of-are_names text rest parts path e h parts_is path_is names =

@@ -1,4 +1,4 @@
--- A path as one text: its names, each behind a NUL, which no name holds.
+-- A path as one text: its names, each after a NUL, which is in no name.
 use Rattle.std.specs.Prelude.{◌≡◌, ℕ, ◌==◌, true, false, List, ◌∷◌, ◌++◌, drop, Option, Some, None, if◌then◌else◌, map}
 use Rattle.std.specs.List.{slice_split, list_all, flat_map, starts_with}
 use Rattle.std.specs.Int.{w64, from_be_bytes}
@@ -17,7 +17,7 @@ pub record IsJoined (text : List ℕ) : Type 0 where
   pub whole : text ≡ joined (names_joined text)
   pub are_names : list_all is_name (names_joined text) ≡ true
 
--- the number that the first eight bytes of a text are, the first one the highest; missing bytes count as zeros
+-- the first eight bytes of a text as a big-endian number; missing bytes count as zeros
 unfoldable pub head_of : List ℕ → ℕ
 head_of text = from_be_bytes w64 text
 
@@ -25,7 +25,7 @@ head_of text = from_be_bytes w64 text
 unfoldable pub slashed : List ℕ → List ℕ
 slashed text = map (λ b. if b == nul then slash else b) text
 
--- what stands in a path's text behind that of another: the text of the names that the other lacks
+-- the rest of a path's text after that of another: the text of the names that the other lacks
 abbrev pub IsBehind : Path → Path → Option (List ℕ) → Type 0
 IsBehind path base None = starts_with same_name path base ≡ false
 IsBehind path base (Some rest) = (starts_with same_name path base ≡ true) × (base ++ names_joined rest ≡ path) × IsJoined rest

@@ -21,7 +21,7 @@ slash = 47
 abbrev pub dot : ℕ
 dot = 46
 
--- the byte that ends a text of the system, so that no name has it
+-- the byte that ends a text of the system, and so is in no name
 abbrev pub nul : ℕ
 nul = 0
 
@@ -46,13 +46,13 @@ unfoldable pub text_of : Path → List ℕ
 text_of [] = codes "/"
 text_of (name ∷ names) = flat_map (λ n. slash ∷ n) (name ∷ names)
 
--- the names that stand between slashes after the first one; nothing after it is the root
+-- the names between slashes after the first one; if nothing follows it, the path is the root
 unfoldable pub named : List Name → Option Path
 named [] = None
 named ([] ∷ []) = Some []
 named (name ∷ names) = if list_all is_name (name ∷ names) then Some (name ∷ names) else None
 
--- nothing stands before the first slash
+-- nothing precedes the first slash
 unfoldable pub rooted : List Name → Option Path
 rooted [] = None
 rooted ([] ∷ names) = named names
@@ -62,7 +62,7 @@ rooted ((b ∷ bytes) ∷ names) = None
 unfoldable pub path_of : List ℕ → Option Path
 path_of text = rooted (slice_split (λ b. b == slash) text)
 
--- the directory that a path lies in, by its names; the root lies in none
+-- the directory that contains a path, by its names; none for the root
 unfoldable pub parent_of : Path → Option Path
 parent_of [] = None
 parent_of (name ∷ names) = Some (take (length names) (name ∷ names))
@@ -72,12 +72,12 @@ last_name [] = None
 last_name (name ∷ []) = Some name
 last_name (name ∷ other ∷ names) = last_name (other ∷ names)
 
--- whether a dot stands behind the first byte
+-- whether a dot follows the first byte
 unfoldable pub has_extension : Name → Bool
 has_extension [] = false
 has_extension (first ∷ rest) = list_any (λ b. b == dot) rest
 
--- what follows the last dot, unless there is none or the only one comes first
+-- what follows the last dot, unless there is none or only one at the front
 unfoldable pub extension_of : Name → Option (List ℕ)
 extension_of name = if has_extension name then Some (after_last (λ b. b == dot) name) else None
 

@@ -1,4 +1,4 @@
--- The laws of paths: their order, the directories that they lie in, and their texts.
+-- The laws of paths: their order, the directories that contain them, and their texts.
 use Rattle.std.proofs.Common.{◌≡◌, ℕ, zero, suc, ◌+◌, ◌-◌, ◌==◌, ◌<◌, Bool, true, false, cond, List, [], ◌∷◌, ◌++◌, length}
 use Rattle.std.proofs.Common.{get_or, take, drop, append-nil, Some, None, refl, sym, ap, ◌∙◌, arith, length-append}
 use Rattle.std.specs.List.{starts_with, slice_split, list_any, list_all, flat_map}
@@ -18,13 +18,13 @@ use Rattle.odb_base.specs.Path.{Name, Path, is_name, same_name, text_of, path_of
 pub path_order : IsTotalOrder path_cmp
 path_order = lists_total nat_list_cmp_total
 
--- two paths of one place in the order are one path
+-- two paths at one place in the order are one path
 pub one_place : IsAntisymmetric path_cmp
 one_place = slice_cmp-IsAntisymmetric (slice_cmp-IsAntisymmetric nat_cmp-IsAntisymmetric)
 
 -- ---- names
 
--- where no element passes, each one fails
+-- if no element passes, each one fails
 pub All_not-list_any : {X : Type 0} (p : X → Bool) (xs : List X) → list_any p xs ≡ false → (k : ℕ) (d : X) → k < length xs → p (get_or xs k d) ≡ false
 All_not-list_any p [] e k d h = absurd (omega arith)
 All_not-list_any p (x ∷ xs) e zero d h = (or_parts _ _ e).0
@@ -38,7 +38,7 @@ pub is_name-no_slash : (name : Name) → is_name name ≡ true → list_any (λ 
 unfolding is_name
 is_name-no_slash name e = (or_parts _ _ (not-true _ e)).1
 
--- ---- the directory that a path lies in
+-- ---- the directory that contains a path
 
 pub parent_of-take : (path : Path) → 0 < length path → parent_of path ≡ Some (take (length path - 1) path)
 unfolding parent_of
@@ -51,7 +51,7 @@ unfolding parent_of
 parent_of-none [] h = refl
 parent_of-none (name ∷ names) h = absurd (omega arith)
 
--- a path that lies in a directory has one name more
+-- a path that is in a directory has one more name
 pub parent_of-some : (path front : Path) → parent_of path ≡ Some front → (name : Name) × (path ≡ front ++ name ∷ [])
 unfolding parent_of
 parent_of-some [] front e = absurd (none-some _ e)
@@ -62,13 +62,13 @@ parent_of-some (name ∷ names) front e =
     let last = get_or (name ∷ names) n [] in
     (last, sym (take-length (name ∷ names)) ∙ take-suc (name ∷ names) n [] (omega arith) ∙ ap (λ f. f ++ last ∷ []) taken)
 
--- only the root lies in none
+-- only the root is in none
 pub parent_of-nothing : (path : Path) → parent_of path ≡ None → path ≡ []
 unfolding parent_of
 parent_of-nothing [] e = refl
 parent_of-nothing (name ∷ names) e = absurd (none-some _ (sym e))
 
--- a path with one name more lies in that path, and has that name
+-- a path with one more name is in that path, and has that name
 pub parent_of-push : (path : Path) (name : Name) → parent_of (path ++ name ∷ []) ≡ Some path
 parent_of-push path name =
     let n = length-append path (name ∷ []) in
@@ -90,7 +90,7 @@ goes_beyond path base = (starts_is bytes_decides path base (starts_with same_nam
 -- ---- the text of a path
 
 module _ (b : ℕ) (free : (name : Name) → is_name name ≡ true → list_any (λ c. c == b) name ≡ false) where
-  -- names behind a byte that none of them holds are the parts between these bytes
+  -- names after a byte that none of them has are the parts between these bytes
   pub slice_split-behind : (name : Name) (names : Path) → list_all is_name (name ∷ names) ≡ true → slice_split (λ c. c == b) (name ++ flat_map (λ n. b ∷ n) names) ≡ name ∷ names
   slice_split-behind name [] e =
       let all = All_not-list_any (λ c. c == b) name (free name (and_parts _ _ e).0) in

@@ -1,14 +1,13 @@
-//! Values in a place of their own.
+//! Values on the heap.
 ghost use Rattle.std.specs.Prelude.{◌≡◌, IfOk};
 
 use crate::NoMemory;
 use std::alloc::Global;
 use std::marker::Model;
 
-/// A value in a place of its own, which contracts see as the value.
+/// A value on the heap, which contracts see as the value.
 ///
-/// It wraps a `Box`. A part of a list's items that is large, and seldom there, stands in one, so that the items without it don't
-/// take its room.
+/// It wraps a `Box`. A large and rare part of a list's items is kept in one, so that items without it don't take its room.
 #[derive(Debug, Drop)]
 pub struct Boxed<T> {
     owner: Box<T>,
@@ -23,7 +22,7 @@ impl<T> Model for Boxed<T> {
 }
 
 impl<T> Boxed<T> {
-    /// A value, put into a place of its own.
+    /// Moves a value to the heap.
     pub fn new(alloc: Global, value: T) -> Result<Boxed<T>, NoMemory>
     where
         T: Drop,
@@ -40,7 +39,7 @@ impl<T> Boxed<T> {
         &self.owner
     }
 
-    /// The value by itself.
+    /// The value itself.
     pub fn into_inner(self) -> T
         ensures value { result ≡ self }
     {

@@ -23,7 +23,7 @@ impl Model for ByteList {
 }
 
 impl ByteList {
-    /// An empty list, which takes no memory.
+    /// An empty list. It allocates no memory.
     pub fn new(alloc: Global) -> ByteList
         ensures empty { result ≡ [] }
     {
@@ -61,7 +61,7 @@ impl ByteList {
         &self.bytes
     }
 
-    /// How many bytes there are.
+    /// The number of bytes.
     pub fn len(&self) -> usize
         ensures len { result ≡ length self.now }
     {
@@ -82,7 +82,7 @@ impl ByteList {
         self.bytes.get(index).copied()
     }
 
-    /// Adds a byte at the end. A refused push changes nothing.
+    /// Adds a byte at the end. On error nothing changes.
     pub fn push(&mut self, byte: u8) -> Result<(), NoMemory>
         ensures ok { OnOk result (self.new ≡ self.old ++ byte ∷ []) }
         ensures err { OnErr result (self.new ≡ self.old) }
@@ -91,7 +91,7 @@ impl ByteList {
         Ok(())
     }
 
-    /// Adds bytes at the end. A refused call changes nothing.
+    /// Adds bytes at the end. On error nothing changes.
     pub fn extend_from_slice(&mut self, bytes: &[u8]) -> Result<(), NoMemory>
         ensures ok { OnOk result (self.new ≡ self.old ++ bytes.now) }
         ensures err { OnErr result (self.new ≡ self.old) }

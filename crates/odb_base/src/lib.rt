@@ -1,9 +1,8 @@
-//! What every crate of the object database stands on: the error for want of memory, lists of bytes and of
-//! other items, values in boxes, paths, numbers as texts, limits of sizes, and the words that tie an answer to a count of
-//! faults.
+//! What every crate of the object database uses: the error that memory ran out, lists of bytes and of other items, values
+//! in boxes, paths, numbers as texts, limits of sizes, and the words that relate an answer to a count of faults.
 //!
-//! A call that takes memory is passed the allocator, and answers `NoMemory` where there is none left.
-//! A list of bytes is seen by a contract as that list, whatever room it has.
+//! A call that allocates is passed the allocator, and returns `NoMemory` when memory runs out. Contracts see a list
+//! of bytes as that list, whatever its capacity.
 //! ```rust
 //! let mut bytes = ByteList::from_slice(alloc, b"blob 0\0")?;
 //! bytes.extend_from_slice(b"more")?;

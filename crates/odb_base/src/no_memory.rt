@@ -1,8 +1,8 @@
-//! The error for want of memory.
+//! The error that memory ran out.
 use std::alloc::{AllocError, AllocFailed};
 use thiserror::Error;
 
-/// Want of memory: the one answer that any call which takes memory may give.
+/// Out of memory: the one error that every call that allocates may return.
 #[derive(Clone, Copy, Debug, Error)]
 #[error("out of memory")]
 pub struct NoMemory;

@@ -1,4 +1,4 @@
-//! Paths: how they are read, written, joined, taken apart and ordered.
+//! Paths: how they are read, written, joined, split and ordered.
 ghost use Rattle.std.specs.Prelude.{◌≡◌, ◌↔◌, ◌==◌, false, map, drop, [], ◌∷◌, ◌++◌, IfOk, OnOk, IfSome, IsTrue, IsErrOf, None, Some};
 ghost use Rattle.std.specs.Option.{option_copied};
 ghost use Rattle.std.specs.List.{slice_split, list_all, starts_with};
@@ -16,10 +16,10 @@ use std::marker::Model;
 /// An absolute path: a list of names, none of them empty, `.` or `..`, or with NUL or `/` in it.
 /// The empty list is the root, `/`.
 ///
-/// The names stand in one text, each behind a NUL: the order of these texts by their bytes is that of paths, name by name.
+/// The names are in one text, each after a NUL: the order of these texts by bytes is that of paths, name by name.
 ///
-/// The first eight bytes of the text stand beside it as a number, the head: the first byte is the highest, and missing ones are zeros.
-/// Where two heads differ, the paths are in the order of their heads. Only where they are equal is the text read, which lies elsewhere in memory.
+/// The first eight bytes of the text are also kept as a number, the head: big-endian, missing bytes are zeros. Paths whose
+/// heads differ are in the order of their heads. Only if these are equal is the text read, which is elsewhere in memory.
 #[derive(Debug, Drop)]
 pub struct PathText {
     head: u64,
@@ -70,14 +70,14 @@ impl PathText {
         Ok(PathText::of(joined))
     }
 
-    /// The root, which takes no memory.
+    /// The root. It allocates no memory.
     pub fn root(alloc: Global) -> PathText
         ensures empty { result ≡ [] }
     {
         PathText::of(String::new(alloc))
     }
 
-    /// The path that a text spells.
+    /// Parses a path.
     pub fn parse(alloc: Global, text: &str) -> Result<PathText, BadPath>
         ensures parsed { IfOk result (λ path. path_of text.now ≡ Some path) }
         ensures spelled { IfOk result (λ path. text_of path ≡ text.now) }
@@ -94,7 +94,7 @@ impl PathText {
         PathText::from_names(alloc, &parts, text.len())
     }
 
-    /// The path with one name more.
+    /// The path with one more name.
     pub fn join(&self, alloc: Global, name: &str) -> Result<PathText, BadPath>
         ensures joined { IfOk result (λ path. path ≡ self.now ++ name.now ∷ []) }
         ensures refused { IsErrOf result BadPath.Malformed ↔ (is_name name.now ≡ false) }
@@ -113,7 +113,7 @@ impl PathText {
         Ok(PathText::of(joined))
     }
 
-    /// The path with the names of another behind its own.
+    /// The path followed by the names of another.
     pub fn followed_by(&self, alloc: Global, rest: &PathText) -> Result<PathText, NoMemory>
         ensures path { IfOk result (λ path. path ≡ self.now ++ rest.now) }
     {
@@ -124,7 +124,7 @@ impl PathText {
         Ok(PathText::of(joined))
     }
 
-    /// The directory that the path lies in: the path without its last name. The root lies in none.
+    /// The directory that contains the path: the path without its last name. None for the root.
     pub fn parent(&self, alloc: Global) -> Result<Option<PathText>, NoMemory>
         ensures parent { IfOk result (λ parent. parent ≡ parent_of self.now) }
     {
@@ -141,7 +141,7 @@ impl PathText {
         Ok(format!(in alloc; "{self}")?)
     }
 
-    /// The names on the way from the root.
+    /// The names, from the root on.
     pub fn names(&self, alloc: Global) -> Result<Vec<&str>, NoMemory>
         ensures value { IfOk result (λ names. map (λ name. name.now) names.items ≡ self.now) }
         ensures are_names { list_all is_name self.now ≡ true }
@@ -152,7 +152,7 @@ impl PathText {
         }
     }
 
-    /// The names that the path and another one both begin with, up to the first that differs.
+    /// The names that both this path and another begin with, up to the first that differs.
     pub fn common_front<'a>(
         &'a self,
         alloc: Global,
@@ -178,14 +178,14 @@ impl PathText {
         self.joined.is_empty()
     }
 
-    /// Whether the path is another one or lies below it.
+    /// Whether the path is another one or is below it.
     pub fn starts_with(&self, base: &PathText) -> bool
         ensures starts { result ≡ starts_with same_name self.now base.now }
     {
         self.behind(base).is_some()
     }
 
-    /// The path's names behind those of another one that it lies below or is.
+    /// The path's names after those of another one that it is or is below.
     pub fn strip_prefix(&self, alloc: Global, base: &PathText) -> Result<Option<PathText>, NoMemory>
         ensures below { IfOk result (λ below. IfSome below (λ rest. base.now ++ rest ≡ self.now)) }
         ensures apart { IfOk result (λ below. below ≡ None → starts_with same_name self.now base.now ≡ false) }
@@ -196,7 +196,7 @@ impl PathText {
         }
     }
 
-    /// What stands in the text behind that of another path.
+    /// The text after that of another path.
     fn behind(&self, base: &PathText) -> Option<&str>
         ensures behind { IsBehind self.now base.now (option_copied result) }
     {
@@ -210,7 +210,7 @@ impl PathText {
         None
     }
 
-    /// The last name; the root has none.
+    /// The last name; None for the root.
     pub fn file_name(&self) -> Option<&str>
         ensures name { option_copied result ≡ last_name self.now }
     {
@@ -220,7 +220,7 @@ impl PathText {
         }
     }
 
-    /// What follows the last dot of the last name. There is none where no dot is there, or the only one comes first.
+    /// What follows the last dot of the last name. None if there is no dot, or only one at the front.
     pub fn extension(&self) -> Option<&str>
         ensures extension { option_copied result ≡ option_and_then extension_of (last_name self.now) }
     {
@@ -313,7 +313,7 @@ impl fmt::Display for PathText {
     }
 }
 
-/// The number that the first eight bytes of a text are, the first one the highest. Missing bytes count as zeros.
+/// The first eight bytes of a text as a big-endian number. Missing bytes count as zeros.
 fn head_of(text: &str) -> u64
     ensures head { result ≡ head_of text.now }
 {
@@ -328,7 +328,7 @@ fn head_of(text: &str) -> u64
     }
 }
 
-/// Puts a name behind the text of a path.
+/// Adds a name to the text of a path.
 fn push_name(joined: &mut String, name: &str) -> Result<(), AllocError>
     ensures pushed { OnOk result (string_bytes joined.new ≡ string_bytes joined.old ++ nul ∷ name.now) }
 {
@@ -343,7 +343,7 @@ fn parts_of<'a>(alloc: Global, text: &'a str) -> Result<Vec<&'a str>, AllocError
     text.split('/').collect(alloc)
 }
 
-/// The names of a text in which NULs stand between them.
+/// The names in a text, which are separated by NULs.
 fn names_in<'a>(alloc: Global, text: &'a str) -> Result<Vec<&'a str>, AllocError>
     ensures names { IfOk result (λ names. map (λ name. name.now) names.items ≡ slice_split (λ b. b == nul) text.now) }
 {

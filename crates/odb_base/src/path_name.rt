@@ -8,7 +8,7 @@ use std::alloc::Global;
 use std::cmp::Ordering;
 use std::marker::Model;
 
-/// A name of a path, seen as the list of its bytes.
+/// A name in a path, seen as the list of its bytes.
 #[derive(Debug, Drop)]
 pub struct PathName {
     text: String,
@@ -39,7 +39,7 @@ impl PathName {
         self.text.as_str()
     }
 
-    /// Whether it can stand in a path: not empty, not `.` or `..`, and without NUL and `/`.
+    /// Whether it can be in a path: not empty, not `.` or `..`, and without NUL and `/`.
     pub fn is_name(&self) -> bool
         ensures named { result ≡ is_name self.now }
     {
@@ -118,7 +118,7 @@ pub(crate) fn is_name(text: &str) -> bool
     !(reserved || bytes.contains(&0) || bytes.contains(&b'/'))
 }
 
-/// What follows the last dot of a name. There is none where no dot is there, or the only one comes first.
+/// What follows the last dot of a name. None if there is no dot, or only one at the front.
 pub(crate) fn extension_in(name: &str) -> Option<&str>
     ensures extension { option_copied result ≡ extension_of name.now }
 {

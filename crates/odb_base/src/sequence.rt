@@ -23,7 +23,7 @@ impl<T> Model for Sequence<T> {
 }
 
 impl<T> Sequence<T> {
-    /// An empty list, which takes no memory.
+    /// An empty list. It allocates no memory.
     pub fn new(alloc: Global) -> Sequence<T>
         ensures empty { result ≡ [] }
     {
@@ -53,7 +53,7 @@ impl<T> Sequence<T> {
         &self.items
     }
 
-    /// How many items there are.
+    /// The number of items.
     pub fn len(&self) -> usize
         ensures len { result ≡ length self.now }
     {
@@ -74,7 +74,7 @@ impl<T> Sequence<T> {
         self.items.get(index)
     }
 
-    /// Adds an item at the end. A refused push changes nothing, and gives the item back.
+    /// Adds an item at the end. On error nothing changes, and the item is returned.
     pub fn push(&mut self, item: T) -> Result<(), AllocFailed<T>>
         ensures ok { OnOk result (self.new ≡ self.old ++ item ∷ []) }
         ensures err { OnErr result (self.new ≡ self.old) }

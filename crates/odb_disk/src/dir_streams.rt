@@ -46,7 +46,7 @@ impl DirStreams {
         }
     }
 
-    /// Opens a stream of these entries, under the least number that no open one has. A refused call changes nothing.
+    /// Opens a stream of these entries, under the least number that no open one has. On error nothing changes.
     pub fn open(&mut self, entries: EntryQueue) -> Result<DirId, NoMemory>
         ensures opened { IfOk result (λ dir. self.new ≡ with_opened self.old dir entries) }
         ensures least { IfOk result (λ dir. IsLeastClosed self.old.open_dirs dir) }
@@ -60,7 +60,7 @@ impl DirStreams {
         Ok(DirId::new(number))
     }
 
-    /// Takes the next entry of a stream. There is none at its end, and no answer where it isn't open.
+    /// Takes the next entry of a stream: Some(None) at its end, None if it isn't open.
     pub fn next(&mut self, dir: &DirId) -> Option<Option<Entry>>
         ensures takes { TakesNext self.old self.new dir.now result }
     {
@@ -88,8 +88,8 @@ impl DirStreams {
     }
 }
 
-/// The least number that no open stream has, where each below `from` is that of one. There is none where all numbers
-/// of 64 bits are taken.
+/// The least number that no open stream has, if each below `from` is that of one. It fails if all numbers of 64 bits
+/// are taken.
 fn least_closed(lists: &BTreeMap<u64, EntryQueue>, from: u64) -> Result<u64, NoMemory>
     requires below { AreOpenBelow (maps.from_entries lists.now.entries) from }
     ensures least { IfOk result (IsLeastClosed (maps.from_entries lists.now.entries)) }

@@ -1,8 +1,8 @@
 //! A disk in memory.
 //!
-//! It answers by its tree, and fails exactly at the listed calls. Read `mem_disk` first. The trait of disks and calls as
-//! values stand in `odb_asks`, what a tree is in `odb_nodes`, a tree in memory in `odb_tree`, sources and sinks in
-//! `odb_sources`; this crate hands on the names of all.
+//! It answers by its tree, and fails exactly at the listed calls. Read `mem_disk` first. `odb_asks` has the trait of
+//! disks and calls as values, `odb_nodes` trees, `odb_tree` a tree in memory, `odb_sources` sources and sinks; this
+//! crate re-exports the names of all.
 //! ```rust
 //! let mut disk = MemDisk::new(alloc)?;
 //! let path = PathText::parse(alloc, "/o")?;

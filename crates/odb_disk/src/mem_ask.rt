@@ -14,7 +14,7 @@ impl MemDisk {
     ghost use Rattle.std.specs.Prelude.{OnOk, OnErr};
     ghost use Rattle.odb_asks.specs.Ask.{answer_now, after_ask, after_count};
 
-    /// Makes a call that is given as a value. Want of memory is an error, and no answer.
+    /// Makes a call that is given as a value. Out of memory is an error, and no answer.
     pub fn carry_out(&mut self, alloc: Global, ask: &DiskAsk) -> Result<DiskAnswer, NoMemory>
         ensures answered { IfOk result (λ answer. answer ≡ answer_now self.old ask.now) }
         ensures made { OnOk result (self.new ≡ after_ask self.old ask.now) }

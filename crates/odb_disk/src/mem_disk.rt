@@ -42,14 +42,14 @@ impl MemDisk {
     ghost use Rattle.odb_asks.specs.Ask.{change_of_ask, fails_now};
     ghost use Rattle.odb_asks.specs.MemDisk.{new_volume, after_outside_change, after_call, next_fails};
 
-    /// The root alone, device 0, inode number 1, and no call that is to fail.
+    /// The root alone, device 0, inode number 1. No call will fail.
     pub fn new(alloc: Global) -> Result<MemDisk, NoMemory>
         ensures bare { IfOk result (λ disk. disk ≡ new_volume set.empty) }
     {
         MemDisk::with_faults(alloc, &[])
     }
 
-    /// A new disk whose calls with these numbers, counted from 1, fail.
+    /// A new disk. The calls with these numbers, counted from 1, will fail.
     pub fn with_faults(alloc: Global, calls: &[u64]) -> Result<MemDisk, NoMemory>
         ensures bare { IfOk result (λ disk. disk ≡ new_volume (set.from_list calls.now)) }
     {
@@ -60,7 +60,7 @@ impl MemDisk {
         })
     }
 
-    /// Makes a change that another program makes, which is no call of the disk. A refused one changes nothing.
+    /// Makes a change of another program, which is no call of the disk. On error nothing changes.
     pub fn change(&mut self, alloc: Global, change: &Change) -> Result<(), Impossible>
         ensures made { OnOk result (self.new ≡ after_outside_change self.old change.now) }
         ensures possible { OnOk result (is_possible self.old.state change.now ≡ true) }
@@ -84,7 +84,7 @@ impl MemDisk {
         change_of(alloc, &self.tree, ask)
     }
 
-    /// Whether a call would fail, were it made now.
+    /// Whether a call made now would fail.
     pub fn fails_now(&self, ask: &DiskAsk) -> bool
         ensures fails { result ≡ fails_now self.now ask.now }
     {
@@ -102,21 +102,21 @@ impl MemDisk {
         &self.tree
     }
 
-    /// The number of calls so far, which stands still at its greatest value.
+    /// The number of calls so far; it saturates.
     pub fn calls(&self) -> u64
         ensures count { result ≡ self.now.calls.made }
     {
         self.calls.made()
     }
 
-    /// How many calls have failed so far.
+    /// The number of calls that failed.
     pub fn faults(&self) -> u64
         ensures count { result ≡ self.now.calls.faults }
     {
         self.calls.faults()
     }
 
-    /// A copy of the disk: its tree, its open streams, its counts and the calls that are to fail.
+    /// A copy of the disk: its tree, its open streams, its counts and the calls that will fail.
     pub fn try_clone(&self, alloc: Global) -> Result<MemDisk, NoMemory>
         ensures copy { IfOk result (λ disk. disk ≡ self.now) }
     {
@@ -127,7 +127,7 @@ impl MemDisk {
         })
     }
 
-    /// Counts a call, and answers whether it fails.
+    /// Counts a call, and returns whether it fails.
     fn count(&mut self) -> bool
         ensures counted { self.new ≡ after_call self.old }
         ensures state { self.new.state ≡ self.old.state }

@@ -24,7 +24,7 @@ folded_last listing (first ∷ reads) read = folded_last (with_found listing fir
 pub listed_last : (reads : List (Result Found Unnamed)) (read : Result Found Unnamed) → listed (reads ++ read ∷ []) ≡ with_found (listed reads) read
 listed_last reads read = folded_last bare_listing reads read
 
--- the listing of one thing more
+-- the listing of one more thing
 pub lists_last : (most : ℕ) (reads : List (Result Found Unnamed)) (read : Result Found Unnamed) (listing more : Listing) → IsListing most reads listing
     → more ≡ with_found listing read → read ≢ Err NoMemory
     → length more.entries ≤ most → IsListing most (reads ++ read ∷ []) more
@@ -35,7 +35,7 @@ lists_last most reads read listing more lists added kept few =
 pub lists_none : (most : ℕ) → IsListing most [] bare_listing
 lists_none most = record { is = refl; none_lost = All-nil (λ r. r ≢ Err NoMemory); few = omega arith }
 
--- no listing comes of one thing more
+-- one more thing, and there is no listing
 pub lists_no_more : {S R A F D : Type 0} (next_gives : S → Option (Result (DirEntry R A F D) Error) → S → Type 0) (names from left : S) (most : ℕ)
     (read : List (Result (DirEntry R A F D) Error)) (one : Result (DirEntry R A F D) Error) (found : List (Result Found Unnamed)) (listing more : Listing) (error : DiskError)
     → Yields next_gives names read from → next_gives from (Some one) left → AllZip IsFoundIn read found → IsListing most found listing → Takes one most listing more (Err error)
@@ -50,7 +50,7 @@ lists_no_more next_gives names from left most read one found listing more error 
       why = subst (λ l. IsUnlisted most l error) (ap (λ l. with_found l took.found) lists.is ∙ sym (listed_last found took.found)) took.refused;
     }
 
--- the stream of a listing that was made of an opened directory
+-- the stream of the listing of an opened directory
 pub gives_listing : {S R A F D : Type 0} (next_gives : S → Option (Result (DirEntry R A F D) Error) → S → Type 0) (most : ℕ) (opened : Result S Error)
     (listed : Result Listing DiskError) (listing : Listing) (gives : Option (List Entry)) (owes : Bool)
     → IfOk opened (λ names. IfOk listed (λ l. ListsAll next_gives names most l)) → listed ≡ Ok listing → gives ≡ Some listing.entries → owes ≡ listing.passed_over
@@ -64,7 +64,7 @@ pub if_err : {A E : Type 0} (result : Result A E) (error : E) (Holds : E → Typ
 if_err (Ok x) error Holds is holds = absurd is
 if_err (Err e) error Holds is holds = subst Holds (sym is) holds
 
--- why an opened directory has no stream: the error of its listing, or there is no memory
+-- why an opened directory has no stream: the error of its listing, or memory ran out
 module _ {S R A F D B : Type 0} (next_gives : S → Option (Result (DirEntry R A F D) Error) → S → Type 0) (most : ℕ) (listed : Result Listing DiskError) (result : Result B DiskError) where
   pub unlisted_error : (directory : Result S Error) (error : DiskError) → IfOk directory (λ names. IfErr listed (λ e. ListsNone next_gives names most e)) → listed ≡ Err error
       → IsErrAnd result (λ e. e ≡ error)

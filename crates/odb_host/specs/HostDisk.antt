@@ -1,4 +1,4 @@
--- What a real disk makes of the system's answers.
+-- How a real disk turns the system's answers into its own.
 use Rattle.std.specs.Prelude.{◌≡◌, ◌≢◌, ℕ, ◌+◌, ◌-◌, ◌*◌, ◌^◌, ◌==◌, Bool, true, false, not, nat_eq, List, min, ℤ, pos, Option, Some, None, Result, Ok, Err, if◌then◌else◌}
 use Rattle.std.specs.List.{list_any}
 use Rattle.std.specs.declared.io.ErrorKind.{ErrorKind}
@@ -25,7 +25,7 @@ longest_file = 4_294_967_296
 abbrev pub most_entries : ℕ
 most_entries = 16_777_216
 
--- the refusal that an error of the system is. The disk failed where it is another error than these
+-- the refusal for an error of the system; `Failed` for any other than these
 abbrev pub refusal_of : ErrorKind → DiskError
 refusal_of NotFound = errors.Absent
 refusal_of NotADirectory = errors.WrongKind
@@ -49,21 +49,21 @@ link_bits = 0o120000
 abbrev pub kind_of : FileType → Option Kind
 kind_of t = if t.bits == file_bits then Some File else (if t.bits == directory_bits then Some Dir else (if t.bits == link_bits then Some Link else None))
 
--- What a look tells of a node of a kind, with these numbers, this length and this time. A directory and a link have no
--- length and no time, and what is no file, directory or link is a fault.
+-- The answer to a stat of a node of a kind, with these numbers, this length and this time. A directory and a link have
+-- length 0 and time 0, and what is no file, directory or link is a fault.
 abbrev pub meta_from : Option Kind → (dev ino len time : ℕ) → Result Meta DiskError
 meta_from None dev ino len time = Err errors.Failed
 meta_from (Some File) dev ino len time = Ok (record { kind = File; dev = dev; ino = ino; len = len; time = time })
 meta_from (Some kind) dev ino len time = Ok (record { kind = kind; dev = dev; ino = ino; len = 0; time = 0 })
 
--- what a look tells of what the system told: its kind and a file's length are the system's
+-- the answer to a stat from the system's: its kind and a file's length are the system's
 pub record MetaOf (metadata : Metadata) (told : Result Meta DiskError) : Type 0 where
   pub dev : ℕ
   pub ino : ℕ
   pub time : ℕ
   pub is : told ≡ meta_from (kind_of (file_type metadata)) dev ino (metadata_len metadata) time
 
--- how a file is opened to be appended to: each write goes to its end, and nothing is made or cut off
+-- how a file is opened for appending: each write goes to its end, and nothing is created or truncated
 abbrev pub append_options : OpenOptions
 append_options = with_append new_options true
 
@@ -73,19 +73,19 @@ only_file File = Ok tt
 only_file Dir = Err errors.WrongKind
 only_file Link = Err errors.Failed
 
--- whether a rename goes on, by what stands at its source
+-- whether a rename goes on, by what is at its source
 abbrev pub no_directory : Kind → Result (Unit {0}) DiskError
 no_directory File = Ok tt
 no_directory Dir = Err errors.WrongKind
 no_directory Link = Ok tt
 
--- and by what a look at its target told, where nothing need stand
+-- and by a stat of its target, where nothing need be
 abbrev pub replaceable : Result Meta DiskError → Result (Unit {0}) DiskError
 replaceable (Ok meta) = no_directory meta.kind
 replaceable (Err errors.Absent) = Ok tt
 replaceable (Err error) = Err error
 
--- the refusal that a read is which didn't come to its end
+-- the refusal for a read that didn't reach its end
 abbrev pub read_refusal : ReadError → DiskError
 read_refusal read_errors.Failed = errors.Failed
 read_refusal read_errors.NoMemory = errors.NoMemory
@@ -93,22 +93,22 @@ read_refusal read_errors.NoMemory = errors.NoMemory
 abbrev pub nanoseconds_in_second : ℕ
 nanoseconds_in_second = 1_000_000_000
 
--- the latest time, since one is kept in 64 bits: a day in July 2554
+-- the latest time, as one is kept in 64 bits: a day in July 2554
 abbrev pub latest_time : ℕ
 latest_time = 2 ^ 64 - 1
 
--- nanoseconds since 1970, from seconds and the nanoseconds of the last one. An earlier time is 0, and a later one than
--- the latest is that
+-- nanoseconds since 1970, from seconds and the nanoseconds of the last one. An earlier time is 0, and one later than the
+-- latest is the latest
 abbrev pub time_of : ℤ → ℤ → ℕ
 time_of (pos seconds) (pos nanoseconds) = min (seconds * nanoseconds_in_second + nanoseconds) latest_time
 time_of seconds nanoseconds = 0
 
--- the entry of a name that was read in a directory, by what a look at it told. What is no name has none
+-- the entry of a name that was read in a directory, by a stat of it. What is no name has none
 abbrev pub found_entry : Name → Result Meta DiskError → Option Entry
 found_entry name (Ok meta) = if is_name name then Some (record { name = name; kind = meta.kind; ino = meta.ino }) else None
 found_entry name (Err error) = None
 
--- whether what was read is passed over, so that a call fails for it. A node that is gone by now isn't
+-- whether what was read is skipped, so that a call fails for it. A node that is gone by now isn't
 abbrev pub is_odd : Name → Result Meta DiskError → Bool
 is_odd name (Ok meta) = not (is_name name)
 is_odd name (Err errors.Absent) = false
@@ -119,10 +119,10 @@ is_odd name (Err errors.NotEmpty) = true
 is_odd name (Err errors.Failed) = true
 is_odd name (Err errors.NoMemory) = true
 
--- whether a stream is among those that passed something over, until a call failed for it
+-- whether a stream is among those that skipped something, until a call failed for it
 abbrev pub owes_failure : List ℕ → ℕ → Bool
 owes_failure odd dir = list_any (λ number. nat_eq number dir) odd
 
--- each other stream owes a failure where it did before
+-- each other stream must fail if it had to before
 abbrev pub OthersOwe : ℕ → List ℕ → List ℕ → Type 0
 OthersOwe dir old new = (number : ℕ) → number ≢ dir → owes_failure new number ≡ owes_failure old number

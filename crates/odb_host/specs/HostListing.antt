@@ -1,4 +1,4 @@
--- What a real disk makes of what it reads of a directory.
+-- How a real disk lists what it reads of a directory.
 use Rattle.std.specs.Prelude.{◌≡◌, ◌≢◌, ◌<◌, ◌≤◌, ◌++◌, ◌||◌, ℕ, Bool, true, false, fold, length, List, [], Option, Some, Result, Ok, Err, OnOk, IfErr, MatchResult}
 use Rattle.std.specs.Iterator.{Drains, Yields}
 use Rattle.std.specs.List.{All, AllZip, cons_option}
@@ -17,7 +17,7 @@ use Rattle.odb_host.specs.declared.host_listing.Listing.{Listing}
 abbrev pub bare_listing : Listing
 bare_listing = record { entries = []; passed_over = false }
 
--- A listing after something more was found: the entry of a name that was found there, or something that is passed over.
+-- A listing after something more was found: the entry of a name that was found there, or something that is skipped.
 abbrev pub with_found : Listing → Result Found Unnamed → Listing
 with_found listing (Ok found) =
     record {
@@ -31,19 +31,19 @@ with_found listing (Err NoMemory) = listing
 abbrev pub listed : List (Result Found Unnamed) → Listing
 listed found = fold with_found bare_listing found
 
--- a listing of all that was found: no name was lost for want of memory, and there aren't more entries than that
+-- a listing of all that was found: memory didn't run out for a name, and there aren't more entries than that
 pub record IsListing (most : ℕ) (found : List (Result Found Unnamed)) (listing : Listing) : Type 0 where
   pub is : listing ≡ listed found
   pub none_lost : All (λ one. one ≢ Err NoMemory) found
   pub few : length listing.entries ≤ most
 
--- why a listing stays unfinished: it has more entries than that, or there is no memory
+-- why a listing stays unfinished: it has more entries than that, or memory ran out
 abbrev pub IsUnlisted : ℕ → Listing → DiskError → Type 0
 IsUnlisted most listing errors.Failed = most < length listing.entries
 IsUnlisted most listing errors.NoMemory = Unit {0}
 IsUnlisted most listing error = ⊥
 
--- What is found of something that was read in a directory: its name, or none for want of memory. What can't be read has none.
+-- What is found of something that was read in a directory: its name; none if memory ran out, or if it can't be read.
 abbrev pub IsFoundIn : {R A F D : Type 0} → Result (DirEntry R A F D) Error → Result Found Unnamed → Type 0
 IsFoundIn (Ok entry) found = MatchResult found (λ f. f.name ≡ dir_entry_name entry) (λ why. why ≡ NoMemory)
 IsFoundIn (Err error) found = found ≡ Err Unreadable
@@ -56,8 +56,8 @@ pub record ListsAll {S R A F D : Type 0} (next_gives : S → Option (Result (Dir
   pub each : AllZip IsFoundIn read found
   pub is : IsListing most found listing
 
--- what a stream gives, and whether it owes a failure: all that is read of an opened directory, and one where something
--- was passed over
+-- what a stream gives, and whether it must still fail: all that is read of an opened directory, and whether something was
+-- skipped
 pub record GivesAll {S R A F D : Type 0} (next_gives : S → Option (Result (DirEntry R A F D) Error) → S → Type 0) (names : S) (most : ℕ) (gives : Option (List Entry)) (owes : Bool) : Type 0 where
   pub listing : Listing
   pub lists : ListsAll next_gives names most listing
@@ -73,7 +73,7 @@ pub record ListsNone {S R A F D : Type 0} (next_gives : S → Option (Result (Di
   pub each : AllZip IsFoundIn read found
   pub why : IsUnlisted most (listed found) error
 
--- what one thing that is read in a directory makes of a listing, which has at most so many entries afterwards
+-- how one thing that is read in a directory changes a listing, which then has at most `most` entries
 pub record Takes {R A F D : Type 0} (read : Result (DirEntry R A F D) Error) (most : ℕ) (old new : Listing) (result : Result (Unit {0}) DiskError) : Type 0 where
   pub found : Result Found Unnamed
   pub is : IsFoundIn read found

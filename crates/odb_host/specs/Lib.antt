@@ -1,3 +1,3 @@
--- What a real disk makes of the system's answers, and of what it reads of a directory.
+-- How a real disk turns the system's answers into its own, and how it lists what it reads of a directory.
 pub mod HostDisk
 pub mod HostListing

@@ -1,4 +1,4 @@
-//! What a real disk makes of the system's answers.
+//! How a real disk turns the system's answers into its own.
 ghost use Rattle.std.specs.Prelude.{◌≡◌, length, nat_le, Ok, Err, IfOk, IfErr, if◌then◌else◌};
 ghost use Rattle.std.specs.Result.{result_map_both};
 ghost use Rattle.std.specs.IoError.{error_kind};
@@ -9,7 +9,7 @@ use std::fs::{FileType, Metadata};
 use std::io::{self, ErrorKind};
 use std::os::unix::fs::MetadataExt;
 
-/// What a look tells, by what the system did.
+/// The answer to a stat, from the system's.
 pub(crate) fn told_of(found: io::Result<Metadata>) -> Result<Meta, DiskError>
     ensures ok { IfOk found (λ metadata. MetaOf metadata result) }
     ensures err { IfErr found (λ e. result ≡ Err (refusal_of (error_kind e))) }
@@ -20,7 +20,7 @@ pub(crate) fn told_of(found: io::Result<Metadata>) -> Result<Meta, DiskError>
     }
 }
 
-/// What a call of the system answers: what it gives, or the refusal that its error is.
+/// The answer to a call of the system: what it gives, or the refusal for its error.
 pub(crate) fn answered<T>(made: io::Result<T>) -> Result<T, DiskError>
     ensures answered { result ≡ result_map_both (λ given. given) (λ e. refusal_of (error_kind e)) made }
 {
@@ -30,7 +30,7 @@ pub(crate) fn answered<T>(made: io::Result<T>) -> Result<T, DiskError>
     }
 }
 
-/// What a call of the system answers that makes a file. The file is closed.
+/// The answer to a call of the system that makes a file. The file is closed.
 pub(crate) fn created<F: Drop>(made: io::Result<F>) -> Result<(), DiskError>
     ensures created { result ≡ result_map_both (λ _. tt) (λ e. refusal_of (error_kind e)) made }
 {
@@ -40,7 +40,7 @@ pub(crate) fn created<F: Drop>(made: io::Result<F>) -> Result<(), DiskError>
     }
 }
 
-/// What a write of all bytes of an append answers. Each error of it is a fault, since the file was opened.
+/// The answer to a write of all bytes of an append. Each error is a fault, since the file was opened.
 pub(crate) fn appended(written: io::Result<()>) -> Result<(), DiskError>
     ensures appended { result ≡ result_map_both (λ done. done) (λ _. DiskError.Failed) written }
 {
@@ -50,8 +50,8 @@ pub(crate) fn appended(written: io::Result<()>) -> Result<(), DiskError>
     }
 }
 
-/// What a call that needs a file makes of what the path leads to. A link is followed, unless something else has just
-/// put it there.
+/// Whether a call that needs a file goes on, by what the path leads to. A link is followed, unless something else has
+/// just put it there.
 pub(crate) fn only_file(meta: Meta) -> Result<(), DiskError>
     ensures only { result ≡ only_file meta.kind }
 {
@@ -62,7 +62,7 @@ pub(crate) fn only_file(meta: Meta) -> Result<(), DiskError>
     }
 }
 
-/// What a rename makes of what stands at its source.
+/// Whether a rename goes on, by what is at its source.
 pub(crate) fn no_directory(meta: Meta) -> Result<(), DiskError>
     ensures no_directory { result ≡ no_directory meta.kind }
 {
@@ -72,7 +72,7 @@ pub(crate) fn no_directory(meta: Meta) -> Result<(), DiskError>
     }
 }
 
-/// What a rename makes of what a look at its target told. Nothing need stand there.
+/// Whether a rename goes on, by a stat of its target. Nothing need be there.
 pub(crate) fn replaceable(seen: Result<Meta, DiskError>) -> Result<(), DiskError>
     ensures replaceable { result ≡ replaceable seen }
 {
@@ -83,7 +83,7 @@ pub(crate) fn replaceable(seen: Result<Meta, DiskError>) -> Result<(), DiskError
     }
 }
 
-/// What a read of a file of at most `longest` bytes answers: what was read, and the time that a look at the file told.
+/// The answer to a read of a file of at most `longest` bytes: what was read, and the time from a stat of the file.
 pub(crate) fn within(
     read: Result<Vec<u8>, ReadError>,
     longest: usize,
@@ -99,7 +99,7 @@ pub(crate) fn within(
     }
 }
 
-/// What a look tells of a node of the system. One that is no file, directory or link is a fault.
+/// The answer to a stat, from the system's metadata. A node that is no file, directory or link is a fault.
 fn meta_of(metadata: &Metadata) -> Result<Meta, DiskError>
     ensures meta { MetaOf metadata.now result }
 {
@@ -113,7 +113,7 @@ fn meta_of(metadata: &Metadata) -> Result<Meta, DiskError>
     meta_from(kind_of(metadata.file_type()), node)
 }
 
-/// What the system tells of a node, but for its kind.
+/// What the system reports of a node, except its kind.
 #[derive(Clone, Copy)]
 struct Node {
     dev: u64,
@@ -122,7 +122,7 @@ struct Node {
     time: u64,
 }
 
-/// What a look tells of a node of this kind. A directory and a link have no length and no time.
+/// The answer to a stat of a node of this kind. A directory and a link have length 0 and time 0.
 fn meta_from(kind: Option<Kind>, node: Node) -> Result<Meta, DiskError>
     ensures meta { result ≡ meta_from kind node.dev node.ino node.len node.time }
 {
@@ -157,7 +157,7 @@ fn kind_of(kind: FileType) -> Option<Kind>
     }
 }
 
-/// How many nanoseconds a second has.
+/// The number of nanoseconds in a second.
 const NANOSECONDS_IN_SECOND: u64 = 1_000_000_000;
 
 /// Nanoseconds since 1970, from seconds and the nanoseconds of the last one. An earlier time is 0.
@@ -172,7 +172,7 @@ fn time_of(seconds: i64, nanoseconds: i64) -> u64
     }
 }
 
-/// The refusal that an error of the system is. The system fails where it is another error than these.
+/// The refusal for an error of the system; `Failed` for any other than these.
 pub(crate) fn refusal_of(kind: ErrorKind) -> DiskError
     ensures refusal { result ≡ refusal_of kind }
 {

@@ -13,7 +13,7 @@ use std::fs::{self, File, OpenFile, OpenOptions};
 use std::io::Write;
 use std::rt::Files;
 
-/// Looks at a path. A link in the last place is followed where `follow` is set.
+/// Stats a path. A link in the last place is followed if `follow` is set.
 pub(crate) fn look_at<R: Files>(rt: &R, path: &str, follow: bool) -> Result<Meta, DiskError>
     ensures bare { IfOk result (λ meta. meta.kind ≢ Kind.File → (meta.len ≡ 0) × (meta.time ≡ 0)) }
 {
@@ -24,20 +24,19 @@ pub(crate) fn look_at<R: Files>(rt: &R, path: &str, follow: bool) -> Result<Meta
     })
 }
 
-/// Makes an empty file where nothing stands.
+/// Makes an empty file where nothing is.
 pub(crate) fn new_file_at<R: Files>(rt: &R, path: &str) -> Result<(), DiskError> {
     created(File::create_new(rt, path))
 }
 
-/// Adds bytes at the end of a file, links followed. What is no file is never opened, since that may wait for
-/// ever.
+/// Appends bytes to a file, following links. What is no file is never opened, since that may block forever.
 pub(crate) fn append_at<R: Files>(rt: &R, path: &str, bytes: &[u8]) -> Result<(), DiskError> {
     need_file(rt, path)?;
     let mut file = answered(append_options().open(rt, path))?;
     append_to(&mut file, bytes)
 }
 
-/// How a file is opened to be appended to.
+/// How a file is opened for appending.
 fn append_options() -> OpenOptions
     ensures options { result ≡ append_options }
 {
@@ -46,7 +45,7 @@ fn append_options() -> OpenOptions
     options
 }
 
-/// Adds bytes at the end of an open file. After a failure it may have a front of them.
+/// Appends bytes to an open file. After a failure it may have a prefix of them.
 fn append_to<W: Write>(file: &mut W, bytes: &[u8]) -> Result<(), DiskError>
     ensures added { OnOk result (Appends (W.contents file.old) (W.contents file.new) bytes.now) }
     ensures failed { IfErr result (λ e. e ≡ DiskError.Failed) }
@@ -54,12 +53,12 @@ fn append_to<W: Write>(file: &mut W, bytes: &[u8]) -> Result<(), DiskError>
     appended(file.write_all(bytes))
 }
 
-/// Whether a path leads to a file, links followed.
+/// Whether a path leads to a file, following links.
 fn need_file<R: Files>(rt: &R, path: &str) -> Result<(), DiskError> {
     only_file(look_at(rt, path, true)?)
 }
 
-/// Moves a file or a link. The kinds of both ends are looked at first, since the system would move a directory.
+/// Moves a file or a link. Both ends are statted first, since the system would move a directory.
 pub(crate) fn rename_at<R: Files>(rt: &R, from: &str, to: &str) -> Result<(), DiskError> {
     no_directory(look_at(rt, from, false)?)?;
     replaceable(look_at(rt, to, false))?;
@@ -74,7 +73,7 @@ pub(crate) fn remove_at<R: Files>(rt: &R, path: &str) -> Result<(), DiskError> {
     }
 }
 
-/// Reads a file of at most `longest` bytes, links followed.
+/// Reads a file of at most `longest` bytes, following links.
 pub(crate) fn read_at<R: Files>(
     rt: &R,
     alloc: Global,
@@ -88,8 +87,8 @@ pub(crate) fn read_at<R: Files>(
     within(read, longest, meta)
 }
 
-/// Opens a file for reading, links followed, and looks at it. What is no file is never opened, since that may wait
-/// for ever.
+/// Opens a file for reading, following links, and stats it. What is no file is never opened, since that may block
+/// forever.
 fn open_at<R: Files>(rt: &R, path: &str) -> Result<(R::File, Meta), DiskError> {
     need_file(rt, path)?;
     let file = answered(fs::open(rt, path))?;
@@ -97,7 +96,7 @@ fn open_at<R: Files>(rt: &R, path: &str) -> Result<(R::File, Meta), DiskError> {
     with_meta(file, found)
 }
 
-/// An open file, and what a look at it told.
+/// An open file, with the result of a stat of it.
 fn with_meta<F: Drop>(file: F, found: Result<Meta, DiskError>) -> Result<(F, Meta), DiskError>
     ensures opened { result ≡ result_map_both (λ meta. (file, meta)) (λ e. e) found }
 {

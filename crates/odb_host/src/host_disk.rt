@@ -10,20 +10,20 @@ use std::rt::Files;
 mod calls;
 mod streams;
 
-/// A real disk, through std's files. It doesn't tell its tree.
+/// A real disk, through std's files. It doesn't report its tree.
 ///
-/// What stands there counts as a fault of the disk where it is no file, directory or link, or is a file of
-/// more than 4,294,967,296 bytes or a directory of more than 16,777,216 entries, as does each error of the system
-/// that isn't one of absence, of a part of the way that is no directory, of too many links, of a node that is there
-/// already, or of a directory with entries or in place of a file.
+/// A node counts as a fault of the disk if it is no file, directory or link, or is a file of more than 4,294,967,296
+/// bytes or a directory of more than 16,777,216 entries. So does each error of the system, except that a node is
+/// absent, a part of the way is no directory, there are too many links, a node is there already, or a directory has
+/// entries or is in place of a file.
 ///
-/// `open_dir` reads the whole directory. Names in it that aren't UTF-8, and nodes that are no file, directory or link,
-/// are passed over: after the other entries one call of `next_entry` fails for them.
+/// `open_dir` reads the whole directory. Names in it that aren't UTF-8, and nodes that are no file, directory or
+/// link, are skipped: after the other entries one call of `next_entry` fails for them.
 #[derive(Drop)]
 pub struct HostDisk<R> {
     rt: R,
     streams: DirStreams,
-    /// The open streams that passed something over, until a call failed for it.
+    /// The open streams that skipped something, until a call failed for it.
     odd: Vec<u64>,
     faults: u64,
 }
@@ -43,7 +43,7 @@ impl<R: Files> HostDisk<R> {
         }
     }
 
-    /// How many calls have failed so far.
+    /// The number of calls that failed.
     pub fn faults(&self) -> u64
         ensures count { result ≡ self.now.faults }
     {
@@ -58,7 +58,7 @@ impl<R: Files> HostDisk<R> {
     }
 }
 
-/// Passes an answer on, and counts a fault where it is that the disk failed.
+/// Passes an answer on, and counts a fault if it is that the disk failed.
 fn counted<T>(faults: &mut u64, answer: Result<T, DiskError>) -> Result<T, DiskError>
     ensures answer { result ≡ answer }
     ensures cause { FailsOnlyByFault faults.old faults.new result }

@@ -13,7 +13,7 @@ use std::fs::DirEntry;
 use std::io;
 use std::rt::Files;
 
-/// A name that was read in a directory, and what a look at it told.
+/// A name that was read in a directory, and the result of a stat of it.
 #[derive(Drop)]
 pub(crate) struct Found {
     name: PathName,
@@ -27,16 +27,16 @@ pub(crate) enum Unnamed {
     Unreadable,
 }
 
-/// What a directory has, as far as it can be told.
+/// What is in a directory, as far as it is known.
 #[derive(Drop)]
 pub(crate) struct Listing {
     pub(crate) entries: EntryQueue,
-    /// Whether something in the directory was passed over.
+    /// Whether something in the directory was skipped.
     pub(crate) passed_over: bool,
 }
 
 impl Listing {
-    /// Nothing.
+    /// An empty listing.
     pub(crate) fn new(alloc: Global) -> Listing
         ensures bare { result ≡ bare_listing }
     {
@@ -46,7 +46,7 @@ impl Listing {
         }
     }
 
-    /// Adds what was read in a directory. There is no listing of more than `most` entries.
+    /// Adds what was read in a directory. A listing of more than `most` entries fails.
     fn take<R: Files + Drop, A: Allocator + Drop>(
         &mut self,
         alloc: Global,
@@ -62,7 +62,7 @@ impl Listing {
         Ok(())
     }
 
-    /// Adds what was found. What can't be told of it is passed over.
+    /// Adds what was found. What isn't known of it is skipped.
     fn add_found(&mut self, found: Result<Found, Unnamed>) -> Result<(), NoMemory>
         ensures added { OnOk result (self.new ≡ with_found self.old found) }
         ensures none_lost { OnOk result (found ≢ Err Unnamed.NoMemory) }
@@ -77,7 +77,7 @@ impl Listing {
         }
     }
 
-    /// Adds the entry of a name, by what a look at it told. A node that is gone by now has none.
+    /// Adds the entry of a name, by a stat of it. A node that is gone by now has none.
     fn add(&mut self, name: PathName, seen: Result<Meta, DiskError>) -> Result<(), NoMemory>
         ensures entries { OnOk result (self.new.entries ≡ self.old.entries ++ cons_option (found_entry name seen) []) }
         ensures passed_over { OnOk result (self.new.passed_over ≡ (self.old.passed_over || is_odd name seen)) }
@@ -97,7 +97,7 @@ impl Listing {
     }
 }
 
-/// The listing of a directory, if it was opened. There is none of more than `most` entries.
+/// The listing of a directory, if it was opened. One of more than `most` entries fails.
 pub(crate) fn list_opened<
     R: Files + Drop,
     A: Allocator + Drop,
@@ -132,7 +132,7 @@ fn list_all<R: Files + Drop, A: Allocator + Drop, I: Iterator<Item = io::Result<
     Ok(listing)
 }
 
-/// What was read in a directory, and what a look at it tells.
+/// What was read in a directory, and the result of a stat of it.
 fn found_of<R: Files + Drop, A: Allocator + Drop>(
     alloc: Global,
     read: io::Result<DirEntry<R, A>>,

@@ -1,7 +1,7 @@
 //! A disk over std's files.
 //!
-//! `HostDisk` makes each call of a disk on the folders of the computer. It tells no state, since no contract of std says
-//! what a folder holds; what it makes of each answer of the system is stated.
+//! `HostDisk` makes each call of a disk on the folders of the computer. It reports no state, since no contract of std
+//! says what a folder holds; how it turns each answer of the system into its own is stated.
 //! ```rust
 //! let mut disk = HostDisk::new(alloc, rt);
 //! let path = PathText::parse(alloc, "/tmp")?;

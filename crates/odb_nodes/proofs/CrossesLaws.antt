@@ -1,4 +1,4 @@
--- Laws of links that the way of a path crosses, for callers: a directory at its own names has none on the way of what lies in it.
+-- Laws of links that the way of a path crosses, for callers: a directory at its own names has none on the way of its contents.
 use Rattle.std.specs.Prelude.{◌≡◌, ℕ, zero, suc, Bool, true, false, ◌&&◌, List, [], ◌∷◌, ◌++◌, drop, length, Option, Result, Ok, Err, if◌then◌else◌, refl}
 use Rattle.std.specs.List.{starts_with}
 use Rattle.std.proofs.Common.{sym, ap, ◌∙◌}
@@ -13,7 +13,7 @@ use Rattle.odb_nodes.specs.Tree.Write as writing
 use Rattle.odb_nodes.specs.Tree.Write.{and_then, from_followed, in_directory, spot_below, spot, replaceable}
 use Rattle.odb_nodes.specs.declared.node.Node.{Node}
 
--- A path passes over no link, and something stands there: it stands at its own names.
+-- A path passes no link, and something is there: it is at its own names.
 abbrev pub StandsPlain : Tree → Path → Type 0
 StandsPlain tree path = (node : Node) × (pass tree true [] path ≡ Reached path node)
 
@@ -46,7 +46,7 @@ module _ (t : Tree) (front : Path) (plain : StandsPlain t front) where
         (sym (ap (spot_below t (front ++ name ∷ [])) (parent_of-push front name)
         ∙ ap (λ (r : Result Place Refusal). and_then (in_directory (drop (length front) (front ++ name ∷ []))) (from_followed r)) (leads_there most_links)) ∙ e)
 
-    -- nothing that stands in it is crossed on the way of its path
+    -- nothing that is in it is crossed on the way of its path
     pub crosses_plain : (p : Path) → spot t (front ++ name ∷ []) ≡ Ok p → crosses t (front ++ name ∷ []) p ≡ false
     unfolding crosses on_way
     crosses_plain p e =

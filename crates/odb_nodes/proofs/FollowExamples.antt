@@ -87,11 +87,11 @@ link_to_itself = looked_over entries (codes "s" ∷ []) true
 through_another_link : read_of tree (codes "t" ∷ []) ≡ Ok (codes "hi", 7)
 through_another_link = read_over entries (codes "t" ∷ [])
 
--- a look that doesn't follow sees the link itself
+-- a stat that doesn't follow sees the link itself
 link_not_followed : looked tree (l ∷ []) false ≡ Ok (record { kind = kinds.Link; dev = 0; ino = 6; len = 0; time = 0 })
 link_not_followed = looked_over entries (l ∷ []) false
 
--- not even where it leads nowhere, or to itself
+-- even if it leads nowhere, or to itself
 loop_not_followed : looked tree (codes "s" ∷ []) false ≡ Ok (record { kind = kinds.Link; dev = 0; ino = 8; len = 0; time = 0 })
 loop_not_followed = looked_over entries (codes "s" ∷ []) false
 
@@ -118,7 +118,7 @@ read_of_a_folder = read_over entries (codes "d" ∷ [])
 
 -- ---- rows of links
 
--- so many links, each to the next, and a file behind the last
+-- so many links, each to the next, and a file after the last
 abbrev row : ℕ → List (Path × Node)
 row zero = entry ((zero ∷ []) ∷ []) 1 (File [] 7) ∷ entry [] 2 Dir ∷ []
 row (suc n) = entry ((suc n ∷ []) ∷ []) (n + 3) (Link ((n ∷ []) ∷ [])) ∷ row n

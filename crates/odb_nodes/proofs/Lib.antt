@@ -1,4 +1,4 @@
--- Laws of trees, and lemmas; those behind the laws are for the proofs of a tree in memory.
+-- Laws of trees, and lemmas; those after the laws are for the proofs of a tree in memory.
 pub mod TreeLemmas
 pub mod TreeNumbersLemmas
 pub mod MovedNumbersLemmas

@@ -1,4 +1,4 @@
--- That the numbers of a tree's nodes stay well kept where a part of it moves, or a file grows.
+-- The numbers of a tree's nodes stay well kept when a part of it moves, or a file grows.
 use Rattle.std.proofs.Common.{◌≡◌, ◌≢◌, ℕ, ◌&&◌, ◌||◌, true, false, not, List, ◌++◌, Option, Some, None, IsSome, is_some}
 use Rattle.std.proofs.Common.{is_none, Result, Ok, Err, OnOk, OnErr, cond, refl, sym, ap, ◌∙◌, subst, inl, inr}
 use Rattle.std.specs.Option.{IfSome}

@@ -1,5 +1,5 @@
--- Laws of a file of one's own, for callers: a path whose spot is a file, from its making to its move, and what others
--- may do meanwhile.
+-- Laws of a file of one's own, for callers: a path whose spot is a file, from its making to its move, and what others may do
+-- meanwhile.
 use Rattle.std.proofs.Common.{◌≡◌, ℕ, true, false, List, [], ◌++◌, Ok, sym, ap, ◌∙◌, subst}
 use Rattle.odb_base.specs.Path.{Path}
 use Rattle.odb_nodes.specs.OwnFile.{HasFile}
@@ -28,13 +28,13 @@ has_new_file t is_tree path change is =
     } in
     (c.0, subst (λ d. HasFile (changed t d) path c.0 [] 0) (sym c.2) there)
 
--- it is there still where nothing on the way was changed
+-- it is still there if nothing on the way was changed
 pub has_file_kept : (t u : Tree) (path s : Path) (bytes : List ℕ) (time : ℕ) → SameOnWay t u true path → HasFile t path s bytes time → HasFile u path s bytes time
 has_file_kept t u path s bytes time same has =
     record { is = spot_kept t u path (same_unfollowed t u path same) ∙ has.is; leads = file_spot_kept t u path same ∙ has.leads; reads = read_kept t u path same ∙ has.reads }
 
 module _ (t : Tree) (is_tree : IsTree t) (path s : Path) (bytes : List ℕ) (time : ℕ) (has : HasFile t path s bytes time) where
-  -- an append adds its piece
+  -- an append adds its bytes
   pub has_more : (more : List ℕ) (change : Change) → change_of_append t path more ≡ Ok change → HasFile (changed t change) path s (bytes ++ more) time
   has_more more change is =
       let c = append_change t path change more is in
@@ -47,7 +47,7 @@ module _ (t : Tree) (is_tree : IsTree t) (path s : Path) (bytes : List ℕ) (tim
       } in
       subst (λ d. HasFile (changed t d) path s (bytes ++ more) time) (sym (c.2 ∙ ap (λ p. Append p more) same)) there
 
-  -- a rename moves it to the other path, which then reads as it did, where no link that this path crosses is replaced
+  -- a rename moves it to the other path, which then reads as it did, if no link that this path crosses is replaced
   pub moves_file : (to : Path) (change : Change) → change_of_rename t path to ≡ Ok change → (p : Path) × (replaceable t to ≡ Ok p) × (change ≡ Rename s p)
   moves_file to change is = file_renamed t is_tree path s has.is has.leads to change is
 

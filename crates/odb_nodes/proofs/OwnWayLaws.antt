@@ -1,5 +1,5 @@
--- Laws of a file of one's own and of its way, for callers: what is left of them by a change that another writer makes, who
--- makes files and directories where nothing stands, and appends, moves and removes a file of his own.
+-- Laws of a file of one's own and of its way, for callers: what is left of them after a change of another writer, who makes
+-- files and directories where nothing is, and appends to, moves and removes a file of his own.
 pub mod OwnSpots
 pub mod OtherWriters
 pub use Rattle.odb_nodes.proofs.OwnWayLaws.OwnSpots.{Stops, IsOwnChange, Replaces, same_or_replaces, stops_after, stops_kept, same_front, spot_named, OwnSpot, own_stops, own_kept, stop_below_root}

@@ -1,4 +1,4 @@
--- Laws of why a tree refuses a call that makes something, for callers: Exists and NotEmpty are told by no way.
+-- Laws of why a tree refuses a call that makes something, for callers: no way gives Exists or NotEmpty.
 use Rattle.std.specs.Prelude.{◌≡◌, ℕ, ◌++◌, Bool, true, false, List, [], length, drop, Option, Some, None, Result, Ok, Err, if◌then◌else◌}
 use Rattle.std.proofs.Common.{ap}
 use Rattle.odb_base.specs.Path.{Path, parent_of}
@@ -64,7 +64,7 @@ module _ (refusal : writing.Refusal) (off : OffWay refusal) (tree : Tree) where
   unfolding spot
   spot-never path = below-never path (parent_of path)
 
-  -- an append is refused by its way
+  -- an append is refused only because of its way
   pub append-never : (path : Path) (bytes : List ℕ) → Never refusal (change_of_append tree path bytes)
   unfolding change_of_append file_spot
   append-never path bytes =
@@ -84,7 +84,7 @@ module _ (refusal : writing.Refusal) (off : OffWay refusal) (tree : Tree) where
       absent_never writing.LinkLoop off e = elim off [ ]
   movable-never place (Some node) = otherwise-never refusal off (is_directory_content node.content) place
 
-  -- a rename replaces what stands there, if it is no directory
+  -- a rename replaces what is there, if it is no directory
   abbrev no_directory_at : Path → Result Path writing.Refusal
   no_directory_at place = if is_directory (node_at tree place) then Err writing.WrongKind else Ok place
 

@@ -1,4 +1,4 @@
--- Laws of trees: what stands at a path, which inode numbers are taken, which names a directory has.
+-- Laws of trees: what is at a path, which inode numbers are taken, which names a directory has.
 pub mod Numbers
 pub mod Follow
 pub mod Moved
@@ -38,7 +38,7 @@ pub state_of-tree_of : (s : State) → state_of (tree_of s) ≡ s
 unfolding tree_of state_of
 state_of-tree_of s = refl
 
--- ---- what stands at a path
+-- ---- what is at a path
 
 equal_of : (o : Ordering) → is_eq o ≡ true → o ≡ Equal
 equal_of Less e = cc

@@ -1,4 +1,4 @@
--- That the numbers of a tree's nodes stay well kept.
+-- The numbers of a tree's nodes stay well kept.
 pub mod Taken
 pub mod Kept
 pub use Taken.*

@@ -53,7 +53,7 @@ module _ (es : List (Path × Node)) where
       ∙ ap (λ told. and_then (in_directory (drop (length front) (front ++ name ∷ []))) (from_followed told))
       (followed-over most_links (tree_of_entries es) true front ∙ ap (λ at. followed_over most_links at true front) (at_entries es))
 
-  -- what stands at each path after a rename
+  -- what is at each path after a rename
   abbrev moved : Path → Path → Path → Option Node
   moved from to q = moved_at (begins q to) (begins q from) (seen (from ++ drop (length to) q)) (seen q)
 

@@ -1,5 +1,5 @@
--- Laws of the way of a path, for callers: which paths are on it, and where nothing changes on it, the path leads where
--- it led. `WayWriteLaws` has what is written through links.
+-- Laws of the way of a path, for callers: which paths are on it, and where nothing changes on it, the path leads where it
+-- led. `WayWriteLaws` has what is written through links.
 use Rattle.std.proofs.Common.{◌≡◌, ◌≢◌, ℕ, Bool, true, false, List, [], ◌∷◌, ◌++◌, Some, None, Ok, Err, refl, sym, ap, ◌∙◌, cond, append-nil, arith}
 use Rattle.std.specs.Ordering.{eq_by_cmp}
 use Rattle.std.proofs.lemmas.Bool.{false≢true, false_from_ne_true, or_from}
@@ -25,8 +25,8 @@ use Rattle.odb_nodes.proofs.WayLemmas.Alike.{outline, same_place}
 use Rattle.odb_nodes.proofs.WayLemmas.Trod.{followed_trod}
 use Rattle.odb_nodes.proofs.WayLemmas.Spots.{AlikeOnWay, places_alike, on_way_alike, file_spot_alike, spot_alike_below, spot_alike}
 pub use Rattle.odb_nodes.proofs.WayLemmas.Trod.{Trod, Passed, Crossed, Last, Behind}
--- Which paths are on a way: the fronts of the path itself, each front of one that is, the way of a path with its last
--- link not followed, that of its directory, and the place where the path leads.
+-- Which paths are on a way: the prefixes of the path itself, each prefix of one that is, the way of a path with its last link
+-- not followed, that of its directory, and the place where the path leads.
 pub use Rattle.odb_nodes.proofs.WayLemmas.Spots.{own_on_way, front_on_way, unfollowed_on_way, directory_on_way, place_on_way, leads_to_spot}
 
 -- ---- the frame: trees with the same nodes on the way of a path
@@ -56,7 +56,7 @@ module _ (t u : Tree) (path : Path) (same : SameOnWay t u true path) where
   file_spot_kept = file_spot_alike t u path (same_outlines t u true path same)
 
 module _ (t u : Tree) (path : Path) (same : SameOnWay t u false path) where
-  -- the last name of the path stands at the same spot
+  -- the last name of the path is at the same spot
   pub spot_kept : spot u path ≡ spot t path
   spot_kept = spot_alike t u path (same_outlines t u false path same)
 
@@ -68,7 +68,7 @@ spot_kept_below t u path front parent same = spot_alike_below t u path front par
 pub same_unfollowed : (t u : Tree) (path : Path) → SameOnWay t u true path → SameOnWay t u false path
 same_unfollowed t u path same = λ q on. same q (unfollowed_on_way t path q on)
 
--- and on that of the directory
+-- and so on that of the directory
 pub same_directory : (t u : Tree) (front : Path) (name : Name) → SameOnWay t u false (front ++ name ∷ []) → SameOnWay t u true front
 same_directory t u front name same = λ q on. same q (directory_on_way t front name q on)
 
@@ -78,7 +78,7 @@ same_directory t u front name same = λ q on. same q (directory_on_way t front n
 pub same_untouched : (t : Tree) (change : Change) (follow : Bool) (path : Path) → ((q : Path) → on_way t follow path q ≡ true → touches t change q ≡ false) → SameOnWay t (changed t change) follow path
 same_untouched t change follow path apart = λ q on. untouched t change q (apart q on)
 
--- each kind of change leaves a way as it was, where its own paths are off the way
+-- each kind of change leaves a way as it was, if its own paths are off the way
 module _ (t : Tree) (follow : Bool) (path : Path) where
   not_at : (s : Path) → on_way t follow path s ≡ false → (q : Path) → on_way t follow path q ≡ true → eq_by_cmp path_cmp q s ≡ false
   not_at s off q on = other_path q s (λ same. false≢true (sym off ∙ ap (on_way t follow path) (sym same) ∙ on))
@@ -104,12 +104,12 @@ module _ (t : Tree) (follow : Bool) (path : Path) where
 -- ---- what is on the way of a path that leads somewhere
 
 module _ (t : Tree) (is_tree : IsTree t) (follow : Bool) (path : Path) (place : Place) (leads : followed t follow path ≡ Ok place) where
-  -- a directory, a link, the place itself, or what lies in no directory
+  -- a directory, a link, the place itself, or what is in no directory
   pub trod_on_way : (q : Path) → on_way t follow path q ≡ true → Trod t place.path q
   unfolding on_way
   trod_on_way q on = followed_trod t is_tree follow place most_links path leads q on
 
-  -- so what lies in a directory, and is neither a directory nor the place, is on the way only as a link
+  -- so what is in a directory, and is neither a directory nor the place, is on the way only as a link
   pub link_on_way : (q : Path) → lies_in_directory t q ≡ true → is_directory (node_at t q) ≡ false → q ≢ place.path → on_way t follow path q ≡ true → is_link (node_at t q) ≡ true
   link_on_way q lies other apart on = elim (trod_on_way q on) [
     | Passed is ↦ absurd (false≢true (sym other ∙ is))
@@ -122,7 +122,7 @@ module _ (t : Tree) (is_tree : IsTree t) (follow : Bool) (path : Path) (place : 
   pub off_way : (q : Path) → lies_in_directory t q ≡ true → is_directory (node_at t q) ≡ false → is_link (node_at t q) ≡ false → q ≢ place.path → on_way t follow path q ≡ false
   off_way q lies other plain apart = false_from_ne_true _ (λ on. false≢true (sym plain ∙ link_on_way q lies other apart on))
 
-  -- a spot where nothing stands is off the way
+  -- a spot where nothing is is off the way
   pub vacant_off_way : (other s : Path) → vacant t other ≡ Ok s → on_way t follow path s ≡ false
   vacant_off_way other s is =
       let v = vacant_at t other s is in
@@ -130,7 +130,7 @@ module _ (t : Tree) (is_tree : IsTree t) (follow : Bool) (path : Path) (place : 
       off_way s (spot_lies t is_tree other s v.is directory) directory (ap is_link v.absent)
       (λ same. let both : None ≡ Some place.node = sym v.absent ∙ ap (node_at t) same ∙ place_stands t most_links follow path place leads in cc)
 
--- the same of a path that leads to a file
+-- what is on the way of a path that leads to a file
 module _ (t : Tree) (is_tree : IsTree t) (path r : Path) (is : file_spot t path ≡ Ok r) where
   abbrev its_place : Place
   its_place = record { path = r; node = (file_at t path r is).node }
@@ -138,7 +138,7 @@ module _ (t : Tree) (is_tree : IsTree t) (path r : Path) (is : file_spot t path 
   pub vacant_off_file : (other s : Path) → vacant t other ≡ Ok s → on_way t true path s ≡ false
   vacant_off_file other s free = vacant_off_way t is_tree true path its_place (file_at t path r is).leads other s free
 
--- a link that stands on a way is followed there
+-- a link on a way is followed there
 pub link_leads_on : (t : Tree) → IsTree t → (q : Path) (n : Node) (target : Path) → node_at t q ≡ Some n → n.content ≡ Link target → (names : Path)
     → pass t true [] (q ++ names) ≡ Onward (target ++ names)
 link_leads_on t is_tree q n target at is [] = ap (pass t true []) (append-nil q) ∙ pass_to_link t is_tree q n at true target refl is ∙ ap Onward (sym (append-nil target))
@@ -159,7 +159,7 @@ module _ (t : Tree) (path s : Path) (is : spot t path ≡ Ok s) (below : s ≢ [
   unfolding file_spot
   file_here = ap (λ told. and_then file_path (from_followed told)) file_leads ∙ ap (λ b. cond b (Ok s) (Err WrongKind)) file
 
--- what lies in a directory isn't the root
+-- what is in a directory isn't the root
 pub below_root : (t : Tree) (s : Path) → lies_in_directory t s ≡ true → s ≢ []
 below_root t s lies root = false≢true (sym (root_lies_nowhere t s root) ∙ lies)
 

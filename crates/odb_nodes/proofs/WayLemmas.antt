@@ -1,4 +1,4 @@
--- Laws of ways: which paths are on them, what stands there, and where they lead in trees that are alike there.
+-- Laws of ways: which paths are on them, what is there, and where they lead in trees that are alike there.
 pub mod Alike
 pub mod Further
 pub mod Trod

@@ -29,7 +29,7 @@ use Rattle.odb_nodes.proofs.WayLaws.{leads_to_spot, spot_kept_below, link_on_way
 
 -- ---- what is written at the spot of a path is seen there, through the links that the path crosses
 
--- no link is crossed where none stands, and one that stands on the way of the directory is
+-- no link is crossed where none is, and one that is on the way of the directory is
 pub crosses_link : (t : Tree) (path q : Path) → is_link (node_at t q) ≡ false → crosses t path q ≡ false
 unfolding crosses
 crosses_link t path q plain = and_left _ _ plain
@@ -83,7 +83,7 @@ module _ (t : Tree) (is_tree : IsTree t) (path s : Path) (is : vacant t path ≡
   pub new_file_file_spot : file_spot (changed t (PutFile s 0 [])) path ≡ Ok s
   new_file_file_spot = file_here (changed t (PutFile s 0 [])) path s new_file_spot (below_root t s vacant_lies) (new_node t s (File [] 0)) new_file_at refl
 
-  -- which has no bytes, and time 0
+  -- it has no bytes, and time 0
   pub new_file_read_through : read_of (changed t (PutFile s 0 [])) path ≡ Ok ([], 0)
   new_file_read_through = file_read (changed t (PutFile s 0 [])) path s new_file_spot (below_root t s vacant_lies) (new_node t s (File [] 0)) new_file_at refl
 
@@ -99,7 +99,7 @@ module _ (t : Tree) (is_tree : IsTree t) (path s : Path) (is : vacant t path ≡
       let at = ap (λ u. node_at u s) (made-make_dir t s dev) ∙ node_at-put t s n in
       ap meta_of_place (leads_to_spot (changed t (MakeDir s dev)) path s (made_dir_spot dev) (below_root t s vacant_lies) n at (λ target link. let both : Dir ≡ Link target = link in cc) follow)
 
--- ---- a file that is moved to a path, where no link that the path crosses is replaced
+-- ---- a file that is moved to a path, if no link that the path crosses is replaced
 
 module _ (t : Tree) (is_tree : IsTree t) (from to s p : Path) (renames : change_of_rename t from to ≡ Ok (Rename s p)) (file : file_spot t from ≡ Ok s) (free : crosses t to p ≡ false) where
   replaces : replaceable t to ≡ Ok p
@@ -139,7 +139,7 @@ module _ (t : Tree) (is_tree : IsTree t) (from to s p : Path) (renames : change_
   pub rename_file_spot : file_spot (changed t (Rename s p)) to ≡ Ok p
   rename_file_spot = let f = file_at t from s file in file_here (changed t (Rename s p)) to p rename_spot (below_root t p place_lies) f.node renamed_at f.file
 
-  -- and reads as that did
+  -- and reads as the file did
   pub rename_read_through : read_of (changed t (Rename s p)) to ≡ read_of t s
   rename_read_through =
       let f = file_at t from s file in
@@ -178,7 +178,7 @@ module _ (t : Tree) (other : Path) (more : List ℕ) where
     pub append_spot : spot (changed t (Append other more)) path ≡ spot t path
     append_spot = spot_alike t (changed t (Append other more)) path (λ p _. append_alike p)
 
--- a path that leads to the file reads the piece behind what it read before
+-- a path that leads to the file reads the bytes after what it read before
 pub append_read_through : (t : Tree) → IsTree t → (path s : Path) → file_spot t path ≡ Ok s → (bytes more : List ℕ) (time : ℕ) → read_of t path ≡ Ok (bytes, time)
     → read_of (changed t (Append s more)) path ≡ Ok (bytes ++ more, time)
 append_read_through t is_tree path s is bytes more time old =
@@ -217,7 +217,7 @@ module _ (t : Tree) (path : Path) (change : Change) where
       let g = found_by (λ place. Ok (Rename f.first place)) (replaceable t to) change f.then in
       (f.first, g.first, f.is, g.is, cc)
 
--- a path whose spot is the file that it leads to: a rename moves that file, and a remove takes it
+-- a path whose spot is the file that it leads to: a rename moves that file, and a remove removes it
 module _ (t : Tree) (is_tree : IsTree t) (path r : Path) (is : spot t path ≡ Ok r) (file : file_spot t path ≡ Ok r) where
   pub file_renamed : (to : Path) (change : Change) → change_of_rename t path to ≡ Ok change → (p : Path) × (replaceable t to ≡ Ok p) × (change ≡ Rename r p)
   file_renamed to change renames =

@@ -28,9 +28,9 @@ use Rattle.odb_nodes.proofs.WriteCallsLemmas.Changes.{change_of_append-is}
 pub tree_of-written : (s : State) (change : Change) → tree_of (written s (Some change)) ≡ changed (tree_of s) change
 tree_of-written s change = after_write-tree s change
 
--- ---- nodes that stand alike are seen alike
+-- ---- nodes that are alike are seen alike
 
--- what stands at a path, and is no link, is what a read finds
+-- what is at a path, and is no link, is what a read finds
 module _ (t : Tree) (is_tree : IsTree t) (path : Path) (n : Node) (at : node_at t path ≡ Some n) (plain : (target : Path) → n.content ≢ Link target) where
   pub read_at : read_of t path ≡ file_of n.content
   unfolding read_of
@@ -38,7 +38,7 @@ module _ (t : Tree) (is_tree : IsTree t) (path : Path) (n : Node) (at : node_at 
 
 -- ---- the frame: a change leaves what it doesn't touch
 
--- whether a change may put, take or write what stands at a path
+-- whether a change may put, remove or write what is at a path
 abbrev pub at_place : Result Place Refusal → Path → Bool
 at_place (Ok place) q = eq_by_cmp path_cmp q place.path
 at_place (Err refusal) q = false
@@ -94,7 +94,7 @@ module _ (t : Tree) (is_tree : IsTree t) where
     unfolding read_of
     read_at_spot = let f = file_at t path s is in ap file_of_place f.leads ∙ sym (ap file_of_place (leads_to_itself t is_tree s f.node f.at f.file))
 
-    -- an append leaves the bytes, adds its piece behind them, and keeps the time
+    -- an append leaves the bytes, adds its own after them, and keeps the time
     pub append_read : (bytes more : List ℕ) (time : ℕ) → read_of t s ≡ Ok (bytes, time) → read_of (changed t (Append s more)) s ≡ Ok (bytes ++ more, time)
     append_read bytes more time old =
         let f = file_at t path s is in
@@ -105,7 +105,7 @@ module _ (t : Tree) (is_tree : IsTree t) where
         (plain_file n (longer_file f.node.content more f.file))
         ∙ longer_read f.node.content bytes more time (sym (read_at t is_tree s f.node f.at (plain_file f.node f.file)) ∙ old)
 
-  -- nothing stands at the source any more, unless it is the target
+  -- nothing is at the source afterwards, unless it is the target
   pub rename_source : (from to : Path) → is_possible_in t (Rename from to) ≡ true → from ≢ to → node_at (changed t (Rename from to)) from ≡ None
   rename_source from to possible apart =
       let m = can_rename t is_tree from to possible in
@@ -113,6 +113,6 @@ module _ (t : Tree) (is_tree : IsTree t) where
       ∙ moved_away t from to from (false_from_ne_true _ (λ below. let g = goes_on from to below apart in
       let gone = ap (node_at t) g.2 ∙ none_below t is_tree to m.free g.0 g.1 in let both : None ≡ Some m.node = sym gone ∙ m.at in cc)) (begins-own from)
 
-  -- nothing stands where a node was removed
+  -- nothing is where a node was removed
   pub removed_away : (s : Path) → node_at (changed t (Remove s)) s ≡ None
   removed_away s = ap (λ u. node_at u s) (made-remove t s) ∙ node_at-taken t s

@@ -16,7 +16,7 @@ Answers (Err errors.NotEmpty) told = ⊥
 Answers (Err errors.Failed) told = Unit {0}
 Answers (Err errors.NoMemory) told = Unit {0}
 
--- the same of a call that writes
+-- the answer of a call that writes is what the tree says, unless the call failed or memory ran out
 abbrev pub AnswersWrite : {A : Type 0} → Result A DiskError → Result A writing.Refusal → Type 0
 AnswersWrite (Ok x) told = told ≡ Ok x
 AnswersWrite (Err errors.Absent) told = told ≡ Err writing.Absent

@@ -24,7 +24,7 @@ kind_of (contents.Link target) = Link
 abbrev pub entry_of : Node → Name → Entry
 entry_of node name = record { name = name; kind = kind_of node.content; ino = node.ino }
 
--- the entry of a node, if it lies right in a directory
+-- the entry of a node that is directly in a directory; of another, None
 abbrev pub entry_in : Path → Path × Node → Option Entry
 entry_in directory at = option_map (entry_of at.1) (name_in directory at.0)
 
@@ -41,7 +41,7 @@ abbrev pub entries_at_place : Tree → Result Place Refusal → Result (List Ent
 entries_at_place tree (Ok place) = entries_at tree place.path place.node.content
 entries_at_place tree (Err refusal) = Err refusal
 
--- the entries of the directory that a path leads to, links followed; anything else is of the wrong kind
+-- the entries of the directory that a path leads to, following links; anything else is of the wrong kind
 unfoldable pub opened : Tree → Path → Result (List Entry) Refusal
 opened tree path = entries_at_place tree (followed tree true path)
 
@@ -49,7 +49,7 @@ opened tree path = entries_at_place tree (followed tree true path)
 abbrev pub AreNamed : List Entry → Type 0
 AreNamed entries = list_all (λ entry. is_name entry.name) entries ≡ true
 
--- ---- how entries are told apart, for models that hold them
+-- ---- how entries are distinguished, for models that hold them
 
 abbrev pub kind_parts : Kind → Unit {0} ⊎ (Unit {0} ⊎ Unit {0})
 kind_parts File = inl tt

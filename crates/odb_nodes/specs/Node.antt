@@ -1,4 +1,4 @@
--- How the nodes of a tree are told apart, for models that hold them.
+-- How the nodes of a tree are distinguished, for models that hold them.
 use Rattle.std.specs.Prelude.{◌≡◌, ◌⊎◌, ℕ, List, refl}
 use Rattle.std.specs.Coded.{Coded, code_by, coded×, coded⊎, coded_ℕ, coded_list}
 use Rattle.std.proofs.Common.{inl, inr}

@@ -1,4 +1,4 @@
--- A disk at one moment: what stands at each path. A state is what a disk remembers; a tree is what it shows.
+-- A disk at one moment: what is at each path. A state is what a disk remembers; a tree is what it shows.
 pub mod Nodes
 pub mod Follow
 pub mod Change
@@ -14,7 +14,7 @@ use Rattle.odb_nodes.specs.declared.node.Node.{Node}
 use Rattle.odb_nodes.specs.declared.node.Content.{Content}
 use Rattle.odb_nodes.specs.declared.node.Content.TheVariants.{File, Dir, Link}
 
--- what stands at each path
+-- what is at each path
 pub record Tree : Type 0 where
   nodes : finite.FinMap path_cmp Node
 
@@ -45,11 +45,11 @@ node_at tree path = finite.get tree.nodes path
 unfoldable pub with_node : Tree → Path → Node → Tree
 with_node tree path node = record { nodes = finite.insert tree.nodes path node }
 
--- the tree without what stands at a path
+-- the tree without the node at a path
 unfoldable pub without : Tree → Path → Tree
 without tree path = record { nodes = finite.remove tree.nodes path }
 
--- the tree that a list of nodes makes, each at its path
+-- the tree of a list of nodes, each at its path
 unfoldable pub tree_of_entries : List (Path × Node) → Tree
 tree_of_entries entries = record { nodes = finite.from_entries entries }
 
@@ -66,7 +66,7 @@ abbrev pub is_directory : Option Node → Bool
 is_directory None = false
 is_directory (Some node) = is_directory_content node.content
 
--- the name under which a path lies in a directory, if it lies right in it
+-- the name of a path in a directory, if it is directly in it
 unfoldable pub name_in : Path → Path → Option Name
 name_in [] [] = None
 name_in [] (name ∷ []) = Some name
@@ -82,8 +82,8 @@ names_in tree directory = filter_map (name_in directory) (finite.keys tree.nodes
 unfoldable pub inode_numbers : Tree → List ℕ
 inode_numbers tree = map (λ node. node.ino) (finite.values tree.nodes)
 
--- What holds of each tree of a disk: the root is a directory, each node lies in a directory,
--- and no two nodes have one inode number.
+-- What holds of each tree of a disk: the root is a directory, each other node is in a directory, and no two nodes have one
+-- inode number.
 pub record IsTree (tree : Tree) : Type 0 where
   pub root : is_directory (node_at tree []) ≡ true
   pub ways : (directory : Path) (name : Name) (node : Node) → node_at tree (directory ++ name ∷ []) ≡ Some node → is_directory (node_at tree directory) ≡ true

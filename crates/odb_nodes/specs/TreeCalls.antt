@@ -22,7 +22,7 @@ Ends errors.NotEmpty told = ⊥
 Ends errors.Failed told = ⊥
 Ends errors.NoMemory told = Unit {0}
 
--- a pass comes to a link that leads on
+-- a pass ends at a link that leads on
 abbrev pub ComesOnward : Result Path DiskError → Pass → Type 0
 ComesOnward (Ok onward) told = told ≡ Onward onward
 ComesOnward (Err error) told = Ends error told
@@ -42,7 +42,7 @@ Leads (Err errors.NotEmpty) told = ⊥
 Leads (Err errors.Failed) told = ⊥
 Leads (Err errors.NoMemory) told = Unit {0}
 
--- the last path with a node that comes before another path, if there is one
+-- the last path with a node that is before another path, if there is one
 abbrev pub IsLastBefore : Tree → Path → Option Path → Type 0
 IsLastBefore tree path None = (q : Path) → path_cmp q path ≡ Less → node_at tree q ≡ None
 IsLastBefore tree path (Some last) =

@@ -15,7 +15,7 @@ abbrev pub has_number : Option Node → ℕ → Bool
 has_number None n = false
 has_number (Some node) n = node.ino == n
 
--- the number of a node, if there is one, is free too from now on
+-- the number of a node, if there is one, is now free too
 abbrev pub Frees : Option Node → List ℕ → List ℕ → Type 0
 Frees node old new = (n : ℕ) → is_listed new n ≡ (has_number node n || is_listed old n)
 
@@ -25,11 +25,11 @@ pub record AreNumbers (tree : Tree) (next : ℕ) (free : List ℕ) : Type 0 wher
   pub above : (n : ℕ) → is_taken tree n ≡ true → (0 < n) × (n < next)
   pub free_above : (n : ℕ) → is_listed free n ≡ true → (0 < n) × (n < next)
 
--- the greatest inode number, since one is kept in 64 bits. No node has it: `next` is always above each that one has
+-- the greatest inode number, as one is kept in 64 bits. No node has it: `next` is always above each that one has
 abbrev pub last_number : ℕ
 last_number = 2 ^ 64 - 1
 
--- the least number that is free: one that is listed, else the next, which can be counted on
+-- the least free number: one that is listed, else the next, which can be counted on
 pub record IsLeastFree (free : List ℕ) (next n : ℕ) : Type 0 where
   pub is_free : (is_listed free n ≡ true) ⊎ ((n ≡ next) × (next < last_number))
   pub least : (m : ℕ) → m < n → is_listed free m ≡ false

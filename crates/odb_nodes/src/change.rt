@@ -9,7 +9,7 @@ use thiserror::Error;
 /// A change that another program makes to a disk.
 #[derive(Drop)]
 pub enum Change {
-    /// Puts a file where none is, or new bytes and a new time into the one that is there.
+    /// Puts a file where none is, or gives the file there new bytes and a new time.
     PutFile {
         path: PathText,
         time: u64,
@@ -20,19 +20,18 @@ pub enum Change {
         path: PathText,
         dev: u64,
     },
-    /// Puts a link to another path where none is, or another target into the one that is there. Nothing need stand at
-    /// the target.
+    /// Puts a link to another path where none is, or gives the link there another target. The target needn't exist.
     PutLink {
         path: PathText,
         target: PathText,
     },
-    /// Moves a file or a link over nothing, a file or a link, or a directory with all below it to where nothing
-    /// stands. Each node keeps its device and its inode number.
+    /// Moves a file or a link over nothing, a file or a link; or a directory with all below it to where nothing is.
+    /// Each node keeps its device and its inode number.
     Rename {
         from: PathText,
         to: PathText,
     },
-    /// Adds bytes at the end of the file that the path leads to, links followed. Its time stays as it was.
+    /// Appends bytes to the file that the path leads to, following links. Its time stays as it was.
     Append {
         path: PathText,
         bytes: ByteList,
@@ -107,10 +106,10 @@ fn append(alloc: Global, path: &PathText, bytes: &ByteList) -> Result<Change, No
     Ok(Change::Append { path, bytes })
 }
 
-/// Why a change wasn't made. Nothing has changed then.
+/// Why a change wasn't made. Nothing has changed.
 #[derive(Clone, Copy, Debug, Error)]
 pub enum Impossible {
-    /// The tree has no place for the change: its path doesn't lie in a directory, or what stands there forbids it.
+    /// The tree has no place for the change: its path isn't in a directory, or what is there forbids it.
     #[error("impossible change")]
     Impossible,
     #[error("out of memory")]

@@ -8,13 +8,13 @@ use thiserror::Error;
 /// Why a call of a disk was refused.
 #[derive(Clone, Copy, Debug, PartialEq, Eq, Error)]
 pub enum DiskError {
-    /// Nothing is there, or nothing is at a part of the way.
+    /// Nothing is there, or a part of the path is missing.
     #[error("Absent")]
     Absent,
-    /// A part of the way is no directory, or what is there is of another kind than the call needs.
+    /// A part of the path is no directory, or what is there is of another kind than the call needs.
     #[error("WrongKind")]
     WrongKind,
-    /// More links on the way than are followed: 40 in a tree, on a real disk as many as the system follows.
+    /// More links than are followed: 40 in a tree; on a real disk as many as the system follows.
     #[error("LinkLoop")]
     LinkLoop,
     /// Something is there already.

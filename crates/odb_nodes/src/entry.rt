@@ -8,12 +8,12 @@ use std::alloc::Global;
 use std::collections::VecDeque;
 use std::marker::Model;
 
-/// What a stream of a directory gives.
+/// An entry that a stream of a directory gives.
 #[derive(Debug, Drop)]
 pub struct Entry {
     /// The name in the directory.
     pub name: PathName,
-    /// What stands there. A link isn't followed.
+    /// The kind of what is there. A link isn't followed.
     pub kind: Kind,
     /// The inode number.
     pub ino: u64,
@@ -32,7 +32,7 @@ impl Entry {
     }
 }
 
-/// Entries in the order in which they are given.
+/// Entries, first in, first out.
 #[derive(Drop)]
 pub struct EntryQueue {
     entries: VecDeque<Entry>,
@@ -56,7 +56,7 @@ impl Model for EntryQueue {
 }
 
 impl EntryQueue {
-    /// No entries, which takes no memory.
+    /// An empty queue. It allocates no memory.
     pub fn new(alloc: Global) -> EntryQueue
         ensures empty { result ≡ [] }
     {
@@ -65,7 +65,7 @@ impl EntryQueue {
         }
     }
 
-    /// Adds an entry at the end. A refused call changes nothing.
+    /// Adds an entry at the end. A call that fails changes nothing.
     pub fn push(&mut self, entry: Entry) -> Result<(), NoMemory>
         requires named { is_name entry.name ≡ true }
         ensures ok { OnOk result (self.new ≡ self.old ++ entry ∷ []) }
@@ -85,7 +85,7 @@ impl EntryQueue {
         self.entries.pop_front()
     }
 
-    /// How many entries there are.
+    /// The number of entries.
     pub fn len(&self) -> usize
         ensures len { result ≡ length self.now }
     {

@@ -1,8 +1,8 @@
-//! What stands on a disk: what a tree is, how a path is followed, what a change makes of it, what a directory lists, which
-//! change a call that writes makes, and why it is refused.
+//! What is on a disk: trees, how a path is followed, what a change does to a tree, what a directory lists, which change a
+//! call that writes makes, and why it is refused.
 //!
-//! Here are the nodes and entries, the changes and the refusals, with the definitions and laws of trees; a tree in memory
-//! stands above, in `odb_tree`. Read `specs/Tree.antt` first, then `node` and `change`.
+//! Here are the nodes and entries, the changes and the refusals, with the definitions and laws of trees; `odb_tree` has a
+//! tree in memory. Read `specs/Tree.antt` first, then `node` and `change`.
 //! ```rust
 //! let change = Change::MakeDir { path: PathText::parse(alloc, "/o")?, dev: 0 };
 //! let copy = change.try_clone(alloc)?;

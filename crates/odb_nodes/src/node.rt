@@ -1,4 +1,4 @@
-//! What stands at a path: files, directories and links.
+//! What is at a path: files, directories and links.
 use crate::meta::{Kind, Meta};
 use odb_base::{ByteList, NoMemory, PathText};
 use std::alloc::Global;
@@ -11,7 +11,7 @@ pub enum Content {
     Link(PathText),
 }
 
-/// A file, a directory or a link, with the numbers of its device and of its inode.
+/// A file, a directory or a link, with its device and inode numbers.
 #[derive(Debug, Drop)]
 pub struct Node {
     pub dev: u64,
@@ -45,7 +45,7 @@ impl Node {
     ghost use Rattle.odb_nodes.specs.Tree.Way.{is_link_content};
     ghost use Rattle.odb_nodes.specs.Tree.Change.{is_file_content, longer, timed};
 
-    /// What a look at the node tells.
+    /// The result of a stat of the node.
     pub fn meta(&self) -> Meta
         ensures meta { result ≡ meta_of self.now }
     {
@@ -84,7 +84,7 @@ impl Node {
         matches!(&self.content, Content::Link(_))
     }
 
-    /// Adds bytes at the end of a file. A refused call changes nothing.
+    /// Appends bytes to a file. A call that fails changes nothing.
     pub fn append(&mut self, more: &[u8]) -> Result<(), NoMemory>
         ensures made { OnOk result (self.new ≡ record self.old { content = longer self.old.content more.now }) }
         ensures kept { OnErr result (self.new ≡ self.old) }

@@ -12,7 +12,7 @@ adds_both None now next front rest first second = subst (λ x. Adds x next rest)
 adds_both (Some held) now next front rest first second =
     subst (λ x. Adds x next rest) first second ∙ ap Some (append_assoc held front rest)
 
--- a front of what comes behind is a front of all
+-- a prefix of what follows makes a prefix of all
 pub adds_front : (before now next : Option (List ℕ)) (front rest : List ℕ) → Adds before now front → ((count : ℕ) × Adds now next (take count rest))
     → (count : ℕ) × Adds before next (take count (front ++ rest))
 adds_front before now next front rest first second =

@@ -1,4 +1,4 @@
--- The pieces of a line that is told on standard error.
+-- The pieces of a line that is written to standard error.
 use Rattle.std.proofs.Common.{ℕ, List, ◌++◌, codes, Option}
 use Rattle.odb_disk.specs.Source.{Adds}
 use Rattle.odb_program.specs.Report.{line_of}

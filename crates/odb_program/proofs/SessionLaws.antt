@@ -1,4 +1,4 @@
--- Laws of sessions, for programs: what was read of a source, and what a delivery says of a status.
+-- Laws of sessions, for programs: what was read from a source, and what a delivery says of a status.
 use Rattle.std.proofs.Common.{◌≡◌, inl, inr, ℕ, ◌≤◌, List, [], ◌++◌, length, sym, ap, ◌∙◌, subst, Option, Some, None}
 use Rattle.std.specs.Prelude.{IfSome}
 use Rattle.odb_disk.specs.Source.{ReadsFile}
@@ -6,7 +6,7 @@ use Rattle.odb_program.specs.Session.{Delivers, FailedWrite, Finished, Output, R
 
 -- ---- what was read
 
--- what holds of the bytes that were read, however the source goes on behind them, holds of all that the source told
+-- what holds of the bytes that were read, however the source goes on after them, holds of all that the source reported
 pub holds_of_source : (limit : ℕ) (left left' : Option (List ℕ)) (bytes : List ℕ) (Holds : List ℕ → Type 0) → ReadsFile limit left left' bytes
     → ((rest : List ℕ) → (length bytes ≤ limit → rest ≡ []) → Holds (bytes ++ rest)) → IfSome left Holds
 holds_of_source limit None left' bytes Holds reads holds = tt

@@ -1,13 +1,13 @@
--- What a program tells on standard error.
+-- What a program writes to standard error.
 use Rattle.std.specs.Prelude.{◌⊎◌, ℕ, List, [], ◌∷◌, ◌++◌, codes}
 use Rattle.odb_base.specs.Faults.{Rose}
 use Rattle.odb_program.specs.Session.{Output, Wrote}
 
--- a line behind the program's name
+-- a line after the program's name
 abbrev pub line_of : List ℕ → List ℕ → List ℕ
 line_of program told = program ++ (codes ": " ++ (told ++ codes "\n"))
 
--- what is told is a line; nothing where nothing is told
+-- a note is written as a line; an empty one isn't
 unfoldable pub report_of : List ℕ → List ℕ → List ℕ
 report_of program [] = []
 report_of program (first ∷ told) = line_of program (first ∷ told)

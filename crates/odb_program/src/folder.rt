@@ -1,10 +1,10 @@
-//! The folder that a program was started in.
+//! The folder in which a program was started.
 use odb_base::{BadPath, NoMemory, PathText};
 use std::alloc::Global;
 use std::rt::Env;
 use std::{env, io};
 
-/// The folder that the program was started in; none where the system doesn't tell it, or it is no path of text.
+/// The folder in which the program was started; None if the system doesn't report it, or it is no path of text.
 pub fn working_folder<R: Env + AllocGlobal>(
     rt: &R,
     alloc: Global,

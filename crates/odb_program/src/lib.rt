@@ -1,8 +1,8 @@
-//! What the programs share: the words of a command line, statuses, how an output is put together and delivered, and what
-//! is told on standard error.
+//! What the programs share: the words of a command line, statuses, how an output is put together and delivered, and
+//! what is written to standard error.
 //!
-//! A program is one call over any source and sink, which answers a status of its own. `specs/Session.antt` has the words
-//! by which its contract says what each status means; `main` binds the call to the real streams.
+//! A program is one call over any source and sink, which returns a status of its own. `specs/Session.antt` has the
+//! words by which its contract says what each status means; `main` binds the call to the real streams.
 //! ```rust
 //! let words = command_words(&rt, alloc)?;
 //! let status = answer(&mut sink, NOT_UNDERSTOOD.as_bytes(), Status::NotUnderstood);

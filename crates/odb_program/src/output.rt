@@ -1,4 +1,4 @@
-//! Outputs as they are put together: texts and numbers, one behind the other.
+//! Outputs as they are put together: texts and numbers, one after the other.
 ghost use Rattle.std.specs.Prelude.{◌≡◌, ◌++◌, OnOk};
 ghost use Rattle.std.specs.Fmt.{decimal};
 

@@ -1,4 +1,4 @@
-//! What a program tells on standard error.
+//! What a program writes to standard error.
 ghost use Rattle.std.specs.Prelude.{OnOk};
 ghost use Rattle.odb_base.specs.Faults.{HasCause};
 ghost use Rattle.odb_disk.specs.Source.{Adds};
@@ -6,7 +6,7 @@ ghost use Rattle.odb_program.specs.Report.{line_of, report_of};
 
 use odb_disk::{Failed, Sink, write_all};
 
-/// Writes what is told as a line behind the program's name, and nothing where nothing is told. It takes no memory.
+/// Writes a note as a line after the program's name; nothing if the note is empty. It allocates no memory.
 #[tactic(auto, using(crate::proofs::AddsLaws::adds_nothing), unfolding(crate::specs::Report::report_of))]
 pub(crate) fn report<K: Sink>(errors: &mut K, program: &str, told: &[u8]) -> Result<(), Failed>
     ensures told { OnOk result (Adds (K.held errors.old) (K.held errors.new) (report_of program.now told.now)) }

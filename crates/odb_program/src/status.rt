@@ -1,4 +1,4 @@
-//! Statuses, and what the process ends with.
+//! Statuses and exit codes.
 ghost use Rattle.std.specs.Prelude.{◌≡◌, ℕ, List};
 ghost use Rattle.std.specs.Process.{exit_status};
 
@@ -12,8 +12,8 @@ pub trait SessionStatus: Drop {
     /// The status of a session whose sink failed.
     ghost failed_write: { Self };
 
-    /// What is told on standard error, without the program's name; nothing where nothing went wrong, or where what did was
-    /// told before.
+    /// What is written to standard error, without the program's name; nothing if nothing went wrong, or if it was
+    /// written before.
     ghost notes: { Self → List ℕ };
 
     /// The exit status of the process.
@@ -24,12 +24,12 @@ pub trait SessionStatus: Drop {
     fn write_fault() -> Self
         ensures status { result ≡ failed_write };
 
-    /// What is told on standard error, without the program's name.
+    /// What is written to standard error, without the program's name.
     fn note(&self) -> &[u8]
         ensures note { result.now ≡ notes self.now };
 }
 
-/// What the process ends with.
+/// The exit code of the process.
 pub(crate) fn exit_code<T: SessionStatus>(status: T) -> ExitCode
     ensures code { exit_status result ≡ T.exits_with status }
 {

@@ -38,7 +38,7 @@ item_of-link path target names others field other =
     item_of-line_of 108 (codes "ink") (text_of path ∷ text_of target ∷ []) refl (IsField-word (codes "link") refl refl, (field, (other, tt)))
     ∙ rw (path_of-text_of path names, path_of-text_of target others) refl
 
--- ---- changes that another program makes
+-- ---- changes of another program
 
 pub item_of-remove : (path : Path) → list_all is_name path ≡ true → IsField (text_of path)
     → item_of (line_of (codes "do" ∷ codes "remove" ∷ text_of path ∷ [])) ≡ items.Play (One (steps.Disk (changes.Remove path)))

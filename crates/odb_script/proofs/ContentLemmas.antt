@@ -39,7 +39,7 @@ object_of-spelled Tree digits bytes e = rw e refl
 object_of-spelled Blob digits bytes e = rw e refl
 object_of-spelled Tag digits bytes e = rw e refl
 
--- is the bytes of its loose file
+-- an object as the bytes of its loose file
 pub content_of-loose : (kind : Kind) (digits bytes : List ℕ) → data_of digits ≡ Some bytes
     → content_of (codes "@loose:" ++ kind_word kind ++ 58 ∷ digits) ≡ Some (header_of kind (length bytes) ++ bytes)
 unfolding content_of object_of kind_of_word
@@ -77,13 +77,13 @@ pub objects_of-spelled : (text : List ℕ) (texts : List (List ℕ)) (objects : 
 objects_of-spelled text texts objects lack are =
     ap (λ parts. items_of object_of parts []) (slice_split-join 44 text texts lack) ∙ items_of-spelled object_of (text ∷ texts) objects [] are
 
--- are the pack of them
+-- objects as their pack
 pub content_of-pack : (spelled : List ℕ) (objects : List Object) → objects_of spelled ≡ Some objects → are_few objects ≡ true
     → content_of (codes "@pack:" ++ spelled) ≡ Some (pack_of Sha1 (map object_seen objects))
 unfolding content_of
 content_of-pack spelled objects e few = rw (e, few) refl
 
--- or the index of that pack
+-- objects as the index of that pack
 pub content_of-idx : (spelled : List ℕ) (objects : List Object) → objects_of spelled ≡ Some objects → are_few objects ≡ true
     → content_of (codes "@idx:" ++ spelled) ≡ Some (index_of Sha1 (map object_seen objects))
 unfolding content_of
@@ -104,7 +104,7 @@ pub packs_of-spelled : (text : List ℕ) (texts : List (List ℕ)) (packs : List
 packs_of-spelled text texts packs lack are =
     ap (λ parts. items_of named_pack_of parts []) (slice_split-join 59 text texts lack) ∙ items_of-spelled named_pack_of (text ∷ texts) packs [] are
 
--- are the multi-index of them
+-- packs as their multi-index
 pub content_of-midx : (spelled : List ℕ) (packs : List NamedPack) → packs_of spelled ≡ Some packs → CanBeWritten (map named_seen packs)
     → content_of (codes "@midx:" ++ spelled) ≡ Some (multi_index_of_packs Sha1 (map named_seen packs))
 unfolding content_of

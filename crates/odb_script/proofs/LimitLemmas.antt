@@ -14,9 +14,9 @@ use Rattle.odb_script.specs.Script.{script_limit, items_of, lines_in, but_last, 
 use Rattle.odb_script.specs.Line.{item_of}
 use Rattle.odb_script.proofs.ScriptLemmas.{items_of-front}
 
--- ---- a front of a script
+-- ---- a prefix of a script
 
--- a front that is the whole, or is longer than a script may be, reads as the whole
+-- a prefix that is the whole, or is longer than a script may be, reads as the whole
 pub items_of-read : (text rest : List ℕ) → (length text ≤ script_limit → rest ≡ []) → items_of (text ++ rest) ≡ items_of text
 items_of-read text rest whole =
     elim (cases_lt script_limit (length text)) [

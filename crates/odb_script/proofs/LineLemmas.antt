@@ -34,7 +34,7 @@ use Rattle.odb_script.specs.Line.{Fields, call_for, fields_of, line_item, item_o
 abbrev pub has_no_space : List ℕ → Bool
 has_no_space text = list_all (λ b. not (b == 32)) text
 
--- what can stand as a field: text without a space
+-- what can be a field: text without a space
 pub record IsField (text : List ℕ) : Type 0 where
   pub utf8 : IsUtf8 text
   pub no_space : has_no_space text ≡ true
@@ -50,7 +50,7 @@ have_no_space : (fields : Fields) → AreFields fields → AllByRecursion (λ fi
 have_no_space [] are = tt
 have_no_space (field ∷ fields) are = (are.0.no_space, have_no_space fields are.1)
 
--- the fields of a line are those that it is of
+-- the fields of the line of some fields are those
 pub fields_of-line_of : (field : List ℕ) (fields : Fields) → AreFields (field ∷ fields) → fields_of (line_of (field ∷ fields)) ≡ field ∷ fields
 fields_of-line_of field fields are = slice_split-join 32 field fields (have_no_space (field ∷ fields) are)
 

@@ -7,7 +7,7 @@ use Rattle.std.proofs.lemmas.Str.Pattern.{IsSplitOnceResult, split_once_first}
 use Rattle.odb_script.specs.Opening.{has_value}
 use Rattle.odb_script.specs.Line.{texts_of}
 
--- an option has a value where `split_once` finds `=`
+-- an option has a value if `split_once` finds `=`
 pub has_value-split : (option : List ℕ) (parts : Option (Bor (List ℕ) × Bor (List ℕ))) → IsSplitOnceResult 61 option parts → is_some parts ≡ has_value option
 has_value-split option None h =
     let all = split_once_first 61 option None h (lit< tt) in
@@ -16,7 +16,7 @@ has_value-split option (Some parts) h =
     let found = split_once_first 61 option (Some parts) h (lit< tt) in
     sym (list_any_at (λ b. b == 61) option (position_or_len (λ b. b == 61) option) 0 found.0 (passes_at_first (λ b. b == 61) option 0 found.0))
 
--- a test of texts, as one of the references that lead to them
+-- a test of texts, as one of references to them
 pub any_of_texts : (test : List ℕ → Bool) (options : List (Bor (List ℕ))) → list_any test (texts_of options) ≡ list_any (λ option. test option.now) options
 any_of_texts test [] = refl
 any_of_texts test (option ∷ options) = ap (λ b. test option.now || b) (any_of_texts test options)

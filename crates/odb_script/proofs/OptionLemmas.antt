@@ -40,7 +40,7 @@ module _ (id by : ObjectId) (is : IsId id) (other : IsId by) where
 
 -- ---- options
 
--- how what an option chooses is spelled
+-- how an option's choice is spelled
 abbrev pub spelled : Choice → List ℕ
 spelled (Folder path) = codes "folder=" ++ text_of path
 spelled (Replacement id by) = codes "replace=" ++ hex_of id ++ 58 ∷ hex_of by

@@ -20,7 +20,7 @@ unfolding can_be_written objects_in
 can_be_written-true packs can =
     rw (can.names, lt-ltb (length packs) (2 ^ 31) can.few_packs, lt-ltb (objects_in packs) (2 ^ 31) can.few_objects) refl
 
--- a test that is true exactly where packs can be written is this one
+-- a test that is true exactly if packs can be written is this one
 pub can_be_written-same : (b : Bool) (packs : List Named) → ((b ≡ true) ↔ CanBeWritten packs) → b ≡ can_be_written packs
 can_be_written-same true packs same = sym (can_be_written-true packs (same.0 refl))
 can_be_written-same false packs same = by_test (can_be_written packs) refl

@@ -51,7 +51,7 @@ module _ (is_cut : Bool) (bytes line more : List ℕ) (number : ℕ) (script nex
   pub not_built : taken script (item_of line) ≡ NotBuiltHere next → reading_from (items_in is_cut (lines_in bytes)) number script ≡ record { script = next; ending = NotBuiltAt number }
   not_built e = begun ∙ ap (carried (reading_from (items_in is_cut (lines_in more)) (number + 1)) number) e
 
--- the last line is taken, or refused where it is cut off
+-- the last line is taken, or refused if it is cut off
 pub last : (is_cut : Bool) (bytes : List ℕ) (number : ℕ) (script : Script) → lines_in bytes ≡ bytes ∷ []
     → reading_from (items_in is_cut (lines_in bytes)) number script ≡ carried (reading_from [] (number + 1)) number (taken script (if is_cut then Refused else item_of bytes))
 unfolding reading_from
@@ -67,7 +67,7 @@ cut : (bytes : List ℕ) → script_limit < length bytes → items_of bytes ≡ 
 unfolding items_of
 cut bytes long = rw (above (length bytes) script_limit long) refl
 
--- of a script that is too long, a front that is too long says the same
+-- of a script that is too long, a prefix that is too long says the same
 pub items_of-front : (front more : List ℕ) → script_limit < length front → items_of (front ++ more) ≡ items_of front
 unfolding items_of
 items_of-front front more long =

@@ -25,7 +25,7 @@ followed c (b ∷ text) rest h =
     let parts = and_parts (not (b == c)) (lacks c text) h in
     slice_split-cons_no (λ d. d == c) b (text ++ c ∷ rest) (not-true _ parts.0) ∙ ap (onto_first b) (followed c text rest parts.1)
 
--- texts without a byte are what their join at it is split into
+-- texts without a byte are the parts of their join at it
 pub slice_split-join : (c : ℕ) (text : List ℕ) (texts : List (List ℕ)) → AllByRecursion (λ t. lacks c t ≡ true) (text ∷ texts)
     → slice_split (λ b. b == c) (join_with_byte c (text ∷ texts)) ≡ text ∷ texts
 slice_split-join c text [] lack = alone c text lack.0
@@ -40,7 +40,7 @@ bool_cases : (b : Bool) → (b ≡ true) ⊎ (b ≡ false)
 bool_cases true = inl refl
 bool_cases false = inr refl
 
--- a byte at the end leaves nothing behind it
+-- a byte at the end leaves nothing after it
 pub slice_split-push : (c : ℕ) (text : List ℕ) → slice_split (λ b. b == c) (text ++ c ∷ []) ≡ slice_split (λ b. b == c) text ++ [] ∷ []
 slice_split-push c [] = slice_split-cons_yes (λ b. b == c) c [] (eq-eqb c c refl)
 slice_split-push c (b ∷ text) =

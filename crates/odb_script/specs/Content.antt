@@ -16,7 +16,7 @@ use Rattle.gix_pack_written.specs.WrittenIndex.{index_of}
 use Rattle.gix_multi_index_written.specs.WrittenMultiIndex.{Named, names_of, named_seen, multi_index_of_packs}
 use Rattle.odb_script.specs.Split.{before_colon, after_colon, before_equals, after_equals, at_commas, at_semicolons}
 
--- the bytes that hex digits of either case give
+-- the bytes of hex digits of either case
 abbrev pub given : Result (List ℕ) FromHexError → Option (List ℕ)
 given (Ok bytes) = Some bytes
 given (Err error) = None
@@ -37,12 +37,12 @@ object_by (Some kind) (Some bytes) = Some (record { kind = kind; bytes = bytes }
 unfoldable pub object_of : List ℕ → Option Object
 object_of text = object_by (kind_of_word (before_colon text)) (data_of (after_colon text))
 
--- what is read with one item more
+-- what is read with one more item
 abbrev pub with_item : {A : Type 0} → (List A → Option (List A)) → List A → Option A → Option (List A)
 with_item further items None = None
 with_item further items (Some item) = further (items ++ item ∷ [])
 
--- the items that texts spell, behind those that are read; nothing where one spells none
+-- the items that texts spell, after those that are read; None if one spells none
 unfoldable pub items_of : {A : Type 0} → (List ℕ → Option A) → List (List ℕ) → List A → Option (List A)
 items_of read [] items = Some items
 items_of read (text ∷ texts) items = with_item (items_of read texts) items (read text)
@@ -69,11 +69,11 @@ packs_of text = items_of named_pack_of (at_semicolons text) []
 abbrev pub loose_file : Object → List ℕ
 loose_file object = header_of object.kind (length object.bytes) ++ object.bytes
 
--- Packs and indices are written of fewer objects: a row of an index names a wide offset by 31 bits. No script is long enough for so many.
+-- Packs and indices have fewer objects: a row of an index names a wide offset by 31 bits. No script is long enough for so many.
 abbrev pub object_limit : ℕ
 object_limit = 2 ^ 31
 
--- whether a pack or an index is written of so many objects
+-- whether a pack or an index can have so many objects
 abbrev pub are_few : List Object → Bool
 are_few objects = nat_lt (length objects) object_limit
 

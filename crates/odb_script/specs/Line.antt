@@ -1,4 +1,4 @@
--- What one line of a script says. Fields are split by one space.
+-- What one line of a script says. Fields are separated by single spaces.
 use Rattle.std.specs.Prelude.{ℕ, ◌==◌, Bool, true, List, [], ◌∷◌, length, Option, Some, None, if◌then◌else◌}
 use Rattle.std.specs.Str.{is_utf8}
 use Rattle.odb_base.specs.Decimal.{number_of}
@@ -28,19 +28,19 @@ use Rattle.odb_script.specs.Opening.{handle_of, open_of}
 abbrev pub step_item : Step → Item
 step_item step = items.Play (One step)
 
--- a line that is what is read, or refused where nothing is
+-- a line that is read, or refused if nothing is
 abbrev pub item_or_refused : {A : Type 0} → (A → Item) → Option A → Item
 item_or_refused item None = items.Refused
 item_or_refused item (Some read) = item read
 
--- a change of the setup, and one that another program makes while the steps are played
+-- a change of the setup, and one of another program while the steps are played
 abbrev pub setup_item : Option Change → Item
 setup_item change = item_or_refused items.Setup change
 
 abbrev pub outside_item : Option Change → Item
 outside_item change = item_or_refused (λ c. step_item (steps.Disk c)) change
 
--- such a change by the word behind `do` and the fields after it
+-- such a change by the word after `do` and the fields after it
 abbrev pub changed_item : Option ChangeWord → Fields → Item
 changed_item None fields = items.Refused
 changed_item (Some word) fields = outside_item (change_of word fields)
@@ -54,7 +54,7 @@ one_handle fields = None
 abbrev pub for_handle : (ℕ → Item) → Fields → Item
 for_handle item fields = item_or_refused item (one_handle fields)
 
--- a further handle on the store of another
+-- one more handle on the store of another
 abbrev pub clone_of : (handle from : Option ℕ) → Item
 clone_of (Some handle) (Some from) = step_item (steps.Clone handle from)
 clone_of handle from = items.Refused
@@ -65,12 +65,12 @@ start_of call None id = items.Refused
 start_of call (Some handle) None = items.Refused
 start_of call (Some handle) (Some id) = step_item (steps.Start handle (call id))
 
--- how many bytes data have
+-- the number of bytes of data
 abbrev pub size_of : Option (List ℕ) → Option ℕ
 size_of None = None
 size_of (Some bytes) = Some (length bytes)
 
--- the start of a write of data, which are said to have a size
+-- the start of a write of data with a given size
 abbrev pub write_of : Option ℕ → Option Kind → Option ℕ → Option (List ℕ) → Option ObjectId → Item
 write_of None kind size bytes id = items.Refused
 write_of (Some handle) None size bytes id = items.Refused

@@ -1,4 +1,4 @@
--- The opening of a store as fields, of which the last are options.
+-- The opening of a store as fields, the last of which are options.
 use Rattle.std.specs.Prelude.{ℕ, ◌^◌, ◌==◌, ◌&&◌, Bool, List, [], ◌∷◌, ◌++◌, codes, Option, Some, None, if◌then◌else◌}
 use Rattle.std.specs.List.{list_any}
 use Rattle.std.specs.Option.{option_map}
@@ -33,7 +33,7 @@ name_in option = before_equals option
 abbrev pub value_in : List ℕ → List ℕ
 value_in option = after_equals option
 
--- the two ids of a value, which `:` splits
+-- the two ids of a value, which `:` separates
 abbrev pub first_id : List ℕ → Option ObjectId
 first_id pair = id_of (before_colon pair)
 
@@ -51,7 +51,7 @@ is_unbuilt options = list_any is_unbuilt_option options
 
 -- ---- what is chosen
 
--- an id, and the one that is sought in its place
+-- an id, and the one that is looked up instead
 abbrev pub replacement : Option ObjectId → Option ObjectId → Option Choice
 replacement None by = None
 replacement (Some id) None = None
@@ -84,7 +84,7 @@ with_choice chosen (choices.Limit bytes) = record chosen { limit = Some bytes }
 with_choice chosen (choices.Changes changes) = record chosen { max_changes = changes }
 with_choice chosen choices.Sha256 = record chosen { hash = hashes.Sha256 }
 
--- the changes of the list of indices that a call bears where no option says otherwise
+-- the changes of the list of indices that a call tolerates by default
 abbrev pub default_changes : ℕ
 default_changes = 16
 
@@ -92,19 +92,19 @@ default_changes = 16
 abbrev pub nothing_chosen : Chosen
 nothing_chosen = record { folders = []; replacements = []; slots = None; limit = None; max_changes = default_changes; hash = hashes.Sha1 }
 
--- what options choose that go on so, after one option
+-- one option, and then what the others choose
 abbrev pub with_next : (Chosen → Option Chosen) → Chosen → Option Choice → Option Chosen
 with_next further chosen None = None
 with_next further chosen (Some choice) = further (with_choice chosen choice)
 
--- what options choose one after the other; nothing where one chooses nothing
+-- what options choose one after the other; None if one chooses nothing
 unfoldable pub chosen_by : List (List ℕ) → Chosen → Option Chosen
 chosen_by [] chosen = Some chosen
 chosen_by (option ∷ options) chosen = with_next (chosen_by options) chosen (choice_of option)
 
 -- ---- the line
 
--- as many slots as were chosen, or as the store needs
+-- the number of slots that was chosen, or as many as the store needs
 abbrev pub slots_of : Option ℕ → Slots
 slots_of None = default_slots
 slots_of (Some slots) = Given slots
@@ -122,7 +122,7 @@ open_with (Some handle) None chosen = items.Refused
 open_with (Some handle) (Some path) None = items.Refused
 open_with (Some handle) (Some path) (Some chosen) = opening_at handle path chosen
 
--- an opening; one that isn't built yet is judged by its options alone
+-- an opening; one that isn't built yet is checked by its options alone
 unfoldable pub open_of : List ℕ → List ℕ → List (List ℕ) → Item
 open_of handle path options =
     if is_unbuilt options

@@ -1,4 +1,4 @@
--- A script: its lines, the disk that its setup makes, the lines to play, and where it ends.
+-- A script: its lines, the disk after its setup, the lines to play, and where it ends.
 use Rattle.std.specs.Prelude.{ℕ, ◌+◌, List, [], ◌∷◌, ◌++◌, length, map, take, nat_le, if◌then◌else◌, Bool, true, false}
 use Rattle.std.specs.FinSet as set
 use Rattle.odb_nodes.specs.Tree.Change.{is_possible}
@@ -26,16 +26,16 @@ but_last [] = []
 but_last (line ∷ []) = []
 but_last (line ∷ other ∷ lines) = line ∷ but_last (other ∷ lines)
 
--- what the last line of a script says, which is refused where it is cut off
+-- what the last line of a script says; it is refused if it is cut off
 abbrev pub last_item : Bool → List ℕ → Item
 last_item is_cut line = if is_cut then items.Refused else item_of line
 
--- what the lines of a script say, and those of a front of one, whose last line is refused
+-- what the lines of a script say, or of a prefix of one, whose last line is refused
 abbrev pub items_in : Bool → List (List ℕ) → List Item
 items_in false lines = map item_of lines
 items_in true lines = map item_of (but_last lines) ++ items.Refused ∷ []
 
--- what the lines of a script say; of one that is too long, the line with the first byte too many is refused
+-- what the lines of a script say; if it is too long, the line with the first byte too many is refused
 unfoldable pub items_of : List ℕ → List Item
 items_of bytes =
     if nat_le (length bytes) script_limit
@@ -45,7 +45,7 @@ items_of bytes =
 abbrev pub disk_with : List ℕ → Volume
 disk_with numbers = new_volume (set.from_list numbers)
 
--- the disk that the script makes, and the lines that it plays
+-- the disk after the script's setup, and the lines that it plays
 abbrev pub disk_of : Script → Volume
 disk_of (Faults numbers) = disk_with numbers
 disk_of (Setup disk) = disk
@@ -78,7 +78,7 @@ carried further number (GoesOn script) = further script
 carried further number (RefusedHere script) = record { script = script; ending = RefusedAt number }
 carried further number (NotBuiltHere script) = record { script = script; ending = NotBuiltAt number }
 
--- the reading of lines, of which the first has a number; numbers count from 1
+-- the reading of lines, the first of which has a number; numbers count from 1
 unfoldable pub reading_from : List Item → ℕ → Script → Reading
 reading_from [] number script = record { script = script; ending = Whole }
 reading_from (item ∷ items) number script = carried (reading_from items (number + 1)) number (taken script item)

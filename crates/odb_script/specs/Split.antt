@@ -3,7 +3,7 @@ use Rattle.std.specs.Prelude.{ℕ, ◌==◌, List, map}
 use Rattle.std.specs.Borrow.{Bor}
 use Rattle.std.specs.List.{slice_split, before_first, after_first}
 
--- ---- the bytes that split, in ASCII
+-- ---- the bytes that separate, in ASCII
 
 abbrev pub line_feed : ℕ
 line_feed = 10
@@ -25,11 +25,11 @@ equals = 61
 
 -- ---- lines
 
--- The lines of a script, between line feeds. A line feed at the end leaves an empty line behind it, which says nothing.
+-- The lines of a script, between line feeds. A line feed at the end leaves an empty line after it, which says nothing.
 abbrev pub lines_in : List ℕ → List (List ℕ)
 lines_in bytes = slice_split (λ b. b == line_feed) bytes
 
--- ---- fields, which one space splits
+-- ---- fields, separated by single spaces
 
 abbrev pub Fields : Type 0
 Fields = List (List ℕ)
@@ -37,7 +37,7 @@ Fields = List (List ℕ)
 abbrev pub fields_of : List ℕ → Fields
 fields_of line = slice_split (λ b. b == space) line
 
--- the fields that references lead to
+-- the fields that references are to
 abbrev pub texts_of : List (Bor (List ℕ)) → Fields
 texts_of fields = map (λ field. field.now) fields
 

@@ -8,7 +8,7 @@ use Rattle.odb_script.specs.declared.word.ChangeWord.TheVariants as changes
 use Rattle.odb_script.specs.declared.word.Word.{Word}
 use Rattle.odb_script.specs.declared.word.Word.TheVariants as words
 
--- whether a text is one of some
+-- whether a text is one of these
 abbrev pub is_one_of : List (List ℕ) → List ℕ → Bool
 is_one_of texts text = list_any (same_name text) texts
 

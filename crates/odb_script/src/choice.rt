@@ -16,32 +16,32 @@ use std::alloc::Global;
 /// What one option chooses.
 #[derive(Drop)]
 pub enum Choice {
-    /// A folder beside the objects directory.
+    /// An alternate object directory.
     Folder(PathText),
-    /// An id, and the one that is sought in its place.
+    /// An id, and the one that is looked up instead.
     Replacement(ObjectId, ObjectId),
     Slots(u16),
     /// The most bytes of an object.
     Limit(u64),
-    /// The most changes of the list of indices that a call bears.
+    /// The most changes of the list of indices that a call tolerates.
     Changes(u32),
     /// The ids of the store are of SHA-256.
     Sha256,
 }
 
-/// The changes of the list of indices that a call bears where no option says otherwise.
+/// The changes of the list of indices that a call tolerates by default.
 const DEFAULT_CHANGES: u32 = 16;
 
 /// What options choose together.
 #[derive(Drop)]
 pub struct Chosen {
-    /// In the order of the options, as the replacements are.
+    /// The alternates, in the order of the options; so are the replacements.
     pub folders: PathList,
     pub replacements: IdPairs,
     pub slots: Option<u16>,
     /// The most bytes of an object.
     pub limit: Option<u64>,
-    /// The most changes of the list of indices that a call bears.
+    /// The most changes of the list of indices that a call tolerates.
     pub max_changes: u32,
     /// The hash of the store's ids.
     pub hash: Kind,
@@ -77,8 +77,8 @@ fn nothing_chosen(alloc: Global) -> Chosen
     }
 }
 
-/// What is chosen with one option more: each folder and each replacement adds one; of slots, of limits and of
-/// changes the last counts.
+/// What is chosen with one more option: each folder and each replacement adds one; of slots, of limits and of changes
+/// the last counts.
 fn with_choice(mut chosen: Chosen, choice: Choice) -> Result<Chosen, NoMemory>
     ensures chosen { IfOk result (λ more. more ≡ with_choice chosen choice) }
 {
@@ -161,7 +161,7 @@ fn hash(value: &str) -> Option<Choice>
     }
 }
 
-/// The two ids of a value, which `:` splits, as far as they are ids.
+/// The two ids of a value, which `:` separates; each is None if it is no id.
 fn id_pair(value: &str) -> (Option<ObjectId>, Option<ObjectId>)
     ensures first { result.0 ≡ first_id value.now }
     ensures second { result.1 ≡ second_id value.now }
@@ -170,7 +170,7 @@ fn id_pair(value: &str) -> (Option<ObjectId>, Option<ObjectId>)
     (id_of(id), id_of(by))
 }
 
-/// The name of an option and its value, which `=` splits.
+/// The name of an option and its value, which `=` separates.
 pub fn name_and_value(option: &str) -> Option<(&str, &str)>
     ensures found { is_some result ≡ has_value option.now }
     ensures name { IfSome result (λ parts. parts.0.now ≡ name_in option.now) }

@@ -165,7 +165,7 @@ fn clone_line(fields: &[&str]) -> Item
     }
 }
 
-/// A further handle on the store of another.
+/// One more handle on the store of another.
 fn clone_of(handle: Option<u32>, from: Option<u32>) -> Item
     ensures item { result ≡ clone_of handle from }
 {
@@ -198,7 +198,7 @@ fn start_of(want: Want, handle: Option<u32>, id: Option<ObjectId>) -> Item
     })
 }
 
-/// A change that another program makes.
+/// A change of another program.
 #[tactic(auto, unfolding(crate::specs::Line::line_item))]
 fn change(alloc: Global, fields: &[&str]) -> Result<Item, NoMemory>
     ensures item { IfOk result (λ item. item ≡ line_item (Some Word.Do) (texts_of fields.now)) }
@@ -209,7 +209,7 @@ fn change(alloc: Global, fields: &[&str]) -> Result<Item, NoMemory>
     }
 }
 
-/// A change that another program makes, by the word behind `do` and the fields after it.
+/// A change of another program, by the word after `do` and the fields after it.
 fn changed(alloc: Global, word: Option<ChangeWord>, fields: &[&str]) -> Result<Item, NoMemory>
     ensures item { IfOk result (λ item. item ≡ changed_item word (texts_of fields.now)) }
 {

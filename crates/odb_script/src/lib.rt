@@ -1,8 +1,8 @@
-//! Scripts: what their lines say, and the disk and the lines to play that they come to.
+//! Scripts: what their lines say, and the disk and the lines to play.
 //!
-//! `read` reads a script up to the first line that is refused or isn't built, and `item_of` one line. For any bytes both
-//! give what `specs/{Script,Line}.antt` define; the language in words is `docs/SCRIPT.md`. The readers of single fields are
-//! public for those who say why a line is refused.
+//! `read` reads a script up to the first line that is refused or isn't built, and `item_of` reads one line. For any
+//! bytes both return what `specs/{Script,Line}.antt` define; the language in words is `docs/SCRIPT.md`. The readers
+//! of single fields are public for callers that say why a line is refused.
 //! ```rust
 //! let (disk, lines, ending) = read(alloc, script)?.into_parts(alloc)?;
 //! let play = World::play(alloc, disk, lines.as_slice())?;

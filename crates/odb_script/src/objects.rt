@@ -12,7 +12,7 @@ use gix_pack_written::Object;
 use odb_base::{ByteList, NoMemory, PathName, Sequence};
 use std::alloc::Global;
 
-/// Packs and indices are written of fewer objects: a row of an index names a wide offset by 31 bits.
+/// Packs and indices have fewer objects: a row of an index names a wide offset by 31 bits.
 const OBJECT_LIMIT: usize = 1 << 31;
 
 /// `KIND:DATA`, by the first colon.
@@ -33,7 +33,7 @@ fn object_by(kind: Option<Kind>, bytes: Option<ByteList>) -> Option<Object>
     }
 }
 
-/// `OBJ,OBJ..`: one object at least.
+/// `OBJ,OBJ..`: at least one object.
 #[tactic(auto, unfolding(crate::specs::Content::items_of))]
 pub fn objects_of(alloc: Global, text: &str) -> Result<Option<Sequence<Object>>, NoMemory>
     ensures objects { IfOk result (λ objects. objects ≡ objects_of text.now) }
@@ -73,7 +73,7 @@ fn index_name(alloc: Global, stem: &str) -> Result<PathName, NoMemory>
     PathName::new(alloc, name.as_str())
 }
 
-/// `STEM=OBJ,OBJ..;STEM=..`: one pack at least.
+/// `STEM=OBJ,OBJ..;STEM=..`: at least one pack.
 #[tactic(auto, unfolding(crate::specs::Content::items_of))]
 pub fn packs_of(alloc: Global, text: &str) -> Result<Option<Sequence<NamedPack>>, NoMemory>
     ensures packs { IfOk result (λ packs. packs ≡ packs_of text.now) }
@@ -91,7 +91,7 @@ pub fn packs_of(alloc: Global, text: &str) -> Result<Option<Sequence<NamedPack>>
     Ok(Some(packs))
 }
 
-/// Whether a pack can have so many objects.
+/// Whether a pack can have this many objects.
 pub fn are_few(objects: &[Object]) -> bool
     ensures few { result ≡ are_few objects.now }
 {

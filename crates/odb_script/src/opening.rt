@@ -12,7 +12,7 @@ use odb_base::NoMemory;
 use odb_disk::PathText;
 use std::alloc::Global;
 
-/// The opening of a store by its fields. One with an option that isn't built yet is judged by its options alone.
+/// The opening of a store by its fields. One with an option that isn't built yet is checked by its options alone.
 #[tactic(auto, unfolding(crate::specs::Opening::open_of))]
 pub fn open_of(alloc: Global, handle: &str, path: &str, options: &[&str]) -> Result<Item, NoMemory>
     ensures item { IfOk result (λ item. item ≡ open_of handle.now path.now (texts_of options.now)) }
@@ -60,7 +60,7 @@ fn opening_at(handle: u32, path: PathText, chosen: Chosen) -> Item
     }))
 }
 
-/// As many slots as were chosen, or as the store needs.
+/// The number of slots that was chosen, or as many as the store needs.
 fn slots_of(slots: Option<u16>) -> Slots
     ensures slots { result ≡ slots_of slots }
 {

@@ -16,7 +16,7 @@ use std::alloc::Global;
 /// The most bytes of a script, 64 MiB: a source that never ends is refused.
 pub const SCRIPT_LIMIT: usize = 67_108_864;
 
-/// How far a script is read: the calls that are to fail come first, then the setup of the disk, then the lines to play.
+/// How far a script is read: first the calls that will fail, then the setup of the disk, then the lines to play.
 #[derive(Drop)]
 pub enum Script {
     Faults(Sequence<u64>),
@@ -35,7 +35,7 @@ pub enum Taken {
     NotBuiltHere(Script),
 }
 
-/// Where a script ends: behind its last line, or at the line that has a number, counted from 1.
+/// Where a script ends: after its last line, or at the line with this number, counted from 1.
 #[derive(Clone, Copy)]
 pub enum Ending {
     Whole,
@@ -51,8 +51,8 @@ pub struct Reading {
 }
 
 impl Script {
-    /// The script with one line more. A line that is out of place is refused, and so is a change of the setup that
-    /// is impossible.
+    /// The script with one more line. A line that is out of place is refused, and so is a change of the setup that is
+    /// impossible.
     #[tactic(auto, unfolding(crate::specs::Script::taken))]
     pub fn take(self, alloc: Global, item: Item) -> Result<Taken, NoMemory>
         ensures taken { IfOk result (λ t. t ≡ taken self item) }
@@ -183,7 +183,7 @@ impl Reading {
     }
 }
 
-/// Reads a script, or the front of one that is longer than the limit, up to the first line that is refused or isn't
+/// Reads a script, or a prefix of one that is longer than the limit, up to the first line that is refused or isn't
 /// built.
 #[tactic(auto, unfolding(crate::specs::Script::items_of))]
 pub fn read(alloc: Global, bytes: &[u8]) -> Result<Reading, NoMemory>
@@ -196,7 +196,7 @@ pub fn read(alloc: Global, bytes: &[u8]) -> Result<Reading, NoMemory>
     }
 }
 
-/// Reads lines, of which the last is refused where they are cut off there.
+/// Reads lines. If they are cut off, the last is refused.
 #[tactic(auto, using(crate::proofs::ScriptLemmas::goes_on, crate::proofs::ScriptLemmas::refused, crate::proofs::ScriptLemmas::not_built, crate::proofs::ScriptLemmas::last))]
 fn read_lines(alloc: Global, bytes: &[u8], is_cut: bool) -> Result<Reading, NoMemory>
     requires short { length bytes.now ≤ SCRIPT_LIMIT }
@@ -217,7 +217,7 @@ fn read_lines(alloc: Global, bytes: &[u8], is_cut: bool) -> Result<Reading, NoMe
     with_last(script, alloc, rest, is_cut, number)
 }
 
-/// The script with the line more that is these bytes.
+/// The script with one more line, these bytes.
 fn with_text(script: Script, alloc: Global, line: &[u8]) -> Result<Taken, NoMemory>
     ensures taken { IfOk result (λ t. t ≡ taken script (item_of line.now)) }
 {
@@ -282,7 +282,7 @@ fn not_built_at(script: Script, number: u64) -> Reading
     }
 }
 
-/// The next line, which a line feed ends, and what follows it.
+/// The next line, up to a line feed, and what follows it.
 fn next_line(bytes: &[u8]) -> Option<(&[u8], &[u8])>
     ensures found { IfSome result (λ parts. lines_in bytes.now ≡ parts.0.now ∷ lines_in parts.1.now) }
     ensures shorter { IfSome result (λ parts. length parts.1.now < length bytes.now) }

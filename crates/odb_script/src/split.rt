@@ -5,14 +5,14 @@ ghost use Rattle.odb_script.specs.Split.{after_colon, after_equals, before_colon
 
 use std::alloc::{AllocError, Global};
 
-/// The fields of a line, which are split by one space.
+/// The fields of a line, which single spaces separate.
 pub fn fields_of<'a>(alloc: Global, line: &'a str) -> Result<Vec<&'a str>, AllocError>
     ensures fields { IfOk result (λ fields. texts_of fields.items ≡ fields_of line.now) }
 {
     parts_of(alloc, line, ' ')
 }
 
-/// What stands before the first colon, and what after it. All of a text without one stands before it.
+/// The text before the first colon, and the text after it; without a colon, all of it and nothing.
 pub fn at_colon(text: &str) -> (&str, &str)
     ensures before { result.0.now ≡ before_colon text.now }
     ensures after { result.1.now ≡ after_colon text.now }
@@ -23,7 +23,7 @@ pub fn at_colon(text: &str) -> (&str, &str)
     }
 }
 
-/// What stands before the first `=`, and what after it. All of a text without one stands before it.
+/// The text before the first `=`, and the text after it; without one, all of it and nothing.
 pub fn at_equals(text: &str) -> (&str, &str)
     ensures before { result.0.now ≡ before_equals text.now }
     ensures after { result.1.now ≡ after_equals text.now }
@@ -34,7 +34,7 @@ pub fn at_equals(text: &str) -> (&str, &str)
     }
 }
 
-/// The parts of a text, which one ASCII character splits.
+/// The parts of a text, which one ASCII character separates.
 pub fn parts_of<'a>(
     alloc: Global,
     text: &'a str,
@@ -46,7 +46,7 @@ pub fn parts_of<'a>(
     text.split(separator).collect(alloc)
 }
 
-/// The first part of some bytes, which a byte ends, and what follows it; none where the byte isn't there.
+/// The bytes before a separator, and those after it; None if it isn't there.
 pub fn first_part(bytes: &[u8], separator: u8) -> Option<(&[u8], &[u8])>
     ensures found { IfSome result (λ parts. slice_split (λ b. b == separator) bytes.now ≡ parts.0.now ∷ slice_split (λ b. b == separator) parts.1.now) }
     ensures shorter { IfSome result (λ parts. length parts.1.now < length bytes.now) }

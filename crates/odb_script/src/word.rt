@@ -16,7 +16,7 @@ pub enum Word {
     Clone,
     Close,
     Ignore,
-    /// A call that asks for so much of the object of an id.
+    /// A call that asks for so much of the object with an id.
     Ask(Want),
     Write,
     Stream,
@@ -28,7 +28,7 @@ pub enum Word {
     NotBuilt,
 }
 
-/// A word that may follow `do`: how another program changes the disk. With three of them lines of the setup begin too.
+/// A word that may follow `do`: how another program changes the disk. Lines of the setup begin with three of them too.
 #[derive(Clone, Copy, PartialEq, Eq)]
 pub enum ChangeWord {
     Mkdir,

@@ -26,7 +26,7 @@ pub fn write(alloc: Global, fields: &[&str]) -> Result<Item, NoMemory>
     }
 }
 
-/// A write of data with the size that the line says they have.
+/// A write of data with the size that the line gives.
 #[tactic(auto, unfolding(crate::specs::Line::line_item))]
 pub fn stream(alloc: Global, fields: &[&str]) -> Result<Item, NoMemory>
     ensures item { IfOk result (λ item. item ≡ line_item (Some Word.Stream) (texts_of fields.now)) }
@@ -41,7 +41,7 @@ pub fn stream(alloc: Global, fields: &[&str]) -> Result<Item, NoMemory>
     }
 }
 
-/// A write of data under an id that the line says they have.
+/// A write of data under the id that the line gives.
 #[tactic(auto, unfolding(crate::specs::Line::line_item))]
 pub fn writeas(alloc: Global, fields: &[&str]) -> Result<Item, NoMemory>
     ensures item { IfOk result (λ item. item ≡ line_item (Some Word.WriteAs) (texts_of fields.now)) }
@@ -55,7 +55,7 @@ pub fn writeas(alloc: Global, fields: &[&str]) -> Result<Item, NoMemory>
     }
 }
 
-/// How many bytes of data there are.
+/// The number of bytes of data.
 fn size_of(bytes: &Option<ByteList>) -> Option<u64>
     ensures size { result ≡ size_of bytes.now }
 {
@@ -83,7 +83,7 @@ fn write_under(
     }
 }
 
-/// The start of a write of data, of which a size is said.
+/// The start of a write of data with a given size.
 fn write_of(
     handle: Option<u32>,
     kind: Option<Kind>,

@@ -9,7 +9,7 @@ use Rattle.std.proofs.lemmas.Nat.{div-add-mod', mod_below}
 use Rattle.std.proofs.lemmas.Option.{same_Some}
 use Rattle.odb_shared.specs.Blocks.{AreFilled, joined}
 
--- ---- items of two lists that stand one after the other
+-- ---- items of two lists, one after the other
 
 slice_get-append_left : {X : Type 0} (xs ys : List X) (i : ℕ) → i < length xs → slice_get (xs ++ ys) i ≡ slice_get xs i
 slice_get-append_left [] ys i below = absurd (omega arith)
@@ -26,7 +26,7 @@ length_at_none [] i none = omega arith
 length_at_none (x ∷ xs) zero none = cc
 length_at_none (x ∷ xs) (suc i) none = omega (arith, length_at_none xs i none)
 
--- ---- a place is so many whole blocks and so many items behind the front
+-- ---- a place as a number of whole blocks and of items after them
 
 get_joined_at : {X : Type 0} (w : ℕ) (bs : List (List X)) (q r n : ℕ) (b : List X) → AreFilled w bs → n ≡ q * w + r → r < w → slice_get bs q ≡ Some b → slice_get (joined bs) n ≡ slice_get b r
 get_joined_at w [] q r n b filled e below at = cc
@@ -74,11 +74,11 @@ length_joined_le w (c ∷ d ∷ bs) filled = omega (arith, length-append c (join
 -- ---- the item at a place, and another item there
 
 module _ {X : Type 0} (w : ℕ) (bs : List (List X)) (i : ℕ) (filled : AreFilled w bs) (wide : 0 < w) where
-  -- an item stands in its block
+  -- an item is in its block
   pub get_joined : {b : List X} → slice_get bs (i / w) ≡ Some b → slice_get (joined bs) i ≡ slice_get b (i % w)
   get_joined {b} at = get_joined_at w bs (i / w) (i % w) i b filled (sym (div-add-mod' i w)) (mod_below i w wide) at
 
-  -- where there is no block, there is no item
+  -- if there is no block, there is no item
   pub joined_past : slice_get bs (i / w) ≡ None → length (joined bs) ≤ i
   joined_past none =
       omega (arith, length_joined_le w bs filled, mul-le-mul_right w (length_at_none bs (i / w) none), div-add-mod' i w)

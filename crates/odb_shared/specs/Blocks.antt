@@ -1,4 +1,4 @@
--- Lists that stand in blocks of one width.
+-- Lists in blocks of one width.
 use Rattle.std.specs.Prelude.{◌≡◌, ℕ, ◌≤◌, List, [], ◌∷◌, length, replicate, ⊤, Option, Some, None}
 use Rattle.std.specs.List.{flat_map}
 
@@ -6,13 +6,13 @@ use Rattle.std.specs.List.{flat_map}
 abbrev pub joined : {X : Type 0} → List (List X) → List X
 joined blocks = flat_map (λ block. block) blocks
 
--- each block has the width, but for the last, which may be shorter
+-- each block has the width, except the last, which may be shorter
 abbrev pub AreFilled : {X : Type 0} → ℕ → List (List X) → Type 0
 AreFilled width [] = ⊤
 AreFilled width (block ∷ []) = length block ≤ width
 AreFilled width (block ∷ next ∷ rest) = (length block ≡ width) × AreFilled width (next ∷ rest)
 
--- the places of a list: those of its blocks, and so many empty ones where it has none
+-- the places of a list: those of its blocks, and so many empty ones if it has none
 abbrev pub places_in : {X : Type 0} → ℕ → Option (List (List (Option X))) → List (Option X)
 places_in count None = replicate count None
 places_in count (Some blocks) = joined blocks

@@ -9,7 +9,7 @@ use std::alloc::Global;
 use std::marker::Model;
 use std::mem;
 
-/// A list of places so far: full blocks, and the places behind them.
+/// A list of places so far: full blocks, and the places after them.
 #[derive(Drop)]
 pub(crate) struct Filling<T> {
     full: Blocks<T>,
@@ -54,7 +54,7 @@ impl<T: Drop> Filling<T> {
         Ok(())
     }
 
-    /// The blocks, the last of them as far as it has come.
+    /// The blocks; the last may not be full.
     pub(crate) fn finish(self, alloc: Global) -> Result<Shared<Blocks<T>>, NoMemory>
         ensures filled { IfOk result (AreFilled 64) }
         ensures items { IfOk result (λ blocks. joined blocks ≡ self) }
@@ -65,7 +65,7 @@ impl<T: Drop> Filling<T> {
     }
 }
 
-/// Adds a block, which has one owner then. If that fails, the others stay.
+/// Adds a block, which then has one owner. On error the others stay.
 fn add_block<T: Drop>(
     alloc: Global,
     blocks: &mut Blocks<T>,

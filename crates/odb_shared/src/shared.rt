@@ -8,8 +8,8 @@ use std::sync::Arc;
 
 /// A value with several owners, in any threads, which contracts see as the value.
 ///
-/// It wraps an `Arc`. Contracts tell an `Arc` from a clone of it, since the place in memory is a part of it; here owners
-/// of one value are equal.
+/// It wraps an `Arc`. To contracts, an `Arc` and its clone differ, since the place in memory is a part of it; here
+/// owners of one value are equal.
 #[derive(Drop)]
 pub struct Shared<T> {
     owner: Arc<T>,
@@ -34,7 +34,7 @@ impl<T> Shared<T> {
         Ok(Shared { owner })
     }
 
-    /// A further owner. It takes no memory, and is refused where there are too many.
+    /// One more owner. It allocates no memory, and fails if there are too many.
     pub fn try_clone(&self) -> Result<Shared<T>, NoMemory>
         ensures value { IfOk result (λ shared. shared ≡ self.now) }
     {

@@ -15,7 +15,7 @@ pub(crate) const WIDTH: usize = 64;
 /// A place: it is empty, or has a value.
 pub(crate) type Place<T> = Option<Shared<T>>;
 
-/// Places that stand beside each other.
+/// Places next to each other.
 pub(crate) type Block<T> = Sequence<Place<T>>;
 
 /// Blocks, all full but perhaps the last.
@@ -23,8 +23,8 @@ pub(crate) type Blocks<T> = Sequence<Shared<Block<T>>>;
 
 /// A list of places, each empty or with a value, whose copies share what they have in common.
 ///
-/// The places stand in blocks, all full but perhaps the last. A list whose places are all empty may have none, and takes no
-/// memory beside itself then. A copy takes one further owner. A list with another item at one place has a block of its own
+/// The places are in blocks, all full but perhaps the last. A list whose places are all empty may have none, and then
+/// takes no memory beyond itself. A copy adds one owner. A list with another item at one place has a block of its own
 /// there, and shares the others.
 #[derive(Drop)]
 pub struct SharedList<T> {
@@ -47,7 +47,7 @@ impl<T> Model for SharedList<T> {
 }
 
 impl<T> SharedList<T> {
-    /// So many empty places. It takes no memory.
+    /// `count` empty places. It allocates no memory.
     pub fn empty(count: usize) -> SharedList<T>
         ensures items { result ≡ replicate count None }
     {
@@ -57,14 +57,14 @@ impl<T> SharedList<T> {
         }
     }
 
-    /// How many places there are.
+    /// The number of places.
     pub fn len(&self) -> usize
         ensures len { result ≡ length self.now }
     {
         self.len
     }
 
-    /// The value at a place, counted from 0. There is none where the place is empty, or behind the end.
+    /// The value at a place, counted from 0. None if the place is empty, or after the end.
     pub fn get(&self, place: usize) -> Option<&Shared<T>>
         ensures value { option_copied result ≡ unwrap_or (slice_get self.now place) None }
     {
@@ -106,7 +106,7 @@ impl<T: Drop> SharedList<T> {
         })
     }
 
-    /// The same list, with another item at one place. Beyond the list nothing changes.
+    /// The list with another item at one place. Beyond the end nothing changes.
     pub fn with(
         &self,
         alloc: Global,
@@ -123,7 +123,7 @@ impl<T: Drop> SharedList<T> {
         })
     }
 
-    /// Its blocks. Those of a list without any are made.
+    /// Its blocks. They are made if the list has none.
     fn own_blocks(&self, alloc: Global) -> Result<Shared<Blocks<T>>, NoMemory>
         ensures filled { IfOk result (AreFilled 64) }
         ensures places { IfOk result (λ blocks. joined blocks ≡ self.now) }
@@ -145,7 +145,7 @@ impl<T: Drop> SharedList<T> {
     }
 }
 
-/// So many empty places.
+/// `count` empty places.
 fn empty_places<T: Drop>(alloc: Global, count: usize) -> Result<Vec<Place<T>>, NoMemory>
     ensures items { IfOk result (λ items. items.items ≡ replicate count None) }
 {
@@ -156,7 +156,7 @@ fn empty_places<T: Drop>(alloc: Global, count: usize) -> Result<Vec<Place<T>>, N
     Ok(items)
 }
 
-/// Blocks of so many empty places.
+/// Blocks of `count` empty places.
 fn empty_blocks<T: Drop>(alloc: Global, count: usize) -> Result<Shared<Blocks<T>>, NoMemory>
     ensures filled { IfOk result (AreFilled 64) }
     ensures places { IfOk result (λ blocks. joined blocks ≡ replicate count None) }
@@ -168,7 +168,7 @@ fn empty_blocks<T: Drop>(alloc: Global, count: usize) -> Result<Shared<Blocks<T>
     filling.finish(alloc)
 }
 
-/// The places of blocks, of which there are so many in all.
+/// The places of blocks, `count` in all.
 fn places_of<T: Drop>(
     alloc: Global,
     blocks: &Blocks<T>,
@@ -183,7 +183,7 @@ fn places_of<T: Drop>(
     Ok(items)
 }
 
-/// Blocks with another item at one of their places. Behind the last nothing changes.
+/// Blocks with another item at one of their places. After the last nothing changes.
 fn with_item<T: Drop>(
     alloc: Global,
     blocks: &Shared<Blocks<T>>,
@@ -265,7 +265,7 @@ fn blocks_with<T: Drop>(
     Shared::new(alloc, Sequence::from_vec(copies))
 }
 
-/// Adds the places of a block, which have one owner more.
+/// Adds the places of a block; each gets one more owner.
 fn append<T: Drop>(items: &mut Vec<Place<T>>, block: &Block<T>) -> Result<(), NoMemory>
     ensures items { OnOk result (items.new.items ≡ items.old.items ++ block.now) }
 {
@@ -275,7 +275,7 @@ fn append<T: Drop>(items: &mut Vec<Place<T>>, block: &Block<T>) -> Result<(), No
     Ok(())
 }
 
-/// Adds blocks, which have one owner more.
+/// Adds blocks; each gets one more owner.
 fn append_blocks<T: Drop>(
     items: &mut Vec<Shared<Block<T>>>,
     blocks: &Blocks<T>,
@@ -288,7 +288,7 @@ fn append_blocks<T: Drop>(
     Ok(())
 }
 
-/// The same place, whose value has one owner more.
+/// The same place; its value gets one more owner.
 fn another_owner<T>(item: &Place<T>) -> Result<Place<T>, NoMemory>
     ensures item { IfOk result (λ copy. copy ≡ item.now) }
 {
@@ -298,7 +298,7 @@ fn another_owner<T>(item: &Place<T>) -> Result<Place<T>, NoMemory>
     }
 }
 
-/// Puts an item at a place, if there is that place.
+/// Puts an item at a place, if the list has that place.
 fn put<X: Drop>(items: &mut Vec<X>, place: usize, item: X)
     ensures items { items.new.items ≡ slice_set items.old.items place item }
 {

@@ -1,4 +1,4 @@
--- Laws of the calls that are to fail, as the set of their numbers.
+-- Laws of the calls that will fail, as the set of their numbers.
 use Rattle.std.proofs.Common.{◌≡◌, ℕ, Bool, true, false, ◌||◌, cond, List, [], ◌∷◌, ◌++◌, length, get_or, take, ◌+◌, ◌<◌, refl, sym, ap, ◌∙◌}
 use Rattle.std.specs.Ordering.{nat_cmp, eq_by_cmp}
 use Rattle.std.specs.Cmp.{nat_cmp_total}
@@ -15,7 +15,7 @@ cond-or : (b c : Bool) → cond b true c ≡ (b || c)
 cond-or true c = refl
 cond-or false c = refl
 
--- a number is among those of a set in the code where the set says so
+-- a number is in a set of the code if it is in the set of the specs
 pub contains-keys : (s : BTreeSet ℕ) (q : ℕ) → set.contains (set.from_list {R = nat_cmp} s.keys) q ≡ tree.contains nat_cmp s q
 contains-keys s q = set.contains-from_list nat_cmp_total s.keys q
 

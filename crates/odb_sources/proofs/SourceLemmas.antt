@@ -1,4 +1,4 @@
--- What was read of a source so far, and what was written to a sink so far.
+-- What was read from a source so far, and what was written to a sink so far.
 use Rattle.std.proofs.Common.{◌≡◌, ℕ, ◌+◌, ◌<◌, ◌≤◌, List, [], ◌++◌, length, take, drop, append-nil, append_assoc, Option}
 use Rattle.std.proofs.Common.{Some, None, Result, Ok, Err, refl, sym, ap, ◌∙◌, subst, arith, take-append-drop}
 use Rattle.std.proofs.Math.Seq.{take-append_seam}
@@ -47,7 +47,7 @@ ReadsFile-too_long limit (Some left) now text long bound so_far = (so_far.0, so_
 
 -- ---- what was written
 
--- a front of the bytes was written, and the rest is still to come
+-- a prefix of the bytes was written, and the rest is still to come
 pub record Written (before now : Option (List ℕ)) (bytes rest : List ℕ) : Type 0 where
   pub front : List ℕ
   pub whole : front ++ rest ≡ bytes
@@ -82,20 +82,20 @@ Written-more before now next bytes rest n w writes =
       added = Adds-more before now next w.front rest n w.added writes;
     }
 
--- all was written where nothing is still to come
+-- all was written if nothing is still to come
 pub Adds-all : (before now : Option (List ℕ)) (bytes rest : List ℕ) → rest ≡ [] → Written before now bytes rest → Adds before now bytes
 Adds-all before now bytes rest none w =
     let P : List ℕ → Type 0 = λ b. Adds before now b in
     subst P (sym (append-nil w.front) ∙ ap (λ r. w.front ++ r) (sym none) ∙ w.whole) w.added
 
--- a write that failed leaves a front
+-- a write that failed leaves a prefix
 pub Adds-front : (before now next : Option (List ℕ)) (bytes rest : List ℕ) (e : Failed) → Written before now bytes rest
     → Writes now next rest (Err e) → (count : ℕ) × Adds before next (take count bytes)
 Adds-front before now next bytes rest e w writes =
     let P : List ℕ → Type 0 = λ b. Adds before next b in
     (length w.front, subst P (sym (take-append_seam w.front rest) ∙ ap (take (length w.front)) w.whole) (Adds-failed before now next w.front rest e w.added writes))
 
--- what holds anyway holds of an error
+-- what always holds, holds of an error
 pub OnErr-always : {T E P : Type 0} (r : Result T E) → P → OnErr r P
 OnErr-always (Ok x) p = tt
 OnErr-always (Err e) p = p

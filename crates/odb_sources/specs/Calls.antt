@@ -6,7 +6,7 @@ use Rattle.std.specs.Coded.{Coded, code_by, coded×, coded_ℕ}
 use Rattle.odb_base.specs.Faults.{risen}
 
 pub record Calls : Type 0 where
-  -- the calls so far; the count stands still at its greatest value
+  -- the number of calls; it saturates
   pub made : ℕ
   -- the numbers of the calls that fail
   pub listed : set.FinSet nat_cmp
@@ -17,7 +17,7 @@ coded_calls =
     code_by (ℕ × (set.FinSet nat_cmp × ℕ)) (coded× coded_ℕ (coded× (set.code coded_ℕ) coded_ℕ)) (λ c. (c.made, (c.listed, c.faults)))
     (λ p. record { made = p.0; listed = p.1.0; faults = p.1.1 }) (λ _. refl)
 
--- no calls yet, and those that are to fail
+-- no calls yet, and those that will fail
 abbrev pub no_calls : set.FinSet nat_cmp → Calls
 no_calls listed = record { made = 0; listed = listed; faults = 0 }
 
@@ -25,7 +25,7 @@ no_calls listed = record { made = 0; listed = listed; faults = 0 }
 abbrev pub next_call : Calls → ℕ
 next_call calls = risen calls.made
 
--- whether the next call is one of those that are to fail
+-- whether the next call will fail
 abbrev pub next_fails : Calls → Bool
 next_fails calls = set.contains calls.listed (next_call calls)
 

@@ -1,4 +1,4 @@
--- Which failures of the system a read or a write is tried again after.
+-- After which failures of the system a read or a write is tried again.
 use Rattle.std.specs.Prelude.{Bool, true, false}
 use Rattle.std.specs.declared.io.ErrorKind.{ErrorKind}
 use Rattle.std.specs.declared.io.ErrorKind.TheVariants.{Interrupted}

@@ -4,7 +4,7 @@ use std::alloc::Global;
 use std::collections::BTreeSet;
 use std::marker::Model;
 
-/// The calls of something in memory that is made to fail at some of them.
+/// The calls of something in memory, some of which are made to fail.
 #[derive(Drop)]
 pub struct Calls {
     made: u64,
@@ -30,7 +30,7 @@ impl Calls {
     ghost use Rattle.odb_base.specs.Faults.{Rose};
     ghost use Rattle.odb_sources.specs.Calls.{no_calls, next_fails, after_call};
 
-    /// No calls yet, and none that is to fail.
+    /// No calls yet, and none that will fail.
     pub fn new(alloc: Global) -> Calls
         ensures empty { result ≡ no_calls set.empty }
     {
@@ -41,7 +41,7 @@ impl Calls {
         }
     }
 
-    /// No calls yet, of which those with these numbers, counted from 1, are to fail.
+    /// No calls yet; those with these numbers, counted from 1, will fail.
     pub fn with_faults(alloc: Global, calls: &[u64]) -> Result<Calls, NoMemory>
         ensures listed { IfOk result (λ c. c ≡ no_calls (set.from_list calls.now)) }
     {
@@ -56,7 +56,7 @@ impl Calls {
         })
     }
 
-    /// Whether the next call is to fail.
+    /// Whether the next call will fail.
     pub fn next_fails(&self) -> bool
         ensures fails { result ≡ next_fails self.now }
     {
@@ -76,14 +76,14 @@ impl Calls {
         }
     }
 
-    /// How many calls there were, which stands still at its greatest value.
+    /// The number of calls; it saturates.
     pub fn made(&self) -> u64
         ensures count { result ≡ self.now.made }
     {
         self.made
     }
 
-    /// How many calls failed.
+    /// The number of calls that failed.
     pub fn faults(&self) -> u64
         ensures count { result ≡ self.now.faults }
     {

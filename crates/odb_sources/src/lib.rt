@@ -1,7 +1,7 @@
-//! Sources and sinks: bytes that come in and go out, in memory and over readers and writers of std; and the counts of
-//! calls in memory, of which some are made to fail.
+//! Sources and sinks: bytes that come in and go out, in memory and over readers and writers of std; and counts of
+//! calls in memory, some of which are made to fail.
 //!
-//! A read or a write fails only where the count of faults rose.
+//! A read or a write fails only if the count of faults rose.
 //! ```rust
 //! let mut sink = MemSink::new(alloc);
 //! write_all(&mut sink, b"blob 0\0")?;

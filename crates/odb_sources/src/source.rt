@@ -23,18 +23,18 @@ pub enum ReadError {
     NoMemory,
 }
 
-/// How many bytes are asked for at a time: `piece_length` of `specs/Source.antt`.
+/// The number of bytes asked for at a time: `piece_length` of `specs/Source.antt`.
 const PIECE: usize = 65_536;
 
-/// Bytes that come in. A source takes no memory.
+/// Bytes that come in. A source allocates no memory.
 pub trait Source {
-    /// The bytes that are left, where the source tells them.
+    /// The bytes that are left, if the source reports them.
     ghost left: { Self → Option (List ℕ) };
 
-    /// How often a read has failed: a count that never falls, and rises only there.
+    /// How often a read has failed: a count that never falls, and rises only then.
     ghost faults: { Self → ℕ };
 
-    /// Reads bytes to the front of `out`, and answers how many. 0 for a buffer that isn't empty is the end.
+    /// Reads bytes to the front of `out`, and returns their number. 0 for a buffer that isn't empty is the end.
     fn read(&mut self, out: &mut [u8]) -> Result<usize, Failed>
         ensures count { IfOk result (λ n. n ≤ length out.old) }
         ensures bytes { Reads (left self.old) (left self.new) out.new result }
@@ -42,15 +42,15 @@ pub trait Source {
         ensures same { OnOk result (faults self.new ≡ faults self.old) };
 }
 
-/// Where bytes go out. A sink takes no memory of its caller's.
+/// Where bytes go out. A sink allocates no memory of its caller's.
 pub trait Sink {
-    /// The bytes that the sink holds, where it tells them.
+    /// The bytes that the sink holds, if it reports them.
     ghost held: { Self → Option (List ℕ) };
 
     /// How often a write has failed: a count that never falls.
     ghost faults: { Self → ℕ };
 
-    /// Writes bytes from the front of `bytes`, and answers how many: some, where there are any.
+    /// Writes bytes from the front of `bytes`, and returns their number: at least one, if there are any.
     fn write(&mut self, bytes: &[u8]) -> Result<usize, Failed>
         ensures count { IfOk result (λ n. n ≤ length bytes.now) }
         ensures some { IfOk result (λ n. n ≡ 0 → length bytes.now ≡ 0) }
@@ -102,12 +102,12 @@ pub fn write_all<K: Sink>(sink: &mut K, bytes: &[u8]) -> Result<(), Failed>
 
 /// A source in memory.
 ///
-/// It numbers its reads from 1. A read whose number is listed fails and takes nothing; each other one takes
-/// as many bytes as there are and as fit.
+/// It numbers its reads from 1. A read whose number is listed fails and takes nothing; each other one takes as many
+/// bytes as are left and fit.
 #[derive(Drop)]
 pub struct MemSource {
     bytes: Vec<u8>,
-    /// How many of the bytes are read. The rest are left.
+    /// The number of bytes already read.
     taken: usize,
     calls: Calls,
 }
@@ -130,7 +130,7 @@ impl MemSource {
     ghost use Rattle.std.specs.FinSet as set;
     ghost use Rattle.odb_sources.specs.Calls.{no_calls};
 
-    /// A source of these bytes, no read of which is to fail.
+    /// A source of these bytes. No read will fail.
     pub fn new(bytes: Vec<u8>) -> MemSource
         ensures whole { result ≡ record { left = bytes.items; calls = no_calls set.empty } }
     {
@@ -142,7 +142,7 @@ impl MemSource {
         }
     }
 
-    /// A source of these bytes whose reads with these numbers, counted from 1, fail.
+    /// A source of these bytes. The reads with these numbers, counted from 1, will fail.
     pub fn with_faults(alloc: Global, bytes: Vec<u8>, calls: &[u64]) -> Result<MemSource, NoMemory>
         ensures whole { IfOk result (λ source. source ≡ record { left = bytes.items; calls = no_calls (set.from_list calls.now) }) }
     {
@@ -161,7 +161,7 @@ impl MemSource {
         &self.bytes[self.taken..]
     }
 
-    /// How many reads have failed so far.
+    /// The number of reads that failed.
     pub fn faults(&self) -> u64
         ensures count { result ≡ self.now.calls.faults }
     {
@@ -201,8 +201,8 @@ impl Source for MemSource {
 
 /// A sink in memory.
 ///
-/// It numbers its writes from 1. A write whose number is listed fails and adds nothing; each other one adds
-/// its whole piece, and fails only where there is no memory to grow.
+/// It numbers its writes from 1. A write whose number is listed fails and adds nothing; each other one adds its whole
+/// piece, and fails only if there is no memory to grow.
 #[derive(Drop)]
 pub struct MemSink {
     bytes: Vec<u8>,
@@ -226,7 +226,7 @@ impl MemSink {
     ghost use Rattle.std.specs.FinSet as set;
     ghost use Rattle.odb_sources.specs.Calls.{no_calls};
 
-    /// An empty sink, no write of which is to fail.
+    /// An empty sink. No write will fail.
     pub fn new(alloc: Global) -> MemSink
         ensures held { result.held ≡ [] }
         ensures calls { result.calls ≡ no_calls set.empty }
@@ -237,7 +237,7 @@ impl MemSink {
         }
     }
 
-    /// An empty sink whose writes with these numbers, counted from 1, fail.
+    /// An empty sink. The writes with these numbers, counted from 1, will fail.
     pub fn with_faults(alloc: Global, calls: &[u64]) -> Result<MemSink, NoMemory>
         ensures held { IfOk result (λ sink. sink.held ≡ []) }
         ensures calls { IfOk result (λ sink. sink.calls ≡ no_calls (set.from_list calls.now)) }
@@ -263,7 +263,7 @@ impl MemSink {
         self.bytes
     }
 
-    /// How many writes have failed so far.
+    /// The number of writes that failed.
     pub fn faults(&self) -> u64
         ensures count { result ≡ self.now.calls.faults }
     {

@@ -7,18 +7,18 @@ ghost use Rattle.odb_sources.specs.Retry.{is_retried};
 use crate::{Failed, Sink, Source};
 use std::io::{ErrorKind, Read, Write};
 
-/// How often a read or a write is tried that is interrupted each time. One that is interrupted still fails, so that none
-/// goes on for ever.
+/// How often an interrupted read or write is tried. One that is interrupted each time fails, so that none goes on
+/// forever.
 const TRIES: u32 = 1_000_000;
 
-/// Whether a read or a write is tried again that failed so: only where it was interrupted.
+/// Whether a read or a write that failed so is tried again: only if it was interrupted.
 fn is_retried(kind: ErrorKind) -> bool
     ensures retried { result ≡ is_retried kind }
 {
     kind == ErrorKind::Interrupted
 }
 
-/// A source over a reader of std. It doesn't tell its bytes; where the reader does, a read gives them in order, and
+/// A source over a reader of std. It doesn't report its bytes; if the reader does, a read gives them in order, and
 /// nothing only at their end.
 #[derive(Drop)]
 pub struct StdSource<R> {
@@ -42,7 +42,7 @@ impl<R: Read> StdSource<R> {
         self.inner
     }
 
-    /// How many reads have failed so far.
+    /// The number of reads that failed.
     pub fn faults(&self) -> u64
         ensures count { result ≡ self.now.faults }
     {
@@ -73,7 +73,7 @@ impl<R: Read> Source for StdSource<R> {
     }
 }
 
-/// A sink over a writer of std. It doesn't tell its bytes; where the writer does, a write adds what it takes at their end.
+/// A sink over a writer of std. It doesn't report its bytes; if the writer does, a write adds what it takes at their end.
 #[derive(Drop)]
 pub struct StdSink<W> {
     inner: W,
@@ -96,7 +96,7 @@ impl<W: Write> StdSink<W> {
         self.inner
     }
 
-    /// How many writes have failed so far.
+    /// The number of writes that failed.
     pub fn faults(&self) -> u64
         ensures count { result ≡ self.now.faults }
     {

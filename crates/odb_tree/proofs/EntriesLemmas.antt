@@ -1,4 +1,4 @@
--- The entries of a directory, by the order of paths: what lies below it comes right behind it.
+-- The entries of a directory, by the order of paths: what is below it comes right after it.
 use Rattle.std.proofs.Common.{◌≡◌, ◌≢◌, ◌&&◌, ℕ, Bool, true, false, cond, List, [], ◌∷◌, ◌++◌, length, get_or, map, Bor, Some, None, Result, Ok, Err, refl, sym, ap, ◌∙◌, append-nil, arith}
 use Rattle.std.specs.Option.{option_map}
 use Rattle.std.specs.Ordering.{is_lt}
@@ -30,14 +30,14 @@ use Rattle.odb_nodes.proofs.WriteCallsLemmas.Spots.{led_to}
 abbrev pub Nodes : Type 0
 Nodes = List (Path × Node)
 
--- ---- what lies right in a directory
+-- ---- what is directly in a directory
 
 pub name_in-below : (directory rest : Path) → name_in directory (directory ++ rest) ≡ name_in [] rest
 unfolding name_in
 name_in-below [] rest = refl
 name_in-below (step ∷ steps) rest = ap (λ b. cond b (name_in steps (steps ++ rest)) None) (nat_list_eq_equiv.refl step) ∙ name_in-below steps rest
 
--- a node has no entry where no name leads to its path
+-- a node has no entry if no name leads to its path
 pub no_entry : (directory : Path) (at : Path × Node) → ((name : Name) → at.0 ≡ directory ++ name ∷ [] → ⊥) → entry_in directory at ≡ None
 no_entry directory at none = elim (name_in directory at.0) as (λ o. name_in directory at.0 ≡ o → option_map (entry_of at.1) o ≡ None) [
   | None ↦ λ _. refl
@@ -45,7 +45,7 @@ no_entry directory at none = elim (name_in directory at.0) as (λ o. name_in dir
 ] refl
 
 module _ (directory : Path) where
-  -- the nodes that come behind the directory
+  -- the nodes after the directory
   abbrev pub behind : Nodes → Nodes
   behind es = entries_between path_cmp (Excluded directory) Unbounded es
 

@@ -1,5 +1,4 @@
--- The last node on the way of a path at which nothing stands: the front that the path has in common with what
--- comes just before it.
+-- The last node on the way of a path at which nothing is: the common prefix of the path and of what is just before it.
 use Rattle.std.proofs.Common.{◌≡◌, ◌≢◌, true, false, ◌&&◌, [], ◌∷◌, ◌++◌, length, drop, Option, Some, None, IsSome, refl, sym, ap, subst, ◌∙◌, append_assoc, append-nil}
 use Rattle.std.specs.Ordering.{ordering_then, is_lt}
 use Rattle.std.specs.declared.cmp.Ordering.TheVariants.{Less, Equal, Greater}
@@ -17,19 +16,19 @@ use Rattle.odb_nodes.proofs.TreeLemmas.Follow.{IsShort, IsDir-from, way_is_direc
 
 -- ---- paths in order
 
--- a path isn't before its own front
+-- a path isn't before its own prefix
 front_not_behind : (front rest : Path) → path_cmp (front ++ rest) front ≢ Less
 front_not_behind [] [] e = cc
 front_not_behind [] (name ∷ rest) e = cc
 front_not_behind (step ∷ front) rest e =
     front_not_behind front rest (sym (ap (λ o. ordering_then o (path_cmp (front ++ rest) front)) (tied_itself nat_list_cmp_total step)) ∙ e)
 
--- what goes beyond a path is behind it
+-- what goes beyond a path is after it
 beyond_behind : (front : Path) (name : Name) (rest : Path) → path_cmp front (front ++ name ∷ rest) ≡ Less
 beyond_behind [] name rest = refl
 beyond_behind (step ∷ front) name rest = ap (λ o. ordering_then o (path_cmp front (front ++ name ∷ rest))) (tied_itself nat_list_cmp_total step) ∙ beyond_behind front name rest
 
--- what stands between a front and a path that goes beyond it begins with the front
+-- what is between a prefix and a path that goes beyond it begins with the prefix
 begins_between : (front q rest : Path) → is_lt (path_cmp q front) ≡ false → path_cmp q (front ++ rest) ≡ Less → starts_with same_name q front ≡ true
 begins_between [] q rest behind before = refl
 begins_between (step ∷ front) [] rest behind before = absurd (false≢true (sym behind))
@@ -45,7 +44,7 @@ begins_between (step ∷ front) (x ∷ q) rest behind before =
 
 -- ---- the last node on the way
 
--- the root comes before each other path
+-- the root is before each other path
 root_first : (t : Tree) → IsTree t → (path : Path) → node_at t path ≡ None → path_cmp [] path ≡ Less
 root_first t is_tree [] absent = absurd (false≢true (sym (ap is_directory absent) ∙ is_tree.root))
 root_first t is_tree (name ∷ path) absent = refl
@@ -54,12 +53,12 @@ pub some_not_none : {A : Type 0} (o : Option A) → IsSome o → o ≢ None
 some_not_none None h e = false≢true h
 some_not_none (Some x) h e = cc
 
--- something comes before a path at which nothing stands
+-- something is before a path at which nothing is
 pub some_before : (t : Tree) (path : Path) → IsTree t → node_at t path ≡ None → ¬ IsLastBefore t path None
 some_before t path is_tree absent none = false≢true (sym (ap is_directory (none [] (root_first t is_tree path absent))) ∙ is_tree.root)
 
 module _ (t : Tree) (path last way : Path) (is_tree : IsTree t) (absent : node_at t path ≡ None) (before : IsLastBefore t path (Some last)) (common : IsCommonFront path last way) where
-  -- the front that both have is a node
+  -- the common prefix is a node
   stands : (its : Path) → last ≡ way ++ its → IsSome (node_at t way)
   stands [] is = subst (λ q. IsSome (node_at t q)) (is ∙ append-nil way) before.1
   stands (name ∷ its) is =
@@ -73,7 +72,7 @@ module _ (t : Tree) (path last way : Path) (is_tree : IsTree t) (absent : node_a
   pub way_stands : IsSome (node_at t way)
   way_stands = stands common.its common.other_is
 
-  -- nothing stands at the next name: it would come between
+  -- nothing is at the next name: it would be in between
   nothing_next : (name : Name) (names : Path) → path ≡ way ++ name ∷ names → common.own ≡ name ∷ names → IsSome (node_at t (way ++ name ∷ [])) → ⊥
   nothing_next name [] is own_is stands_there = some_not_none _ stands_there (ap (node_at t) (sym is) ∙ absent)
   nothing_next name (next ∷ names) is own_is stands_there =

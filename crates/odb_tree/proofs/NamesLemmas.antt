@@ -1,4 +1,4 @@
--- That the first path behind a directory's tells whether the directory has names in it.
+-- The first path after a directory's shows whether the directory has names in it.
 use Rattle.std.proofs.Common.{◌≡◌, Bool, true, false, not, ◌&&◌, [], ◌∷◌, ◌++◌, length, take, drop, Some, None, refl, sym, ap, ◌∙◌, append-nil, append_assoc}
 use Rattle.std.specs.Ordering.{ordering_then, ordering_reverse, is_gt}
 use Rattle.std.specs.declared.cmp.Ordering.TheVariants.{Less, Equal, Greater}
@@ -19,7 +19,7 @@ use Rattle.odb_nodes.proofs.TreeLemmas.Change.{no_names_below, nil_names}
 
 -- ---- paths in order
 
--- a directory comes before what lies right in it
+-- a directory is before what is directly in it
 pub before_names : (directory : Path) (name : Name) → path_cmp directory (directory ++ name ∷ []) ≡ Less
 before_names [] name = refl
 before_names (step ∷ steps) name = ap (λ o. ordering_then o (path_cmp steps (steps ++ name ∷ []))) (tied_itself nat_list_cmp_total step) ∙ before_names steps name
@@ -58,7 +58,7 @@ begins_parts directory q begins = ap (λ front. front ++ drop (length directory)
 -- ---- the names in a directory of a tree
 
 module _ (t : Tree) (is_tree : IsTree t) (directory : Path) where
-  -- a node below a directory, and so one right in it
+  -- a node below a directory, and so one directly in it
   not_nil : (names : Path) (n : Node) → path_cmp directory (directory ++ names) ≡ Less → node_at t (directory ++ names) ≡ Some n → is_nil (names_in t directory) ≡ false
   not_nil [] n behind at = absurd (let whole = ap (path_cmp directory) (append-nil directory) ∙ tied_itself path_order directory in let both : Less ≡ Equal = sym behind ∙ whole in cc)
   not_nil (name ∷ []) n behind at = false_from_ne_true _ (λ nil. no_names_below t directory nil name n at)

@@ -71,7 +71,7 @@ put_in_room t u p n others = same_tree _ _ (λ q. elim (cases_path q p) [
   | inr other ↦ node_at-put_other u p n q other ∙ others q other ∙ sym (node_at-put_other t p n q other)
 ])
 
--- a node put where it stands changes nothing
+-- a node put where it is changes nothing
 pub put_same : (t : Tree) (p : Path) (n : Node) → node_at t p ≡ Some n → with_node t p n ≡ t
 put_same t p n at = same_tree _ _ (λ q. elim (cases_path q p) [
   | inl is ↦ ap (node_at (with_node t p n)) is ∙ node_at-put t p n ∙ sym (ap (node_at t) is ∙ at)

@@ -1,4 +1,4 @@
--- From the steps of following a path to what a look and a read answer.
+-- From the steps of following a path to the answers of a stat and a read.
 use Rattle.std.proofs.Common.{◌≡◌, ℕ, Bool, true, [], Result, Ok, Err, ap}
 use Rattle.odb_base.specs.Path.{Path}
 use Rattle.odb_nodes.specs.Tree.{Tree}

@@ -1,4 +1,4 @@
--- The steps of a directory's move: the paths below it, the copies, and what is taken out.
+-- The steps of a directory's move: the paths below it, the copies, and what is removed.
 pub mod Below
 pub mod Copies
 pub use Below.*

@@ -1,4 +1,4 @@
--- That a tree in memory of the root alone is well kept.
+-- A tree in memory of the root alone is well kept.
 use Rattle.std.proofs.Common.{◌≡◌, [], ◌∷◌, sym, subst}
 use Rattle.odb_nodes.specs.Tree.{IsTree, tree_of_entries, bare_tree}
 use Rattle.odb_nodes.specs.TreeNumbers.{AreNumbers}

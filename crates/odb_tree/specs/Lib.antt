@@ -1,4 +1,4 @@
--- What a tree is, by the crate below; from WellKept on, what only this crate's own proofs cite.
+-- What a tree is, from the crate below; from WellKept on, what only this crate's own proofs cite.
 pub use Rattle.odb_nodes.specs.Node
 pub use Rattle.odb_nodes.specs.Tree
 pub use Rattle.odb_nodes.specs.Entries

@@ -10,7 +10,7 @@ use Rattle.odb_nodes.specs.Tree.Nodes.{entries_of}
 use Rattle.odb_nodes.specs.Entries.{entry_in}
 use Rattle.odb_nodes.specs.declared.entry.Entry.{Entry}
 
--- the entries of a directory whose paths come behind another one
+-- the entries of a directory whose paths are after another one
 abbrev pub entries_after : Tree → Path → Path → List Entry
 entries_after tree directory last = filter_map (entry_in directory) (entries_between path_cmp (Excluded last) Unbounded (entries_of tree))
 

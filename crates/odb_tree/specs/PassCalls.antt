@@ -1,4 +1,4 @@
--- What a pass along a path comes to in a tree in memory. No public clause cites this.
+-- The result of a pass along a path in a tree in memory. No public clause cites this.
 use Rattle.std.specs.Prelude.{◌≡◌, Option, Some, None, Result, Ok, Err}
 use Rattle.odb_base.specs.Path.{Path}
 use Rattle.odb_nodes.specs.Tree.Follow.{Pass, Reached, Onward, Missing, Blocked}
@@ -7,7 +7,7 @@ use Rattle.odb_tree.specs.declared.tree.follow.Way.{Way}
 use Rattle.odb_tree.specs.declared.tree.follow.Way.TheVariants as ways
 use Rattle.odb_nodes.specs.TreeCalls.{Ends}
 
--- a pass along a path comes to the node there, or to a link that leads on
+-- a pass along a path ends at the node there, or at a link that leads on
 abbrev pub Comes : Path → Result Way DiskError → Pass → Type 0
 Comes path (Ok (ways.Reached node)) told = told ≡ Reached path node.now
 Comes path (Ok (ways.Onward onward)) told = told ≡ Onward onward

@@ -7,14 +7,14 @@ use Rattle.odb_base.specs.Path.{Path, path_cmp, same_name}
 use Rattle.odb_nodes.specs.Tree.{Tree, node_at, with_node, without}
 use Rattle.odb_nodes.specs.declared.node.Node.{Node}
 
--- the first node behind a path lies below a directory
+-- the first node after a path is below a directory
 pub record IsNextBelow (tree : Tree) (base last path : Path) : Type 0 where
   pub below : starts_with same_name path base ≡ true
   pub behind : path_cmp last path ≡ Less
   pub stands : IsSome (node_at tree path)
   pub least : (q : Path) → path_cmp last q ≡ Less → IsSome (node_at tree q) → is_gt (path_cmp path q) ≡ false
 
--- no node behind a path lies below a directory
+-- no node after a path is below a directory
 abbrev pub NoneBehind : Tree → Path → Path → Type 0
 NoneBehind tree base last = (q : Path) → starts_with same_name q base ≡ true → path_cmp last q ≡ Less → node_at tree q ≡ None
 
@@ -27,7 +27,7 @@ pub record ArePathsBelow (tree : Tree) (base : Path) (paths : List Path) : Type 
   pub stand : (q : Path) → is_among q paths ≡ true → IsSome (node_at tree q)
   pub all : (q : Path) → starts_with same_name q base ≡ true → IsSome (node_at tree q) → is_among q paths ≡ true
 
--- where a path moves
+-- the path to which a path moves
 abbrev pub moved_path : Path → Path → Path → Path
 moved_path from to path = to ++ drop (length from) path
 
@@ -44,7 +44,7 @@ with_copies tree [] targets = tree
 with_copies tree (source ∷ sources) [] = tree
 with_copies tree (source ∷ sources) (target ∷ targets) = with_copies (with_copy tree source target) sources targets
 
--- the tree without what stands at these paths
+-- the tree without what is at these paths
 abbrev pub without_all : Tree → List Path → Tree
 without_all tree [] = tree
 without_all tree (path ∷ paths) = without_all (without tree path) paths

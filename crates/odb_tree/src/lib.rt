@@ -1,7 +1,7 @@
-//! The tree of a disk in memory: what stands at which path, and what changes and calls make of it.
+//! The tree of a disk in memory: what is at which path, and what changes and calls do to it.
 //!
-//! Read `tree` first. What a tree is, how a path is followed and what a change makes of it is said in `odb_nodes`, whose
-//! names this crate hands on.
+//! Read `tree` first. `odb_nodes` says what a tree is, how a path is followed and what a change does; this crate
+//! re-exports its names.
 //! ```rust
 //! let mut tree = Tree::bare(alloc)?;
 //! let path = PathText::parse(alloc, "/o")?;

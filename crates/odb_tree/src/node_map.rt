@@ -14,7 +14,7 @@ use std::alloc::Global;
 use std::collections::{BTreeMap, BTreeSet};
 use std::ops::Bound;
 
-/// Puts a node at a path. A refused call changes nothing, and comes only where nothing stands there.
+/// Puts a node at a path. It fails only if nothing is there, and then changes nothing.
 pub(crate) fn put(
     nodes: &mut BTreeMap<PathText, Node>,
     path: PathText,
@@ -28,7 +28,7 @@ pub(crate) fn put(
     Ok(())
 }
 
-/// Puts other contents into the node at a path.
+/// Gives the node at a path other contents.
 pub(crate) fn put_content(nodes: &mut BTreeMap<PathText, Node>, path: &PathText, content: Content)
     ensures made { (node : NodeValue) → node_at (tree_of_entries nodes.old.entries) path.now ≡ Some node
         → tree_of_entries nodes.new.entries ≡ with_node (tree_of_entries nodes.old.entries) path.now (record node { content = content }) }
@@ -47,7 +47,7 @@ pub(crate) fn put_time(nodes: &mut BTreeMap<PathText, Node>, path: &PathText, ti
     }
 }
 
-/// Adds bytes at the end of the file at a path. A refused call changes nothing.
+/// Appends bytes to the file at a path. On error nothing changes.
 pub(crate) fn append(
     nodes: &mut BTreeMap<PathText, Node>,
     path: &PathText,
@@ -63,8 +63,8 @@ pub(crate) fn append(
     }
 }
 
-/// Moves the node at a path to another path, over what stands there. A refused call changes nothing, and comes
-/// only where nothing stands there.
+/// Moves the node at a path to another path, over what is there. It fails only if nothing is there, and then changes
+/// nothing.
 pub(crate) fn move_node(
     alloc: Global,
     nodes: &mut BTreeMap<PathText, Node>,
@@ -83,8 +83,7 @@ pub(crate) fn move_node(
     Ok(())
 }
 
-/// Puts a node at a path where nothing stands, to be put over. A refused call changes nothing, and comes only
-/// where nothing stands there.
+/// Puts a node where nothing is, as room for another. It fails only if nothing is there, and then changes nothing.
 fn make_room(
     alloc: Global,
     nodes: &mut BTreeMap<PathText, Node>,
@@ -106,8 +105,7 @@ fn make_room(
     put(nodes, path.try_clone(alloc)?, room)
 }
 
-/// Puts a node at a path, over what stands there. A refused call changes nothing, and comes only where nothing
-/// stands there.
+/// Puts a node at a path, over what is there. It fails only if nothing is there, and then changes nothing.
 pub(crate) fn put_over(
     alloc: Global,
     nodes: &mut BTreeMap<PathText, Node>,
@@ -133,14 +131,14 @@ fn put_node(nodes: &mut BTreeMap<PathText, Node>, path: &PathText, node: Node)
     }
 }
 
-/// Takes the node at a path out.
+/// Removes the node at a path.
 pub(crate) fn take(nodes: &mut BTreeMap<PathText, Node>, path: &PathText)
     ensures taken { tree_of_entries nodes.new.entries ≡ without (tree_of_entries nodes.old.entries) path.now }
 {
     let _ = nodes.remove(path);
 }
 
-/// Whether a directory has names in it: the first path behind its own lies below it then.
+/// Whether a directory has names in it, by the first path after its own.
 pub(crate) fn has_names(nodes: &BTreeMap<PathText, Node>, directory: &PathText) -> bool
     requires is_tree { IsTree (tree_of_entries nodes.now.entries) }
     ensures names { result ≡ not (is_nil (names_in (tree_of_entries nodes.now.entries) directory.now)) }
@@ -154,7 +152,7 @@ pub(crate) fn has_names(nodes: &BTreeMap<PathText, Node>, directory: &PathText) 
     }
 }
 
-/// The last path before another one that has a node.
+/// The last path with a node before another path.
 pub(crate) fn path_before<'a>(
     nodes: &'a BTreeMap<PathText, Node>,
     path: &PathText,
@@ -170,8 +168,8 @@ pub(crate) fn path_before<'a>(
     }
 }
 
-/// The number of a new node at a path: the least that is free. The number of the node that stands there is free from
-/// now on. A refused call changes nothing.
+/// The number of a new node at a path: the least that is free. The number of the node already there is freed. On
+/// error nothing changes.
 pub(crate) fn number_for(
     nodes: &BTreeMap<PathText, Node>,
     path: &PathText,
@@ -187,7 +185,7 @@ pub(crate) fn number_for(
     Ok(number)
 }
 
-/// The least number that is free: the least of `free`, else `next`, unless no number can come after it.
+/// The least free number: the least of `free`, else `next`, unless no number can follow that.
 fn least_number(free: &BTreeSet<u64>, next: u64) -> Result<u64, NoMemory>
     ensures least { IfOk result (IsLeastFree free.now.keys next) }
 {
@@ -198,7 +196,7 @@ fn least_number(free: &BTreeSet<u64>, next: u64) -> Result<u64, NoMemory>
     }
 }
 
-/// Frees the number of the node at a path, if there is one. A refused call changes nothing.
+/// Frees the number of the node at a path, if there is one. On error nothing changes.
 pub(crate) fn free_number(
     nodes: &BTreeMap<PathText, Node>,
     path: &PathText,
@@ -213,7 +211,7 @@ pub(crate) fn free_number(
     Ok(())
 }
 
-/// Takes a number that is free, so that it is a node's from now on.
+/// Takes a free number for a node.
 pub(crate) fn use_number(number: u64, free: &mut BTreeSet<u64>, next: &mut u64)
     requires room { number ≡ next.old → next.old < last_number }
     ensures next { next.new ≡ (if number == next.old then next.old + 1 else next.old) }

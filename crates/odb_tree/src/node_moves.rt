@@ -1,4 +1,4 @@
-//! Moves of a directory with all below it: its nodes are copied to their new paths, and then taken from the old
+//! Moves of a directory with all below it: its nodes are copied to their new paths, and then removed from the old
 //! ones, so that a move that runs out of memory changes nothing.
 ghost use Rattle.std.specs.Prelude.{◌≡◌, ◌++◌, ◌∷◌, [], ℕ, true, false, map, length, drop, IfOk, OnOk, OnErr, IsSome, IfSome, Some, None};
 ghost use Rattle.std.specs.Option.{IfNone};
@@ -15,7 +15,7 @@ use std::alloc::Global;
 use std::collections::BTreeMap;
 use std::ops::Bound;
 
-/// Moves a directory and what lies below it to where nothing stands. A refused call changes nothing.
+/// Moves a directory and what is below it to where nothing is. On error nothing changes.
 pub(crate) fn move_below(
     alloc: Global,
     nodes: &mut BTreeMap<PathText, Node>,
@@ -42,7 +42,7 @@ pub(crate) fn move_below(
     }
 }
 
-/// The paths of the nodes at and below `from`, and where each of them moves to.
+/// The paths of the nodes at and below `from`, and the path to which each of them moves.
 fn paths_below(
     alloc: Global,
     nodes: &BTreeMap<PathText, Node>,
@@ -64,7 +64,7 @@ fn paths_below(
     Ok((sources, targets))
 }
 
-/// Adds a path that lies below `from` or is it, and where it moves to.
+/// Adds a path that is `from` or below it, and the path to which it moves.
 fn add_move(
     alloc: Global,
     sources: &mut Vec<PathText>,
@@ -82,7 +82,7 @@ fn add_move(
     Ok(())
 }
 
-/// The first node behind a path, where it lies below a directory. The path is the directory's or lies below it.
+/// The first node after a path, if it is below a directory. The path is the directory's or below it.
 pub(crate) fn next_below<'a>(
     nodes: &'a BTreeMap<PathText, Node>,
     base: &PathText,
@@ -102,7 +102,7 @@ pub(crate) fn next_below<'a>(
     }
 }
 
-/// Where a path moves that lies below `from` or is it.
+/// The path to which a path moves that is `from` or below it.
 pub(crate) fn moved_path(
     alloc: Global,
     path: &PathText,
@@ -118,7 +118,7 @@ pub(crate) fn moved_path(
     }
 }
 
-/// Puts a copy of each node at a path of its own. A refused call leaves what stands elsewhere as it was.
+/// Puts a copy of each node at a path of its own. On error what is elsewhere stays.
 fn put_copies(
     alloc: Global,
     nodes: &mut BTreeMap<PathText, Node>,
@@ -135,7 +135,7 @@ fn put_copies(
     Ok(())
 }
 
-/// Puts a copy of the node at a path to another path. A refused call changes nothing.
+/// Puts a copy of the node at a path to another path. On error nothing changes.
 fn put_copy(
     alloc: Global,
     nodes: &mut BTreeMap<PathText, Node>,
@@ -152,7 +152,7 @@ fn put_copy(
     put(nodes, target.try_clone(alloc)?, copy)
 }
 
-/// Takes out what stands at each of these paths.
+/// Removes what is at each of these paths.
 fn take_all(nodes: &mut BTreeMap<PathText, Node>, paths: &[PathText])
     ensures taken { tree_of_entries nodes.new.entries ≡ without_all (tree_of_entries nodes.old.entries) paths.now }
 {

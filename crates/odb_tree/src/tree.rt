@@ -1,4 +1,4 @@
-//! The tree of a disk in memory: its nodes, and what stands at a path by its names alone.
+//! The tree of a disk in memory: its nodes, and what is at a path by its names alone.
 use crate::node_map::{
     append, copied, copied_numbers, number_for, put_content, put_over, use_number,
 };
@@ -14,10 +14,10 @@ mod list;
 mod possible;
 mod write;
 
-/// The tree of a disk in memory: what stands at each path.
+/// The tree of a disk in memory: what is at each path.
 ///
-/// Nodes are kept by their paths, so a look-up is a search in a map. The least inode number that no node has
-/// is the least of `free_inos`, else `next_ino`: each number from 1 below `next_ino` is a node's or free.
+/// Nodes are kept by their paths, so a look-up is a search in a map. The least inode number that no node has is the
+/// least of `free_inos`, else `next_ino`: each number from 1 below `next_ino` is a node's or free.
 #[derive(Debug, Drop)]
 pub struct Tree {
     nodes: BTreeMap<PathText, Node>,
@@ -39,7 +39,7 @@ impl Model for Tree {
     ghost invariant = { IsWellKept };
 }
 
-/// The most links that are followed on the way of a path: as many as Linux follows (`MAXSYMLINKS`).
+/// The most links that are followed on the way of a path: as many as in Linux (`MAXSYMLINKS`).
 const MAX_LINKS: u8 = 40;
 
 impl Tree {
@@ -68,7 +68,7 @@ impl Tree {
         })
     }
 
-    /// The node that stands at a path, by its names alone.
+    /// The node at a path, by its names alone.
     fn node(&self, path: &PathText) -> Option<&Node>
         ensures value { option_copied result ≡ node_at self.now path.now }
         ensures is_tree { IsTree self.now }
@@ -105,7 +105,7 @@ impl Tree {
         }
     }
 
-    /// Whether a link stands at a path, by its names alone.
+    /// Whether a link is at a path, by its names alone.
     fn stands_link(&self, path: &PathText) -> bool
         ensures link { result ≡ is_link (node_at self.now path.now) }
     {
@@ -115,7 +115,7 @@ impl Tree {
         }
     }
 
-    /// Whether a file stands at a path, by its names alone.
+    /// Whether a file is at a path, by its names alone.
     fn stands_file(&self, path: &PathText) -> bool
         ensures file { result ≡ is_file (node_at self.now path.now) }
     {
@@ -125,7 +125,7 @@ impl Tree {
         }
     }
 
-    /// The device of the directory that a path lies in.
+    /// The device of the directory that contains a path.
     fn device_above(&self, alloc: Global, path: &PathText) -> Result<u64, NoMemory>
         requires lies { lies_in_directory self.now path.now ≡ true }
         ensures device { IfOk result (λ dev. dev ≡ device_of (parent_node self.now path.now)) }
@@ -139,7 +139,7 @@ impl Tree {
         }
     }
 
-    /// Puts a new node at a path, with the least inode number that is free. A refused call changes nothing.
+    /// Puts a new node at a path, with the least free inode number. On error nothing changes.
     fn put_new(
         &mut self,
         alloc: Global,
@@ -158,7 +158,7 @@ impl Tree {
         Ok(())
     }
 
-    /// Puts other contents into the node at a path.
+    /// Gives the node at a path other contents.
     fn put_content(&mut self, path: &PathText, content: Content)
         requires lies { lies_in_directory self.old path.now ≡ true }
         requires no_directory { is_directory (node_at self.old path.now) ≡ false }
@@ -168,7 +168,7 @@ impl Tree {
         put_content(&mut self.nodes, path, content);
     }
 
-    /// Adds bytes at the end of the file at a path. A refused call changes nothing.
+    /// Appends bytes to the file at a path. On error nothing changes.
     fn append_at(&mut self, path: &PathText, more: &[u8]) -> Result<(), NoMemory>
         requires stands { IsSome (node_at self.old path.now) }
         requires file { IfSome (node_at self.old path.now) (λ node. is_file_content node.content ≡ true) }

@@ -1,4 +1,4 @@
--- Two rows at most that have different paths.
+-- At most two rows, of different paths.
 use Rattle.std.proofs.Common.{◌≡◌, ◌<◌, ◌≤◌, Bool, true, false, not, List, [], ◌∷◌, length, slice_index_or, refl, arith}
 use Rattle.std.specs.List.{IsDistinct}
 use Rattle.gix_odb_events.specs.PackFiles.{same_path, HasDifferentPaths}

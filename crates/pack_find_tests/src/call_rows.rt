@@ -1,10 +1,10 @@
-//! Rows of calls, each on a handle of its own, and driven by what it asks for.
+//! Rows of calls, each on its own handle, driven by its asks.
 use crate::listed_rows::ONE;
 use crate::table::{Opening, check};
 use std::test::Fail;
 
-// The calls after the first find the index and the pack loaded. A miss asks the loose folder once more behind a listing,
-// and looks whether the list is still the newest.
+// The calls after the first find the index and the pack loaded. A miss asks the loose folder once more after a
+// listing, and reads the core to see whether the list is still the newest.
 const PACKED: &[&str] = &[
     "call find hello | view; open /o/pack; next; next; next; close; look /o/pack/a.idx; look! /o/pack/a.pack; publish; read /o/pack/a.idx; put-index 0; read /o/pack/a.pack; put-pack 0; found blob 6 hello\n",
     "call find hello | view; found blob 6 hello\n",
@@ -36,10 +36,10 @@ const HEADER_FAILS: &[&str] = &[
     "call write world | view; open /o/pack; next; close; publish; new /o/tmp_obj_0; append /o/tmp_obj_0; remove /o/tmp_obj_0; refused: could not write header to tempfile in /o",
 ];
 
-/// The tables, and above them the mistakes that they would show.
+/// The tables, each with the mistakes that it would catch.
 const TABLES: &[(Opening, &[&str], &[&str])] = &[
-    // A call that reads again what is loaded, ends a miss without a listing or without the loose folder behind it, or has
-    // another reply.
+    // A call that reads again what is loaded, ends a miss without a listing or without asking the loose folder after
+    // it, or has another reply.
     ((&[], 0), ONE, PACKED),
     // A write that doesn't list the store first, or under whose name another object is found.
     ((&[], 0), &["make /o", "make /o/pack"], LOOSE),

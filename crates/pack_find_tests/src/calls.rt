@@ -1,4 +1,4 @@
-//! Calls on a handle are driven by what they ask for.
+//! Calls on a handle, driven by their asks.
 use crate::files::{bytes_of, id_of};
 use crate::happening::happen_for;
 use crate::openings::first_view;
@@ -122,7 +122,7 @@ fn store_parts(alloc: Global) -> Result<StoreParts, Fail> {
     })
 }
 
-/// A handle on `/o` that has seen nothing yet.
+/// A handle on `/o` that has no view yet.
 fn new_handle(alloc: Global) -> Result<HandleState, Fail> {
     let parts = store_parts(alloc)?;
     let view = first_view(alloc)?;
@@ -145,7 +145,7 @@ fn put_on_new(
     Ok(put_on(alloc, disk, core, &handle, call, text)?)
 }
 
-/// Puts the calls, the events and the reply of a call on a new handle behind a text.
+/// Appends the disk calls, the events and the reply of a call on a new handle to a text.
 pub fn put_call(
     alloc: Global,
     disk: &mut MemDisk,

@@ -21,7 +21,7 @@ fn made(alloc: Global, disk: &mut MemDisk, change: &Change) -> Result<(), Fail> 
     Ok(disk.change(alloc, change)?)
 }
 
-/// Changes a disk as another program does, which is no call of it.
+/// Changes a disk as another program, without a call of it.
 pub fn change(alloc: Global, disk: &mut MemDisk, verb: &str, rest: &str) -> Result<(), Fail> {
     let change = match verb {
         "make" | "link" | "take" => change_of(alloc, verb, rest)?,

@@ -14,7 +14,7 @@ const TEXTS: &[(Error, &str)] = &[
     ),
 ];
 
-// The text of another error, or without its number.
+// The text of another error, or one without its number.
 #[test]
 fn texts_of_errors(rt: HostRuntime) -> Result<(), Fail> {
     for (error, want) in TEXTS {

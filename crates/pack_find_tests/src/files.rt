@@ -1,4 +1,4 @@
-//! The files that stand on the disk: indices and packs of blobs, each of a word and a line feed, and bytes by hand.
+//! The files on the disk: indices and packs of blobs, each of a word and a line feed, and bytes by hand.
 use gix_hash::{Kind, ObjectId};
 use gix_object::compute_hash;
 use gix_pack::{Object, data, index};
@@ -38,7 +38,7 @@ fn hash_of(alloc: Global, word: &str) -> Result<ObjectId, NoMemory> {
     compute_hash(alloc, Kind::Sha1, kind, bytes.as_slice())
 }
 
-/// The id that a word is, or else that of the blob of the word.
+/// The id that a word spells, or otherwise that of the blob of the word.
 pub fn id_of(alloc: Global, word: &str) -> Result<ObjectId, NoMemory> {
     match ObjectId::from_hex(word.as_bytes()) {
         Ok(id) => Ok(id),
@@ -61,7 +61,7 @@ fn encoded(alloc: Global, verb: &str, words: &str) -> Result<ByteList, Fail> {
     written(alloc, verb, objects.as_slice())
 }
 
-// A pack that says that it has one object, with these bytes as its entry.
+// A pack that claims to have one object, with these bytes as its entry.
 fn pack_by_hand(alloc: Global, entry: &[u8]) -> Result<ByteList, NoMemory> {
     let mut bytes = ByteList::from_slice(alloc, b"PACK\0\0\0\x02\0\0\0\x01")?;
     bytes.extend_from_slice(entry)?;
@@ -79,8 +79,8 @@ fn by_hand(alloc: Global, verb: &str, words: &str) -> Result<ByteList, NoMemory>
     }
 }
 
-/// What a file has: `index WORD ..` and `pack WORD ..`, `zeros`, which are more bytes than an index of three objects has,
-/// packs whose entry is a `delta`, has `type-5` or is missing (`bare`), and `text WORD ..`.
+/// The contents of a file: `index WORD ..` and `pack WORD ..`, `zeros`, which are more bytes than an index of three
+/// objects has, packs whose entry is a `delta`, has `type-5` or is missing (`bare`), and `text WORD ..`.
 pub fn contents_of(alloc: Global, verb: &str, words: &str) -> Result<ByteList, Fail> {
     if verb == "index" || verb == "pack" {
         return encoded(alloc, verb, words);

@@ -1,4 +1,4 @@
-//! What happens to a core, as far as it can.
+//! Events on a core, if they can happen.
 ghost use Rattle.std.specs.Prelude.{◌≡◌, true};
 ghost use Rattle.gix_odb_core.specs.History.{present};
 ghost use Rattle.gix_odb_core.specs.Replay.{CanHappen};
@@ -11,7 +11,7 @@ ghost use Rattle.gix_odb_looks.specs.Exchange.{IsAnswerTo};
 use gix_odb_core::{Core, Effect, Event, ListingRow, Refusal};
 use std::alloc::Global;
 
-/// Whether these are two rows at most, and of different paths.
+/// Whether these are at most two rows, of different paths.
 fn are_apart(rows: &[ListingRow]) -> bool
     ensures apart { result ≡ true → HasDifferentPaths rows.now }
 {
@@ -34,7 +34,7 @@ fn can_happen(core: &Core, event: &Event) -> bool
     }
 }
 
-/// What an event of the first seat answers. One that can't happen is refused here, in a way that no row wants.
+/// The answer to an event of the first seat. One that can't happen is refused here, in a way that no row expects.
 pub fn happen(alloc: Global, core: &mut Core, event: Event) -> Result<Effect, Refusal> {
     if can_happen(core, &event) {
         core.apply(alloc, 0, event)
@@ -43,7 +43,7 @@ pub fn happen(alloc: Global, core: &mut Core, event: Event) -> Result<Effect, Re
     }
 }
 
-/// The same, as an answer that the event can have.
+/// Returns what an event of the first seat answers, as an answer that the event can have.
 pub fn happen_for(alloc: Global, core: &mut Core, event: Event) -> Result<Effect, Refusal>
     ensures suits { IsAnswerTo (asks.Core event) (told.Core result) }
 {

@@ -1,8 +1,8 @@
-//! What no clause of `gix_odb_packs` says: that packs are found, by which calls and events, and what ends the way there; and
-//! openings and calls of `gix_odb`, driven to their replies.
+//! What no clause of `gix_odb_packs` says: that packs are found, by which calls and events, and what ends a search;
+//! and openings and calls of `gix_odb`, driven to their replies.
 //!
 //! Each test is a table of rows in words, played on a disk in memory and on a core. A row changes the disk, or asks a
-//! question, and has behind a bar what is to come of it; `table` says which words there are.
+//! question, and has after a bar the expected result; `table` defines the words.
 #![tactic(auto)]
 
 #[cfg(test)]

@@ -1,4 +1,4 @@
-//! Rows of listings. An index of one object has 1,100 bytes, and 28 more for each further one.
+//! Rows of listings. An index of one object has 1,100 bytes, and 28 for each further one.
 use crate::table::{Opening, check};
 use std::test::Fail;
 
@@ -120,18 +120,18 @@ const LOOK_AT_THE_PACK: &[&str] = &[
     "order /o | rows /o/pack/a.idx 1100",
 ];
 
-/// The tables, and above them the mistakes that they would show.
+/// The tables, each with the mistakes that it would catch.
 const TABLES: &[(Opening, &[&str], &[&str])] = &[
-    // A folder that isn't there taken for a broken one, or a broken one for none; a folder behind a link that is left out.
+    // An absent folder taken for a broken one, or the other way round; a linked folder that is left out.
     ((&[], 0), BARE, NO_INDICES),
     ((&[], 0), BARE, LINKED),
-    // A name alone that makes an index, a pack without its index or the other way round, or a link taken for what it leads to.
+    // An index by its name alone, a pack without its index or the other way round, or a link mistaken for its target.
     ((&[], 0), BARE, KINDS_OF_INDICES),
     ((&[], 0), BARE, KINDS_OF_PACKS),
-    // A folder that ends the listing, or rows of one length that change places.
+    // A folder that ends the listing, or rows of equal length in the wrong order.
     ((&[], 0), BARE, TWO_FOLDERS),
     ((&[], 0), BARE, LENGTHS),
-    // A failed call that is passed over, or a stream that stays open behind it.
+    // A failed call that is passed over, or a stream that stays open after it.
     ((&[1], 0), ONE, OPEN),
     ((&[2], 0), ONE, FIRST_NEXT),
     ((&[4], 0), ONE, LAST_NEXT),

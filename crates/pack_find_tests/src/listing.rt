@@ -1,4 +1,4 @@
-//! A disk is listed, and its rows are published.
+//! Listing a disk, and publishing its rows.
 use crate::happening::happen;
 use crate::shown::{put_ask, put_refusal, put_rows, put_todo};
 use gix_odb_core::{Core, Effect, Event, Listing, Refusal};
@@ -21,7 +21,7 @@ fn paths_of(alloc: Global, words: &str) -> Result<Vec<PathText>, Fail> {
     Ok(paths)
 }
 
-/// The answer to the next call of a listing, which is put behind a text.
+/// The answer to the next call of a listing, which is appended to a text.
 fn answered(
     alloc: Global,
     disk: &mut MemDisk,
@@ -44,7 +44,7 @@ fn step(
     lister.feed(alloc, folders, answer)
 }
 
-/// What a listing comes to, unless it is broken.
+/// Returns the result of a listing, unless it is broken.
 fn listing_of(
     alloc: Global,
     disk: &mut MemDisk,
@@ -63,7 +63,7 @@ fn listing_of(
     Ok(None)
 }
 
-/// The listing of folders in words, the objects directory first, after a list of a number. Its calls are put behind a text.
+/// Lists folders in words, the objects directory first, after a list of a number. Its calls are appended to a text.
 fn listed(
     alloc: Global,
     disk: &mut MemDisk,
@@ -79,7 +79,7 @@ fn listed(
     Ok(listing_of(alloc, disk, folders, lister, text)?)
 }
 
-/// Puts the calls and the rows of a listing behind a text, in the order in which they are tried.
+/// Appends the calls and the rows of a listing to a text, in the order in which they are tried.
 pub fn put_list(
     alloc: Global,
     disk: &mut MemDisk,
@@ -102,7 +102,7 @@ fn whole(alloc: Global, disk: &mut MemDisk, words: &str, base: u64) -> Result<Li
     }
 }
 
-/// Puts the rows of a listing behind a text, in the order in which they are tried.
+/// Appends the rows of a listing to a text, in the order in which they are tried.
 pub fn put_order(
     alloc: Global,
     disk: &mut MemDisk,
@@ -122,7 +122,7 @@ fn put_published(text: &mut Text, answer: &Result<Effect, Refusal>) {
     }
 }
 
-/// Publishes a listing after the core's list, and puts what is to be loaded behind a text.
+/// Publishes a listing after the core's list, and appends what is to be loaded to a text.
 pub fn publish(
     alloc: Global,
     disk: &mut MemDisk,

@@ -1,4 +1,4 @@
-//! Openings are driven by what they ask for.
+//! Openings, driven by their asks.
 use crate::happening::happen;
 use crate::shown::{put_ask, put_numbered, put_reply};
 use gix_hash::Kind;
@@ -17,7 +17,7 @@ fn disk_answer(alloc: Global, disk: &mut MemDisk, ask: DiskAsk, text: &mut Text)
     answer
 }
 
-/// The view of a core that has read nothing yet. No opening looks at how many slots a core has.
+/// Returns the view of a core that has read nothing yet. No opening reads how many slots a core has.
 pub fn first_view(alloc: Global) -> Result<View, Fail> {
     let mut core = Core::new(alloc, 1, 1)?;
     let answer = happen(alloc, &mut core, Event::Register { stable: false });
@@ -92,7 +92,7 @@ fn options_of(words: &str) -> Options {
     options
 }
 
-/// Puts the calls of an opening, the slots with which it registers its handle, and its reply behind a text.
+/// Appends the calls of an opening, the slots with which it registers its handle, and its reply to a text.
 pub fn put_opening(
     alloc: Global,
     disk: &mut MemDisk,

@@ -14,7 +14,7 @@ fn put_named(text: &mut Text, word: &str, path: &PathText) {
     text.marked(" ", path);
 }
 
-/// Puts a call of the disk behind a text. A look with `!` follows links.
+/// Appends a call of the disk to a text. A stat with `!` follows links.
 pub fn put_ask(text: &mut Text, ask: &DiskAsk) {
     match ask {
         DiskAsk::OpenDir { path } => put_named(text, "open", path),
@@ -52,13 +52,13 @@ fn put_pass(text: &mut Text, slot: u16, why: PassWhy) {
     text.put(word_of_why(why));
 }
 
-/// Puts a word with a number behind a text.
+/// Appends a word with a number to a text.
 pub fn put_numbered(text: &mut Text, word: &str, slot: u64) {
     text.next(word);
     text.marked(" ", slot);
 }
 
-/// Puts an event of the core behind a text, with its slot where it has one.
+/// Appends an event of the core to a text, with its slot if it has one.
 pub fn put_event(text: &mut Text, event: &Event) {
     match event {
         Event::PutIndex { slot, .. } => put_numbered(text, "put-index", u64::from(*slot)),
@@ -70,7 +70,7 @@ pub fn put_event(text: &mut Text, event: &Event) {
     }
 }
 
-/// Puts the rows of a listing behind a text, each with its length.
+/// Appends the rows of a listing to a text, each with its length.
 pub fn put_rows(text: &mut Text, rows: &[ListingRow]) {
     text.next("rows");
     for row in rows {
@@ -79,7 +79,7 @@ pub fn put_rows(text: &mut Text, rows: &[ListingRow]) {
     }
 }
 
-/// Puts indices that are still to be loaded behind a text, each with its slot.
+/// Appends indices that are to be loaded to a text, each with its slot.
 pub fn put_todo(text: &mut Text, rest: Result<TodoRest, NoMemory>) {
     text.next("todo");
     let Ok(mut rest) = rest else {
@@ -99,7 +99,7 @@ fn put_unloaded(text: &mut Text, todo: Result<Option<Todo>, NoMemory>) {
     text.marked(":", todo.path.value());
 }
 
-/// Puts a refusal of the core behind a text.
+/// Appends a refusal of the core to a text.
 pub fn put_refusal(text: &mut Text, refusal: Refusal) {
     text.next(match refusal {
         Refusal::InsufficientSlots { .. } => "insufficient-slots",
@@ -155,7 +155,7 @@ fn put_error(text: &mut Text, error: Error) {
     }
 }
 
-/// Puts what trying came to behind a text.
+/// Appends the result of a search to a text.
 pub fn put_end(text: &mut Text, tried: &Tried) {
     match tried {
         Tried::More(_) => text.next("no end"),
@@ -173,7 +173,7 @@ fn put_header(text: &mut Text, header: Header) {
     }
 }
 
-/// Puts the reply of a call or of an opening behind a text.
+/// Appends the reply of a call or of an opening to a text.
 pub fn put_reply(alloc: Global, text: &mut Text, reply: &Reply) -> Result<(), NoMemory> {
     match reply {
         Reply::Opened { slots } => put_numbered(text, "opened", u64::from(*slots)),

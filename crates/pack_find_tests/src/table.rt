@@ -1,12 +1,12 @@
 //! A disk in memory and a core, on which the rows of a table are played.
 //!
-//! `list FOLDER ..` lists folders, the objects directory first, and tells the calls and the rows; `order FOLDER ..` tells
-//! the rows in the order in which they are tried; `publish FOLDER ..` publishes them, and tells what is to be loaded.
-//! `find WORD`, `header WORD` and `has WORD` seek an id, or the blob of a word, `find WORD LIMIT` within a limit, and tell the calls,
-//! the events and the end. `opening FOLDER` opens a store and tells its calls, the slots with which its handle is registered,
-//! and its reply; `opening FOLDER PERCENT MINIMUM` with so many slots in a hundred of its indices, and a number at least.
-//! `call find WORD`, `call header WORD`, `call has WORD` and `call write WORD` make a call on a new handle on `/o`, and tell
-//! the calls, the events and the reply. Any other row is a change of the disk.
+//! `list FOLDER ..` lists folders, the objects directory first, and shows the calls and the rows; `order FOLDER ..`
+//! shows the rows in the order in which they are tried; `publish FOLDER ..` publishes them, and shows what is to be
+//! loaded. `find WORD`, `header WORD` and `has WORD` seek an id, or the blob of a word, `find WORD LIMIT` within a
+//! limit, and show the calls, the events and the end. `opening FOLDER` opens a store and shows its calls, the slots with
+//! which its handle is registered, and its reply; `opening FOLDER PERCENT MINIMUM` with this percentage of its indices
+//! as slots, and at least the minimum. `call find WORD`, `call header WORD`, `call has WORD` and `call write WORD` make
+//! a call on a new handle on `/o`, and show the calls, the events and the reply. Any other row is a change of the disk.
 use crate::calls::put_call;
 use crate::disks::change;
 use crate::happening::happen;
@@ -94,7 +94,7 @@ fn check_on(
     check_both(alloc, disk, &mut core, made, rows)
 }
 
-/// Plays the rows of a table, each `WORDS | WHAT COMES OF IT`, on a disk that other rows make.
+/// Plays the rows of a table, each `WORDS | EXPECTED RESULT`, on a disk made by other rows.
 pub fn check(alloc: Global, opening: Opening, made: &[&str], rows: &[&str]) -> Result<(), Fail> {
     let (faults, state) = opening;
     let mut disk = MemDisk::with_faults(alloc, faults)?;

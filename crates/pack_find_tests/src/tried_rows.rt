@@ -3,7 +3,7 @@ use crate::listed_rows::ONE;
 use crate::table::{Opening, check};
 use std::test::Fail;
 
-// A longer index stands before the other.
+// A longer index comes before the other.
 const TWO: &[&str] = &[
     "make /o",
     "make /o/pack",
@@ -21,7 +21,7 @@ const AT_ONCE: &[&str] = &[
     "find world | missed",
 ];
 
-// The id is that of `git hash-object`.
+// The id is from `git hash-object`.
 const BY_AND_BY: &[&str] = &[
     "publish /o | todo 0:/o/pack/a.idx",
     "has hello | read /o/pack/a.idx; put-index 0; present",
@@ -161,9 +161,9 @@ const GREATEST_STATE: &[&str] = &[
     "find hello | read /o/pack/a.idx; put-index 0; generation-overflow",
 ];
 
-/// The tables, and above them the mistakes that they would show.
+/// The tables, each with the mistakes that it would catch.
 const TABLES: &[(Opening, &[&str], &[&str])] = &[
-    // A file that is read again, or more of them than are needed; a limit that a header has.
+    // A file that is read again, or more files than are needed; a header look-up with a limit.
     ((&[], 0), ONE, AT_ONCE),
     ((&[], 0), ONE, BY_AND_BY),
     ((&[], 0), ONE, LIMITS),
@@ -175,15 +175,15 @@ const TABLES: &[(Opening, &[&str], &[&str])] = &[
     ((&[], 0), TWO, ANOTHER_PACK),
     ((&[], 0), ONE, NO_INDEX),
     ((&[], 0), TWO, ANOTHER_INDEX),
-    // A failed read that isn't told, or that is remembered for the next search.
+    // A failed read that isn't reported, or that is remembered for the next search.
     ((&[7], 0), ONE, READ_OF_THE_INDEX),
     ((&[8], 0), ONE, READ_OF_THE_PACK),
     ((&[11], 0), TWO, READ_OF_ONE_OF_TWO),
-    // An entry that is taken for another one.
+    // An entry mistaken for another one.
     ((&[], 0), ONE, DELTA),
     ((&[], 0), ONE, UNKNOWN_TYPE),
     ((&[], 0), ONE, NO_ENTRY),
-    // A refusal of the core that the search goes on behind.
+    // A refusal of the core after which the search goes on.
     ((&[], u64::MAX - 1), ONE, GREATEST_STATE),
 ];
 

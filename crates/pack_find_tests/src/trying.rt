@@ -1,4 +1,4 @@
-//! An object is sought in the packs that a core lists.
+//! Seeking an object in the packs that a core lists.
 use crate::files::id_of;
 use crate::happening::happen;
 use crate::shown::{put_ask, put_end, put_event};
@@ -18,7 +18,7 @@ fn want_of(verb: &str) -> Want {
     }
 }
 
-// A word, and a limit where there is one.
+// A word, and a limit if there is one.
 fn goal_of(alloc: Global, verb: &str, words: &str) -> Result<Goal, NoMemory> {
     let (word, limit) = cut(words);
     Ok(Goal {
@@ -44,12 +44,12 @@ fn carried_out(
             put_event(text, &event);
             Answer::Core(happen(alloc, core, event))
         }
-        // A search has no core made.
+        // A search never asks for a new core.
         Ask::NewCore { .. } => Answer::Core(Err(Refusal::NoMemory)),
     }
 }
 
-/// The answer to the next call or event of a search, which is put behind a text.
+/// The answer to the next call or event of a search, which is appended to a text.
 fn answered(
     alloc: Global,
     disk: &mut MemDisk,
@@ -89,7 +89,7 @@ fn finish(
     Ok(tried)
 }
 
-/// Begins with what a core shows.
+/// Begins with the view of a core.
 fn begun(alloc: Global, view: &View, goal: Goal) -> Result<Tried, NoMemory> {
     let indices = view.snapshot.indices.rest()?;
     let todo = view.todo.rest()?;
@@ -97,7 +97,7 @@ fn begun(alloc: Global, view: &View, goal: Goal) -> Result<Tried, NoMemory> {
     Trier::start(alloc, goal, indices, todo, notes)
 }
 
-/// Puts the calls, the events and the end of a search behind a text.
+/// Appends the calls, the events and the end of a search to a text.
 pub fn put_tried(
     alloc: Global,
     disk: &mut MemDisk,

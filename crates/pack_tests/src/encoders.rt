@@ -1,4 +1,4 @@
-//! Indices and multi-pack indices that are written, beside those that Git makes of the same packs.
+//! Indices and multi-pack indices that are written, compared with those that Git makes of the same packs.
 use crate::words::{compare_bytes, joined, put_counts};
 use gix_hash::Kind;
 use gix_pack::{NamedPack, Object, index, multi_index};
@@ -82,9 +82,9 @@ fn check_index(alloc: Global, objects: &[Object], pack: &[u8], own: &[u8]) -> Re
     compare_bytes("index", &found, &want)
 }
 
-// Rows in the order of the objects, the last object's place for an id that comes twice, or a hash of other bytes.
-// The two hashes of each index, the pack's and its own, were computed by Python's hashlib over bytes that were put
-// together there by the format.
+// Rows in the order of the objects, the last object's offset for an id that comes twice, or a hash of other bytes.
+// The two hashes of each index, the pack's and its own, were computed by Python's hashlib over bytes that were
+// assembled there from the format.
 #[test]
 fn writes_indices(rt: HostRuntime) -> Result<(), Fail> {
     for (texts, pack, own) in INDICES {
@@ -109,10 +109,10 @@ const THREE_PACKS: Packs = &[
     ("pack-c1.idx", &[VERSION_2, HELLO]),
 ];
 
-// What stands before and behind the counts of the multi-indices that `git multi-pack-index write` (Git 2.39) made of
-// these packs. Each pack lay with its index in `.git/objects/pack` of an empty repository
-// (`git init --object-format=..`). Python put both together from the format, as `encode` writes them: entries that are
-// not compressed, and CRC values of zeros.
+// The bytes before and after the counts of the multi-indices that `git multi-pack-index write` (Git 2.39) made of
+// these packs. Each pack was with its index in `.git/objects/pack` of an empty repository (`git init
+// --object-format=..`). Python assembled both from the format, as `encode` writes them: entries that are not
+// compressed, and CRC values of zeros.
 const BEFORE_SHA1: &[u8] = b"MIDX\x01\x01\x04\0\0\0\0\x02\
     PNAM\0\0\0\0\0\0\0\x48\
     OIDF\0\0\0\0\0\0\0\x60\
@@ -213,7 +213,7 @@ fn writes_multi_indices_as_git_does(rt: HostRuntime) -> Result<(), Fail> {
     check_packs(alloc, packs.as_slice(), Kind::Sha1, &want)
 }
 
-// The same of ids of SHA-256.
+// The SHA-256 case of the test above.
 #[test]
 fn writes_long_multi_indices_as_git_does(rt: HostRuntime) -> Result<(), Fail> {
     let alloc = rt.alloc();

@@ -1,4 +1,4 @@
-//! A database of one object, asked through the bound.
+//! A database of one object, asked through the trait bound.
 ghost use Rattle.std.specs.Prelude.{◌≡◌, Some, IfOk, IfSome, OnOk};
 ghost use Rattle.gix_hash.specs.ObjectId.{kind_of};
 
@@ -121,7 +121,7 @@ impl Find for Single {
     }
 }
 
-// What a find answered: the kind, the data, and the place.
+// The result of a find: the kind, the data, and the location.
 fn shown<E: Drop>(
     alloc: Global,
     answer: Result<Option<(Data<'_>, Option<Location>)>, E>,
@@ -207,7 +207,7 @@ fn database_of(alloc: Global, id: ObjectId) -> Result<Single, NoMemory>
     })
 }
 
-// What the plain find, the one with a cache, and a read at the location answer.
+// The answers of the plain find, the one with a cache, and a read at the location.
 fn answers<D: Find, R: Wait>(
     rt: &R,
     alloc: Global,
@@ -223,7 +223,7 @@ fn answers<D: Find, R: Wait>(
     format!(in alloc; "{plain}, {cached}, {place}")
 }
 
-// A call through the bound that does not reach the type's own.
+// A call through the trait bound that does not reach the type's own.
 #[test]
 fn finds_through_the_bound(rt: HostRuntime) -> Result<(), Fail> {
     let id = ObjectId::from_hex(b"83baae61804e65cc73a7201a7252750c76066a30")?;

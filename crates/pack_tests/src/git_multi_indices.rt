@@ -1,4 +1,4 @@
-//! Multi-pack indices that Git made, in parts, and what it tells of them.
+//! Multi-pack indices that Git made, in parts, and Git's output for them.
 
 // Git's ids of the blobs `version 2` and `version 1`, each with a line feed.
 const SECOND: &[u8] = b"1f7a7a472abf3dd9643fd615f6da379c4acb3e3a";
@@ -7,7 +7,7 @@ const FIRST: &[u8] = b"83baae61804e65cc73a7201a7252750c76066a30";
 
 pub const NAMES: &[u8] = b"pack-a.idx\0pack-b.idx\0\0\0";
 
-// What a multi-index of the packs `pack-a` and `pack-b` is made of. Its counts are how many rows have which number.
+// The parts of a multi-index of the packs `pack-a` and `pack-b`. Its counts are how many rows have which number.
 #[derive(Clone, Copy)]
 pub struct Parts<'a> {
     pub hash: u8,
@@ -66,8 +66,8 @@ pub const SHA256: Parts<'static> = Parts {
     own: b"8e0f9b6ff3d67cc917e3f34a2697c539993a5314fcd028e3328d42f6682060b3",
 };
 
-// The hash, the names, and the rows as `git show-index` tells them of each pack: pack, offset and id. Behind each row stand
-// where its id is found, and the run of the first seven digits.
+// The hash, the names, and the rows as `git show-index` prints them for each pack: pack, offset and id. After each
+// row comes where its id is found, and the range of the first seven digits.
 pub const SHOWN_TWO: &str = "sha1 2 2 pack-a.idx pack-b.idx
 1 12 1f7a7a472abf3dd9643fd615f6da379c4acb3e3a Some(0) Some((0, 1))
 0 12 83baae61804e65cc73a7201a7252750c76066a30 Some(1) Some((1, 2))

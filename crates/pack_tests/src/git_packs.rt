@@ -1,6 +1,6 @@
-//! Packs that Git made, and what it tells of them.
+//! Packs that Git made, and Git's output for them.
 
-// What git (2.39) packed of a commit with a tag, a tree, and the blobs of two files (of SHA-256: of `b` alone):
+// What git (2.39) packed of a commit with a tag, a tree, and the blobs of two files (of SHA-256: only of `b`):
 //     git init --object-format=sha1; head -c 3000 /dev/zero | tr '\0' a >a; echo hi >b; git add .
 //     git commit -m c; git tag -a -m t v; git pack-objects --all pack </dev/null; git verify-pack -v pack-*.pack
 // Author, committer and tagger are `A <a>` at 1000000000 +0000.
@@ -28,7 +28,7 @@ pub const GIT_SHA256: &[u8] = b"\
     \x134\x99\x19\x5c\x01[@\x10)3x\x9c\xcb\xc8\xe4\x02\x00\x02\x17\x00\xdc\x14_\x1d\xc4\x99M\x178\
     \x1a]\x00\x0f\xc6\xf2\x19aw\x98\xa7uf\xa9\xfe\x08\x85\xfb8\xfc\x83\xb0\xbaW";
 
-// Offsets, and the kinds and sizes that `git verify-pack -v` tells with the lengths of headers.
+// Offsets, and the kinds and sizes that `git verify-pack -v` prints, with the lengths of headers.
 pub type Headers = &'static [(u64, &'static str)];
 
 pub const HEADERS_SHA1: Headers = &[

@@ -17,7 +17,7 @@ const FIRST: &[u8] = b"83baae61804e65cc73a7201a7252750c76066a30";
 // The counts of two ids that begin with 31 and 131: how many rows have which number.
 const TWO_COUNTS: &[(u16, u8)] = &[(31, 0), (100, 1), (125, 2)];
 
-// The offsets 23 and 12, and 12 behind one that names the first wide offset.
+// The offsets 23 and 12, and 12 with one that refers to the first wide offset.
 const OFFSETS: &[u8] = &[0, 0, 0, 23, 0, 0, 0, 12];
 
 const ONE_WIDE: &[u8] = &[128, 0, 0, 0, 0, 0, 0, 12];
@@ -72,7 +72,7 @@ fn put_rest(bytes: &mut ByteList, parts: &Parts<'_>) -> Result<(), Fail> {
 // `version 1` and `version 2`, each with a line feed:
 //     git init --object-format=sha1; echo 285 | git hash-object -w --stdin; ..
 //     git pack-objects five; git index-pack --index-version=2,0x20 -o wide.idx five-*.pack
-// The second has a wide offset from the place 32 on.
+// The second has a wide offset from the offset 32 on.
 const SHA1: Parts<'static> = Parts {
     counts: &[(31, 0), (77, 1), (23, 4), (125, 5)],
     ids: &[
@@ -127,7 +127,7 @@ const SHA256: Parts<'static> = Parts {
     ],
 };
 
-// The rows as `git show-index` tells them, without their CRC values, and where their ids are found.
+// The rows as `git show-index` prints them, without their CRC values, and where their ids are found.
 const SHOWN_VERSIONS: &str = "2
 23 1f7a7a472abf3dd9643fd615f6da379c4acb3e3a Some(0)
 12 83baae61804e65cc73a7201a7252750c76066a30 Some(1)
@@ -199,7 +199,7 @@ fn reads_indices_of_git(rt: HostRuntime) -> Result<(), Fail> {
     Ok(())
 }
 
-// Prefixes, the first row and the end of the run of each, and the row of the id that goes on in zeros.
+// Prefixes, the first row and the end of the range of each, and the row of the id that continues with zeros.
 const PREFIXES_SHA1: &[(&str, &str)] = &[
     ("6cf4", "Some((1, 4)) None"),
     ("6cf44", "Some((1, 4)) None"),
@@ -256,7 +256,7 @@ fn check_prefixes(
     Ok(())
 }
 
-// A run without its first or last row, half a byte that is ignored, or an absent id that has a row.
+// A range without its first or last row, half a byte that is ignored, or an absent id that has a row.
 #[test]
 fn finds_prefixes(rt: HostRuntime) -> Result<(), Fail> {
     let alloc = rt.alloc();
@@ -264,7 +264,7 @@ fn finds_prefixes(rt: HostRuntime) -> Result<(), Fail> {
     check_prefixes(alloc, &index, Kind::Sha1, PREFIXES_SHA1)
 }
 
-// The same of the longer ids.
+// The longer ids of SHA-256.
 #[test]
 fn finds_long_prefixes(rt: HostRuntime) -> Result<(), Fail> {
     let alloc = rt.alloc();
@@ -272,7 +272,7 @@ fn finds_long_prefixes(rt: HostRuntime) -> Result<(), Fail> {
     check_prefixes(alloc, &index, Kind::Sha256, PREFIXES_SHA256)
 }
 
-// The id whose text begins with some digits and goes on in zeros.
+// The id whose text begins with some digits and continues with zeros.
 fn id_from(alloc: Global, kind: Kind, digits: &[u8]) -> Result<ObjectId, Fail> {
     let mut text = ByteList::from_slice(alloc, digits)?;
     for _ in digits.len()..2 * kind.len_in_bytes() {
@@ -304,7 +304,7 @@ const WIDE: Parts<'static> = Parts {
     ..VERSIONS
 };
 
-// Changes of a byte of the two rows with a wide offset, and the offsets that are read then, if any.
+// Changes of a byte of the two rows with a wide offset, and the offsets that are then read, if any.
 const CHANGES: &[(&str, usize, u8, &str)] = &[
     ("no change", 0, 255, "4294967296 12"),
     ("no mark", 0, 254, REFUSED),
@@ -333,7 +333,7 @@ fn check_changes(alloc: Global, whole: &[u8]) -> Result<(), Fail> {
     Ok(())
 }
 
-// A count that is not compared, a wide row that is not there, or bytes that count although reading ignores them.
+// A count that is not compared, a wide row that does not exist, or bytes that matter although reading ignores them.
 #[test]
 fn reads_changed_indices(rt: HostRuntime) -> Result<(), Fail> {
     let bytes = index_of(rt.alloc(), &WIDE)?;
@@ -356,7 +356,7 @@ fn check_cuts(alloc: Global, whole: &[u8]) -> Result<(), Fail> {
     Ok(())
 }
 
-// A wide offset that no row names is allowed.
+// A wide offset that no row refers to is allowed.
 fn check_more(alloc: Global, whole: &[u8]) -> Result<(), Fail> {
     for more in 0..=16usize {
         let found = offsets_shown(alloc, joined(alloc, &[whole, &[0; 16]], 16 - more)?)?;

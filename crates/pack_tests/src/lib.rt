@@ -1,7 +1,7 @@
-//! What packs, their indices and multi-pack indices answer to files of Git's, to damaged ones, and to objects that are
+//! What packs, their indices and multi-pack indices make of Git's files, of damaged ones, and of objects that are
 //! written.
 //!
-//! It has tests alone. Each is a table of what is asked and what is answered, as text.
+//! It has only tests. Each is a table of questions and answers, as text.
 #![tactic(auto)]
 
 #[cfg(test)]

@@ -1,4 +1,4 @@
-//! What is read of multi-pack indices: those that Git made, and ones with other chunks, changes and lengths.
+//! Reading multi-pack indices: those that Git made, and ones with other chunks, changes and lengths.
 use crate::git_multi_indices::{
     NAMES, Parts, SHA1, SHA1_WIDE, SHA256, SHOWN_SHA1, SHOWN_SHA256, SHOWN_TWO, SHOWN_WIDE, TWO,
 };
@@ -127,7 +127,7 @@ fn run_of(index: &File, id: &ObjectId, digits: usize) -> Option<(u32, u32)> {
     rows_in(index.lookup_prefix(&prefix))
 }
 
-// Whether bytes end by their hash, as git's do.
+// Whether bytes end with their hash, as git's do.
 fn is_hashed(bytes: &[u8], kind: Kind) -> bool {
     let (front, own) = bytes.split_at(bytes.len().saturating_sub(kind.len_in_bytes()));
     let mut hasher = Hasher::new(kind);
@@ -160,8 +160,8 @@ fn reads_multi_indices_of_git(rt: HostRuntime) -> Result<(), Fail> {
     Ok(())
 }
 
-// Prefixes of the four SHA-1 ids: the first row and the end of the run of each, and the row of the id that goes on in
-// zeros.
+// Prefixes of the four SHA-1 ids: the first row and the end of the range of each, and the row of the id that
+// continues with zeros.
 const PREFIXES: &[(&str, &str)] = &[
     ("6cf4", "Some((1, 3)) None"),
     ("6cf44", "Some((1, 3)) None"),
@@ -191,7 +191,7 @@ fn check_prefixes(alloc: Global, index: &File) -> Result<(), Fail> {
     Ok(())
 }
 
-// A run without its first or last row, or an absent id that has a row.
+// A range without its first or last row, or an absent id that has a row.
 #[test]
 fn finds_prefixes(rt: HostRuntime) -> Result<(), Fail> {
     let bytes = file_of(rt.alloc(), &SHA1)?;
@@ -218,7 +218,7 @@ fn two_rows(alloc: Global, index: &File) -> Result<String, AllocError> {
 
 const READ: &str = "1 12 0 12";
 
-// Changes of a byte of the multi-index of two objects, and the rows that are read then, if any.
+// Changes of a byte of the multi-index of two objects, and the rows that are then read, if any.
 const CHANGES: &[(&str, usize, u8, &str)] = &[
     ("no change", 0, b'M', READ),
     ("no mark", 0, b'm', REFUSED),
@@ -274,8 +274,8 @@ fn reads_changed_multi_indices(rt: HostRuntime) -> Result<(), Fail> {
     check_changes(rt.alloc(), bytes.as_slice())
 }
 
-// The chunk that a letter stands for: names (n without NULs behind them), counts, ids and offsets, offsets of which one
-// names a wide one (h), wide offsets (w: one, e: none, v: one and a half), and a chunk without meaning (x).
+// The chunk of a letter: names (n without NULs after them), counts, ids and offsets, offsets of which one refers to a
+// wide one (h), wide offsets (w: one, e: none, v: one and a half), and a chunk without meaning (x).
 fn chunk_of<'a>(letter: u8, counts: &'a [u8], ids: &'a [u8]) -> Chunk<'a> {
     match letter {
         b'N' => (*b"PNAM", NAMES),
@@ -331,7 +331,7 @@ fn check_chunks(alloc: Global, counts: &[u8], ids: &[u8]) -> Result<(), Fail> {
     Ok(())
 }
 
-// A chunk that is missing or stands twice, or one that counts although it has no meaning.
+// A chunk that is missing or there twice, or one that matters although it has no meaning.
 #[test]
 fn reads_other_chunks(rt: HostRuntime) -> Result<(), Fail> {
     let mut counts = ByteList::new(rt.alloc());
@@ -357,7 +357,7 @@ fn reads_other_lengths(rt: HostRuntime) -> Result<(), Fail> {
     check_cuts(rt.alloc(), bytes.as_slice())
 }
 
-// What reading within a limit answers.
+// The result of reading within a limit.
 fn limit_shown(alloc: Global, bytes: &[u8], limit: u64) -> Result<String, Fail> {
     match File::parse(alloc, ByteList::from_slice(alloc, bytes)?, Some(limit)) {
         Ok(_) => Ok("read".to_string(alloc)?),

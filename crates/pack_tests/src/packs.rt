@@ -1,4 +1,4 @@
-//! What is read of packs, the headers of their entries and their objects: Git's, written ones, and damaged ones.
+//! Reading packs, the headers of their entries and their objects: Git's, written ones, and damaged ones.
 use crate::git_packs::{GIT_SHA1, GIT_SHA256, HEADERS_SHA1, HEADERS_SHA256, Headers};
 use crate::words::{changed, joined};
 use gix_hash::Kind;
@@ -25,7 +25,7 @@ const GREATEST: &[u8] = b"\xbf\xff\xff\xff\xff\xff\xff\xff\xff\x0f";
 
 const ABOVE: &[u8] = b"\xb0\x80\x80\x80\x80\x80\x80\x80\x80\x10";
 
-// What stands at an offset of a pack: the kind, the size, the length of the header and the data.
+// The entry at an offset of a pack: the kind, the size, the length of the header and the data.
 fn entry_shown(
     alloc: Global,
     bytes: ByteList,
@@ -100,8 +100,8 @@ const ENTRY_ROWS: &[(&[u8], u64, Option<u64>, &str)] = &[
     (ABOVE, 12, Some(9), "BadEntry"),
 ];
 
-// The neighbour's data, a limit tested at another place of the order, a header too long, too large or
-// cut off, or a delta taken for a blob.
+// The neighbour's data, a limit tested too early or too late, a header too long, too large or cut off, or a delta
+// mistaken for a blob.
 #[test]
 fn reads_entries(rt: HostRuntime) -> Result<(), Fail> {
     let alloc = rt.alloc();
@@ -112,7 +112,7 @@ fn reads_entries(rt: HostRuntime) -> Result<(), Fail> {
     Ok(())
 }
 
-// Changes of a byte of the pack of two entries, and what is read at 12 and at 23 then.
+// Changes of a byte of the pack of two entries, and what is then read at 12 and at 23.
 const CHANGES: &[(&str, usize, u8, &str, &str)] = &[
     ("no change", 0, b'P', FIRST, SECOND),
     ("no mark", 0, b'p', "BadPack", "BadPack"),
@@ -175,7 +175,7 @@ fn check_changes(alloc: Global, whole: &[u8]) -> Result<(), Fail> {
     Ok(())
 }
 
-// However the pack is cut, its second entry is gone.
+// Wherever the pack is cut, its second entry is gone.
 fn check_cuts(alloc: Global, whole: &[u8]) -> Result<(), Fail> {
     for cut in 1..=54 {
         let gone = if cut <= 22 { "BadEntry" } else { "BadPack" };
@@ -186,7 +186,7 @@ fn check_cuts(alloc: Global, whole: &[u8]) -> Result<(), Fail> {
     Ok(())
 }
 
-// A field that counts although reading ignores it, or an end that is not compared.
+// A field that matters although reading ignores it, or an end that is not compared.
 #[test]
 fn reads_damaged_packs(rt: HostRuntime) -> Result<(), Fail> {
     let whole = pack_of(rt.alloc(), ENTRIES)?;
@@ -194,7 +194,7 @@ fn reads_damaged_packs(rt: HostRuntime) -> Result<(), Fail> {
     check_cuts(rt.alloc(), whole.as_slice())
 }
 
-// With a byte more, the hash's first byte is taken for a header.
+// With one more byte, the hash's first byte is taken for a header.
 const A_BYTE_MORE: &[(u64, &str)] = &[
     (12, FIRST),
     (23, SECOND),
@@ -202,7 +202,7 @@ const A_BYTE_MORE: &[(u64, &str)] = &[
     (35, "BadEntry"),
 ];
 
-// An entry that reaches into the hash.
+// An entry that extends into the hash.
 #[test]
 fn reads_a_pack_with_a_byte_more(rt: HostRuntime) -> Result<(), Fail> {
     let alloc = rt.alloc();
@@ -342,7 +342,7 @@ const WRITTEN: Headers = &[
     (2096, "blob 2048 3"),
 ];
 
-// An object of so many equal bytes.
+// An object of this many equal bytes.
 fn filled(alloc: Global, kind: Of, size: u64) -> Result<Object, NoMemory> {
     let mut bytes = ByteList::new(alloc);
     for _ in 0..size {
@@ -366,7 +366,7 @@ fn written(alloc: Global, objects: &[Object]) -> Result<ByteList, Fail> {
     Ok(encode(alloc, objects, Kind::Sha256)?)
 }
 
-// A header that is longer than the shortest, an entry at another place, or bytes behind the last one.
+// A header that is longer than the shortest, an entry at another offset, or bytes after the last one.
 #[test]
 fn writes_the_shortest_headers(rt: HostRuntime) -> Result<(), Fail> {
     let objects = objects(rt.alloc())?;

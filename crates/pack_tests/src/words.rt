@@ -1,4 +1,4 @@
-//! What the tests share: comparisons, and bytes that are joined, changed and counted.
+//! What the tests share: comparisons, and joining, changing and counting bytes.
 ghost use Rattle.std.specs.Prelude.{◌≤◌, length};
 
 use odb_base::{ByteList, NoMemory};
@@ -14,7 +14,7 @@ pub fn compare_bytes(asked: &str, found: &ByteList, want: &ByteList) -> Result<(
     Err(Fail::new(asked))
 }
 
-/// Parts one behind another, without so many bytes at the end.
+/// Parts one after another, without the last `cut` bytes.
 pub fn joined(alloc: Global, parts: &[&[u8]], cut: usize) -> Result<ByteList, NoMemory> {
     let mut whole = ByteList::new(alloc);
     for part in parts {
@@ -50,7 +50,7 @@ pub fn put_counts(table: &mut ByteList, counts: &[(u16, u8)]) -> Result<(), NoMe
     Ok(())
 }
 
-/// The rows of a run, if it has any.
+/// The rows of a range, if it has any.
 pub fn rows_in(run: Range<u32>) -> Option<(u32, u32)> {
     if run.start < run.end {
         Some((run.start, run.end))

@@ -10,11 +10,11 @@ use std::ops::Range;
 use std::sync::Wait;
 use std::thread::Threads;
 
-/// How many chunks may be on their way.
+/// The most chunks in flight.
 const IN_FLIGHT: usize = 2;
 
-/// Takes the first half of so many numbers, which a worker draws ahead in chunks, slowly. It answers how many came in their
-/// turn.
+/// Takes the first half of `items` numbers slowly, while a worker draws them ahead in chunks. Returns how many came
+/// in their turn.
 pub fn draw_half<H: Threads + Wait + Copy + Send + 'static>(
     rt: H,
     alloc: Global,
@@ -29,7 +29,7 @@ pub fn draw_half<H: Threads + Wait + Copy + Send + 'static>(
     count
 }
 
-/// How many of the first so many numbers come in their turn.
+/// How many of the first `wanted` numbers come in their turn.
 fn count_first<H: Threads + Wait + Copy>(
     numbers: &mut EagerIter<Range<u32>, H>,
     wanted: u32,

@@ -1,10 +1,10 @@
-//! Why a trial came to nothing.
+//! Why a trial failed.
 use gix_features_workers::ParallelError;
 use odb_base::NoMemory;
 use std::io;
 use thiserror::Error;
 
-/// Why a trial came to nothing.
+/// Why a trial failed.
 #[derive(Debug, Drop, Error)]
 pub enum Fault {
     #[error("words not understood")]

@@ -8,7 +8,7 @@ use sha1::Sha1;
 use std::alloc::Global;
 use std::thread::Threads;
 
-/// Takes hashes one after another, and comes to their hash.
+/// Hashes hashes one after another.
 #[derive(Drop)]
 struct Hashes {
     hasher: Sha1,
@@ -35,14 +35,14 @@ impl Reduce for Hashes {
     }
 }
 
-/// A message of one KiB over and over.
+/// A message: one KiB, repeated.
 #[derive(Drop)]
 struct Message {
     piece: Vec<u8>,
     kib: usize,
 }
 
-/// The first eight bytes of a hash of the hashes of so many messages of so many KiB, as a number. Workers take the hashes.
+/// The first eight bytes of a hash of the hashes of `count` messages of `kib` KiB, as a number. Workers take the hashes.
 pub fn hash_of_all<H: Threads + Sync>(
     rt: &H,
     alloc: Global,
@@ -68,7 +68,7 @@ pub fn hash_of_all<H: Threads + Sync>(
     )
 }
 
-/// So many messages of so many KiB. They take little memory, so that what is measured is the work of the workers.
+/// `count` messages of `kib` KiB. They take little memory, so that the work of the workers is measured.
 fn messages_of(alloc: Global, count: usize, kib: usize) -> Result<Vec<Message>, NoMemory> {
     let mut messages = Vec::new(alloc);
     for number in 0..count {
@@ -83,7 +83,7 @@ fn messages_of(alloc: Global, count: usize, kib: usize) -> Result<Vec<Message>, 
     Ok(messages)
 }
 
-/// Adds the message of a number.
+/// Adds the message with a number.
 fn add_message(
     alloc: Global,
     messages: &mut Vec<Message>,

@@ -1,11 +1,11 @@
 //! Trials of the parts of `gix_features` that start threads, for measuring.
 //!
-//! `parallel_trials hash WORKERS MESSAGES KIB` hashes so many messages of so many KiB with so many workers, and prints a
-//! number that all hashes make. `parallel_trials pipe PIECES KIB` passes so many pieces from one thread to another, and
-//! prints how many bytes came. `parallel_trials stop ITEMS WORKERS` has workers write so many numbers into one pipe, whose
-//! slow reader stops half way, and prints what was seen. `parallel_trials draw ITEMS CHUNK` has a worker draw so many numbers
-//! ahead, of which a slow consumer takes half. `parallel_trials slice ITEMS WORKERS` has workers change the items of a slice in
-//! rounds.
+//! `parallel_trials hash WORKERS MESSAGES KIB` has workers hash messages of KIB KiB, and prints a number from all
+//! hashes. `parallel_trials pipe PIECES KIB` passes pieces of KIB KiB from one thread to another, and prints how many
+//! bytes came. `parallel_trials stop ITEMS WORKERS` has workers write ITEMS numbers into one pipe, whose slow reader
+//! stops half way, and prints what was seen. `parallel_trials draw ITEMS CHUNK` has a worker draw ITEMS numbers
+//! ahead, half of which a slow consumer takes. `parallel_trials slice ITEMS WORKERS` has workers change the items of
+//! a slice in rounds.
 #![tactic(auto)]
 
 mod drawing;

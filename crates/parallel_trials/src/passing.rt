@@ -9,10 +9,10 @@ use std::alloc::Global;
 use std::sync::Wait;
 use std::thread::Threads;
 
-/// How many pieces may be on their way.
+/// The most pieces in flight.
 const IN_FLIGHT: usize = 8;
 
-/// Passes pieces of so many KiB from one thread to another. It answers how many bytes came.
+/// Passes pieces of `kib` KiB from one thread to another. Returns how many bytes came.
 pub fn pass<H: Threads + Wait + Sync>(
     rt: &H,
     alloc: Global,
@@ -45,14 +45,14 @@ pub fn pass<H: Threads + Wait + Sync>(
     if all { Ok(bytes) } else { Err(NoMemory) }
 }
 
-/// So many KiB of one byte.
+/// `kib` KiB of one byte.
 fn filled(alloc: Global, byte: u8, kib: usize) -> Result<Vec<u8>, NoMemory>
     requires few { kib ≤ 65_536 }
 {
     Ok(vec![in alloc; byte; kib * 1024]?)
 }
 
-/// Writes a piece so many times, and lets the pipe go. It answers whether all were written.
+/// Writes a piece `pieces` times, and drops the pipe. Returns whether all were written.
 fn write_all<H: Wait>(
     rt: &H,
     alloc: Global,
@@ -65,7 +65,7 @@ fn write_all<H: Wait>(
     all
 }
 
-/// Writes a piece so many times. It answers whether all were written.
+/// Writes a piece `pieces` times. Returns whether all were written.
 fn write_each<H: Wait>(
     rt: &H,
     alloc: Global,
@@ -81,7 +81,7 @@ fn write_each<H: Wait>(
     true
 }
 
-/// Reads to the end, and lets the pipe go. It answers how many bytes came.
+/// Reads to the end, and drops the pipe. Returns how many bytes came.
 fn read_all<H: Wait>(rt: &H, mut reader: Reader, mut buffer: Vec<u8>) -> u64 {
     let bytes = read_each(rt, &mut reader, buffer.as_mut_slice());
     drop(reader);
@@ -89,7 +89,7 @@ fn read_all<H: Wait>(rt: &H, mut reader: Reader, mut buffer: Vec<u8>) -> u64 {
     bytes
 }
 
-/// Reads until a read doesn't fill the buffer, as at the end and where a read fails. It answers how many bytes came.
+/// Reads until a read doesn't fill the buffer, as at the end and after an error. Returns how many bytes came.
 fn read_each<H: Wait>(rt: &H, reader: &mut Reader, buffer: &mut [u8]) -> u64 {
     let mut bytes = 0u64;
     for _ in rt.forever() {

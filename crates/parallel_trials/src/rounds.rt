@@ -7,7 +7,7 @@ use odb_base::NoMemory;
 use std::alloc::Global;
 use std::thread::Threads;
 
-/// Has workers double so many numbers, each of which is 1. It answers what they come to together.
+/// Has workers double `items` numbers, each of which is 1. Returns their sum.
 pub fn double_all<H: Threads + Sync>(
     rt: &H,
     alloc: Global,
@@ -47,7 +47,7 @@ fn double_each<H: Threads + Sync>(
     Ok(())
 }
 
-/// So many numbers, each of which is 1.
+/// `items` numbers, each of which is 1.
 fn ones(alloc: Global, items: usize) -> Result<Vec<u64>, NoMemory> {
     Ok(vec![in alloc; 1u64; items]?)
 }
@@ -58,7 +58,7 @@ fn double(number: &mut u64) -> Result<(), NoMemory> {
     Ok(())
 }
 
-/// The sum of numbers, or the greatest number where it is more.
+/// The sum of numbers; it saturates.
 fn sum_of(numbers: &[u64]) -> u64 {
     let mut sum = 0u64;
     for number in numbers {

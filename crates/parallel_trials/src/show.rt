@@ -1,4 +1,4 @@
-//! Trials that are made, and what they come to.
+//! Runs trials, and prints their results.
 ghost use Rattle.parallel_trials.specs.Asked.{IsBounded};
 
 use crate::drawing::draw_half;
@@ -12,7 +12,7 @@ use std::alloc::Global;
 use std::sync::Wait;
 use std::thread::Threads;
 
-/// Makes a trial, and prints what it comes to.
+/// Runs a trial, and prints its result.
 pub fn show<R: Threads + Wait + Print + Copy + Send + Sync + 'static>(
     rt: &R,
     alloc: Global,
@@ -41,7 +41,7 @@ fn show_number<R: Print>(rt: &R, number: u64) -> Result<(), Fault> {
     Ok(println!(rt; "{number}")?)
 }
 
-/// Prints what was seen of workers whose reader goes.
+/// Prints what was seen of workers whose reader stops.
 fn show_seen<R: Print>(rt: &R, seen: Seen) -> Result<(), Fault> {
     let (read, written, back) = (seen.read, seen.written, seen.came_back);
     Ok(println!(rt; "read {read}, written {written}, came back {back}")?)

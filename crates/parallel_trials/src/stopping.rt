@@ -1,4 +1,4 @@
-//! Workers that write into one pipe, of which a slow reader reads the first half.
+//! Workers that write into one pipe, and a slow reader that reads the first half.
 ghost use Rattle.std.specs.Prelude.{◌<◌, ◌≤◌};
 ghost use Rattle.std.specs.Thread.{IsSync};
 
@@ -13,7 +13,7 @@ use std::mem;
 use std::sync::{Mutex, Wait};
 use std::thread::Threads;
 
-/// How many numbers may be on their way.
+/// The most numbers in flight.
 const IN_FLIGHT: usize = 4;
 
 /// What was seen.
@@ -23,7 +23,7 @@ pub struct Seen {
     pub read: u32,
     /// How many were written.
     pub written: u32,
-    /// How many came back whole, since the reader is gone.
+    /// How many came back whole, because the reader is gone.
     pub came_back: u32,
 }
 
@@ -32,7 +32,7 @@ pub struct Seen {
 enum Fate {
     Written,
     CameBack,
-    /// There was no memory for it, or less of it came back.
+    /// Memory ran out for it, or only a part of it came back.
     Lost,
 }
 
@@ -66,7 +66,7 @@ impl Reduce for Counts {
     }
 }
 
-/// Has workers write so many numbers into one pipe. A slow reader reads half as many, and goes.
+/// Has workers write `items` numbers into one pipe. A slow reader reads half as many, and stops.
 pub fn stop_half_way<H: Threads + Wait + Sync>(
     rt: &H,
     alloc: Global,
@@ -98,7 +98,7 @@ pub fn stop_half_way<H: Threads + Wait + Sync>(
     })
 }
 
-/// A note of each of so many numbers that it didn't come yet.
+/// For each of `items` numbers, that it didn't come yet.
 fn notes(alloc: Global, items: usize) -> Result<Vec<bool>, NoMemory> {
     Ok(vec![in alloc; true; items]?)
 }
@@ -131,7 +131,7 @@ fn write_all<H: Threads + Wait + Sync>(
     )
 }
 
-/// Writes a number, once no other worker writes and there is room.
+/// Writes a number, as soon as no other worker writes and there is room.
 fn write_one<H: Wait>(rt: &H, alloc: Global, to: &Mutex<Writer>, number: u32) -> Fate {
     let bytes = number.to_le_bytes();
     match to.lock(rt).write(rt, alloc, bytes.as_slice()) {
@@ -141,7 +141,7 @@ fn write_one<H: Wait>(rt: &H, alloc: Global, to: &Mutex<Writer>, number: u32) ->
     }
 }
 
-/// Reads so many numbers, slowly. It answers how many different ones came.
+/// Reads `count` numbers slowly. Returns how many different ones came.
 fn read_some<H: Wait>(rt: &H, mut reader: Reader, mut is_new: Vec<bool>, count: u32) -> u32 {
     let mut fresh = 0u32;
     for _ in 0..count {
@@ -155,7 +155,7 @@ fn read_some<H: Wait>(rt: &H, mut reader: Reader, mut is_new: Vec<bool>, count: 
     fresh
 }
 
-/// Whether a number is one of these that didn't come before. It is noted.
+/// Whether a number came for the first time. Marks it as seen.
 fn is_first(is_new: &mut [bool], number: u32) -> bool {
     match is_new.get_mut(number as usize) {
         Some(is_new) => mem::replace(is_new, false),

@@ -1,4 +1,4 @@
-//! What the words of the command line ask for.
+//! The words of the command line.
 ghost use Rattle.std.specs.Prelude.{◌<◌, ◌≤◌, ⊤, IfSome};
 ghost use Rattle.parallel_trials.specs.Asked.{IsBounded, IsFew};
 
@@ -33,7 +33,7 @@ pub enum Trial {
     },
 }
 
-/// The trial that words ask for, if they are understood.
+/// Parses the trial from words, if they are understood.
 pub fn trial_of(words: &[String]) -> Option<Trial>
     ensures bounded { IfSome result IsBounded }
 {

@@ -18,7 +18,7 @@ use Rattle.gix_pack.specs.MultiIndex.{MultiIndex}
 use Rattle.gix_pack.specs.Rows.{PackRow, Row, IsRowOf, id_from}
 use Rattle.probe_index.specs.Lines.{Answered, AreLines, IsIndexLine, IsPackLine, absent_line, name_at, offset_line, pack_line}
 
--- ---- lines one behind another
+-- ---- lines one after another
 
 pub AreLines-nothing : (IsLine : ObjectId → List ℕ → Type 0) → AreLines IsLine [] []
 AreLines-nothing IsLine = record { answers = []; ids_are = refl; each = All-nil _; text_is = refl }

@@ -1,4 +1,4 @@
--- Lemmas on statuses: a front of a file that is too long is answered as the file, and what a delivery says of a status.
+-- Lemmas on statuses: a prefix of a file that is too long is answered as the file, and what a delivery says of a status.
 use Rattle.std.proofs.Common.{◌≡◌, ◌⊎◌, inl, inr, ℕ, ◌<◌, ◌≤◌, true, nat_lt, List, [], ◌++◌, length, refl, sym, ap, ◌∙◌, subst, Option, Some, None, arith}
 use Rattle.std.specs.Prelude.{IfSome}
 use Rattle.std.proofs.lemmas.Bool.{cases_lt}
@@ -32,7 +32,7 @@ WritesOf-long asked bytes others written status long too writes =
     let refused : WritesIn asked bytes written status (Some TooLong) = subst P (too_long asked.kind bytes long) writes in
     subst Q (sym (too_long asked.kind others too)) refused
 
--- a front that is the whole, or is longer than a file may be, is answered as the whole
+-- a prefix that is the whole, or is longer than a file may be, is answered as the whole
 WritesOf-read : (asked : Asked) (bytes rest written : List ℕ) (status : Status) → (length bytes ≤ file_limit → rest ≡ []) → WritesOf asked bytes written status
     → WritesOf asked (bytes ++ rest) written status
 WritesOf-read asked bytes rest written status whole writes =
@@ -71,7 +71,7 @@ pub Ends-delivered : (s : Session) (output : List ℕ) (status result : Status) 
 Ends-delivered s output status result writes ends delivered =
     ends_delivered (Ends s) (Writes s) statuses.WriteFault s.output output status result writes ends (λ failed. failed) delivered
 
--- what a command ends with, by another name of the command
+-- the end of a command, under another name of the command
 pub ends_as : (s : Session) (command : Command) (result : Status) → s.command ≡ command → Ends (record s { command = command }) result → Ends s result
 ends_as s command result is ends = subst (λ c. Ends (record s { command = c }) result) (sym is) ends
 
@@ -105,7 +105,7 @@ answered_or_refused : (asked : Asked) (bytes written : List ℕ) (status : Statu
 answered_or_refused asked bytes written status None writes = inl writes.0
 answered_or_refused asked bytes written status (Some why) writes = inr (why, writes.0)
 
--- no source is left other than it was where nothing was done
+-- no source is changed if nothing was done
 pub leaves_same : {S : Type 0} (command : Command) (source : S) → LeavesIts command source source
 leaves_same (Probe asked) source = tt
 leaves_same Help source = refl

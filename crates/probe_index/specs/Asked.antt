@@ -1,4 +1,4 @@
--- What the words of the command line ask: for ids of one hash, one at least.
+-- What the words of the command line ask: for ids of one hash, at least one.
 use Rattle.std.specs.Prelude.{ℕ, List, [], ◌∷◌, ◌++◌, Option, Some, None, option_map}
 use Rattle.gix_hash.specs.ObjectId.{id_of, kind_of}
 use Rattle.gix_hash.specs.declared.kind.Kind.{Kind}
@@ -15,12 +15,12 @@ kept Sha1 (Some (ids.Sha256 bytes)) = None
 kept Sha256 (Some (ids.Sha1 bytes)) = None
 kept Sha256 (Some (ids.Sha256 bytes)) = Some (ids.Sha256 bytes)
 
--- what further words ask behind ids, with one id more
+-- what further words ask after ids, with one more id
 abbrev pub with_id : (List ObjectId → Option (List ObjectId)) → List ObjectId → Option ObjectId → Option (List ObjectId)
 with_id further ids None = None
 with_id further ids (Some id) = further (ids ++ id ∷ [])
 
--- the ids of the hash that words spell, behind those that are read; nothing where one spells none
+-- the ids of the hash that words spell, after those that are read; None if one spells none
 unfoldable pub ids_of : Kind → List (List ℕ) → List ObjectId → Option (List ObjectId)
 ids_of kind [] ids = Some ids
 ids_of kind (word ∷ words) ids = with_id (ids_of kind words) ids (kept kind (id_of word))

@@ -1,4 +1,4 @@
--- What the words of the command line ask for: a text about the program, or where ids stand.
+-- What the words of the command line ask for: a text about the program, or where ids are.
 use Rattle.std.specs.Prelude.{ℕ, List, [], ◌∷◌, codes, Option, Some, None, if◌then◌else◌}
 use Rattle.odb_base.specs.Path.{same_name}
 use Rattle.probe_index.specs.Asked.{asked_of}

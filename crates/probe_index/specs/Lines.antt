@@ -50,7 +50,7 @@ pub record IsFoundInPack (index : MultiIndex) (id : ObjectId) (line : List ℕ) 
 abbrev pub IsPackLine : MultiIndex → ObjectId → List ℕ → Type 0
 IsPackLine index id line = IsFoundInPack index id line ⊎ IsAbsentFrom (map (λ (row : PackRow). row.id) index.rows) id line
 
--- a line was added behind a text
+-- a line was added after a text
 abbrev pub AddsLine : (List ℕ → Type 0) → List ℕ → List ℕ → Type 0
 AddsLine IsLine before now = (line : List ℕ) × IsLine line × (now ≡ before ++ line)
 

@@ -19,7 +19,7 @@ use Rattle.probe_index.specs.Refusal.{refusal_text}
 abbrev pub file_limit : ℕ
 file_limit = 1_073_741_824
 
--- the format that the first four bytes tell
+-- the format by the first four bytes
 abbrev pub format_of : List ℕ → Option Format
 format_of bytes =
     if starts_with nat_eq bytes index_start then Some Index
@@ -51,6 +51,6 @@ abbrev pub WritesIn : Asked → List ℕ → List ℕ → Status → Option Refu
 WritesIn asked bytes written status None = (status ≡ Done) × TellsIn asked.kind bytes asked.ids written (format_of bytes)
 WritesIn asked bytes written status (Some why) = (status ≡ Refused why) × (written ≡ refusal_text why)
 
--- what is written for bytes, and the status: the lines of the ids exactly where the bytes are not refused
+-- what is written for bytes, and the status: the lines of the ids exactly if the bytes are not refused
 abbrev pub WritesOf : Asked → List ℕ → List ℕ → Status → Type 0
 WritesOf asked bytes written status = WritesIn asked bytes written status (refusal_of asked.kind bytes)

@@ -1,4 +1,4 @@
--- Why a file is refused, in words: on standard output, and behind more words on standard error.
+-- Why a file is refused, in words: on standard output, and after more words on standard error.
 use Rattle.std.specs.Prelude.{ℕ, List, ◌++◌, codes}
 use Rattle.probe_index.specs.declared.probe.Refusal.{Refusal}
 use Rattle.probe_index.specs.declared.probe.Refusal.TheVariants.{TooLong, Unknown, BadIndex, BadMultiIndex}

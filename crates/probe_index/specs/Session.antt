@@ -14,16 +14,15 @@ pub record Texts : Type 0 where
   pub help : List ℕ
   pub version : List ℕ
 
--- What was there before and after a session: what the words ask, what was read and what was written; and the texts about
--- the program.
+-- Before and after a session: what the words ask, what was read and what was written; and the texts about the program.
 pub record Session : Type 0 where
   pub command : Command
   pub input : Input
   pub output : Output
   pub texts : Texts
 
--- What is written with a status, by the bytes of the source, where it told them. Words that ask for no ids are answered by
--- a text, whatever the source has.
+-- What is written with a status, by the bytes of the source, if it reported them. Words that ask for no ids are answered by
+-- a text, whatever is in the source.
 abbrev pub WritesFor : Texts → Command → Option (List ℕ) → List ℕ → Status → Type 0
 WritesFor texts (Probe asked) left written status = IfSome left (λ file. WritesOf asked file written status)
 WritesFor texts Help left written status = (status ≡ statuses.Done) × (written ≡ texts.help)
@@ -47,12 +46,12 @@ abbrev pub ReadsIts : Command → Input → Type 0
 ReadsIts (Probe asked) input = ReadToEnd input.left input.left'
 ReadsIts command input = Unit {0}
 
--- only they leave the source other than it was
+-- only they change the source
 abbrev pub LeavesIts : {S : Type 0} → Command → S → S → Type 0
 LeavesIts (Probe asked) before now = Unit {0}
 LeavesIts command before now = now ≡ before
 
--- What each status says. Want of memory is the one status without a cause.
+-- What each status says. Out of memory is the one status without a cause.
 abbrev pub Ends : Session → Status → Type 0
 Ends s statuses.Done = Finishes s statuses.Done × ReadsIts s.command s.input
 Ends s statuses.NoWords = (s.command ≡ NoWords) × Finishes s statuses.NoWords

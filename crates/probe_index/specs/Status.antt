@@ -1,4 +1,4 @@
--- The exit status that each end of the program has, and what is told on standard error.
+-- The exit status of each end of the program, and its message on standard error.
 use Rattle.std.specs.Prelude.{ℕ, List, [], ◌++◌, codes}
 use Rattle.probe_index.specs.Refusal.{reason_text}
 use Rattle.probe_index.specs.declared.probe.Refusal.{Refusal}
@@ -14,11 +14,11 @@ code_of ReadFault = 3
 code_of WriteFault = 4
 code_of NoMemory = 5
 
--- what is told of a file that is refused
+-- the message on a file that is refused
 abbrev pub refusal_note : Refusal → List ℕ
 refusal_note why = codes "standard input is no such file: " ++ reason_text why
 
--- what is told, without the program's name; nothing where all went well
+-- the message, without the program's name; none if all went well
 abbrev pub note_of : Status → List ℕ
 note_of Done = []
 note_of NoWords = codes "no words: probe_index --help tells which there are"

@@ -73,7 +73,7 @@ fn add_pack_line(
     }
 }
 
-/// The name of the pack with a number. Each row of a multi-pack index names a pack that is there.
+/// The name of the pack with a number. Each row of a multi-pack index names a pack that it has.
 fn name_at(names: &[PathName], pack: u32) -> &str
     ensures name { result.now ≡ name_at names.now pack }
 {

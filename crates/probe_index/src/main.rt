@@ -1,4 +1,4 @@
-//! Where the objects of given ids stand, by a pack index or a multi-pack index.
+//! Looks up the offsets of objects in a pack index or a multi-pack index.
 //!
 //! `probe_index HEX..` reads a file from standard input and writes a line for each id. `run` says what each status
 //! promises, over any source and sink; `main` calls it with the real ones.

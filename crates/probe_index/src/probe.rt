@@ -56,7 +56,7 @@ pub fn answer_file(
     }
 }
 
-/// The format that the first four bytes tell.
+/// The format by the first four bytes.
 fn format_of(bytes: &[u8]) -> Option<Format>
     ensures format { result ≡ format_of bytes.now }
 {

@@ -15,7 +15,7 @@ use odb_disk::{ReadError, Sink, Source, read_file};
 use odb_program::{answer, text};
 use std::alloc::Global;
 
-/// What is written where the words ask nothing.
+/// What is written if the words ask nothing.
 pub const USAGE: &str = "\
 usage: probe_index HEX.. < FILE
 
@@ -31,7 +31,7 @@ status  0 done         1 words not understood   2 the file is refused
         3 read fault   4 write fault            5 out of memory
 ";
 
-/// What `--help` writes behind that.
+/// What `--help` writes after that.
 pub const ABOUT: &str = "
 probe_index --help writes this text, and probe_index --version the version.
 ";
@@ -39,7 +39,7 @@ probe_index --help writes this text, and probe_index --version the version.
 /// What `--version` writes.
 pub const VERSION: &str = "probe_index 0.1.0\n";
 
-/// Does what the words of the command line say, and answers the status.
+/// Does what the words of the command line say, and returns the status.
 pub fn run<S: Source, K: Sink>(
     alloc: Global,
     words: &[String],
@@ -53,7 +53,7 @@ pub fn run<S: Source, K: Sink>(
       texts = record { usage = USAGE.now; help = USAGE.now ++ ABOUT.now; version = VERSION.now };
     }) result }
 
-    // Words that ask for no ids leave the source as it was: what is left of it, and its count of faults.
+    // If the words ask for no ids, the source stays as it was: what is left of it, and its count of faults.
     ensures unread { LeavesIts (command_of (map (λ word. string_bytes word) words.now)) source.old source.new }
 {
     match command_of(alloc, words) {
@@ -66,7 +66,7 @@ pub fn run<S: Source, K: Sink>(
     }
 }
 
-/// Writes the usage, and what `--help` writes behind it.
+/// Writes the usage, and what `--help` writes after it.
 fn help<K: Sink>(alloc: Global, sink: &mut K) -> Status
     ensures ends { (input : Input) → Ends (record {
       command = help_command;

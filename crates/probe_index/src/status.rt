@@ -1,4 +1,4 @@
-//! How the program may end, and what it tells on standard error then.
+//! How the program may end, and its message on standard error.
 ghost use Rattle.std.specs.Prelude.{◌≡◌};
 ghost use Rattle.probe_index.specs.Status.{refusal_note};
 
@@ -20,7 +20,7 @@ pub enum Status {
     ReadFault,
     /// 4: the sink failed.
     WriteFault,
-    /// 5: want of memory.
+    /// 5: out of memory.
     NoMemory,
 }
 
@@ -63,7 +63,7 @@ impl SessionStatus for Status {
     }
 }
 
-/// What is told of a file that is refused.
+/// The message on a file that is refused.
 fn refusal_note(why: Refusal) -> &'static [u8]
     ensures note { result.now ≡ refusal_note why }
 {

@@ -53,7 +53,7 @@ fn named(text: &str) -> &str {
     }
 }
 
-/// Fails where a row gives something else than is wanted.
+/// Fails if a row gives something else than is wanted.
 fn compare(row: &Row, found: &str) -> Result<(), Fail> {
     if found == row.4 {
         return Ok(());
@@ -191,8 +191,8 @@ const ROWS: &[Row] = &[
     ("index", "--help", 0, 1, "4 "),
 ];
 
-// A line of another id, an offset or a name of another row, a damaged file that is answered, words that are taken for
-// ids, a failed read that is taken for the end, or a failed write that is taken for success.
+// Catches a line of another id, an offset or a name of another row, a damaged file that is answered, words that are
+// taken for ids, a failed read that is taken for the end, or a failed write that is taken for success.
 #[test]
 fn answers_rows(rt: HostRuntime) -> Result<(), Fail> {
     for row in ROWS {

@@ -1,4 +1,4 @@
--- Lemmas on openings whose fields and options are what they are to be: they are read.
+-- Lemmas on openings whose fields and options are what they have to be: they are read.
 use Rattle.std.proofs.Common.{◌≡◌, ◌≢◌, ℕ, ◌+◌, Bool, true, false, List, [], ◌∷◌, Option, Some, None, is_some, refl, ap, ◌∙◌}
 use Rattle.std.specs.List.{AllByRecursion}
 use Rattle.odb_base.specs.Path.{path_of}
@@ -23,7 +23,7 @@ chosen_some (option ∷ options) chosen spelled =
     let rest = chosen_some options (with_choice chosen choice.0) spelled.1 in
     (rest.0, ap (with_next (chosen_by options) chosen) choice.1 ∙ rest.1)
 
--- the options behind a handle and a path are what they are to be
+-- the options after a handle and a path are what they have to be
 options_spelled : (options : Fields) (number : ℕ) → first_wrong (Some Choice_) [] options number ≡ None → AllOptions options
 unfolding first_wrong
 options_spelled [] number h = tt

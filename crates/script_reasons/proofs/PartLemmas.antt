@@ -1,4 +1,4 @@
--- Lemmas on parts by their numbers: behind the first part, and where the first is the last.
+-- Lemmas on parts by their numbers: after the first part, and if the first is the last.
 use Rattle.std.proofs.Common.{◌≡◌, ℕ, zero, suc, ◌+◌, ◌-◌, ◌==◌, ◌<◌, ◌≤◌, false, List, [], ◌∷◌, length, get_or, nat_le, refl, ap, ◌∙◌, arith}
 use Rattle.std.specs.List.{slice_split}
 use Rattle.std.proofs.lemmas.Bool.Decides.{nat_tests}

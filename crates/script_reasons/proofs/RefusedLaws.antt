@@ -1,4 +1,4 @@
--- The law that a line which is outside the language has a field that is wrong, or isn't text.
+-- A line that is outside the language has a field that is wrong, or isn't text.
 use Rattle.std.proofs.Common.{◌≡◌, ◌≢◌, ℕ, Bool, true, false, List, [], ◌∷◌, Option, Some, None, refl}
 use Rattle.std.specs.Str.{is_utf8}
 use Rattle.odb_base.specs.Decimal.{number_of}
@@ -133,7 +133,7 @@ field_is : (fault : Option Fault) → fault ≢ None → by_fault fault ≢ OutO
 field_is None some e = some refl
 field_is (Some fault) some e = cc e
 
--- so it is never told that such a line isn't in its place
+-- so such a line is never reported as out of place
 pub refused_has_reason : (line : List ℕ) → item_of line ≡ items.Refused → line_reason line ≢ OutOfPlace
 unfolding line_reason
 refused_has_reason line refused e = by_test (is_utf8 line) refl

@@ -1,4 +1,4 @@
--- Lemmas on fields without a fault: they are what they are to be, and so a change is.
+-- Lemmas on fields without a fault: they are what they have to be, and so a change is.
 use Rattle.std.proofs.Common.{◌≡◌, ◌≢◌, ℕ, ◌+◌, Bool, true, false, List, [], ◌∷◌, Option, Some, None, is_some, refl}
 use Rattle.std.specs.List.{AllZip}
 use Rattle.odb_base.specs.Decimal.{number_of}
@@ -25,7 +25,7 @@ pub some_is : {A : Type 0} (o : Option A) → is_some o ≡ true → (x : A) × 
 some_is (Some x) e = (x, refl)
 some_is None e = absurd (cc e)
 
--- fields without a fault are what they are to be
+-- fields without a fault are what they have to be
 pub all_spelled : (kinds : List Expected) (fields : Fields) (number : ℕ) → first_wrong None kinds fields number ≡ None → AllSpelled kinds fields
 unfolding first_wrong
 all_spelled [] [] number h = tt

@@ -1,4 +1,4 @@
--- The law of what is told of scripts that are longer than they may be.
+-- The law of the message on scripts that are longer than allowed.
 use Rattle.std.proofs.Common.{◌≡◌, ℕ, ◌<◌, ◌≤◌, true, false, List, [], ◌++◌, length, take, nat_le, refl, sym, ap, ◌∙◌, inl, inr, arith}
 use Rattle.std.proofs.lemmas.Bool.{cases_lt}
 use Rattle.std.proofs.lemmas.List.{append-nil, length-append, take-append-le}
@@ -43,12 +43,12 @@ told_by-long script front more Whole long = refl
 told_by-long script front more (RefusedAt number) long = told_at-long script front more number long
 told_by-long script front more (NotBuiltAt number) long = unbuilt_at-long front more number long
 
--- what is told by the reading of a script is told of the script
+-- the message by the reading of a script is the message on the script
 pub told_of-is : (bytes : List ℕ) (reading : Reading) → reading ≡ reading_of bytes → told_by reading.script bytes reading.ending ≡ told_of bytes
 unfolding told_of
 told_of-is bytes reading is = ap (λ (r : Reading). told_by r.script bytes r.ending) is
 
--- what is told of a front that is the whole, or is longer than a script may be, is told of the whole
+-- the message on a prefix that is the whole, or is longer than a script may be, is the message on the whole
 pub told_of-read : (text rest : List ℕ) → (length text ≤ script_limit → rest ≡ []) → told_of (text ++ rest) ≡ told_of text
 unfolding told_of
 told_of-read text rest whole =

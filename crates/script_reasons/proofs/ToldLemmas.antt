@@ -17,7 +17,7 @@ shown_bytes-more bytes before now next i within so_far added =
     ∙ flat_map_more shown_byte before (take i bytes) (get_or bytes i 0)
     ∙ ap (λ bs. before ++ flat_map shown_byte bs) (sym (take_more bytes i 0 within))
 
--- a text, and then a label with what stands behind it
+-- a text, and then a label with what follows it
 pub told_on : {A E : Type 0} (result : Result A E) (before middle after first label last told : List ℕ) → middle ≡ before ++ first
     → last ≡ told → OnOk result (after ≡ middle ++ (label ++ last)) → OnOk result (after ≡ before ++ ((first ++ label) ++ told))
 told_on (Ok x) before middle after first label last told start same end =

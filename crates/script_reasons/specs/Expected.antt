@@ -1,4 +1,4 @@
--- What the fields behind a word are to be, and whether a field is that.
+-- What the fields after a word have to be, and whether a field is that.
 use Rattle.std.specs.Prelude.{ℕ, Bool, List, [], ◌∷◌, codes, Option, Some, None, is_some}
 use Rattle.odb_base.specs.Decimal.{number_of}
 use Rattle.odb_base.specs.Path.{path_of}
@@ -14,7 +14,7 @@ use Rattle.odb_script.specs.declared.word.Word.TheVariants as words
 use Rattle.script_reasons.specs.declared.expected.Expected.{Expected}
 use Rattle.script_reasons.specs.declared.expected.Expected.TheVariants.{Handle, Path, Number, Kind, Id, Data, Content, Choice, Change}
 
--- behind a word that follows `do`
+-- after a word that follows `do`
 abbrev pub expected_of_change : ChangeWord → List Expected
 expected_of_change changes.Mkdir = Path ∷ []
 expected_of_change changes.Put = Path ∷ Number ∷ Content ∷ []
@@ -23,7 +23,7 @@ expected_of_change changes.Rename = Path ∷ Path ∷ []
 expected_of_change changes.Remove = Path ∷ []
 expected_of_change changes.Time = Path ∷ Number ∷ []
 
--- behind a word of a line, but for the options of an opening and for what follows `do` and its word
+-- after a word of a line, except the options of an opening and what follows `do` and its word
 abbrev pub expected_of : Word → List Expected
 expected_of words.Fail = Number ∷ []
 expected_of words.Mkdir = expected_of_change changes.Mkdir
@@ -43,12 +43,12 @@ expected_of words.Finish = Handle ∷ []
 expected_of words.Do = Change ∷ []
 expected_of words.NotBuilt = []
 
--- what further fields are to be, where there may be any: options
+-- what further fields have to be, if there may be any: options
 abbrev pub further_of : Word → Option Expected
 further_of words.Open = Some Choice
 further_of word = None
 
--- whether a field is what it is to be: whether a line with it is read
+-- whether a field is what it has to be: whether a line with it is read
 abbrev pub is_spelled : Expected → List ℕ → Bool
 is_spelled Handle text = is_some (handle_of text)
 is_spelled Path text = is_some (path_of text)

@@ -22,14 +22,14 @@ by_fault (Some fault) = Field fault.field fault.mistake
 unfoldable pub line_reason : List ℕ → Reason
 line_reason line = if is_utf8 line then by_fault (fault_in (fields_of line)) else NotText
 
--- whether a line is outside the language wherever it stands
+-- whether a line is outside the language everywhere
 abbrev pub is_outside : Item → Bool
 is_outside items.Refused = true
 is_outside item = false
 
--- ---- of a line of the language, by what stands before it
+-- ---- of a line of the language, after the lines before it
 
--- a change of the setup may stand before the steps, where it is possible
+-- a change of the setup may come before the steps, if it is possible
 abbrev pub of_change : Script → Reason
 of_change (Faults numbers) = Impossible
 of_change (Setup disk) = Impossible
@@ -39,21 +39,21 @@ abbrev pub placed : Script → Item → Reason
 placed script (items.Setup change) = of_change script
 placed script item = OutOfPlace
 
--- why a script that was read so far refuses its next line, where it does
+-- why a script, read so far, refuses its next line, if it does
 abbrev pub reason_of : Script → List ℕ → Reason
 reason_of script line = if is_outside (item_of line) then line_reason line else placed script (item_of line)
 
 -- ---- of a line by its number
 
--- the line that has a number, counted from 1, without its line feed; nothing where no line has it
+-- the line with a number, counted from 1, without its line feed; empty if no line has it
 abbrev pub line_at : List ℕ → ℕ → List ℕ
 line_at bytes number = get_or (lines_in bytes) (number - 1) []
 
 abbrev pub is_last : List ℕ → ℕ → Bool
 is_last bytes number = nat_le (length (lines_in bytes)) number
 
--- Why the line that has a number is refused, where a script that was read up to it refuses it. The last line of a front of
--- a script that is too long is refused for that.
+-- Why the line with this number is refused, if a script, read up to it, refuses it. The last line of a prefix of a script
+-- that is too long is refused for that.
 abbrev pub reason_in : Bool → Script → List ℕ → ℕ → Reason
 reason_in is_cut script bytes number =
     if is_cut && is_last bytes number then TooLong else reason_of script (line_at bytes number)

@@ -1,4 +1,4 @@
--- Why a line is refused, or what isn't built yet of one, in words, as standard error tells it.
+-- Why a line is refused, or what of one isn't built yet, in the words on standard error.
 use Rattle.std.specs.Prelude.{ℕ, ◌-◌, ◌&&◌, Bool, true, false, List, [], ◌∷◌, ◌++◌, codes, get_or, length, nat_le, take, Option, Some, None, if◌then◌else◌}
 use Rattle.std.specs.List.{flat_map}
 use Rattle.std.specs.Fmt.{decimal}
@@ -33,12 +33,12 @@ shown_bytes bytes = flat_map shown_byte bytes
 abbrev pub most_shown : ℕ
 most_shown = 60
 
--- a field, or its front and two dots
+-- a field, or the front of it and two dots
 abbrev pub shown_part : List ℕ → List ℕ
 shown_part field =
     if nat_le (length field) most_shown then shown_bytes field else shown_bytes (take most_shown field) ++ codes ".."
 
--- words stand for an empty one
+-- an empty one in words
 abbrev pub shown : List ℕ → List ℕ
 shown [] = codes "(nothing)"
 shown (first ∷ rest) = shown_part (first ∷ rest)
@@ -53,11 +53,11 @@ mistake_told (Not kind) field = codes "not " ++ name_of kind ++ codes ": " ++ sh
 mistake_told (Missing kind) field = codes "missing: " ++ name_of kind
 mistake_told TooMany field = codes "one field too many: " ++ shown field
 
--- the field that has a number, counted from 1; nothing where no field has it
+-- the field with a number, counted from 1; empty if no field has it
 abbrev pub field_at : List ℕ → ℕ → List ℕ
 field_at line number = get_or (fields_of line) (number - 1) []
 
--- what is told of a line, behind its number
+-- the message on a line, after its number
 abbrev pub reason_told : List ℕ → Reason → List ℕ
 reason_told line TooLong = codes ": the script is longer than " ++ decimal script_limit ++ codes " bytes"
 reason_told line NotText = codes ": not UTF-8"
@@ -65,7 +65,7 @@ reason_told line (Field number mistake) = codes ", field " ++ decimal number ++ 
 reason_told line Impossible = codes ": impossible on the disk so far"
 reason_told line OutOfPlace = codes ": not in this place"
 
--- what is told of the refused line that has a number, in a script or in a front of one that is too long
+-- the message on the refused line with this number, in a script or in a prefix of one that is too long
 abbrev pub told : ℕ → List ℕ → Reason → List ℕ
 told number line reason = codes "line " ++ decimal number ++ reason_told line reason
 
@@ -78,7 +78,7 @@ told_at script bytes number =
     then told_in false script bytes number
     else told_in true script (take script_limit bytes) number
 
--- what is told of the line that has a number and isn't built yet
+-- the message on the line with this number, which isn't built yet
 abbrev pub unbuilt_told : List ℕ → Option ℕ → List ℕ
 unbuilt_told line None = codes ": not built yet"
 unbuilt_told line (Some number) = codes ", field " ++ decimal number ++ codes ": not built yet: " ++ shown (field_at line number)
@@ -92,12 +92,12 @@ unbuilt_at bytes number =
     then unbuilt_line number (line_at bytes number)
     else unbuilt_line number (line_at (take script_limit bytes) number)
 
--- what is told of a script that was read so far and ends so: why it refuses a line, or what isn't built yet of one
+-- the message on a script that was read so far and ends so: why it refuses a line, or what of one isn't built yet
 abbrev pub told_by : Script → List ℕ → Ending → List ℕ
 told_by script bytes (RefusedAt number) = told_at script bytes number
 told_by script bytes (NotBuiltAt number) = unbuilt_at bytes number
 told_by script bytes Whole = []
 
--- what is told of a script
+-- the message on a script
 unfoldable pub told_of : List ℕ → List ℕ
 told_of bytes = told_by (reading_of bytes).script bytes (reading_of bytes).ending

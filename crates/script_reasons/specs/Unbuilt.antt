@@ -7,12 +7,12 @@ use Rattle.odb_script.specs.Word.{word_of}
 use Rattle.odb_script.specs.declared.word.Word.{Word}
 use Rattle.odb_script.specs.declared.word.Word.TheVariants as words
 
--- the number of the first option that isn't built yet, where the first of them has a number
+-- the number of the first option that isn't built yet; the first of them has this number
 unfoldable pub first_unbuilt : Fields → ℕ → Option ℕ
 first_unbuilt [] number = None
 first_unbuilt (option ∷ options) number = if is_unbuilt_option option then Some number else first_unbuilt options (number + 1)
 
--- the options of an opening stand behind its handle and its path
+-- the options of an opening follow its handle and its path
 abbrev pub unbuilt_option : Fields → Option ℕ
 unbuilt_option [] = None
 unbuilt_option (handle ∷ []) = None

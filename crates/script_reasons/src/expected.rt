@@ -1,4 +1,4 @@
-//! What the fields behind a word are to be.
+//! What is expected of the fields after a word.
 ghost use Rattle.std.specs.Prelude.{◌≡◌, IfOk};
 ghost use Rattle.script_reasons.specs.Expected.{expected_of, expected_of_change, further_of, is_spelled, name_of};
 
@@ -8,7 +8,7 @@ use odb_script::{
 };
 use std::alloc::Global;
 
-/// What a field is to be.
+/// What a field has to be.
 #[derive(Clone, Copy, PartialEq, Eq)]
 pub enum Expected {
     Handle,
@@ -25,7 +25,7 @@ pub enum Expected {
     Change,
 }
 
-/// What the fields behind a word are to be, but for the options of an opening and for what follows `do`.
+/// What the fields after a word have to be, except the options of an opening and what follows `do`.
 pub fn expected_of(word: Word) -> &'static [Expected]
     ensures expected { result.now ≡ expected_of word }
 {
@@ -56,7 +56,7 @@ pub fn expected_of(word: Word) -> &'static [Expected]
     }
 }
 
-/// What the fields behind a word that follows `do` are to be.
+/// What the fields after a word that follows `do` have to be.
 pub fn expected_of_change(word: ChangeWord) -> &'static [Expected]
     ensures expected { result.now ≡ expected_of_change word }
 {
@@ -68,7 +68,7 @@ pub fn expected_of_change(word: ChangeWord) -> &'static [Expected]
     }
 }
 
-/// What any further fields behind a word are to be, if there may be any.
+/// What any further fields after a word have to be, if there may be any.
 pub(crate) fn further_of(word: Word) -> Option<Expected>
     ensures further { result ≡ further_of word }
 {
@@ -78,7 +78,7 @@ pub(crate) fn further_of(word: Word) -> Option<Expected>
     }
 }
 
-/// Whether a field is what it is to be.
+/// Whether a field is what it has to be.
 pub(crate) fn is_spelled(alloc: Global, expected: Expected, text: &str) -> Result<bool, NoMemory>
     ensures spelled { IfOk result (λ spelled. spelled ≡ is_spelled expected text.now) }
 {
@@ -95,7 +95,7 @@ pub(crate) fn is_spelled(alloc: Global, expected: Expected, text: &str) -> Resul
     }
 }
 
-/// What a field is to be, in words.
+/// What a field has to be, in words.
 pub(crate) fn name_of(expected: Expected) -> &'static [u8]
     ensures name { result.now ≡ name_of expected }
 {

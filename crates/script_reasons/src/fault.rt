@@ -22,15 +22,15 @@ pub enum Mistake {
     NoSuchWord,
     /// No word that follows `do` is this.
     NoSuchChange,
-    /// It isn't what it is to be.
+    /// It isn't what it has to be.
     Not(Expected),
     /// The line ends before this field.
     Missing(Expected),
-    /// The line is to end before this field.
+    /// The line should end before this field.
     TooMany,
 }
 
-/// The first field that is wrong, if one is.
+/// The first field that is wrong, if any.
 #[tactic(auto, unfolding(crate::specs::Fault::fault_in))]
 pub(crate) fn fault_in(alloc: Global, fields: &[&str]) -> Result<Option<Fault>, NoMemory>
     ensures fault { IfOk result (λ fault. fault ≡ fault_in (texts_of fields.now)) }
@@ -41,7 +41,7 @@ pub(crate) fn fault_in(alloc: Global, fields: &[&str]) -> Result<Option<Fault>, 
     }
 }
 
-/// The same, by the first word and the fields behind it.
+/// The first field that is wrong, by the first word and the fields after it.
 fn fault_behind(
     alloc: Global,
     word: Option<Word>,
@@ -58,7 +58,7 @@ fn fault_behind(
     }
 }
 
-/// The first field behind `do` that is wrong.
+/// The first field after `do` that is wrong.
 fn change_fault(alloc: Global, fields: &[&str]) -> Result<Option<Fault>, NoMemory>
     requires few { length fields.now + 1 < 2 ^ 64 }
     ensures fault { IfOk result (λ fault. fault ≡ change_fault (texts_of fields.now)) }
@@ -72,7 +72,7 @@ fn change_fault(alloc: Global, fields: &[&str]) -> Result<Option<Fault>, NoMemor
     }
 }
 
-/// The first field that isn't what it is to be, where the first of the fields has a number.
+/// The first field that isn't what it has to be; the first of the fields has this number.
 #[tactic(auto, unfolding(crate::specs::Fault::first_wrong))]
 fn first_wrong(
     alloc: Global,
@@ -98,7 +98,7 @@ fn first_wrong(
     Ok(missing(left, number))
 }
 
-/// The fault of a field that is to be this, if there may be one.
+/// The fault of a field that has to be this, if there may be one.
 fn judged(
     alloc: Global,
     expected: Option<Expected>,
@@ -117,7 +117,7 @@ fn judged(
     }
 }
 
-/// What the next field is to be, if there may be one.
+/// What the next field has to be, if there may be one.
 fn next_expected(expected: &[Expected], further: Option<Expected>) -> Option<Expected>
     ensures next { result ≡ next_expected further expected.now }
 {
@@ -136,7 +136,7 @@ fn but_first(expected: &[Expected]) -> &[Expected]
     }
 }
 
-/// A field that is missing, if one is.
+/// A field that is missing, if any.
 fn missing(expected: &[Expected], number: usize) -> Option<Fault>
     ensures fault { result ≡ missing expected.now number }
 {

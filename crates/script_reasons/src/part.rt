@@ -1,4 +1,4 @@
-//! The line of a script, or the field of a line, that has a number.
+//! A numbered line of a script, or field of a line.
 ghost use Rattle.std.specs.Prelude.{◌≡◌, ◌==◌, ◌-◌, [], get_or, length, nat_le};
 ghost use Rattle.std.specs.List.{slice_split};
 
@@ -7,12 +7,12 @@ use odb_script::first_part;
 /// A part of some bytes, and whether it is the last one.
 #[derive(Clone, Copy)]
 pub struct Part<'a> {
-    /// Without what ends it; nothing where no part has the number.
+    /// The bytes without their separator; none if no part has the number.
     pub bytes: &'a [u8],
     pub is_last: bool,
 }
 
-/// The part that has a number, counted from 1, of bytes that a byte splits.
+/// The part with a number, counted from 1, of bytes that a separator splits.
 pub fn part_at(bytes: &[u8], separator: u8, number: u64) -> Part<'_>
     ensures part { result.bytes.now ≡ get_or (slice_split (λ b. b == separator) bytes.now) (number - 1) [] }
     ensures last { result.is_last ≡ nat_le (length (slice_split (λ b. b == separator) bytes.now)) number }

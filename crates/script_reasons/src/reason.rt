@@ -13,23 +13,23 @@ use std::alloc::Global;
 /// Why a line is refused.
 #[derive(Clone, Copy)]
 pub enum Reason {
-    /// The script is longer than a script may be, and this line has its first byte too many.
+    /// The script is longer than allowed, and this line has the first byte too many.
     TooLong,
     /// The line isn't UTF-8.
     NotText,
     /// The first field that is wrong, counted from 1 with the word, and what is wrong with it.
     Field { number: usize, mistake: Mistake },
-    /// A change of the setup that isn't possible on the disk that the lines before it made.
+    /// A change of the setup that isn't possible on the disk after the lines before it.
     Impossible,
-    /// A line that says something, but not where it stands.
+    /// A line that says something, but not in this place.
     OutOfPlace,
 }
 
-/// Why a script that was read so far refuses its next line, where it does.
+/// Why a script, read so far, refuses its next line, if it does.
 pub fn reason_of(alloc: Global, script: &Script, line: &[u8]) -> Result<Reason, NoMemory>
     ensures reason { IfOk result (λ reason. reason ≡ reason_of script.now line.now) }
 
-    // A line that is outside the language wherever it stands is never said to be out of place.
+    // A line that is outside the language everywhere is never reported as out of place.
     ensures outside { item_of line.now ≡ Item.Refused → IfOk result (λ reason. reason ≢ Reason.OutOfPlace) }
 {
     let (outside, placed) = judged(alloc, script, line)?;
@@ -40,7 +40,7 @@ pub fn reason_of(alloc: Global, script: &Script, line: &[u8]) -> Result<Reason, 
     }
 }
 
-/// Whether a line is outside the language wherever it stands, and why it is refused where it isn't.
+/// Whether a line is outside the language everywhere, and why it is refused if it isn't.
 fn judged(alloc: Global, script: &Script, line: &[u8]) -> Result<(bool, Reason), NoMemory>
     ensures outside { IfOk result (λ judged. judged.0 ≡ is_outside (item_of line.now)) }
     ensures placed { IfOk result (λ judged. judged.1 ≡ placed script.now (item_of line.now)) }
@@ -49,14 +49,14 @@ fn judged(alloc: Global, script: &Script, line: &[u8]) -> Result<(bool, Reason),
     Ok((is_outside(&item), placed(script, &item)))
 }
 
-/// Whether a line is outside the language wherever it stands.
+/// Whether a line is outside the language everywhere.
 fn is_outside(item: &Item) -> bool
     ensures outside { result ≡ is_outside item.now }
 {
     matches!(item, Item::Refused)
 }
 
-/// Why a line is refused that is outside the language wherever it stands.
+/// Why a line is refused that is outside the language everywhere.
 #[tactic(auto, using(odb_script::proofs::TextLemmas::utf8_true, odb_script::proofs::TextLemmas::utf8_false), unfolding(crate::specs::Reason::line_reason))]
 fn line_reason(alloc: Global, line: &[u8]) -> Result<Reason, NoMemory>
     ensures reason { IfOk result (λ reason. reason ≡ line_reason line.now) }
@@ -86,7 +86,7 @@ fn by_fault(fault: Option<Fault>) -> Reason
     }
 }
 
-/// Why a line of the language is refused by what stands before it.
+/// Why a line of the language is refused after the lines before it.
 fn placed(script: &Script, item: &Item) -> Reason
     ensures reason { result ≡ placed script.now item.now }
 {

@@ -1,4 +1,4 @@
-//! What isn't built yet of a line.
+//! What of a line isn't built yet.
 ghost use Rattle.std.specs.Prelude.{◌≡◌, ◌+◌, ◌<◌, ◌^◌, ◌++◌, Some, length, IfOk, OnOk};
 ghost use Rattle.odb_script.specs.Split.{fields_of, texts_of};
 ghost use Rattle.script_reasons.specs.Reason.{line_at};
@@ -12,7 +12,7 @@ use odb_program::{labelled, text};
 use odb_script::{SCRIPT_LIMIT, Word, fields_of, is_unbuilt_option, word_of};
 use std::alloc::Global;
 
-/// What isn't built yet of the line that has a number, in words.
+/// What of the line with this number isn't built yet, in words.
 #[tactic(auto, unfolding(crate::specs::Told::unbuilt_at))]
 pub(crate) fn unbuilt_at(alloc: Global, bytes: &[u8], number: u64) -> Result<Vec<u8>, NoMemory>
     ensures told { IfOk result (λ told. told.items ≡ unbuilt_at bytes.now number) }
@@ -40,7 +40,7 @@ fn unbuilt_line(alloc: Global, number: u64, line: &[u8]) -> Result<Vec<u8>, NoMe
     Ok(out)
 }
 
-/// Adds which field isn't built yet, behind the number of the line.
+/// Adds which field isn't built yet, after the number of the line.
 fn add_unbuilt(
     alloc: Global,
     out: &mut Vec<u8>,
@@ -95,7 +95,7 @@ fn unbuilt_in(fields: &[&str]) -> Option<usize>
     }
 }
 
-/// By the first word and the fields behind it: the word itself, or an option of an opening.
+/// The number by the first word and the fields after it: the word itself, or an option of an opening.
 fn unbuilt_behind(word: Option<Word>, fields: &[&str]) -> Option<usize>
     ensures field { result ≡ unbuilt_behind word (texts_of fields.now) }
 {
@@ -106,7 +106,7 @@ fn unbuilt_behind(word: Option<Word>, fields: &[&str]) -> Option<usize>
     }
 }
 
-/// The options of an opening stand behind its handle and its path.
+/// The number of an option: the options of an opening follow its handle and its path.
 fn unbuilt_option(fields: &[&str]) -> Option<usize>
     ensures field { result ≡ unbuilt_option (texts_of fields.now) }
 {

@@ -15,7 +15,7 @@ use std::alloc::Global;
 /// The most bytes of a field that are shown.
 const MOST_SHOWN: usize = 60;
 
-/// What is told of a script as it was read: why it refuses a line, or what isn't built yet of one; else nothing.
+/// The message on a script that was read: why it refuses a line, or what of one isn't built yet; else nothing.
 pub fn told_of(alloc: Global, bytes: &[u8], reading: &Reading) -> Result<Vec<u8>, NoMemory>
     ensures told { IfOk result (λ told. told.items ≡ told_by reading.now.script bytes.now reading.now.ending) }
 {
@@ -26,7 +26,7 @@ pub fn told_of(alloc: Global, bytes: &[u8], reading: &Reading) -> Result<Vec<u8>
     }
 }
 
-/// Why the line that has a number is refused.
+/// Why the line with this number is refused.
 #[tactic(auto, unfolding(crate::specs::Told::told_at))]
 fn told_at(alloc: Global, script: &Script, bytes: &[u8], number: u64) -> Result<Vec<u8>, NoMemory>
     ensures told { IfOk result (λ told. told.items ≡ told_at script.now bytes.now number) }
@@ -38,7 +38,7 @@ fn told_at(alloc: Global, script: &Script, bytes: &[u8], number: u64) -> Result<
     }
 }
 
-/// The same in a script, or in a front of one that is too long.
+/// Why the line is refused, in a script or in a prefix of one that is too long.
 fn told_in(
     alloc: Global,
     script: &Script,
@@ -60,7 +60,7 @@ fn told_in(
     told(alloc, number, line, reason)
 }
 
-/// Why a line that has a number is refused, in words.
+/// Why the line with this number is refused, in words.
 fn told(alloc: Global, number: u64, line: &[u8], reason: Reason) -> Result<Vec<u8>, NoMemory>
     ensures told { IfOk result (λ text. text.items ≡ told number line.now reason) }
 {
@@ -70,7 +70,7 @@ fn told(alloc: Global, number: u64, line: &[u8], reason: Reason) -> Result<Vec<u
     Ok(out)
 }
 
-/// Adds the reason behind the number of the line.
+/// Adds the reason after the number of the line.
 fn add_reason(alloc: Global, out: &mut Vec<u8>, line: &[u8], reason: Reason) -> Result<(), NoMemory>
     ensures ok { OnOk result (out.new.items ≡ out.old.items ++ reason_told line.now reason) }
 {
@@ -154,7 +154,7 @@ fn add_shown(alloc: Global, out: &mut Vec<u8>, field: &[u8]) -> Result<(), NoMem
     }
 }
 
-/// Adds a field, or its front and two dots.
+/// Adds a field, or the front of it and two dots.
 fn add_part(alloc: Global, out: &mut Vec<u8>, field: &[u8]) -> Result<(), NoMemory>
     ensures ok { OnOk result (out.new.items ≡ out.old.items ++ shown_part field.now) }
 {

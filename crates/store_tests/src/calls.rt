@@ -30,7 +30,7 @@ pub fn store_at(
     Ok(Store::at_opts(alloc, &path, hash, options)?)
 }
 
-/// `find HEX`: what a find answers.
+/// `find HEX`: the result of a find.
 fn find<D: Disk>(alloc: Global, store: &Store, disk: &mut D, hex: &str) -> Result<String, Fail> {
     let id = id_of(store, hex)?;
     let mut out = Vec::from_slice(alloc, b"before")?;
@@ -38,7 +38,7 @@ fn find<D: Disk>(alloc: Global, store: &Store, disk: &mut D, hex: &str) -> Resul
     found_shown(alloc, &found)
 }
 
-/// `left HEX`: what a find leaves in what it was lent, which held `before`.
+/// `left HEX`: what a find leaves in its buffer, which held `before`.
 fn left<D: Disk>(alloc: Global, store: &Store, disk: &mut D, hex: &str) -> Result<String, Fail> {
     let id = id_of(store, hex)?;
     let mut out = Vec::from_slice(alloc, b"before")?;
@@ -46,7 +46,7 @@ fn left<D: Disk>(alloc: Global, store: &Store, disk: &mut D, hex: &str) -> Resul
     Ok(String::from_utf8_lossy(alloc, out.as_slice())?)
 }
 
-/// `into HEX`: the kind of what is found, and what stands in the buffer then, which held `before`.
+/// `into HEX`: the kind of the found object, and the contents of the buffer then, which held `before`.
 fn find_into<D: Disk>(
     alloc: Global,
     store: &Store,
@@ -62,14 +62,14 @@ fn find_into<D: Disk>(
     }
 }
 
-/// `header HEX`: what a look for a header answers.
+/// `header HEX`: the result of a header look-up.
 fn header<D: Disk>(alloc: Global, store: &Store, disk: &mut D, hex: &str) -> Result<String, Fail> {
     let id = id_of(store, hex)?;
     let found = store.try_header(alloc, disk, &id);
     header_shown(alloc, &found)
 }
 
-/// `ask HEX`: the answers of a find, of a look for a header and of a test of presence.
+/// `ask HEX`: the results of a find, a header look-up and a test of presence.
 fn answers<D: Disk>(alloc: Global, store: &Store, disk: &mut D, hex: &str) -> Result<String, Fail> {
     let found = find(alloc, store, disk, hex)?;
     let head = header(alloc, store, disk, hex)?;
@@ -92,7 +92,7 @@ fn write<D: Disk>(alloc: Global, store: &Store, disk: &mut D, rest: &str) -> Res
     wrote_shown(alloc, &written)
 }
 
-/// `object KIND DATA`, by an object that gives its own data.
+/// `object KIND DATA`, by an object that produces its own data.
 fn object<D: Disk>(alloc: Global, store: &Store, disk: &mut D, rest: &str) -> Result<String, Fail> {
     let (kind, data) = kind_and_data(alloc, rest)?;
     let object = Data {
@@ -117,7 +117,7 @@ fn write_as<D: Disk>(
     wrote_shown(alloc, &written)
 }
 
-/// The size and the source of `SIZE FAILING DATA`, of whose reads the one with this number fails.
+/// The size and the source of `SIZE FAILING DATA`; the read with the number FAILING fails.
 fn size_and_source(alloc: Global, text: &str) -> Result<(u64, MemSource), Fail> {
     let (size, rest) = cut(text);
     let (failing, data) = cut(rest);
@@ -134,7 +134,7 @@ fn stream<D: Disk>(alloc: Global, store: &Store, disk: &mut D, rest: &str) -> Re
     wrote_shown(alloc, &written)
 }
 
-/// `streamas SIZE FAILING DATA`: the same under the id of the blob `hello`.
+/// `streamas SIZE FAILING DATA`: `stream` under the id of the blob `hello`.
 fn stream_as<D: Disk>(
     alloc: Global,
     store: &Store,
@@ -147,7 +147,7 @@ fn stream_as<D: Disk>(
     wrote_shown(alloc, &written)
 }
 
-/// `read PATH`: the bytes of a file, as a text, or why the disk refuses it.
+/// `read PATH`: the bytes of a file, as a text, or why the disk refuses to read it.
 fn read<D: Disk>(alloc: Global, disk: &mut D, path: &str) -> Result<String, Fail> {
     let path = PathText::parse(alloc, path)?;
     match disk.read(alloc, &path) {
@@ -156,7 +156,7 @@ fn read<D: Disk>(alloc: Global, disk: &mut D, path: &str) -> Result<String, Fail
     }
 }
 
-/// What a call of a store or its disk gives. `hello` asks for the blob `hello`.
+/// The result of a call of a store or its disk. `hello` asks for the blob `hello`.
 pub fn called<D: Disk>(
     alloc: Global,
     store: &Store,

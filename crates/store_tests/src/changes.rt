@@ -17,7 +17,7 @@ fn applied(alloc: Global, disk: &mut MemDisk, change: &Change) -> Result<String,
     word_of(alloc, "done")
 }
 
-/// `file TEXT`: the answers for the blob `hello` where its file has these bytes.
+/// `file TEXT`: the answers for the blob `hello` if its file has these bytes.
 fn answers_of(
     alloc: Global,
     store: &Store,
@@ -29,7 +29,7 @@ fn answers_of(
     called(alloc, store, disk, "hello")
 }
 
-/// What a row gives on a disk in memory. `calls` tells how many calls of the disk there were.
+/// The result of a row on a disk in memory. `calls` returns how many calls of the disk there were.
 fn told(alloc: Global, store: &Store, disk: &mut MemDisk, text: &str) -> Result<String, Fail> {
     let (verb, rest) = cut(text);
     match verb {
@@ -46,7 +46,7 @@ fn check_row(alloc: Global, store: &Store, disk: &mut MemDisk, row: &str) -> Res
     compare(text, found.as_str(), want)
 }
 
-/// What each row gives, in turn, on one disk.
+/// Checks the result of each row, in turn, on one disk.
 pub fn check_on(
     alloc: Global,
     store: &Store,
@@ -59,7 +59,7 @@ pub fn check_on(
     Ok(())
 }
 
-/// The same with a store in `/o` of this hash and limit, on a new disk of which the calls with these numbers fail.
+/// `check_on` with a store in `/o` of this hash and limit, on a new disk on which the calls with these numbers fail.
 pub fn check(
     alloc: Global,
     hash: gix_hash::Kind,

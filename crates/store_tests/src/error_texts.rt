@@ -6,7 +6,7 @@ use std::alloc::Global;
 use std::test::Fail;
 use test_words::compare;
 
-/// An error of a find by its word, with 6 bytes of data in place of 5.
+/// An error of a find by its word, with 6 bytes of data instead of 5.
 fn find_error(path: PathText, word: &str) -> find::Error {
     let action = Action::OpenOrMap;
     let (actual, expected) = (6, 5);
@@ -23,7 +23,7 @@ fn find_error(path: PathText, word: &str) -> find::Error {
     }
 }
 
-/// An error of a write by its word, with 6 bytes of data in place of 5.
+/// An error of a write by its word, with 6 bytes of data instead of 5.
 fn write_error(path: PathText, word: &str) -> write::Error {
     let (actual, expected) = (6, 5);
     let message = match word {

@@ -1,4 +1,4 @@
-//! Answers of finds, looks for headers and tests of presence, and their errors.
+//! Results of finds, header look-ups and tests of presence, and their errors.
 use crate::changes::{check, check_on};
 use gix_hash::Kind::{Sha1, Sha256};
 use gix_odb_loose::{Options, Store};
@@ -51,8 +51,8 @@ const SHA256: [&str; 5] = [
     "ask 0000000000000000000000000000000000000000000000000000000000000000|none, none, no",
 ];
 
-// A damaged file that is taken, or is refused by another error than its own; a header that isn't told because of
-// the data behind it; data behind what `out` held; a directory answered as an object, a blocked way as absent; an
+// A damaged file that is accepted, or is refused by another error than its own; a header that isn't returned because
+// of the data after it; data appended to what `out` held; a directory found as an object, a blocked way as absent; an
 // object of SHA-256 that isn't found at its path, or is found by another id.
 #[test]
 fn finds(rt: HostRuntime) -> Result<(), Fail> {
@@ -60,7 +60,7 @@ fn finds(rt: HostRuntime) -> Result<(), Fail> {
     check(rt.alloc(), Sha256, None, &[], &SHA256)
 }
 
-/// What a find leaves in what it was lent: the data, or nothing. The second file has more data than its header says.
+/// What a find leaves in its buffer: the data, or nothing. The second file has more data than its header says.
 const LEFT: [&str; 11] = [
     "make /o|done",
     "left b6fc4c620b67d95f953a5c1c1230aaab5db5a1b0|",
@@ -80,7 +80,7 @@ fn check_left(alloc: Global, store: &Store) -> Result<(), Fail> {
     check_on(alloc, store, &mut disk, &LEFT)
 }
 
-// What stood in the lent bytes before, or data that weren't found. The store has no limit.
+// The bytes that were in the buffer before, or data that weren't found. The store has no limit.
 #[test]
 fn lent_bytes(rt: HostRuntime) -> Result<(), Fail> {
     let path = PathText::parse(rt.alloc(), "/o")?;
@@ -96,7 +96,7 @@ fn no_limit(rt: HostRuntime) -> Result<(), Fail> {
     check_left(rt.alloc(), &store)
 }
 
-// A limit that is off by one, that isn't tested first, or that counts for a header.
+// A limit that is off by one, that isn't tested first, or that applies to a header look-up.
 #[test]
 fn limits(rt: HostRuntime) -> Result<(), Fail> {
     for (limit, row) in [

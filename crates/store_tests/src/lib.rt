@@ -1,8 +1,8 @@
-//! What no clause of a store of loose objects says: that calls succeed, which answers damaged files get, Git's ids, and
+//! What no clause of a store of loose objects says: that calls succeed, the results for damaged files, Git's ids, and
 //! the texts of errors.
 //!
-//! Each test is a table. A row is a call or a change in words, and behind a bar what is to come of it; `calls` says
-//! which words there are.
+//! Each test is a table. A row is a call or a change in words, and after a bar the expected result; `calls` defines
+//! the words.
 #![tactic(auto)]
 
 #[cfg(test)]

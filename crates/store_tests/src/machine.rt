@@ -22,7 +22,7 @@ pub fn reply_shown(alloc: Global, reply: &LooseReply) -> Result<String, Fail> {
     }
 }
 
-/// A write of a blob with these data, which are said to be `size`, under the id of the blob `hello`.
+/// A write of a blob with these data and the stated `size`, under the id of the blob `hello`.
 pub fn write_started(
     alloc: Global,
     store: &Store,
@@ -40,7 +40,7 @@ pub fn write_started(
     Ok(LooseCall::start(alloc, store, job)?)
 }
 
-/// One call of the disk, and its answer; a call that is done stays as it is.
+/// One call of the disk, and its answer; a call that is done stays unchanged.
 fn turn<D: Disk>(alloc: Global, disk: &mut D, call: LooseCall) -> Result<LooseCall, NoMemory> {
     match call.disk_ask(alloc)? {
         Some(ask) => call.feed(alloc, ask.carry_out(alloc, disk)),
@@ -48,7 +48,7 @@ fn turn<D: Disk>(alloc: Global, disk: &mut D, call: LooseCall) -> Result<LooseCa
     }
 }
 
-/// Thirty calls of the disk at most.
+/// At most thirty calls of the disk.
 fn run<D: Disk>(alloc: Global, disk: &mut D, call: LooseCall) -> Result<LooseCall, NoMemory> {
     let mut call = call;
     for _ in 0..30 {
@@ -57,7 +57,7 @@ fn run<D: Disk>(alloc: Global, disk: &mut D, call: LooseCall) -> Result<LooseCal
     Ok(call)
 }
 
-/// `machine SIZE DATA`: the reply of such a write, or `asks` where it isn't done.
+/// `machine SIZE DATA`: the reply of such a write, or `asks` if it isn't done.
 pub fn machine_reply<D: Disk>(
     alloc: Global,
     store: &Store,

@@ -1,4 +1,4 @@
-//! Calls by hand: what they ask, and what they reply to an answer.
+//! Calls by hand: their asks, and their replies to an answer.
 use crate::calls::store_at;
 use crate::machine::{reply_shown, write_started};
 use crate::words::{HELLO, id_of, word_of};
@@ -10,7 +10,7 @@ use std::alloc::Global;
 use std::test::Fail;
 use test_words::{compare, cut, halves};
 
-/// A call that finds the blob `hello`, by its name in words.
+/// A call on the blob `hello`, by its name in words.
 fn started(alloc: Global, store: &Store, word: &str) -> Result<LooseCall, Fail> {
     let id = id_of(store, HELLO)?;
     match word {
@@ -45,7 +45,7 @@ fn ask_shown(alloc: Global, ask: DiskAsk) -> Result<String, Fail> {
     }
 }
 
-/// What a call asks, or what it replied.
+/// The ask of a call, or its reply.
 fn asked(alloc: Global, call: &LooseCall) -> Result<String, Fail> {
     match call.ask(alloc)? {
         LooseAsk::Disk(ask) => ask_shown(alloc, ask),
@@ -60,13 +60,13 @@ fn fed(alloc: Global, call: LooseCall, text: &str) -> Result<LooseCall, NoMemory
     call.feed(alloc, DiskAnswer::Refused(DiskError::Absent))
 }
 
-/// What a call replies to an answer.
+/// The reply of a call to an answer.
 fn replied(alloc: Global, call: LooseCall, answer: &str) -> Result<String, Fail> {
     let call = fed(alloc, call, answer)?;
     asked(alloc, &call)
 }
 
-/// What a call asks, and what it replies to an answer.
+/// The ask of a call, and its reply to an answer.
 fn by_hand(alloc: Global, store: &Store, text: &str) -> Result<String, Fail> {
     let (job, answer) = cut(text);
     let call = started(alloc, store, job)?;
@@ -81,7 +81,7 @@ fn check_row(alloc: Global, store: &Store, row: &str) -> Result<(), Fail> {
     compare(text, found.as_str(), want)
 }
 
-// A call that asks for something else, an answer that is taken as another one, or a reply that changes.
+// A call that asks for something else, an answer mistaken for another one, or a reply that changes.
 #[test]
 fn finds_by_hand(rt: HostRuntime) -> Result<(), Fail> {
     let store = store_at(rt.alloc(), "/o", Sha1, None)?;
@@ -123,7 +123,7 @@ fn check_write(alloc: Global, store: &Store) -> Result<(), Fail> {
     check_file(alloc, &call, "/o/tmp_obj_0")
 }
 
-// A temporary file that is told before it is made, or isn't told after it.
+// A temporary file that is reported before it is made, or isn't reported after it.
 #[test]
 fn temporary_file(rt: HostRuntime) -> Result<(), Fail> {
     let store = store_at(rt.alloc(), "/o", Sha1, None)?;

@@ -13,8 +13,8 @@ fn path_of(alloc: Global, hash: gix_hash::Kind, hex: &str) -> Result<String, Fai
     Ok(store.object_path(alloc, &id)?.to_text(alloc)?)
 }
 
-// A path that is cut at another digit, or after an id of the other hash. The second id is told by `git hash-object` in
-// a repository of SHA-256, the third is Git's example of a blob, `hello` and a line feed.
+// A path that is cut at another digit, or after an id of the other hash. The second id is from `git hash-object` in a
+// repository of SHA-256, the third is Git's example of a blob, `hello` and a line feed.
 #[test]
 fn paths(rt: HostRuntime) -> Result<(), Fail> {
     for (hash, hex, path) in [

@@ -9,7 +9,7 @@ use std::test::Fail;
 use std::{env, fs, io};
 use test_words::{compare, cut, halves};
 
-/// Makes a folder, goes there, and gives the store that lies in it.
+/// Makes a folder, changes to it, and returns the store in it.
 fn enter_folder(rt: &HostRuntime, folder: &str) -> Result<Store, Fail> {
     let _ = fs::remove_dir_all(rt, folder);
     fs::create_dir_all(rt, folder)?;
@@ -18,8 +18,8 @@ fn enter_folder(rt: &HostRuntime, folder: &str) -> Result<Store, Fail> {
     store_at(rt.alloc(), here.as_str(), Sha1, None)
 }
 
-/// What another program makes of a name in that folder: `file NAME TEXT`, `mkdir NAME`, `link NAME TARGET`,
-/// `move NAME OTHER`, or `take NAME`.
+/// A change of a name in that folder by another program: `file NAME TEXT`, `mkdir NAME`, `link NAME TARGET`, `move
+/// NAME OTHER`, or `take NAME`.
 fn make(rt: &HostRuntime, verb: &str, rest: &str) -> io::Result<()> {
     let (name, more) = cut(rest);
     match verb {
@@ -31,7 +31,7 @@ fn make(rt: &HostRuntime, verb: &str, rest: &str) -> io::Result<()> {
     }
 }
 
-/// What a row gives: such a change, `bytes NAME` of a file there, `there NAME`, or a call of the store.
+/// The result of a row: such a change, `bytes NAME` of a file there, `there NAME`, or a call of the store.
 fn told(
     rt: &HostRuntime,
     store: &Store,
@@ -61,7 +61,7 @@ fn check_row(
     compare(text, found.as_str(), want)
 }
 
-/// What each row gives, in turn. Tells how many calls failed.
+/// Checks the result of each row, in turn. Returns how many calls failed.
 fn check(rt: &HostRuntime, store: &Store, rows: &[&str]) -> Result<u64, Fail> {
     let mut disk = HostDisk::new(rt.alloc(), rt);
     for row in rows {
@@ -107,8 +107,8 @@ fn faults_at(rt: &HostRuntime, store: &Store, number: RawFd) -> Result<u64, Fail
     check(rt, store, &[link.as_str(), "hello|io, io, io"])
 }
 
-// A real folder that is answered otherwise than one in memory: nothing, a file, a link to one, other bytes, no
-// bytes, a directory; a device or a pipe that is read, which would wait for bytes that nobody writes.
+// A real folder with other results than one in memory: nothing, a file, a link to one, other bytes, no bytes, a
+// directory; a device or a pipe that is read, which would wait for bytes that nobody writes.
 #[test]
 fn finds(rt: HostRuntime) -> Result<(), Fail> {
     let store = enter_folder(&rt, "out/finds")?;

@@ -1,10 +1,10 @@
-//! A write from a source beside one of the same bytes by the machine.
+//! A write from a source, compared with one of the same bytes by the machine.
 use crate::changes::check;
 use gix_hash::Kind::Sha1;
 use std::test::Fail;
 
-/// Each write comes to its end after as many calls of the disk as the one before it, and ends so too. In the last three
-/// pairs the seventh call fails: the making of the directory, and the removal of the temporary file.
+/// Each write ends after as many calls of the disk as the one before it, and with the same result. In the last three
+/// pairs the seventh call fails: the creation of the directory, and the removal of the temporary file.
 const PAIRS: [&str; 33] = [
     "make /o|done",
     "machine 0 0|b6fc4c620b67d95f953a5c1c1230aaab5db5a1b0",
@@ -41,8 +41,8 @@ const PAIRS: [&str; 33] = [
     "read /o/tmp_obj_0|Absent",
 ];
 
-// A write from a source that makes more or fewer calls of the disk than a write of the same bytes at hand, or that ends
-// otherwise.
+// A write from a source that makes more or fewer calls of the disk than a write of the same bytes from memory, or
+// that ends otherwise.
 #[test]
 fn same_calls(rt: HostRuntime) -> Result<(), Fail> {
     check(rt.alloc(), Sha1, None, &[37, 46, 55, 62, 69, 76], &PAIRS)

@@ -77,7 +77,7 @@ fn condition<D: Disk>(
     )
 }
 
-/// `damage HEX`: a byte more at the end of its file.
+/// `damage HEX`: adds a byte to its file.
 fn damaged<D: Disk>(alloc: Global, disk: &mut D, store: &Store, hex: &str) -> Result<String, Fail> {
     let id = id_of(store, hex)?;
     let path = store.object_path(alloc, &id)?;
@@ -85,7 +85,7 @@ fn damaged<D: Disk>(alloc: Global, disk: &mut D, store: &Store, hex: &str) -> Re
     word_of(alloc, "done")
 }
 
-/// What a row gives: such a call of the first store, or behind `other` of the second one.
+/// The result of a row: such a call of the first store, or after `other` of the second one.
 fn told<D: Disk>(
     alloc: Global,
     disk: &mut D,
@@ -122,7 +122,7 @@ const ROWS: [&str; 14] = [
     "other b6fc4c620b67d95f953a5c1c1230aaab5db5a1b0|sound",
 ];
 
-/// Two stores in folders of a disk that are made first, and what each row gives, in turn.
+/// Two stores in folders of a disk that are made first, and the result of each row, in turn.
 fn check<D: Disk>(alloc: Global, disk: &mut D, top: &str) -> Result<(), Fail> {
     let store = store_made(alloc, disk, top, "one")?;
     let other = store_made(alloc, disk, top, "other")?;
@@ -150,14 +150,14 @@ fn check_row<D: Disk>(
     compare(text, found.as_str(), want)
 }
 
-// A call that gives up, answers for another store, or tells a damaged object as sound or absent.
+// A call that gives up, answers for another store, or reports a damaged object as sound or absent.
 #[test]
 fn in_memory(rt: HostRuntime) -> Result<(), Fail> {
     let mut disk = MemDisk::new(rt.alloc())?;
     check(rt.alloc(), &mut disk, "")
 }
 
-// The same in a real folder.
+// The rows of `in_memory` in a real folder.
 #[test]
 fn in_a_folder(rt: HostRuntime) -> Result<(), Fail> {
     let _ = fs::remove_dir_all(&rt, "out/uses");

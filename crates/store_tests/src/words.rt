@@ -9,7 +9,7 @@ use gix_odb_loose::{Store, find, write};
 use std::alloc::{AllocError, Global};
 use std::test::Fail;
 
-/// The path of the blob `hello` below `/o`; its id is told by `git hash-object`.
+/// The path of the blob `hello` below `/o`; its id is from `git hash-object`.
 pub const FILE: &str = "/o/b6/fc4c620b67d95f953a5c1c1230aaab5db5a1b0";
 
 /// The id of the blob `hello`.
@@ -26,7 +26,7 @@ pub fn id_of(store: &Store, hex: &str) -> Result<ObjectId, Fail>
     Err(Fail::new("an id of the other hash"))
 }
 
-/// Data in a word: so many bytes `a` where it is a number, else its own bytes.
+/// The data of a word: this many bytes `a` if it is a number, else its own bytes.
 pub fn data_of(alloc: Global, word: &str) -> Result<Vec<u8>, AllocError> {
     match word.parse::<usize>() {
         Ok(len) => vec![in alloc; b'a'; len],
@@ -34,7 +34,7 @@ pub fn data_of(alloc: Global, word: &str) -> Result<Vec<u8>, AllocError> {
     }
 }
 
-/// An object: its kind and its data, of which the number is told where they are a hundred bytes `a` or more.
+/// An object: its kind and its data, or their number if they are a hundred bytes `a` or more.
 pub fn object_shown(alloc: Global, kind: Kind, bytes: &[u8]) -> Result<String, Fail> {
     let len = bytes.len();
     if len >= 100 && bytes.iter().all(|&byte| byte == b'a') {
@@ -44,7 +44,7 @@ pub fn object_shown(alloc: Global, kind: Kind, bytes: &[u8]) -> Result<String, F
     Ok(format!(in alloc; "{kind} {text}")?)
 }
 
-/// What a find answers: the kind and the data, `none`, or an error's word.
+/// The result of a find: the kind and the data, `none`, or an error's word.
 pub fn found_shown(
     alloc: Global,
     found: &Result<Option<Data<'_>>, find::Error>,
@@ -56,7 +56,7 @@ pub fn found_shown(
     }
 }
 
-/// What a look for a header answers: the kind and the size, `none`, or an error's word.
+/// The result of a header look-up: the kind and the size, `none`, or an error's word.
 pub fn header_shown(
     alloc: Global,
     found: &Result<Option<(u64, Kind)>, find::Error>,
@@ -68,7 +68,7 @@ pub fn header_shown(
     }
 }
 
-/// What a test of presence answers: `yes`, `no`, or an error's word.
+/// The result of a test of presence: `yes`, `no`, or an error's word.
 pub fn presence_shown(found: &Result<bool, find::Error>) -> &'static str {
     match found {
         Ok(true) => "yes",
@@ -77,7 +77,7 @@ pub fn presence_shown(found: &Result<bool, find::Error>) -> &'static str {
     }
 }
 
-/// What a write answers: the id, or an error's word.
+/// The result of a write: the id, or an error's word.
 pub fn wrote_shown(
     alloc: Global,
     written: &Result<ObjectId, write::Error>,
@@ -98,7 +98,7 @@ pub fn find_word(error: &find::Error) -> &'static str {
     }
 }
 
-/// An error of a write in a word, with the number of bytes where this is another than was told.
+/// An error of a write in a word, with the number of bytes if it isn't the expected one.
 fn write_shown(alloc: Global, error: &write::Error) -> Result<String, Fail> {
     match error {
         write::Error::Io { .. } => word_of(alloc, "io"),

@@ -1,4 +1,4 @@
-//! What writes leave and answer: Git's ids, pieces, sources that fail, and failing calls of the disk.
+//! The effects and results of writes: Git's ids, pieces, sources that fail, and failing calls of the disk.
 use crate::changes::check;
 use gix_hash::Kind::{Sha1, Sha256};
 use std::test::Fail;
@@ -28,7 +28,7 @@ const WRITES: [&str; 21] = [
     "read /o/tmp_obj_0|Absent",
 ];
 
-/// After so many bytes there were so many calls more: one for each piece and four, and one for the find.
+/// After this many bytes there were this many more calls: one for each piece and four, and one for the find.
 const PIECES: [&str; 16] = [
     "make /o|done",
     "as blob 0|b6fc4c620b67d95f953a5c1c1230aaab5db5a1b0",
@@ -80,8 +80,8 @@ const BLOCKED: [&str; 13] = [
     "write blob hello|persist",
 ];
 
-// Git 2.39.5 told these ids by `git hash-object --literally -t KIND --stdin`: of nothing, of `hello` and a line feed,
-// and of 70,000 bytes `a`.
+// These ids are from Git 2.39.5, by `git hash-object --literally -t KIND --stdin`: of nothing, of `hello` and a line
+// feed, and of 70,000 bytes `a`.
 const IDS: [&str; 13] = [
     "make /o|done",
     "write commit |dcf5b16e76cce7425d0beaef62d79a7d10fce1f5",
@@ -98,7 +98,7 @@ const IDS: [&str; 13] = [
     "object tag 70000|b8cdcae309f3ca53e6ad77acb3c61bc33147d9ab",
 ];
 
-// The same in a repository made by `git init --object-format=sha256`.
+// The ids of these in a repository made by `git init --object-format=sha256`.
 const LONG_IDS: [&str; 13] = [
     "make /o|done",
     "write commit |9f2a7f3b00f22334f6adc2721fb1f89cd969f02264d37cf6a2c32ba09beb6822",
@@ -116,9 +116,9 @@ const LONG_IDS: [&str; 13] = [
 ];
 
 // An object that isn't found under the id that Git gives it, or under its known one; more or fewer calls of the disk
-// than are stated, or bytes that are lost between pieces; a source that gives fewer or more bytes than were told, or
-// that fails, and is taken for a good one; a way that is blocked and answered by another error than its own; a
-// temporary file that stays.
+// than are stated, or bytes that are lost between pieces; a source with fewer or more bytes than expected, or that
+// fails, and is taken for a good one; a way that is blocked and gives another error than its own; a temporary file
+// that stays.
 #[test]
 fn writes(rt: HostRuntime) -> Result<(), Fail> {
     for rows in [
@@ -133,7 +133,7 @@ fn writes(rt: HostRuntime) -> Result<(), Fail> {
     check(rt.alloc(), Sha256, None, &[], &LONG_IDS)
 }
 
-// A call whose failure is answered by another error, or leaves a file behind.
+// A call whose failure gives another error, or leaves a file.
 #[test]
 fn faults(rt: HostRuntime) -> Result<(), Fail> {
     for (failing, write, left) in [

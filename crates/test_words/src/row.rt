@@ -2,17 +2,17 @@
 use std::alloc::AllocError;
 use std::test::Fail;
 
-/// The first word of a text and what is after it, which is empty where there is one word alone.
+/// Returns the first word of a text and what is after it, which is empty where there is only one word.
 pub fn cut(text: &str) -> (&str, &str) {
     text.split_once(' ').unwrap_or((text, ""))
 }
 
-/// What a row does, and what must follow.
+/// Returns what a row does, and what must follow.
 pub fn halves(row: &str) -> (&str, &str) {
     row.split_once('|').unwrap_or((row, ""))
 }
 
-/// The same without the blanks beside the bar.
+/// Returns both halves without the blanks around the bar.
 pub fn wide_halves(row: &str) -> (&str, &str) {
     let (done, want) = halves(row);
     (done.trim_end(), want.trim_start())

@@ -44,7 +44,7 @@ impl Text {
         }
     }
 
-    /// Adds numbers, each with a blank before it.
+    /// Adds numbers, each after a space.
     pub fn numbers(&mut self, numbers: &[u64]) {
         for number in numbers {
             self.marked(" ", *number);

@@ -1,4 +1,4 @@
--- Lemmas on sums: there is one way to draw the numbers, and two calls over them come to one answer.
+-- Lemmas on sums: there is one way to draw the numbers, and two calls over them have one answer.
 use Rattle.std.proofs.Common.{◌≡◌, ℕ, zero, suc, ◌+◌, ◌-◌, ◌<◌, ◌≤◌, List, ◌∷◌, sym, ap, ◌∙◌, subst, arith, Result, Ok, Err, Option}
 use Rattle.std.specs.Prelude.{⊤, MatchOption}
 use Rattle.std.specs.List.{range_with_len, AllByRecursion}
@@ -28,7 +28,7 @@ all_of range xs all = drained steps_up left_of (λ s t stops. ap (range_with_len
 pub one_list : (range : Range ℕ) (xs ys : List ℕ) → Drains steps_up range xs → Drains steps_up range ys → xs ≡ ys
 one_list range xs ys first second = all_of range xs first ∙ sym (all_of range ys second)
 
--- and are below its end
+-- the numbers of a range are below its end
 below : (end a n : ℕ) → a + n ≤ end → AllByRecursion (λ x. x < end) (range_with_len a n)
 below end a zero few = tt
 below end a (suc n) few = (omega (arith, few), below end (a + 1) n (omega (arith, few)))
@@ -36,7 +36,7 @@ below end a (suc n) few = (omega (arith, few), below end (a + 1) n (omega (arith
 pub each_below : (end : ℕ) (xs : List ℕ) → Drains steps_up (record { start = 0; end = end }) xs → AllByRecursion (λ x. x < end) xs
 each_below end xs all = subst (AllByRecursion (λ x. x < end)) (sym (all_of (record { start = 0; end = end }) xs all)) (below end 0 (end - 0) (omega arith))
 
--- two answers, where neither is want of memory
+-- two answers, neither of which is out of memory
 pub both_reduced : {A E : Type 0} {P Q : Result A E → Type 0} (a b : Result A (ParallelError E)) → IfReduced a P → IfReduced b Q
     → ((x y : Result A E) → P x → Q y → x ≡ y) → IfReduced a (λ x. IfReduced b (λ y. x ≡ y))
 both_reduced (Ok x) (Ok y) p q same = same (Ok x) (Ok y) p q
@@ -47,7 +47,7 @@ both_reduced (Err (parallel.Reduce e)) (Err (parallel.Reduce f)) p q same = same
 both_reduced (Err (parallel.Reduce e)) (Err parallel.NoMemory) p q same = q
 both_reduced (Err parallel.NoMemory) b p q same = p
 
--- Two calls with workers of any two numbers come to one answer, where neither is want of memory: the law, for what the calls ensure.
+-- Two calls with workers of any two numbers have one answer, unless memory runs out: the law, for what the calls ensure.
 pub one_for_both : {S T O A E : Type 0} (begins : ℕ → S → Type 0) (consumes : S → T → O → S → Type 0) (gives : List T → Type 0) (reduces : List O → Result A E → Type 0)
     (n m : ℕ) (a b : Result A (ParallelError E)) → IfReduced a (IsAnswer gives (AreMade begins consumes n) reduces) → IfReduced b (IsAnswer gives (AreMade begins consumes m) reduces)
     → 0 < n → 0 < m → (fits : T → Type 0) → ((xs : List T) → gives xs → AllByRecursion fits xs) → (makes : T → O) → ((s t : S) (x : T) (o : O) → fits x → consumes s x o t → o ≡ makes x)

@@ -13,7 +13,7 @@ use std::thread;
 use std::thread::Threads;
 use std::time::{Clock, Duration};
 
-/// How many numbers there are: more than are ever drawn.
+/// The numbers there are: more than are ever drawn.
 const ALL: u32 = 1_000;
 
 type Shared = Arc<AtomicU64, Global>;
@@ -50,14 +50,14 @@ fn fresh_numbers(alloc: Global) -> Result<(Counted, Shared), NoMemory> {
     Ok((numbers, drawn))
 }
 
-/// How many numbers were drawn a moment after so many were, or some seconds later.
+/// How many numbers were drawn a moment after `wanted` were, or some seconds later.
 fn drawn_by<C: Clock>(clock: &C, drawn: &AtomicU64, wanted: u64) -> u64 {
     wait_for(clock, drawn, wanted);
     thread::sleep(clock, Duration::from_millis(20));
     drawn.load(Ordering::SeqCst)
 }
 
-/// Whether so many numbers are drawn before any is asked for.
+/// Whether `wanted` numbers are drawn before any is asked for.
 fn draws<H: Threads + Wait + Clock + Copy + Send + 'static>(
     rt: H,
     alloc: Global,
@@ -75,7 +75,7 @@ fn draws<H: Threads + Wait + Clock + Copy + Send + 'static>(
     Ok(count == wanted)
 }
 
-/// The same where it is chosen whether they are drawn ahead.
+/// Whether they are drawn so if it is chosen whether they are drawn ahead.
 fn draws_if<H: Threads + Wait + Clock + Copy + Send + 'static>(
     rt: H,
     alloc: Global,
@@ -111,7 +111,7 @@ fn draws_unasked(rt: HostRuntime) -> Result<(), Fail> {
     Ok(())
 }
 
-// The same where it is chosen whether they are drawn ahead.
+// Catches the same if it is chosen whether they are drawn ahead.
 #[test]
 fn draws_unasked_if(rt: HostRuntime) -> Result<(), Fail> {
     let alloc: Global = rt.alloc();

@@ -10,10 +10,10 @@ use std::sync::Wait;
 use std::test::Fail;
 use std::thread::Threads;
 
-/// Stands for want of memory among numbers.
+/// Stands for out of memory among numbers.
 const WANT: u32 = u32::MAX;
 
-/// The number that is answered, or 0 where there is none.
+/// The number that is returned, or 0 if there is none.
 fn number_of(answer: Option<Result<u32, NoMemory>>) -> u32 {
     match answer {
         Some(Ok(number)) => number,
@@ -22,7 +22,7 @@ fn number_of(answer: Option<Result<u32, NoMemory>>) -> u32 {
     }
 }
 
-/// Whether of the numbers from 1 on, below `end`, four calls give these, with 0 for none.
+/// Whether the first four calls for the numbers from 1 on, below `end`, give these, with 0 for none.
 fn is_drawn<H: Threads + Wait + Copy + Send + 'static>(
     rt: H,
     alloc: Global,
@@ -44,8 +44,8 @@ fn is_drawn<H: Threads + Wait + Copy + Send + 'static>(
     [first, second, third, fourth] == wanted
 }
 
-// Catches an item of a chunk that is lost, an end before the last item, want of memory in place of the end, and an item after
-// the end.
+// Catches an item of a chunk that is lost, an end before the last item, out of memory in place of the end, and an
+// item after the end.
 #[test]
 fn draws_ahead(rt: HostRuntime) -> Result<(), Fail> {
     let alloc: Global = rt.alloc();
@@ -58,7 +58,7 @@ fn draws_ahead(rt: HostRuntime) -> Result<(), Fail> {
     Ok(())
 }
 
-/// What a loop over numbers that are drawn ahead comes to, where each one is put behind the ones before it as a digit.
+/// The result of a loop over numbers that are drawn ahead, which appends each as a digit.
 fn digits<H: Threads + Wait + Copy + Send + 'static>(
     rt: H,
     alloc: Global,
@@ -96,7 +96,7 @@ fn gives_three<H: Threads + Wait + Copy>(numbers: &mut EagerIterIf<Range<u32>, H
     [first, second, third, last] == [1, 2, 3, 0]
 }
 
-/// The same where it is chosen whether they are drawn ahead.
+/// Whether they are given if it is chosen whether they are drawn ahead.
 fn is_chosen<H: Threads + Wait + Copy + Send + 'static>(rt: H, alloc: Global, ahead: bool) -> bool {
     let Ok(mut numbers) = EagerIterIf::new(rt, alloc, move || ahead, 1..4u32, 2, 1) else {
         return false;
@@ -107,7 +107,7 @@ fn is_chosen<H: Threads + Wait + Copy + Send + 'static>(rt: H, alloc: Global, ah
     is_ahead == ahead && is_given
 }
 
-// Catches a condition that isn't heeded, and want of memory in place of the end.
+// Catches a condition that isn't heeded, and out of memory in place of the end.
 #[test]
 fn draws_ahead_if(rt: HostRuntime) -> Result<(), Fail> {
     let alloc: Global = rt.alloc();

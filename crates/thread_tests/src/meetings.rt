@@ -1,4 +1,4 @@
-//! Two workers that wait for each other, which they do in vain where one begins only once the other has ended.
+//! Two workers that wait for each other, in vain if one begins only once the other has ended.
 use crate::waiting::wait_for;
 use gix_features_parts::parallel::Reduce;
 use gix_features_rounds::in_parallel_with_slice;
@@ -28,7 +28,7 @@ impl Meeting {
         }
     }
 
-    /// Says that a worker is at work, and waits for the other one. It answers whether that was at work too.
+    /// Says that a worker is at work, and waits for the other one. Returns whether that was at work too.
     fn meets<C: Clock>(&self, clock: &C, worker: usize) -> bool {
         let (own, other) = if worker == 0 {
             (&self.first, &self.second)
@@ -169,7 +169,7 @@ fn met_in_join<H: Threads + Clock + Sync>(rt: &H) -> (bool, bool) {
     join(rt, || shared.meets(rt, 0), || shared.meets(rt, 1))
 }
 
-// The same, of the workers of a round.
+// Catches that for the workers of a round.
 #[test]
 fn rounds_meet(rt: HostRuntime) -> Result<(), Fail> {
     let alloc: Global = rt.alloc();
@@ -177,7 +177,7 @@ fn rounds_meet(rt: HostRuntime) -> Result<(), Fail> {
     Ok(())
 }
 
-// The same, of two functions.
+// Catches that for two functions.
 #[test]
 fn functions_meet(rt: HostRuntime) -> Result<(), Fail> {
     assert!(rt; met_in_join(&rt) == (true, true));

@@ -16,19 +16,19 @@ fn is_put<R: Wait>(rt: &R, alloc: Global, writer: &mut Writer, bytes: &[u8]) -> 
     writer.write(rt, alloc, bytes).is_ok()
 }
 
-/// How many bytes are read, or 9 where an error is answered.
+/// How many bytes are read, or 9 on an error.
 fn count_read<R: Wait>(rt: &R, reader: &mut Reader, out: &mut [u8]) -> usize {
     reader.read(rt, out).unwrap_or(9)
 }
 
-/// Writes two pieces, and lets the pipe go.
+/// Writes two pieces, and drops the pipe.
 fn write_two<R: Wait>(rt: &R, alloc: Global, mut writer: Writer) -> bool {
     let first = is_put(rt, alloc, &mut writer, b"abc");
     let second = is_put(rt, alloc, &mut writer, b"d");
     first && second
 }
 
-/// How many bytes are read, or 9 where an error is answered. The pipe is let go.
+/// How many bytes are read, or 9 on an error. The pipe is dropped.
 fn read_all<R: Wait>(rt: &R, mut reader: Reader, out: &mut [u8]) -> usize {
     count_read(rt, &mut reader, out)
 }
@@ -67,7 +67,7 @@ fn back<R: Wait>(rt: &R, alloc: Global, writer: &mut Writer) -> usize {
     }
 }
 
-// Catches a piece that is lost where nobody reads it.
+// Catches a piece that is lost if nobody reads it.
 #[test]
 fn gone(rt: HostRuntime) -> Result<(), Fail> {
     let alloc: Global = rt.alloc();
@@ -79,7 +79,7 @@ fn gone(rt: HostRuntime) -> Result<(), Fail> {
     Ok(())
 }
 
-/// Sends an error between two pieces of two bytes. It answers whether all are in the pipe.
+/// Sends an error between two pieces of two bytes. Returns whether all are in the pipe.
 fn fail<R: Wait>(rt: &R, alloc: Global, writer: &mut Writer) -> Result<bool, NoMemory> {
     let error = error_of(alloc, b"no")?;
     let is_begun = is_put(rt, alloc, writer, b"ab");
@@ -104,7 +104,7 @@ fn reads_before<R: Wait>(rt: &R, reader: &mut Reader) -> bool {
     count == 2 && has_failed
 }
 
-// Catches bytes that are lost before an error, and an error that is passed over, or is another one.
+// Catches bytes that are lost before an error, and an error that is skipped, or is another one.
 #[test]
 fn fails(rt: HostRuntime) -> Result<(), Fail> {
     let alloc: Global = rt.alloc();
@@ -117,7 +117,7 @@ fn fails(rt: HostRuntime) -> Result<(), Fail> {
     Ok(())
 }
 
-/// The first of bytes, or 0 where there is none.
+/// The first of some bytes, or 0 if there is none.
 fn first_of(bytes: Result<&[u8], PipeError>) -> u8 {
     match bytes {
         Ok([first, ..]) => *first,
@@ -125,7 +125,7 @@ fn first_of(bytes: Result<&[u8], PipeError>) -> u8 {
     }
 }
 
-/// Whether the bytes before an error are lent, and then the error, and then the bytes behind it.
+/// Whether the bytes before an error are lent, and then the error, and then the bytes after it.
 fn lends_around<R: Wait>(rt: &R, reader: &mut Reader) -> bool {
     let first = first_of(reader.fill_buf(rt));
     reader.consume(2);
@@ -134,8 +134,8 @@ fn lends_around<R: Wait>(rt: &R, reader: &mut Reader) -> bool {
     first == b'a' && has_failed && last == b'c'
 }
 
-// Catches an error that stands before the bytes at hand, is passed over, is another one or is answered again, and bytes that are
-// lost behind it.
+// Catches an error that comes before the buffered bytes, is skipped, is another one or is returned again, and bytes
+// that are lost after it.
 #[test]
 fn fails_between(rt: HostRuntime) -> Result<(), Fail> {
     let alloc: Global = rt.alloc();
@@ -169,7 +169,7 @@ fn lends(rt: HostRuntime) -> Result<(), Fail> {
     Ok(())
 }
 
-/// Writes two bytes, none, and two more, each as a piece. It answers whether all are in the pipe.
+/// Writes two bytes, none, and two more, each as a piece. Returns whether all are in the pipe.
 fn put_around_none<R: Wait>(rt: &R, alloc: Global, writer: &mut Writer) -> bool {
     let is_begun = is_put(rt, alloc, writer, b"ab");
     let is_empty = is_put(rt, alloc, writer, b"");
@@ -184,7 +184,7 @@ fn reads_around_none<R: Wait>(rt: &R, reader: &mut Reader) -> bool {
     count == 4 && out == *b"abcd"
 }
 
-/// Whether the bytes before an empty piece are lent, and then those behind it.
+/// Whether the bytes before an empty piece are lent, and then those after it.
 fn lends_around_none<R: Wait>(rt: &R, reader: &mut Reader) -> bool {
     let first = first_of(reader.fill_buf(rt));
     reader.consume(2);
@@ -192,7 +192,7 @@ fn lends_around_none<R: Wait>(rt: &R, reader: &mut Reader) -> bool {
     first == b'a' && last == b'c'
 }
 
-// Catches an empty piece that is taken for the end, by a read and where bytes are lent.
+// Catches an empty piece that is taken for the end, by a read and when bytes are lent.
 #[test]
 fn empty_between(rt: HostRuntime) -> Result<(), Fail> {
     let alloc: Global = rt.alloc();
@@ -205,7 +205,7 @@ fn empty_between(rt: HostRuntime) -> Result<(), Fail> {
     Ok(())
 }
 
-/// An error of a text, where there is memory for it.
+/// An error with a text, if there is memory for it.
 fn error_of(alloc: Global, text: &[u8]) -> Result<PipeError, NoMemory> {
     Ok(PipeError::Sent(ByteList::from_slice(alloc, text)?))
 }
@@ -226,7 +226,7 @@ fn comes_back<R: Wait>(rt: &R, alloc: Global) -> Result<bool, NoMemory> {
     Ok(is_no(sent))
 }
 
-// Catches an error that is lost where nobody reads it.
+// Catches an error that is lost if nobody reads it.
 #[test]
 fn error_gone(rt: HostRuntime) -> Result<(), Fail> {
     let alloc: Global = rt.alloc();
@@ -247,12 +247,12 @@ fn left_with<R: Wait>(rt: &R, alloc: Global, bytes: &[u8]) -> Result<Reader, NoM
     }
 }
 
-/// Whether a reader has these bytes at hand once it was filled.
+/// Whether a reader has buffered these bytes once it was filled.
 fn is_filled<R: Wait>(rt: &R, reader: &mut Reader, wanted: &[u8]) -> bool {
     reader.fill(rt).is_ok() && *reader.front() == *wanted
 }
 
-/// How many bytes a reader lends, or 9 where it answers an error.
+/// How many bytes a reader lends, or 9 on an error.
 fn lent<R: Wait>(rt: &R, reader: &mut Reader) -> usize {
     match reader.fill_buf(rt) {
         Ok(bytes) => bytes.len(),
@@ -260,7 +260,7 @@ fn lent<R: Wait>(rt: &R, reader: &mut Reader) -> usize {
     }
 }
 
-/// Whether these bytes are at hand, are read, and the end comes behind them each time that it is asked for.
+/// Whether these bytes are buffered, are read, and are followed by the end each time that it is asked for.
 fn ends_behind<R: Wait>(rt: &R, reader: &mut Reader, bytes: &[u8]) -> bool {
     let is_at_hand = is_filled(rt, reader, bytes);
     let mut out = [0u8; 4];
@@ -270,8 +270,8 @@ fn ends_behind<R: Wait>(rt: &R, reader: &mut Reader, bytes: &[u8]) -> bool {
     is_at_hand && first == bytes.len() && second == 0 && third == 0 && is_filled(rt, reader, b"")
 }
 
-// Catches bytes that aren't at hand once they were waited for, an end that is taken for an error, and an end that isn't the end
-// at the next read.
+// Catches bytes that aren't buffered once they were waited for, an end that is taken for an error, and an end that
+// isn't the end at the next read.
 #[test]
 fn ends(rt: HostRuntime) -> Result<(), Fail> {
     let alloc: Global = rt.alloc();
@@ -299,7 +299,7 @@ fn read_together<R: Wait>(rt: &R, alloc: Global) -> Result<[u8; 4], NoMemory> {
     }
 }
 
-// Catches bytes that are lost where both ends are put together, and ends that are no more of one pipe.
+// Catches bytes that are lost when both ends are put together, and ends that are no longer of one pipe.
 #[test]
 fn one_thread(rt: HostRuntime) -> Result<(), Fail> {
     let alloc: Global = rt.alloc();

@@ -5,7 +5,7 @@ use std::sync::atomic::{AtomicU64, Ordering};
 use std::test::Fail;
 use std::thread::Threads;
 
-/// What a function gives that starts a thread in a scope, and what that thread did.
+/// The result of a function that starts a thread in a scope, and what that thread did.
 fn counted<H: Threads + Wait>(rt: &H) -> (u8, u64) {
     let count = AtomicU64::new(0);
     let shared = &count;
@@ -20,7 +20,7 @@ fn counted<H: Threads + Wait>(rt: &H) -> (u8, u64) {
     (given, count.load(Ordering::SeqCst))
 }
 
-/// What a thread gives whose stack was chosen, or 0 where it can't be started.
+/// The result of a thread whose stack was chosen, or 0 if it can't be started.
 fn built<H: Threads>(rt: &H) -> u8 {
     match build_thread().stack_size(262_144).spawn(rt, || 6u8) {
         Ok(handle) => handle.join(rt),

@@ -5,7 +5,7 @@ use std::alloc::Global;
 use std::test::Fail;
 use std::thread::Threads;
 
-/// A call over three numbers, and what comes of it.
+/// A call over three numbers, and its result.
 struct Row {
     numbers: [u32; 3],
     /// Workers fail at this number and above.
@@ -49,7 +49,7 @@ const ROWS: [Row; 4] = [
     },
 ];
 
-/// Doubles a number and counts it, or fails where it is a bad one.
+/// Doubles a number and counts it, or fails if it is a bad one.
 fn double(number: &mut u32, count: &mut u32, bad: u32) -> Result<(), u32> {
     if *number >= bad {
         return Err(*number);

@@ -9,7 +9,7 @@ use std::alloc::Global;
 use std::test::Fail;
 use std::thread::Threads;
 
-/// Adds what it is fed, up to the greatest number.
+/// Adds what it is fed; it saturates.
 #[derive(Drop)]
 struct Sum {
     total: u64,
@@ -50,7 +50,7 @@ fn itself(number: u32, _state: &mut ()) -> u64
 
 type SumOrNone = Result<u64, ParallelError<NoMemory>>;
 
-/// The sums of the numbers below `end` that so many workers and so many others come to.
+/// The sums of the numbers below `end` by `one` and by `other` workers.
 fn sums<H: Threads + Sync>(
     rt: &H,
     alloc: Global,
@@ -84,7 +84,7 @@ fn sums<H: Threads + Sync>(
     (first, second)
 }
 
-// Catches a sum that is never answered, of which no clause speaks.
+// Catches a sum that is never returned, of which no clause speaks.
 #[test]
 fn sums_are_there(rt: HostRuntime) -> Result<(), Fail> {
     let alloc: Global = rt.alloc();

@@ -1,4 +1,4 @@
-//! Numbers that two workers put their counts to, or double, and that go into a list.
+//! Numbers to which two workers append their counts, or which they double, and that go into a list.
 use gix_features_parts::parallel::Reduce;
 use gix_features_workers::{
     Finalize, ParallelError, Stepwise, in_parallel, in_parallel_if, in_parallel_with_finalize,
@@ -11,9 +11,9 @@ use std::thread::Threads;
 /// Why there is no list.
 #[derive(Clone, Copy, PartialEq)]
 enum Refused {
-    /// This number isn't taken.
+    /// This number isn't accepted.
     Number(u32),
-    /// The list isn't given away.
+    /// The list isn't returned.
     List,
     NoMemory,
 }
@@ -22,7 +22,7 @@ enum Refused {
 #[derive(Drop)]
 struct Collected<'f> {
     all: Vec<u32>,
-    /// The number that isn't taken, or that the list isn't given away.
+    /// The number that isn't accepted, or that the list isn't returned.
     refuses: Option<Refused>,
     /// How many numbers were fed.
     fed: &'f AtomicU64,
@@ -83,15 +83,15 @@ fn last(count: u32) -> u32 {
 #[derive(Clone, Copy)]
 enum Call {
     Plain,
-    /// It has two workers where this holds.
+    /// It has two workers if this holds.
     If(bool),
     /// How many numbers each worker had is fed too.
     Counted,
-    /// The list is made step by step, of which so many are made one by one.
+    /// The list is made step by step, this many of them one by one.
     Steps(u32),
 }
 
-/// What a call makes of the numbers from 1 to 3.
+/// The result of a call over the numbers from 1 to 3.
 fn answer_of<'f, H: Threads + Sync, C: Fn(u32, &mut u32) -> u32 + Sync + Drop>(
     rt: &H,
     alloc: Global,
@@ -129,7 +129,7 @@ fn answer_of<'f, H: Threads + Sync, C: Fn(u32, &mut u32) -> u32 + Sync + Drop>(
     }
 }
 
-/// What comes of so many steps, whatever they give, and of the rest.
+/// The result of `steps` steps, whatever they give, and of the rest.
 fn stepped<'f, H: Threads + Sync, C: Fn(u32, &mut u32) -> u32 + Sync + Drop>(
     rt: &H,
     alloc: Global,
@@ -146,7 +146,7 @@ fn stepped<'f, H: Threads + Sync, C: Fn(u32, &mut u32) -> u32 + Sync + Drop>(
     end(rt, rest)
 }
 
-/// What comes of the rest.
+/// The result of the rest.
 fn end<H: Threads, F: Finalize>(
     rt: &H,
     steps: F,
@@ -154,8 +154,8 @@ fn end<H: Threads, F: Finalize>(
     steps.finalize(rt)
 }
 
-/// A call over the numbers from 1 to 3; what its list refuses; the list, with 0 behind its end, or why there is none; and how
-/// many numbers were fed.
+/// A call over the numbers from 1 to 3; what its list refuses; the list, with 0 after its end, or why there is none;
+/// and how many numbers were fed.
 type Row = (Call, Option<Refused>, Result<[u32; 5], Refused>, u64);
 
 const FIRST: Refused = Refused::Number(11);
@@ -222,7 +222,7 @@ fn is_same(
     }
 }
 
-/// Whether these numbers are those, behind which there may be zeros.
+/// Whether these numbers are those, followed by zeros, if any.
 fn is_list(all: &[u32], wanted: &[u32; 5]) -> bool {
     let count = all.len().min(5);
     all.len() <= 5 && all == &wanted[..count] && wanted[count..].iter().all(|number| *number == 0)
@@ -239,8 +239,8 @@ fn lists(rt: HostRuntime) -> Result<(), Fail> {
     Ok(())
 }
 
-// Catches an output that is lost, fed twice, or fed out of the order of the items, where it follows from its item alone; and
-// counts that aren't in the order of the workers.
+// Catches an output that is lost, fed twice, or fed out of the order of the items, if it follows from its item alone;
+// and counts that aren't in the order of the workers.
 #[test]
 fn doubles(rt: HostRuntime) -> Result<(), Fail> {
     let alloc: Global = rt.alloc();

@@ -18,14 +18,14 @@ fn tell_line(told: &mut String, path: &PathText, name: &str, kind: Kind) -> Resu
     write!(told, "{path} {name} {kind:?}; ")
 }
 
-/// Tells what an entry tells by its interface.
+/// Writes what an entry returns by its interface.
 fn tell_plain<T: DirEntryApi>(alloc: Global, told: &mut String, entry: &T) -> Result<(), NoMemory> {
     let path = entry.path(alloc)?;
     let name = entry.file_name(alloc)?;
     Ok(tell_line(told, &path, name.as_str(), entry.file_type())?)
 }
 
-/// Tells what a wrapped entry tells.
+/// Writes what a wrapped entry returns.
 fn tell_wrapped<T: DirEntryApi>(
     alloc: Global,
     told: &mut String,
@@ -116,7 +116,7 @@ fn tell_way(
     }
 }
 
-/// What a walk tells by a way to walk. A row asks for the way and the root.
+/// What a walk gives, by a way to walk. A row asks for the way and the root.
 struct Ways;
 
 impl Question for Ways {
@@ -149,7 +149,7 @@ fn sorted(rt: HostRuntime) -> Result<(), Fail> {
     check(rt.alloc(), &Ways, LOOPED, SORTED)
 }
 
-// Catches an order that is lost where directories come after their contents.
+// Catches an order that is lost when directories are given after their contents.
 #[test]
 fn sorted_after(rt: HostRuntime) -> Result<(), Fail> {
     check(rt.alloc(), &Ways, LOOPED, AFTER)
@@ -161,13 +161,13 @@ const COMPOSED: &str = "\
     composed /e\u{301}|/\u{e9} \u{e9} Dir; /\u{e9}/\u{fc} \u{fc} File;\n\
     plain /e\u{301}|/e\u{301}/u\u{308} u\u{308} File;";
 
-// Catches names that are composed where they weren't to be, or aren't where they were.
+// Catches names that are composed when they shouldn't be, or aren't when they should.
 #[test]
 fn composed(rt: HostRuntime) -> Result<(), Fail> {
     check(rt.alloc(), &Ways, ACCENTS, COMPOSED)
 }
 
-/// Makes a walk, begins it or not, and drops it. Its disk has the same tree then.
+/// Makes a walk, begins it or not, and drops it. Then its disk has the same tree.
 fn stepped<D: Disk>(
     alloc: Global,
     disk: &mut D,
@@ -184,8 +184,8 @@ fn stepped<D: Disk>(
     Ok(())
 }
 
-/// The number of the next stream after a walk that is dropped: 0 where none is open. A row asks for a walk that `begins` or
-/// one that doesn't.
+/// The number of the next stream after a walk that is dropped: 0 if none is open. A row asks for a walk that `begins`
+/// or one that doesn't.
 struct AfterDrop;
 
 impl Question for AfterDrop {
@@ -223,13 +223,13 @@ fn first_item(alloc: Global, disk: &mut MemDisk, dir: PathText) -> Result<Item, 
     Ok(Item { dir, entry })
 }
 
-/// Tells an item of a directory, and the same with its names composed.
+/// Writes an item of a directory, plainly and with its names composed.
 fn tell_both(alloc: Global, told: &mut String, item: Item) -> Result<(), NoMemory> {
     tell_plain(alloc, told, &item)?;
     tell_wrapped(alloc, told, &DirEntry::new(item, true))
 }
 
-/// What the first entry of a directory tells that is read without a walk, plainly and composed.
+/// What the first entry of a directory that is read without a walk returns, plainly and composed.
 struct FirstEntry;
 
 impl Question for FirstEntry {

@@ -1,4 +1,4 @@
-//! What entries and errors tell.
+//! What entries and errors return.
 ghost use Rattle.std.specs.Prelude.{if◌then◌else◌};
 ghost use Rattle.std.specs.Iterator.{IsFinite};
 ghost use Rattle.walkdir.specs.Entry.{is_dir};
@@ -24,7 +24,7 @@ impl KeyOf for DirsLast {
     }
 }
 
-/// Tells an entry's name, kind and depth, and whether a look tells the same kind and inode number.
+/// Writes an entry's name, kind and depth, and whether a stat reports the same kind and inode number.
 fn tell_entry(
     alloc: Global,
     told: &mut String,
@@ -38,7 +38,7 @@ fn tell_entry(
     Ok(())
 }
 
-/// Tells whether an error has a path, its depth, whether nothing was there, and whether it is a loop.
+/// Writes whether an error has a path, its depth, whether nothing was there, and whether it is a loop.
 fn tell_error(told: &mut String, error: &Error) -> Result<(), AllocError> {
     let (path, depth) = (error.path().is_some(), error.depth());
     let absent = error.io_error() == Some(DiskError::Absent);
@@ -73,7 +73,7 @@ fn tell_each<W: Walk>(
     Ok(())
 }
 
-/// Tells each item of a walk, directories last. The looks are made on a copy of the disk.
+/// Writes each item of a walk, directories last. The stats are made on a copy of the disk.
 fn tell_walk(
     alloc: Global,
     told: &mut String,
@@ -86,7 +86,7 @@ fn tell_walk(
     tell_each(alloc, told, copy, walk.into_iter_on(alloc, disk)?)
 }
 
-/// What entries and errors tell. A row asks `ROOT; OPTIONS`.
+/// What entries and errors return. A row asks `ROOT; OPTIONS`.
 struct Told;
 
 impl Question for Told {
@@ -113,14 +113,14 @@ const ENTRIES: &str = "\
 a Dir 1 true, b Dir 1 true,\n\
     /; max 0|/ Dir 0 true,";
 
-// Catches a key that is forgotten, ties that change their places, a look through a link that wasn't followed, and what an
-// error tells.
+// Catches a key that is forgotten, ties that change their places, a stat through a link that wasn't followed, and
+// wrong answers of an error.
 #[test]
 fn entries(rt: HostRuntime) -> Result<(), Fail> {
     check(rt.alloc(), &Told, NODES, ENTRIES)
 }
 
-/// Tells what is left of an item that is taken apart.
+/// Writes what is left of an item that is taken apart.
 fn tell_part(told: &mut String, item: walkdir::Result<DirEntry>) -> Result<(), AllocError> {
     match item {
         Ok(entry) => {
@@ -160,7 +160,7 @@ impl Question for TakenApart {
     }
 }
 
-// Catches a path or an error that is lost where its owner is taken apart.
+// Catches a path or an error that is lost when its owner is taken apart.
 #[test]
 fn parts(rt: HostRuntime) -> Result<(), Fail> {
     check(

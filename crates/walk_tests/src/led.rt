@@ -1,4 +1,4 @@
-//! Walks that are led on by words.
+//! Walks that are driven by words.
 ghost use Rattle.std.specs.Iterator.{IsFinite};
 ghost use Rattle.std.specs.Prelude.{◌≡◌, IfOk, true};
 
@@ -10,9 +10,9 @@ use walkdir::{DirEntry, NoSort, Sorter, Walk, WalkDir};
 
 /// What a walk gives.
 ///
-/// A row asks `ROOT; OPTIONS; STEPS`. Beside the options of a walk there are `sort`, by file names, and `filter`. A step is
-/// `next`, `skip`, or `entered` for whether the walk has entered the directory that it gave. Behind the steps all that is
-/// left is told, and `end` where a step comes behind the last item.
+/// A row asks `ROOT; OPTIONS; STEPS`. Besides the options of a walk there are `sort`, by file names, and `filter`. A
+/// step is `next`, `skip`, or `entered` for whether the walk has entered the directory that it gave. After the steps
+/// all that is left is written, and `end` if a step follows the last item.
 pub struct Led;
 
 impl Question for Led {
@@ -94,7 +94,7 @@ fn tell_rest<W: Walk>(told: &mut String, walk: W) -> Result<(), AllocError>
     Ok(())
 }
 
-/// Leads a walk on, and answers whether it didn't come to its end.
+/// Drives a walk, and returns whether it didn't reach its end.
 fn take_steps<W: Walk>(told: &mut String, walk: &mut W, steps: &str) -> Result<bool, AllocError>
     requires can { W.can_next walk.old }
     requires ends { IsFinite (W.remaining walk.old) }

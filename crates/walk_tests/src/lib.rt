@@ -1,7 +1,7 @@
 //! What walks give on disks in memory, and what the crates on walks make of it: Git's order, composed names, and the
-//! answers that callers read off a walk.
+//! answers that callers get from a walk.
 //!
-//! It has tests alone. Most are tables: a row has what is walked and how, and behind a bar what is told of it.
+//! It has tests alone. Most are tables: a row has what is walked and how, and after a bar what is written of it.
 #![tactic(auto)]
 
 #[cfg(test)]

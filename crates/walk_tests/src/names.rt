@@ -1,4 +1,4 @@
-//! The names under which `gix_features` hands on its other parts. One that is gone is an error here.
+//! The names under which `gix_features` re-exports its other parts. One that is gone is an error here.
 pub use gix_features::cache::Debug;
 pub use gix_features::decode::{Error, leb64_from_read};
 pub use gix_features::fs::walk_dir::{

@@ -55,7 +55,7 @@ const AFTER_FAULTS: &str = "\
     fail 9 /t; open 1; next next next next next skip|/t /t/a /t/a/b /t/a/b/x [Failed 2] /t/d /t/d/e /t/f\n\
     fail 11 /t; open 1; next next next next skip|/t /t/a /t/a/b [IO error for operation on /t/a/b: Failed 2] /t/a/c /t/d /t/d/e /t/f";
 
-// A look at a directory, or its opening, fails where both are made.
+// A stat of a directory, or its opening, fails where both are made.
 const AFTER_LOOKS: &str = "\
     fail 5 /t; follow; next next skip|/t [IO error for operation on /t/a: Failed 1]\n\
     fail 6 /t; follow; next next next skip|/t /t/a [IO error for operation on /t/a: Failed 1] /t/d /t/d/e /t/f\n\
@@ -76,7 +76,7 @@ const AFTER_LINKS: &str = "\
 /t [File system loop found: /t/a points to an ancestor /t 1] /t/b /t/b/x \
 [File system loop found: /t/b/y points to an ancestor /t 2] /t/b/z [IO error for operation on /t/c: Absent 1]";
 
-// Catches a skip right after an error that drops the rest of the directory above the one that the error is of.
+// Catches a skip right after an error that drops the rest of the directory above the one with the error.
 #[test]
 fn skips_after_errors(rt: HostRuntime) -> Result<(), Fail> {
     check(rt.alloc(), &Led, TREE, AFTER_FAULTS)?;
@@ -109,7 +109,7 @@ fn filter_skips(rt: HostRuntime) -> Result<(), Fail> {
     check(rt.alloc(), &Led, VISIBLE, FILTERED_SKIPS)
 }
 
-/// What comes behind the first directory in the root, which is skipped by the walk's own method.
+/// What follows the first directory in the root, which is skipped by the walk's own method.
 struct Behind;
 
 impl Question for Behind {
@@ -141,7 +141,7 @@ fn tell_behind<'d>(
     tell_next(told, walk.next())
 }
 
-/// The same, by the method of a filtered walk.
+/// What follows it, if it is skipped by the method of a filtered walk.
 fn tell_behind_filtered<'d>(
     told: &mut String,
     walk: IntoIter<'d, MemDisk, NoSort>,
@@ -193,7 +193,7 @@ fn tell_three<'d>(
     tell_next(told, walk.next())
 }
 
-// Catches a walk that begins again, or fails, behind its end.
+// Catches a walk that begins again, or fails, after its end.
 #[test]
 fn beyond_the_end(rt: HostRuntime) -> Result<(), Fail> {
     check(rt.alloc(), &Beyond, TREE, "/t/f|/t/f end end")

@@ -14,7 +14,7 @@ use walkdir::{NoSort, Stack, Steps, WalkDir};
 const TREE: &str =
     "make /t, make /t/a, make /t/a/b, put /t/a/b/x 0, put /t/a/c 0, make /t/d, put /t/d/e 0, put /t/f 0";
 
-/// The number of the next stream that a disk opens: 0 where none is open.
+/// The number of the next stream that a disk opens: 0 if none is open.
 fn next_stream(alloc: Global, disk: &mut MemDisk) -> Result<u64, DiskError> {
     let root = PathText::root(alloc);
     let dir = disk.open_dir(alloc, &root)?;
@@ -22,7 +22,7 @@ fn next_stream(alloc: Global, disk: &mut MemDisk) -> Result<u64, DiskError> {
     Ok(dir.number())
 }
 
-/// Begins a walk, makes so many steps, and drops it.
+/// Begins a walk, makes `steps` steps, and drops it.
 fn walk_a_while(
     alloc: Global,
     disk: &mut MemDisk,
@@ -35,7 +35,7 @@ fn walk_a_while(
     Ok(())
 }
 
-/// Tells how many streams are open after a walk that is dropped.
+/// Writes how many streams are open after a walk that is dropped.
 fn tell_left(
     alloc: Global,
     told: &mut String,

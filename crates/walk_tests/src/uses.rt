@@ -66,7 +66,7 @@ fn tell_size(
     Ok(write!(told, "{size}")?)
 }
 
-/// Tells the entries below a folder, by a walk that has at most so many folders open.
+/// Writes the entries below a folder, by a walk that has at most `open` folders open.
 fn tell_all(
     alloc: Global,
     told: &mut String,
@@ -157,7 +157,7 @@ impl Question for Twice {
     }
 }
 
-// Catches an error that is passed over, at any call of the walk, and a walk that fails where none of its calls does.
+// Catches an error that is swallowed, at any call of the walk, and a walk that fails when none of its calls does.
 #[test]
 fn each_error_is_told(rt: HostRuntime) -> Result<(), Fail> {
     let calls = check_call(rt.alloc(), &Twice, NODES, "/t", 0, "false 0 12")?;

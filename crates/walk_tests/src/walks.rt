@@ -24,8 +24,8 @@ const LOOPS: &str = "\
     /t; min 2|/t/a/x\n\
     /t; min 1, max 1, first|/t/a /t/a.b /t/a0 /t/l@";
 
-// Catches a loop that is entered or named wrongly, a link followed where it isn't to be, a root link that is lost, and
-// depths that are off by one.
+// Catches a loop that is entered or named wrongly, a link followed when it shouldn't be, a root link that is lost,
+// and depths that are off by one.
 #[test]
 fn links_and_depths(rt: HostRuntime) -> Result<(), Fail> {
     check(rt.alloc(), &Led, NESTED, LOOPS)
@@ -52,7 +52,7 @@ const FOLLOWED: &str = "\
     /t/f/y|[IO error for operation on /t/f/y: WrongKind 0]";
 
 // Catches a failed target that is dropped or given twice, a loop named by the link's target, and a root link that is
-// entered where it isn't to be.
+// entered when it shouldn't be.
 #[test]
 fn targets(rt: HostRuntime) -> Result<(), Fail> {
     check(rt.alloc(), &Led, TARGETS, FOLLOWED)
@@ -66,7 +66,7 @@ const NEAREST_NAMED: &str = "\
 [File system loop found: /t/a/d/a/e points to an ancestor /t/a/d/a 3] \
 [File system loop found: /t/a/e points to an ancestor /t/a 1]";
 
-// Catches an outer directory that is named where a nearer one is the same.
+// Catches an outer directory that is named when a nearer one is the same.
 #[test]
 fn nearest(rt: HostRuntime) -> Result<(), Fail> {
     check(rt.alloc(), &Led, NEAREST, NEAREST_NAMED)
@@ -126,7 +126,7 @@ const LINK_FAULTS: &str = "\
     fail 2 /r; follow|[IO error for operation on /r: Failed 0]\n\
     fail 3 /r|/r@ [IO error for operation on /r: Failed 0]";
 
-// Catches an error that is dropped, at a wrong depth or with a wrong path, and a stream that goes on behind one.
+// Catches an error that is dropped, at a wrong depth or with a wrong path, and a stream that goes on after one.
 #[test]
 fn faults(rt: HostRuntime) -> Result<(), Fail> {
     check(rt.alloc(), &Led, SMALL, FAULTS)?;

@@ -8,7 +8,7 @@ use walkdir::{DirEntry, Error, NoSort, WalkDir};
 
 /// What a table asks of a disk.
 pub trait Question {
-    /// Tells what is asked.
+    /// Writes what is asked.
     fn tell(
         &self,
         alloc: Global,
@@ -18,8 +18,8 @@ pub trait Question {
     ) -> Result<(), Fail>;
 }
 
-/// Compares what is told of each row on a new disk with these nodes. A row is what is asked, and behind a bar what is to be
-/// told. Before it may stand `fail` and the number of the call that fails.
+/// Compares what is written for each row on a new disk with these nodes. A row is what is asked, and after a bar what
+/// is wanted. It may begin with `fail` and the number of the call that fails.
 pub fn check<Q: Question>(
     alloc: Global,
     question: &Q,
@@ -43,7 +43,7 @@ fn check_row<Q: Question>(alloc: Global, question: &Q, nodes: &str, row: &str) -
     Ok(())
 }
 
-/// Compares what is told where the call of this number fails, and hands out how many calls were made.
+/// Compares what is written if the call with this number fails, and returns how many calls were made.
 pub fn check_call<Q: Question>(
     alloc: Global,
     question: &Q,
@@ -99,7 +99,7 @@ fn with_option(walk: WalkDir<NoSort>, word: &str, number: usize) -> WalkDir<NoSo
     }
 }
 
-/// Tells an item: the path, with `@` behind an entry that is a link or lies behind one, or the error.
+/// Writes an item: the path, with `@` after an entry that is a link or was found through one, or the error.
 pub fn tell(told: &mut String, item: walkdir::Result<DirEntry>) -> Result<(), AllocError> {
     match item {
         Ok(entry) => tell_entry(told, &entry),
@@ -107,7 +107,7 @@ pub fn tell(told: &mut String, item: walkdir::Result<DirEntry>) -> Result<(), Al
     }
 }
 
-/// Tells an item, or that there is none.
+/// Writes an item, or that there is none.
 pub fn tell_next(
     told: &mut String,
     item: Option<walkdir::Result<DirEntry>>,
@@ -124,7 +124,7 @@ fn tell_entry(told: &mut String, entry: &DirEntry) -> Result<(), AllocError> {
     write!(told, "{path}{mark} ")
 }
 
-/// Tells an error's text and depth, in brackets.
+/// Writes an error's text and depth, in brackets.
 pub fn tell_error(told: &mut String, error: &Error) -> Result<(), AllocError> {
     let depth = error.depth();
     write!(told, "[{error} {depth}] ")

@@ -1,4 +1,4 @@
--- What the calls of a walk on a disk were answered since it began, for those who ask it for its items.
+-- What the calls of a walk on a disk were answered since it began, for callers that take its items.
 use Rattle.std.proofs.Common.{◌≡◌, ℕ, Bool, true, List, [], ◌∷◌, ◌++◌, map, Option, Some, Ok, Err, sym, subst}
 use Rattle.std.specs.Iterator.{Yields}
 use Rattle.odb_asks.specs.CallsMade.{Leads}
@@ -28,7 +28,7 @@ module _ {D W : Type 0} (state : D → Option State) (streams : D → Streams) (
   abbrev NextOn : OnDisk D W → Option Item → OnDisk D W → Type 0
   NextOn s item t = OnDisks.NextOn state streams faults answered progress s item t
 
-  -- Calls of `next` lead from one disk to another, and what was told before them they tell on, with all that they give.
+  -- Calls of `next` lead from one disk to another; what was reported before them still is, with all that they give.
   pub told_along : (s : OnDisk D W) (items : List Item) (t : OnDisk D W) → Yields NextOn s items t
       → Leads answered s.disk.now t.disk.now
       × ((first : D) → IsStackTold answered first s.disk.now (at_walk s).stack → IsStackTold answered first t.disk.now (at_walk t).stack
@@ -49,12 +49,12 @@ module _ {D W : Type 0} (state : D → Option State) (streams : D → Streams) (
             (there.0, (item_later answered first m.disk.now t.disk.now (Some item) more.0 here.1, there.1)),
       )
 
-  -- Calls lead from the disk before some items to that behind the next.
+  -- Calls lead from the disk before some items to the disk after the next.
   pub leads_next : (s : OnDisk D W) (items : List Item) (t : OnDisk D W) (item : Option Item) (u : OnDisk D W) → Yields NextOn s items t
       → NextOn t item u → Leads answered s.disk.now u.disk.now
   leads_next s items t item u along last = leads_then answered s.disk.now t.disk.now u.disk.now (told_along s items t along).0 last.5.leads
 
-  -- A walk that begins keeps nothing, so that all it keeps was told.
+  -- A walk that begins keeps nothing, so all that it keeps was reported.
   pub nothing_told : {T : Type 0} (order : T → Order) (built : Built T) (before : Streams) (s : OnDisk D W) → at_walk s ≡ begun order built before
       → IsStackTold answered s.disk.now s.disk.now (at_walk s).stack
   nothing_told order built before s is =
@@ -67,14 +67,14 @@ module _ {D W : Type 0} (state : D → Option State) (streams : D → Streams) (
       → Yields NextOn s items t → AreTold answered s.disk.now t.disk.now items
   told_on_disk order built before s items t is along = ((told_along s items t along).1 s.disk.now (nothing_told order built before s is)).1
 
-  -- The same of the next item alone.
+  -- The next item alone, if it is an error, was answered by a call since the walk began.
   pub told_next : {T : Type 0} (order : T → Order) (built : Built T) (before : Streams) (s : OnDisk D W) (items : List Item) (t : OnDisk D W)
       (item : Option Item) (u : OnDisk D W)
       → at_walk s ≡ begun order built before → Yields NextOn s items t → NextOn t item u → IsItemTold answered s.disk.now u.disk.now item
   told_next order built before s items t item u is along last =
       (last.5.told s.disk.now ((told_along s items t along).1 s.disk.now (nothing_told order built before s is)).0).1
 
-  -- Where the next item is an error with a path: a look at it was refused since the walk began, and it lies in the innermost
+  -- If the next item is an error with a path: a stat of it was refused since the walk began, and it is in the innermost
   -- directory; or its opening was, and it is the innermost directory.
   pub refused_next : {T : Type 0} (order : T → Order) (built : Built T) (before : Streams) (s : OnDisk D W) (items : List Item) (t : OnDisk D W)
       (item : Option Item) (u : OnDisk D W)
@@ -90,22 +90,22 @@ pub told_later : {D : Type 0} (answered : D → DiskAsk → DiskAnswer → D →
 told_later answered first now last item later told = item_later answered first now last item later told
 
 module _ {D : Type 0} (answered : D → DiskAsk → DiskAnswer → D → Type 0) where
-  -- The same of an error, and also when calls were made before.
+  -- An error that a call was answered stays so when more calls are made, before or after.
   pub told_wider : (first before after last : D) (inner : ErrorInner) → Leads answered first before → IsToldIn answered before after inner
       → Leads answered after last → IsToldIn answered first last inner
   told_wider first before after last inner earlier told later = error_wider answered first before after last inner earlier told later
 
-  -- The error of a look was answered by it.
+  -- The error of a stat was answered by it.
   pub look_told : (first : D) (depth : ℕ) (path : Path) (follow : Bool) (old new : D) (error : Error) → Leads answered first old
       → LooksBy answered depth path follow old (Err error) new → IsToldIn answered first new error.inner
   look_told first depth path follow old new error earlier by =
       error_seen answered first new error (look_refused answered first depth path follow old new error earlier by)
 
-  -- Want of memory may be the walk's own.
+  -- The walk may run out of memory itself.
   pub lost_told : (first now : D) (error : Error) → is_no_memory error ≡ true → IsToldIn answered first now error.inner
   lost_told first now error lost = no_memory_told answered first now error lost
 
-  -- The error behind entries.
+  -- The error after entries.
   pub last_told : (first now : D) (entries : List DirEntry) (error : Error) → AreTold answered first now (map Ok entries ++ Err error ∷ [])
       → IsToldIn answered first now error.inner
   last_told first now [] error told = told.0

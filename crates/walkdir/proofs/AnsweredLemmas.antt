@@ -75,7 +75,7 @@ module _ {D : Type 0} (answered : D → DiskAsk → DiskAnswer → D → Type 0)
   held_told first now (Loop ancestor child) held = absurd held
   held_told first now NoMemory held = tt
 
-  -- an error that looks told
+  -- an error that stats reported
   pub seen_since : (first old new : D) (inner : ErrorInner) → Leads answered first old → IsSeenIn answered old new inner
       → IsSeenIn answered first new inner
   seen_since first old new (Io (Some path) error) earlier seen =

@@ -51,7 +51,7 @@ call_inner options above NoMemory is = tt
 pub caused_by_call : (options : Options) (above : List Ancestor) (error : Error) → is_of_call error ≡ true → IsCausedAmong options above error
 caused_by_call options above error is = call_inner options above error.inner is
 
--- ---- an error that tells of a loop
+-- ---- an error that reports a loop
 
 found_if : (b : Bool) (test : Ancestor → Bool) (first : Ancestor) (above : List Ancestor) (ancestor : Ancestor)
     → (find test above ≡ Some ancestor → Contains above ancestor)
@@ -72,7 +72,7 @@ caused_by_loop options above place depth child error follows (ancestor, found, i
 caused_by_loop options above place depth child error follows (ancestor, found, inr is) =
     subst (λ (e : Error). IsCausedAmong options above e) (sym is) tt
 
--- ---- what a turn comes to
+-- ---- the result of a turn
 
 pub caused_given : (at : Progress) (entry : Option DirEntry) → CausedWithin at (item_of (turn_given entry))
 caused_given at None = tt

@@ -1,4 +1,4 @@
--- Laws of what an opened directory contains, and of a stack with one directory more.
+-- Laws of what an opened directory contains, and of a stack with one more directory.
 pub mod Entered
 use Rattle.std.proofs.Common.{◌≡◌, ◌≢◌, ℕ, ◌+◌, ◌<◌, ◌≤◌, true, false, List, [], ◌∷◌, length, map, Option, Some, None, Result, Ok, Err, IfOk, IfSome, refl, sym, ap, subst, ◌∙◌, arith}
 use Rattle.std.specs.FinMap as finite

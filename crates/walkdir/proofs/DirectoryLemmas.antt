@@ -1,4 +1,4 @@
--- Laws of one directory of a stack that gets other contents: what the walk keeps, fails and leaves to do.
+-- Laws of one directory of a stack that gets other contents: what the walk keeps, its failures and what it leaves to do.
 use Rattle.std.proofs.Common.{◌≡◌, true, false, ℕ, ◌+◌, ◌*◌, ◌≤◌, List, [], ◌∷◌, ◌++◌, length, reverse, get_or, Option, Some, None, refl, sym, ap, subst, ◌∙◌, arith, length-append}
 use lib.Seq.{get_or-append_seam}
 use lib.ListN.{length-reverse}

@@ -1,4 +1,4 @@
--- Laws of what is drawn: one stream beside the others, what a directory has left, and a stream that is read to its end.
+-- Laws of what is drawn: one stream next to the others, what a directory has left, and a stream that is read to its end.
 pub mod Puts
 pub mod Child
 use Rattle.std.proofs.Common.{◌≡◌, ℕ, true, false, inl, inr, List, [], ◌∷◌, ◌++◌, map, Option, Some, None, is_some, Ok, Err, refl, sym, ap, subst, ◌∙◌, append-nil}
@@ -27,7 +27,7 @@ use Rattle.walkdir.proofs.StackLemmas.{own_at}
 use Rattle.walkdir.proofs.StandsForLemmas.{SameGiven, others_open, same-all, same-closed}
 use Rattle.walkdir.proofs.WorkLemmas.{AllOpen}
 
--- ---- one stream beside the others
+-- ---- one stream next to the others
 
 pub closed_again : (old : Streams) (dir : ℕ) (mid : Streams) → IsDrawn old dir mid → with_closed mid dir ≡ with_closed old dir
 closed_again old dir mid (inl same) = ap (λ (s : Streams). with_closed s dir) same
@@ -151,7 +151,7 @@ streams_all depth path old dir items now so_far over = λ entries gives.
     subst (IsStreamed depth (map (child_of path depth) entries)) (append-nil items)
     (parts.1.1 [] (subst (λ es. IsStreamed depth (map (child_of path depth) es) []) (sym none) Ended))
 
--- an error that isn't want of memory is that of a stream that failed
+-- an error other than out of memory is that of a stream that failed
 pub broken_is : (depth : ℕ) (old : Streams) (dir : ℕ) (error : Error) (rest : List Entry) → BreaksOff depth old dir error → is_no_memory error ≡ false
     → still_gives old dir ≡ Some rest
     → error ≡ stream_error depth refusals.Failed

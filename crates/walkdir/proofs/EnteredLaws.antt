@@ -1,4 +1,4 @@
--- What fails in a directory doesn't take the directory away, where nothing looks at it before.
+-- A failure inside a directory doesn't remove the directory's entry, if nothing stats it before.
 use Rattle.std.proofs.Common.{◌≡◌, ◌&&◌, ◌||◌, Bool, true, false, cond, List, None, Ok, refl, ap, ◌∙◌}
 use Rattle.std.specs.Prelude.{◌==◌}
 use Rattle.odb_nodes.specs.Tree.Follow.{looked}
@@ -29,7 +29,7 @@ unlooked false true link dir top root off plain = absurd cc
 unlooked false false true dir top root off plain = absurd cc
 unlooked false false false dir top root off plain = refl
 
--- Where devices and loops don't matter, a directory is given with its contents, whatever fails there.
+-- If devices and loops don't matter, a directory is given with its contents, whatever fails there.
 pub directory_given : (walk : Walking) {above : List Ancestor} {entry : DirEntry} {items : List Item}
     → (walk.options.follow_links || walk.options.same_file_system) ≡ false → is_dir entry ≡ true
     → WalkOf walk above entry items → Within walk above entry None items

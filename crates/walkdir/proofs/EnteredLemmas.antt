@@ -1,4 +1,4 @@
--- Laws of what is told of a directory that is given before its contents, from the push to a step.
+-- Laws of what is known of a directory that is given before its contents, from the push to a step.
 use Rattle.std.proofs.Common.{◌≡◌, ℕ, Bool, true, false, ◌&&◌, List, ◌∷◌, length, Option, Some, None, Result, Ok, Err, IfSome, is_some, refl, sym, ap, subst, ◌∙◌}
 use Rattle.std.specs.Prelude.{MatchBool}
 use Rattle.odb_base.specs.Path.{Path}
@@ -150,7 +150,7 @@ handles_entering (Some s) old new entry found place item follows enters tells = 
     let taken = follows walk tree (sym is_in.options) in
     tells walk tree (sym is_in.options) (sym is_in.order) (enters walk tree (sym is_in.options) is_in.device taken.1)
 
--- ---- the root is taken up
+-- ---- the root is handled
 
 pub begins_error : (state : Option State) (old new : Progress) (root : Path) (error : Error) → BeginsTelling state old root (Some (Err error)) new
 begins_error None old new root error = tt
@@ -181,7 +181,7 @@ left_behind walk options new (Some entry) same unmarked first =
     tells_if false walk entry new unmarked (λ dir off. absurd (let no : true ≡ false = sym (ap (λ (o : Options). o.contents_first) same ∙ first)
     ∙ off in cc))
 
--- the entry of a directory that was left comes after its contents
+-- the entry of a directory that was left is given after its contents
 pub turn_tells_left : (state : Option State) (old new : Progress) (given : Option DirEntry) → new.entered ≡ false
     → IfSome given (λ _. old.options.contents_first ≡ true)
     → GivesDirectory state old (item_of (turn_given given)) new

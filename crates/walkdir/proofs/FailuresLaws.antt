@@ -49,11 +49,11 @@ costs_earlier count first before now less costs =
     let rose : RoseBy count before now = costs.rose in
     record { later = omega arith; rose = omega arith }
 
--- the same counts by other names
+-- the counts under other names
 pub costs_as : (count first last before now : ℕ) → first ≡ before → now ≡ last → Costs count first last → Costs count before now
 costs_as count first last before now is same costs = subst (λ n. Costs count n now) is (subst (Costs count first) (sym same) costs)
 
--- what the error of an answer cost, the answer cost
+-- what the error of an answer costs, the answer costs
 pub costs_of_error : {A : Type 0} (result : Result A Error) (error : Error) (before now : ℕ) → IsErrAnd result (λ e. e ≡ error)
     → Costs (failures error) before now → Costs (failures_of result) before now
 costs_of_error (Ok x) error before now is costs = absurd is
@@ -78,7 +78,7 @@ no_failure_in (Io path error) is = absurd cc
 no_failure_in (Loop ancestor child) is = absurd cc
 no_failure_in NoMemory is = refl
 
--- want of memory is no failure of the disk
+-- out of memory is no failure of the disk
 pub memory_is_no_failure : (error : Error) → is_no_memory error ≡ true → failures error ≡ 0
 memory_is_no_failure error is = no_failure_in error.inner is
 
@@ -133,7 +133,7 @@ fails_fewer old new x y count fewer less fails = record {
   rose = λ start given rose. (let all : RoseBy (given + count + waiting new.stack) start y = fails.rose start given rose in omega arith);
 }
 
--- nothing is given where nothing changes
+-- nothing is given if nothing changes
 pub fails_same : (old new : Progress) (at : ℕ) → new.stack ≡ old.stack → FailsByFault old at 0 new at
 fails_same old new at stack =
     let same : waiting new.stack ≡ waiting old.stack = ap waiting stack in
@@ -166,7 +166,7 @@ fails_skipped old new x y stack same =
 
 -- the failures among the items that were given so far
 module _ (first at new : Progress) (x y z : ℕ) (items : List Item) (so_far : FailsByFault first x (failures_among items) at y) where
-  -- with an item more
+  -- with one more item
   pub fails_more : (item : Item) → FailsByFault at y (failures_of item) new z → FailsByFault first x (failures_among (items ++ item ∷ [])) new z
   fails_more item step =
       subst (λ n. FailsByFault first x n new z) (sym (failures-push items item))
@@ -180,7 +180,7 @@ module _ (first at new : Progress) (x y z : ℕ) (items : List Item) (so_far : F
       nothing : (given : ℕ) → given + 0 ≡ given
       nothing given = omega arith
 
-  -- where it is cut off before what comes next
+  -- where it is cut off before the next item
   pub fails_cut : (more : ℕ) → FailsByFault at y more new z → FailsByFault first x (failures_among items) at z
   fails_cut more step = record {
     later = (let low : x ≤ y = so_far.later in let high : y ≤ z = step.later in omega arith);
@@ -190,8 +190,8 @@ module _ (first at new : Progress) (x y z : ℕ) (items : List Item) (so_far : F
       rose_later : (count start : ℕ) → RoseBy count start y → y ≤ z → RoseBy count start z
       rose_later count start rose later = omega arith
 
--- What was given from the beginning: a walk that begins owes no failure, so its failures are no more than the count of
--- faults rose by.
+-- What was given from the beginning: a walk that begins has no failure left to give, so its failures are no more than
+-- the count of faults rose by.
 pub costs_begun : (first at : Progress) (x y given : ℕ) → waiting first.stack ≡ 0 → FailsByFault first x given at y → Costs given x y
 costs_begun first at x y given none fails =
     let none_yet : RoseBy (0 + waiting first.stack) x x = omega arith in

@@ -17,7 +17,7 @@ module _ {S F : Type 0} (steps : S → Option (Result DirEntry Error) → S → 
   pub passes_first : (s : S) (f : F) → PassesOn s f s f
   passes_first s f = record { then = λ item t h given. given }
 
-  -- an entry that was rejected is passed over: a directory that was entered is skipped
+  -- an entry that was rejected is left out: a directory that was entered is skipped
   pub passes_rejected : (first : S) (called : F) (s m n : S) (f g : F) (entry : DirEntry) → PassesOn first called s f → steps s (Some (Ok entry)) m
       → CalledAt accepts f entry false g
       → AfterRejected steps skips entered accepts m n → PassesOn first called n g

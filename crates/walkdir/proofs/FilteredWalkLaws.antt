@@ -21,7 +21,7 @@ use Rattle.walkdir.specs.declared.iter.OnDisk.{OnDisk}
 use Rattle.walkdir.specs.declared.directory.DirList.{DirList}
 use Rattle.walkdir.proofs.FilteredWalkLemmas.Calls.{Stays, leads}
 
--- ---- a filtered walk on a disk that tells its tree
+-- ---- a filtered walk on a disk whose tree is known
 
 module _ {D W : Type 0} (state : D → Option State) (streams : D → Streams) (faults : D → ℕ) (answered : D → DiskAsk → DiskAnswer → D → Type 0)
     (progress : W → Streams → Progress) where

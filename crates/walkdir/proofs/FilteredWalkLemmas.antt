@@ -146,7 +146,7 @@ unbegun_keeps walk at begun =
 pub unbegun_gives : (walk : Walking) (at : Progress) (items : List Item) → HasNotBegun walk at → StillGives walk at items → IsWalk walk items
 unbegun_gives walk at items begun left = subst (λ s. still_to_come walk at s items) begun.start left
 
--- ---- what is still to come, and what a filter leaves of it, with others behind it
+-- ---- what is still to come, and what a filter leaves of it, followed by others
 
 pub record StillLeaves {F : Type 0} (walk : Walking) (asked : F → DirEntry → Bool → F → Type 0) (at : Progress) (f : F) (rest given : List Item)
     (h : F) : Type 0 where
@@ -154,7 +154,7 @@ pub record StillLeaves {F : Type 0} (walk : Walking) (asked : F → DirEntry →
   pub gives : StillGives walk at (items ++ rest)
   pub leaves : LeavesOut walk asked f items given h
 
--- an entry was rejected that stands alone
+-- a rejected entry without contents to leave out
 pub left_alone : {F : Type 0} (walk : Walking) (asked : F → DirEntry → Bool → F → Type 0) (old new : Progress) (entry : DirEntry)
     (last given : List Item) (f g h : F) → asked f entry false g → StaysOut walk entry
     → ((rest : List Item) → StillGives walk new rest → StillGives walk old (Ok entry ∷ rest)) → StillLeaves walk asked new g last given h

@@ -1,4 +1,4 @@
--- What a filtered walk on a disk leaves as it was, and what it passes, for the calls that walk.
+-- What a filtered walk on a disk leaves as it was, and what it gives, for its callers.
 use Rattle.std.proofs.Common.{◌≡◌, ℕ, Bool, true, false, List, [], ◌∷◌, map, Option, Some, None, Ok, refl, sym, ap, subst, ◌∙◌}
 use Rattle.std.specs.Fn.{Mut, CalledAt}
 use Rattle.std.specs.Iterator.{Yields}
@@ -99,7 +99,7 @@ module _ {D W : Type 0} (state : D → Option State) (streams : D → Streams) (
         let passed = accepted entry refl along.1 in
         All-cons Holds entry entries (each passed.0 passed.1 entry passed.2) (all_accepted Holds each entries along.0 t along.2)
 
-  -- ---- what calls of the walk told
+  -- ---- what calls of the walk reported
 
   tells_after : (entered : Bool) (m n : OnDisk D W) → MatchBool entered (SkipsOn state streams faults answered progress m n) (n ≡ m)
       → TellsOn answered m.disk.now (at_walk state streams faults answered progress m).stack None n.disk.now
@@ -147,7 +147,7 @@ module _ {D W : Type 0} (state : D → Option State) (streams : D → Streams) (
             (there.0, (item_later answered first m.walk.disk.now t.walk.disk.now (Some item) more.0 here.1, there.1)),
       )
 
-  -- the same after many items
+  -- what calls of the walk reported, after many items
   pub kept_along : {F : Type 0} (accepts : Mut F (Bor DirEntry × Unit {0}) Bool) (s : FilterEntry (OnDisk D W) F) (items : List Item)
       (t : FilterEntry (OnDisk D W) F)
       → Yields (λ from item to. FiltersOn accepts from.walk from.predicate item to.walk to.predicate) s items t → Kept s.walk t.walk

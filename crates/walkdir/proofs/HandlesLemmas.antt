@@ -1,4 +1,4 @@
--- Laws of an entry that is taken up: what a call tells, and what stays.
+-- Laws of an entry that is handled: what a call reports, and what stays.
 pub mod Followed
 pub mod Entered
 pub mod Handled
@@ -22,7 +22,7 @@ use Rattle.walkdir.specs.Walk.{Tells, told_at}
 use Rattle.walkdir.specs.declared.builder.Options.{Options}
 use Rattle.walkdir.specs.declared.error.Error.{Error}
 
--- an error that is handed on
+-- an error that is passed on
 pub err_is : {A : Type 0} (result : Result A Error) (error : Error) → IsErrAnd result (λ e. e ≡ error) → result ≡ Err error
 err_is result error gives = let at = err_from_is_err_and result gives in at.1 ∙ ap Err at.2
 
@@ -34,7 +34,7 @@ kind_tested Link = refl
 pub not_lost : {A : Type 0} (error : Error) → is_no_memory error ≡ false → error ≡ no_memory → A
 not_lost error some lost = let no : true ≡ false = sym (ap is_no_memory lost) ∙ some in cc
 
--- ---- what a call tells
+-- ---- what a call reports
 
 -- an error in place of one thing is the error in place of another
 pub passed_on : {A B : Type 0} (depth : ℕ) (path : Path) (error : Error) (told : Result A Error) (more : Result B Error)

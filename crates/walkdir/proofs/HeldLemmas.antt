@@ -1,4 +1,4 @@
--- Laws of what was read of a directory before, of which the first is taken.
+-- Laws of what was already read of a directory, when the first is taken.
 use Rattle.std.proofs.Common.{◌≡◌, ℕ, false, suc, ◌+◌, ◌≤◌, [], ◌∷◌, length, Option, Some, None, IfSome, sym, ap, subst, ◌∙◌, arith}
 use Rattle.walkdir.specs.Failures.{failures_among, failures_given, failures_left, failures_of}
 use Rattle.odb_base.specs.Path.{Path}
@@ -44,7 +44,7 @@ pub held_few : (old : Items) (item : Option Item) (new : Items) → TakesHeld ol
 held_few old None new takes = let none : length (held new) ≡ 0 = ap length takes.1.nothing in omega arith
 held_few old (Some item) new takes = let was : length (held old) ≡ suc (length (held new)) = ap length takes.0 in omega arith
 
--- something follows where one was taken
+-- what follows from a first item holds if one was taken
 pub if_taken : (old : Items) (item : Option Item) (new : Items) (X : Type 0) → TakesHeld old item new → ((first : Item) → held old ≡ first ∷ held new
     → X) → IfSome item (λ _. X)
 if_taken old None new X takes then_so = tt

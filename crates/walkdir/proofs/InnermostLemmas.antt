@@ -176,7 +176,7 @@ after_entered true options entry given stack is head unskipped kind first =
 after_entered false options entry given stack is head unskipped kind first =
     subst (λ (g : Option DirEntry). IsAfter options (handed (Ok g)) stack) (sym is) tt
 
--- a directory behind its contents
+-- a directory after its contents
 pub after_left : (options : Options) (given : Option DirEntry) (stack : List DirList) → IfSome given (λ e. e.depth ≡ length stack)
     → IfSome given (λ e. (is_dir e ≡ true) × LiesIn e.path stack)
     → IfSome given (λ _. options.contents_first ≡ true) → IsAfter options (item_of (turn_given given)) stack

@@ -147,7 +147,7 @@ gives_one_list walk total items others (Root meta device told walked) second sou
 pub walk_is_one : (walk : Walking) → IsSameForAnyMost walk
 walk_is_one walk = same_for_any_most walk (gives_one_list walk)
 
--- the same for a walk that is built with another number
+-- a walk that is built with another number gives the same list
 pub one_with_most : {S : Type 0} (order : S → Order) (tree : Tree) (built : Built S) (most : ℕ)
     → GiveOneList (walking order tree built) (walking order tree (record built { options = record built.options { max_open = most } }))
 unfolding with_most

@@ -1,4 +1,4 @@
--- Laws of children that are put in order: errors and entries are told apart, one after the other.
+-- Laws of children that are put in order: errors and entries are split, one after the other.
 use Rattle.std.proofs.Common.{◌≡◌, List, [], ◌∷◌, ◌++◌, map, Option, Some, None, Ok, length, refl, sym, ap, ◌∙◌, append-nil, arith}
 use Rattle.std.specs.List.{cons_option, filter_map}
 use lib.Seq.{append_snoc}

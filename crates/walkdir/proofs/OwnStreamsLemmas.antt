@@ -1,4 +1,4 @@
--- Laws of a walk's streams beside all others: one is opened, drawn from, or closed.
+-- Laws of a walk's streams next to all others: one is opened, drawn from, or closed.
 use Rattle.std.proofs.Common.{◌≡◌, ℕ, zero, suc, ◌+◌, ◌-◌, ◌≤◌, Bool, true, false, max, cond, List, [], ◌∷◌, ◌++◌, length, Option, Some, None, is_some, refl, sym, ap, subst, ◌∙◌, arith, add-one}
 use Rattle.std.specs.FinMap as finite
 use Rattle.std.specs.FinMap.{empty_of_len, get-empty, get-insert, get-remove, len-remove, same_map, nat_cmp-IsAntisymmetric}
@@ -106,7 +106,7 @@ kept_open : (m : OpenDirs) (h d : ℕ) (es : List Entry) → tied h d ≡ false 
     → finite.contains_key (finite.insert m d es) h ≡ true
 kept_open m h d es apart opened = ap is_some (at_insert m d es h ∙ ap (λ b. cond b (Some es) (finite.get m h)) apart) ∙ opened
 
--- ---- streams beside others
+-- ---- streams next to others
 
 pub own_is_open : (others : OpenDirs) (inner : List ℕ) (d : ℕ) (outer : List ℕ) (now : OpenDirs) → AreBeside others (inner ++ d ∷ outer) now
     → finite.contains_key now d ≡ true
@@ -188,7 +188,7 @@ owns_drawn before most inner d outer now es owns = record {
   peak = owns.peak;
 }
 
--- the most that were open, where one more was, and there was room for it
+-- the most that were open, if one more was, and there was room for it
 pub peak_within : (before : Streams) (most : ℕ) (own : List ℕ) (now : Streams) (peak : ℕ) → Owns before most own now → length own + 1 ≤ most
     → peak ≤ max now.peak (open_count now + 1) → peak ≤ max before.peak (open_count before + most)
 peak_within before most own now peak owns room more =

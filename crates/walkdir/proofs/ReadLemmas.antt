@@ -1,4 +1,4 @@
--- Laws of what the calls of a disk give to a walk.
+-- Laws of what the calls of a disk return to a walk.
 use Rattle.std.proofs.Common.{◌≡◌, ℕ, suc, ◌+◌, ◌^◌, ◌<◌, ◌≤◌, max, cond, inl, inr, Bool, true, List, [], ◌∷◌, ◌++◌, length, Option}
 use Rattle.std.proofs.Common.{Some, None, Result, Ok, Err, IfSome, is_some, unwrap_or, refl, sym, ap, subst, ◌∙◌, arith}
 use Rattle.std.specs.Option.{option_map}
@@ -27,7 +27,7 @@ use Rattle.walkdir.specs.declared.error.Error.{Error}
 use Rattle.walkdir.proofs.FailuresLaws.{costs_none}
 use Rattle.walkdir.proofs.OwnStreamsLemmas.{has_inserted, insert_again, remove_again, remove_new}
 
--- ---- looks
+-- ---- stats
 
 pub tells_refused : {A : Type 0} (depth : ℕ) (path : Path) (refusal : DiskError) (error : Error) (told : Result A Refusal)
     → Answers (Err refusal) told
@@ -115,7 +115,7 @@ pub draws_first : (depth : ℕ) (path : Path) (old new : Streams) (dir : ℕ) (e
 draws_first depth path old new dir entry child gives is =
     record { entry = entry; rest = gives.rest; gave = gives.first; child_is = is; streams = gives.left }
 
--- the child could not be made: the entry is gone
+-- memory ran out for the child: the entry is gone
 pub draws_lost : (depth : ℕ) (path : Path) (old new : Streams) (dir : ℕ) (entry : Entry) (error : Error) → GivesFirst old new dir entry
     → error ≡ no_memory
     → Draws depth path old dir (Some (Err error)) new

@@ -1,4 +1,4 @@
--- Which directory is innermost where a call of a walk was refused.
+-- Which directory is innermost after a call of a walk was refused.
 use Rattle.std.proofs.Common.{◌≡◌, ℕ, ◌+◌, inl, inr, true, List, [], ◌∷◌, length, Option, Some, None, Result, Ok, Err, sym, arith}
 use Rattle.std.specs.Prelude.{IfErr, IfSome}
 use Rattle.odb_base.specs.Path.{Path}
@@ -20,7 +20,7 @@ use Rattle.walkdir.specs.declared.directory.DirList.{DirList}
 use Rattle.walkdir.proofs.InnermostLemmas.{beside_as}
 
 module _ {D : Type 0} (answered : D → DiskAsk → DiskAnswer → D → Type 0) where
-  -- where want of memory leaves the walk
+  -- the stack after memory ran out
   pub lost_at : (first now : D) (own : ℕ) (inner : ErrorInner) (stack : List DirList) → is_no_memory_inner inner ≡ true
       → IsRefusedIn answered first now own inner stack
   lost_at first now own (Io path error) stack is = absurd cc
@@ -52,7 +52,7 @@ module _ {D : Type 0} (answered : D → DiskAsk → DiskAnswer → D → Type 0)
   drawn_at first now (Some (Err error)) [] from held = absurd from
   drawn_at first now (Some (Err error)) (list ∷ outer) from held = head_at first now error.depth error.inner list outer from.1 held
 
-  -- what can't be looked at lies in the innermost directory
+  -- a path that can't be statted is in the innermost directory
   beside_at : (first now : D) (path : Path) (depth own : ℕ) (inner : ErrorInner) (stack : List DirList) → IsOfEntryIn path depth own inner
       → IsBeside path depth stack
       → IsSeenIn answered first now inner → IsRefusedIn answered first now own inner stack

@@ -100,7 +100,7 @@ begins_lost (Some s) old new root error none same tells = λ walk tree options o
           (subst (λ e. IsWalk walk (Err e ∷ [])) is (walks.NoDevice cause.0 (ap (λ (o : Options). o.same_file_system) options ∙ same) refused)),
     )
 
--- the root couldn't be looked at
+-- the root couldn't be statted
 pub begins_nowhere : (state : Option State) (old new : Progress) (root : Path) (device : ℕ) (error : Error) → new.stack ≡ []
     → FoundDevice state old.options root device
     → IfSome state (λ s. Tells {A = Meta} 0 root (Err error) (told_at 0 root (looked (tree_of s) root false)))

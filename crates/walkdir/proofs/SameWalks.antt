@@ -1,4 +1,4 @@
--- Walks of one tree that differ in how many directories may be open give the same items, for the calls that walk.
+-- Walks of one tree that differ in how many directories may be open give the same items, for their callers.
 use Rattle.std.proofs.Common.{◌≡◌, ℕ, List, [], ◌∷◌, map, Option, Some, None, Ok, refl, sym, ap, ◌∙◌, arith}
 use Rattle.std.specs.Cmp.{IsTotalOrder}
 use Rattle.std.specs.Iterator.{Yields}
@@ -24,7 +24,7 @@ use Rattle.walkdir.specs.WalkLaws.{with_most}
 use Rattle.walkdir.specs.declared.dent.DirEntry.{DirEntry}
 use Rattle.walkdir.specs.declared.iter.OnDisk.{OnDisk}
 
--- the same walk, with so many directories open at most
+-- the walk, with at most so many directories open
 abbrev pub opening : {T : Type 0} → Built T → ℕ → Built T
 opening built most = record built { options = record built.options { max_open = most } }
 
@@ -45,7 +45,7 @@ unfolding entries_among
 entries_all [] = refl
 entries_all (entry ∷ entries) = ap (λ rest. entry ∷ rest) (entries_all entries)
 
--- Where a walk gives entries alone, no other entries are those of it, however many directories may be open.
+-- If a walk gives entries alone, no other entries are a walk of it, however many directories may be open.
 pub only_entries : {T : Type 0} (order : T → Order) → ((sorter : T) → IsTotalOrder (order sorter)) → (tree : Tree) (built : Built T)
     (entries : List DirEntry)
     → IsWalk (walking order tree built) (map Ok entries) → (most : ℕ) (others : List DirEntry) → IsWalk (with_most (walking order tree built) most)
@@ -59,7 +59,7 @@ only_entries order total tree built entries first most others second =
 
 module _ {D W : Type 0} (state : D → Option State) (streams : D → Streams) (faults : D → ℕ) (answered : D → DiskAsk → DiskAnswer → D → Type 0)
     (progress : W → Streams → Progress) where
-  -- a walk that was run to its end gave these items, none of them want of memory
+  -- a walk that was run to its end gave these items, and memory never ran out
   pub record Gave {T : Type 0} (order : T → Order) (built : Built T) (told : State) (items : List Item) : Type 0 where
     pub before : Streams
     pub first : OnDisk D W
@@ -79,7 +79,7 @@ module _ {D W : Type 0} (state : D → Option State) (streams : D → Streams) (
       whole_on_disk state streams faults answered progress order (opening built most) gave.before told gave.first items gave.last gave.over
       gave.begins gave.tells gave.along gave.ends gave.kept
 
-  -- Two such runs gave the same items, where none of these is a failure of the disk.
+  -- Two such runs gave the same items, if none of these is a failure of the disk.
   pub same_items : {T : Type 0} (order : T → Order) → ((sorter : T) → IsTotalOrder (order sorter)) → (built : Built T) (most other : ℕ) (told : State)
       (items others : List Item)
       → Gave order (opening built most) told items → Gave order (opening built other) told others → failures_among items ≡ 0
@@ -101,7 +101,7 @@ module _ {D W : Type 0} (state : D → Option State) (streams : D → Streams) (
       (failures_on_disk state streams faults answered progress order built gave.before gave.first items gave.last gave.over gave.begins gave.along
       gave.ends) still
 
-  -- Two such runs gave the same items, where the disk had no fault in either.
+  -- Two such runs gave the same items, if the disk had no fault in either.
   pub same_without_faults : {T : Type 0} (order : T → Order) → ((sorter : T) → IsTotalOrder (order sorter)) → (built : Built T) (most other : ℕ)
       (told : State) (items others : List Item)
       → (first : Gave order (opening built most) told items) (second : Gave order (opening built other) told others)

@@ -1,4 +1,4 @@
--- A skip drops the walks of the children that the innermost directory that isn't skipped yet still has, and nothing else.
+-- A skip drops only the walks of the children that are left in the innermost directory that isn't skipped yet.
 use Rattle.std.proofs.Common.{◌≡◌, ℕ, ◌+◌, Bool, true, false, List, [], ◌∷◌, ◌++◌, length, map, Option, Some, None, Ok, Err, is_some, refl, sym, ap, subst, ◌∙◌, append_assoc}
 use Rattle.std.specs.Prelude.{MatchBool, if◌then◌else◌}
 use Rattle.std.specs.List.{cons_option}

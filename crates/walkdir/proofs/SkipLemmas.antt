@@ -92,7 +92,7 @@ work_left_less : (old new : Progress) → new.options ≡ old.options → new.st
 unfolding work_left
 work_left_less old new options start le = subst (λ s. work_of new s ≤ work_of old old.start) (sym start) (work_less_of old new old.start options le)
 
--- where all directories are skipped already
+-- all directories are skipped already
 pub skips_none : (old new : Progress) (lists : List DirList) → Stays old new → old.stack ≡ reverse lists → new.stack ≡ old.stack
     → new.streams ≡ old.streams → AllSkipped lists → Skips old new
 skips_none old new lists stays was stack streams all = record {

@@ -1,4 +1,4 @@
--- Laws of what a stack stands for: streams of others change, or one directory has other contents.
+-- Laws of what a stack stands for: streams of others change, or one directory gets other contents.
 use Rattle.std.proofs.Common.{◌≡◌, ℕ, ◌+◌, true, false, List, [], ◌∷◌, ◌++◌, length, Option, Some, None, refl, sym, ap, subst, ◌∙◌, cond, is_some, length-append}
 use Rattle.std.specs.List.{cons_option}
 use Rattle.std.specs.FinMap as finite
@@ -57,7 +57,7 @@ same-closed (first ∷ own) old dir opened = (
   same-closed own old dir opened.1,
 )
 
--- the streams of a walk but for one
+-- the streams of a walk except one
 pub others_open : (others : OpenDirs) (inner : List ℕ) (dir : ℕ) (outer : List ℕ) (now : OpenDirs) → AreBeside others (inner ++ dir ∷ outer) now
     → AllOpen (inner ++ outer) (finite.remove now dir)
 others_open others inner dir outer now beside =
@@ -108,7 +108,7 @@ stands_put walk old new (first ∷ inner) list items outer rest within beyond sa
     beyond same behind)
     is
 
--- ---- one stream more
+-- ---- one more stream
 
 free_apart : (old : Streams) (dir q : ℕ) → finite.get old.open_dirs dir ≡ None → is_open old q ≡ true → tied q dir ≡ false
 free_apart old dir q free opened = elim (tied q dir) as (λ b. tied q dir ≡ b → b ≡ false) [

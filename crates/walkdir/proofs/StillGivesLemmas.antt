@@ -1,4 +1,4 @@
--- A walk in progress may always still give some items, since each call may fail.
+-- A walk in progress always has some items that it may still give, since each call may fail.
 use Rattle.std.proofs.Common.{◌≡◌, ℕ, ◌+◌, Bool, true, false, List, [], ◌∷◌, ◌++◌, ◌&&◌, ◌||◌, cond, length, Option, Some, None, Ok, Err, refl, sym, ap, ◌∙◌}
 use Rattle.std.specs.List.{cons_option}
 use Rattle.std.specs.Prelude.{IfSome, is_some}
@@ -35,7 +35,7 @@ first_off : (a b : Bool) → (a && b) ≡ false → b ≡ true → a ≡ false
 first_off true b off is = let both : true ≡ false = sym is ∙ off in absurd cc
 first_off false b off is = refl
 
--- ---- an entry that isn't looked at
+-- ---- an entry that isn't statted
 
 plain_taken : (walk : Walking) (above : List Ancestor) (entry : DirEntry) → (walk.options.follow_links && is_link entry) ≡ false
     → taken_for walk above entry ≡ Ok entry

@@ -1,4 +1,4 @@
--- What a walk without failures gives, by what its entry is taken for, and by what the tree tells.
+-- What a walk without failures gives, by what its entry is taken for, and by what the tree says.
 use Rattle.std.proofs.Common.{◌≡◌, ℕ, ◌+◌, true, false, List, [], ◌∷◌, ◌++◌, Option, None, Result, Ok, Err, refl, sym, ap, subst, ◌∙◌, arith}
 use Rattle.odb_base.specs.Path.{Path}
 use Rattle.odb_asks.specs.Ask.{error_of}
@@ -98,7 +98,7 @@ module _ (walk : Walking) where
         is = items ∙ ap (λ t. around walk.options t contents) same;
       }
 
-  -- a directory that isn't looked at is given with its contents, also where these are a failure
+  -- a directory that isn't statted is given with its contents, also if these are a failure
   pub as_unlooked : {above : List Ancestor} {entry : DirEntry} {items : List Item} → taken_for walk above entry ≡ Ok entry
       → entering walk entry ≡ Ok (Enters None)
       → is_looked_at walk.options entry ≡ false → WalkOf walk above entry items → Within above entry None items
@@ -116,7 +116,7 @@ module _ (walk : Walking) where
         is = items ∙ ap (λ t. around walk.options t contents) same;
       }
 
-  -- ---- what a directory contains, by what the tree tells of it
+  -- ---- what a directory contains, by what the tree says of it
 
   pub as_deepest : {above : List Ancestor} {directory : DirEntry} {items : List Item} → below_greatest walk directory ≡ false
       → ContentsOf walk above directory items → items ≡ []

@@ -56,7 +56,7 @@ same_for_any_most walk one total most other items others first second sound stil
     one total items others (same_walk (with_most walk most) walk.options.max_open items first)
     (same_walk (with_most walk other) walk.options.max_open others second) sound still
 
--- nor does it differ from the walk with another number
+-- it gives the same list as the walk with another number
 pub same_with_most : (walk : Walking) (most : ℕ) → GivesOneList walk → GiveOneList walk (with_most walk most)
 unfolding with_most
 same_with_most walk most one total items others first second sound still =

@@ -1,4 +1,4 @@
--- What a walk gave that was run to its end, for the calls that walk.
+-- What a walk that was run to its end gave, for its callers.
 use Rattle.std.proofs.Common.{◌≡◌, ℕ, ◌+◌, ◌≤◌, zero, suc, true, false, List, [], ◌∷◌, ◌++◌, map, Option, Some, None, Ok, refl, sym, ap, subst, ◌∙◌, append-nil, arith}
 use Rattle.std.specs.Prelude.{IfSome}
 use Rattle.std.specs.Iterator.{Yields}
@@ -43,7 +43,7 @@ pub begun_of : {T : Type 0} (order : T → Order) (built : Built T) (streams : S
     (begun order built streams)
 begun_of order built streams tree = record { options = refl; order = refl; start = refl; device = λ some same. absurd (some refl) }
 
--- calls of `next`, each of which takes a walk on
+-- calls of `next`, each of which takes a walk further
 module _ {S : Type 0} (at : S → Progress) (state : S → Option State) (steps : S → Option Item → S → Type 0)
     (each : (s : S) (item : Option Item) (t : S) → steps s item t → Steps (state s) (at s) item (at t) × (state t ≡ state s)) where
   pub keeps_along : (before : Streams) (s : S) (items : List Item) (t : S) → Yields steps s items t → Keeps before (at s) → Keeps before (at t)
@@ -78,7 +78,7 @@ module _ {S : Type 0} (at : S → Progress) (state : S → Option State) (steps 
       subst (λ start. still_to_come walk (at u) start []) (sym ended.1)
       (subst (λ stack. StandsFor walk (at u).streams stack []) (sym ended.0) Nothing)
 
-  -- The items are those of the walk, where the disk tells its tree.
+  -- The items are those of the walk, if the disk's tree is known.
   pub whole_walk : {T : Type 0} (order : T → Order) (built : Built T) (streams : Streams) (told : State) (s : S) (items : List Item) (t u : S)
       → at s ≡ begun order built streams
       → state s ≡ Some told → Yields steps s items t → steps t None u → NoneLost items → IsWalk (walking order (tree_of told) built) items
@@ -93,7 +93,7 @@ module _ {S : Type 0} (at : S → Progress) (state : S → Option State) (steps 
       let all = more.1 [] (end.1 [] (nothing_left walk t u last)) in
       subst (λ x. StillGives walk x items) is (subst (StillGives walk (at s)) (append-nil items) all)
 
-  -- An item that comes behind others is the next of the walk, where the disk tells its tree.
+  -- An item that follows others is the next of the walk, if the disk's tree is known.
   pub begins_with : {T : Type 0} (order : T → Order) (built : Built T) (streams : Streams) (told : State) (s : S) (items : List Item) (t : S)
       (item : Item) (u : S) → at s ≡ begun order built streams
       → state s ≡ Some told → Yields steps s items t → steps t (Some item) u → NoneLost items → is_lost (Some item) ≡ false
@@ -110,7 +110,7 @@ module _ {S : Type 0} (at : S → Progress) (state : S → Option State) (steps 
       let left = something_left walk streams (at u) (step.0.keeps streams still) in
       (left.0, subst (λ x. StillGives walk x (items ++ item ∷ left.0)) is (more.1 (item ∷ left.0) (end.1 left.0 left.1)))
 
--- A walk on a disk, by the meaning of the disk and of what the walk keeps beside it.
+-- A walk on a disk, by the meanings of the disk and of the walk's own state.
 module _ {D W : Type 0} (state : D → Option State) (streams : D → Streams) (faults : D → ℕ) (answered : D → DiskAsk → DiskAnswer → D → Type 0)
     (progress : W → Streams → Progress) where
   abbrev at_walk : OnDisk D W → Progress

@@ -1,4 +1,4 @@
--- Laws of paths that lie in directories, and the tests of them.
+-- Laws of paths that are in directories, and the tests of them.
 use Rattle.std.proofs.Common.{◌≡◌, ℕ, suc, true, List, [], ◌∷◌, ◌++◌, length, Option, Some, None, IfSome, refl, sym, ap, subst, ◌∙◌, arith}
 use Rattle.std.specs.Prelude.{◌==◌}
 use Rattle.std.specs.Cmp.Lexicographic.{bytes_decides}
@@ -81,7 +81,7 @@ lies_alike path (one ∷ more) (list ∷ outer) same lies =
     let head : (record { path = one.path; place = one.place }) ≡ (record { path = list.path; place = list.place }) = (cc) in
     subst (λ (p : Path). IsChild p path) (ap (λ (a : Ancestor). a.path) head) lies
 
--- of a directory that was put on the stack, one's own entry
+-- the own entry of a directory that was put on the stack
 pub own_lies : (after : Option DirEntry) (path : Path) (outer : List DirList) → IfSome after (λ entry. entry.path ≡ path) → LiesIn path outer
     → IfSome after (λ entry. LiesIn entry.path outer)
 own_lies None path outer own lies = tt

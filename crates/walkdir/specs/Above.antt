@@ -1,4 +1,4 @@
--- The directories that a walk entered above a place: what they are is fixed by the tree, the root and the place.
+-- The directories that a walk entered above a place, which follow from the tree, the root and the place.
 use Rattle.std.specs.Prelude.{◌≡◌, ℕ, ◌+◌, false, List, [], ◌∷◌, length, Option, Ok}
 use Rattle.odb_base.specs.Path.{Path}
 use Rattle.odb_nodes.specs.Tree.Follow.{looked}
@@ -16,13 +16,13 @@ pub record IsRoot (walk : Walking) (entry : DirEntry) : Type 0 where
   pub looks : looked walk.tree walk.root false ≡ Ok meta
   pub taken : taken_for walk [] (entry_by walk.root false 0 meta) ≡ Ok entry
 
--- A walk enters a directory, which stands at this place, if the walk has to know it. At depth 0 it is the root.
+-- A walk enters a directory at this place, which is None if the walk needn't know it. At depth 0 it is the root.
 pub record IsDirectory (walk : Walking) (directory : DirEntry) (place : Option Place) : Type 0 where
   pub root : directory.depth ≡ 0 → IsRoot walk directory
   pub enters : entering walk directory ≡ Ok (Enters place)
 
--- The directories above a path at a depth, the innermost first: none above the root, and else the directory in which the path
--- lies, and those above that.
+-- The directories above a path at a depth, the innermost first: none above the root, and else the directory that contains the
+-- path, and those above that.
 pub data AreAbove (walk : Walking) : Path → ℕ → List Ancestor → Type 0 where
   AtRoot : AreAbove walk walk.root 0 []
   Below : {path : Path} {above : List Ancestor} (directory : DirEntry) (place : Option Place) → IsDirectory walk directory place

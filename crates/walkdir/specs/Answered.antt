@@ -1,4 +1,4 @@
--- What the calls of a walk were answered, on any disk: no error comes but one that a call of the walk answered.
+-- What the calls of a walk were answered, on any disk: each error was answered by a call of the walk.
 use Rattle.std.specs.Prelude.{◌≡◌, ◌⊎◌, ℕ, Bool, true, List, [], ◌∷◌, Option, Some, None, Result, Ok, Err, IfSome}
 use Rattle.odb_base.specs.Path.{Path}
 use Rattle.odb_asks.specs.CallsMade.{Leads, IsAnsweredBetween}
@@ -21,33 +21,33 @@ use Rattle.walkdir.specs.declared.directory.DirList.{DirList}
 use Rattle.walkdir.specs.declared.directory.Place.{Place}
 
 module _ {D : Type 0} (answered : D → DiskAsk → DiskAnswer → D → Type 0) where
-  -- a look at a path was answered: what it found, or a refusal, which is an error at this depth unless memory ran out
+  -- a stat of a path was answered: what it found, or a refusal, which is an error at this depth unless memory ran out
   abbrev pub LooksBy : ℕ → Path → Bool → D → Result Meta Error → D → Type 0
   LooksBy depth path follow old (Ok meta) new = answered old (asks.Look path follow) (answers.Meta meta) new
   LooksBy depth path follow old (Err error) new =
       (refusal : DiskError) × answered old (asks.Look path follow) (answers.Refused refusal) new × IsFromPath depth path refusal error
 
   module _ (first now : D) where
-    -- of the calls between two disks, one was a look at this path through links, and told that this place is there
+    -- of the calls between two disks, one was a stat of this path through links, and reported this place
     abbrev pub IsPlaceTold : Path → Place → Type 0
     IsPlaceTold path place = (meta : Meta) × IsAnsweredBetween answered first now (asks.Look path true) (answers.Meta meta) × (place_of meta ≡ place)
 
-    -- looks at both paths told one place, and at the link a directory
+    -- stats of both paths reported one place, and that of the link a directory
     pub record IsLoopTold (ancestor child : Path) : Type 0 where
       pub meta : Meta
       pub looked : IsAnsweredBetween answered first now (asks.Look child true) (answers.Meta meta)
       pub kind : is_dir_kind meta.kind ≡ true
       pub above : IsPlaceTold ancestor (place_of meta)
 
-    -- a look at the path was refused so, or its opening
+    -- a stat of the path was refused so, or its opening
     abbrev pub IsLookRefused : Path → DiskError → Type 0
     IsLookRefused path error = (follow : Bool) × IsAnsweredBetween answered first now (asks.Look path follow) (answers.Refused error)
 
     abbrev pub IsOpeningRefused : Path → DiskError → Type 0
     IsOpeningRefused path error = IsAnsweredBetween answered first now (asks.OpenDir path) (answers.Refused error)
 
-    -- a call of the walk's was answered so: a look at the path, or its opening; a stream's next entry; or looks that tell a
-    -- loop. Want of memory may also be the walk's own.
+    -- a call of the walk was answered so: a stat of the path, or its opening; a stream's next entry; or stats that show a
+    -- loop. The walk may also run out of memory itself.
     abbrev pub IsToldIn : ErrorInner → Type 0
     IsToldIn (Io (Some path) error) = IsLookRefused path error ⊎ IsOpeningRefused path error
     IsToldIn (Io None error) = (dir : ℕ) × IsAnsweredBetween answered first now (asks.NextEntry dir) (answers.Refused error)
@@ -81,7 +81,7 @@ module _ {D : Type 0} (answered : D → DiskAsk → DiskAnswer → D → Type 0)
     AreHeld [] = Unit {0}
     AreHeld (item ∷ items) = IsHeld item × AreHeld items
 
-    -- the errors that a directory still has, and the place that is kept of it
+    -- the errors that a directory still has were answered, and its place was reported
     abbrev pub IsListTold : DirList → Type 0
     IsListTold list = AreHeld (held list.items) × IfSome list.place (λ place. IsPlaceTold list.path place)
 
@@ -89,12 +89,12 @@ module _ {D : Type 0} (answered : D → DiskAsk → DiskAnswer → D → Type 0)
     AreListsTold [] = Unit {0}
     AreListsTold (list ∷ outer) = IsListTold list × AreListsTold outer
 
-    -- calls lead from the one disk to the other, and what the walk keeps was told by them
+    -- calls lead from the one disk to the other, and reported what the walk keeps
     pub record IsStackTold (stack : List DirList) : Type 0 where
       pub leads : Leads answered first now
       pub lists : AreListsTold stack
 
-    -- What couldn't be looked at lies in the innermost directory. A directory whose opening was refused is innermost.
+    -- A path that couldn't be statted is in the innermost directory. A directory that couldn't be opened is the innermost.
     abbrev pub IsRefusedIn : ℕ → ErrorInner → List DirList → Type 0
     IsRefusedIn depth (Io (Some path) error) stack =
         (IsLookRefused path error × IsBeside path depth stack) ⊎ (IsOpeningRefused path error × IsHead path depth stack)
@@ -102,15 +102,15 @@ module _ {D : Type 0} (answered : D → DiskAsk → DiskAnswer → D → Type 0)
     IsRefusedIn depth (Loop ancestor child) stack = Unit {0}
     IsRefusedIn depth NoMemory stack = Unit {0}
 
-    -- the same of an item that may be an error
+    -- an item that is an error was refused so
     abbrev pub IsRefusedAt : Option Item → List DirList → Type 0
     IsRefusedAt None stack = Unit {0}
     IsRefusedAt (Some (Ok entry)) stack = Unit {0}
     IsRefusedAt (Some (Err error)) stack = IsRefusedIn error.depth error.inner stack
 
-  -- A step of a walk makes calls. Since any disk from which calls lead to the old one, and told what the walk keeps there,
-  -- calls told what it keeps and gives now. Where that is an error with a path, the call that was refused says which
-  -- directory is innermost.
+  -- A step of a walk makes calls. If calls that lead to the old disk reported what the walk keeps there, then these calls
+  -- reported what it keeps and gives now. If that is an error with a path, the refused call says which directory is
+  -- innermost.
   pub record TellsOn (old : D) (stack : List DirList) (item : Option Item) (new : D) (rest : List DirList) : Type 0 where
     pub leads : Leads answered old new
     pub told : (first : D) → IsStackTold first old stack → IsStackTold first new rest × IsItemTold first new item

@@ -21,28 +21,28 @@ module _ {D : Type 0} (answered : D → DiskAsk → DiskAnswer → D → Type 0)
   abbrev pub IsItemHeld : D → D → Option Item → Type 0
   IsItemHeld first now item = IfSome item (λ i. IsHeld answered first now i)
 
-  -- calls lead on, and told what was drawn
+  -- calls lead on, and reported what was drawn
   pub record TellsItem (old : D) (item : Option Item) (new : D) : Type 0 where
     pub leads : Leads answered old new
     pub told : IsItemHeld old new item
 
-  -- calls lead on, and told all that was read
+  -- calls lead on, and reported all that was read
   pub record TellsContents (old : D) (result : Result Items Error) (new : D) : Type 0 where
     pub leads : Leads answered old new
     pub told : IfOk result (λ items. AreHeld answered old new (held items))
 
-  -- a place that is known was told at the path
+  -- a place that is known was reported for the path
   abbrev pub IsKnown : D → D → Path → Option Place → Type 0
   IsKnown first now path place = IfSome place (λ p. IsPlaceTold answered first now path p)
 
-  -- looks alone told an error
+  -- stats alone reported an error
   abbrev pub IsSeenIn : D → D → ErrorInner → Type 0
   IsSeenIn first now (Io (Some path) error) = IsLookRefused answered first now path error
   IsSeenIn first now (Io None error) = ⊥
   IsSeenIn first now (Loop ancestor child) = IsLoopTold answered first now ancestor child
   IsSeenIn first now NoMemory = Unit {0}
 
-  -- calls lead on, and looks told the error, if there is one
+  -- calls lead on, and stats reported the error, if there is one
   pub record TellsLook {A : Type 0} (old : D) (result : Result A Error) (new : D) : Type 0 where
     pub leads : Leads answered old new
     pub told : (first : D) → Leads answered first old → IfErr result (λ e. IsSeenIn first new e.inner)

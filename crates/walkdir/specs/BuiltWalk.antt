@@ -1,4 +1,4 @@
--- The walk of a tree by what was built.
+-- The walk of a tree that was built.
 use Rattle.std.specs.Option.{option_map}
 use Rattle.odb_nodes.specs.Tree.{Tree}
 use Rattle.walkdir.specs.Options.{Built}

@@ -1,4 +1,4 @@
--- Why an error of a walk comes, whatever the disk tells.
+-- Why an error of a walk comes, whatever the disk reports.
 use Rattle.std.specs.Prelude.{◌≡◌, true, List, Contains, Some, None}
 use Rattle.walkdir.specs.Error.{is_stream_refusal}
 use Rattle.walkdir.specs.Walk.{Ancestor}

@@ -1,4 +1,4 @@
--- What one directory of a walk still has: its stream, or what was read of it before.
+-- What one directory of a walk still has: its stream, or what was already read of it.
 use Rattle.std.specs.Prelude.{◌≡◌, ℕ, ◌+◌, ◌^◌, Bool, true, false, List, [], ◌∷◌, length, map, Option, Some, None, Ok, Err, unwrap_or}
 use Rattle.odb_base.specs.Path.{Path}
 use Rattle.odb_asks.specs.Streams.{Streams, still_gives, left, with_closed}
@@ -20,7 +20,7 @@ stream_in (Opened dir) = Some dir
 stream_in (Closed items) = None
 stream_in Skipped = None
 
--- what was read of it before
+-- what was already read of it
 abbrev pub held : Items → List Item
 held (Opened dir) = []
 held (Closed items) = items.items
@@ -31,17 +31,17 @@ is_skipped Skipped = true
 is_skipped (Opened dir) = false
 is_skipped (Closed items) = false
 
--- contents without a stream, of which nothing was read
+-- contents without a stream, nothing of which was read
 pub record HasNothing (items : Items) : Type 0 where
   pub no_stream : stream_in items ≡ None
   pub nothing : held items ≡ []
 
--- The first is taken of what was read before. A closed list stays one, also where nothing is left.
+-- The first of what was already read is taken. A closed list stays closed, also when it is empty.
 abbrev pub TakesHeld : Items → Option Item → Items → Type 0
 TakesHeld old None new = (held old ≡ []) × HasNothing new × (is_skipped new ≡ is_skipped old)
 TakesHeld old (Some item) new = (held old ≡ item ∷ held new) × (stream_in new ≡ None) × (is_skipped old ≡ false) × (is_skipped new ≡ false)
 
--- the streams without one, if there is one
+-- the streams without this one, if there is one
 abbrev pub without_stream : Option ℕ → Streams → Streams
 without_stream None streams = streams
 without_stream (Some dir) streams = with_closed streams dir
@@ -80,11 +80,11 @@ HasLeft streams depth path Skipped children = children ≡ []
 abbrev pub most_entries : ℕ
 most_entries = 2 ^ 64
 
--- more than any directory has, with an error more and one to leave it by
+-- more than any directory has: one more for an error, and one for leaving it
 abbrev pub many : ℕ
 many = most_entries + 2
 
--- a stream may fail behind its entries
+-- a stream may fail after its entries
 abbrev pub left_in : Streams → Items → ℕ
 left_in streams (Opened dir) = unwrap_or (left streams dir) 0 + 1
 left_in streams (Closed items) = length items.items

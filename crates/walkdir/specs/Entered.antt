@@ -12,7 +12,7 @@ use Rattle.walkdir.specs.declared.directory.DirList.{DirList}
 use Rattle.walkdir.specs.declared.directory.Entering.TheVariants.{Stays, Enters}
 use Rattle.walkdir.specs.declared.directory.Place.{Place}
 
--- a directory that would come before its contents isn't entered
+-- a directory that would be given before its contents isn't entered
 abbrev pub StaysOut : Walking → DirEntry → Type 0
 StaysOut walk entry = is_dir entry ≡ true → walk.options.contents_first ≡ false → entering walk entry ≡ Ok Stays
 
@@ -24,7 +24,7 @@ HoldsContents walk entry place streams (list ∷ outer) =
     × ((children here : List Item) → HasLeft streams (length outer + 1) list.path list.items children
     → WalksOf walk (ancestors (list ∷ outer)) children here → ContentsOf walk (enter entry place (ancestors outer)) entry here)
 
--- An entry was entered and comes before its contents, which are still to come in full.
+-- An entry was entered and is given before its contents, which are still to come in full.
 pub record IsEntered (walk : Walking) (entry : DirEntry) (start : Option Path) (streams : Streams) (stack : List DirList) : Type 0 where
   pub place : Option Place
   pub enters : entering walk entry ≡ Ok (Enters place)

@@ -1,4 +1,4 @@
--- What the parts of a turn tell of a directory that is given before its contents. No public clause cites this module.
+-- What the parts of a turn say of a directory that is given before its contents. No public clause cites this module.
 use Rattle.std.specs.Prelude.{◌≡◌, ℕ, false, [], Option, Ok}
 use Rattle.odb_base.specs.Path.{Path}
 use Rattle.odb_nodes.specs.Tree.{State}
@@ -15,7 +15,7 @@ use Rattle.walkdir.specs.declared.dent.DirEntry.{DirEntry}
 use Rattle.walkdir.specs.declared.directory.Entering.TheVariants.{Enters}
 use Rattle.walkdir.specs.declared.directory.Place.{Place}
 
--- an entry is the root, by what a look at it tells
+-- an entry is the root, by a stat of it
 abbrev pub IsRootEntry : Walking → DirEntry → Type 0
 IsRootEntry walk entry = (meta : Meta) × (looked walk.tree walk.root false ≡ Ok meta) × (entry ≡ entry_by walk.root false 0 meta)
 
@@ -40,12 +40,12 @@ HandlesAbove state old entry item new =
     ForEachWalkOnStack state old (λ walk. is_lost item ≡ false → (old.stack ≡ [] → IsRootEntry walk entry) → AreEntered walk (ancestors old.stack)
     → AreEntered walk (ancestors new.stack))
 
--- those after the root was taken up
+-- the directories that the walk is in after the root was handled
 abbrev pub BeginsAbove : Option State → Progress → Path → Option Item → Progress → Type 0
 BeginsAbove state old root item new =
     ForEachWalkMadeSo state old (λ walk. walk.root ≡ root → is_lost item ≡ false → AreEntered walk (ancestors new.stack))
 
--- the root of a walk
+-- a walk begins at its root
 abbrev pub BeginsTelling : Option State → Progress → Path → Option Item → Progress → Type 0
 BeginsTelling state old root item new =
     ForEachWalkMadeSo state old (λ walk. walk.root ≡ root → TellsEntered walk item new)

@@ -1,4 +1,4 @@
--- The entries of a walk, and what their calls tell.
+-- The entries of a walk, and what their calls return.
 use Rattle.std.specs.Prelude.{ℕ, Bool, true, false, ◌||◌, codes, unwrap_or}
 use Rattle.odb_base.specs.Path.{Path, Name, last_name}
 use Rattle.odb_nodes.specs.declared.meta.Kind.{Kind}
@@ -21,11 +21,11 @@ is_link_kind Dir = false
 abbrev pub is_dir : DirEntry → Bool
 is_dir entry = is_dir_kind entry.kind
 
--- an entry is a link where its walk didn't follow it
+-- an entry is a link if its walk didn't follow it
 abbrev pub is_link : DirEntry → Bool
 is_link entry = is_link_kind entry.kind
 
--- whether a link stands at the path, also one that was followed
+-- whether the path is a link, also one that was followed
 abbrev pub is_behind_link : DirEntry → Bool
 is_behind_link entry = is_link entry || entry.followed
 

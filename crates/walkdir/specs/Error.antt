@@ -1,4 +1,4 @@
--- The errors of a walk, and what their calls tell.
+-- The errors of a walk, and what their calls return.
 use Rattle.std.specs.Prelude.{◌≡◌, ◌⊎◌, ℕ, Bool, true, false, List, ◌++◌, codes, Option, Some, None}
 use Rattle.odb_base.specs.Path.{Path, text_of}
 use Rattle.odb_nodes.specs.declared.disk_error.DiskError.{DiskError}
@@ -19,7 +19,7 @@ stream_error depth error = record { depth = depth; inner = Io None error }
 abbrev pub loop_error : ℕ → Path → Path → Error
 loop_error depth ancestor child = record { depth = depth; inner = Loop ancestor child }
 
--- want of memory
+-- out of memory
 abbrev pub no_memory : Error
 no_memory = record { depth = 0; inner = NoMemory }
 
@@ -30,7 +30,7 @@ is_no_memory_inner inner = false
 abbrev pub is_no_memory : Error → Bool
 is_no_memory error = is_no_memory_inner error.inner
 
--- ---- what the calls of an error tell
+-- ---- what the calls of an error return
 
 abbrev pub path_in : ErrorInner → Option Path
 path_in (Io path error) = path

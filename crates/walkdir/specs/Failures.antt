@@ -8,11 +8,11 @@ use Rattle.walkdir.specs.declared.directory.DirList.{DirList}
 use Rattle.walkdir.specs.declared.directory.Items.{Items}
 use Rattle.walkdir.specs.declared.directory.Items.TheVariants.{Opened, Closed, Skipped}
 
--- the count of faults rose so often in between, or stands at its greatest value
+-- the count of faults rose so often in between, or is at its greatest value
 abbrev pub RoseBy : ℕ → ℕ → ℕ → Type 0
 RoseBy count before now = min (before + count) greatest_count ≤ now
 
--- so many failures came out of a call, and no more than the count of faults rose by. It never falls
+-- a call gave so many failures, no more than the count of faults rose by. The count never falls
 pub record Costs (count before now : ℕ) : Type 0 where
   pub later : before ≤ now
   pub rose : RoseBy count before now

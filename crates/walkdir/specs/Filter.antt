@@ -21,8 +21,8 @@ module _ {S F : Type 0} (steps : S → Option (Result DirEntry Error) → S → 
   abbrev pub AfterRejected : S → S → Type 0
   AfterRejected s t = MatchBool (entered s) (skips s t) (t ≡ s)
 
-  -- The next item: the walk's end, an error, or the first entry that isn't rejected. Rejected ones before it are passed
-  -- over, with what lies below those that were entered.
+  -- The next item: the walk's end, an error, or the first entry that isn't rejected. Rejected ones before it are left
+  -- out, with what is below those that were entered.
   pub data Filters : S → F → Option (Result DirEntry Error) → S → F → Type 0 where
     Ends : {s t : S} {f : F} → steps s None t → Filters s f None t f
     Errs : {s t : S} {f : F} {error : Error} → steps s (Some (Err error)) t → Filters s f (Some (Err error)) t f

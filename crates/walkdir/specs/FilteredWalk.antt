@@ -1,5 +1,5 @@
--- What a filter leaves of a walk: rejected entries are left out, and what a rejected directory contains that comes before
--- its contents and was entered.
+-- What a filter leaves of a walk: rejected entries are left out, and the contents of a rejected directory that is given
+-- before its contents and was entered.
 use Rattle.std.specs.Prelude.{◌≡◌, ℕ, Bool, true, false, List, [], ◌∷◌, ◌++◌, Option, Some, None, Ok, Err}
 use Rattle.std.specs.Fn.{Mut, CalledAt}
 use Rattle.std.specs.Iterator.{Yields}
@@ -24,19 +24,19 @@ use Rattle.walkdir.specs.declared.iter.OnDisk.{OnDisk}
 use Rattle.walkdir.specs.declared.directory.Entering.TheVariants.{Enters}
 use Rattle.walkdir.specs.declared.directory.Place.{Place}
 
--- The items of a walk, and what a filter leaves of them. `asked` says what its predicate answers of an entry, and what the
--- predicate is then; it is the first of the two before it is asked of the items, and the last behind them.
+-- The items of a walk, and what a filter leaves of them. `asked` says what its predicate answers for an entry and becomes
+-- by that; the predicate is the first of the two before the items, and the last after them.
 pub data LeavesOut {F : Type 0} (walk : Walking) (asked : F → DirEntry → Bool → F → Type 0) : F → List Item → List Item → F → Type 0 where
   Ended : {f : F} → LeavesOut walk asked f [] [] f
-  -- an error is given whatever the predicate is, which isn't asked
+  -- an error is always given, and the predicate isn't asked
   Failed : {f h : F} {error : Error} {items given : List Item} → LeavesOut walk asked f items given h
       → LeavesOut walk asked f (Err error ∷ items) (Err error ∷ given) h
   Accepted : {f h : F} {entry : DirEntry} {items given : List Item} (g : F) → asked f entry true g → LeavesOut walk asked g items given h
       → LeavesOut walk asked f (Ok entry ∷ items) (Ok entry ∷ given) h
-  -- a rejected entry alone: it is no directory, or it comes after its contents, or it isn't entered
+  -- a rejected entry alone: it is no directory, or it is given after its contents, or it isn't entered
   Alone : {f h : F} {entry : DirEntry} {items given : List Item} (g : F) → asked f entry false g → StaysOut walk entry
       → LeavesOut walk asked g items given h → LeavesOut walk asked f (Ok entry ∷ items) given h
-  -- a rejected directory that comes before its contents and was entered, with its contents below the directories above it
+  -- a rejected directory that is given before its contents and was entered, with its contents below the ones above it
   WithContents : {f h : F} {entry : DirEntry} {items given : List Item} (g : F) (place : Option Place) (above : List Ancestor)
       (contents behind : List Item) → asked f entry false g → is_dir entry ≡ true → walk.options.contents_first ≡ false
       → entering walk entry ≡ Ok (Enters place) → AreAbove walk entry.path entry.depth above
@@ -70,7 +70,7 @@ BeginsFiltered walk accepts given = BeginsFilteredBy {F = Unit {0}} walk (by_ent
 
 -- ---- a filtered walk on a disk
 
--- none of these items is want of memory
+-- none of these items is out of memory
 abbrev pub NoneLost : List Item → Type 0
 NoneLost [] = Unit {0}
 NoneLost (item ∷ items) = (is_lost (Some item) ≡ false) × NoneLost items
@@ -94,7 +94,7 @@ module _ {D W F : Type 0} (state : D → Option State) (streams : D → Streams)
       Filters (NextOn state streams faults answered progress) (SkipsOn state streams faults answered progress)
       (λ x. (at_walk state streams faults answered progress x).entered) calls s.walk s.predicate item t.walk t.predicate
 
-  -- on any disk: whatever is given, calls of the walk told it
+  -- on any disk: whatever is given, calls of the walk reported it
   abbrev pub TellsFiltered : FilterEntry (OnDisk D W) F → Type 0
   TellsFiltered s =
       (items : List Item) (t : FilterEntry (OnDisk D W) F) (first : D) → Yields FilteredOn s items t
@@ -102,7 +102,7 @@ module _ {D W F : Type 0} (state : D → Option State) (streams : D → Streams)
       → IsStackTold answered first t.walk.disk.now (at_walk state streams faults answered progress t.walk).stack
       × AreTold answered first t.walk.disk.now items
 
-  -- From a walk that hasn't begun, on a disk that tells its tree: whatever is given first, without want of memory, is what
+  -- From a walk that hasn't begun, on a disk whose tree is known and while memory lasts: whatever is given first is what
   -- the filter leaves of the first items of the walk; and at the end, of all. The predicate may change as it is asked.
   pub record FiltersWalk (s : FilterEntry (OnDisk D W) F) : Type 0 where
     pub begins : (walk : Walking) (told : State) (items : List Item) (t : FilterEntry (OnDisk D W) F) → walk.tree ≡ tree_of told
@@ -113,7 +113,7 @@ module _ {D W F : Type 0} (state : D → Option State) (streams : D → Streams)
         → Yields FilteredOn s items t → FilteredOn t None u → NoneLost items
         → IsFilteredBy walk (CalledAt calls) s.predicate items u.predicate
 
-  -- the same by a predicate that answers by the entry alone
+  -- for a predicate that answers by the entry alone: the same items
   pub record GivesFiltered (accepts : DirEntry → Bool) (s : FilterEntry (OnDisk D W) F) : Type 0 where
     pub begins : (walk : Walking) (told : State) (items : List Item) (t : FilterEntry (OnDisk D W) F) → walk.tree ≡ tree_of told
         → state s.walk.disk.now ≡ Some told

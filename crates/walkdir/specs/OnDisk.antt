@@ -1,4 +1,4 @@
--- A walk on the disk that is lent to it, by the meanings of the disk and of what the walk keeps beside it.
+-- A walk on the disk that it borrows, by the meanings of the disk and of the walk's own state.
 use Rattle.std.specs.Prelude.{◌≡◌, ℕ, true, Option, None}
 use Rattle.odb_asks.specs.Streams.{Streams}
 use Rattle.odb_nodes.specs.Tree.{State}
@@ -13,7 +13,7 @@ use Rattle.walkdir.specs.declared.iter.OnDisk.{OnDisk}
 
 module _ {D W : Type 0} (state : D → Option State) (streams : D → Streams) (faults : D → ℕ) (answered : D → DiskAsk → DiskAnswer → D → Type 0)
     (progress : W → Streams → Progress) where
-  -- how far it has come
+  -- how far it is
   abbrev pub at_walk : OnDisk D W → Progress
   at_walk s = progress s.walk (streams s.disk.now)
 

@@ -1,14 +1,14 @@
--- How a walk is made.
+-- The options of a walk.
 use Rattle.std.specs.Prelude.{ℕ, ◌-◌, ◌^◌, ◌≤◌, ◌&&◌, Bool, true, false, nat_le, Option, refl}
 use Rattle.std.specs.Coded.{Coded, code_by, coded×, coded_ℕ, coded_bool, coded_list, coded_option}
 use Rattle.odb_base.specs.Path.{Path}
 use Rattle.walkdir.specs.declared.builder.Options.{Options}
 
--- the most directories that are open unless another number is chosen, as the crate `walkdir` has it
+-- the default for the number of directories open at once, as in the crate `walkdir`
 abbrev pub default_max_open : ℕ
 default_max_open = 10
 
--- no entry stands deeper: depths are kept in 64 bits
+-- no entry is deeper: depths are kept in 64 bits
 abbrev pub greatest_depth : ℕ
 greatest_depth = 2 ^ 64 - 1
 
@@ -39,11 +39,11 @@ pub record Built (S : Type 0) : Type 0 where
   pub options : Options
   pub sorter : Option S
 
--- the same with other options
+-- the walk to be made, with other options
 abbrev pub with_options : {S : Type 0} → Built S → Options → Built S
 with_options walk options = record walk { options = options }
 
--- ---- how built walks are told apart, for their model
+-- ---- how built walks are distinguished, for their model
 
 abbrev Parts : Type 0
 Parts = Bool × (Bool × (ℕ × (ℕ × (ℕ × (Bool × Bool)))))

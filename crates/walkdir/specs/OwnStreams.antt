@@ -1,4 +1,4 @@
--- The streams of a walk beside all others of its disk.
+-- The streams of a walk next to all others of its disk.
 use Rattle.std.specs.Prelude.{◌≡◌, ℕ, ◌+◌, ◌≤◌, ◌&&◌, Bool, true, max, List, [], ◌∷◌, length}
 use Rattle.std.specs.Ordering.{nat_cmp}
 use Rattle.std.specs.FinMap as finite
@@ -9,8 +9,8 @@ use Rattle.odb_nodes.specs.declared.entry.Entry.{Entry}
 abbrev pub OpenDirs : Type 0
 OpenDirs = finite.FinMap nat_cmp (List Entry)
 
--- Open streams are these others and a walk's own: each of its own is open, and when they are closed one after the other,
--- the others are left.
+-- The open streams are these others and a walk's own: each of its own is open, and when they are closed one after the
+-- other, the others are left.
 unfoldable pub AreBeside : OpenDirs → List ℕ → OpenDirs → Type 0
 AreBeside others [] now = now ≡ others
 AreBeside others (dir ∷ own) now = (finite.contains_key now dir ≡ true) × AreBeside others own (finite.remove now dir)
@@ -21,7 +21,7 @@ are_apart [] now = true
 are_apart (dir ∷ own) now = finite.contains_key now dir && are_apart own (finite.remove now dir)
 
 -- A walk began on a disk with these streams, and has these of its own: at most `max_open`, and all others are as they
--- were. The most that were open at one time are those that were at most open before, or open then, and `max_open` more.
+-- were. The most open at one time are at most those open at most before, or open then, and `max_open` more.
 pub record Owns (before : Streams) (max_open : ℕ) (own : List ℕ) (now : Streams) : Type 0 where
   pub beside : AreBeside before.open_dirs own now.open_dirs
   pub few : length own ≤ max_open

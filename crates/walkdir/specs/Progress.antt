@@ -88,20 +88,20 @@ is_lost (Some (Err error)) = is_no_memory error
 is_lost (Some (Ok entry)) = false
 is_lost None = false
 
--- where the tree is told, this holds of each walk of it that has come here, with streams of its own
+-- if the tree is known, this holds of each walk of it that is at this point, with streams of its own
 abbrev pub ForEachWalkAt : Option State → Progress → (Walking → Type 0) → Type 0
 ForEachWalkAt state at Holds =
     IfSome state (λ s. (walk : Walking) (before : Streams) → walk.tree ≡ tree_of s → IsOf walk at → Keeps before at → Holds walk)
 
--- Where the tree is told, the item is the first of what the walk still gives, and the others are still to come. Want of
--- memory ends the walk at any place.
+-- If the tree is known, the item is the first of what the walk still gives, and the others are still to come. Running out
+-- of memory ends the walk at any place.
 abbrev pub GivesNext : Option State → Progress → Option Item → Progress → Type 0
 GivesNext state old item new =
     ForEachWalkAt state old (λ walk. is_lost item ≡ false
     → IsOf walk new × ((rest : List Item) → StillGives walk new rest → StillGives walk old (option_to_list item ++ rest)))
 
--- The failures that were given and those that are still to be given are no more than the disk's count of faults rose by
--- since the walk began; so many are given now.
+-- The failures given so far and still to be given are no more than the disk's count of faults rose by since the walk
+-- began; so many are given now.
 pub record FailsByFault (old : Progress) (before : ℕ) (given : ℕ) (new : Progress) (now : ℕ) : Type 0 where
   pub later : before ≤ now
   pub rose : (begun count : ℕ) → RoseBy (count + waiting old.stack) begun before → RoseBy (count + given + waiting new.stack) begun now
@@ -117,18 +117,18 @@ CausedWithin at (Some (Err error)) = IsCausedAmong at.options (ancestors at.stac
 CausedWithin at (Some (Ok entry)) = Unit {0}
 CausedWithin at None = Unit {0}
 
--- An entry that is given was entered and comes before its contents, which are all that the innermost directory has left;
--- or it is no directory that comes before its contents and is entered.
+-- An entry that is given was entered and is given before its contents, which are all that the innermost directory has
+-- left; or it isn't a directory that is given before its contents and entered.
 abbrev pub TellsEntered : Walking → Option Item → Progress → Type 0
 TellsEntered walk (Some (Ok entry)) at = MatchBool at.entered (IsEntered walk entry at.start at.streams at.stack) (StaysOut walk entry)
 TellsEntered walk (Some (Err error)) at = Unit {0}
 TellsEntered walk None at = Unit {0}
 
--- the same, where the tree is told
+-- if the tree is known, this holds of the item
 abbrev pub GivesDirectory : Option State → Progress → Option Item → Progress → Type 0
 GivesDirectory state old item new = ForEachWalkAt state old (λ walk. TellsEntered walk item new)
 
--- where the tree is told, the directories that the walk is in are those that it entered
+-- if the tree is known, the directories that the walk is in are those that it entered
 abbrev pub GivesEntered : Option State → Progress → Option Item → Progress → Type 0
 GivesEntered state old item new =
     ForEachWalkAt state old (λ walk. is_lost item ≡ false → AreEntered walk (ancestors old.stack) → AreEntered walk (ancestors new.stack))

@@ -19,13 +19,13 @@ pub record AreLeft (walk : Walking) (streams : Streams) (list : DirList) (outer 
   pub left : HasLeft streams (length outer + 1) list.path list.items children
   pub walks : WalksOf walk (ancestors (list ∷ outer)) children items
 
--- what a skip drops: the walks of the children that the innermost directory that isn't skipped yet still has
+-- what a skip drops: the walks of the children that are left in the innermost directory that isn't skipped yet
 abbrev pub IsDropped : Walking → Streams → List DirList → List Item → Type 0
 IsDropped walk streams [] dropped = dropped ≡ []
 IsDropped walk streams (list ∷ outer) dropped =
     MatchBool (is_skipped list.items) (IsDropped walk streams outer dropped) (AreLeft walk streams list outer dropped)
 
--- What is still to come after a skip was to come before: something was dropped, and whatever may be dropped stood in
+-- What is still to come after a skip was to come before: something was dropped, and whatever may be dropped was in
 -- between.
 pub record StoodFor (first : List Item) (Drops Stood : List Item → Type 0) (items : List Item) : Type 0 where
   pub behind : List Item
@@ -33,7 +33,7 @@ pub record StoodFor (first : List Item) (Drops Stood : List Item → Type 0) (it
   pub some : (dropped : List Item) × Drops dropped
   pub stood : (dropped : List Item) → Drops dropped → Stood (first ++ dropped ++ behind)
 
--- What was to come before a skip is still to come after it, but for what is dropped.
+-- What was to come before a skip is still to come after it, except what is dropped.
 pub record LeavesAll (first : List Item) (Drops Stands : List Item → Type 0) (items : List Item) : Type 0 where
   pub dropped : List Item
   pub behind : List Item

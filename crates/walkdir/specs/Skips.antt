@@ -16,7 +16,7 @@ abbrev pub skipped_stream : List DirList → Option ℕ
 skipped_stream [] = None
 skipped_stream (list ∷ outer) = if is_skipped list.items then skipped_stream outer else stream_in list.items
 
--- what a skip leaves: all else stays, and the streams but for the one that is closed
+-- a skip changes the stack, and closes its stream if it has one; all else stays
 pub record Skips (old new : Progress) : Type 0 where
   pub stack : new.stack ≡ skipped old.stack
   pub streams : new.streams ≡ without_stream (skipped_stream old.stack) old.streams

@@ -9,7 +9,7 @@ use Rattle.odb_base.specs.Path.{name_cmp}
 use Rattle.walkdir.specs.Entry.{file_name_of}
 use Rattle.walkdir.specs.declared.dent.DirEntry.{DirEntry}
 
--- no two entries are told apart
+-- all entries are equal
 abbrev pub all_equal : DirEntry → DirEntry → Ordering
 all_equal a b = Equal
 

@@ -1,4 +1,4 @@
--- What always holds of the stack of a walk, and the same as a test.
+-- What always holds of the stack of a walk, as a statement and as a test.
 use Rattle.std.specs.Prelude.{◌≡◌, ℕ, ◌+◌, ◌≤◌, ◌==◌, ◌&&◌, ◌||◌, Bool, true, false, not, nat_lt, is_some, List, [], ◌∷◌, length, reverse, take, Option, Some, None, Ok, Err, IfSome}
 use lib.Pointwise.{pointwise}
 use Rattle.odb_base.specs.Path.{Path, same_name}
@@ -17,14 +17,14 @@ use Rattle.walkdir.specs.Stack.{own_streams}
 
 -- ---- what always holds of a stack
 
--- the entry of a directory that comes after its contents stands as deep as the directory itself, and what was read of it
+-- the entry of a directory that is given after its contents is as deep as the directory itself, and what was read of it
 -- one deeper. From the greatest depth on a directory has nothing
 pub record FitsAt (options : Options) (depth : ℕ) (list : DirList) : Type 0 where
   pub after : IfSome list.after (λ entry. (entry.depth ≡ depth) × (is_dir entry ≡ true) × (options.contents_first ≡ true))
   pub children : AreAt list.path (depth + 1) (held list.items)
   pub deepest : options.max_depth ≤ depth → HasNothing list.items
 
--- a directory lies in the one above it, and so does its entry that comes after its contents
+-- a directory is in the one above it, and so is its entry that is given after its contents
 abbrev pub IsNested : DirList → List DirList → Type 0
 IsNested list outer = LiesIn list.path outer × IfSome list.after (λ entry. LiesIn entry.path outer)
 
@@ -42,7 +42,7 @@ pub record IsSound (options : Options) (start : Option Path) (lists : List DirLi
   pub closed : own_streams (take first_open lists) ≡ []
   pub fits : Fits options (reverse lists)
 
--- ---- the same as tests
+-- ---- as tests
 
 abbrev pub same_path : Path → Path → Bool
 same_path = pointwise same_name

@@ -20,13 +20,13 @@ own_streams stack = filter_map (λ list. stream_in list.items) stack
 abbrev pub ancestors : List DirList → List Ancestor
 ancestors stack = map (λ list. record { path = list.path; place = list.place }) stack
 
--- a directory's own entry, where it comes after its contents
+-- a directory's own entry, if it is given after its contents
 abbrev pub own_entry : Options → Option DirEntry → List Item
 own_entry options None = []
 own_entry options (Some entry) = shown options entry
 
--- What a stack stands for: the walks of the children that the innermost directory still has, its own entry if that
--- comes after them, and then what the directories above it stand for.
+-- What a stack stands for: the walks of the children that the innermost directory still has, its own entry if that is
+-- given after them, and then what the directories above it stand for.
 pub data StandsFor (walk : Walking) (streams : Streams) : List DirList → List Item → Type 0 where
   Nothing : StandsFor walk streams [] []
   Within : {list : DirList} {outer : List DirList} {items : List Item} (children here others : List Item)
@@ -37,8 +37,8 @@ pub data StandsFor (walk : Walking) (streams : Streams) : List DirList → List 
 
 -- ---- how much is left
 
--- how much a directory of this depth counts: as many times more than one further in as that can have children, so that a
--- child that is taken outweighs the directory that it may be
+-- the weight of a directory of this depth: that of one further in, times more than its greatest number of children, so
+-- that a child that is taken outweighs the directory that it may be
 unfoldable pub weight : ℕ → ℕ → ℕ
 weight max_depth depth = many ^ (max_depth - depth)
 

@@ -1,4 +1,4 @@
--- How far the walk of a stack has come.
+-- How far the walk of a stack is.
 use Rattle.std.specs.Prelude.{◌≡◌, reverse, length}
 use Rattle.std.specs.Option.{option_map}
 use Rattle.odb_asks.specs.Streams.{Streams}
@@ -19,7 +19,7 @@ progress order walk streams = record {
   streams = streams;
 }
 
--- what stays of a walk's stack, where only the contents of its directories change
+-- what stays of a walk's stack, when only the contents of its directories change
 pub record KeepsStack {S : Type 0} (old new : Stack S) : Type 0 where
   pub options : new.options ≡ old.options
   pub sorter : new.sorter ≡ old.sorter

@@ -28,7 +28,7 @@ pub record GoesOn (old : Progress) (before given more : ℕ) (new : Progress) (n
   pub skips : SkipsNone old.stack new.stack
   pub work : (streams : Streams) → Keeps streams old → work_at new ≤ work_at old + more
 
--- how much a directory of this depth is at most, when it is put on the stack
+-- the greatest weight of a directory of this depth, when it is put on the stack
 abbrev pub fresh : ℕ → ℕ → ℕ
 fresh max_depth depth = (most_entries + 1) * weight max_depth depth
 
@@ -57,7 +57,7 @@ item_of (turns.Item item) = Some item
 item_of turns.Passed = None
 item_of turns.Ended = None
 
--- the end is where nothing is left, and no turn takes longer than those before it
+-- the end is reached when nothing is left, and each other turn leaves less to do
 abbrev pub EndsWell : Progress → Turn → Progress → Type 0
 EndsWell old turns.Ended new = (new ≡ old) × (old.stack ≡ []) × (old.start ≡ None)
 EndsWell old turns.Passed new = work_left new < work_left old

@@ -1,5 +1,5 @@
--- What a walk of a tree gives: entries and errors, by a path, its depth and the directories entered above it.
--- Each call of the disk may fail: then one error stands in the place of what the call would have given.
+-- What a walk of a tree gives: entries and errors, by a path, its depth and the directories entered above it. Each call
+-- of the disk may fail: then one error is in the place of what the call would have given.
 pub mod Given
 pub mod Answers
 pub mod Entries
@@ -27,7 +27,7 @@ use Rattle.walkdir.specs.Walk.Children.{ChildrenOf}
 mutual
   -- the walk of an entry, below the directories entered above it
   pub data WalkOf (walk : Walking) : List Ancestor → DirEntry → List Item → Type 0 where
-    -- a look failed: an error in the place of the entry with its contents
+    -- a stat failed: an error in place of the entry with its contents
     Failed : {above : List Ancestor} {entry : DirEntry} → is_looked_at walk.options entry ≡ true
         → WalkOf walk above entry (Err (io_error entry.depth entry.path refusals.Failed) ∷ [])
     -- an error in place of what the entry would be taken for
@@ -50,7 +50,7 @@ mutual
   pub data ContentsOf (walk : Walking) : List Ancestor → DirEntry → List Item → Type 0 where
     -- nothing, at the greatest depth
     Deepest : {above : List Ancestor} {directory : DirEntry} → below_greatest walk directory ≡ false → ContentsOf walk above directory []
-    -- one error, at its own depth, where it can't be opened
+    -- one error, at its own depth, if it can't be opened
     Unopened : {above : List Ancestor} {directory : DirEntry} (error : DiskError) → below_greatest walk directory ≡ true
         → IsRefused error (opened walk.tree directory.path)
         → ContentsOf walk above directory (Err (io_error directory.depth directory.path error) ∷ [])
@@ -60,7 +60,7 @@ mutual
         → opened walk.tree directory.path ≡ Ok entries → ChildrenOf walk directory entries children → WalksOf walk above children items
         → ContentsOf walk above directory items
 
-  -- the walks of the children of a directory, one behind the other; an error stands for itself
+  -- the walks of the children of a directory, one after the other; an error is given as it is
   pub data WalksOf (walk : Walking) : List Ancestor → List Item → List Item → Type 0 where
     Nothing : {above : List Ancestor} → WalksOf walk above [] []
     Lost : {above : List Ancestor} {error : Error} {children items : List Item} → WalksOf walk above children items
@@ -71,7 +71,7 @@ mutual
 
 -- ---- the walk from its root
 
--- where the walk stays on the root's device, that is looked up first, links followed
+-- if the walk stays on the root's device, that is looked up first, following links
 abbrev pub HasDevice : Walking → Type 0
 HasDevice walk = walk.options.same_file_system ≡ true → (meta : Meta) × (looked walk.tree walk.root true ≡ Ok meta)
 

@@ -4,7 +4,7 @@ use Rattle.std.specs.Cmp.{IsTotalOrder}
 use Rattle.walkdir.specs.Failures.{failures_among}
 use Rattle.walkdir.specs.Walk.{Walking, Item, IsWalk}
 
--- the same walk, with so many directories open at most
+-- the walk, with at most so many directories open
 unfoldable pub with_most : Walking → ℕ → Walking
 with_most walk most = record walk { options = record walk.options { max_open = most } }
 
@@ -14,13 +14,13 @@ GivesOneList walk =
     IfSome walk.order IsTotalOrder → (items others : List Item) → IsWalk walk items → IsWalk walk others → failures_among items ≡ 0
     → failures_among others ≡ 0 → items ≡ others
 
--- Two walks give the same list, where neither has a failure of the disk.
+-- Two walks give the same list, if neither has a failure of the disk.
 abbrev pub GiveOneList : Walking → Walking → Type 0
 GiveOneList walk other =
     IfSome walk.order IsTotalOrder → (items others : List Item) → IsWalk walk items → IsWalk other others → failures_among items ≡ 0
     → failures_among others ≡ 0 → items ≡ others
 
--- The same, also where other numbers of directories may be open.
+-- A walk gives one list for any number of directories that may be open.
 abbrev pub IsSameForAnyMost : Walking → Type 0
 IsSameForAnyMost walk =
     IfSome walk.order IsTotalOrder → (most other : ℕ) (items others : List Item) → IsWalk (with_most walk most) items

@@ -1,4 +1,4 @@
-//! A walk is built: from its root, by its options and its order.
+//! Builds a walk from its root, options and order.
 ghost use Rattle.std.specs.Prelude.{◌≡◌, min, max, IfOk, IfErr, Some, None, true};
 ghost use Rattle.walkdir.specs.Options.{default_options, with_options};
 
@@ -10,10 +10,10 @@ use odb_disk::{NoMemory, PathText};
 use std::alloc::Global;
 use std::marker::Model;
 
-/// The most directories that are open unless another number is chosen, as in the crate `walkdir`.
+/// The default for the number of directories open at once, as in the crate `walkdir`.
 const DEFAULT_MAX_OPEN: usize = 10;
 
-/// How a walk is made.
+/// The options of a walk.
 #[derive(Clone, Copy)]
 pub struct Options {
     pub(crate) follow_links: bool,
@@ -49,7 +49,7 @@ impl<S> Model for WalkDir<S> {
 }
 
 impl WalkDir<NoSort> {
-    /// A walk from a root, which it takes. It takes no memory.
+    /// A walk from a root, which it takes. It allocates no memory.
     pub fn at(root: PathText) -> WalkDir<NoSort>
         ensures root { result.root ≡ root }
         ensures options { result.options ≡ default_options }
@@ -106,7 +106,7 @@ impl<S: Drop> WalkDir<S> {
         self
     }
 
-    /// Whether links are followed. A link that leads to a directory above it is an error then.
+    /// Whether links are followed. If so, a link that leads to a directory above it is an error.
     pub fn follow_links(mut self, yes: bool) -> Self
         ensures options { result ≡ with_options self (record self.options { follow_links = yes }) }
     {
@@ -114,7 +114,7 @@ impl<S: Drop> WalkDir<S> {
         self
     }
 
-    /// Whether a root that is a link to a directory is entered. Its entry is a link nevertheless.
+    /// Whether a root that is a link to a directory is entered. Its entry is a link even then.
     pub fn follow_root_links(mut self, yes: bool) -> Self
         ensures options { result ≡ with_options self (record self.options { follow_root_links = yes }) }
     {
@@ -122,8 +122,8 @@ impl<S: Drop> WalkDir<S> {
         self
     }
 
-    /// The most directories that are open at one time. 0 is taken for 1. Above it, the rest of a directory is read
-    /// into memory. What the walk gives doesn't depend on it, on a tree that stays as it is and without failures.
+    /// The most directories that are open at one time; 0 counts as 1. Beyond it, the rest of a directory is read into
+    /// memory. On a tree that doesn't change and without failures, what the walk gives doesn't depend on it.
     pub fn max_open(mut self, count: usize) -> Self
         ensures options { result ≡ with_options self (record self.options { max_open = max count 1 }) }
         ensures same { (tree : Tree) (order : S → Order)
@@ -133,7 +133,7 @@ impl<S: Drop> WalkDir<S> {
         self
     }
 
-    /// Whether a directory comes after its contents.
+    /// Whether a directory is given after its contents.
     pub fn contents_first(mut self, yes: bool) -> Self
         ensures options { result ≡ with_options self (record self.options { contents_first = yes }) }
     {
@@ -141,7 +141,7 @@ impl<S: Drop> WalkDir<S> {
         self
     }
 
-    /// Whether directories on other devices than the root's are given and not entered.
+    /// Whether directories on other devices than the root's are given, but not entered.
     pub fn same_file_system(mut self, yes: bool) -> Self
         ensures options { result ≡ with_options self (record self.options { same_file_system = yes }) }
     {
@@ -175,7 +175,7 @@ impl<S: Drop> WalkDir<S> {
         self.sort_by(ByName)
     }
 
-    /// What the walk keeps beside its disk, before it begins.
+    /// The state of the walk without its disk, before it begins.
     pub fn into_stack(self, alloc: Global) -> Stack<S>
     where
         S: Sorter,
@@ -184,7 +184,7 @@ impl<S: Drop> WalkDir<S> {
         Stack::new(alloc, self.options, self.sorter, self.root)
     }
 
-    /// The walk on a disk, which it keeps to itself as long as it goes on. It is never refused.
+    /// The walk on a disk, which it borrows while it goes on. It never fails.
     pub fn into_iter_on<'d, D: Disk>(
         self,
         alloc: Global,

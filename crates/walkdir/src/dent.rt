@@ -1,4 +1,4 @@
-//! What stands at one place of a walk: an entry, and what its calls tell.
+//! What is at one place of a walk: an entry, and what its calls return.
 ghost use Rattle.std.specs.Prelude.{◌≡◌, ℕ};
 
 use crate::Result;
@@ -7,12 +7,12 @@ use odb_asks::Disk;
 use odb_disk::{Kind, Meta, NoMemory, PathText};
 use std::alloc::Global;
 
-/// What stands at one place of a walk.
+/// What is at one place of a walk.
 #[derive(Debug, Drop)]
 pub struct DirEntry {
     path: PathText,
     kind: Kind,
-    /// Whether it stands behind a link that the walk followed.
+    /// Whether it was found through a link that the walk followed.
     followed: bool,
     depth: usize,
     ino: u64,
@@ -45,7 +45,7 @@ impl DirEntry {
         }
     }
 
-    /// The path: that of the root, and the names on the way from there.
+    /// The path: the root's path, and the names from there on.
     pub fn path(&self) -> &PathText
         ensures told { result.now ≡ self.now.path }
     {
@@ -59,21 +59,21 @@ impl DirEntry {
         self.path
     }
 
-    /// Whether a link stands at the path, also one that was followed.
+    /// Whether the path is a link, also one that was followed.
     pub fn path_is_symlink(&self) -> bool
         ensures told { result ≡ is_behind_link self.now }
     {
         self.kind == Kind::Link || self.followed
     }
 
-    /// What stands there: where a link was followed, behind it.
+    /// The kind of what is there; of the target, if a link was followed.
     pub fn file_type(&self) -> Kind
         ensures told { result ≡ self.now.kind }
     {
         self.kind
     }
 
-    /// The last name of the path, `/` for the root of the disk.
+    /// The last name of the path; `/` for the root of the disk.
     pub fn file_name(&self) -> &str
         ensures told { result.now ≡ file_name_of self.now }
     {
@@ -83,14 +83,14 @@ impl DirEntry {
         }
     }
 
-    /// How many names below the walk's root it stands.
+    /// The depth in names below the walk's root.
     pub fn depth(&self) -> usize
         ensures told { result ≡ self.now.depth }
     {
         self.depth
     }
 
-    /// What a look at the path tells now. A link is followed exactly where the walk followed it.
+    /// The result of a stat of the path now. A link is followed exactly if the walk followed it.
     pub fn metadata<D: Disk>(&self, alloc: Global, disk: &mut D) -> Result<Meta>
         ensures told { IfSome (D.state disk.old) (λ s.
             Tells self.now.depth self.now.path result
@@ -129,7 +129,7 @@ impl DirEntry {
     }
 }
 
-/// What entries tell on Unix.
+/// What entries know on Unix.
 pub trait DirEntryExt {
     /// The inode number.
     ghost number: { Self → ℕ };

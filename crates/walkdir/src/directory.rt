@@ -21,16 +21,16 @@ pub struct Place {
 #[derive(Clone, Copy)]
 pub enum Entering {
     Stays,
-    /// It is, and stands here, if the walk has to know it.
+    /// It is, and is at this place, if the walk has to know it.
     Enters(Option<Place>),
 }
 
-/// What a directory still has.
+/// What a directory still has to give.
 #[derive(Drop)]
 pub enum Items {
     /// What its open stream gives.
     Opened(DirId),
-    /// What was read of it before. No stream is open.
+    /// What was already read of it. No stream is open.
     Closed(VecDeque<Result<DirEntry>>),
     /// Nothing: the rest was skipped.
     Skipped,
@@ -40,15 +40,15 @@ pub enum Items {
 #[derive(Drop)]
 pub struct DirList {
     pub(crate) path: PathText,
-    /// Where it stands, which is asked where links are followed.
+    /// Its place, which is looked up if links are followed.
     pub(crate) place: Option<Place>,
     pub(crate) items: Items,
-    /// The directory's own entry, where it comes after the contents.
+    /// The directory's own entry, if it is given after the contents.
     pub(crate) after: Option<DirEntry>,
 }
 
 impl Items {
-    /// Takes the first of what was read before.
+    /// Takes the first of what was already read.
     pub(crate) fn take_first(&mut self) -> Option<Result<DirEntry>>
         requires closed { stream_in self.old ≡ None }
         ensures takes { TakesHeld self.old result self.new }
@@ -71,7 +71,7 @@ impl DirList {
         }
     }
 
-    /// Whether the directory stands at this place.
+    /// Whether the directory is at this place.
     pub(crate) fn stands_at(&self, place: Place) -> bool
         ensures told { result ≡ same_place place self.now.place }
     {
@@ -100,7 +100,7 @@ impl DirList {
         }
     }
 
-    /// Closes the stream of a directory for which there is no memory.
+    /// Closes the stream of a directory that there is no memory for, and returns that error.
     pub(crate) fn unplaced<D: Disk>(self, disk: &mut D) -> Error
         ensures error { result ≡ no_memory }
         ensures streams { D.streams disk.new ≡ without_stream (stream_in self.items) (D.streams disk.old) }

@@ -9,8 +9,8 @@ use std::fmt;
 
 /// What went wrong at one place of a walk.
 ///
-/// It prints as `IO error for operation on PATH: NAME`, as `NAME` alone where no path is known, or as
-/// `File system loop found: CHILD points to an ancestor ANCESTOR`. `NAME` is that of the disk's error.
+/// It prints as `IO error for operation on PATH: NAME`, as `NAME` alone if no path is known, or as
+/// `File system loop found: CHILD points to an ancestor ANCESTOR`. `NAME` is the name of the disk's error.
 #[derive(Debug, Drop)]
 pub struct Error {
     depth: usize,
@@ -29,7 +29,7 @@ enum ErrorInner {
         ancestor: PathText,
         child: PathText,
     },
-    /// There was no memory. The walk is over.
+    /// Out of memory. The walk is over.
     NoMemory,
 }
 
@@ -37,7 +37,7 @@ impl Error {
     ghost use Rattle.walkdir.specs.Error.{path_of, ancestor_of, depth_of, disk_error_of};
     ghost use Rattle.walkdir.specs.Error.{no_memory, is_no_memory, stream_failed, IsFromPath, IsFromLoop};
 
-    /// The path at which it went wrong: of a loop, the link.
+    /// The path at which it went wrong; of a loop, the link.
     pub fn path(&self) -> Option<&PathText>
         ensures told { option_copied result ≡ path_of self.now }
     {
@@ -58,14 +58,14 @@ impl Error {
         }
     }
 
-    /// How many names below the root it went wrong. For want of memory it is 0.
+    /// The depth in names below the root at which it went wrong; 0 when out of memory.
     pub fn depth(&self) -> usize
         ensures told { result ≡ depth_of self.now }
     {
         self.depth
     }
 
-    /// The disk's error; a loop and want of memory have none.
+    /// The disk's error; None for a loop and when out of memory.
     pub fn io_error(&self) -> Option<DiskError>
         ensures told { result ≡ disk_error_of self.now }
     {
@@ -75,7 +75,7 @@ impl Error {
         }
     }
 
-    /// The disk's error; a loop and want of memory have none.
+    /// The disk's error; None for a loop and when out of memory.
     pub fn into_io_error(self) -> Option<DiskError>
         ensures told { result ≡ disk_error_of self }
     {
@@ -132,7 +132,7 @@ impl Error {
         }
     }
 
-    /// Want of memory.
+    /// The error that memory ran out.
     pub(crate) fn out_of_memory() -> Error
         ensures made { result ≡ no_memory }
     {
@@ -150,7 +150,7 @@ impl Error {
     }
 }
 
-/// The name of a disk's error, as that prints itself.
+/// The name of a disk's error, as it prints itself.
 fn name_of(error: DiskError) -> &'static str
     ensures told { result.now ≡ refusal_name error }
 {

@@ -1,4 +1,4 @@
-//! Walks that leave out what a predicate rejects, and what lies below rejected directories.
+//! Walks that leave out what a predicate rejects, and what is below rejected directories.
 ghost use Rattle.std.specs.Prelude.{◌≡◌};
 ghost use Rattle.std.specs.Iterator.{IsFinite};
 ghost use Rattle.walkdir.specs.Filter.{Filters, LeavesNoMore};
@@ -8,8 +8,8 @@ use crate::{DirEntry, Result};
 
 /// A walk without the entries that a predicate rejects.
 ///
-/// Where a directory is given before its contents, a rejected one isn't walked: what lies below it is neither given nor
-/// tested. Errors are given whatever the predicate is.
+/// If directories are given before their contents, a rejected one isn't walked: what is below it is neither given nor
+/// tested. Errors are always given.
 #[derive(Drop)]
 pub struct FilterEntry<I, P> {
     walk: I,
@@ -24,7 +24,7 @@ impl<I: Walk, P: FnMut(&DirEntry) -> bool> FilterEntry<I, P> {
         FilterEntry { walk, predicate }
     }
 
-    /// Drops the rest of the directory that is innermost on the walk's stack.
+    /// Drops the rest of the innermost directory on the walk's stack.
     pub fn skip_current_dir(&mut self)
         ensures skips { I.skips self.old.walk self.new.walk }
         ensures left { LeavesNoMore (I.remaining self.old.walk) (I.remaining self.new.walk) }
@@ -34,7 +34,7 @@ impl<I: Walk, P: FnMut(&DirEntry) -> bool> FilterEntry<I, P> {
         self.walk.skip_current_dir();
     }
 
-    /// The entries that a second predicate doesn't reject either.
+    /// The entries that a second predicate accepts too.
     pub fn filter_entry<Q: FnMut(&DirEntry) -> bool>(self, predicate: Q) -> FilterEntry<Self, Q>
         ensures walk { result.walk ≡ self }
         ensures predicate { result.predicate ≡ predicate }
@@ -42,7 +42,7 @@ impl<I: Walk, P: FnMut(&DirEntry) -> bool> FilterEntry<I, P> {
         FilterEntry::new(self, predicate)
     }
 
-    /// The walk that was filtered, from where it is now. A proof can tell from its drop that its streams are closed.
+    /// The unfiltered walk, from where it is now. A proof can see that dropping it closes its streams.
     pub fn into_inner(self) -> I
     where
         P: Drop,

@@ -20,14 +20,14 @@ use odb_asks::Disk;
 
 /// A walk whose innermost directory can be skipped.
 pub trait Walk: Iterator<Item = Result<DirEntry>> {
-    /// What a skip leaves.
+    /// The state after a skip.
     ghost skips: { Self → Self → Type 0 };
 
     /// Whether the item given last is a directory that was entered, and whose contents are still to come.
     ghost entered: { Self → Bool };
 
-    /// Drops the rest of the directory that is innermost on the stack, and does nothing on an empty stack. A directory
-    /// that comes after its contents still comes.
+    /// Drops the rest of the innermost directory on the stack; does nothing on an empty stack. A directory that is
+    /// given after its contents is still given.
     fn skip_current_dir(&mut self)
         ensures skipped { skips self.old self.new }
         ensures left { LeavesNoMore (Self.remaining self.old) (Self.remaining self.new) }
@@ -38,9 +38,9 @@ pub trait Walk: Iterator<Item = Result<DirEntry>> {
         ensures told { result ≡ entered self.now };
 }
 
-/// What a walk keeps beside its disk, and how it goes on there.
+/// The state of a walk without its disk, and its steps on a disk.
 pub trait Steps: Drop {
-    /// How far the walk has come on a disk with these streams.
+    /// How far the walk is on a disk with these streams.
     ghost progress: { Self → Streams → Progress };
 
     /// The next item.
@@ -69,7 +69,7 @@ pub trait Steps: Drop {
     fn has_entered(&self) -> bool
         ensures told { (streams : Streams) → result ≡ (progress self.now streams).entered };
 
-    /// Ends the walk: all its streams are closed.
+    /// Ends the walk and closes all its streams.
     fn end<D: Disk>(&mut self, disk: &mut D)
         ensures back { (before : Streams) → Keeps before (progress self.old (D.streams disk.old))
             → AreBack before (progress self.old (D.streams disk.old)).options.max_open (D.streams disk.new) }
@@ -83,7 +83,7 @@ pub trait Steps: Drop {
         ensures faults { D.faults disk.new ≡ D.faults disk.old };
 }
 
-/// A walk on a disk that is lent to it.
+/// A walk on a disk that it borrows.
 pub struct OnDisk<'d, D: Disk, W: Steps> {
     disk: &'d mut D,
     walk: W,
@@ -101,8 +101,8 @@ impl<'d, D: Disk, W: Steps> OnDisk<'d, D, W> {
         OnDisk { disk, walk }
     }
 
-    /// Drops the rest of the directory that is innermost on the stack, and does nothing on an empty stack. A directory
-    /// that comes after its contents still comes.
+    /// Drops the rest of the innermost directory on the stack; does nothing on an empty stack. A directory that is
+    /// given after its contents is still given.
     pub fn skip_current_dir(&mut self)
         ensures skips { Skips (W.progress self.old.walk (D.streams self.old.disk.now))
             (W.progress self.new.walk (D.streams self.new.disk.now)) }
@@ -127,7 +127,7 @@ impl<'d, D: Disk, W: Steps> OnDisk<'d, D, W> {
         walk.skip(self.disk);
     }
 
-    /// The walk without the entries that a predicate rejects, and without what lies below rejected directories.
+    /// The walk without the entries that a predicate rejects, and without what is below rejected directories.
     pub fn filter_entry<P: FnMut(&DirEntry) -> bool>(self, predicate: P) -> FilterEntry<Self, P>
         ensures walk { result.walk ≡ self.entry }
         ensures predicate { result.predicate ≡ predicate }

@@ -1,4 +1,4 @@
-//! What the calls of a disk give to a walk.
+//! What the calls of a disk return to a walk.
 ghost use Rattle.std.specs.Prelude.{◌≡◌, ◌≢◌, ◌+◌, ◌<◌, ◌≤◌, ◌++◌, true, false, [], None, Ok, length, map, IfOk, IfErr, IfSome, OnOk};
 ghost use Rattle.std.specs.List.{filter_map};
 ghost use Rattle.std.specs.Result.{result_ok};
@@ -28,7 +28,7 @@ use odb_disk::{BadPath, DiskError, Entry, Meta, PathText};
 use std::alloc::Global;
 use std::collections::VecDeque;
 
-/// Looks at a path. A refusal is an error at this depth.
+/// Stats a path. A refusal is an error at this depth.
 pub(crate) fn look<D: Disk>(
     alloc: Global,
     disk: &mut D,
@@ -50,7 +50,7 @@ pub(crate) fn look<D: Disk>(
     }
 }
 
-/// What a stream gives next: a child of its directory, an error, or nothing at its end.
+/// The next item of a stream: a child of its directory, an error, or None at its end.
 pub(crate) fn next_of<D: Disk>(
     alloc: Global,
     disk: &mut D,
@@ -71,7 +71,7 @@ pub(crate) fn next_of<D: Disk>(
     }
 }
 
-/// The rest of what a stream gives, up to the error that ends it.
+/// The rest of a stream, up to the error that ends it.
 pub(crate) fn rest_of<D: Disk>(
     alloc: Global,
     disk: &mut D,
@@ -106,7 +106,7 @@ pub(crate) fn rest_of<D: Disk>(
     }
 }
 
-/// The contents of a directory: its stream, or what it gave, in order. One that can't be opened has the error.
+/// The contents of a directory: its stream, or what that gave, in order; the error, if it can't be opened.
 pub(crate) fn open<D: Disk, S: Sorter>(
     alloc: Global,
     disk: &mut D,
@@ -179,7 +179,7 @@ fn sorted<D: Disk, S: Sorter>(
     Ok(Items::Closed(in_order(alloc, sorter, read?)?))
 }
 
-/// Children in order, behind the errors among them.
+/// Children in order, after the errors among them.
 fn in_order<S: Sorter>(
     alloc: Global,
     sorter: &S,
@@ -196,7 +196,7 @@ fn in_order<S: Sorter>(
     Ok(ordered)
 }
 
-/// Tells the entries and the errors among children apart, each as they follow one another.
+/// Splits children into entries and errors, each in their old order.
 fn tell_apart(
     children: VecDeque<Result<DirEntry>>,
     entries: &mut Vec<DirEntry>,
@@ -217,7 +217,7 @@ fn tell_apart(
     Ok(())
 }
 
-/// Puts entries behind what is there.
+/// Appends entries to what is already ordered.
 fn put_behind(entries: Vec<DirEntry>, ordered: &mut VecDeque<Result<DirEntry>>) -> Result<()>
     ensures behind { OnOk result (ordered.new.items ≡ ordered.old.items ++ map Ok entries.items) }
     ensures lost { IfErr result (λ e. e ≡ no_memory) }
@@ -237,14 +237,14 @@ pub(crate) fn place_in(meta: &Meta) -> Place
     }
 }
 
-/// An entry by what a look told.
+/// An entry from the result of a stat.
 pub(crate) fn entry_by(path: PathText, meta: &Meta, followed: bool, depth: usize) -> DirEntry
     ensures made { result ≡ entry_by path followed depth meta.now }
 {
     DirEntry::new(path, meta.kind, followed, depth, meta.ino)
 }
 
-/// An entry by what a stream gave.
+/// An entry from what a stream gave.
 fn child(alloc: Global, parent: &PathText, depth: usize, entry: &Entry) -> Result<DirEntry>
     requires name { is_name entry.now.name ≡ true }
     ensures child { IfOk result (λ child. child ≡ child_of parent.now depth entry.now) }

@@ -10,7 +10,7 @@ ghost use Rattle.std.specs.declared.cmp.Ordering.{Ordering as OrderingValue};
 use crate::DirEntry;
 use std::cmp::Ordering;
 
-/// An order of entries. It may take different entries for equal: these stay as the stream gave them.
+/// An order of entries. Entries that it takes for equal stay in the order of the stream.
 pub trait Sorter {
     /// The order.
     ghost order: { Self → EntryValue → EntryValue → OrderingValue };
@@ -19,7 +19,7 @@ pub trait Sorter {
     fn compare(&self, a: &DirEntry, b: &DirEntry) -> Ordering
         ensures compared { result ≡ order self.now a.now b.now };
 
-    /// It is one order of all entries.
+    /// It is a total order.
     ghost total: { (sorter : Self) → IsTotalOrder (order sorter) };
 }
 
@@ -35,7 +35,7 @@ pub trait KeyOf {
         ensures told { result ≡ key_of self.now entry.now };
 }
 
-/// No order: entries stay as the stream gives them, and no directory is read before it is walked.
+/// No order: entries stay in the order of the stream, and no directory is read before it is walked.
 #[derive(Clone, Copy)]
 pub struct NoSort;
 

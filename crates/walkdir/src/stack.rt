@@ -1,4 +1,4 @@
-//! A walk beside its disk: the directories that it is in, on a stack, and one turn after the other.
+//! A walk without its disk: a stack of the directories that it is in, and one turn after the other.
 ghost use Rattle.std.specs.Prelude.{◌≡◌, ◌+◌, ◌≤◌, true, length};
 ghost use Rattle.walkdir.specs.Turns.{turn_given, turn_of};
 ghost use Rattle.walkdir.specs.Sound.{is_sound};
@@ -17,10 +17,10 @@ mod draw;
 mod enter;
 mod follow;
 
-/// What a walk keeps beside its disk.
+/// The state of a walk without its disk.
 ///
-/// The directories that the walk is in lie on a stack. The outer ones below `first_open` have no open stream: what they
-/// still have was read into memory.
+/// The directories that the walk is in are on a stack. The outer ones below `first_open` have no open stream: the rest
+/// of them was read into memory.
 #[derive(Drop)]
 pub struct Stack<S> {
     alloc: Global,
@@ -28,7 +28,7 @@ pub struct Stack<S> {
     sorter: Option<S>,
     /// The root, until the walk begins.
     start: Option<PathText>,
-    /// The device of the root, which is asked where the walk stays on it.
+    /// The device of the root, looked up if the walk stays on it.
     root_device: u64,
     lists: Vec<DirList>,
     first_open: usize,
@@ -39,7 +39,7 @@ pub struct Stack<S> {
     ghost sound: { is_sound options start lists.items first_open ≡ true },
 }
 
-/// What one turn of a walk comes to.
+/// The result of one turn of a walk.
 #[derive(Drop)]
 pub enum Turn {
     Item(Result<DirEntry>),
@@ -92,7 +92,7 @@ impl<S: Sorter + Drop> Stack<S> {
         }
     }
 
-    /// One turn: the root, or what a walk that has begun comes to.
+    /// Makes one turn: begins at the root, or goes on.
     fn turn<D: Disk>(&mut self, disk: &mut D) -> Turn
         requires own { has_its_streams (progress S.order self.old (D.streams disk.old)) ≡ true }
         ensures gives { GivesNext (D.state disk.old) (progress S.order self.old (D.streams disk.old)) (item_of result)
@@ -116,7 +116,7 @@ impl<S: Sorter + Drop> Stack<S> {
         }
     }
 
-    /// One turn of a walk that has begun: the next child of the innermost directory, or that is left.
+    /// One turn of a walk that has begun: handles the next child of the innermost directory, or leaves that.
     fn begun_turn<D: Disk>(&mut self, disk: &mut D) -> Turn
         requires own { has_its_streams (progress S.order self.old (D.streams disk.old)) ≡ true }
         requires begun { self.old.start ≡ None }
@@ -145,7 +145,7 @@ impl<S: Sorter + Drop> Stack<S> {
         }
     }
 
-    /// Begins at the root. Its device comes first, where the walk stays on it.
+    /// Begins at the root. Its device is looked up first, if the walk stays on it.
     fn start_at<D: Disk>(&mut self, disk: &mut D, root: PathText) -> Result<Option<DirEntry>>
         requires start { self.old.start ≡ None }
         requires stack { self.old.lists.items ≡ [] }
@@ -175,7 +175,7 @@ impl<S: Sorter + Drop> Stack<S> {
         self.handle(disk, entry_by(root, &meta, false, 0))
     }
 
-    /// The device of the root. It is looked up where the walk stays on it, links followed.
+    /// The device of the root, by a stat that follows links, if the walk stays on it.
     fn device_of<D: Disk>(&self, disk: &mut D, root: &PathText) -> Result<u64>
         ensures finds { FindsDevice (D.state disk.old) self.now.options root.now result }
         ensures call { IfErr result (λ e. IsOnPath root.now 0 e) }
@@ -191,7 +191,7 @@ impl<S: Sorter + Drop> Stack<S> {
         Ok(meta.dev)
     }
 
-    /// Takes an entry up: follows it, enters it, and gives it if it is to be given now.
+    /// Handles an entry: follows it, enters it, and gives it if it is to be given now.
     fn handle<D: Disk>(&mut self, disk: &mut D, entry: DirEntry) -> Result<Option<DirEntry>>
         requires start { self.old.start ≡ None }
         requires depth { entry.depth ≡ length self.old.lists.items }
@@ -237,7 +237,7 @@ impl<S: Sorter + Drop> Stack<S> {
         }
     }
 
-    /// The innermost directory that isn't skipped yet.
+    /// The index of the innermost directory that isn't skipped yet.
     fn unskipped(&self) -> Option<usize>
         ensures found { IsUnskipped self.now.lists.items result }
     {
@@ -295,7 +295,7 @@ impl<S: Sorter + Drop> Steps for Stack<S> {
     }
 }
 
-/// What a turn comes to that may give an entry.
+/// The turn that gives an entry, if there is one.
 fn given(item: Option<DirEntry>) -> Turn
     ensures turn { result ≡ turn_given item }
 {
@@ -305,7 +305,7 @@ fn given(item: Option<DirEntry>) -> Turn
     }
 }
 
-/// What a turn comes to that may give an entry or an error.
+/// The turn that gives an entry or an error.
 fn turn_of(item: Result<Option<DirEntry>>) -> Turn
     ensures turn { result ≡ turn_of item }
 {

@@ -1,4 +1,4 @@
--- How often the disk's count of faults rose for what a walk gave, also where it isn't run to its end.
+-- How often the disk's count of faults rose for what a walk gave, also if it isn't run to its end.
 use Rattle.std.proofs.Common.{◌≡◌, ℕ, ◌+◌, ◌≤◌, Bool, true, false, List, [], ◌∷◌, map, Option, None, Result, Ok, Err, ◌⊎◌, inl, inr, sym, ap, subst, ◌∙◌, arith}
 use Rattle.std.specs.Fn.{Mut}
 use Rattle.std.specs.Iterator.{Yields, YieldsThen}
@@ -25,7 +25,7 @@ use Rattle.walkdir.specs.declared.filter.FilterEntry.{FilterEntry}
 use Rattle.walkdir.specs.declared.iter.OnDisk.{OnDisk}
 use Rattle.walkdir_uses.specs.Found.{EndsWith}
 
--- the error at the end of what a walk gave is among its failures
+-- the error at the end of what a walk gave is one of its failures
 pub ends_within : (items : List Item) (error : Error) → EndsWith items error → failures error ≤ failures_among items
 ends_within items error ends =
     let is : failures_among items ≡ failures error = ap failures_among ends.1 ∙ failures-last ends.0 error in
@@ -61,7 +61,7 @@ module _ {D W : Type 0} (state : D → Option State) (streams : D → Streams) (
   -- ---- of a filtered walk
 
   module _ {F : Type 0} {accepts : Mut F (Bor DirEntry × Unit {0}) Bool} where
-    -- A call of `next` gives no more failures than the count of faults rose by, also where it passes over entries.
+    -- A call of `next` gives no more failures than the count of faults rose by, also if it skips entries.
     pub fails_filtered : {s t : OnDisk D W} {f h : F} {item : Option Item} → FiltersOn state streams faults answered progress accepts s f item t h
         → FailsByFault (at_walk state streams faults answered progress s) (faults s.disk.now) (failures_given item) (at_walk state streams faults answered progress t) (faults t.disk.now)
     fails_filtered (Ends step) = step.2

@@ -1,4 +1,4 @@
--- Laws of what entries tell of a folder: what one entry more adds.
+-- Laws of what entries say of a folder: what one more entry adds.
 use Rattle.std.proofs.Common.{◌≡◌, ℕ, ◌+◌, ◌-◌, ◌^◌, min, max, Bool, true, false, not, cond, ◌==◌, List, [], ◌∷◌, ◌++◌, map, Option}
 use Rattle.std.proofs.Common.{Some, None, Result, Ok, Err, length, ◌⊎◌, inl, inr, refl, sym, ap, subst, ◌∙◌, append-nil, arith}
 use Rattle.std.specs.List.{Contains, filter, slice_index, sum_by}
@@ -27,7 +27,7 @@ use Rattle.walkdir.specs.declared.builder.Options.{Options}
 use Rattle.walkdir.specs.declared.dent.DirEntry.{DirEntry}
 use Rattle.walkdir_uses.specs.Found.{ComesFirst, EndsWith, IsStoppedIn, below, inside, is_file, is_hidden, length_of, size_at, total_size, visible_names}
 
--- one item more is given
+-- one more item is given
 pub yields_more : {S A : Type 0} (steps : S → Option A → S → Type 0) (s : S) (xs : List A) (t : S) (x : A) (u : S) → Yields steps s xs t → steps t (Some x) u → Yields steps s (xs ++ x ∷ []) u
 yields_more steps s [] t x u is step = (u, subst (λ y. steps y (Some x) u) (sym is) step, refl)
 yields_more steps s (y ∷ xs) t x u along step = (along.0, along.1, yields_more steps along.0 xs t x u along.2 step)
@@ -127,7 +127,7 @@ names_one entries entry shown is =
     ap (filter (λ name. not (is_hidden name))) (map-append file_name_of entries (entry ∷ []))
     ∙ filter_one (λ name. not (is_hidden name)) (map file_name_of entries) (file_name_of entry) shown is
 
--- a name that doesn't begin with a dot comes behind the others
+-- a name that doesn't begin with a dot comes after the others
 pub name_shown : (entries : List DirEntry) (entry : DirEntry) (names : List Name) (dotted : Bool) → dotted ≡ (slice_index (file_name_of entry) 0 == 46) → dotted ≡ false → names ≡ visible_names entries
     → names ++ file_name_of entry ∷ [] ≡ visible_names (entries ++ entry ∷ [])
 name_shown entries entry names dotted by no_dot is =
@@ -147,7 +147,7 @@ walks_below order built folder tree root options sorter =
     let same : option_map order built.sorter ≡ None = ap (option_map order) sorter in
     λ i. record { tree = tree; root = root i; options = options i; order = same i }
 
--- ---- the walk of what stands in a folder itself
+-- ---- the walk of the entries of a folder itself
 
 abbrev pub by_names : {T : Type 0} → T → Order
 by_names sorter = by_key name_cmp file_name_of

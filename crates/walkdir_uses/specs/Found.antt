@@ -1,4 +1,4 @@
--- What the entries of a walk tell of a folder.
+-- What the entries of a walk say of a folder.
 use Rattle.std.specs.Prelude.{◌≡◌, ◌⊎◌, ℕ, ◌-◌, ◌^◌, ◌==◌, Bool, true, false, not, min, List, [], ◌∷◌, ◌++◌, Contains, map, filter, sum_by, Option, Some, None, Ok, Err}
 use Rattle.std.specs.Result.{result_ok}
 use Rattle.odb_base.specs.Path.{Path, Name, name_cmp}
@@ -22,7 +22,7 @@ use Rattle.walkdir.specs.declared.sort.NoSort.{NoSort}
 abbrev pub below : Tree → Path → Walking
 below tree folder = record { tree = tree; root = folder; options = default_options; order = None }
 
--- the walk of what stands in a folder itself, in the order of the bytes of its names
+-- the walk of the entries of a folder itself, in the order of the bytes of their names
 abbrev pub inside : Tree → Path → Walking
 inside tree folder = record { tree = tree; root = folder; options = record default_options { min_depth = 1; max_depth = 1 }; order = Some (by_key name_cmp file_name_of) }
 
@@ -42,15 +42,15 @@ AreOnly walk entries = (most : ℕ) (others : List DirEntry) → IsWalk (with_mo
 abbrev pub ComesFirst : Walking → Error → Type 0
 ComesFirst walk error = (entries : List DirEntry) × (rest : List Item) × IsWalk walk (map Ok entries ++ Err error ∷ rest)
 
--- a call that walks stops so: for want of memory, or at the first error of its walk
+-- why a call that walks stops: memory ran out, or the first error of its walk
 abbrev pub IsStoppedBy : Walking → Error → Type 0
 IsStoppedBy walk error = (is_no_memory error ≡ true) ⊎ ComesFirst walk error
 
--- What a filter leaves of what a walk gave first: entries alone, and then this error.
+-- What a filter leaves of the first items of a walk: entries alone, and then this error.
 abbrev pub ComesFirstOf : Walking → (DirEntry → Bool) → Error → Type 0
 ComesFirstOf walk accepts error = (entries : List DirEntry) × BeginsFiltered walk accepts (map Ok entries ++ Err error ∷ [])
 
--- a call that walks with a filter stops so: for want of memory, or at the first error that is left
+-- why a call that walks with a filter stops: memory ran out, or the first error that is left
 abbrev pub IsStoppedIn : Walking → (DirEntry → Bool) → Error → Type 0
 IsStoppedIn walk accepts error = (is_no_memory error ≡ true) ⊎ ComesFirstOf walk accepts error
 
@@ -75,20 +75,20 @@ abbrev pub length_of : Option Meta → ℕ
 length_of None = 0
 length_of (Some meta) = meta.len
 
--- the length of what stands at an entry's path
+-- the length of what is at an entry's path
 abbrev pub size_at : Tree → DirEntry → ℕ
 size_at tree entry = length_of (result_ok (looked tree entry.path entry.followed))
 
--- this error is what a look at the path of a file among entries tells
+-- this error is the result of a stat of the path of a file among entries
 abbrev pub IsRefusedAmong : Tree → List DirEntry → Error → Type 0
 IsRefusedAmong tree entries error =
     (entry : DirEntry) × Contains (filter is_file entries) entry × Tells entry.depth entry.path (Err error) (told_at entry.depth entry.path (looked tree entry.path entry.followed))
 
--- a walk gives entries and no error, and this error is what a look at the path of a file among them tells
+-- a walk gives entries and no error, and this error is the result of a stat of the path of a file among them
 abbrev pub IsRefusedLook : Walking → Error → Type 0
 IsRefusedLook walk error = FoundIn walk (λ entries. IsRefusedAmong walk.tree entries error)
 
--- a total is kept in 64 bits, and stands still at the greatest
+-- a total is kept in 64 bits, and saturates
 abbrev pub greatest_total : ℕ
 greatest_total = 2 ^ 64 - 1
 

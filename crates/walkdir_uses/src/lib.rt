@@ -1,6 +1,6 @@
 //! Walks as a caller makes them: what a folder tree holds, found by the walks of the crate `walkdir`.
 //!
-//! On a disk that tells its tree each answer is that of the walk's definition.
+//! On a disk that reports its tree each answer is that of the walk's definition.
 #![tactic(auto)]
 
 ghost use Rattle.std.specs.Prelude.{◌≡◌, ◌⊎◌, IfOk, IfErr, IfSome, map, All, Ok, None, List, true};
@@ -24,7 +24,7 @@ ghost use Rattle.walkdir_uses.specs.Found.{as_given, below, inside, is_visible, 
 use std::alloc::{AllocError, Global};
 use walkdir::{DirEntry, Disk, IntoIter, Kind, NoSort, PathText, Result, Sorter, Walk, WalkDir};
 
-/// All entries of a walk, or its first error. They are the same however many directories may be open.
+/// All entries of a walk, or its first error. They don't depend on how many directories may be open.
 pub fn entries_of<S: Sorter + Drop, D: Disk>(
     alloc: Global,
     disk: &mut D,
@@ -75,7 +75,7 @@ fn files_of(alloc: Global, entries: Vec<DirEntry>) -> std::result::Result<Vec<Pa
     Ok(paths)
 }
 
-/// The sizes of all files below a folder, added up, or the greatest `u64` where that is more.
+/// The total size of all files below a folder; it saturates at the greatest `u64`.
 pub fn size_below<D: Disk>(alloc: Global, disk: &mut D, folder: &PathText) -> Result<u64>
     ensures size { IfSome (D.state disk.old) (λ s.
         IfOk result
@@ -92,7 +92,7 @@ pub fn size_below<D: Disk>(alloc: Global, disk: &mut D, folder: &PathText) -> Re
     total_of(alloc, disk, entries)
 }
 
-/// The sizes of the files among entries, added up, or the greatest `u64` where that is more.
+/// The total size of the files among entries; it saturates at the greatest `u64`.
 fn total_of<D: Disk>(alloc: Global, disk: &mut D, entries: Vec<DirEntry>) -> Result<u64>
     ensures size { IfSome (D.state disk.old) (λ s. IfOk result (λ size. size ≡ total_size (tree_of s) entries.items)) }
     ensures refused { IfSome (D.state disk.old) (λ s. IfErr result (IsRefusedAmong (tree_of s) entries.items)) }
@@ -156,7 +156,7 @@ fn is_visible(entry: &DirEntry) -> bool
     !entry.file_name().starts_with('.')
 }
 
-/// What a walk gives to its end, or its first error.
+/// All entries of a walk, or its first error.
 fn all_of<W: Walk>(alloc: Global, walk: &mut W) -> Result<Vec<DirEntry>>
     requires can { W.can_next walk.old }
     requires finite { IsFinite (W.remaining walk.old) }
@@ -172,7 +172,7 @@ fn all_of<W: Walk>(alloc: Global, walk: &mut W) -> Result<Vec<DirEntry>>
     Ok(entries)
 }
 
-/// What a walk gives that isn't hidden, and the walk, which stays on its disk.
+/// The entries of a walk that aren't hidden, and the walk, which stays on its disk.
 fn visible_of<'d, D: Disk>(
     alloc: Global,
     walk: IntoIter<'d, D, NoSort>,
@@ -205,7 +205,7 @@ fn visible_of<'d, D: Disk>(
     visible.into_inner()
 }
 
-/// The entries below a folder that aren't hidden. What lies in a hidden folder isn't walked.
+/// The entries below a folder that aren't hidden. Hidden folders aren't walked.
 pub fn visible_below<D: Disk>(
     alloc: Global,
     disk: &mut D,

@@ -1,8 +1,8 @@
 //! The bound of a call's turns as a number.
 use gix_odb_world::bound_of;
 
-// Worked by hand: (changes + 2) * (8 + 8 * slots + folders * (8 * entries + 16)), and for a write 40 more and one for
-// each begun 65,536 bytes.
+// Computed by hand: (changes + 2) * (8 + 8 * slots + folders * (8 * entries + 16)), and for a write 40 more and one
+// for each 65,536 bytes or part of them.
 #[test]
 fn bounds_turns(rt: HostRuntime) {
     for (slots, changes, entries, write, want) in [

@@ -6,7 +6,7 @@ use std::alloc::{AllocError, Global};
 use std::test::Fail;
 use test_words::compare;
 
-/// What a file holds that a line puts.
+/// The contents of a file that a line puts.
 fn content_shown(alloc: Global, content: &str) -> Result<String, Fail> {
     let line = format!(in alloc; "put /a 1 {content}")?;
     line_shown(alloc, line.as_bytes())
@@ -24,7 +24,7 @@ fn put_shown(alloc: Global, item: &Item) -> Result<String, AllocError> {
     }
 }
 
-/// The digits of bytes; of many their number and their hash.
+/// The bytes in hex digits; if there are many, their number and their hash.
 fn bytes_shown(alloc: Global, bytes: &[u8]) -> Result<String, AllocError> {
     match bytes.len() {
         0 => "-".to_string(alloc),
@@ -82,7 +82,7 @@ const CONTENTS: &str = "\
     @midx:a-=blob:-;a=blob:->1160 cb132223a08fb0c01500b91a0904aeaf26029249";
 
 // Objects that are left out, turned round or of another kind, a header with another size, a pack's index for a pack,
-// or packs under each other's names. An output shows single objects of packs alone.
+// or packs under each other's names. An output shows only single objects of packs.
 #[test]
 fn spells_contents(rt: HostRuntime) -> Result<(), Fail> {
     for row in CONTENTS.split('\n') {

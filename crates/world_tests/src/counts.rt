@@ -6,9 +6,9 @@ const FRONT: &str = "\
     do mkdir /o; do mkdir /o/pack; do put /o/pack/a.idx 1 -; do put /o/pack/a.pack 1 -; \
     do put /o/pack/b.idx 1 -; do put /o/pack/b.pack 1 -; do put /o/pack/c.idx 1 -";
 
-// The look, the opening of the folder, six calls for its entries and its close, a look at each index and at its pack, and the
+// The stat, the opening of the folder, six calls for its entries and its close, a stat of each index and of its pack, and the
 // registration.
-// An index that is counted without its pack, before it is looked at, or though it is gone then; a share that is rounded up; a number
+// An index that is counted without its pack, before its stat, or though it is gone then; a share that is rounded up; a number
 // that is cut off where it is more than a store may have.
 const COUNTED: &str = "\
     open 0 /o counted=110:32; finish 0|16: 32 slots\n\

@@ -1,6 +1,6 @@
 //! What no clause of a world says and no script shows: records and journals, texts of errors, counts of turns, bytes of files.
 //!
-//! It has tests alone. Steps are lines of scripts, which `steps` reads; `played` makes them and tells their outcomes.
+//! It has only tests. Steps are lines of scripts, which `steps` reads; `played` makes them and returns their outcomes.
 #![tactic(auto)]
 
 #[cfg(test)]

@@ -1,4 +1,4 @@
-//! Lines that are played, of which one may take several steps.
+//! Playing lines, of which one may take several steps.
 use crate::played::outcome_shown;
 use crate::steps::line_of;
 use gix_odb_world::{Line, OutcomeList, Play, World};
@@ -39,7 +39,7 @@ fn places_shown(alloc: Global, play: &Play) -> Result<String, Fail> {
     Ok(format!(in alloc; "{count} {last:?}")?)
 }
 
-// There are two folders and no packs, so that a find that misses takes seven turns.
+// There are two folders and no packs, so a find that misses takes seven turns.
 const LINES: &str = "\
     do mkdir /o\n\
     open 0 /o slots=32 folder=/p\n\

@@ -98,7 +98,7 @@ pub(crate) fn joined(alloc: Global, before: &str, told: &str) -> Result<String, 
     }
 }
 
-/// Makes steps, with semicolons between them, and tells their outcomes but for `applied`.
+/// Makes steps, with semicolons between them, and returns their outcomes except `applied`.
 pub(crate) fn told(alloc: Global, world: &mut World, steps: &str) -> Result<String, Fail> {
     let mut out = String::new(alloc);
     for text in steps.split(';') {
@@ -122,14 +122,14 @@ fn check(alloc: Global, world: &mut World, rows: &str) -> Result<(), Fail> {
     Ok(())
 }
 
-/// The same on a disk of its own.
+/// `check` on a new disk.
 pub(crate) fn check_run(alloc: Global, rows: &str) -> Result<Run, Fail> {
     let mut world = World::new(alloc, MemDisk::new(alloc)?);
     check(alloc, &mut world, rows)?;
     Ok(world.finish(alloc)?)
 }
 
-/// The same for each row on a disk of its own, after these steps.
+/// `check` for each row on a new disk, after these steps.
 pub(crate) fn check_each(alloc: Global, front: &str, rows: &str) -> Result<(), Fail> {
     for row in rows.split('\n') {
         check_alone(alloc, front, row)?;
@@ -186,7 +186,7 @@ pub(crate) fn tree_shown(alloc: Global, disk: &MemDisk) -> Result<String, Fail> 
     Ok(format!(in alloc; "{tree:?}")?)
 }
 
-/// What a step did, whether it made a change, and the count of faults.
+/// The effect of a step, whether it made a change, and the count of faults.
 pub(crate) fn record_shown(alloc: Global, record: &Record) -> Result<String, AllocError> {
     let did = did_shown(alloc, &record.did)?;
     let change = record.change.is_some();

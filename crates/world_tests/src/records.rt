@@ -1,4 +1,4 @@
-//! What each step of a run did to the disk.
+//! The effect of each step of a run on the disk.
 use crate::played::{joined, record_shown};
 use crate::steps::step_of;
 use gix_odb_core::{Effect, Entry, Event, Journal, PackId, Refusal};
@@ -8,7 +8,7 @@ use std::alloc::{AllocError, Global};
 use std::test::Fail;
 use test_words::{compare, halves};
 
-/// Compares what each step of a run did with the second half of its row.
+/// Compares the effect of each step of a run with the second half of its row.
 fn check_records(alloc: Global, run: &Run, rows: &str) -> Result<(), Fail> {
     for (record, row) in run.records.as_slice().iter().zip(rows.split('\n')) {
         let (step, want) = halves(row);
@@ -86,8 +86,8 @@ const JOURNALS: &str = "\
     1 1 register seen; 2 1 look seen; 3 1 publish published; 4 1 look seen; 5 1 publish unchanged; 6 1 look seen; \
     7 2 register seen; 8 1 remove removed";
 
-// A store with one pack, up to where a find has listed it. Its object is the blob of `version 1` and a line feed, with the id that
-// `git hash-object` tells.
+// A store with one pack, up to where a find has listed it. Its object is the blob of `version 1` and a line feed,
+// with its id from `git hash-object`.
 const LISTED: &str = "\
     do mkdir /o|- true 0\n\
     do mkdir /o/pack|- true 0\n\
@@ -193,9 +193,9 @@ fn check_journals(alloc: Global, run: &Run, rows: &str) -> Result<(), Fail> {
     Ok(())
 }
 
-// A failed call that is counted twice or makes its change, a path of another call, a call on a stream that is told without the path
-// of its folder, or a change that is lost; an entry of
-// another store's journal, or one of another handle.
+// A failed call that is counted twice or makes its change, a path of another call, a call on a stream that is
+// recorded without the path of its folder, or a change that is lost; an entry of another store's journal, or one of
+// another handle.
 #[test]
 fn records_what_each_step_did(rt: HostRuntime) -> Result<(), Fail> {
     let run = run_of(rt.alloc(), &[1, 4, 11], RECORDS)?;
@@ -204,7 +204,7 @@ fn records_what_each_step_did(rt: HostRuntime) -> Result<(), Fail> {
     check_journals(rt.alloc(), &run, JOURNALS)
 }
 
-/// The run of these rows behind those of the store with one pack, with its records and its one journal compared.
+/// The run of these rows after those of the store with one pack; its records and its one journal are compared.
 fn check_listed(alloc: Global, rows: &str, journal: &str) -> Result<Run, Fail> {
     let rows = format!(in alloc; "{LISTED}\n{rows}")?;
     let run = run_of(alloc, &[], rows.as_str())?;
@@ -213,8 +213,8 @@ fn check_listed(alloc: Global, rows: &str, journal: &str) -> Result<Run, Fail> {
     Ok(run)
 }
 
-// A file that is stored without an entry, in another slot or under another path, an index that is passed over without one, or a read
-// that is told under another path.
+// A file that is stored without an entry, in another slot or under another path, an index that is passed over without
+// one, or a read that is recorded under another path.
 #[test]
 fn records_what_is_done_with_files_of_packs(rt: HostRuntime) -> Result<(), Fail> {
     let found = check_listed(rt.alloc(), FOUND, FOUND_JOURNAL)?;

@@ -1,11 +1,11 @@
-//! The text of `--help`, beside the words that scripts are read by.
+//! The text of `--help`, compared with the words by which scripts are read.
 use crate::run::HELP;
 use gix_object::Want;
 use odb_script::{ChangeWord, Choice, Word, change_word_of, choice_of, is_unbuilt_option, word_of};
 use std::alloc::Global;
 use std::test::Fail;
 
-/// Each word of a line that is built, but for `do`, which stands before those of changes.
+/// Each word of a line that is built, except `do`, which comes before those of changes.
 const WORDS: [Word; 17] = [
     Word::Fail,
     Word::Mkdir,
@@ -26,7 +26,7 @@ const WORDS: [Word; 17] = [
     Word::Finish,
 ];
 
-/// Each word behind `do`.
+/// Each word after `do`.
 const CHANGES: [ChangeWord; 6] = [
     ChangeWord::Mkdir,
     ChangeWord::Put,
@@ -60,7 +60,7 @@ fn spelled(word: Word) -> &'static str {
     }
 }
 
-/// How the lines of a word behind `do` are spelled, without `do `.
+/// How the lines of a word after `do` are spelled, without `do `.
 fn spelled_behind_do(word: ChangeWord) -> &'static str {
     match word {
         ChangeWord::Mkdir => "mkdir PATH",
@@ -77,7 +77,7 @@ fn first_field(line: &str) -> &str {
     line.split_once(' ').unwrap_or((line, "")).0
 }
 
-/// Whether a line of the text tells of lines that begin so and go on with a spelling.
+/// Whether a line of the text describes lines that begin with `front` and continue with a spelling.
 fn tells_of(line: &str, front: &str, spelling: &str) -> bool {
     match line.strip_prefix(front) {
         Some(rest) => stands_alone(rest.strip_prefix(spelling)),
@@ -85,7 +85,7 @@ fn tells_of(line: &str, front: &str, spelling: &str) -> bool {
     }
 }
 
-/// Whether what follows a spelling is nothing or the text about it.
+/// Whether a spelling is followed by nothing or by the text about it.
 fn stands_alone(rest: Option<&str>) -> bool {
     match rest {
         Some(rest) => rest.is_empty() || rest.starts_with("  "),
@@ -93,7 +93,7 @@ fn stands_alone(rest: Option<&str>) -> bool {
     }
 }
 
-/// Whether the text tells of lines that begin so and go on with a spelling.
+/// Whether the text describes lines that begin with `front` and continue with a spelling.
 fn is_told(front: &str, spelling: &str) -> bool {
     let mut is_told = false;
     for line in HELP.split('\n') {
@@ -133,7 +133,7 @@ fn tells_of_each_word(_rt: HostRuntime) -> Result<(), Fail> {
     Ok(())
 }
 
-/// Whether a line of the text tells of a word that is built, or of none.
+/// Whether a line of the text describes a word that is built, or none.
 fn is_known(line: &str) -> bool {
     match line.strip_prefix("  ") {
         Some(rest) if !rest.starts_with(" ") => is_built(rest),
@@ -141,7 +141,7 @@ fn is_known(line: &str) -> bool {
     }
 }
 
-/// Whether a line begins with a word that is built, and goes on with one where it begins with `do`.
+/// Whether a line begins with a word that is built, and continues with one if it begins with `do`.
 fn is_built(line: &str) -> bool {
     match word_of(first_field(line)) {
         Some(Word::Do) => is_change(line),

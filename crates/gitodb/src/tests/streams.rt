@@ -5,7 +5,7 @@ use odb_program::SessionStatus;
 use std::alloc::Global;
 use std::test::Fail;
 
-/// The code of the status of a word where the calls with these numbers fail, if nothing was written.
+/// The code of the status of a word if the calls with these numbers fail and nothing was written.
 fn code_of(alloc: Global, word: &str, reads: &[u64], writes: &[u64]) -> Result<Option<u8>, Fail> {
     let words = vec![in alloc; word.to_string(alloc)?]?;
     let mut source = script_of(alloc, reads)?;
@@ -37,7 +37,7 @@ fn is_write_fault(alloc: Global, word: &str) -> Result<bool, Fail> {
     Ok(code_of(alloc, word, &[], &[1])? == Some(4))
 }
 
-// A failed read that is taken for the end, at the first call or behind the whole script.
+// A failed read that is taken for the end, at the first call or after the whole script.
 #[test]
 fn tells_of_failed_reads(rt: HostRuntime) -> Result<(), Fail> {
     for call in [1, 2] {

@@ -1,4 +1,4 @@
-//! What a wrapped entry asks of the entry in it.
+//! What a wrapper needs of the entry in it.
 ghost use Rattle.std.specs.Prelude.{◌≡◌, IfOk, string_bytes};
 ghost use Rattle.odb_base.specs.Path.{Path, Name};
 ghost use Rattle.walkdir.specs.Entry.{file_name_of};
@@ -9,7 +9,7 @@ use std::alloc::Global;
 
 /// An entry of a directory.
 pub trait DirEntryApi {
-    /// The path, the last name, and what stands there.
+    /// The path, the last name, and the kind of what is there.
     ghost path_of: { Self → Path };
 
     ghost name_of: { Self → Name };
@@ -24,7 +24,7 @@ pub trait DirEntryApi {
     fn file_name(&self, alloc: Global) -> Result<String, NoMemory>
         ensures told { IfOk result (λ name. string_bytes name ≡ name_of self.now) };
 
-    /// What stands there. It takes no memory.
+    /// The kind of what is there. It allocates no memory.
     fn file_type(&self) -> Kind
         ensures told { result ≡ type_of self.now };
 }

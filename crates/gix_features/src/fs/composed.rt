@@ -16,7 +16,7 @@ pub(crate) fn composed_name(alloc: Global, name: &str) -> Result<String, NoMemor
     Ok(to_nfc(alloc, name)?)
 }
 
-/// A path whose names are in form NFC. A name that can't stand in a path in that form stays as it is.
+/// A path whose names are in form NFC. A name that can't be in a path in that form stays as it is.
 pub(crate) fn composed_path(alloc: Global, path: &PathText) -> Result<PathText, NoMemory>
     ensures composed { IfOk result (λ composed. composed ≡ composed_path path.now) }
 {
@@ -36,7 +36,7 @@ fn composed_names(alloc: Global, names: &[&str]) -> Result<PathText, NoMemory>
     Ok(composed)
 }
 
-/// A path with one name more, composed if that can stand in a path.
+/// A path with one more name, composed if the result can be in a path.
 fn joined(alloc: Global, path: &PathText, name: &str) -> Result<PathText, NoMemory>
     requires name { is_name name.now ≡ true }
     ensures joined { IfOk result (λ joined. joined ≡ path.now ++ composed_part name.now ∷ []) }
@@ -49,7 +49,7 @@ fn joined(alloc: Global, path: &PathText, name: &str) -> Result<PathText, NoMemo
     }
 }
 
-/// A path with one name more.
+/// A path with one more name.
 fn plainly_joined(alloc: Global, path: &PathText, name: &str) -> Result<PathText, NoMemory>
     requires name { is_name name.now ≡ true }
     ensures joined { IfOk result (λ joined. joined ≡ path.now ++ name.now ∷ []) }

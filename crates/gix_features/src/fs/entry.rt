@@ -52,7 +52,7 @@ impl<T: DirEntryApi> DirEntry<T> {
         }
     }
 
-    /// What stands there: where a link was followed, behind it. It takes no memory.
+    /// The kind of what is there; of the target, if a link was followed. It allocates no memory.
     pub fn file_type(&self) -> Kind
         ensures told { result ≡ T.type_of self.now.inner }
     {

@@ -6,7 +6,7 @@ use odb_disk::Kind;
 use std::cmp::Ordering;
 use walkdir::{DirEntry, Sorter};
 
-/// The order of name bytes in which a directory's name counts as if `/` stood behind it: Git's order of tree entries.
+/// The order of name bytes in which a directory's name counts as if `/` followed it: Git's order of tree entries.
 #[derive(Clone, Copy)]
 pub struct GitOrder;
 
@@ -22,7 +22,7 @@ impl Sorter for GitOrder {
     ghost total = { λ _. git_order_total };
 }
 
-/// What counts behind the name of an entry: a slash behind that of a directory, and else nothing.
+/// What counts after the name of an entry: a slash after that of a directory, else nothing.
 fn slash_behind(entry: &DirEntry) -> &'static [u8]
     ensures told { result.now ≡ slash_behind entry.now }
 {

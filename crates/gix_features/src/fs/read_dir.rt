@@ -6,7 +6,7 @@ use super::api::DirEntryApi;
 use odb_disk::{BadPath, Entry, Kind, NoMemory, PathText};
 use std::alloc::Global;
 
-/// An entry that a stream gave, and the directory that it lies in.
+/// An entry that a stream gave, and the directory that contains it.
 #[derive(Drop)]
 pub struct Item {
     pub dir: PathText,

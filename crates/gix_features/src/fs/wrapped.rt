@@ -9,7 +9,7 @@ use odb_disk::{NoMemory, PathText};
 use std::alloc::Global;
 use walkdir::{Error, NoSort, Sorter, Stack, Steps};
 
-/// How many threads a walk is asked to use. It uses one in any case.
+/// How many threads a walk is asked to use. It always uses one.
 #[derive(Clone, Copy)]
 pub enum Parallelism {
     Serial,
@@ -97,7 +97,7 @@ impl<S: Drop> WalkDir<S> {
         }
     }
 
-    /// The walk on a disk. It is never refused.
+    /// The walk on a disk. It never fails.
     pub fn into_iter_on<'d, D: Disk>(
         self,
         alloc: Global,
@@ -122,7 +122,7 @@ impl<S: Drop> WalkDir<S> {
     }
 }
 
-/// The items of a walk on a disk that is lent to it, each entry wrapped.
+/// The items of a walk on a disk that it borrows, each entry wrapped.
 pub struct WalkDirIter<'d, D: Disk, W: Steps> {
     disk: &'d mut D,
     walk: W,

@@ -1,3 +1,3 @@
-//! What makes one result of many.
+//! Reducers, which make one result of many.
 pub use gix_features_parts::parallel::reduce::{IdentityWithResult, Reduce};
 pub use gix_features_workers::{Finalize, Stepwise};

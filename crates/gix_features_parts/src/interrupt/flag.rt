@@ -9,7 +9,7 @@ pub trait Flag {
     /// How often the flag was found set: a count that never falls.
     ghost count: { Self → ℕ };
 
-    /// What the flag may answer, and what it is afterwards. A flag that another thread sets says nothing here.
+    /// What the flag may answer, and how it is afterwards. A flag that another thread sets says nothing here.
     ghost tells: { Self → Bool → Self → Type 0 } = { λ _ _ _. ⊤ };
 
     /// Whether the flag is set.
@@ -18,7 +18,7 @@ pub trait Flag {
         ensures tells { tells self.old result self.new };
 }
 
-/// A flag that any thread may set, read anew at each question.
+/// A flag that any thread may set. It is read each time.
 #[derive(Drop)]
 pub struct AtomicFlag<'a> {
     flag: &'a AtomicBool,
@@ -26,7 +26,7 @@ pub struct AtomicFlag<'a> {
 }
 
 impl<'a> AtomicFlag<'a> {
-    /// Reads this flag.
+    /// Makes a flag that reads this one.
     pub fn new(flag: &'a AtomicBool) -> AtomicFlag<'a>
         ensures count { result.found_set ≡ 0 }
     {
@@ -46,7 +46,7 @@ impl Flag for AtomicFlag<'_> {
     }
 }
 
-/// A flag in memory that is set from its question `n + 1` on.
+/// A flag in memory that is set from its read `n + 1` on.
 #[derive(Drop)]
 pub struct SetAfter {
     left: u64,
@@ -54,7 +54,7 @@ pub struct SetAfter {
 }
 
 impl SetAfter {
-    /// A flag that answers `n` questions with no, and each one after them with yes.
+    /// A flag that is unset for `n` reads, and set from then on.
     pub fn new(n: u64) -> SetAfter
         ensures left { result.left ≡ n }
         ensures count { result.found_set ≡ 0 }

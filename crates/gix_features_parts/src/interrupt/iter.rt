@@ -1,4 +1,4 @@
-//! Iterators that end where a flag is set.
+//! Iterators that end when a flag is set.
 ghost use Rattle.std.specs.Prelude.{◌≡◌, is_none, None, Some};
 ghost use Rattle.std.specs.Option.{ForSome};
 ghost use Rattle.std.specs.Iterator.{at_most, count_add, count_unless};
@@ -8,7 +8,7 @@ use super::Flag;
 
 /// The items of an inner iterator until a flag is set.
 ///
-/// The flag is asked before each item, also after it was found set once.
+/// The flag is asked before each item, also once it was found set.
 #[derive(Drop)]
 pub struct Iter<I, G> {
     /// The iterator that gives the items.
@@ -54,7 +54,7 @@ impl<I: Iterator, G: Flag + Drop> Iterator for Iter<I, G> {
 pub struct IterWithErr<I, M, G> {
     /// The iterator that gives the items.
     pub inner: I,
-    /// Makes the error. There is none after the last item.
+    /// Makes the error. None after the last item.
     make_err: Option<M>,
     should_interrupt: G,
 }

@@ -1,4 +1,4 @@
-//! Reads and writes that are refused where a flag is set.
+//! Reads and writes that fail when a flag is set.
 ghost use Rattle.std.specs.Prelude.{◌≡◌, ◌≤◌, true, false, length, IfOk, OnOk};
 ghost use Rattle.odb_base.specs.Faults.{HasCause};
 ghost use Rattle.odb_disk.specs.Source.{Reads, Writes};
@@ -9,10 +9,10 @@ use super::Flag;
 use odb_disk::{Failed, Sink, Source};
 use thiserror::Error;
 
-/// Why a read or a write under a flag is refused.
+/// Why a read or a write under a flag failed.
 #[derive(Clone, Copy, Debug, Error)]
 pub enum Error {
-    /// The flag was found set. Nothing was read or written.
+    /// The flag was set. Nothing was read or written.
     #[error("interrupted")]
     Interrupted,
     /// The source or the sink failed.
@@ -30,7 +30,7 @@ pub struct Read<R, G> {
 }
 
 impl<R: Source, G: Flag> Read<R, G> {
-    /// Reads bytes to the front of `out`, and answers how many, unless the flag is set.
+    /// Reads bytes to the front of `out`, and returns their number, unless the flag is set.
     pub fn read(&mut self, out: &mut [u8]) -> Result<usize, Error>
         ensures flag { Asked G.tells G.count self.old.should_interrupt (is_interrupted result)
             self.new.should_interrupt }
@@ -62,7 +62,7 @@ pub struct Write<W, G> {
 }
 
 impl<W: Sink, G: Flag> Write<W, G> {
-    /// Writes bytes from the front of `bytes`, and answers how many, unless the flag is set.
+    /// Writes bytes from the front of `bytes`, and returns their number, unless the flag is set.
     pub fn write(&mut self, bytes: &[u8]) -> Result<usize, Error>
         ensures flag { Asked G.tells G.count self.old.should_interrupt (is_interrupted result)
             self.new.should_interrupt }

@@ -27,15 +27,15 @@ pub enum InOrderError<E> {
         /// The number of the item that was to be given next.
         next: SequenceId,
     },
-    /// There was no memory to keep an item until its turn.
+    /// Out of memory to keep an item until its turn.
     #[error("out of memory")]
     NoMemory,
 }
 
 /// The items of an inner iterator by their numbers, which begin at 0.
 ///
-/// An item that comes before its turn waits, and is given when its turn has come, before the inner iterator is asked
-/// again. One that comes in its turn is given at once, and takes no memory. After an error there is nothing more.
+/// An item that comes before its turn waits, and is given at its turn, before the inner iterator is asked again. One
+/// that comes at its turn is given at once, and takes no memory. After an error there is nothing more.
 #[derive(Drop)]
 pub struct InOrderIter<T, I> {
     /// The iterator that gives the items with their numbers. It has to end.
@@ -44,12 +44,12 @@ pub struct InOrderIter<T, I> {
     waiting: BTreeMap<SequenceId, T>,
     /// The number whose turn it is.
     next: SequenceId,
-    /// Nothing more is given.
+    /// Whether nothing more is given.
     is_over: bool,
 }
 
 impl<T, I> InOrderIter<T, I> {
-    /// The items of `iter` by their numbers. It keeps the allocator for what has to wait, and takes no memory.
+    /// The items of `iter` by their numbers. It keeps the allocator for what has to wait, and allocates no memory.
     pub fn from(alloc: Global, iter: I) -> InOrderIter<T, I>
         ensures inner { result.inner ≡ iter }
         ensures begun { IsBegun (in_order_at result) }
@@ -62,7 +62,7 @@ impl<T, I> InOrderIter<T, I> {
         }
     }
 
-    /// Makes it the next number's turn. None comes after the greatest number.
+    /// Moves on to the next number. After the greatest number there is none.
     fn pass_turn(&mut self)
         ensures passes { PassesTurn self.old.next self.new.next self.new.is_over }
         ensures same { (self.new.inner ≡ self.old.inner) × (self.new.waiting ≡ self.old.waiting) }
@@ -102,7 +102,7 @@ impl<T: Drop, I> InOrderIter<T, I> {
 }
 
 impl<T: Drop, E, I: Iterator<Item = Result<(SequenceId, T), E>>> InOrderIter<T, I> {
-    /// Asks the inner iterator for items until the one whose turn it is comes. The others wait.
+    /// Asks the inner iterator for items until the next one comes. The others wait.
     fn draw(&mut self) -> Option<Result<T, InOrderError<E>>>
         requires going { self.old.is_over ≡ false }
         requires gap { get nat_cmp self.old.waiting self.old.next ≡ None }

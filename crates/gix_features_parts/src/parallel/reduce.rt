@@ -1,4 +1,4 @@
-//! What makes one result of many.
+//! Reducers, which make one result of many.
 ghost use Rattle.std.specs.Prelude.{◌≡◌, Ok, ⊤};
 ghost use Rattle.std.specs.Prelude.{Result};
 
@@ -14,10 +14,10 @@ pub trait Reduce {
 
     type Error;
 
-    /// What a value gives, and what it makes of the reducer.
+    /// What the reducer gives for a value, and how it is afterwards.
     ghost feeds: { Self → Self.Input → Result Self.FeedProduce Self.Error → Self → Type 0 } = { λ _ _ _ _. ⊤ };
 
-    /// What the reducer comes to.
+    /// The result of the reducer.
     ghost comes_to: { Self → Result Self.Output Self.Error → Type 0 } = { λ _ _. ⊤ };
 
     /// Feeds a value.
@@ -29,7 +29,7 @@ pub trait Reduce {
         ensures result { comes_to self result };
 }
 
-/// Gives each value that it is fed, which may be an error, and comes to nothing.
+/// Gives each value that it is fed, which may be an error; its result is empty.
 #[derive(Drop)]
 pub struct IdentityWithResult<Input, Error> {
     input: PhantomData<Input>,

@@ -2,13 +2,13 @@
 ghost use Rattle.std.specs.Prelude.{◌≡◌, ◌≤◌, None, Some, unwrap_or};
 ghost use Rattle.gix_features_parts.specs.Sizes.{threads_of, chunk_of, limit_of, limit_for_chunks};
 
-/// The fewest items of a chunk, where it isn't known how many items there are.
+/// The fewest items of a chunk, if their total is unknown.
 const LEAST: usize = 50;
 
-/// The most items of a chunk, unless one thread takes items of which it isn't known how many there are.
+/// The most items of a chunk, unless a single thread takes an unknown number of items.
 const MOST: usize = 1000;
 
-/// How many threads work: the limit, or as many as there are cores where it is none or 0.
+/// The number of threads: the limit, or that of the cores if there is no limit or it is 0.
 pub fn num_threads(thread_limit: Option<usize>, cores: usize) -> usize
     ensures number { result ≡ threads_of thread_limit cores }
 {
@@ -18,7 +18,7 @@ pub fn num_threads(thread_limit: Option<usize>, cores: usize) -> usize
     }
 }
 
-/// How many items a chunk has, and how many threads work at most, twice: as a limit and as a number.
+/// The items in a chunk, and the most threads that work, twice: as a limit and as a number.
 pub fn optimize_chunk_size_and_thread_limit(
     desired_chunk_size: usize,
     num_items: Option<usize>,
@@ -45,7 +45,7 @@ pub fn optimize_chunk_size_and_thread_limit(
     (chunk, Some(limit), limit)
 }
 
-/// How many items a chunk has, where it isn't known how many items there are.
+/// The items in a chunk, if their total is unknown.
 fn chunk_without_items(desired: usize, threads: usize) -> usize
     ensures chunk { result ≡ chunk_of desired None threads }
 {
@@ -56,7 +56,7 @@ fn chunk_without_items(desired: usize, threads: usize) -> usize
     }
 }
 
-/// How many threads take so many chunks: at most one for every two, where each thread could have one.
+/// How many threads take these chunks: half as many but at least one, if each thread could have a chunk; else all.
 fn limit_with_items(chunks: usize, threads: usize) -> usize
     ensures limit { result ≡ limit_for_chunks chunks threads }
 {

@@ -32,7 +32,7 @@ pub(crate) type Receiver = RuledReceiver<Piece, Hand<Piece>, InOrder<Anything>>;
 
 pub(crate) type PipePass = Pass<Piece, Hand<Piece>>;
 
-/// A channel for pieces, and the pass of whoever sends and takes.
+/// A channel for pieces, and the pass of an end that sends and takes.
 pub(crate) fn channel(
     alloc: Global,
     in_flight: usize,

@@ -15,10 +15,10 @@ use std::sync::Wait;
 pub struct Reader {
     pub(crate) receiver: Receiver,
     pub(crate) pass: PipePass,
-    /// What is at hand of the last piece that was taken out of the channel.
+    /// What is buffered of the last piece that was taken out of the channel.
     pub(crate) next: Piece,
-    /// The note that the pipe ended. Each read begins without it, and `refill` alone makes it, where the channel answers that
-    /// no piece comes any more. That it answered so no clause says.
+    /// Whether the reader has noted the end of the pipe. Each read begins without the note, and only `refill` makes
+    /// it, when the channel answers that no more pieces come. That it answered so is in no clause.
     pub(crate) has_ended: bool,
     ghost seated: { IsSeatAt (receives_on receiver) pass } by { Prim.hlevel seat_props },
     ghost takes: { (view pass).takes ≡ true },
@@ -43,7 +43,7 @@ impl Reader {
         }
     }
 
-    /// Reads as many bytes as are asked for. There are fewer only before an error that the writer sent, and at the end.
+    /// Reads as many bytes as are asked for; fewer only before an error that the writer sent, and at the end.
     pub fn read<R: Wait>(&mut self, rt: &R, out: &mut [u8]) -> Result<usize, PipeError>
         ensures count { IfOk result (λ count. count ≤ length out.old) }
         ensures given { IfOk result (λ count. Reads self.old self.new (map Byte (take count out.new))) }
@@ -72,11 +72,11 @@ impl Reader {
         unreachable!()
     }
 
-    /// The bytes at hand, once there are some. There are none only at the end.
+    /// The buffered bytes, once there are some. There are none only at the end.
     ///
-    /// What was at hand before is lent, or answered, as it is. Of bytes and errors that the call waits for, the clause says only
-    /// that they could come out of some channel, and of a reader whose bytes were lent it says nothing: with an error that owns
-    /// memory in the answer, no clause can name that reader. A caller that has to prove what it reads calls `fill` and `front`.
+    /// What was buffered before is lent, or returned, as it is. Of bytes and errors that the call waits for, the
+    /// clause says only that they could come out of some channel; of a reader whose bytes were lent it says nothing,
+    /// since no clause can name it beside an error that owns memory. To prove what is read, call `fill` and `front`.
     pub fn fill_buf<R: Wait>(&mut self, rt: &R) -> Result<&[u8], PipeError>
         ensures at_hand { MatchResult result (HasAtHand self.old) (HasFailed self.old) }
         ensures there { gives_something self.old.next ≡ true → MatchResult result (LendsAll self.old.next) (IsFailure self.old.next) }
@@ -85,7 +85,7 @@ impl Reader {
         Ok(self.front())
     }
 
-    /// Takes note that so many of the bytes at hand were used, or all where there are fewer.
+    /// Marks `count` of the buffered bytes as used; all, if there are fewer.
     pub fn consume(&mut self, count: usize)
         ensures given { Reads self.old self.new (map Byte (take count (at_hand self.old))) }
         ensures note { self.new.has_ended ≡ self.old.has_ended }
@@ -96,7 +96,7 @@ impl Reader {
         }
     }
 
-    /// Takes pieces out of the channel until there are bytes at hand, or answers the error that comes before.
+    /// Takes pieces out of the channel until bytes are buffered; returns an error that comes before them.
     pub fn fill<R: Wait>(&mut self, rt: &R) -> Result<(), PipeError>
         ensures filled { OnOk result (Reads self.old self.new []) }
         ensures end { OnOk result (at_hand self.new ≡ [] → HasEnded self.new) }
@@ -115,7 +115,7 @@ impl Reader {
         }
     }
 
-    /// The bytes at hand.
+    /// The buffered bytes.
     pub fn front(&self) -> &[u8]
         ensures bytes { result.now ≡ at_hand self.now }
     {
@@ -125,7 +125,7 @@ impl Reader {
         }
     }
 
-    /// Forgets the note of earlier calls.
+    /// Clears the note of earlier calls.
     fn begin(&mut self)
         ensures nothing { Reads self.old self.new [] }
         ensures none { self.new.has_ended ≡ false }
@@ -134,7 +134,7 @@ impl Reader {
         self.has_ended = false;
     }
 
-    /// Takes pieces out of the channel until there is something to give. It answers whether there is.
+    /// Takes pieces out of the channel until there is something to give. Returns whether there is.
     fn reach<R: Wait>(&mut self, rt: &R) -> bool
         ensures nothing { Reads self.old self.new [] }
         ensures there { result ≡ true → gives_something self.new.next ≡ true }
@@ -163,8 +163,8 @@ impl Reader {
         }
     }
 
-    /// Takes the next piece out of the channel, once there is one, or makes the note where the channel answers that none comes
-    /// any more.
+    /// Takes the next piece out of the channel, once there is one, or makes the note if the channel answers that no
+    /// more come.
     fn refill<R: Wait>(&mut self, rt: &R) -> bool
         ensures took { result ≡ true → taken self.new ≡ taken self.old ++ self.new.next ∷ [] }
         ensures ended { result ≡ false → (taken self.new ≡ taken self.old) × (self.new.next ≡ self.old.next)
@@ -187,7 +187,7 @@ impl Reader {
         }
     }
 
-    /// The error that is at hand, if it is one.
+    /// The buffered piece's error, if it is one.
     fn failure(&mut self) -> Option<PipeError>
         ensures given { IfSome result (λ error. Reads self.old self.new (Failure error ∷ [])) }
         ensures is { IfSome result (IsFailure self.old.next) }
@@ -203,7 +203,7 @@ impl Reader {
         }
     }
 
-    /// Gives as many of the bytes at hand as there is room for. It answers how many.
+    /// Gives as many of the buffered bytes as there is room for. Returns their number.
     fn give(&mut self, out: &mut [u8]) -> usize
         ensures count { result ≤ length out.old }
         ensures given { Reads self.old self.new (map Byte (take result out.new)) }

@@ -16,10 +16,10 @@ use thiserror::Error;
 /// Why bytes weren't written.
 #[derive(Debug, Drop, Error)]
 pub enum Gone {
-    /// The reader is gone. The piece comes back.
+    /// The reader is gone. The piece is returned.
     #[error("the reader is gone")]
     Piece(Bytes),
-    /// There was no memory for the piece.
+    /// Out of memory for the piece.
     #[error("out of memory")]
     NoMemory,
 }
@@ -47,7 +47,7 @@ impl Writer {
         Writer { sender, pass }
     }
 
-    /// Writes bytes as one piece, once there is room in the pipe. It answers how many there were: all.
+    /// Writes bytes as one piece, once there is room in the pipe. Returns their number: always all.
     pub fn write<R: Wait>(&mut self, rt: &R, alloc: Global, bytes: &[u8]) -> Result<usize, Gone>
         ensures all { IfOk result (λ count. count ≡ length bytes.now) }
         ensures written { OnOk result (written self.new ≡ written self.old ++ Written bytes.now ∷ []) }
@@ -74,8 +74,8 @@ impl Writer {
         Ok(())
     }
 
-    /// Sends an error, which the reader gets behind the bytes that were written before. It comes back where the reader is
-    /// gone.
+    /// Sends an error, which the reader gets after the bytes that were written before. The error is returned if the
+    /// reader is gone.
     pub fn send_error<R: Wait>(&mut self, rt: &R, error: PipeError) -> Result<(), PipeError>
         ensures sent { OnOk result (written self.new ≡ written self.old ++ Failed error ∷ []) }
         ensures unsent { IfErr result (λ back. back ≡ error) }

@@ -1,4 +1,4 @@
--- The order of the first digits of two ids' texts is that of their bytes, with half a byte where the number of digits is odd.
+-- The order of the first digits of two ids' texts is that of their bytes, with half a byte if the number of digits is odd.
 use Rattle.std.proofs.Common.{◌≡◌, ℕ, zero, suc, ◌+◌, ◌*◌, ◌/◌, ◌%◌, ◌<◌, ◌≤◌, ◌==◌, ◌⊎◌, inl, inr, nat_lt, true, List, [], ◌∷◌}
 use Rattle.std.proofs.Common.{length, take, slice_index, cond, Ordering, Less, Equal, Greater, refl, sym, ap, ◌∙◌, arith}
 use Rattle.std.proofs.lemmas.Bool.{agree_below_at, cases_order, eqb-true}
@@ -13,7 +13,7 @@ use Rattle.hex.specs.Hex.{IsBytes, encode_lower, encode_with, lower_digits}
 abbrev digit : ℕ → ℕ
 digit v = slice_index lower_digits v
 
--- the same by its value: `0` to `9`, and then `a` to `f`
+-- that digit by its value: `0` to `9`, and then `a` to `f`
 abbrev digit_by_value : ℕ → ℕ
 digit_by_value v = cond (nat_lt v 10) (v + 48) (v + 87)
 
@@ -75,7 +75,7 @@ module _ (own its : List ℕ) where
   abbrev pub texts_cmp : ℕ → Ordering
   texts_cmp digits = slice_cmp nat_cmp (take digits (encode_lower own)) (take digits (encode_lower its))
 
--- two digits more are a byte more
+-- two more digits are one more byte
 one_byte : (a b : ℕ) (own its : List ℕ) (digits : ℕ) → a < 256 → b < 256 → texts_cmp (a ∷ own) (b ∷ its) (suc (suc digits)) ≡ ordering_then (nat_cmp a b) (texts_cmp own its digits)
 unfolding encode_with
 one_byte a b own its digits first second =
@@ -92,7 +92,7 @@ even_digits (suc whole) (a ∷ own) (b ∷ its) first second long wide =
     rw two (one_byte a b own its (2 * whole) (first 0) (second 0)
     ∙ ap (ordering_then (nat_cmp a b)) (even_digits whole own its (IsBytes-rest a own first) (IsBytes-rest b its second) (omega arith) (omega arith)))
 
--- an odd number of digits: the higher half of a byte more
+-- an odd number of digits: one more higher half of a byte
 odd_digits : (whole : ℕ) (own its : List ℕ) → IsBytes own → IsBytes its → whole < length own → whole < length its
     → texts_cmp own its (2 * whole + 1) ≡ ordering_then (slice_cmp nat_cmp (take whole own) (take whole its)) (nat_cmp (slice_index own whole / 16) (slice_index its whole / 16))
 unfolding encode_with
@@ -133,7 +133,7 @@ first_digits digits own its half first second long wide odd even =
 
 -- ---- texts of bytes that rise
 
--- where the later parts don't fall, neither do the whole
+-- if the later parts don't fall, neither do the whole
 pub then_rises : (o p q : Ordering) → (p ≡ Less → q ≡ Greater → ⊥) → ordering_then o p ≡ Less → ordering_then o q ≡ Greater → ⊥
 then_rises Less p q rise up down = cc down
 then_rises Equal p q rise up down = rise up down

@@ -1,4 +1,4 @@
--- Digits with zeros behind them, and the prefixes that are made of them.
+-- Digits with zeros after them, and the prefixes that are made of them.
 use Rattle.std.proofs.Common.{◌≡◌, ℕ, zero, suc, ◌-◌, ◌*◌, ◌≤◌, true, List, [], ◌∷◌, ◌++◌, length, take, drop, inl, inr, Result, Ok, Err}
 use Rattle.std.proofs.Common.{IfOk, IsOk, IsErrOf, IsTrue, IsFalse, ◌↔◌, refl, sym, ap, ◌∙◌, subst, arith, length-append, length-take-le}
 use Rattle.std.proofs.lemmas.Bool.{and_parts}
@@ -63,7 +63,7 @@ module _ (hash : Kind) (text : List ℕ) (size : length text ≡ digits_in hash)
   digits_read (Err Length) found is short bad = (λ h. cc h, λ h. absurd (short.0 refl (is_length hash size)))
   digits_read (Err Invalid) found is short bad = (λ h. cc h, λ h. cc (h, (bad.0 refl).1))
 
--- the text of digits with zeros behind them
+-- the text of digits with zeros after them
 abbrev pub text_of : Kind → List ℕ → List ℕ
 text_of hash digits = digits ++ zero_digits (digits_in hash - length digits)
 
@@ -80,7 +80,7 @@ digits_fit : (kind : Kind) → digits_in kind ≤ most_digits
 digits_fit kind.Sha1 = omega arith
 digits_fit kind.Sha256 = omega arith
 
--- what is read of the first digits of a kind's length, with zeros behind them
+-- what is read of the first digits of a kind's length, with zeros after them
 pub front_read : (kind : Kind) (digits : List ℕ) → length digits ≤ digits_in kind → take (digits_in kind) (digits ++ zero_digits (most_digits - length digits)) ≡ text_of kind digits
 front_read kind digits long = take-with_zeros (digits_in kind) digits long (digits_fit kind)
 
@@ -111,7 +111,7 @@ is_lower_text-take (suc n) (d ∷ text) h = let parts = and_parts (is_lower_digi
 pub lower_first : (id : ObjectId) (n : ℕ) → IsId id → is_lower_text (take n (hex_of id)) ≡ true
 lower_first id n is = is_lower_text-take n (hex_of id) (is_lower_text-hex_of id is)
 
--- what is made of the first digits of an id
+-- the prefix that is made of the first digits of an id
 pub first_of : (id made : ObjectId) (n : ℕ) (digits : List ℕ) → IsId id → fewest_digits ≤ n → n ≤ digits_in (kind_of id) → digits ≡ hex_of id → IsId made → kind_of made ≡ kind_of id
     → hex_of made ≡ take n digits ++ zero_digits (digits_in (kind_of id) - length (take n digits))
     → IsPrefix (record { id = made; hex_len = n }) × HasPrefix (record { id = made; hex_len = n }) id

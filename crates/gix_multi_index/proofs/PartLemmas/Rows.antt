@@ -1,4 +1,4 @@
--- The rows of the offsets of a multi-pack index, tested one behind another: each names a pack and an offset.
+-- The rows of the offsets of a multi-pack index, tested one after another: each has a pack and an offset.
 use Rattle.std.proofs.Common.{◌≡◌, ℕ, zero, suc, ◌-◌, ◌<◌, ◌≤◌, ◌&&◌, nat_lt, Bool, true, List, take, drop, Option, refl, ap, ◌∙◌, arith}
 use Rattle.std.specs.List.{list_all}
 use Rattle.std.specs.Int.{w32, from_be_bytes}

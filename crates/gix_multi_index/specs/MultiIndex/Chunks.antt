@@ -10,51 +10,51 @@ use Rattle.gix_pack_tables.specs.Bytes.{same, part, table, number_at, trailer_pl
 
 -- ---- the header
 
--- how long the header is: `MIDX`, the version, the hash's number, the numbers of chunks and of base files, and the number of packs
+-- the length of the header: `MIDX`, the version, the hash's number, the numbers of chunks and of base files, and the number of packs
 abbrev pub header_len : ℕ
 header_len = 12
 
--- how long a row of the chunk table is: a name of four bytes, and a place of eight
+-- the length of a row of the chunk table: a name of four bytes, and a place of eight
 abbrev pub row_len : ℕ
 row_len = 12
 
--- how long the name of a chunk is, which stands in front of the place in a row
+-- the length of the name of a chunk, which is before the place in a row
 abbrev pub name_len : ℕ
 name_len = 4
 
--- where the last of the counts stands among them: behind 255 of four bytes each
+-- the place of the last of the counts among them: after 255 of four bytes each
 abbrev pub last_count_place : ℕ
 last_count_place = 1020
 
--- where the header names the hash
+-- where the header has the hash
 abbrev pub hash_place : ℕ
 hash_place = 5
 
--- where it tells the number of chunks
+-- where it has the number of chunks
 abbrev pub chunk_count_place : ℕ
 chunk_count_place = 6
 
--- where it tells the number of base files
+-- where it has the number of base files
 abbrev pub base_count_place : ℕ
 base_count_place = 7
 
--- where it tells the number of packs
+-- where it has the number of packs
 abbrev pub pack_count_place : ℕ
 pack_count_place = 8
 
--- what each version 1 multi-pack index begins with
+-- the first bytes of each version 1 multi-pack index
 abbrev pub multi_index_start : List ℕ
 multi_index_start = codes "MIDX"
 
--- the kind of hash that a number stands for
+-- the kind of hash with a number
 abbrev pub hash_of_number : ℕ → Option Kind
 hash_of_number number = if number == 1 then Some Sha1 else if number == 2 then Some Sha256 else None
 
--- the hash that the header names
+-- the hash of the header
 abbrev pub hash_in : List ℕ → Option Kind
 hash_in bytes = hash_of_number (slice_index bytes hash_place)
 
--- the same where it is known to name one
+-- the hash of the header, if it is known to have one
 abbrev pub kind_in : List ℕ → Kind
 kind_in bytes = unwrap_or (hash_in bytes) Sha1
 
@@ -80,7 +80,7 @@ chunk_row row = record { name = take name_len row; place = from_be_bytes w64 (dr
 abbrev pub chunk_rows : List ℕ → List ChunkRow
 chunk_rows bytes = map chunk_row (table row_len (chunks_in bytes + 1) (drop header_len bytes))
 
--- where the trailing hash begins
+-- the offset of the trailing hash
 abbrev pub trailer_place : List ℕ → ℕ
 trailer_place bytes = place_of_trailer (kind_in bytes) bytes
 
@@ -88,7 +88,7 @@ trailer_place bytes = place_of_trailer (kind_in bytes) bytes
 abbrev pub has_room : List ℕ → Bool
 has_room bytes = nat_le (header_len + row_len * (chunks_in bytes + 1) + len_in_bytes_of (kind_in bytes)) (length bytes)
 
--- whether the places never fall, and the last row is the end at this place
+-- whether the places never fall, and the last row has this place as the end
 unfoldable pub ends_at : ℕ → List ChunkRow → Bool
 ends_at place [] = false
 ends_at place (row ∷ []) = same row.name (0 ∷ 0 ∷ 0 ∷ 0 ∷ []) && row.place == place
@@ -99,7 +99,7 @@ pub record Chunk : Type 0 where
   pub name : List ℕ
   pub bytes : List ℕ
 
--- each row but the last is a chunk, which runs to the place of the next row
+-- each row but the last is a chunk, which extends to the place of the next row
 abbrev pub chunk_at : List ℕ → ChunkRow × ChunkRow → Chunk
 chunk_at bytes rows = record { name = rows.0.name; bytes = part rows.0.place (rows.1.place - rows.0.place) bytes }
 
@@ -110,12 +110,12 @@ chunks_of bytes = map (chunk_at bytes) (zip (chunk_rows bytes) (drop 1 (chunk_ro
 abbrev pub named : List ℕ → List ℕ → List Chunk
 named name bytes = filter (λ chunk. same chunk.name name) (chunks_of bytes)
 
--- the bytes of the one chunk there is
+-- the bytes of the only chunk
 abbrev pub the_one : List Chunk → Option (List ℕ)
 the_one [] = None
 the_one (chunk ∷ []) = Some chunk.bytes
 the_one (chunk ∷ other ∷ chunks) = None
 
--- the bytes of a chunk that stands once
+-- the bytes of a chunk that is there exactly once
 abbrev pub chunk : List ℕ → List ℕ → Option (List ℕ)
 chunk name bytes = the_one (named name bytes)

@@ -1,4 +1,4 @@
--- What the chunks of a multi-pack index hold: the names of packs, and offsets.
+-- The contents of the chunks of a multi-pack index: the names of packs, and offsets.
 use Rattle.std.specs.Prelude.{ℕ, ◌/◌, ◌==◌, ◌&&◌, Bool, true, not, List, [], ◌∷◌, length, take, drop, codes, nat_eq, nat_lt, Option, Some, None}
 use Rattle.std.specs.List.{list_all, list_any, slice_split, ends_with}
 use Rattle.std.specs.Ordering.{is_lt}
@@ -7,17 +7,17 @@ use Rattle.odb_base.specs.Path.{name_cmp}
 use Rattle.gix_pack_tables.specs.Bytes.{long_numbers}
 use Rattle.gix_pack_tables.specs.Rows.{offset_in, is_named_below, wide_len}
 
--- ---- what a chunk holds
+-- ---- the contents of a chunk
 
 -- the parts between the NULs: the names come first
 abbrev pub name_parts : List ℕ → List (List ℕ)
 name_parts names = slice_split (λ b. b == 0) names
 
--- what the name of an index ends in
+-- the ending of an index's name
 abbrev pub index_ending : List ℕ
 index_ending = codes ".idx"
 
--- whether bytes hold neither NUL nor a slash, and end as the name of an index, with more before that
+-- whether bytes have neither NUL nor a slash, and end as the name of an index, with more before that
 abbrev pub has_form : List ℕ → Bool
 has_form name =
     not (list_any (λ b. b == 0) name) && not (list_any (λ b. b == 47) name)
@@ -37,18 +37,18 @@ names_rise (name ∷ next ∷ names) = is_lt (name_cmp name next) && names_rise 
 abbrev pub are_names : List (List ℕ) → Bool
 are_names names = list_all is_index_name names && names_rise names
 
--- whether a chunk holds p names, each ended by NUL, and then NULs alone
+-- whether a chunk holds p names, each ended by NUL, and then only NULs
 unfoldable pub holds_names : ℕ → List ℕ → Bool
 holds_names p names =
     nat_lt p (length (name_parts names)) && are_names (take p (name_parts names))
     && list_all (λ rest. length rest == 0) (drop p (name_parts names))
 
--- whether four bytes are an offset: where there are wide ones, those with the high bit name one of them
+-- whether four bytes are an offset: if there are wide ones, those with the high bit refer to one of them
 abbrev pub has_offset : Option (List ℕ) → ℕ → Bool
 has_offset None narrow = true
 has_offset (Some wides) narrow = is_named_below (length wides / wide_len) narrow
 
--- the offset that four bytes are
+-- the offset in four bytes
 abbrev pub offset_of_bytes : Option (List ℕ) → ℕ → ℕ
 offset_of_bytes None narrow = narrow
 offset_of_bytes (Some wides) narrow = offset_in (long_numbers (length wides / wide_len) wides) narrow

@@ -57,7 +57,7 @@ bytes_step chunks i chunk below is =
 pub bytes_end : (chunks : List kept.Chunk) (i : ℕ) → length chunks ≤ i → flat_map (λ (c : Chunk). c.bytes) (map chunk_seen (drop i chunks)) ≡ []
 bytes_end chunks i past = ap (λ (rest : List kept.Chunk). flat_map (λ (c : Chunk). c.bytes) (map chunk_seen rest)) (drop_all i chunks past)
 
--- what is written of packs and offsets
+-- the packs and offsets that are written
 abbrev pub wholes : List Placed → List ℕ
 wholes rows = flat_map pack_and_offset (zip (map pack_of rows) (map offset_of rows))
 
@@ -74,7 +74,7 @@ pub narrow_rows_no : (wide : ℕ) (row : Placed) (rows : List Placed) → is_wid
 unfolding narrow_from
 narrow_rows_no wide row rows is = rw is refl
 
--- where no offset needs eight bytes, each fits four
+-- if no offset needs eight bytes, each fits four
 pub fits_four : (rows : List Placed) (i : ℕ) (d : Placed) → i < length rows → needs_wide (map offset_of rows) ≡ false → (get_or rows i d).offset < 2 ^ 32
 fits_four [] i d below none = absurd (omega arith)
 fits_four (row ∷ rows) zero d below none = by_test row.offset (or_parts (not (nat_lt row.offset (2 ^ 32))) (needs_wide (map offset_of rows)) none).0
@@ -122,7 +122,7 @@ pub rows_end : (list whole : List ℕ) (rows : List Placed) (i wide : ℕ) → l
 rows_end list whole rows i wide past so_far =
     sym (append-nil list) ∙ ap (λ (rest : List ℕ). list ++ rest) (sym (ap (narrow_rows wide) (drop_all i rows past) ∙ narrow_rows_none wide)) ∙ so_far
 
--- the header, one part behind another
+-- the header, one part after another
 pub front_put : (old l1 l2 l3 : List ℕ) (hash chunks packs : ℕ) → l1 ≡ old ++ codes "MIDX" → l2 ≡ l1 ++ (1 ∷ hash ∷ chunks ∷ 0 ∷ []) → l3 ≡ l2 ++ to_be_bytes w32 packs
     → l3 ≡ old ++ (codes "MIDX" ++ 1 ∷ hash ∷ chunks ∷ 0 ∷ to_be_bytes w32 packs)
 front_put old l1 l2 l3 hash chunks packs a b c =
@@ -228,7 +228,7 @@ small_seen own chunks same small =
     subst (λ (cs : List kept.Chunk). chunks_place (length (map chunk_seen cs)) + bytes_over (map chunk_seen cs) < 2 ^ 64) same
     (subst (λ (n : ℕ). chunks_place n + bytes_over (map chunk_seen chunks) < 2 ^ 64) (sym (length-map chunks chunk_seen)) small)
 
--- ---- what a walk through packs or rows uses
+-- ---- what a loop over packs or rows uses
 
 pub ruleset each_name = (names_bad, names_out, names_good, names_all)
 

@@ -1,4 +1,4 @@
--- Rows of packs and offsets as they are written are read back.
+-- Rows of packs and offsets, as they are written, are read back.
 use Rattle.std.proofs.Common.{◌≡◌, ℕ, suc, ◌*◌, ◌^◌, ◌<◌, ◌&&◌, nat_lt, Bool, true, false, List, [], ◌∷◌, length, map, take, Option, refl, sym, ap, ◌∙◌, arith}
 use Rattle.std.proofs.lemmas.Bool.{lt-ltb}
 use Rattle.std.specs.List.{AllByRecursion, flat_map, list_all, zip}
@@ -47,12 +47,12 @@ length-zip [] offs same_length = refl
 length-zip (row ∷ rows) [] same_length = absurd (omega arith)
 length-zip (row ∷ rows) (off ∷ offs) same_length = ap (λ (n : ℕ). suc n) (length-zip rows offs (omega arith))
 
--- what is known of a row: its pack is one of so many
+-- what is known of a row: its pack is one of `packs`
 pub record IsInPack (packs : ℕ) (row : Placed) : Type 0 where
   pub known : row.pack < packs
 
 module _ (packs : ℕ) (wides : Option (List ℕ)) where
-  -- each row names a pack and an offset
+  -- each row has a pack and an offset
   pub rows_named : (hash : Kind) (rows : List Placed) (offs : List ℕ) → length offs ≡ length rows → AllByRecursion (IsPlaced hash) rows → AllByRecursion (IsInPack packs) rows
       → AllByRecursion (λ (x : ℕ). x < 2 ^ 32) offs
       → list_all (has_offset wides) offs ≡ true

@@ -41,7 +41,7 @@ use Rattle.gix_odb.specs.OpenExchanges.{AreAsked, HasListed, IsCaused, IsNoDir, 
 use Rattle.gix_odb.specs.declared.open_state.OpenStage.{OpenStage}
 use Rattle.gix_odb.specs.declared.open_state.OpenStage.TheVariants as opens
 
--- behind one exchange more
+-- after one more exchange
 list_behind-push : (setting : Setting) (step : ListStep) (past : List Exchange) (exchange : Exchange)
     → list_behind setting.folders step (past ++ exchange ∷ []) ≡ list_by setting.folders (list_behind setting.folders step past) exchange.answer
 list_behind-push setting step [] exchange = refl
@@ -51,14 +51,14 @@ list_behind-push setting step (first ∷ past) exchange = list_behind-push setti
 abbrev pub WasRegistered : Setting → List Exchange → (number : ℕ) → Type 0
 WasRegistered setting past number = (answer : CoreAnswer) × WasTold past (asks.NewCore number (length (folders_of setting))) (told.Core answer)
 
--- a reply that tells an error has its cause; one that tells a number of slots is that of a handle that was registered at a core with so many
+-- a reply with an error has its cause; one with a number of slots is that of a handle that was registered at a core with so many
 abbrev pub IsExplained : Setting → Slots → List Exchange → Reply → Type 0
 IsExplained setting slots past (replies.Refused (call_errors.Open error)) = IsCaused setting slots past error
 IsExplained setting slots past (replies.Opened number) = WasRegistered setting past number × IsNumber setting slots past number × (number ≤ most_slots)
 IsExplained setting slots past reply = ⊥
 
 module _ (setting : Setting) (slots : Slots) where
-  -- a listing is at hand
+  -- a listing runs
   pub record Lists (now : Told) (past : List Exchange) (lister : Lister) (percent minimum : ℕ) : Type 0 where
     pub asked : slots ≡ AsNeededByDiskState percent minimum
     pub has : HasListed setting past (listed.More lister)
@@ -86,9 +86,9 @@ module _ (setting : Setting) (slots : Slots) where
         by true e = (none, is, grind (arith, e))
         by false e = (none, (is, grind (arith, e)))
 
-  -- ---- the look
+  -- ---- the stat
 
-  -- the look was answered so
+  -- the stat with this answer
   abbrev look : DiskAnswer → Exchange
   look answer = record { ask = asks.Disk (disk_asks.Look setting.objects true); answer = told.Disk answer }
 
@@ -163,7 +163,7 @@ module _ (setting : Setting) (slots : Slots) where
           (fed-tells setting more lister here.at (Breaks-more past (exchange ∷ []) lister.stage here.breaks) answer suits (Contains-push past exchange))
           (listing_streams setting.folders lister.head now lister.stage here.stream answer)
 
-    -- ---- one exchange more
+    -- ---- one more exchange
 
     abbrev Goes : OpenStage → Ask → Answer → Type 0
     Goes state ask answer = IsSuited ask answer → KnowsAt (told_by now ask answer) (with_one ask answer) (fed_by setting slots state answer)

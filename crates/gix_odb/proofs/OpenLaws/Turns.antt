@@ -36,7 +36,7 @@ module _ (setting : Setting) (slots : Slots) (entries : ℕ) where
   abbrev listing : ℕ
   listing = listing_turns setting.objects setting.folders entries
 
-  -- so many turns are enough, where the stream that is open gave what the listing has: a look, a listing, and the registration
+  -- so many turns are enough, where the open stream gave what the listing has: a stat, a listing, and the registration
   abbrev pub HasTurns : Option Stream → OpenStage → (turns : ℕ) → Type 0
   HasTurns stream opens.Looking turns = listing + 2 ≤ turns
   HasTurns stream (opens.Listing lister percent minimum) turns =

@@ -61,7 +61,7 @@ module _ (entries : List Entry) (shape : Shape) (number seat : ℕ) where
 
   -- ---- its number
 
-  -- a listing that is outdated is told the number of the list
+  -- the answer to an outdated listing has the number of the list
   pub outdated_tells_the_number : (event : Event) (other : ℕ) → answer_of entries shape number seat event ≡ Ok (effects.Outdated other) → shape.list_no ≡ other
   outdated_tells_the_number (events.Register stable) other is = absurd cc
   outdated_tells_the_number events.Upgrade other is = absurd cc
@@ -93,7 +93,7 @@ module _ (entries : List Entry) (shape : Shape) (number seat : ℕ) where
       (λ differs. ((λ is. differs (sym is)), below)) (λ needed. tt) tt (λ slots same. sym same) (λ slots list renewed same differs. ap (λ n. n + 1) (sym same))
   answer_follows_its_base before below event = tt
 
--- the number behind an answer is that of an outdated listing, that of a view, or the one before
+-- the number after an answer is that of an outdated listing, that of a view, or the one before
 pub number_behind_gives : (P : ℕ → Type 0) (before : ℕ) (answer : core.Answer) → ((number : ℕ) → answer ≡ Ok (effects.Outdated number) → P number)
     → ((view : View) → core.view_in answer ≡ Some view → P view.list_no) → P before → P (number_by before (told.Core answer))
 number_behind_gives P before (Err refusal) outdated shows same = same

@@ -1,4 +1,4 @@
--- What is shown of a place is sound where each file that was shown there is; and a view that a listing comes to has its rows.
+-- What is shown of a place is sound where each file that was shown there is; and the view of a published listing has its rows.
 use Rattle.std.proofs.Common.{◌≡◌, ℕ, List, [], ◌∷◌, get_or, All, subst, ◌∙◌, ap}
 use Rattle.std.proofs.lemmas.List.Elements.{All-weaker}
 use Rattle.odb_base.specs.Path.{Path}
@@ -39,7 +39,7 @@ module _ (hash : Kind) (id : ObjectId) (place : PackedPlace) (Shown : Path → L
           All-weaker (IsIndexShown Shown setting hash) (λ (index : SnapshotIndex). index.path ≡ index_at place → IsIndexFair hash id place index)
           index_is_fair indices shown
 
--- a view that a listing comes to has its rows
+-- the view of a published listing has its rows
 pub published_views_have_their_rows : (entries : List Entry) (shape : Shape) (number seat : ℕ) (event : Event)
     → HasRows event (answer_of entries shape number seat event)
 published_views_have_their_rows entries shape number seat (events.Publish listing) =

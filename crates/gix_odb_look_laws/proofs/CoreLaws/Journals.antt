@@ -1,4 +1,4 @@
--- Journals with one entry more at their end.
+-- Journals with one more entry at their end.
 use Rattle.std.proofs.Common.{◌≡◌, ◌<◌, ◌≤◌, ◌⊎◌, inl, inr, List, [], ◌∷◌, ◌++◌, length}
 use Rattle.std.proofs.Common.{get_or, take, slice_get, Contains, Some, sym, ap, subst, ◌∙◌, arith, length-append}
 use Rattle.std.proofs.Math.ListN.{get_or-append}
@@ -18,7 +18,7 @@ module _ (entries : List Entry) (entry : Entry) where
   abbrev grown : List Entry
   grown = entries ++ entry ∷ []
 
-  -- what holds of each entry, and of the next, holds of each of both
+  -- what holds of each entry and of the next one holds of each of the grown list
   pub each_of_grown : (P : Entry → Type 0) → ((one : Entry) → Contains entries one → P one) → P entry → (one : Entry) → Contains grown one → P one
   each_of_grown P each last one among =
       All-contains P grown one (All-push P entries entry (λ i d within. each (get_or entries i d) (All-contains_itself entries i d within)) last) among

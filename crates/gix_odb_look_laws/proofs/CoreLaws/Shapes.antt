@@ -31,7 +31,7 @@ use Rattle.gix_odb_core.specs.declared.shape.Shape.{Shape}
 
 -- ---- what is shown, and what is still to be loaded
 
--- a listed slot is one of both at most
+-- a listed slot is at most one of both
 module _ (slots : List Slot) where
   shown_or_to_be_loaded : (list : List ℕ) → length (shown_indices slots list) + length (shown_todo slots list) ≤ length list
   shown_or_to_be_loaded [] = omega arith
@@ -59,7 +59,7 @@ module _ (slots : List Slot) where
   filled_is_within place None at is = absurd (cc is)
   filled_is_within place (Some filled) at is = filled_within slots place filled at
 
--- a list names each filled slot once, so it is no longer than the slots are many
+-- a list names each filled slot once, so it is no longer than there are slots
 list_is_short : (shape : Shape) → IsShape shape → length shape.list ≤ length shape.slots
 list_is_short shape is =
     length-le_from_distinct_below shape.list (length shape.slots) is.distinct
@@ -72,9 +72,9 @@ pub shape_shows_few : (shape : Shape) → IsShape shape
     → length (shown_indices shape.slots shape.list) + length (shown_todo shape.slots shape.list) ≤ length shape.slots
 shape_shows_few shape is = omega (arith, shown_or_to_be_loaded shape.slots shape.list, list_is_short shape is)
 
--- ---- what publishing a listing comes to
+-- ---- the results of publishing a listing
 
--- What holds of each thing that it can come to holds of what it comes to. It is outdated by its base alone, and a list is only published
+-- What holds of each possible result holds of the result. A listing is outdated only by its base, and a list is only published
 -- where the state number can rise.
 pub publishing_comes_to : (P : Publishing → Type 0) (shape : Shape) (listing : Listing)
     → ((listing.base ≡ shape.list_no → ⊥) → P Outdated) → ((needed : ℕ) → P (TooFew needed)) → P Overflows

@@ -1,4 +1,4 @@
--- Where more is shown, and more is said of loose objects, all that was true, found or a cause before stays so.
+-- Where more is shown, and more is said of loose objects, all that was true, found or a cause before still is.
 use Rattle.std.proofs.Common.{ℕ, List}
 use Rattle.std.proofs.lemmas.List.Elements.{All-weaker}
 use Rattle.odb_base.specs.Path.{Path}

@@ -45,7 +45,7 @@ module _ (tree : Tree) where
     abbrev row_for : Entry → Option ListingRow
     row_for entry = row_at tree (path_of entry)
 
-    -- what is no file among the entries is none by a look
+    -- what is no file among the entries is none by its stat
     looks_otherwise : (entry : Entry) → IsListed tree packs entry → is_file entry.kind ≡ false → (told : Result Meta Refusal)
         → looked tree (path_of entry) false ≡ told → (has_pack : Bool) → row_found (path_of entry) has_pack told ≡ None
     looks_otherwise entry listed other (Err refusal) is has_pack = refl
@@ -93,7 +93,7 @@ module _ (tree : Tree) where
   -- ---- what is known of a listing
 
   module _ (folders : List Path) (total : List ListingRow) where
-    -- the rows so far, those of this part, and those of the folders ahead are all
+    -- the rows so far, those of this part, and those of the pending folders are all
     abbrev Adds : ListHead → List ListingRow → Type 0
     Adds head part = head.rows ++ (part ++ listed_in tree (drop head.next folders)) ≡ total
 

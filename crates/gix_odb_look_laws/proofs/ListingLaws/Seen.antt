@@ -30,7 +30,7 @@ module _ (Told : DiskAsk → DiskAnswer → Type 0) (folders : List Path) where
   abbrev pub AreSeen : List ListingRow → Type 0
   AreSeen rows = All (IsRowSeen Told) rows
 
-  -- the index of the row at hand was seen
+  -- the index of the present row was seen
   abbrev pub IsSeenAt : ListStage → Type 0
   IsSeenAt (stages.Pack row left) = IsIndexSeen Told row
   IsSeenAt stage = Unit {0}

@@ -60,7 +60,7 @@ module _ (directory : Path) where
   abbrev names_among : List Path → List Name
   names_among paths = filter_map (name_in directory) paths
 
-  -- a name of the first path, or of those behind it
+  -- a name of the first path, or of those after it
   first_name_or_later : (path : Path) (paths : List Path) (name : Name) → (Contains (names_among paths) name → Contains paths (directory ++ name ∷ []))
       → (own : Option Name) → name_in directory path ≡ own → Contains (cons_option own (names_among paths)) name
       → Contains (path ∷ paths) (directory ++ name ∷ [])
@@ -79,7 +79,7 @@ module _ (directory : Path) where
   name_has_path (path ∷ paths) name among =
       first_name_or_later path paths name (λ more. name_has_path paths name more) (name_in directory path) refl among
 
-  -- no name of a path is one of the paths behind it
+  -- no name of a path is one of the paths after it
   name_is_apart : (at : Path × Node) (nodes : Nodes) → T (below_all path_cmp at.0 nodes) → (name : Name) → name_in directory at.0 ≡ Some name
       → (other : Name) → Contains (names_among (paths_of nodes)) other → ¬ (name ≡ other)
   name_is_apart at nodes below name is other among same =

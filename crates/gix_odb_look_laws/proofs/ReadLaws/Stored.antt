@@ -42,7 +42,7 @@ use Rattle.gix_odb_look_laws.specs.JustRead.{IsWhy}
 use Rattle.gix_odb_look_laws.proofs.AnySearch.{any_search, any_try}
 use Rattle.gix_odb_look_laws.proofs.TrierAtHand.{OfTried}
 
--- Here `Read path answer` says that the path was read in the turn before, and answered so.
+-- Here `Read path answer` says that the path was read in the turn before, with this answer.
 module _ (Read : Path → DiskAnswer → Type 0) (hash : Kind) where
   abbrev pub IsReadBy : IndexLoader → Type 0
   IsReadBy (Storing place file) = (time : ℕ) × Read place.path (answers.File file.bytes time)
@@ -67,7 +67,7 @@ module _ (Read : Path → DiskAnswer → Type 0) (hash : Kind) where
   todo_goes goal ahead [] = tt
   todo_goes goal ahead (todo ∷ rest) = tt
 
-  -- what the search in one index comes to
+  -- what the search in one index leads to
   try_goes : (goal : Goal) (ahead : Ahead) (absent : List AbsentFile) (index : SnapshotIndex) → Goes (at_search goal ahead (tried goal absent index))
   try_goes goal ahead absent index =
       any_try Goes goal ahead (todo_goes goal ahead ahead.todo) (λ found. tt) (λ error. tt) (λ pack. tt) absent index

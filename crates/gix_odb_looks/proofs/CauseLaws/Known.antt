@@ -44,11 +44,11 @@ use Rattle.gix_odb_looks.specs.declared.look_up.Part.TheVariants as parts
 use Rattle.gix_odb_refresh.proofs.ListerLaws.Tells.{Breaks}
 use Rattle.gix_odb_looks.proofs.CauseLaws.Pasts.{Noted}
 
--- a view was handed over
+-- the core passed a view
 abbrev pub HasBegun : LookHead → Type 0
 HasBegun head = (number : ℕ) × (head.begun ≡ Some number)
 
--- behind the snapshot a list is tried only if a view showed it
+-- after the snapshot a list is tried only if a view showed it
 abbrev pub ShowedPart : LookHead → Part → Type 0
 ShowedPart head parts.Snapshot = Unit {0}
 ShowedPart head (parts.List list_no loose) = HasBegun head
@@ -61,7 +61,7 @@ pub record Counts (exchanges : List Exchange) (head : LookHead) : Type 0 where
 
 module _ (Shown : Path → List ℕ → Type 0) (setting : Setting) (hash : Kind) (id : ObjectId)
     (exchanges : List Exchange) where
-  -- Why the loose objects of a folder, or the lists of packs, refuse a look-up. Want of memory refuses none.
+  -- Why the loose objects of a folder, or the lists of packs, refuse a look-up. Running out of memory refuses none.
   abbrev pub IsListCaused : Want → Error → Type 0
   IsListCaused want (find_errors.Loose error) =
       (folder : Path) × Contains (folders_of setting) folder × HasVerdict setting want id exchanges folder (verdicts.Ends (refused error))
@@ -135,7 +135,7 @@ module _ (Shown : Path → List ℕ → Type 0) (setting : Setting) (hash : Kind
   test_tells folder among want (Err error) fails says =
       elim (fails error refl) [ inl failed ↦ failed | inr none ↦ absurd (cc none) ]
 
-  -- a look that failed is noted by its error
+  -- a stat that failed is noted by its error
   tested_failed : (path : Path) (answer : DiskAnswer) → (answer ≡ answers.Refused disk_errors.Failed → HasFailed exchanges) → (error : loose.Error)
       → tested_by path answer ≡ Err error → HasFailed exchanges ⊎ (error ≡ loose_errors.NoMemory)
   tested_failed path (answers.Refused disk_errors.Failed) fails error is = inl (fails refl)

@@ -1,4 +1,4 @@
--- A look-up's count of its own lists never comes to its end: each of them had a number of its own.
+-- A look-up's count of its own lists never reaches its limit: each of them had a number of its own.
 use Rattle.std.proofs.Common.{◌≡◌, ℕ, ◌==◌, ◌≤◌, ◌<◌, Bool, true, false, List, [], slice_get, Option, Some, None, Ok, Err}
 use Rattle.std.proofs.Common.{refl, subst, sym, arith}
 use Rattle.std.specs.Prelude.{if◌then◌else◌}
@@ -51,7 +51,7 @@ use Rattle.gix_odb_looks.specs.declared.look_up.Part.TheVariants as parts
 use Rattle.gix_odb_looks.specs.declared.look_up.Purpose.{Purpose}
 use Rattle.gix_odb_looks.specs.declared.look_up.Purpose.TheVariants as purposes
 
--- ---- the number of the list that a stage is about, where `now` is the last that was told
+-- ---- the number of the list that a stage is about, where `now` is the last that was answered
 
 abbrev of_part : (now : ℕ) → Part → ℕ
 of_part now parts.Snapshot = now
@@ -61,7 +61,7 @@ of_part now (parts.Published number) = number
 abbrev IsBelow : (own number now : ℕ) → Type 0
 IsBelow own number now = (own ≤ number) × (number ≤ now)
 
--- the look-up's own lists are no more than that number
+-- the look-up's own lists are at most that number
 abbrev pub IsOwned : (now own : ℕ) → LookStage → Type 0
 IsOwned now own (stages.Trying trier part) = IsBelow own (of_part now part) now
 IsOwned now own (stages.Loose round call) = IsBelow own (of_part now round.part) now
@@ -90,7 +90,7 @@ stage_later before now own later (stages.Refreshing (fronts.Publishing listing) 
 stage_later before now own later (stages.Checking number notes) is = (is.0, omega (arith, is.1))
 stage_later before now own later (stages.Done reply) is = tt
 
--- the number that a view tells
+-- the number that a view has
 told_number : (before : ℕ) (effect : Effect) (view : View) → view_shown effect ≡ Some view → number_by before (told.Core (Ok effect)) ≡ view.list_no
 told_number before (effects.Seen own) view is = cc is
 told_number before (effects.Reported own report) view is = cc is

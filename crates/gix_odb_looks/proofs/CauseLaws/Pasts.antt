@@ -1,4 +1,4 @@
--- What exchanges tell is told by more of them.
+-- What exchanges show, more of them show too.
 use Rattle.std.proofs.Common.{◌≡◌, ℕ, true, ◌+◌, ◌<◌, List, [], ◌∷◌, ◌++◌, Option, Some, None, refl, sym, ◌∙◌, ap, arith}
 use Rattle.std.specs.Prelude.{min}
 use Rattle.gix_odb_events.specs.View.{last_state}
@@ -7,7 +7,7 @@ use Rattle.gix_odb_packs.specs.declared.search.Notes.{Notes}
 use Rattle.gix_odb_looks.specs.Exchange.{Exchange, HasFailed, first_number, is_publish, number_or, published_in}
 use Rattle.gix_odb_looks.specs.LookUpOrder.{first_of, view_of}
 
--- a failure that is noted is told
+-- a failure that is noted is in the exchanges
 abbrev pub Noted : List Exchange → Notes → Type 0
 Noted exchanges notes = notes.failed ≡ true → HasFailed exchanges
 

@@ -1,4 +1,4 @@
--- Where a look-up stands: what it tries is wanted, what it asks is a folder of its store, and its reply is of what it wants.
+-- What holds of a look-up at each stage: what it tries is wanted, what it asks is a folder of its store, and its reply is of what it wants.
 use Rattle.std.proofs.Common.{ap, ◌≡◌, ℕ, Bool, true, false, ◌==◌, List, [], slice_get, Option, Some, None, Ok, Err, refl, sym, ◌∙◌, subst}
 use Rattle.std.specs.Prelude.{if◌then◌else◌, unwrap_or, Contains}
 use Rattle.odb_base.specs.Path.{Path}
@@ -56,7 +56,7 @@ use Rattle.gix_odb_looks.proofs.CauseLaws.Replies.{EndsWell, found_replies, not_
 use Rattle.gix_odb_looks.specs.Reply.{IsReplyTo}
 use Rattle.gix_odb_packs.proofs.TrierLaws.{Comes, Fits, failed-passes, fed-comes, seek-comes}
 
--- ---- what is so at each stage
+-- ---- what holds at each stage
 
 module _ (setting : Setting) (want : Want) (id : ObjectId) where
   -- a folder's call has just begun
@@ -71,7 +71,7 @@ module _ (setting : Setting) (want : Want) (id : ObjectId) where
   StandsAt (stages.Checking list_no notes) = Unit {0}
   StandsAt (stages.Done reply) = IsReplyTo want reply
 
--- the same of a look-up
+-- what holds of a look-up
 abbrev pub Stands : Setting → LookUp → Type 0
 Stands setting look = StandsAt setting look.head.want look.head.id look.stage
 
@@ -269,7 +269,7 @@ fed_at-head setting head (stages.Done reply) answer = (refl, refl)
 
 -- ---- a look-up of an id
 
--- it wants this of this id, and stands well
+-- it wants this of this id, and so holds what is to hold at its stage
 pub record StandsFor (setting : Setting) (want : Want) (id : ObjectId) (look : LookUp) : Type 0 where
   pub want_is : look.head.want ≡ want
   pub id_is : look.head.id ≡ id

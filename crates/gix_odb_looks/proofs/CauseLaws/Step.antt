@@ -78,7 +78,7 @@ module _ (Shown : Path → List ℕ → Type 0) (setting : Setting) (hash : Kind
   abbrev Knows : LookHead → LookStage → Type 0
   Knows head stage = KnowsAt Shown setting hash id exchanges head stage
 
-  -- the core refused an event so
+  -- the core refused an event with this refusal
   abbrev Refuses : Refusal → Type 0
   Refuses refusal = IsRefused exchanges refusal
 
@@ -209,7 +209,7 @@ module _ (Shown : Path → List ℕ → Type 0) (setting : Setting) (hash : Kind
 
   -- ---- an exchange
 
-  -- what an answer at a stage tells, where so many lists were published before it
+  -- what an answer at a stage shows, where so many lists were published before it
   pub record Answered (before : ℕ) (head : LookHead) (stage : LookStage) (answer : Answer) : Type 0 where
     pub begun : head.begun ≡ first_number exchanges
     pub own : head.own ≡ before

@@ -46,7 +46,7 @@ module _ (Shown : Path → List ℕ → Type 0) (setting : Setting) (hash : Kind
   refresh_hands (fronts.Listing lister) here = tt
   refresh_hands (fronts.Publishing listing) here = here
 
-  -- ---- behind exchanges
+  -- ---- after exchanges
 
   module _ (exchanges : List Exchange) where
     abbrev pub Knows : LookUp → Type 0
@@ -67,7 +67,7 @@ module _ (Shown : Path → List ℕ → Type 0) (setting : Setting) (hash : Kind
         (stage_known Shown setting hash id exchanges want same (seen look.head exchange.answer) look.stage exchange.ask exchange.answer
         (record { want_is = known.head.want_is; id_is = known.head.id_is }) known.stage asked.0 (truth exchange here) here)
 
-    -- what a stage hands to the core
+    -- what a stage passes to the core
     pub stage_hands : (stage : LookStage) (ask : Ask) → Stands stage → ask_at stage ≡ Some ask → IsHandedBy Shown setting hash ask
     stage_hands (stages.Trying trier part) ask here is =
         let same : tries.ask_of trier ≡ ask = cc is in

@@ -1,4 +1,4 @@
--- An index that was shown leads to something that was shown, or to a pack beside it that is still to be read.
+-- An index that was shown leads to something that was shown, or to a pack of the same name that is still to be read.
 use Rattle.std.proofs.Common.{◌≡◌, ℕ, Bool, true, List, [], ◌∷◌, map, All, Contains, slice_get, Option, Some, None, Result, Ok, Err, option_map}
 use Rattle.std.proofs.Common.{Ordering, Less, Equal, Greater, is_eq, refl, sym, subst, ap}
 use Rattle.std.specs.List.{find}

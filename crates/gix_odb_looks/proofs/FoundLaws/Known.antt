@@ -1,4 +1,4 @@
--- What is known at each stage of a look-up: of what it found, of what it is to hand to the core, and of why a pack refuses it.
+-- What is known at each stage of a look-up: of what it found, of what it is to pass to the core, and of why a pack refuses it.
 use Rattle.std.proofs.Common.{◌≡◌, ◌⊎◌, ℕ, List, All, Contains, Result, Ok, Err}
 use Rattle.odb_base.specs.Path.{Path}
 use Rattle.gix_hash.specs.declared.kind.Kind.{Kind}
@@ -79,7 +79,7 @@ module _ (Shown : Path → List ℕ → Type 0) (setting : Setting) (hash : Kind
 -- ---- packs
 
 module _ (Shown : Path → List ℕ → Type 0) (setting : Setting) (hash : Kind) (id : ObjectId) where
-  -- a pack is wanted beside an index that was shown, which gives the id the offset
+  -- a pack of the same name as an index that was shown is wanted, which gives the id the offset
   pub record IsWanted (pack : WantedPack) : Type 0 where
     pub path : Path
     pub index : IsInIndex Shown setting hash id path pack.offset

@@ -1,4 +1,4 @@
--- An entry of a pack is refused for what the entry is: that the bytes are no pack is told before one is looked for. No limit refuses a header.
+-- An entry of a pack is refused for what the entry is: that the bytes are no pack is reported before an entry is sought. No limit refuses a header.
 use Rattle.std.proofs.Common.{◌≡◌, ℕ, Bool, true, false, cond, List, Option, Result, Ok, Err, refl, sym, subst}
 use Rattle.gix_hash.specs.declared.kind.Kind.{Kind}
 use Rattle.gix_object.specs.declared.kind.Kind.{Kind as ObjectKind}

@@ -26,7 +26,7 @@ use Rattle.gix_odb_refresh.specs.Shown.{IsIndexPath, IsIndexShownAt, IsPackShown
 use Rattle.gix_odb_looks.specs.True.{IsTrue}
 use Rattle.gix_odb_refresh.proofs.ListerLaws.Lists.{find_passes}
 
--- an answer of the core that tells the truth hands over only what was shown
+-- a true answer of the core passes only what was shown
 pub views_shown : (Shown : Path → List ℕ → Type 0) (setting : Setting) (hash : Kind)
     (ask : Ask) (answer : Result Effect Refusal) → IsTrue Shown setting hash ask (told.Core answer)
     → (view : View)
@@ -84,7 +84,7 @@ module _ (Shown : Path → List ℕ → Type 0) (setting : Setting) (hash : Kind
       (among_shown place view.snapshot.indices shown.indices index)
       (among_shown place view.snapshot.kept shown.kept index) is
 
-  -- the index that is loaded behind the core's answer was shown
+  -- the index that is loaded after the core's answer was shown
   pub index_shown : (place : IndexPlace) (file : FileBytes) → IsIndexPath setting place.path → IsIndexShownAt Shown setting hash place.path file
       → (view : Option View)
       → ((own : View) → view ≡ Some own → IsShownView Shown setting hash own)
@@ -144,7 +144,7 @@ module _ (Shown : Path → List ℕ → Type 0) (setting : Setting) (hash : Kind
     or_read None file each own = own
     or_read (Some other) file each own = each other refl
 
-    -- the pack that gives the object behind the core's answer was read
+    -- the pack that gives the object after the core's answer was read
     pub pack_loaded : (file : FileBytes) → IsOwn file → (view : Option View) → ((own : View) → view ≡ Some own → IsShownView Shown setting hash own)
         → IsOwn (unwrap_or (pack_shown pack view) file)
     pack_loaded file own view views = or_read (pack_shown pack view) file (view_read view views) own

@@ -76,7 +76,7 @@ module _ (setting : Setting) where
   abbrev AnyRows : List ListingRow → Type 0
   AnyRows rows = Unit {0}
 
-  -- what is told of streams is of the listing at hand, and none is open elsewhere
+  -- what is known of streams is of the present listing, and none is open elsewhere
   abbrev pub IsOwn : Told → LookStage → Type 0
   IsOwn now stage = Stands setting AnyCall (StreamOf now) AnyRows (HasNone now) stage
 
@@ -175,7 +175,7 @@ module _ (setting : Setting) where
   stage_asks_own now (stages.Refreshing (fronts.Publishing listing) purpose notes) own ask is = same_ask (AsksOwn now) ask (asks.Core (events.Publish listing)) tt is
   stage_asks_own now (stages.Done reply) own ask is = absurd (cc is)
 
-  -- none is open behind a look-up that is done
+  -- none is open after a look-up that is done
   pub done_has_none : (now : Told) (head : LookHead) (stage : LookStage) (reply : Reply) → IsOwn now stage → result_at head stage ≡ Ok reply → HasNone now
   done_has_none now head (stages.Done other) reply own is = own
   done_has_none now head stage reply own is = absurd (cc is)

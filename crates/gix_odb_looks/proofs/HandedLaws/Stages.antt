@@ -101,11 +101,11 @@ module _ (setting : Setting) (OfCall : FolderCall → Type 0) (OfLister : Lister
   stage_asks_so (stages.Checking list_no notes) here ask is = same_ask OfAsk ask (asks.Core events.Look) tt is
   stage_asks_so (stages.Done reply) here ask is = absurd (cc is)
 
-  -- what holds of the rows that are handed to the core
+  -- what holds of the rows that are passed to the core
   pub published : (stage : LookStage) → Stands stage → (listing : Listing) → ask_at stage ≡ Some (asks.Core (events.Publish listing)) → OfRows listing.rows
   published stage here listing is = stage_asks_so stage here (asks.Core (events.Publish listing)) is
 
-  -- what is to hold behind an answer, for the next stage to stand
+  -- what is to hold after an answer, for the next stage to keep it
   abbrev pub Goes : LookStage → Answer → Type 0
   Goes (stages.Loose round call) (told.Disk answer) = Else
   Goes (stages.Refreshing (fronts.Listing lister) purpose notes) (told.Disk answer) = Steps (lists.fed setting.folders lister answer)
@@ -144,7 +144,7 @@ module _ (setting : Setting) (OfCall : FolderCall → Type 0) (OfLister : Lister
     try_stands head part view todo notes here =
         tried_stands head part (seek (goal_of setting head) (record { indices = view.snapshot.indices; todo = todo; notes = notes })) here
 
-    -- a new look-up stands
+    -- a new look-up has what is to hold
     pub start_stands : (view : View) (want : Want) (id : ObjectId) → Else → Stands (started setting view want id).stage
     start_stands view want id here =
         chosen view.read (try_view setting (new_head want id) parts.Snapshot view [] without_notes)

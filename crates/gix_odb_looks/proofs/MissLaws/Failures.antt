@@ -158,7 +158,7 @@ module _ (setting : Setting) (want : Want) where
     marred_read (purposes.First loose) view notes noted = marred_view (parts.List view.list_no loose) view notes noted
     marred_read purposes.Again view notes noted = inl noted
 
-  -- ---- what is marred stays so
+  -- ---- what is marred stays marred
 
   pub record IsLookMarred (look : LookUp) : Type 0 where
     pub own : look.head.want ≡ want

@@ -56,7 +56,7 @@ module _ (setting : Setting) (want : Want) (id : ObjectId) (exchanges : List Exc
   abbrev pub AllMissed : Type 0
   AllMissed = (folder : Path) → Contains (folders_of setting) folder → IsMissed folder
 
-  -- each folder was asked and missed, or is ahead
+  -- each folder was asked and missed, or is pending
   abbrev IsPast : (ahead : Path → Type 0) → Type 0
   IsPast ahead = (folder : Path) → Contains (folders_of setting) folder → IsMissed folder ⊎ ahead folder
 
@@ -173,7 +173,7 @@ module _ (setting : Setting) (want : Want) (id : ObjectId) (exchanges : List Exc
         (record { answer = answer; told = subst (λ (a : Ask). WasTold exchanges a (told.Disk answer)) asks_it was; is = refl })
         (verdict_is_no_miss want (asking setting.limit want id asking_it.asked) answer))
 
-    -- ---- looks at the core
+    -- ---- reads of the core's state
 
     ended_passes : (notes : Notes) → (notes.failed ≡ false → AllMissed) → (b : Bool) → notes.failed ≡ b
         → IsPassing (cond b (stages.Done (load_refused load_errors.Io)) (stages.Done (not_found head.want)))
@@ -237,7 +237,7 @@ module _ (setting : Setting) (want : Want) (id : ObjectId) (exchanges : List Exc
       record { own = own; stage = refused_passes head own (of_refusal refusal) }
   stage_passes head own (stages.Done reply) passes ask answer is was = record { own = own; stage = passes }
 
-  -- a look-up that passes the folders in order goes on so
+  -- a look-up that passes the folders in order still does
   pub look_passes_on : (look : LookUp) → IsLookPassing look → (ask : Ask) (answer : Answer) → ask_at look.stage ≡ Some ask
       → WasTold exchanges ask answer → IsLookPassing (fed setting look answer)
   look_passes_on look passing ask answer is was =

@@ -1,4 +1,4 @@
--- Listing the folders of packs while an object lies still in one of them: the rows have the place's index.
+-- Listing the folders of packs while an object stays unchanged in one of them: the rows have the place's index.
 use Rattle.std.proofs.Common.{◌≡◌, ◌⊎◌, inl, inr, ℕ, ◌++◌, List, [], ◌∷◌, slice_get, drop, Contains, Option, Some, None}
 use Rattle.std.proofs.Common.{refl, sym, ap, subst}
 use Rattle.std.proofs.lemmas.List.Elements.{All-nil, All-push, Contains-append_left, Contains-push}
@@ -107,7 +107,7 @@ module _ (hash : Kind) (id : ObjectId) (place : PackedPlace) (folders : List Pat
     abbrev FairAt : ListStage → DiskAnswer → Type 0
     FairAt stage answer = IsFair hash id place past (part_asks.Disk (ask_at head.folder stage)) (told.Disk answer)
 
-    -- the stream behind the answer
+    -- the stream after the answer
     abbrev stream_then : ListStage → DiskAnswer → Option Stream
     stream_then stage answer = stream_by (stream_in past) (part_asks.Disk (ask_at head.folder stage)) (told.Disk answer)
 

@@ -1,4 +1,4 @@
--- Elements of lists: the first or a later one, and the rest behind a place.
+-- Elements of lists: the first or a later one, and the rest after a place.
 use Rattle.std.proofs.Common.{◌≡◌, ◌⊎◌, ℕ, zero, suc, ◌+◌, List, [], ◌∷◌, drop, slice_get, Contains, Some, None}
 use Rattle.std.proofs.Common.{refl, subst, arith}
 use Rattle.std.proofs.lemmas.Option.{slice_get_within, get_or_from_slice_get}
@@ -13,7 +13,7 @@ later_in x xs y (k, within, is) = (suc k, omega (arith, within), is)
 pub found_at : {A : Type 0} (xs : List A) (n : ℕ) (x : A) → slice_get xs n ≡ Some x → Contains xs x
 found_at xs n x e = (n, slice_get_within xs n x e, get_or_from_slice_get xs n x x e)
 
--- ---- the rest behind a place
+-- ---- the rest after a place
 
 pub drop_none : {A : Type 0} (xs : List A) → drop 0 xs ≡ xs
 drop_none [] = refl
@@ -30,7 +30,7 @@ none_ahead [] (suc n) e = refl
 none_ahead (y ∷ ys) zero e = absurd (cc e)
 none_ahead (y ∷ ys) (suc n) e = none_ahead ys n e
 
--- what is ahead of a place is there, or behind it
+-- what is left from a place on is there, or after it
 pub here_or_behind : {A : Type 0} (xs : List A) (n : ℕ) (x y : A) → slice_get xs n ≡ Some x → Contains (drop n xs) y → (x ≡ y) ⊎ Contains (drop (n + 1) xs) y
 here_or_behind {A = A} xs n x y e ahead = first_or_later x (drop (n + 1) xs) y (subst (λ (rest : List A). Contains rest y) (drop_here xs n x e) ahead)
 

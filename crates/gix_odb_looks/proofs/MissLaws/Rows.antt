@@ -1,4 +1,4 @@
--- What a listing makes of entries and rows keeps each of them: an index among entries has its path, and a row its place among the ordered ones.
+-- How a listing uses entries and rows keeps each of them: an index among entries has its path, and a row its place among the ordered ones.
 use Rattle.std.proofs.Common.{◌≡◌, ◌⊎◌, inl, inr, ◌++◌, ◌||◌, Bool, true, false, cond, nat_lt, List, [], ◌∷◌, map, Contains}
 use Rattle.std.proofs.Common.{refl, sym, ap, ◌∙◌, subst}
 use Rattle.std.specs.Cmp.Lexicographic.{bytes_decides}
@@ -95,7 +95,7 @@ module _ (name : Name) where
   later_file : (entry : Entry) (entries : List Entry) → HasFile entries → HasFile (entry ∷ entries)
   later_file entry entries has = (has.0, later_in entry entries has.0 has.1, has.2, has.3)
 
-  -- behind an entry of another name
+  -- after an entry of another name
   module _ (entry : Entry) (rest : List Entry) (names : List Name) (other : same_name entry.name name ≡ false) where
     later_of_name : HasName (entry ∷ rest) → HasName rest
     later_of_name has =

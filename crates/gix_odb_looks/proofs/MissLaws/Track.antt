@@ -1,4 +1,4 @@
--- A look-up for an object that lies still in a pack stays on its track: what it knows leads to the object's index.
+-- A look-up for an object that stays unchanged in a pack stays on its track: what it knows leads to the object's index.
 use Rattle.std.proofs.Common.{◌≡◌, ◌⊎◌, inl, inr, ℕ, Bool, true, false, cond, List, [], ◌∷◌, ◌++◌, slice_get, unwrap_or, Contains, Option, Some, None}
 use Rattle.std.proofs.Common.{Ok, Err}
 use Rattle.std.proofs.Common.{refl, sym, ◌∙◌, subst}
@@ -195,7 +195,7 @@ module _ (setting : Setting) (hash : Kind) (want : Want) (id : ObjectId) (of_has
       listed_goes listed.Broken on =
           record { own = own; stage = refused_is_no_miss want (call_errors.Find (find_errors.LoadIndex load_errors.Io)) }
 
-  -- the view that a publish hands over has the index, loaded or still to be loaded
+  -- the view that a publish passes has the index, loaded or still to be loaded
   view_goes : (stream : Option Stream) (head : LookHead) → IsFor head → (listing : Listing) → RowThere listing.rows → (notes : Notes) → notes.absent ≡ []
       → (view : View) → IsViewFair hash id place view
       → ((row : ListingRow) → Contains listing.rows row → (slot : ℕ) × IsListed view slot row)

@@ -1,4 +1,4 @@
--- Trying indices among which is that of a place that an object lies at: with fair answers the try never comes to a miss.
+-- Trying indices among which is that of a place that an object lies at: with fair answers the try never misses.
 use Rattle.std.proofs.Common.{◌≡◌, inl, inr, ℕ, Bool, true, false, cond, List, [], ◌∷◌, Some, unwrap_or, Result, Ok, Err, refl, sym, ap, ◌∙◌, subst}
 use Rattle.std.specs.List.{All}
 use Rattle.std.proofs.lemmas.Bool.{cond-true}
@@ -107,7 +107,7 @@ module _ (hash : Kind) (id : ObjectId) (place : PackedPlace) where
         (is, own_leads at bytes is gives)
     read_goes at answer is fair = absurd (fair.0 is)
 
-    -- an index at hand stays so, or is loaded
+    -- an index that is loading still is, or is loaded
     loader_goes : (loader : IndexLoader) → AtHand loader → (answer : Answer) → IsFair hash id place past (load.ask_of loader) answer
         → IsKept hash id (index_at place) (load.fed hash loader answer)
     loader_goes (loaders.Reading at) here (told.Disk answer) fair = read_goes at answer here fair
@@ -156,6 +156,6 @@ module _ (hash : Kind) (id : ObjectId) (place : PackedPlace) where
       answer_goes (stages.PassingPack wanted) way (told.Core (Ok effect)) fair = passed_goes hash id (index_at place) goal own ahead able wanted way
       answer_goes (stages.PassingPack wanted) way (told.Core (Err refusal)) fair = tt
 
-    -- a try that is on its way stays so, and comes to no miss
+    -- a try that is on its way still is, and doesn't miss
     pub try_goes : (trier : Trier) → IsTracked hash id (index_at place) trier → (answer : Answer) → FairAt trier.stage answer → NoMiss (fed trier answer)
     try_goes trier tracked answer fair = answer_goes trier.goal tracked.of_id trier.ahead tracked.searchable trier.stage tracked.way answer fair

@@ -63,7 +63,7 @@ module _ (disk : Volume) (dir : ℕ) (coming : List Entry) (stream : IsOpenStrea
       by true = stream.gives
       by false = still_after (tree_of disk.state) disk.streams dir coming stream.gives ask other
 
-  -- and so does whatever changes the state alone
+  -- as does whatever changes only the state
   pub stream_is_kept_by_another_state : (state : State) → IsOpenStream (record disk { state = state }) dir coming
   stream_is_kept_by_another_state state = record { gives = stream.gives }
 

@@ -1,4 +1,4 @@
--- Laws of a stream of a directory: it gives what the directory listed when it was opened, each entry once, whatever becomes of
+-- Laws of a stream of a directory: it gives what the directory listed when it was opened, each entry once, whatever happens to
 -- the tree.
 use Rattle.std.proofs.Common.{◌≡◌, ℕ, ◌≤◌, false, List, [], ◌∷◌, ◌++◌, length, map, Contains, Some, Ok}
 use Rattle.std.proofs.Common.{refl, sym, ap, ◌∙◌, subst, append_assoc, append-nil, length-append, arith}
@@ -45,7 +45,7 @@ entry_is_told_by_its_name tree folder entry other is twin named =
     let node : here.node ≡ there.node = cc both in
     here.is ∙ (ap (entry_of here.node) named ∙ (ap (λ n. entry_of n other.name) node ∙ sym there.is))
 
--- what a look finds under a name of a folder that opens, where no link in the last place is followed, is listed
+-- what a stat finds under a name of a folder that opens, where no link in the last place is followed, is listed
 pub looked_name_is_listed : (tree : Tree) (folder : Path) (entries : List Entry) (name : Name) (meta : Meta) → opened tree folder ≡ Ok entries
     → looked tree (folder ++ name ∷ []) false ≡ Ok meta → IsListed tree folder (entry_from name meta)
 looked_name_is_listed tree folder entries name meta opens is =
@@ -112,7 +112,7 @@ module _ (tree : Tree) (folder : Path) (disk : Volume) (dir : ℕ) (given coming
 
   -- ---- what it has given, and gives next
 
-  -- no more entries than the directory had names when it was opened
+  -- at most as many entries as the directory had names when it was opened
   pub stream_gives_few_entries : (names : List Name) → listed tree folder ≡ Ok names → length given ≤ length names
   stream_gives_few_entries names is =
       let same : map (λ (entry : Entry). entry.name) (given ++ coming) ≡ names = cc (entries_are_of_the_names tree folder (given ++ coming) stream.fixed, is) in

@@ -1,4 +1,4 @@
--- The entries of a directory: one for each of its names, of the node that stands under it.
+-- The entries of a directory: one for each of its names, of the node that lies under it.
 use Rattle.std.proofs.Common.{◌≡◌, Bool, true, false, cond, List, [], ◌∷◌, ◌++◌, map, All, Contains, Option, Some, None, Ok}
 use Rattle.std.proofs.Common.{Result, Err, T, refl, sym, ap, ◌∙◌, subst, arith}
 use Rattle.std.specs.FinMap.{find, is_sorted}

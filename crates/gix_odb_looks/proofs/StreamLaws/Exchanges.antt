@@ -22,9 +22,9 @@ use Rattle.gix_odb_looks.proofs.StreamLaws.Directories.{name_is_given_before_the
 use Rattle.gix_odb_looks.proofs.StreamLaws.Directories.{stream_gives_few_entries, stream_of_a_directory_goes_on}
 use Rattle.gix_odb_looks.specs.OpenStream.{IsStreamOf, ListsFile, given_by}
 
--- ---- the stream that exchanges tell of
+-- ---- the stream that exchanges show
 
--- behind an answer to a call for the next entry
+-- after an answer to a call for the next entry
 pub reads-given : (folder : Path) (dir : ℕ) (given : List Entry) (answer : DiskAnswer)
     → reads (Some (record { folder = folder; dir = dir; entries = given })) answer ≡ Some (record { folder = folder; dir = dir; entries = given_by given answer })
 reads-given folder dir given (answers.Entry entry) = refl
@@ -37,7 +37,7 @@ reads-given folder dir given answers.Done = refl
 
 -- ---- its next answer
 
--- the next answer of the stream that is open is fair, if its directory listed the index as a file when it was opened
+-- the next answer of the open stream is fair, if its directory listed the index as a file when it was opened
 module _ (hash : Kind) (id : ObjectId) (place : PackedPlace)
     (tree : Tree) (disk : Volume) (stream : Stream) (coming : List Entry) (streams : IsStreamOf tree stream.folder disk stream.dir stream.entries coming)
     (lists : stream.folder ≡ pack_folder place.folder → ListsFile tree stream.folder place.name) where
@@ -58,7 +58,7 @@ module _ (hash : Kind) (id : ObjectId) (place : PackedPlace)
 
 -- ---- how many entries it has given
 
--- it gives no more entries than the directory had names when it was opened
+-- it gives at most as many entries as the directory had names when it was opened
 pub stream_is_within_the_names : (tree : Tree) (disk : Volume) (stream : Stream) (coming : List Entry) (names : List Name)
     → IsStreamOf tree stream.folder disk stream.dir stream.entries coming → listed tree stream.folder ≡ Ok names
     → HasAtMost (length names)

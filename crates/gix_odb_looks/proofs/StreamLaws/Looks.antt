@@ -1,4 +1,4 @@
--- A look at a name in a folder, no link in the last place followed: it tells of the node that the folder's directory has under it.
+-- The stat of a name in a folder, no link in the last place followed: it describes the node that the folder's directory has under it.
 use Rattle.std.proofs.Common.{◌≡◌, ℕ, zero, suc, true, false, [], ◌∷◌, ◌++◌, Option, Some, None, Result, Ok, Err}
 use Rattle.std.proofs.Common.{refl, sym, ap, ◌∙◌, subst, append_assoc}
 use Rattle.odb_base.specs.Path.{Name, Path}
@@ -14,7 +14,7 @@ use Rattle.odb_nodes.specs.declared.node.Content.TheVariants.{File, Dir, Link}
 use Rattle.odb_nodes.specs.declared.node.Node.{Node}
 
 module _ (tree : Tree) (name : Name) where
-  -- what a directory at a path says of one name more
+  -- what a directory at a path says of one more name
   abbrev next : Path → Pass
   next path = ending false (path ++ name ∷ []) (node_at tree (path ++ name ∷ []))
 
@@ -24,7 +24,7 @@ module _ (tree : Tree) (name : Name) where
   inside Dir further = further
   inside (Link target) further = Blocked
 
-  -- what a pass along a path says of one name more
+  -- what a pass along a path says of one more name
   abbrev by_name : Pass → Pass
   by_name (Reached path node) = inside node.content (next path)
   by_name (Onward path) = Onward (path ++ name ∷ [])
@@ -90,9 +90,9 @@ module _ (tree : Tree) (name : Name) where
         ap (arrives (followed_within links tree false)) (pass_by [] folder)
         ∙ by_arrives (followed_within links tree false) (followed_within links tree true) (name_leads links) (pass tree true [] folder) is
 
--- ---- what the look tells
+-- ---- what the stat shows
 
--- a node is looked at
+-- a node is statted
 pub record IsLookedAt (tree : Tree) (path : Path) (meta : Meta) : Type 0 where
   pub node : Node
   pub at : node_at tree path ≡ Some node
@@ -110,7 +110,7 @@ name_is_looked_at tree folder name place meta leads directory is =
     let below = place.path ++ name ∷ [] in
     looked_at tree below meta (node_at tree below) refl (sym (ap meta_of_place (name_leads tree name place directory most_links folder leads)) ∙ is)
 
--- the entry of a node has the kind and the inode number that a look tells
+-- the entry of a node has the kind and the inode number of its stat
 entry_of-content : (dev ino : ℕ) (name : Name) (content : Content)
     → record { name = name; kind = kind_of content; ino = ino } ≡ entry_from name (meta_with dev ino content)
 entry_of-content dev ino name (File bytes time) = refl

@@ -25,7 +25,7 @@ at_most_greatest : (streams : Streams) (n : ℕ) → is_open streams n ≡ true 
 at_most_greatest streams n is =
     fold_max-le 0 (finite.keys streams.open_dirs) n (sym (tied_numbers (finite.keys streams.open_dirs) n) ∙ sym (contains_key-keys streams.open_dirs n) ∙ is)
 
--- what is found passes the test, and so does the default
+-- what is found passes the test, as does the default
 found_passes : (test : ℕ → Bool) (default : ℕ) → test default ≡ true → (ns : List ℕ) → test (unwrap_or (find test ns) default) ≡ true
 found_passes test default passes [] = passes
 found_passes test default passes (n ∷ ns) =

@@ -1,4 +1,4 @@
--- What is left behind a look at the core, and behind a publish.
+-- What is left after a read of the core's state, and after a publish.
 use Rattle.std.proofs.Common.{Option, ◌≡◌, ◌≢◌, ℕ, suc, ◌+◌, ◌-◌, ◌≤◌, ◌<◌, Bool, true, false, ◌==◌, nat_lt, cond, length, Some, unwrap_or, Ok, refl, arith}
 use Rattle.std.proofs.lemmas.Bool.{eqb-false, ltb-false}
 use Rattle.gix_odb_events.specs.declared.listing.Listing.{Listing}
@@ -27,11 +27,11 @@ use Rattle.gix_odb_looks.proofs.TurnLaws.TurnsLeft.{Bounds, HasFirst, HasFurther
 use Rattle.gix_odb_looks.proofs.TurnLaws.LapsLeft.{IsFurther-begun, IsFurther-counted, IsFurther-later, IsFurther-on, IsFurther-published}
 use Rattle.gix_odb_looks.proofs.TurnLaws.PartTurns.{listing_left, view_left}
 
--- the head behind a view
+-- the head after a view
 abbrev shown : LookHead → View → LookHead
 shown head view = record head { begun = first_of head.begun (Some view) }
 
--- an answer that hands over a view
+-- an answer that passes a view
 abbrev seeing : View → Answer
 seeing view = told.Core (Ok (effects.Seen view))
 
@@ -39,7 +39,7 @@ abbrev lists_of_others : LookHead → (now : ℕ) → ℕ
 lists_of_others head now = now - unwrap_or head.begun now - head.own
 
 module _ (bounds : Bounds) where
-  -- ---- a look
+  -- ---- a read of the core's state
 
   ended_left : (head : LookHead) (failed : Bool) (one other : Reply) (before : ℕ) (stream : Option Stream) (turns : ℕ)
       → HasLeft bounds head (cond failed (stages.Done one) (stages.Done other)) before stream turns
@@ -59,7 +59,7 @@ module _ (bounds : Bounds) where
       → HasLeft bounds head (counted bounds.setting head now next) before stream turns
   counted_left head now before stream turns next goes = settled_left head now before stream turns next (is_unsettled bounds.setting head now) refl goes
 
-  -- what comes behind a list of the core, which was read before or not
+  -- what follows a list of the core, which was read before or not
   abbrev Shows : LookHead → Purpose → (read : Bool) → (stream : Option Stream) (turns : ℕ) → View → Notes → Type 0
   Shows head purpose read stream turns view notes =
       LookHasLeft bounds

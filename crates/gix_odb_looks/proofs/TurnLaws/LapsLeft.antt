@@ -1,4 +1,4 @@
--- How many laps a look-up has left: each begins behind a count of the lists that others published, which is then greater than before.
+-- How many laps a look-up has left: each begins after a count of the lists that others published, which is then greater than before.
 use Rattle.std.proofs.Common.{◌≡◌, ℕ, ◌+◌, ◌-◌, ◌*◌, ◌≤◌, ◌<◌, min, Option, Some, None, unwrap_or, Ok, Err, refl, subst, arith}
 use Rattle.std.proofs.Math.Nat.{mul-le-mul_right}
 use Rattle.gix_odb_events.specs.View.{last_state}
@@ -50,13 +50,13 @@ first_is_below before begun (told.Core (Ok (effects.Outdated number))) below lat
 one_lap : (fewer laps lap : ℕ) → fewer + 1 ≤ laps → lap + fewer * lap ≤ laps * lap
 one_lap fewer laps lap less = let more : (fewer + 1) * lap ≤ laps * lap = mul-le-mul_right lap less in omega (arith, more)
 
--- the first lap: so many turns, and one lap more than changes that may be met, are left
+-- the first lap: so many turns, and one more lap than changes that may be met, are left
 pub record IsFirst (most lap : ℕ) (head : LookHead) (before room turns : ℕ) : Type 0 where
   pub own : head.own ≡ 0
   pub begun : unwrap_or head.begun 0 ≤ before
   pub enough : room + (most + 1) * lap ≤ turns
 
--- A further lap: behind a list of a number, so many turns and so many laps are left. The lists of others up to it are those behind the
+-- Another lap: after a list of a number, so many turns and so many laps are left. The lists of others up to it are those after the
 -- first one that are not the look-up's own.
 pub record IsFurther (most lap : ℕ) (head : LookHead) (number before room turns : ℕ) : Type 0 where
   pub begun : ℕ
@@ -82,11 +82,11 @@ below_top own number top low high = omega arith
 module _ {most lap : ℕ} {head : LookHead} {before room turns less left : ℕ} where
   -- ---- the first lap
 
-  -- fewer turns are wanted of the first lap
+  -- fewer turns are needed of the first lap
   pub IsFirst-less : IsFirst most lap head before room turns → less + turns ≤ room + left → IsFirst most lap head before less left
   IsFirst-less first spent = record { own = first.own; begun = first.begun; enough = omega (arith, first.enough) }
 
-  -- the same behind an answer
+  -- it is still the first lap after an answer
   pub IsFirst-on : (answer : Answer) → IsFirst most lap head before room turns → before ≤ number_by before answer → less + turns ≤ room + left
       → IsFirst most lap (seen head answer) (number_by before answer) less left
   IsFirst-on answer first later spent =
@@ -96,7 +96,7 @@ module _ {most lap : ℕ} {head : LookHead} {before room turns less left : ℕ} 
         enough = omega (arith, first.enough);
       }
 
-  -- the core's list is had, and behind it come as many laps as changes may be met, and one
+  -- the core's list is known, and after it come as many laps as changes may be met, and one
   pub IsFurther-begun : (view : View) → IsFirst most lap head before room turns → before ≤ view.list_no → less + turns ≤ room + lap + left
       → IsFurther most lap (record head { begun = first_of head.begun (Some view) }) view.list_no view.list_no less left
   IsFurther-begun view first later spent =
@@ -112,9 +112,9 @@ module _ {most lap : ℕ} {head : LookHead} {before room turns less left : ℕ} 
       }
 
 module _ {most lap : ℕ} {head : LookHead} {number before room turns less left : ℕ} where
-  -- ---- further laps
+  -- ---- other laps
 
-  -- fewer turns are wanted of a further lap
+  -- fewer turns are needed of another lap
   pub IsFurther-less : IsFurther most lap head number before room turns → less + turns ≤ room + left → IsFurther most lap head number before less left
   IsFurther-less further spent =
       record {
@@ -127,7 +127,7 @@ module _ {most lap : ℕ} {head : LookHead} {number before room turns less left 
         enough = omega (arith, further.enough);
       }
 
-  -- the same behind an answer
+  -- it is still that lap after an answer
   pub IsFurther-on : (answer : Answer) (now : ℕ) → IsFurther most lap head number before room turns → before ≤ now → less + turns ≤ room + left
       → IsFurther most lap (seen head answer) number now less left
   IsFurther-on answer now further later spent =
@@ -170,7 +170,7 @@ module _ {most lap : ℕ} {head : LookHead} {number before room turns less left 
         enough = omega (arith, further.enough);
       }
 
-  -- the look-up goes on behind a count of the lists of others: one lap less is left
+  -- the look-up goes on after a count of the lists of others: one lap less is left
   pub IsFurther-counted : (now : ℕ) → IsFurther most lap head number before room turns → number < now → now - unwrap_or head.begun now - head.own ≤ most
       → less + turns ≤ room + lap + left
       → IsFurther most lap head now now less left

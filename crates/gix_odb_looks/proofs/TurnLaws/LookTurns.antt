@@ -30,7 +30,7 @@ use Rattle.gix_odb_refresh.proofs.ListerLaws.Turns.{ListsFor, fed_lists, lister_
 use Rattle.gix_odb_looks.proofs.TurnLaws.PartTurns.{tried_left, verdict_left}
 use Rattle.gix_odb_looks.proofs.TurnLaws.TrierTurns.{fed_tries}
 
--- what is told of lists, and of streams behind one that is open
+-- what is known of lists, and of streams after an open one
 abbrev pub IsTold : (slots entries before : ℕ) (stream : Option Stream) → Option Ask → Answer → Type 0
 IsTold slots entries before stream None answer = ⊥
 IsTold slots entries before stream (Some ask) answer = IsNumbered slots before ask answer × IsAnswerTo ask answer × HasAtMost entries (stream_by stream ask answer)

@@ -23,7 +23,7 @@ use Rattle.gix_odb_looks.proofs.TurnLaws.TurnsLeft.{Bounds, HasFurther, HasLeft,
 use Rattle.gix_odb_looks.proofs.TurnLaws.LapsLeft.{IsFirst-less, IsFurther-less}
 
 module _ (bounds : Bounds) where
-  -- ---- what comes behind a list
+  -- ---- what follows a list
 
   pub listing_left : (head : LookHead) (base before : ℕ) (stream : Option Stream) (turns : ℕ) (notes : Notes)
       → HasFurther bounds head base before bounds.lap turns
@@ -58,7 +58,7 @@ module _ (bounds : Bounds) where
   tried_left head part before stream turns room (tried.Bad error) few has = tt
   tried_left head part before stream turns room (tried.Broken refusal) few has = tt
 
-  -- a list is tried in four turns an index
+  -- a list is tried in four turns per index
   pub view_left : (head : LookHead) (part : Part) (before : ℕ) (stream : Option Stream) (turns : ℕ) (view : View) (todo : List Todo) (notes : Notes)
       → length view.snapshot.indices + length todo ≤ bounds.slots
       → OfPart bounds head part before (trying bounds) turns

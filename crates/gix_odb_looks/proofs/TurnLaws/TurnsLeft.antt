@@ -18,11 +18,11 @@ use Rattle.gix_odb_looks.specs.declared.look_up.Purpose.TheVariants as purposes
 use Rattle.gix_odb_looks.proofs.TurnLaws.LapsLeft.{IsFirst, IsFurther, IsFirst-less, IsFirst-on, IsFurther-less, IsFurther-on}
 use Rattle.gix_odb_refresh.proofs.ListerLaws.Turns.{IsCounted, folder_turns, further, lister_turns}
 
--- the turns behind a listing: the publish, the list, the loose folders, and a look
+-- the turns after a listing: the publish, the list, the loose folders, and a read of the core's state
 abbrev pub settling_turns : (slots folders : ℕ) → ℕ
 settling_turns slots folders = 4 * slots + folders + 3
 
--- a look-up is made in a setting, over so many slots, and no stream gives more entries than so many: a lap has room for a listing and what is behind it
+-- a look-up is made in a setting, over so many slots, and no stream gives more entries than so many: a lap has room for a listing and what follows it
 pub record Bounds : Type 0 where
   pub setting : Setting
   pub slots : ℕ
@@ -37,7 +37,7 @@ module _ (bounds : Bounds) where
   abbrev pub settling : ℕ
   settling = settling_turns bounds.slots folders
 
-  -- a list and the loose folders behind it
+  -- a list and the loose folders after it
   abbrev pub trying : ℕ
   trying = 4 * bounds.slots + folders + 1
 
@@ -49,8 +49,8 @@ module _ (bounds : Bounds) where
   abbrev pub HasFurther : LookHead → (number before room turns : ℕ) → Type 0
   HasFurther head number before room turns = IsFurther bounds.setting.most bounds.lap head number before room turns
 
-  -- Where a list is tried or the loose folders behind it are asked, for which there are so many turns. Behind the snapshot come a look and
-  -- the core's list with its loose folders; behind the core's list a lap; behind a published list a look.
+  -- Where a list is tried or the loose folders after it are asked, for which there are so many turns. After the snapshot come a read of the core's
+  -- state and the core's list with its loose folders; after the core's list a lap; after a published list a read of the core's state.
   abbrev pub OfPart : LookHead → Part → (before room turns : ℕ) → Type 0
   OfPart head parts.Snapshot before room turns = HasFirst head before (room + (trying + 1)) turns
   OfPart head (parts.List number loose) before room turns = HasFurther head number before (room + bounds.lap) turns
@@ -60,7 +60,7 @@ module _ (bounds : Bounds) where
   OfPurpose head (purposes.First loose) before turns = HasFirst head before (trying + 1) turns
   OfPurpose head purposes.Again before turns = HasFurther head before before (bounds.lap + 1) turns
 
-  -- A look-up that goes on has at most so many turns left. The last number of a list that it was told is `before`, and the stream that it
+  -- A look-up that goes on has at most so many turns left. The last number of a list that it got is `before`, and the stream that it
   -- reads gave `count` entries.
   abbrev pub HasLeft : LookHead → LookStage → (before : ℕ) (stream : Option Stream) (turns : ℕ) → Type 0
   HasLeft head (stages.Trying trier part) before stream turns = OfPart head part before (trier_turns trier + folders + 1) turns
@@ -98,7 +98,7 @@ module _ (bounds : Bounds) where
   HasLeft-pos head (stages.Checking number notes) before stream turns has on = omega (arith, has.enough)
   HasLeft-pos head (stages.Done reply) before stream turns has on = absurd (on reply refl)
 
-  -- ---- fewer turns are wanted, behind an answer or not
+  -- ---- fewer turns are needed, after an answer or not
 
   pub OfPart-on : (head : LookHead) (part : Part) (before room turns less left : ℕ) (answer : Answer) → OfPart head part before room turns
       → before ≤ number_by before answer

@@ -14,7 +14,7 @@ use Rattle.gix_odb_looks.specs.LookUpOrder.Replies.{load_refused, ended}
 abbrev pub is_unsettled : Setting → LookHead → (now : ℕ) → Bool
 is_unsettled setting head now = nat_lt setting.most (now - unwrap_or head.begun now - head.own)
 
--- the look-up ends, and tells at which list it began, how many it published itself, and which is the newest
+-- the look-up ends, and reports at which list it began, how many it published itself, and which is the newest
 abbrev pub unsettled : LookHead → (now : ℕ) → LookStage
 unsettled head now = stages.Done (load_refused (load_errors.Unsettled (unwrap_or head.begun now) head.own now))
 
@@ -27,7 +27,7 @@ abbrev pub by_check : Setting → LookHead → (list_no : ℕ) → View → Note
 by_check setting head list_no view notes =
     if view.list_no == list_no then ended head.want notes else counted setting head view.list_no (listing_from setting view.list_no notes)
 
--- a look at the core that is for this
+-- the core's state was read for this
 abbrev pub by_checked : Setting → LookHead → (list_no : ℕ) → Notes → Option View → LookStage
 by_checked setting head list_no notes None = stages.Checking list_no notes
 by_checked setting head list_no notes (Some view) = by_check setting head list_no view notes

@@ -19,12 +19,12 @@ use Rattle.gix_odb_looks.specs.LookUpOrder.Replies.{load_refused}
 use Rattle.gix_odb_looks.specs.LookUpOrder.Trying.{try_view}
 use Rattle.gix_odb_looks.specs.LookUpOrder.Checking.{counted}
 
--- the core has a list that was read before: the first one is tried; behind one that came too late the folders are listed again
+-- the core has a list that was read before: the first one is tried; after one that came too late the folders are listed again
 abbrev pub by_read : Setting → LookHead → Purpose → View → Notes → LookStage
 by_read setting head (purposes.First loose) view notes = try_view setting head (parts.List view.list_no loose) view view.todo notes
 by_read setting head purposes.Again view notes = listing_from setting view.list_no notes
 
--- one list more is the call's own
+-- one more list is the call's own
 abbrev pub with_own : LookHead → LookHead
 with_own head = record head { own = min (head.own + 1) last_state }
 
@@ -43,7 +43,7 @@ by_current setting head view own notes = record {
   stage = try_view setting (own_by head own) (parts.Published view.list_no) view view.todo (without_absent notes);
 }
 
--- Behind a step of a refresh: the next one; a list to be tried; or why there is none. Another list that was published since the core was
+-- After a step of a refresh: the next one; a list to be tried; or why there is none. Another list that was published since the core was
 -- read is counted, and the core is read again.
 abbrev pub by_refresh : Setting → LookHead → Purpose → Notes → RefreshStep → LookUp
 by_refresh setting head purpose notes (steps.More refresh) = record { head = head; stage = stages.Refreshing refresh purpose notes }

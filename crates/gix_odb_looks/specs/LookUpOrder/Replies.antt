@@ -37,6 +37,6 @@ abbrev pub not_found : Want → Reply
 not_found Presence = replies.Tested false
 not_found want = replies.NotFound
 
--- where nothing was found: an index that couldn't be read, or a folder that couldn't be looked into, is told
+-- where nothing was found: an index that couldn't be read, or a folder that couldn't be searched, is reported
 abbrev pub ended : Want → Notes → LookStage
 ended want notes = if notes.failed then stages.Done (load_refused load_errors.Io) else stages.Done (not_found want)

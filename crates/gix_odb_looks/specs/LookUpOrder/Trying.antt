@@ -27,14 +27,14 @@ use Rattle.gix_odb_looks.specs.LookUpOrder.Replies.{load_refused, find_error, re
 abbrev pub goal_of : Setting → LookHead → Goal
 goal_of setting head = record { id = head.id; want = head.want; limit = setting.limit }
 
--- behind the indices of a list come the loose folders, but not behind the core's list where the snapshot was tried before it; then the folders of packs are listed
+-- after the indices of a list come the loose folders, but not after the core's list where the snapshot was tried before it; then comes a listing
 abbrev pub after_list : Setting → LookHead → Part → Notes → LookStage
 after_list setting head parts.Snapshot notes = loose_from setting head parts.Snapshot notes
 after_list setting head (parts.List list_no true) notes = loose_from setting head (parts.List list_no true) notes
 after_list setting head (parts.List list_no false) notes = listing_from setting list_no notes
 after_list setting head (parts.Published list_no) notes = loose_from setting head (parts.Published list_no) notes
 
--- behind a step of trying: the next one; what was found; the loose folders, or a listing, where nothing was; or why it ended
+-- after a step of trying: the next one; what was found; the loose folders, or a listing, where nothing was; or why it ended
 abbrev pub by_tried : Setting → LookHead → Part → Tried → LookStage
 by_tried setting head part (tried.More trier) = stages.Trying trier part
 by_tried setting head part (tried.Hit found) = stages.Done (reply_found found)
@@ -47,6 +47,6 @@ abbrev pub try_view : Setting → LookHead → Part → View → List Todo → N
 try_view setting head part view todo notes =
     by_tried setting head part (seek (goal_of setting head) (record { indices = view.snapshot.indices; todo = todo; notes = notes }))
 
--- trying behind an answer
+-- trying after an answer
 abbrev pub trier_fed : Trier → Answer → Tried
 trier_fed = tries.fed

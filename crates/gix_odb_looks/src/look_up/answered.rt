@@ -1,4 +1,4 @@
-//! What comes behind an answer to a look-up.
+//! What follows an answer to a look-up.
 ghost use Rattle.std.specs.Prelude.{◌≡◌, IfOk};
 ghost use Rattle.gix_odb_looks.specs.LookUpOrder.{setting_of};
 ghost use Rattle.gix_odb_looks.specs.LookUpOrder as order;
@@ -12,7 +12,7 @@ use gix_odb_events::Answer;
 use odb_base::NoMemory;
 use std::alloc::Global;
 
-/// What comes behind an answer at a stage.
+/// Returns the look-up after an answer at a stage.
 pub(super) fn fed(
     alloc: Global,
     setting: &Setting<'_>,

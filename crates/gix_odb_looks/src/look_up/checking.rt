@@ -12,7 +12,7 @@ use gix_odb_packs::Notes;
 use odb_base::NoMemory;
 use std::alloc::Global;
 
-/// What comes behind an answer to a look at the core. One of the disk leaves the stage.
+/// Returns the stage after the core's state was read. An answer of the disk leaves the stage unchanged.
 pub(super) fn checked(
     alloc: Global,
     setting: &Setting<'_>,
@@ -36,7 +36,7 @@ pub(super) fn checked(
     }
 }
 
-/// What comes behind a look at the core that showed something.
+/// Returns the stage after the core's state was read and shown.
 fn by_checked(
     alloc: Global,
     setting: &Setting<'_>,
@@ -73,7 +73,7 @@ fn by_check(
     }
 }
 
-/// Whether others published more lists since the look-up's first event than it may meet.
+/// Returns whether others published more lists since the look-up's first event than it may meet.
 pub(super) fn is_unsettled(setting: &Setting<'_>, head: LookHead, now: u64) -> bool
     ensures unsettled { result ≡ order.is_unsettled (setting_of setting.now) head now }
 {
@@ -81,7 +81,7 @@ pub(super) fn is_unsettled(setting: &Setting<'_>, head: LookHead, now: u64) -> b
     now.saturating_sub(begun).saturating_sub(head.own) > u64::from(setting.max_changes)
 }
 
-/// The end of a look-up that met too many lists of others.
+/// Ends a look-up that met too many lists of others.
 pub(super) fn unsettled(head: LookHead, now: u64) -> LookStage
     ensures ended { result ≡ order.unsettled head now }
 {

@@ -9,7 +9,7 @@ use gix_odb_refresh::Refresh;
 use odb_base::NoMemory;
 use std::alloc::Global;
 
-/// A listing after the list of a number begins.
+/// Begins a listing after the list of a number.
 pub(super) fn listing_from(
     alloc: Global,
     setting: &Setting<'_>,

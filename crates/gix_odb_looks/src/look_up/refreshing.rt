@@ -14,7 +14,7 @@ use gix_odb_refresh::{Refresh, RefreshStep};
 use odb_base::NoMemory;
 use std::alloc::Global;
 
-/// What comes behind an answer to a refresh.
+/// Returns the look-up after an answer to a refresh.
 pub(super) fn by_answer(
     alloc: Global,
     setting: &Setting<'_>,
@@ -35,7 +35,7 @@ pub(super) fn by_answer(
     }
 }
 
-/// What comes behind a step of a refresh.
+/// Returns the look-up after a step of a refresh.
 fn by_refresh(
     alloc: Global,
     setting: &Setting<'_>,
@@ -71,7 +71,7 @@ fn refreshing(head: LookHead, refresh: Refresh, purpose: Purpose, notes: Notes) 
     )
 }
 
-/// What comes behind a list of the core that was read before: the first one is tried.
+/// Returns the stage after a list of the core that was read before: the first one is tried.
 fn by_read(
     alloc: Global,
     setting: &Setting<'_>,
@@ -94,7 +94,7 @@ fn by_read(
 }
 
 impl LookHead {
-    /// One list more is the look-up's own, where it made it.
+    /// Counts one more list as the look-up's own, where it made it.
     fn own_by(self, own: bool) -> LookHead
         ensures own { result ≡ order.own_by self own }
     {
@@ -109,7 +109,7 @@ impl LookHead {
     }
 }
 
-/// The listing is the core's list, which is tried. Which packs were absent before it is forgotten.
+/// Tries the listing, which is the core's list. Which packs were absent before it is forgotten.
 fn by_current(
     alloc: Global,
     setting: &Setting<'_>,
@@ -128,7 +128,7 @@ fn by_current(
     Ok(at(head, try_view(alloc, setting, head, part, view, notes)?))
 }
 
-/// Another list was published since the core was read, which is read again.
+/// Reads the core's list again: another one was published since it was read.
 fn outdated(setting: &Setting<'_>, head: LookHead, now: u64, notes: Notes) -> LookStage
     ensures counted { result ≡ order.counted (setting_of setting.now) head now (LookStage.Refreshing Refresh.Reading Purpose.Again notes) }
 {

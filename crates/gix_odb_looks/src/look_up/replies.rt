@@ -48,7 +48,7 @@ fn not_found(want: Want) -> Reply
     }
 }
 
-/// The end where nothing was found. A file that could not be read, or a folder that could not be looked into, is told.
+/// Ends where nothing was found. A file that could not be read, or a folder that could not be searched, is reported.
 pub(super) fn ended(want: Want, notes: &Notes) -> LookStage
     ensures ended { result ≡ order.ended want notes.now }
 {
@@ -59,7 +59,7 @@ pub(super) fn ended(want: Want, notes: &Notes) -> LookStage
     }
 }
 
-/// The end of a look-up whose event was refused. Want of memory is handed on.
+/// Ends a look-up whose event was refused. Fails where memory ran out.
 pub(super) fn refused(refusal: Refusal) -> Result<LookStage, NoMemory>
     ensures refused { IfOk result (λ stage. stage ≡ LookStage.Done (order.load_refused (of_refusal refusal))) }
 {

@@ -26,7 +26,7 @@ impl LookHead {
     }
 }
 
-/// The list that a view shows is tried, the loaded indices first.
+/// Tries the list that a view shows, the loaded indices first.
 pub(super) fn try_view(
     alloc: Global,
     setting: &Setting<'_>,
@@ -41,7 +41,7 @@ pub(super) fn try_view(
     try_lists(alloc, setting, head, part, view, todo, notes)
 }
 
-/// The loaded indices of the handle's snapshot are tried.
+/// Tries the loaded indices of the handle's snapshot.
 pub(super) fn try_snapshot(
     alloc: Global,
     setting: &Setting<'_>,
@@ -71,7 +71,7 @@ fn try_lists(
     by_tried(alloc, setting, head, part, tried)
 }
 
-/// What comes behind an answer while the indices of a list are tried.
+/// Returns the stage after an answer while the indices of a list are tried.
 pub(super) fn by_trier(
     alloc: Global,
     setting: &Setting<'_>,
@@ -86,7 +86,7 @@ pub(super) fn by_trier(
     Ok(at(head, by_tried(alloc, setting, head, part, tried)?))
 }
 
-/// What comes behind a step of trying.
+/// Returns the stage after a step of trying.
 fn by_tried(
     alloc: Global,
     setting: &Setting<'_>,
@@ -107,7 +107,7 @@ fn by_tried(
     }
 }
 
-/// What comes behind the indices of a list.
+/// Returns the stage after the indices of a list.
 fn after_list(
     alloc: Global,
     setting: &Setting<'_>,

@@ -1,4 +1,4 @@
--- A cause of a write's error that is seen in one way is seen in each wider way.
+-- A cause of a write's error by narrower evidence is a cause by wider evidence.
 use Rattle.std.specs.Prelude.{ℕ}
 use Rattle.std.proofs.Common.{inl, inr}
 use Rattle.odb_asks.specs.declared.ask.DiskAsk.{DiskAsk}

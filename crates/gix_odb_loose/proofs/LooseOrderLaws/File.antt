@@ -1,4 +1,4 @@
--- The laws of a loose file's bytes: what a find and a look for a header make of them, and why they are refused.
+-- The laws of a loose file's bytes: the results of a find and a header look-up, and the causes of their refusals.
 use Rattle.std.specs.Prelude.{◌≡◌, ◌≢◌, ℕ, ◌==◌, Bool, true, false, not, List, [], ◌∷◌, length, Option, Some, None, Result, Ok, Err, if◌then◌else◌, refl}
 use Rattle.std.proofs.Common.{inr, sym, ap, ◌∙◌, subst, arith}
 use Rattle.std.proofs.lemmas.Bool.{eqb-true, eqb-false}
@@ -53,7 +53,7 @@ spelled_in-NoHeader (byte ∷ bytes) e =
 
 -- ---- the limit and the length
 
--- what a find ends with, by the tests of the limit and of the length
+-- the result of a find, by the tests of the limit and of the length
 abbrev end_of : Path → LooseObject → Bool → Bool → Result (Option (Kind × List ℕ)) Error
 end_of path object false same = Err (errors.OutOfMemory object.size)
 end_of path object true true = Ok (Some (object.kind, object.rest))
@@ -89,14 +89,14 @@ object_from-Some path limit bytes (Ok object) x s e =
       within = rw size (ends.0);
     }
 
--- what a find makes of a file's bytes is held by them
+-- what a find returns from a file's bytes is held by them
 pub object_in-Some : (path : Path) (limit : Option ℕ) (bytes : List ℕ) (x : Kind × List ℕ) → object_in path limit bytes ≡ Ok (Some x) → HoldsObject limit bytes x.0 x.1
 object_in-Some path limit bytes x e = object_from-Some path limit bytes (spelled_in bytes) x refl e
 
 same_length : (n : ℕ) → (n == n) ≡ true
 same_length n = grind arith
 
--- what they hold is what a find makes of them
+-- what they hold is what a find returns
 pub object_in-HoldsObject : (path : Path) (limit : Option ℕ) (bytes : List ℕ) (x : Kind × List ℕ) → HoldsObject limit bytes x.0 x.1 → object_in path limit bytes ≡ Ok (Some x)
 object_in-HoldsObject path limit bytes x holds =
     ap (object_from path limit) (spelled_in-IsLoose bytes x.0 (length x.1) x.1 holds.spelled)
@@ -119,7 +119,7 @@ header_from-Some path bytes (Ok object) x s e =
     let kind : object.kind ≡ x.1 = cc e in
     record { rest = object.rest; spelled = rw (← size, ← kind) loose }
 
--- the header that is told is that of the bytes, and the one that they begin with is told
+-- the header that is returned is that of the bytes, and the one that they begin with is returned
 pub header_in-Some : (path : Path) (bytes : List ℕ) (x : ℕ × Kind) → header_in path bytes ≡ Ok (Some x) → HoldsHeader bytes x.1 x.0
 header_in-Some path bytes x e = header_from-Some path bytes (spelled_in bytes) x refl e
 
@@ -130,7 +130,7 @@ header_from-None : (path : Path) (spelled : Result LooseObject Flaw) → header_
 header_from-None path (Err flaw) e = cc e
 header_from-None path (Ok object) e = cc e
 
--- no file is answered as if there were none
+-- no file gives the result of an absent one
 pub object_in-None : (path : Path) (limit : Option ℕ) (bytes : List ℕ) → object_in path limit bytes ≢ Ok None
 object_in-None path limit bytes = object_from-None path limit (spelled_in bytes)
 
@@ -152,7 +152,7 @@ module _ (path : Path) (Gave : Reading → Type 0) (Failed Wanting : Type 0) whe
   header_from-Err bytes time gave (Err flaw) s error e = let is : flaw_error path flaw ≡ error = cc e in subst (HeaderCause path Gave Failed Wanting) is (flaw_cause bytes time gave flaw s)
   header_from-Err bytes time gave (Ok object) s error e = absurd (cc e)
 
-  -- the cause of what a file's bytes are refused for, in a look for a header
+  -- the cause of a refusal of a file's bytes in a header look-up
   pub header_in-Err : (bytes : List ℕ) (time : ℕ) → Gave (Ok (bytes, time)) → (error : Error) → header_in path bytes ≡ Err error → HeaderCause path Gave Failed Wanting error
   header_in-Err bytes time gave error e = header_from-Err bytes time gave (spelled_in bytes) refl error e
 
@@ -202,6 +202,6 @@ module _ (path : Path) (Gave : Reading → Type 0) (Failed Wanting : Type 0) whe
         sizes_cause bytes time gave object (IsLoose-spelled_in bytes object s) (is_within limit object.size) (length object.rest == object.size) refl refl error
         (sym (object_from-end path limit object) ∙ e)
 
-    -- the cause of what a file's bytes are refused for, in a find
+    -- the cause of a refusal of a file's bytes in a find
     pub object_in-Err : (bytes : List ℕ) (time : ℕ) → Gave (Ok (bytes, time)) → (error : Error) → object_in path limit bytes ≡ Err error → FindCause path limit Gave Failed Wanting error
     object_in-Err bytes time gave error e = object_from-Err bytes time gave (spelled_in bytes) refl error e

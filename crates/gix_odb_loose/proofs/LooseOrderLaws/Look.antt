@@ -1,4 +1,4 @@
--- The laws of tests of presence: what a reply says of the answer to its look.
+-- The laws of tests of presence: what a reply says of the answer to its stat.
 use Rattle.std.specs.Prelude.{◌≡◌, ◌≢◌, ◌↔◌, Bool, true, false, IsTrue, Result, Ok, Err, refl}
 use Rattle.std.proofs.Common.{subst}
 use Rattle.odb_base.specs.Path.{Path}
@@ -18,9 +18,9 @@ use Rattle.gix_odb_loose.specs.LooseOrder.Answered.{unreadable, is_file, tested_
 use Rattle.gix_odb_loose.specs.declared.find.Error.{Error}
 use Rattle.gix_odb_loose.specs.declared.find.Error.TheVariants as errors
 
--- ---- the answer to a look
+-- ---- the answer to a stat
 
--- a test is refused only by a call that failed, and by want of memory
+-- a test is refused only by a call that failed, or because memory ran out
 pub tested_by-Err : (path : Path) (Failed Wanting : Type 0) (given : DiskAnswer) → (given ≡ answers.Refused disk_errors.Failed → Failed) → (given ≡ answers.Refused disk_errors.NoMemory → Wanting)
     → (error : Error) → tested_by path given ≡ Err error → TestCause path Failed Wanting error
 tested_by-Err path Failed Wanting (answers.Refused disk_errors.Failed) failed wanting error e =
@@ -48,7 +48,7 @@ module _ (tree : Tree) (path : Path) where
   not_there : (refusal : Refusal) → looked tree path true ≡ Err refusal → (there : Bool) → false ≡ there → IsTrue there ↔ LeadsToFile tree path
   not_there refusal e there is = (λ t. absurd (cc (t, is)), λ g. absurd (cc (g.given, read_of-refused tree path refusal e)))
 
-  -- what a test tells is whether the tree's path leads to a file
+  -- a test returns whether the tree's path leads to a file
   pub tested_by-Ok : (given : DiskAnswer) → AnswersAsk given (meta_answer (looked tree path true)) → (there : Bool) → tested_by path given ≡ Ok there → IsTrue there ↔ LeadsToFile tree path
   tested_by-Ok (answers.Meta meta) asked there e = by_kind meta (meta_led (looked tree path true) meta asked) meta.kind refl there (cc e)
   tested_by-Ok (answers.Refused disk_errors.Failed) asked there e = absurd (cc e)

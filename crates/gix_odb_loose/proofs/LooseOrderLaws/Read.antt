@@ -1,4 +1,4 @@
--- The laws of finds and of looks for a header: what a reply says of the answer to its read.
+-- The laws of finds and header look-ups: what a reply says of the answer to its read.
 use Rattle.std.specs.Prelude.{◌≡◌, ◌≢◌, ◌⊎◌, ℕ, List, Option, Some, None, Result, Ok, Err, refl}
 use Rattle.std.proofs.Common.{inl, inr, sym, ap, ◌∙◌, subst}
 use Rattle.odb_base.specs.Path.{Path}
@@ -36,7 +36,7 @@ pub file_given : (read : Reading) (bytes : List ℕ) (time : ℕ) → answers.Fi
 file_given (Ok file) bytes time e = let same : ◌≡◌ {A = List ℕ × ℕ} (bytes, time) (file.0, file.1) = cc e in ap Ok (sym same)
 file_given (Err refusal) bytes time e = absurd (cc e)
 
--- An answer to an ask of a tree is a failed call, want of memory, or the tree's.
+-- An answer to an ask of a tree is a failed call, memory ran out, or the tree's.
 pub told_or : (given told : DiskAnswer) → AnswersAsk given told → (given ≡ answers.Refused disk_errors.Failed) ⊎ ((given ≡ answers.Refused disk_errors.NoMemory) ⊎ (given ≡ told))
 told_or (answers.Refused disk_errors.Failed) told is = inl refl
 told_or (answers.Refused disk_errors.NoMemory) told is = inr (inl refl)
@@ -60,7 +60,7 @@ comes_ok : {A : Type 0} (Failed : Type 0) (result : Result A Error) (answer : A)
 comes_ok Failed (Ok x) answer e = cc e
 comes_ok Failed (Err error) answer e = absurd (cc e)
 
--- a call comes to what it makes of the tree's answer
+-- a call returns its result for the tree's answer
 pub read_by-comes : {A : Type 0} (from : List ℕ → Result (Option A) Error) (path : Path) (told given : DiskAnswer) (answer : Option A) → AnswersAsk given told → read_by from path told ≡ Ok answer
     → ComesTo (given ≡ answers.Refused disk_errors.Failed) (read_by from path given) answer
 read_by-comes from path told (answers.Refused disk_errors.Failed) answer is e = refl
@@ -69,7 +69,7 @@ read_by-comes from path told (answers.Refused disk_errors.Absent) answer is e =
     comes_ok (answers.Refused disk_errors.Absent ≡ answers.Refused disk_errors.Failed) (read_by from path (answers.Refused disk_errors.Absent)) answer (ap (read_by from path) is ∙ e)
 read_by-comes from path told given answer is e = comes_ok (given ≡ answers.Refused disk_errors.Failed) (read_by from path given) answer (ap (read_by from path) is ∙ e)
 
--- What a call answers by what a tree's read gives, for any judgement of a file's bytes that holds both ways.
+-- The result of a call, by what a tree's read gives, for any judgement of a file's bytes that holds both ways.
 pub read_by-AnswersRead : {A : Type 0} (from : List ℕ → Result (Option A) Error) (Holds : List ℕ → A → Type 0) (path : Path)
     → ((bytes : List ℕ) (x : A) → from bytes ≡ Ok (Some x) → Holds bytes x) → ((bytes : List ℕ) (x : A) → Holds bytes x → from bytes ≡ Ok (Some x)) → ((bytes : List ℕ) → from bytes ≢ Ok None)
     → (read : Reading) (given : DiskAnswer) → AnswersAsk given (file_answer read) → AnswersRead read Holds (given ≡ answers.Refused disk_errors.Failed) (read_by from path given)
@@ -102,8 +102,8 @@ unreadable_told (Err Absent) given e some none = absurd (some e)
 unreadable_told (Err WrongKind) given e some none = inl refl
 unreadable_told (Err LinkLoop) given e some none = inr (inl refl)
 
--- The cause of each error, for any word on errors that says of an unreadable path and of want of memory what these are.
--- The disk's answer is a tree's, or the disk tells no tree: `Gave` holds of what was given.
+-- The cause of each error, for any property of errors that an unreadable path and running out of memory have. The disk's answer
+-- is a tree's, or the disk reports no tree: `Gave` holds of what was given.
 module _ {A : Type 0} (from : List ℕ → Result (Option A) Error) (path : Path) (Gave : Reading → Type 0) (Failed Wanting : Type 0) (Cause : Error → Type 0) (given : DiskAnswer)
     (unreadable_is : (Failed ⊎ Seen Gave IsUnreadable) → Cause (unreadable path)) (memory_is : Wanting → Cause errors.NoMemory)
     (failed : given ≡ answers.Refused disk_errors.Failed → Failed) (wanting : given ≡ answers.Refused disk_errors.NoMemory → Wanting)
@@ -134,7 +134,7 @@ module _ (path : Path) (Gave : Reading → Type 0) (Failed Wanting : Type 0) (gi
       (λ some there no_file room. (read, gave, unreadable_told read given (told_is given (file_answer read) asked some room) there no_file))
       error given refl e
 
-  -- the same where nothing is known of what was read
+  -- and where nothing is known of what was read
   pub found_by-Err_untold : (limit : Option ℕ) → ((read : Reading) → Gave read) → (error : Error) → found_by path limit given ≡ Err error → FindCause path limit Gave Failed Wanting error
   found_by-Err_untold limit every error e =
       read_by-cause (object_in path limit) path Gave Failed Wanting (FindCause path limit Gave Failed Wanting) given (λ u. (refl, refl, u)) (λ w. w) failed wanting
@@ -142,7 +142,7 @@ module _ (path : Path) (Gave : Reading → Type 0) (Failed Wanting : Type 0) (gi
       (λ some there no_file room. (Err WrongKind, every (Err WrongKind), inl refl))
       error given refl e
 
-  -- the causes of the errors of a look for a header, alike
+  -- the causes of the errors of a header look-up, alike
   pub header_by-Err : (read : Reading) → Gave read → AnswersAsk given (file_answer read) → (error : Error) → header_by path given ≡ Err error → HeaderCause path Gave Failed Wanting error
   header_by-Err read gave asked error e =
       read_by-cause (header_in path) path Gave Failed Wanting (HeaderCause path Gave Failed Wanting) given (λ u. (refl, refl, u)) (λ w. w) failed wanting

@@ -1,4 +1,4 @@
--- What a turn of a write from a source comes to, and where memory runs out.
+-- The result of a turn of a write from a source, and what follows where memory runs out.
 use Rattle.std.specs.Result.{IsErr}
 use Rattle.std.specs.Prelude.{is_some, ◌≡◌, ◌⊎◌, ℕ, ◌≤◌, true, false, List, [], ◌∷◌, ◌++◌, Option, Some, None, Result, Ok, Err, IfSome, refl}
 use Rattle.std.proofs.Common.{inl, inr, sym, ap, ◌∙◌, subst, arith}
@@ -32,7 +32,7 @@ use Rattle.gix_odb_loose.proofs.WriteStreamsLemmas.{Draws-none}
 use Rattle.gix_odb_loose.proofs.StreamJobsLemmas.SameAsks.{cuts_at, cut_off}
 use Rattle.gix_odb_loose.proofs.StreamJobsLemmas.Turn.{did_next}
 
--- ---- what a turn comes to
+-- ---- the result of a turn
 
 pub turns_broken : {E : Type 0} (w : Begun) (state : Option State) (now : ℕ) (past : List Exchange) (rest : Option (List ℕ)) (source_now : ℕ) (job : StreamJob) (result : Result (Option (Result ObjectId Refusal)) E)
     → IsErr result → IsBroken w state now past rest source_now job
@@ -141,7 +141,7 @@ module _ (w : Begun) (state : Option State) (now : ℕ) (past : List Exchange) (
     clear_removed (stages.Moving number id) e at = removed number (stages.Moving number id) at.removal refl at
     clear_removed (stages.Removing number refusal) e at = removed number (stages.Removing number refusal) at.removal refl at
 
--- ---- where it begins
+-- ---- the start
 
 pub stands_first : (w : Begun) (job : StreamJob) → job.head ≡ w.head → job.stage ≡ stages.Making 0 → job.has_ended ≡ false → Names w.known w.hash w.head [] job.naming
     → job.removal ≡ asks.Remove (temp_path w.head.objects 0)
@@ -162,7 +162,7 @@ stands_first w job head stage ended named removal =
       follows = λ bytes told. inl (IsAlong-start (at_hand w bytes));
     })
 
--- ---- what a turn came to, by its result
+-- ---- a turn, by its result
 
 module _ {E : Type 0} (w : Begun) (state : Option State) (now : ℕ) (past : List Exchange) (rest : Option (List ℕ)) (source_now : ℕ) (job : StreamJob) (result : Result (Option (Result ObjectId Refusal)) E)
     (turned : TurnsTo w state now past rest source_now job result) where
@@ -175,7 +175,7 @@ module _ {E : Type 0} (w : Begun) (state : Option State) (now : ℕ) (past : Lis
   pub came_to_want : (error : E) → result ≡ Err error → IsBroken w state now past rest source_now job
   came_to_want error e = subst (λ (r : Result (Option (Result ObjectId Refusal)) E). TurnsTo w state now past rest source_now job r) e turned
 
--- ---- what all turns came to, by their result
+-- ---- all turns, by their result
 
 module _ {E : Type 0} (w : Begun) (state : Option State) (now : ℕ) (past : List Exchange) (rest : Option (List ℕ)) (source_now : ℕ) (result : Result (Result ObjectId Refusal) E)
     (ran : RunsTo w state now past rest source_now result) where

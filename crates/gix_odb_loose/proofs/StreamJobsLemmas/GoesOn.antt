@@ -1,4 +1,4 @@
--- How a write reads on, and how it goes on to what an answer led to, as the code has it.
+-- How a write reads on, and how it goes on to what an answer led to, in the form of the code.
 use Rattle.std.specs.Result.{IsErr}
 use Rattle.std.specs.Prelude.{◌≡◌, ◌≢◌, ℕ, true, false, nat_lt, List, [], ◌++◌, length, Option, Result, Ok, Err}
 use Rattle.std.proofs.Common.{inl, inr, sym, ap, ◌∙◌, subst}
@@ -85,7 +85,7 @@ pub goes_on_broken : {E : Type 0} (w : Begun) (state : Option State) (now : ℕ)
 goes_on_broken w state now past rest source_now job (Ok x) err broken = absurd (cc err)
 goes_on_broken w state now past rest source_now job (Err error) err broken = broken
 
--- ---- where an answer led
+-- ---- what an answer led to
 
 -- memory ran out for it
 pub before_broken : (w : Begun) (state : Option State) (now : ℕ) (past : List Exchange) (rest : Option (List ℕ)) (source_now : ℕ) (job new : StreamJob) (stage : WriteStage) → new.removal ≡ job.removal → new.stage ≡ stage

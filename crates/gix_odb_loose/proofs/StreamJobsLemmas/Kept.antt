@@ -1,4 +1,4 @@
--- What a write holds is kept by the answer to its ask.
+-- The answer to a write's ask keeps what the write holds.
 use Rattle.std.specs.Prelude.{◌≡◌, ◌≢◌, ℕ, ◌+◌, ◌-◌, ◌^◌, ◌≤◌, true, false, min, List, [], ◌∷◌, ◌++◌, length, Option, Some, None, Ok, Err, IfSome, refl}
 use Rattle.std.proofs.Common.{inr, sym, ap, ◌∙◌, subst, arith, append-nil}
 use Rattle.std.proofs.lemmas.Grind.{common_steps}
@@ -26,7 +26,7 @@ use Rattle.gix_odb_loose.proofs.RoomLemmas.{room_few, whole_piece}
 use Rattle.gix_odb_loose.proofs.WriteOrderLemmas.{by_made, by_headed, by_filled, by_foldered, by_moved}
 
 module _ (w : Begun) (rest : Option (List ℕ)) (job fed : StreamJob) (removal : fed.removal ≡ job.removal) (naming : fed.naming ≡ job.naming) (ended : fed.has_ended ≡ job.has_ended) where
-  -- what is held of what an answer leads to
+  -- what holds of each ask that an answer leads to
   abbrev pub Kept : List ℕ → List ℕ → WriteAsk → Type 0
   Kept appended all (wants.Disk stage) = Holds w rest appended all fed stage × IsReady w fed.removal stage
   Kept appended all (wants.Data number written) = HoldsNone w rest written appended all fed × (fed.removal ≡ removal_at w (stages.Filling number written))
@@ -98,7 +98,7 @@ module _ (w : Begun) (rest : Option (List ℕ)) (job fed : StreamJob) (removal :
     kept (stages.Moving number id) answer history holds ready = kept_moved number ready id appended all holds answer
     kept (stages.Removing number refusal) answer history holds ready = tt
 
-    -- one byte above the size is counted
+    -- one byte more than the size is counted
     pub counts : (stage : WriteStage) → WentTo w source_now appended stage past → Holds w rest appended all job stage → Took w rest source_now all
         → CountsTooMany w.head (NamedBy w) (SourceFailed w source_now) (OtherLength w.left w.head.size) stage job.piece
     counts (stages.Making number) history holds took = tt

@@ -1,4 +1,4 @@
--- What a write reads on: its end, a piece, bytes that are lost.
+-- What a write reads: the end, a piece, bytes that are lost.
 use Rattle.std.specs.Prelude.{◌≡◌, ◌≢◌, ℕ, ◌+◌, ◌<◌, ◌≤◌, ◌==◌, Bool, true, false, nat_lt, List, [], ◌∷◌, ◌++◌, length, Option, Some, None, IfSome, if◌then◌else◌, refl}
 use Rattle.std.proofs.Common.{inl, inr, sym, ap, ◌∙◌, subst, arith, append-nil}
 use Rattle.std.proofs.lemmas.Grind.{common_steps}
@@ -67,7 +67,7 @@ module _ (w : Begun) (state : Option State) (now : ℕ) where
     few_more : (more : List ℕ) → length more ≤ room_behind w.head.size written → length fed.all + length more ≤ w.head.size + 1
     few_more more few = let room = room_within w.head.size written fed.holds.0.within in omega (arith, room, few, so_far)
 
-    -- the end of the data is told
+    -- the data end
     module _ (at_end : IsAtEnd rest) (new : StreamJob) (head : new.head ≡ job.head) (removal : new.removal ≡ job.removal) where
       abbrev id : ObjectId
       id = name_for w.known w.hash w.head fed.all
@@ -118,7 +118,7 @@ module _ (w : Begun) (state : Option State) (now : ℕ) where
       took_lost : Took w last later (fed.all ++ loses.lost)
       took_lost = took_more rest last source_now later fed.all loses.lost fed.took loses.drawn (few_more loses.lost loses.few) loses.later
 
-      -- for want of memory
+      -- because memory ran out
       pub breaks_lost : (new : StreamJob) → new.removal ≡ job.removal → BreaksAt w state now past last later new (stages.Filling number written)
       breaks_lost new removal =
           record {
@@ -132,7 +132,7 @@ module _ (w : Begun) (state : Option State) (now : ℕ) where
             follows = λ bytes is. cuts_fed w bytes number written past (fed.follows bytes is);
           }
 
-      -- by a failure of the source
+      -- because the source failed
       pub stands_failed : Rose source_now later → (new : StreamJob) → new.head ≡ job.head → new.removal ≡ job.removal → StandsAt w state now past last later new (source_failed number)
       stands_failed rose new head removal =
           record {

@@ -1,4 +1,4 @@
--- What a write from a source asks is what a write asks that has the same data at hand.
+-- The asks of a write from a source are those of a write with the same data in memory.
 use Rattle.std.specs.Prelude.{◌≡◌, ◌⊎◌, ℕ, ◌<◌, ◌≤◌, ◌==◌, Bool, true, false, nat_le, List, [], ◌∷◌, ◌++◌, length, take, drop, Option, Some, None, Result, Err, if◌then◌else◌, refl}
 use Rattle.std.proofs.Common.{inl, inr, sym, ap, ◌∙◌, subst, arith, append-nil, append_assoc}
 use Rattle.std.proofs.Math.Seq.{drop-append_seam}
@@ -122,7 +122,7 @@ module _ (w : Begun) (bytes : List ℕ) where
     pub cuts_at : (stage : WriteStage) (past : List Exchange) → FollowsAt job Stopped stage past → CutsAt job stage past
     cuts_at stage past follows = elim follows [ inl along ↦ record { reached = stage; made = refl; along = along } | inr fails ↦ fails.cuts ]
 
-    -- what a write comes to
+    -- the end of a write
     pub runs_end : (end : Result ObjectId Refusal) (past : List Exchange) (result : Result ObjectId Error) → (result ≡ wrote_by w.head end) ⊎ (result ≡ Err errors.NoMemory)
         → FollowsToEnd job Stopped end past → RunsAlong job Stopped past result
     runs_end end past result is follows =
@@ -147,7 +147,7 @@ module _ (w : Begun) (bytes : List ℕ) where
   cut_off stage before past cuts removed =
       record { stage = cuts.reached; before = before; along = cuts.along; removed = subst (λ (n : Option ℕ). IsRemovedAfter w.head n before past) (sym cuts.made) removed }
 
-  -- ---- where data are waited for
+  -- ---- where data are asked for
 
   module _ (number written : ℕ) (past : List Exchange) where
     abbrev Supplied : Bool → Type 0

@@ -1,4 +1,4 @@
--- A turn of a write: what its ask and the answer lead to.
+-- A turn of a write: what follows its ask and the answer.
 use Rattle.std.specs.Prelude.{◌≡◌, ◌⊎◌, ℕ, ◌≤◌, List, [], ◌∷◌, ◌++◌, length, All, Option, Some, Ok, Err, IfSome, refl}
 use Rattle.std.proofs.Common.{inl, inr, sym, ap, ◌∙◌, subst, arith}
 use Rattle.std.proofs.lemmas.List.Elements.{All-append, All-cons, All-nil}
@@ -164,7 +164,7 @@ module _ (w : Begun) (state new : Option State) (now later : ℕ) (past : List E
       (next_piece w rest job fed removal naming ended source_now at.appended at.all past stage at.holds) at.history))
       (kept w rest job fed removal naming ended source_now at.appended at.all past stage answer at.history at.holds at.removal) (followed is) (spared_next is)
 
--- ---- a turn as the code has it
+-- ---- a turn in the form of the code
 
 module _ (w : Begun) (state new : Option State) (now later : ℕ) (past : List Exchange) (rest : Option (List ℕ)) (source_now : ℕ) (job fed : StreamJob) (stage : WriteStage) (ask : DiskAsk) (answer : DiskAnswer) (len : ℕ)
     (wanted : WriteAsk)

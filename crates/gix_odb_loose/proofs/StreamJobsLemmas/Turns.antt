@@ -24,7 +24,7 @@ use Rattle.gix_odb_loose.specs.declared.write_order.WriteStage.TheVariants as st
 use Rattle.gix_odb_loose.proofs.RoomLemmas.{room_within, whole_piece}
 use Rattle.gix_odb_loose.proofs.WriteJobsLemmas.{LeavesFewer, fewer_left, ended_fewer}
 
--- ---- how many bytes can come
+-- ---- how many bytes there can be
 
 open_most : (job : StreamJob) (written : ℕ) → job.has_ended ≡ false → most_of job written ≡ job.head.size + 1
 open_most job written open' = ap (λ (b : Bool). if b then written + length job.piece else job.head.size + 1) open'
@@ -113,7 +113,7 @@ module _ (job fed : StreamJob) (head : fed.head ≡ job.head) (ended : fed.has_e
     turn_less (stages.Moving number id) at = settled_less (stages.Moving number id) len answer 2 (λ n. refl) tt
     turn_less (stages.Removing number refusal) at = settled_less (stages.Removing number refusal) len answer 1 (λ n. refl) tt
 
--- as the code has it
+-- in the form of the code
 pub turn_fewer : (w : Begun) (state : Option State) (now : ℕ) (past : List Exchange) (rest : Option (List ℕ)) (source_now : ℕ) (job fed : StreamJob) (stage : WriteStage) (answer : DiskAnswer) (len : ℕ) (wanted : WriteAsk)
     → StandsAt w state now past rest source_now job stage
     → len ≡ length job.piece → fed ≡ record job { piece = [] } → wanted ≡ next_write fed.head.size len stage answer → calls_left fed wanted < calls_left job (wants.Disk stage)
@@ -148,7 +148,7 @@ module _ (job new : StreamJob) (number written : ℕ) where
       subst (λ (n : ℕ). most_of new written ≤ n) (sym (open_most job written open')) (most_by new.has_ended (omega (arith, whole, room, few)) (ap (λ (h : WriteHead). h.size) head)) in
       subst (λ (s : WriteStage). calls_left new (wants.Disk s) ≤ calls_left job (wants.Data number written)) (sym is) (omega (arith, at_most))
 
--- a turn is a call of the disk, and what is read behind its answer
+-- a turn is a call of the disk, and what is read after its answer
 pub fewer_on : {E : Type 0} (left wanted first : ℕ) (result : Result (Option (Result ObjectId Refusal)) E) → IfOk result (λ end. end ≡ None → left ≤ wanted) → wanted < first
     → IfOk result (λ end. end ≡ None → left < first)
 fewer_on left wanted first (Ok end) least less = λ e. let few = least e in omega (arith, few, less)

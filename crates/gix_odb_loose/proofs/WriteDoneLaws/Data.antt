@@ -1,4 +1,4 @@
--- The data that a write has appended where an answer led it, when they are all at hand: a front of them, in whole pieces.
+-- The data that a write has appended after an answer, when they are all in memory: a prefix of them, in whole pieces.
 use Rattle.std.specs.Prelude.{◌≡◌, ℕ, ◌+◌, ◌-◌, ◌^◌, ◌<◌, ◌≤◌, min, List, [], ◌++◌, length, take, drop, Ok, Err, refl}
 use Rattle.std.proofs.Common.{inr, sym, ap, ◌∙◌, arith, append_assoc, take-append-drop}
 use Rattle.std.proofs.lemmas.Grind.{common_steps}
@@ -20,7 +20,7 @@ use Rattle.gix_odb_loose.proofs.RoomLemmas.{has_room, room_within, room_few, who
 use Rattle.gix_odb_loose.proofs.WriteHistoryLaws.{CountsTooMany, IsNextPiece}
 use Rattle.gix_odb_loose.proofs.WriteOrderLemmas.{by_made, by_headed, by_filled, by_foldered, by_moved}
 
--- the data before a piece, and the piece, are the data behind it
+-- the data before a piece, and the piece, are the data after it
 pub data_grown : (bytes : List ℕ) (written room : ℕ) → written ≤ length bytes
     → take written bytes ++ take room (drop written bytes) ≡ take (written + length (take room (drop written bytes))) bytes
 data_grown bytes written room within = sym (ap (take (written + length piece)) whole ∙ take_at (take written bytes ++ piece) (drop room (drop written bytes)) (written + length piece) long)
@@ -103,7 +103,7 @@ module _ (job : WriteJob) where
 
   -- ---- the piece that is appended
 
-  -- one byte above the size is counted
+  -- one byte more than the size is counted
   pub counts : (stage : WriteStage) → HasNext job.head.size job.bytes stage → CountsTooMany job.head (GetsNameOf job) ⊥ (CountsOf job) stage (piece_for stage)
   counts (stages.Making number) next = tt
   counts (stages.Heading number) next = tt
@@ -116,7 +116,7 @@ module _ (job : WriteJob) where
   counts (stages.Moving number id) next = tt
   counts (stages.Removing number refusal) next = tt
 
-  -- it stands behind whole pieces, and has some bytes
+  -- whole pieces come before it, and it isn't empty
   pub next_piece : (stage : WriteStage) → HasNext job.head.size job.bytes stage → IsNextPiece job.head (GetsNameOf job) ⊥ (CountsOf job) stage (piece_for stage)
   next_piece (stages.Making number) next = tt
   next_piece (stages.Heading number) next = tt

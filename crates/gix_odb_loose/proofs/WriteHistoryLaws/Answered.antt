@@ -29,7 +29,7 @@ filled-next head number pieces piece =
     ∙ ap (λ (xs : List Exchange). headed head number ++ xs) (sym (map-append (λ (p : List ℕ). exchanged (asks.Append (temp_path head.objects number) p) answers.Done) pieces (piece ∷ [])))
 
 module _ (head : WriteHead) (Named : ObjectId → Type 0) where
-  -- the answer to the ask of a stage, and what is left of the write then: it is refused for want of memory, or for its own cause
+  -- the answer to the ask of a stage, and the write after it: it is refused because memory ran out, or for its own cause
   module _ (stage : WriteStage) (appended piece : List ℕ) (past : List Exchange) (well : GoesWell head Named appended stage past) where
     abbrev ask : DiskAsk
     ask = write_ask head piece stage
@@ -48,7 +48,7 @@ module _ (head : WriteHead) (Named : ObjectId → Type 0) where
       pub wanted : Ends refusals.NoMemory (after (answers.Refused disk_errors.NoMemory))
       wanted = want (after (answers.Refused disk_errors.NoMemory)) (answered Wants (answers.Refused disk_errors.NoMemory) refl)
 
-      -- any answer but that it is done, where Exists refuses it too
+      -- any answer but Done, where Exists refuses it too
       pub refused_any : IsRefusedByExists ask → (answer : DiskAnswer) → (answer ≡ answers.Done → ⊥) → Ends (refused_by refusal answer) (after answer)
       refused_any exists answers.Done undone = absurd (undone refl)
       refused_any exists (answers.Meta meta) undone = refused_as (answers.Meta meta) tt refl

@@ -19,7 +19,7 @@ whole_length (piece ∷ pieces) whole =
     let long = length-append piece (concat pieces) in
     omega (arith, first, rest, long)
 
--- pieces of a length that is one of whole pieces are all whole
+-- if the total length is one of whole pieces, all pieces are whole
 pub cut_whole : (pieces : List (List ℕ)) → IsCut pieces → IsInPieces (length (concat pieces)) → AreWhole pieces
 cut_whole pieces cut in_pieces = subst AreWhole (sym cut.is) (by_last cut.last cut.is cut.is_last)
   where
@@ -34,7 +34,7 @@ cut_whole pieces cut in_pieces = subst AreWhole (sym cut.is) (by_last cut.last c
         All-push (λ (p : List ℕ). length p ≡ piece_size) cut.whole piece cut.are_whole (omega (arith, in_pieces.1, long, one, wholes, h.0, h.1))
     by_last (piece ∷ other ∷ more) is h = absurd h
 
--- a piece behind whole ones is the last
+-- a piece after whole ones is the last
 pub cut_more : (pieces : List (List ℕ)) (piece : List ℕ) → AreWhole pieces → 1 ≤ length piece → length piece ≤ piece_size → IsCut (pieces ++ piece ∷ [])
 cut_more pieces piece whole some few = record { whole = pieces; last = piece ∷ []; is = refl; are_whole = whole; is_last = (some, few) }
 

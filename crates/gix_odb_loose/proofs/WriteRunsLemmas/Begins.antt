@@ -1,4 +1,4 @@
--- How a write begins: on a disk and from a source, and as a new job.
+-- The start of a write: on a disk and from a source, and as a new job.
 use Rattle.std.specs.Prelude.{◌≡◌, ℕ, false, List, [], Option, Result, Ok, Err, IfOk}
 use Rattle.std.proofs.Common.{ap, ◌∙◌, subst}
 use Rattle.odb_nodes.specs.Tree.{State}
@@ -17,7 +17,7 @@ use Rattle.gix_odb_loose.specs.declared.write_streamed.StreamJob.{StreamJob}
 use Rattle.gix_odb_loose.specs.declared.store.Store.{Store}
 use Rattle.gix_object.specs.declared.kind.Kind.{Kind}
 
--- a write into a store as it began, on a disk and from a source
+-- a write into a store at its start, on a disk and from a source
 abbrev pub begun_on : {S D : Type 0} → Store → Kind → ℕ → Option ObjectId → (left : S → Option (List ℕ)) (failures : S → ℕ) → S → (state : D → Option State) (faults : D → ℕ) → D → Begun
 begun_on store kind size known left failures source state faults disk = begun_in store kind size known (left source) (failures source) (state disk) (faults disk)
 
@@ -25,7 +25,7 @@ begun_on store kind size known left failures source state faults disk = begun_in
 pub new_underway : (w : Begun) (job : StreamJob) → IsNew w.head w.hash w.known job → IsUnderway w w.state w.faults [] w.left w.source_faults job
 new_underway w job new = stands_first w job new.about new.stage new.has_ended new.naming new.removal
 
--- a job that was made so is new
+-- a job made in this way is new
 pub new_in : {E : Type 0} (head made : WriteHead) (hash taken : HashKind) (known : Option ObjectId) (result : Result StreamJob E) → made ≡ head → taken ≡ hash → IfOk result (λ job. job.head ≡ made)
     → IfOk result (λ job. job.stage ≡ stages.Making 0)
     → IfOk result (λ job. job.has_ended ≡ false) → IfOk result (λ job. Names known taken made [] job.naming) → IfOk result (λ job. job.removal ≡ asks.Remove (temp_path made.objects 0))

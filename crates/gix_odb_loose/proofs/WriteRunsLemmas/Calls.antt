@@ -106,7 +106,7 @@ module _ (head : WriteHead) (hash : HashKind) (content : Content) (disk : DiskSe
   pub wrote_known : (known : ObjectId) → Runs (Some known) → IfOk result (λ id. id ≡ known)
   wrote_known known run = if_ok (λ id. id ≡ known) result (λ id is. (run.wrote id is).name)
 
-  -- the source was as long as was told, and is at its end
+  -- the length of the source is the size, and it is at its end
   pub wrote_whole : (known : Option ObjectId) (rest : Option (List ℕ)) (faults faults_now : ℕ) → Runs known → TakesFrom head.size (bytes_told content) rest faults faults_now
       → IfOk result (λ _. IsAtEnd rest)
       → IfOk result (λ _. IsWhole head.size (bytes_told content) rest)
@@ -126,7 +126,7 @@ module _ (head : WriteHead) (hash : HashKind) (content : Content) (disk : DiskSe
           let writes = run.wrote id is in record { size_is = whole (bytes_told content) writes.bytes writes.whole writes.size; at_end = at_end (bytes_told content) rest takes.all takes.drawn e }
       by_result (Err error) is e = tt
 
-  -- the count of the source is as it was
+  -- the count of the source is unchanged
   pub wrote_spared : (known : Option ObjectId) → Runs known → IfOk result (λ _. HasNotFailed content)
   wrote_spared known run =
       if_ok (λ _. HasNotFailed content) result (λ id is.
@@ -136,7 +136,7 @@ module _ (head : WriteHead) (hash : HashKind) (content : Content) (disk : DiskSe
             absurd (elim failed.1 [ inl io ↦ (let both = sym is ∙ io in cc both) | inr want ↦ (let both = sym is ∙ want in cc both) ])
       ])
 
--- a source of bytes that never fails is as good as these bytes at hand
+-- a source of bytes that never fails is as good as these bytes in memory
 module _ (head : WriteHead) (hash : HashKind) (known : Option ObjectId) (lent bytes : List ℕ) (disk : DiskSeen) (result : Result ObjectId Error) where
   unfailing : Rose 0 0 → ⊥
   unfailing rose = absurd (omega (arith, rose))

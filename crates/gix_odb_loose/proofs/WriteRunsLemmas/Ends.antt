@@ -1,4 +1,4 @@
--- From the end of a write to what its run promises.
+-- From the end of a write to the promises of its run.
 use Rattle.std.specs.Result.{IsErrAnd}
 use Rattle.std.specs.Prelude.{◌≡◌, ◌⊎◌, ⊤, ℕ, List, [], ◌∷◌, length, Option, Some, None, Result, Ok, Err, IfOk, IfSome, refl}
 use Rattle.std.proofs.Common.{inl, inr, sym, ap, ◌∙◌, subst, arith}
@@ -45,7 +45,7 @@ use Rattle.gix_odb_loose.proofs.WriteStreamsLemmas.{Draws-end}
 use Rattle.gix_odb_loose.proofs.StreamJobsLemmas.SameAsks.{runs_end}
 use Rattle.gix_odb_loose.proofs.WriteRunsLemmas.RefusedAsks.{refuses_in}
 
--- an object that got its name is read back, where the states are told
+-- an object that got its name is read back, where the states are reported
 reads_back : (first new : Option State) (head : WriteHead) (number : ℕ) (id : ObjectId) (bytes : List ℕ) (past : List Exchange) → (moved : IsMoved head number id bytes past) → AreGiven first past
     → new ≡ left_by first past
     → (past ≡ []) ⊎ IfSome first (λ s. IsTree (tree_of s)) → IfSome first (λ _. ReadsBack head number id bytes (left_by first moved.before) new)
@@ -69,7 +69,7 @@ module _ (AreCalls : List Exchange → Type 0) (w : Begun) (state : Option State
   abbrev Stopped : Error → Type 0
   Stopped error = IsRefusedWrite w.head (NamedBy w) (SourceFailed w source_now) (OtherLength w.left w.head.size) past error
 
-  -- the cause, as the disk told it
+  -- the cause, as the disk reported it
   cause_told : (error : Error) → Did w state now past → HasCauseIn w.head (NamedBy w) (SourceFailed w source_now) (OtherLength w.left w.head.size) past error
       → Refused error
   cause_told error did h =
@@ -86,7 +86,7 @@ module _ (AreCalls : List Exchange → Type 0) (w : Begun) (state : Option State
     untouched : (at : Path) → error ≡ errors.Io messages.CreateTempFile at → left_by w.state past ≡ w.state
     cause : Refused error
 
-  -- what it asked, where the source tells its data
+  -- its asks, where the source reports its data
   abbrev Asked : Result ObjectId Error → Type 0
   Asked result = (bytes : List ℕ) → w.left ≡ Some bytes → RunsAlong (at_hand w bytes) (SourceFailed w source_now) past result
 
@@ -144,7 +144,7 @@ module _ (AreCalls : List Exchange → Type 0) (w : Begun) (state : Option State
             read_back = reads_back w.state state w.head at.ends.0.2.0 id at.appended past at.ends.0.2.1 at.did.given at.did.left at.did.tree;
           }
 
-  -- a write that was refused, or had no memory to tell why
+  -- a write that was refused, or had no memory for its error
   module _ (refusal : Refusal) (at : IsAtItsEnd w state now past rest source_now (Err refusal)) where
     abbrev run : IsRefusedRun w.head (NamedBy w) (SourceFailed w source_now) (OtherLength w.left w.head.size) refusal past
     run = at.ends
@@ -193,7 +193,7 @@ module _ (AreCalls : List Exchange → Type 0) (w : Begun) (state : Option State
   runs_broken off result is = runs_refused errors.NoMemory result is off.did (shown_broken off.run) (λ bytes told. inr (off.follows bytes told, inr is))
       (elim off.spared [ inl spared ↦ inl spared | inr failed ↦ inr (failed, inr is) ])
 
-  -- by its end, as it is told
+  -- by its end, in its result
   pub runs_told : (end : Result ObjectId Refusal) → IsAtItsEnd w state now past rest source_now end → (result : Result ObjectId Error) → IsToldBy w.head end result → Runs result
   runs_told (Ok id) at result told = runs_wrote id at result told
   runs_told (Err refusal) at result told = elim told [ inl is ↦ runs_ended refusal at result is | inr is ↦ runs_untold refusal at result is ]
@@ -223,7 +223,7 @@ runs_nothing AreCalls w made result is =
     (record { stage = stages.Making 0; appended = []; before = []; history = (omega arith, refl, refl); removed = refl }))
     (λ bytes told. inr (record { stage = stages.Making 0; before = []; along = IsAlong-start (at_hand w bytes); removed = refl }, inr is)) (inl refl)
 
--- a call that was refused for want of memory
+-- a call that was refused because memory ran out
 pub for_memory : {A : Type 0} (result : Result A Error) → IsErrAnd result (λ e. e ≡ errors.NoMemory) → result ≡ Err errors.NoMemory
 for_memory (Ok x) h = absurd h
 for_memory (Err error) h = ap (λ (e : Error). Err e) h

@@ -1,4 +1,4 @@
--- What the asks of a write were refused by.
+-- Which answers refused the asks of a write.
 use Rattle.std.specs.Prelude.{◌≡◌, ◌⊎◌, ℕ, zero, suc, ◌<◌, List, [], ◌∷◌, length, slice_index_or, Contains, Option, Some, None, Result, Ok, Err, IfSome, refl}
 use Rattle.std.proofs.Common.{inl, inr, ap, ◌∙◌, subst, arith}
 use Rattle.odb_base.specs.Faults.{Rose}
@@ -60,7 +60,7 @@ by_way made answer taken unfilled h = elim h [ inl failed ↦ inl failed | inr b
     on_way writing.Exists m e = absurd (taken e m)
     on_way writing.NotEmpty m e = absurd (unfilled m)
 
--- what makes something is refused by a failure or by its way; Exists is no refusal of a new file or a directory
+-- an ask that makes something is refused by a failure or by its way; Exists doesn't refuse a new file or a directory
 making_refused : (tree : Tree) (ask : DiskAsk) → IsMaking ask → (answer : DiskAnswer) → AnswersAsk answer (answer_of tree ask) → IsRefused ask answer → ByWay answer
 unfolding answer_of
 making_refused tree (asks.NewFile path) making answer a r =

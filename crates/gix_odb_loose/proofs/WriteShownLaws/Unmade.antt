@@ -1,4 +1,4 @@
--- Where a write made no file, the disk is as it was.
+-- Where a write made no file, the disk is unchanged.
 use Rattle.std.specs.Prelude.{◌≡◌, ℕ, false, List, [], ◌∷◌, All, Option, Some, None, refl}
 use Rattle.std.proofs.Common.{inl, inr, ap, ◌∙◌}
 use Rattle.std.proofs.lemmas.List.Elements.{All-head, All-tail}
@@ -19,7 +19,7 @@ use Rattle.gix_odb_loose.specs.declared.write_order.Refusal.TheVariants as refus
 use Rattle.gix_odb_loose.specs.declared.write_order.WriteHead.{WriteHead}
 use Rattle.gix_odb_loose.proofs.WriteShownLaws.{unmade_all}
 
--- calls that weren't done leave the disk as it was
+-- calls that weren't done leave the disk unchanged
 undone_left : (state : Option State) (xs : List Exchange) → All (λ (x : Exchange). is_done x.answer ≡ false) xs → left_by state xs ≡ state
 unfolding left_by
 undone_left state [] all = refl
@@ -45,7 +45,7 @@ module _ (head : WriteHead) (Named : ObjectId → Type 0) (SourceFailed : Type 0
         | inr one ↦ absurd one.2
       ]
 
-  -- where no temporary file could be made, the disk is as it was
+  -- if no temporary file could be made, the disk is unchanged
   pub unmade_left : (refusal : Refusal) (path : Path) (past : List Exchange) → error_from head refusal ≡ errors.Io messages.CreateTempFile path
       → IsRefusedRun head Named SourceFailed Counted refusal past → left_by state past ≡ state
   unmade_left (refusals.Io messages.CreateTempFile) path past e run = unmade_run past run

@@ -1,4 +1,4 @@
--- What a test, a find and a look for a header make of the answer to their ask. Nothing else decides.
+-- The results of a test, a find and a header look-up, from the answer to their ask and nothing else.
 use Rattle.std.specs.Prelude.{ℕ, ◌==◌, Bool, true, false, not, List, [], ◌∷◌, length, Option, Some, None, Result, Ok, Err, if◌then◌else◌}
 use Rattle.odb_base.specs.Path.{Path}
 use Rattle.odb_asks.specs.declared.ask.DiskAnswer.{DiskAnswer}
@@ -23,14 +23,14 @@ is_file nodes.File = true
 is_file nodes.Dir = false
 is_file nodes.Link = false
 
--- A file is a yes, a failed call is an error, want of memory is passed on, and all else is a no.
+-- A file is a yes, a failed call is an error, running out of memory is passed on, and all else is a no.
 abbrev pub tested_by : Path → DiskAnswer → Result Bool Error
 tested_by path (answers.Meta meta) = Ok (is_file meta.kind)
 tested_by path (answers.Refused disk_errors.Failed) = Err (unreadable path)
 tested_by path (answers.Refused disk_errors.NoMemory) = Err errors.NoMemory
 tested_by path answer = Ok false
 
--- the object that a file spells, or what it lacks: an empty file is told apart from one without a header
+-- the object that a file spells, or what it lacks: an empty file is distinguished from one without a header
 abbrev pub spelled_or : Option LooseObject → Result LooseObject Flaw
 spelled_or None = Err flaws.NoHeader
 spelled_or (Some object) = Ok object
@@ -55,7 +55,7 @@ abbrev pub header_from : Path → Result LooseObject Flaw → Result (Option (�
 header_from path (Err flaw) = Err (flaw_error path flaw)
 header_from path (Ok object) = Ok (Some (object.size, object.kind))
 
--- A read that gave no file: nothing at the path is a not-found, want of memory is passed on; a failed call, a wrong kind
+-- A read that gave no file: nothing at the path is a not-found, running out of memory is passed on; a failed call, a wrong kind
 -- and a link loop are errors.
 abbrev pub unread_by : {A : Type 0} → Path → DiskAnswer → Result (Option A) Error
 unread_by path (answers.Refused disk_errors.Absent) = Ok None

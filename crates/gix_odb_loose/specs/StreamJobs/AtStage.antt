@@ -23,7 +23,7 @@ removal_at w stage = asks.Remove (temp_path w.head.objects (number_in stage))
 
 -- ---- the data
 
--- none is taken, or what isn't appended is at hand, or all are appended and named
+-- none is taken; or those that aren't appended are in the piece; or all are appended and named
 abbrev pub Unread : Begun → List ℕ → StreamJob → Type 0
 Unread w all job = (all ≡ []) × (job.has_ended ≡ false) × Names w.known w.hash w.head [] job.naming
 
@@ -71,16 +71,16 @@ pub record IsNew (head : WriteHead) (hash : HashKind) (known : Option ObjectId) 
 
 -- ---- the calls that are left
 
--- how many bytes of data can come in all, at most: those that came where the source is at its end, else one above the size
+-- how many bytes of data there can be, at most: those read if the source is at its end, else the size and one more
 abbrev pub most_of : StreamJob → (written : ℕ) → ℕ
 most_of job written = if job.has_ended then written + length job.piece else job.head.size + 1
 
--- behind how many bytes of data it stands
+-- how many bytes of data are written so far
 abbrev pub written_at : WriteAsk → ℕ
 written_at (wants.Disk (stages.Filling number written)) = written
 written_at (wants.Data number written) = written
 written_at wanted = 0
 
--- how many calls of the disk it has left, at most, by what it asks for next
+-- how many calls of the disk are left, at most, by what is asked for next
 abbrev pub calls_left : StreamJob → WriteAsk → ℕ
 calls_left job wanted = writes_left (most_of job (written_at wanted)) wanted

@@ -23,7 +23,7 @@ use Rattle.gix_odb_loose.specs.declared.write_order.WriteHead.{WriteHead}
 use Rattle.gix_odb_loose.specs.declared.write_order.WriteStage.{WriteStage}
 use Rattle.gix_odb_loose.specs.declared.write_order.WriteStage.TheVariants as stages
 
--- what a write is about, and the disk and the source that it began with
+-- what a write is about, and the disk and the source at its start
 pub record Begun : Type 0 where
   pub head : WriteHead
   pub hash : HashKind
@@ -33,7 +33,7 @@ pub record Begun : Type 0 where
   pub state : Option State
   pub faults : ℕ
 
--- a write into a store as it began
+-- a write into a store at its start
 abbrev pub begun_in : Store → Kind → ℕ → Option ObjectId → Option (List ℕ) → ℕ → Option State → ℕ → Begun
 begun_in store kind size known left source_faults state faults =
     record { head = write_head store kind size; hash = store_hash store; known = known; left = left; source_faults = source_faults; state = state; faults = faults }
@@ -49,14 +49,14 @@ SourceFailed w now = Rose w.source_faults now
 abbrev pub IsSpared : Begun → ℕ → Type 0
 IsSpared w now = now ≡ w.source_faults
 
--- the source failed behind what was appended, and the temporary file is to be removed
+-- the source failed after what was appended, and the temporary file is to be removed
 pub record FailedAt (w : Begun) (stage : WriteStage) (past : List Exchange) : Type 0 where
   pub number : ℕ
   pub appended : List ℕ
   pub filled : IsFilled w.head number appended past
   pub is : stage ≡ stages.Removing number (refusals.Io messages.StreamData)
 
--- reads were made behind what was appended
+-- reads were made after what was appended
 pub record LostAt (w : Begun) (stage : WriteStage) (past : List Exchange) : Type 0 where
   pub number : ℕ
   pub appended : List ℕ
@@ -69,16 +69,16 @@ pub record Did (w : Begun) (state : Option State) (now : ℕ) (past : List Excha
   pub left : state ≡ left_by w.state past
   pub failed : FailByFaults w.faults now past
   pub later : w.faults ≤ now
-  -- before the first exchange the disk tells nothing of its tree
+  -- before the first exchange, nothing is assumed of the disk's tree
   pub tree : (past ≡ []) ⊎ IfSome w.state (λ s. IsTree (tree_of s))
 
--- the bytes taken so far: one above the size at most
+-- the bytes taken so far: at most one more than the size
 pub record Took (w : Begun) (rest : Option (List ℕ)) (now : ℕ) (all : List ℕ) : Type 0 where
   pub drawn : Draws w.left rest all
   pub few : length all ≤ w.head.size + 1
   pub later : w.source_faults ≤ now
 
--- a write as it was made, by what it left and answered, and by which exchanges are all its calls
+-- a write that was made, by what it left, its result, and which exchanges are all its calls
 abbrev pub write_made : Begun → (AreCalls : List Exchange → Type 0) → Option State → (now source_now : ℕ) → Result ObjectId Error → Write
 write_made w AreCalls state now source_now result =
     record {
@@ -90,7 +90,7 @@ write_made w AreCalls state now source_now result =
       answer = result;
     }
 
--- ---- the history of a write, by what it gets its id from and what is told of its source
+-- ---- the history of a write, by where its id comes from and what is known of its source
 
 abbrev pub WentTo : Begun → (source_now : ℕ) (appended : List ℕ) → WriteStage → List Exchange → Type 0
 WentTo w source_now appended stage past = IsHistory w.head (NamedBy w) (SourceFailed w source_now) (OtherLength w.left w.head.size) appended stage past

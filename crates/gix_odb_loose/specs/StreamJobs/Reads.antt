@@ -5,14 +5,14 @@ use Rattle.gix_odb_loose.specs.WriteStreams.{Draws, IsAtEnd}
 use Rattle.gix_odb_loose.specs.declared.fetch.Fetched.{Fetched}
 use Rattle.gix_odb_loose.specs.declared.fetch.Fetched.TheVariants.{Piece, Failed}
 
--- some bytes were taken, at most so many, and are lost
+-- some bytes were taken, at most `most`, and are lost
 pub record Loses (most : ℕ) (left rest : Option (List ℕ)) (faults now : ℕ) : Type 0 where
   pub lost : List ℕ
   pub drawn : Draws left rest lost
   pub few : length lost ≤ most
   pub later : faults ≤ now
 
--- a piece was taken, and no read failed: fewer bytes than were asked for only at the end
+-- a piece was taken, and no read failed: fewer bytes than asked for only at the end
 pub record Takes (most : ℕ) (left rest : Option (List ℕ)) (faults now : ℕ) (piece : List ℕ) : Type 0 where
   pub drawn : Draws left rest piece
   pub few : length piece ≤ most

@@ -1,4 +1,4 @@
--- A write from a source asks what the same write asks with its data at hand. No public clause cites this.
+-- A write from a source makes the asks of the same write with its data in memory. No public clause cites this.
 use Rattle.std.specs.Prelude.{◌≡◌, ◌⊎◌, ℕ, List, Result, Err}
 use Rattle.gix_hash.specs.declared.object_id.ObjectId.{ObjectId}
 use Rattle.gix_odb_loose.specs.Exchanges.{Exchange}
@@ -13,11 +13,11 @@ use Rattle.gix_odb_loose.specs.declared.write_order.WriteStage.TheVariants as st
 use Rattle.gix_odb_loose.specs.declared.write_at_hand.WriteJob.{WriteJob}
 use Rattle.gix_odb_loose.specs.StreamJobs.Progress.{Begun}
 
--- the same write with its data at hand
+-- the same write with its data in memory
 abbrev pub at_hand : Begun → List ℕ → WriteJob
 at_hand w bytes = write_of w.head w.hash w.known bytes
 
--- where a write is broken off at a stage, what it asked led to one with the same temporary file
+-- where a write is broken off at a stage, its asks led to a stage with the same temporary file
 pub record CutsAt (job : WriteJob) (stage : WriteStage) (past : List Exchange) : Type 0 where
   pub reached : WriteStage
   pub made : number_made reached ≡ number_made stage

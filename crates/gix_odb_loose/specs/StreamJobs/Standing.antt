@@ -1,4 +1,4 @@
--- A write from a source on its way: where it stands, where it waits, where it ends. No public clause cites this.
+-- A write from a source in progress: at a stage, waiting for data, or at its end. No public clause cites this.
 use Rattle.std.specs.Prelude.{◌≡◌, ◌⊎◌, ℕ, List, [], Option, Some, Result, Ok, Err}
 use Rattle.odb_nodes.specs.Tree.{State}
 use Rattle.odb_asks.specs.declared.ask.DiskAsk.{DiskAsk}
@@ -24,7 +24,7 @@ use Rattle.gix_odb_loose.specs.StreamJobs.Progress.{Begun, NamedBy, SourceFailed
 use Rattle.gix_odb_loose.specs.StreamJobs.AtStage.{removal_at, Named, Holds, HoldsNone, IsReady}
 use Rattle.gix_odb_loose.specs.StreamJobs.SameAsks.{at_hand, CutsAt, FollowsAt, FollowsToEnd}
 
--- a write that stands at a stage, whose removal is as it is to be there
+-- a write at a stage, with the removal that this stage requires
 pub record Stands (Ready : DiskAsk → Type 0) (w : Begun) (state : Option State) (now : ℕ) (past : List Exchange) (rest : Option (List ℕ)) (source_now : ℕ) (job : StreamJob) (stage : WriteStage) : Type 0 where
   pub appended : List ℕ
   pub all : List ℕ
@@ -41,11 +41,11 @@ pub record Stands (Ready : DiskAsk → Type 0) (w : Begun) (state : Option State
 abbrev pub StandsAt : Begun → Option State → ℕ → List Exchange → Option (List ℕ) → ℕ → StreamJob → WriteStage → Type 0
 StandsAt w state now past rest source_now job stage = Stands (λ removal. removal ≡ removal_at w stage) w state now past rest source_now job stage
 
--- it was put before a stage by an answer: its removal is ready, but where the next temporary name is to be tried
+-- an answer led to a stage: its removal is ready, unless the next temporary name is to be tried
 abbrev pub StandsBefore : Begun → Option State → ℕ → List Exchange → Option (List ℕ) → ℕ → StreamJob → WriteStage → Type 0
 StandsBefore w state now past rest source_now job stage = Stands (λ removal. IsReady w removal stage) w state now past rest source_now job stage
 
--- a write that asks for data behind so many bytes
+-- a write that asks for data after `written` bytes
 pub record WaitsAt (w : Begun) (state : Option State) (now : ℕ) (past : List Exchange) (rest : Option (List ℕ)) (source_now : ℕ) (job : StreamJob) (number written : ℕ) : Type 0 where
   pub appended : List ℕ
   pub all : List ℕ
@@ -59,7 +59,7 @@ pub record WaitsAt (w : Begun) (state : Option State) (now : ℕ) (past : List E
   pub spared : IsSpared w source_now
   pub follows : (bytes : List ℕ) → w.left ≡ Some bytes → IsAlong (at_hand w bytes) (Stage (supplied_with (at_hand w bytes) number written)) past
 
--- a write that memory ran out of between two turns: its removal is ready, where it made its file
+-- a write that ran out of memory between two turns: its removal is ready, if it made its file
 pub record BreaksAt (w : Begun) (state : Option State) (now : ℕ) (past : List Exchange) (rest : Option (List ℕ)) (source_now : ℕ) (job : StreamJob) (stage : WriteStage) : Type 0 where
   pub appended : List ℕ
   pub all : List ℕ
@@ -70,7 +70,7 @@ pub record BreaksAt (w : Begun) (state : Option State) (now : ℕ) (past : List 
   pub spared : IsSpared w source_now ⊎ LostAt w stage past
   pub follows : (bytes : List ℕ) → w.left ≡ Some bytes → CutsAt (at_hand w bytes) stage past
 
--- the end of the data was told, with the id that they get by their naming
+-- the data have ended, with the id from their naming
 abbrev pub IsEnded : (number written size : ℕ) → Option Naming → WriteStage → Type 0
 IsEnded number written size naming stage =
     (known : Option ObjectId) (hash : HashKind) (head : WriteHead) (all : List ℕ) → Names known hash head all naming → stage ≡ ended_with size (name_for known hash head all) number written
@@ -91,7 +91,7 @@ pub record IsAtItsEnd (w : Begun) (state : Option State) (now : ℕ) (past : Lis
   pub spared : IsSpared w source_now ⊎ ((end ≡ Err (refusals.Io messages.StreamData)) × IsFailedRead w.head past)
   pub follows : (bytes : List ℕ) → w.left ≡ Some bytes → FollowsToEnd (at_hand w bytes) (SourceFailed w source_now) end past
 
--- a write that memory ran out of, and that has asked to remove the temporary file that it made
+-- a write that ran out of memory, and asked to remove the temporary file that it made
 pub record IsBrokenOff (w : Begun) (state : Option State) (now : ℕ) (past : List Exchange) (rest : Option (List ℕ)) (source_now : ℕ) : Type 0 where
   pub all : List ℕ
   pub did : Did w state now past

@@ -1,4 +1,4 @@
--- What refuses an ask of a write, what of that a list of exchanges shows, and the cause of an error in them.
+-- What refuses an ask of a write, what exchanges show of that, and the cause of an error in them.
 use Rattle.std.specs.Prelude.{◌≡◌, ℕ, List, [], ◌∷◌, ◌++◌, Contains}
 use Rattle.odb_asks.specs.declared.ask.DiskAsk.{DiskAsk}
 use Rattle.odb_asks.specs.declared.ask.DiskAsk.TheVariants as asks
@@ -13,13 +13,13 @@ use Rattle.gix_odb_loose.specs.declared.write.Error.{Error}
 use Rattle.gix_odb_loose.specs.declared.write_order.WriteHead.{WriteHead}
 use Rattle.gix_odb_loose.specs.WriteHistory.WentWell.{IsFilled}
 
--- Exists refuses neither a new file, whose next name is tried then, nor a directory
+-- Exists refuses neither a new file (the next name is tried) nor a directory
 abbrev pub IsRefusedByExists : DiskAsk → Type 0
 IsRefusedByExists (asks.NewFile path) = ⊥
 IsRefusedByExists (asks.MakeDir path) = ⊥
 IsRefusedByExists ask = Unit {0}
 
--- an answer refuses an ask, and not for want of memory
+-- an answer refuses an ask, other than by running out of memory
 abbrev pub IsRefused : DiskAsk → DiskAnswer → Type 0
 IsRefused ask answers.Done = ⊥
 IsRefused ask (answers.Refused disk_errors.NoMemory) = ⊥
@@ -38,7 +38,7 @@ DoneIn past ask = Contains past (exchanged ask answers.Done)
 abbrev pub WantedIn : List Exchange → Type 0
 WantedIn past = (ask : DiskAsk) × Contains past (exchanged ask (answers.Refused disk_errors.NoMemory))
 
--- The source of the data failed behind what was appended, and then the temporary file was asked to be removed.
+-- The source of the data failed after what was appended, and then the temporary file was asked to be removed.
 pub record IsFailedRead (head : WriteHead) (past : List Exchange) : Type 0 where
   pub number : ℕ
   pub appended : List ℕ

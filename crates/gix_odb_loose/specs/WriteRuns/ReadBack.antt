@@ -1,4 +1,4 @@
--- What a write leaves where the disk tells its states: the object's path reads as the header and the data.
+-- What a write leaves where the disk reports its states: the object's path reads as the header and the data.
 use Rattle.std.specs.Prelude.{◌≡◌, ℕ, false, List, ◌++◌, Option, Some, Ok}
 use Rattle.odb_base.specs.Path.{Path}
 use Rattle.odb_nodes.specs.Tree.{State, tree_of}
@@ -12,8 +12,8 @@ use Rattle.gix_odb_loose.specs.LooseFile.{loose_path}
 use Rattle.gix_odb_loose.specs.WriteOrder.{temp_path}
 use Rattle.gix_odb_loose.specs.declared.write_order.WriteHead.{WriteHead}
 
--- The last change of a write moves the temporary file to the object's path. Then this path reads as the header and the
--- data, unless a link was replaced that is crossed on the way of the path.
+-- The last change of a write moves the temporary file to the object's path. Then this path reads as the header and the data,
+-- unless a link on the way of the path was replaced.
 pub record ReadsBack (head : WriteHead) (number : ℕ) (id : ObjectId) (bytes : List ℕ) (before left : Option State) : Type 0 where
   -- the state at the rename, which the calls before it left
   pub state : State

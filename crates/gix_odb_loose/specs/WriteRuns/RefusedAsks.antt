@@ -1,4 +1,4 @@
--- What the asks of a write were refused by.
+-- Which answers refused the asks of a write.
 use Rattle.std.specs.Prelude.{◌≡◌, ◌⊎◌, List, Contains, Option, IfSome}
 use Rattle.odb_nodes.specs.Tree.{State}
 use Rattle.odb_asks.specs.declared.ask.DiskAsk.{DiskAsk}
@@ -19,8 +19,8 @@ IsOnWay disk_errors.NotEmpty = ⊥
 IsOnWay disk_errors.Failed = ⊥
 IsOnWay disk_errors.NoMemory = ⊥
 
--- An answer refuses by a failure, which the count of faults shows, or by the way. What a disk answers that doesn't tell its
--- state isn't known.
+-- An answer refuses by a failure, which the count of faults shows, or by the way. The answers of a disk that doesn't report its
+-- state aren't known.
 abbrev pub RefusesBy : Option State → (Failed : Type 0) → DiskAnswer → Type 0
 RefusesBy state Failed answer = ((answer ≡ answers.Refused disk_errors.Failed) × Failed) ⊎ IfSome state (λ _. (error : DiskError) × IsOnWay error × (answer ≡ answers.Refused error))
 

@@ -1,4 +1,4 @@
--- What it comes to that a pack was read, stored or passed over.
+-- What follows where a pack was read, stored or passed over.
 use Rattle.std.specs.Prelude.{ℕ, ◌==◌, List, [], ◌∷◌, unwrap_or, Option, Some, None, Result, Ok, Err, if◌then◌else◌}
 use Rattle.odb_asks.specs.declared.ask.DiskAnswer.{DiskAnswer}
 use Rattle.odb_asks.specs.declared.ask.DiskAnswer.TheVariants as answers
@@ -30,7 +30,7 @@ pack_or_bad goal ahead pack bytes =
     if is_pack (kind_of goal.id) bytes then at goal ahead (stages.StoringPack pack (record { kind = kind_of goal.id; bytes = bytes }))
     else ends.Bad errors.LoadPack
 
--- an absent pack is passed over, so that the search goes on; whatever else it can't be read by ends the search
+-- an absent pack is passed over, so that the search goes on; any other failed read ends the search
 abbrev pub pack_read : Goal → Ahead → WantedPack → DiskAnswer → Tried
 pack_read goal ahead pack (answers.File bytes time) = pack_or_bad goal ahead pack bytes
 pack_read goal ahead pack (answers.Refused disk_errors.Absent) = at goal ahead (stages.PassingPack pack)
@@ -45,7 +45,7 @@ abbrev pub pack_among : WantedPack → List PackFile → Option FileBytes
 pack_among pack [] = None
 pack_among pack (file ∷ files) = if same_path file.path pack.path then loaded file.state else pack_among pack files
 
--- the pack as the first index shows it that stands in its slot
+-- the pack as the first index of its slot shows it
 abbrev pub pack_in : WantedPack → List SnapshotIndex → Option FileBytes
 pack_in pack [] = None
 pack_in pack (shown ∷ rest) = if shown.slot == pack.slot then pack_among pack shown.packs else pack_in pack rest

@@ -1,4 +1,4 @@
-//! What the core made of an index that was read.
+//! How the core shows an index that was stored.
 ghost use Rattle.std.specs.Prelude.{◌≡◌, IfOk};
 ghost use Rattle.std.specs.List.{find};
 ghost use Rattle.gix_odb_packs.specs.LoadOrder.{index_stored, is_at, own_index, shown_behind};
@@ -10,14 +10,14 @@ use gix_pack_files::index;
 use odb_base::NoMemory;
 use std::alloc::Global;
 
-/// Whether an index that is shown stands in a slot, at a path.
+/// Returns whether an index that is shown is in a slot, at a path.
 fn is_at(place: &IndexPlace, shown: &SnapshotIndex) -> bool
     ensures at { result ≡ is_at place.now shown.now }
 {
     shown.slot == place.slot && *shown.path.value() == place.path
 }
 
-/// The index of a slot that is shown, where it stands at a path.
+/// Returns the index of a slot that is shown, where it is at a path.
 fn at_path(place: &IndexPlace, shown: Option<SnapshotIndex>) -> Option<SnapshotIndex>
     ensures at { result ≡ at_path place.now shown }
 {
@@ -30,7 +30,7 @@ fn at_path(place: &IndexPlace, shown: Option<SnapshotIndex>) -> Option<SnapshotI
     }
 }
 
-/// The index of a slot and a path among those that are listed.
+/// Returns the index of a slot and a path among those that are listed.
 fn listed_at(place: &IndexPlace, view: &View) -> Result<Option<SnapshotIndex>, NoMemory>
     ensures listed { IfOk result (λ shown. shown ≡ find (is_at place.now) view.now.snapshot.indices) }
 {
@@ -38,7 +38,7 @@ fn listed_at(place: &IndexPlace, view: &View) -> Result<Option<SnapshotIndex>, N
     Ok(at_path(place, shown))
 }
 
-/// The index of a slot and a path among those that are kept.
+/// Returns the index of a slot and a path among those that are kept.
 fn kept_at(place: &IndexPlace, view: &View) -> Result<Option<SnapshotIndex>, NoMemory>
     ensures kept { IfOk result (λ shown. shown ≡ find (is_at place.now) view.now.snapshot.kept) }
 {
@@ -46,7 +46,7 @@ fn kept_at(place: &IndexPlace, view: &View) -> Result<Option<SnapshotIndex>, NoM
     Ok(at_path(place, shown))
 }
 
-/// The index of a slot and a path, as an effect shows it: listed, or else kept.
+/// Returns the index of a slot and a path, as an effect shows it: listed, or else kept.
 fn shown_behind(place: &IndexPlace, effect: &Effect) -> Result<Option<SnapshotIndex>, NoMemory>
     ensures shown { IfOk result (λ shown. shown ≡ shown_behind place.now effect.now) }
 {
@@ -59,7 +59,7 @@ fn shown_behind(place: &IndexPlace, effect: &Effect) -> Result<Option<SnapshotIn
     }
 }
 
-/// An index as it was read, whose slot no longer holds its path: its pack is still to be read.
+/// Returns an index as it was read, whose slot no longer holds its path: its pack is still to be read.
 fn own_index(
     alloc: Global,
     place: IndexPlace,
@@ -77,7 +77,7 @@ fn own_index(
     })
 }
 
-/// An index that was stored, as the core shows it, or else as it was read.
+/// Returns an index that was stored, as the core shows it, or else as it was read.
 pub(super) fn index_stored(
     alloc: Global,
     place: IndexPlace,

@@ -12,7 +12,7 @@ use odb_base::NoMemory;
 use std::alloc::Global;
 
 impl Notes {
-    /// The notes, with why an index was passed over.
+    /// Returns the notes, with why an index was passed over.
     fn noting(self, why: PassWhy) -> Notes
         ensures noted { result ≡ noting self why }
     {
@@ -41,7 +41,7 @@ impl Ahead {
     }
 }
 
-/// The search goes on in an index that was loaded.
+/// Continues the search in an index that was loaded.
 fn index_loaded(
     alloc: Global,
     goal: Goal,
@@ -61,7 +61,7 @@ fn index_loaded(
     }
 }
 
-/// What it comes to after a step of the loading.
+/// Returns the step after a step of the loading.
 pub(super) fn after_load(
     alloc: Global,
     goal: Goal,

@@ -1,4 +1,4 @@
-//! What was read of a pack that is tried.
+//! What follows where a pack was read that is tried.
 ghost use Rattle.std.specs.Prelude.{◌≡◌, IfOk};
 ghost use Rattle.gix_odb_packs.specs.TryOrder.{pack_or_bad, pack_read};
 
@@ -12,7 +12,7 @@ use odb_base::{ByteList, NoMemory};
 use odb_nodes::DiskError;
 use std::alloc::Global;
 
-/// What it comes to that bytes of a pack were read.
+/// Returns the step after bytes of a pack were read.
 fn pack_or_bad(
     alloc: Global,
     goal: Goal,
@@ -39,7 +39,7 @@ fn pack_or_bad(
     }
 }
 
-/// What it comes to that a pack was read. Want of memory ends it.
+/// Returns the step after a pack was read. Fails where memory runs out.
 pub(super) fn pack_read(
     alloc: Global,
     goal: Goal,

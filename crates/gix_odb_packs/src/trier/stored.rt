@@ -1,4 +1,4 @@
-//! What the core made of a pack that was read.
+//! How the core shows a pack that was stored.
 ghost use Rattle.std.specs.Prelude.{◌≡◌, IfOk, unwrap_or};
 ghost use Rattle.std.specs.Option.{option_copied};
 ghost use Rattle.gix_odb_packs.specs.TryOrder.{by_given, pack_among, pack_behind, pack_in, pack_passed, pack_stored};
@@ -12,7 +12,7 @@ use gix_pack_files::data;
 use odb_base::NoMemory;
 use std::alloc::Global;
 
-/// What a look into a pack comes to.
+/// Returns the result of trying from what a pack gave.
 fn by_given(given: Result<Found, Error>) -> Tried
     ensures tried { result ≡ by_given given }
 {
@@ -22,7 +22,7 @@ fn by_given(given: Result<Found, Error>) -> Tried
     }
 }
 
-/// The pack as an index of its slot shows it, where it is loaded.
+/// Returns the pack as an index of its slot shows it, where it is loaded.
 fn pack_among<'a>(pack: &WantedPack, packs: &'a [PackFile]) -> Option<&'a Shared<data::File>>
     ensures pack { option_copied result ≡ pack_among pack.now packs.now }
 {
@@ -34,7 +34,7 @@ fn pack_among<'a>(pack: &WantedPack, packs: &'a [PackFile]) -> Option<&'a Shared
     None
 }
 
-/// The pack as an index shows it, where it is loaded.
+/// Returns the pack as an index shows it, where it is loaded.
 fn pack_of(
     pack: &WantedPack,
     shown: &Option<SnapshotIndex>,
@@ -50,7 +50,7 @@ fn pack_of(
     }
 }
 
-/// The pack by the index of its slot that is listed.
+/// Returns the pack by the index of its slot that is listed.
 fn listed_pack(pack: &WantedPack, view: &View) -> Result<Option<Shared<data::File>>, NoMemory>
     ensures pack { IfOk result (λ file. file ≡ pack_in pack.now view.now.snapshot.indices) }
 {
@@ -58,7 +58,7 @@ fn listed_pack(pack: &WantedPack, view: &View) -> Result<Option<Shared<data::Fil
     pack_of(pack, &shown)
 }
 
-/// The pack by the index of its slot that is kept.
+/// Returns the pack by the index of its slot that is kept.
 fn kept_pack(pack: &WantedPack, view: &View) -> Result<Option<Shared<data::File>>, NoMemory>
     ensures pack { IfOk result (λ file. file ≡ pack_in pack.now view.now.snapshot.kept) }
 {
@@ -66,7 +66,7 @@ fn kept_pack(pack: &WantedPack, view: &View) -> Result<Option<Shared<data::File>
     pack_of(pack, &shown)
 }
 
-/// The pack as an effect shows it, by the index of its slot that is listed, or else by the one that is kept.
+/// Returns the pack as an effect shows it, by the index of its slot that is listed, or else by the one that is kept.
 fn pack_behind(pack: &WantedPack, effect: &Effect) -> Result<Option<Shared<data::File>>, NoMemory>
     ensures pack { IfOk result (λ file. file ≡ pack_behind pack.now effect.now) }
 {
@@ -79,7 +79,7 @@ fn pack_behind(pack: &WantedPack, effect: &Effect) -> Result<Option<Shared<data:
     }
 }
 
-/// The pack as an effect shows it, or else as it was read.
+/// Returns the pack as an effect shows it, or else as it was read.
 fn pack_shown(
     pack: &WantedPack,
     file: Shared<data::File>,
@@ -96,7 +96,7 @@ fn pack_shown(
     }
 }
 
-/// What it comes to that a pack was stored, or that another file stands there: the pack as the core shows it gives the
+/// Returns the step after a pack was stored, or where its slot holds another file: the pack as the core shows it gives the
 /// object, or else the one that was read.
 pub(super) fn pack_stored(
     alloc: Global,
@@ -116,7 +116,7 @@ pub(super) fn pack_stored(
     Ok(by_given(given?))
 }
 
-/// What it comes to that an absent pack was passed over.
+/// Returns the step after an absent pack was passed over.
 pub(super) fn pack_passed(
     alloc: Global,
     goal: Goal,

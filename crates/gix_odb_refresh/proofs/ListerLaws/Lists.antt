@@ -1,4 +1,4 @@
--- Elements of lists: what a search finds, what stands at a place, and rows that are put in order.
+-- Elements of lists: what a search finds, what is at a place, and rows that are put in order.
 use Rattle.std.proofs.Common.{◌≡◌, ℕ, zero, suc, Bool, true, false, cond, List, [], ◌∷◌, map, All, Contains, slice_get, nat_lt, Some, refl, subst, arith}
 use Rattle.std.specs.List.{filter, find}
 use Rattle.std.proofs.lemmas.List.Elements.{All-cons, All-head, All-map, All-nil, All-tail, All-weaker, filter_passes}

@@ -28,9 +28,9 @@ lister_reads folder (list_stages.Breaking dir) tree = refl
 lister_reads folder (list_stages.Index path left) tree = refl
 lister_reads folder (list_stages.Pack row left) tree = refl
 
--- ---- what is told of streams
+-- ---- what is known of streams
 
--- what is told of streams behind exchanges, and before any
+-- what is known of streams after exchanges, and before any
 abbrev pub told_from : Told → List Exchange → Told
 told_from before exchanges =
     record { last = opened_from before.last exchanges; left = open_from before.left exchanges; stream = stream_from before.stream exchanges }
@@ -40,7 +40,7 @@ none_told = record { last = None; left = None; stream = None }
 
 -- ---- which stream is asked
 
--- the stream that a call reads or closes is open, and none is where one is to be opened
+-- the stream that a call reads or closes is open, and none is open where one is to be opened
 abbrev pub AsksOwn : Told → Ask → Type 0
 AsksOwn now (asks.Disk (disk_asks.OpenDir path)) = HasNone now
 AsksOwn now (asks.Disk (disk_asks.NextEntry dir)) = (folder : Path) × IsOpen now folder dir

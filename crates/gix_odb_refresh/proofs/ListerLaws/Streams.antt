@@ -1,4 +1,4 @@
--- A look-up reads and closes no stream but the one that it opened last, and has at most one open at a time.
+-- A look-up reads and closes only the stream that it opened last, and has at most one open at a time.
 use Rattle.std.proofs.Common.{◌≡◌, ℕ, false, List, [], ◌∷◌, ◌++◌, slice_get, Option, Some, None, refl, sym, ap, ◌∙◌, subst}
 use Rattle.odb_base.specs.Path.{Path}
 use Rattle.odb_asks.specs.declared.ask.DiskAnswer.{DiskAnswer}
@@ -32,7 +32,7 @@ pub record Opened : Type 0 where
   pub folder : Path
   pub dir : ℕ
 
--- behind one exchange more
+-- after one more exchange
 abbrev pub opened_by : Option Opened → Ask → Answer → Option Opened
 opened_by before (asks.Disk (disk_asks.OpenDir folder)) (told.Disk (answers.Dir dir)) = Some (record { folder = folder; dir = dir })
 opened_by before ask answer = before
@@ -58,7 +58,7 @@ open_from before (exchange ∷ exchanges) = open_from (open_by before exchange.a
 abbrev pub left_open : List Exchange → Option Opened
 left_open exchanges = open_from None exchanges
 
--- behind one exchange more at the end
+-- after one more exchange at the end
 opened_from-push : (before : Option Opened) (past : List Exchange) (exchange : Exchange)
     → opened_from before (past ++ exchange ∷ []) ≡ opened_by (opened_from before past) exchange.ask exchange.answer
 opened_from-push before [] exchange = refl
@@ -77,7 +77,7 @@ pub left_open-push : (past : List Exchange) (exchange : Exchange)
     → left_open (past ++ exchange ∷ []) ≡ open_by (left_open past) exchange.ask exchange.answer
 left_open-push past exchange = open_from-push None past exchange
 
--- behind one exchange more
+-- after one more exchange
 stream_from-push : (before : Option Stream) (past : List Exchange) (exchange : Exchange)
     → stream_from before (past ++ exchange ∷ []) ≡ stream_by (stream_from before past) exchange.ask exchange.answer
 stream_from-push before [] exchange = refl
@@ -86,7 +86,7 @@ stream_from-push before (first ∷ past) exchange = stream_from-push (stream_by 
 pub stream_in-push : (past : List Exchange) (exchange : Exchange) → stream_in (past ++ exchange ∷ []) ≡ stream_by (stream_in past) exchange.ask exchange.answer
 stream_in-push past exchange = stream_from-push None past exchange
 
--- all that exchanges tell of streams
+-- all that exchanges show of streams
 pub record Told : Type 0 where
   pub last : Option Opened
   pub left : Option Opened
@@ -98,7 +98,7 @@ told_by before ask answer =
 
 -- ---- what is known of them while folders are listed
 
--- this stream of a folder was opened last, is open, and the exchanges tell of it
+-- this stream of a folder was opened last, is open, and the exchanges show it
 pub record IsOpen (now : Told) (folder : Path) (dir : ℕ) : Type 0 where
   pub last : now.last ≡ Some (record { folder = folder; dir = dir })
   pub left : now.left ≡ Some (record { folder = folder; dir = dir })
@@ -107,7 +107,7 @@ pub record IsOpen (now : Told) (folder : Path) (dir : ℕ) : Type 0 where
   pub of : stream.folder ≡ folder
   pub number : stream.dir ≡ dir
 
--- A stream of this number was opened last, in a folder, and is still open; and the exchanges tell what the stream of this folder gave.
+-- A stream of this number was opened last, in a folder, and is still open; and the exchanges show what the stream of this folder gave.
 pub record IsOwnStream (exchanges : List Exchange) (dir : ℕ) : Type 0 where
   pub folder : Path
   pub last : opened_last exchanges ≡ Some (record { folder = folder; dir = dir })
@@ -152,7 +152,7 @@ none_stays_open before ask answer opens none = subst (λ (left : Option Opened).
 -- ---- an answer to a listing
 
 module _ (folders : List Path) (head : ListHead) where
-  -- behind a stream that is closed, or that wasn't opened
+  -- after a stream that is closed, or that wasn't opened
   behind_has_none : (now : Told) → HasNone now → (own : ListHead) (next : Option Path) → StreamBehind now (behind_folder own next)
   behind_has_none now none own None = none
   behind_has_none now none own (Some folder) = none
@@ -170,7 +170,7 @@ module _ (folders : List Path) (head : ListHead) where
       (slice_get folders head.next)
   open_goes before none answer = none
 
-  -- the stream that exchanges tell of stays one of its folder while it is read
+  -- the stream that exchanges show stays one of its folder while it is read
   reads_of_folder : (stream : Stream) (folder : Path) (dir : ℕ) → stream.folder ≡ folder → stream.dir ≡ dir → (answer : DiskAnswer)
       → (next : Stream) × (reads (Some stream) answer ≡ Some next) × (next.folder ≡ folder) × (next.dir ≡ dir)
   reads_of_folder stream folder dir of number (answers.Entry entry) = (record stream { entries = stream.entries ++ entry ∷ [] }, refl, of, number)

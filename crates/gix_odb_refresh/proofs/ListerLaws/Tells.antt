@@ -31,7 +31,7 @@ use Rattle.gix_odb_refresh.specs.Store.{Setting}
 use Rattle.gix_odb_refresh.specs.Suited.{Suits}
 use Rattle.gix_odb_refresh.proofs.ListerLaws.Folders.{IsAtFolder}
 
--- ---- failures that exchanges tell
+-- ---- failures in exchanges
 
 pub HasFailed-more : (past more : List Exchange) → HasFailed past → HasFailed (past ++ more)
 HasFailed-more past more is = record { exchange = is.exchange; among = Contains-append_left past more is.exchange is.among; failed = is.failed }
@@ -43,7 +43,7 @@ HasFailed-from_told exchanges ask answer was is = record { exchange = record { a
 
 -- ---- why a listing breaks
 
--- a stream that is closed since it could not be read on tells a failure
+-- a stream that is closed since it could not be read on shows a failure
 abbrev pub Breaks : List Exchange → ListStage → Type 0
 Breaks exchanges stages.Opening = Unit {0}
 Breaks exchanges (stages.Reading dir entries) = Unit {0}

@@ -27,7 +27,7 @@ use Rattle.gix_odb_packs.specs.declared.lister.Lister.{Lister}
 use Rattle.gix_odb_refresh.specs.Laps.{HasAtMost}
 use Rattle.gix_odb_refresh.specs.Stream.{Stream, opens, stream_by}
 
--- ---- the indices of a folder are no more than its entries
+-- ---- the indices of a folder are at most as many as its entries
 
 filtered : (entry : Entry) (passes : Bool) (kept : List Entry) (all : ℕ) → length kept ≤ all → length (cond passes (entry ∷ kept) kept) ≤ suc all
 filtered entry true kept all few = omega arith
@@ -59,7 +59,7 @@ length-index_paths folder entries =
     )
 
 module _ (folders : List Path) (entries : ℕ) where
-  -- a folder is opened, its entries and its end are read, it is closed, and each index is looked at beside its pack
+  -- a folder is opened, its entries and its end are read, it is closed, and each index and its pack are statted
   abbrev pub folder_turns : ℕ
   folder_turns = 3 * entries + 3
 
@@ -78,7 +78,7 @@ module _ (folders : List Path) (entries : ℕ) where
   abbrev pub lister_turns : Lister → ℕ
   lister_turns lister = stage_turns lister.stage + further lister.head.next
 
-  -- the entries that a listing has are no more than its stream gave, nor than a folder has
+  -- a listing has at most as many entries as its stream gave, and as a folder has
   abbrev HasGiven : Option Stream → List Entry → Type 0
   HasGiven None found = ⊥
   HasGiven (Some stream) found = (length found ≤ length stream.entries) × (length found ≤ entries)
@@ -106,7 +106,7 @@ module _ (folders : List Path) (entries : ℕ) where
   pub lister_turns-pos : (lister : Lister) → 0 < lister_turns lister
   lister_turns-pos lister = omega (arith, some_turns lister.stage)
 
-  -- ---- what a listing comes to next
+  -- ---- what a listing does next
 
   one_further : (next : ℕ) → next < length folders → folder_turns + further (next + 1) ≤ further next
   one_further next within =
@@ -151,7 +151,7 @@ module _ (folders : List Path) (entries : ℕ) where
 
   -- ---- one turn
 
-  -- the stream behind the answer
+  -- the stream after the answer
   abbrev counted : Option Stream → ListHead → ListStage → DiskAnswer → Option Stream
   counted stream head stage answer = stream_by stream (asks.Disk (ask_at head.folder stage)) (told.Disk answer)
 

@@ -36,7 +36,7 @@ use Rattle.gix_odb_refresh.specs.declared.refresh.RefreshStep.{RefreshStep}
 use Rattle.gix_odb_refresh.specs.declared.refresh.RefreshStep.TheVariants as steps
 use Rattle.gix_odb_refresh.proofs.AskedLemmas.{holds_behind}
 
--- a failure that broke a listing off is told by more exchanges too
+-- a failure that broke a listing off is also in more exchanges
 pub Breaks-more : (past more : List Exchange) (stage : ListStage) → Breaks past stage → Breaks (past ++ more) stage
 Breaks-more past more (list_stages.Breaking dir) breaks = HasFailed-more past more breaks
 Breaks-more past more list_stages.Opening breaks = tt
@@ -46,7 +46,7 @@ Breaks-more past more (list_stages.Index path left) breaks = tt
 Breaks-more past more (list_stages.Pack row left) breaks = tt
 
 module _ (setting : Setting) where
-  -- a listing is at one of the folders, and closes a stream early only behind a failure
+  -- a listing is at one of the folders, and closes a stream early only after a failure
   abbrev pub IsSound : List Exchange → Lister → Type 0
   IsSound past lister = IsAtFolder setting lister.head × Breaks past lister.stage
 

@@ -1,4 +1,4 @@
--- The rows that a refresh hands to the core have different paths, where the folders of the store are different.
+-- The rows that a refresh passes to the core have different paths, where the folders of the store are different.
 use Rattle.std.proofs.Common.{◌≡◌, ℕ, Bool, true, false, List, [], ◌∷◌, ◌++◌, Option, Some, None, Ok, Err}
 use Rattle.std.specs.List.{IsDistinct}
 use Rattle.std.specs.Prelude.{if◌then◌else◌}

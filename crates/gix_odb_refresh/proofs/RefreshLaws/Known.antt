@@ -35,14 +35,14 @@ use Rattle.gix_odb_refresh.specs.declared.refresh.RefreshStep.{RefreshStep}
 use Rattle.gix_odb_refresh.specs.declared.refresh.RefreshStep.TheVariants as steps
 use Rattle.gix_odb_refresh.proofs.AskedLemmas.{holds_behind}
 
--- all that exchanges tell of streams
+-- all that exchanges show of streams
 abbrev pub told_of : List Exchange → Told
 told_of exchanges = told_from none_told exchanges
 
 abbrev told_with : Option Opened → Option Opened → Option Stream → Told
 told_with last left stream = record { last = last; left = left; stream = stream }
 
--- behind one exchange more
+-- after one more exchange
 pub told_of-push : (past : List Exchange) (exchange : Exchange) → told_of (past ++ exchange ∷ []) ≡ told_by (told_of past) exchange.ask exchange.answer
 told_of-push past exchange =
     ap (λ (last : Option Opened). told_with last (left_open (past ++ exchange ∷ [])) (stream_in (past ++ exchange ∷ []))) (opened_last-push past exchange)
@@ -63,13 +63,13 @@ ShowedUnread-more past exchange was = record {
 }
 
 module _ (setting : Setting) where
-  -- what is told of streams is of the listing at hand, whose rows are of indices; a listing is made only after a look at an unread list
+  -- what is known of streams is of the present listing, whose rows are of indices; a listing is made only after the core showed an unread list
   abbrev pub KnowsAt : Told → List Exchange → Refresh → Type 0
   KnowsAt now past stages.Reading = HasNone now
   KnowsAt now past (stages.Listing lister) = KnowsLister setting lister × StreamOf now lister × ShowedUnread past
   KnowsAt now past (stages.Publishing listing) = HasNone now × All (IsIndexRow setting) listing.rows × ShowedUnread past
 
-  -- no stream is open at the end, and an error comes only after such a look, or where the look itself was refused
+  -- no stream is open at the end, and an error comes only after the core showed such a list, or where the read of its state was refused
   abbrev pub StepKnowsAt : Told → List Exchange → RefreshStep → Type 0
   StepKnowsAt now past (steps.More refresh) = KnowsAt now past refresh
   StepKnowsAt now past (steps.Refused error) = HasNone now × (ShowedUnread past ⊎ LookRefused past)
@@ -78,7 +78,7 @@ module _ (setting : Setting) where
   abbrev pub Knows : List Exchange → RefreshStep → Type 0
   Knows past step = StepKnowsAt (told_of past) past step
 
-  -- ---- one exchange more
+  -- ---- one more exchange
 
   module _ (now : Told) (past : List Exchange) where
     abbrev with_one : Ask → Answer → List Exchange
@@ -87,7 +87,7 @@ module _ (setting : Setting) where
     abbrev Goes : Refresh → Ask → Answer → Type 0
     Goes refresh ask answer = StepKnowsAt (told_by now ask answer) (with_one ask answer) (fed setting.objects setting.folders refresh answer)
 
-    -- the core was looked at
+    -- the core's state was read
     module _ (effect : Effect) (none : HasNone now) where
       abbrev looked : List Exchange
       looked = with_one (asks.Core events.Look) (told.Core (Ok effect))
@@ -114,7 +114,7 @@ module _ (setting : Setting) where
     look_goes none (told.Core (Err refusal)) =
         (none, inr (refusal, Contains-push past (record { ask = asks.Core events.Look; answer = told.Core (Err refusal) })))
 
-    -- a folder is listed on
+    -- the listing of a folder continues
     listed_goes : (following : Told) (more : List Exchange) (step : ListStep) → KnowsListStep setting step → StreamBehind following step → ShowedUnread more
         → StepKnowsAt following more (by_listed step)
     listed_goes following more (listed.More lister) known stream unread = (known, stream, unread)

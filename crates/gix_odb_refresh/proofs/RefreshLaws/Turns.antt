@@ -36,7 +36,7 @@ module _ (objects : Path) (folders : List Path) (entries : ℕ) where
   abbrev pub listing_turns : ℕ
   listing_turns = folder_turns folders entries + further folders entries 0
 
-  -- so many turns are enough, where the stream that is open gave what the listing has: a look, a listing, and its publishing
+  -- so many turns are enough, where the open stream gave what the listing has: a read of the core's state, a listing, and its publishing
   abbrev pub HasTurns : Option Stream → Refresh → (turns : ℕ) → Type 0
   HasTurns stream stages.Reading turns = listing_turns + 2 ≤ turns
   HasTurns stream (stages.Listing lister) turns = IsCounted folders entries stream lister × (lister_turns folders entries lister + 1 ≤ turns)
@@ -144,6 +144,6 @@ module _ (objects : Path) (folders : List Path) (entries : ℕ) where
       in
       omega (arith, rest)
 
-  -- a lap has room for a look, a listing and its publishing
+  -- a lap has room for a read of the core's state, a listing and its publishing
   pub lap_is_wide : (slots : ℕ) → listing_turns + 2 ≤ turns_of_lap slots (suc (length folders)) entries
   lap_is_wide slots = wide slots (length folders) entries

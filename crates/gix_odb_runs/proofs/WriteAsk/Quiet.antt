@@ -1,4 +1,4 @@
--- No answer of a disk is for want of memory; which calls change nothing, and what a call leaves of the disk.
+-- No answer of a disk is that memory ran out; which calls change nothing, and the disk after a call.
 use Rattle.std.proofs.Common.{◌≡◌, ◌≢◌, ℕ, Bool, true, false, List, [], ◌∷◌, Option, Some, None, Result, Ok, Err, refl, sym, ap}
 use Rattle.std.specs.Prelude.{if◌then◌else◌}
 use Rattle.odb_base.specs.Path.{Path}
@@ -21,7 +21,7 @@ use Rattle.odb_nodes.specs.declared.entry.Entry.{Entry}
 use Rattle.odb_nodes.specs.declared.meta.Meta.{Meta}
 use Rattle.gix_odb_runs.specs.Run.{change_by}
 
--- ---- no answer is for want of memory
+-- ---- no answer is that memory ran out
 
 ran_out-error : (refusal : Refusal) → ran_out (answers.Refused (error_of refusal)) ≡ false
 ran_out-error Absent = refl
@@ -105,13 +105,13 @@ change_by-quiet disk ask quiet = by_failing (fails_now disk ask)
     by_failing true = refl
     by_failing false = quiet
 
--- the record of a call takes the disk on as the call did
+-- the disk after the record of a call is the disk after the call
 pub after_ask-change : (disk : Volume) (ask : DiskAsk)
     → after_ask disk ask ≡ record (after_ask disk ask) { state = written disk.state (change_by disk ask) }
 unfolding after_ask
 after_ask-change disk ask = ap (λ (s : State). record (after_ask disk ask) { state = s }) (sym (after_either disk (change_of_ask (tree_of disk.state) ask) (fails_now disk ask)))
 
--- a look and a read make no change
+-- a stat and a read make no change
 pub look_quiet : (path : Path) (follow : Bool) (tree : Tree) → change_of_ask tree (asks.Look path follow) ≡ None
 unfolding change_of_ask
 look_quiet path follow tree = refl

@@ -1,4 +1,4 @@
--- What one event more makes of the steps from which a handle has its task, its store and its mode.
+-- What one more event does to the steps from which a handle has its task, its store and its mode.
 use Rattle.std.proofs.Common.{◌≡◌, ℕ, ◌+◌, ◌≤◌, true, List, [], ◌∷◌, ◌++◌, length, Some, None, refl, sym, ◌∙◌, ap, subst, arith, inl, inr, ◌⊎◌, take}
 use Rattle.std.specs.Prelude.{slice_get}
 use Rattle.std.proofs.lemmas.List.{length_push, take-append-le}
@@ -32,7 +32,7 @@ begun_once events handle begun call other a b =
     let step : steps.Start handle call ≡ steps.Start handle other = sym a.starts ∙ (ap (λ (x : Event). x.step) same ∙ b.starts) in
     cc step
 
--- one event is no open step and start of a call in one
+-- no event is both an open step and the start of a call
 open_or_call : (events : List Event) (handle begun : ℕ) (store : Store) (call : Call) → OpenedBy events handle begun store
     → BegunBy events handle begun call → ⊥
 open_or_call events handle begun store call o b =
@@ -48,7 +48,7 @@ one_task events handle begun store OpenStore (MakeCall call) a b = absurd (open_
 one_task events handle begun store (MakeCall call) OpenStore a b = absurd (open_or_call events handle begun store call b a)
 one_task events handle begun store (MakeCall call) (MakeCall other) a b = ap MakeCall (begun_once events handle begun call other a b)
 
--- ---- what is so of a handle
+-- ---- what holds of a handle
 
 -- its task was set by the latest step that sets one
 pub record IsLatestTask (events : List Event) (handle : ℕ) (running : Running) : Type 0 where
@@ -65,13 +65,13 @@ open_is_task handle (steps.Open other path folders hash replacements options) is
 open_is_task handle (steps.Clone other from) is = is
 open_is_task handle step is = absurd is
 
--- ---- one event more
+-- ---- one more event
 
 module _ (events : List Event) (e : Event) where
   abbrev whole : List Event
   whole = events ++ e ∷ []
 
-  -- the last event is no such step
+  -- the last event is no step of this kind
   abbrev Apart : (Step → Type 0) → Type 0
   Apart P = e.outcome ≡ outcomes.Applied → ¬ (P e.step)
 
@@ -82,7 +82,7 @@ module _ (events : List Event) (e : Event) where
         | inr last ↦ apart (ap (λ (y : Event). y.outcome) last.1 ∙ applied) (subst (λ (y : Event). P y.step) (sym last.1) is)
       ]
 
-  -- there is none after the last event
+  -- there is no such step after the last event
   pub none_after : (P : Step → Type 0) → NoneSince P whole (length events + 1)
   none_after P place x later there applied is =
       let within = slice_get_within whole place x there in
@@ -163,7 +163,7 @@ module _ (events : List Event) (e : Event) where
         (subst (NoneSince (IsOpenOf handle) whole) (sym number) (none_after (IsOpenOf handle)))
         (λ is. absurd (cc is), λ a. absurd (no_applied_after (IsIgnoreOf handle) (subst (AppliedSince (IsIgnoreOf handle) whole) number a)))
 
-    -- what stood before a place stands before it still
+    -- what lay before a place still lies before it
     front_kept : (place : ℕ) (event : Event) → slice_get events place ≡ Some event → take place events ≡ take place whole
     front_kept place event there =
         let within = slice_get_within events place event there in
@@ -227,7 +227,7 @@ module _ (events : List Event) (e : Event) where
     stems_kept (Working running) no_task no_ignore stems =
         (holds_kept running.store running.modes (λ applied is. no_task applied (open_is_task handle e.step is)) no_ignore stems.0, task_kept running no_task stems.1)
 
-    -- ---- what a step makes of a handle
+    -- ---- what a step does to a handle
 
     pub stems_ignoring : (status : Status) → None ≡ why_not_idle (phase_of status) → e.step ≡ steps.Ignore handle → e.outcome ≡ outcomes.Applied
         → Stems events handle status → Stems whole handle (ignoring_from status)

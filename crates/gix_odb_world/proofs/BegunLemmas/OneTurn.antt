@@ -1,4 +1,4 @@
--- What a turn, and a clone, makes of the steps from which a handle has its task, its store and its mode.
+-- What a turn, and a clone, do to the steps from which a handle has its task, its store and its mode.
 use Rattle.std.proofs.Common.{◌≡◌, ℕ, Bool, true, false, List, [], ◌∷◌, ◌++◌, Result, Ok, Err, refl, sym, ◌∙◌}
 use Rattle.std.specs.Prelude.{if◌then◌else◌}
 use Rattle.gix_odb_calls.specs.declared.call.Reply.{Reply}

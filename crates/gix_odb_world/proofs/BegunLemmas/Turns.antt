@@ -27,12 +27,12 @@ use Rattle.gix_odb_world.specs.Headline.{IsLawful, IsTurn, Law, Suits}
 use Rattle.gix_odb_world.proofs.AlongRun.{along_run}
 use Rattle.gix_odb_world.proofs.ToldLemmas.{turned_by}
 
--- running work tells as many turns as its handle took since it began
+-- running work counts as many turns as its handle took since it began
 abbrev pub Counts : List Event → (handle : ℕ) → Status → Type 0
 Counts events handle (Working running) = (running.begun ≤ length events) × (running.turns ≡ turns_since events handle running.begun)
 Counts events handle status = Unit {0}
 
--- ---- one event more
+-- ---- one more event
 
 and_false : (b : Bool) → (b && false) ≡ false
 and_false true = refl
@@ -83,7 +83,7 @@ module _ (past : List Event) (e : Event) where
   counts_rest handle store modes true = tt
   counts_rest handle store modes false = tt
 
-  -- ---- what a step makes of its handle
+  -- ---- what a step does to its handle
 
   counts_ignoring : (handle : ℕ) (status : Status) → is_turn_of handle e ≡ false → Counts past handle status → Counts whole handle (ignoring_from status)
   counts_ignoring handle Free other counts = tt
@@ -116,7 +116,7 @@ module _ (past : List Event) (e : Event) where
   counts_replied handle asked reply (Resting store modes) = tt
   counts_replied handle asked reply (Working running) = counts_rest handle running.store (modes_after asked running.modes) (refuses_opening reply)
 
--- ---- what an event makes of all handles
+-- ---- what an event does to all handles
 
 module _ (first : Volume) (past : List Event) (e : Event) (law : Law first past e) (before : (handle : ℕ) → Counts past handle (status_of past handle)) where
   abbrev now : List Event

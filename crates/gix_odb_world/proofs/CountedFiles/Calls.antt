@@ -38,7 +38,7 @@ use Rattle.gix_odb.specs.declared.open_state.OpenStage.{OpenStage}
 use Rattle.gix_odb.specs.declared.open_state.OpenStage.TheVariants as opens
 use Rattle.gix_odb_world.proofs.ToldLists.{nothing_among}
 
--- what is among elements is the first or among those behind it
+-- what is among elements is the first or among those after it
 one_of_first : {A : Type 0} (x : A) (xs : List A) (y : A) → Contains (x ∷ xs) y → (x ≡ y) ⊎ Contains xs y
 one_of_first x xs y (zero, within, is) = inl is
 one_of_first x xs y (suc k, within, is) = inr (k, omega (arith, within), is)
@@ -49,7 +49,7 @@ module _ (setting : Setting) (slots : Slots) where
 
   -- ---- the calls of a listing
 
-  -- exchanges are those of a listing that makes these calls, and comes to the same
+  -- exchanges are those of a listing that makes these calls, and they have the same result
   pub record HasCalls (step : ListStep) (exchanges : List Exchange) : Type 0 where
     pub calls : List Call
     pub are : AreCalls folders step calls
@@ -57,7 +57,7 @@ module _ (setting : Setting) (slots : Slots) where
     pub made : (call : Call) → Contains calls call → WasTold exchanges (asks.Disk call.ask) (told.Disk call.answer)
     pub of_tree : (tree : Tree) (coming : List Entry) → AreOfTree tree coming exchanges → AreCallsOfTree tree coming calls
 
-  -- a listing that has ended stays so, and makes no call
+  -- a listing that has ended stays as it is, and makes no call
   listing_stays : (listing : Listing) (exchanges : List Exchange) → list_behind folders (listed.Listed listing) exchanges ≡ listed.Listed listing
   listing_stays listing [] = refl
   listing_stays listing (exchange ∷ exchanges) = listing_stays listing exchanges
@@ -125,11 +125,11 @@ module _ (setting : Setting) (slots : Slots) where
   abbrev start : ListStep
   start = listed.More (lists.started setting.objects 0)
 
-  -- the listing of the folders begins
+  -- the stage begins the listing of the folders
   abbrev BeginsListing : OpenStage → Type 0
   BeginsListing state = (percent : ℕ) × (minimum : ℕ) × (state ≡ opens.Listing (lists.started setting.objects 0) percent minimum)
 
-  -- none begins: what an opening asks for from there on leaves a listing where it was
+  -- the stage begins no listing: what an opening asks for from there on leaves a listing where it was
   abbrev ListsNothing : OpenStage → Type 0
   ListsNothing state = (exchanges : List Exchange) → AreAsked setting slots state exchanges → AreSuited exchanges → list_behind folders start exchanges ≡ start
 
@@ -174,7 +174,7 @@ module _ (setting : Setting) (slots : Slots) where
   looked_goes (answers.Refused disk_errors.Failed) = inr (done_lists_nothing (replies.Refused (call_errors.Open opening_errors.Io)))
   looked_goes answer = inr (done_lists_nothing (replies.Refused (call_errors.Open opening_errors.NotADirectory)))
 
-  -- behind its look an opening calls the disk for nothing but what the listing of its folders asks for
+  -- after its stat an opening calls the disk only for what the listing of its folders asks for
   pub calls_behind_the_look : (answer : DiskAnswer) (exchanges : List Exchange) → AreAsked setting slots (looked setting.objects slots answer) exchanges
       → AreSuited exchanges → HasCalls start exchanges
   calls_behind_the_look answer exchanges asked suited =

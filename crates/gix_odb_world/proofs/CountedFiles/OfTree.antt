@@ -1,4 +1,4 @@
--- While one tree answers exchanges, the stream that is open has given, and is to give, what its folder's directory lists.
+-- While one tree answers exchanges, the open stream has given, and is to give, what its folder's directory lists.
 use Rattle.std.proofs.Common.{◌≡◌, List, [], ◌∷◌, ◌++◌, Option, Some, None, Ok, refl, sym, ap, ◌∙◌, subst, append_assoc}
 use Rattle.odb_base.specs.Path.{Path}
 use Rattle.odb_asks.specs.declared.ask.DiskAnswer.{DiskAnswer}
@@ -27,7 +27,7 @@ module _ (tree : Tree) where
   of_tree_to coming [] left of = tt
   of_tree_to coming (exchange ∷ exchanges) left of = (of.0, of.1, of_tree_to of.0 exchanges left of.2)
 
-  -- with one exchange more
+  -- with one more exchange
   pub AreOfTreeTo-push : (coming : List Entry) (exchanges : List Exchange) (left : List Entry) (exchange : Exchange) (after : List Entry)
       → AreOfTreeTo tree coming exchanges left → IsToldOfTree tree left exchange.ask exchange.answer after
       → AreOfTreeTo tree coming (exchanges ++ exchange ∷ []) after
@@ -36,7 +36,7 @@ module _ (tree : Tree) where
   AreOfTreeTo-push coming (first ∷ exchanges) left exchange after of one =
       (of.0, of.1, AreOfTreeTo-push of.0 exchanges left exchange after of.2 one)
 
-  -- ---- the stream that is open
+  -- ---- the open stream
 
   -- with these entries still to come it gives what its folder's directory lists
   abbrev pub GivesAll : Option Stream → (coming : List Entry) → Type 0
@@ -84,7 +84,7 @@ module _ (tree : Tree) where
   one_gives before coming (asks.Core event) (told.Disk answer) left all of = absurd of
   one_gives before coming (asks.NewCore slots folders) (told.Disk answer) left all of = absurd of
 
-  -- behind all exchanges it does still
+  -- after all exchanges it still does
   pub streams_give_all : (before : Option Stream) (coming : List Entry) (exchanges : List Exchange) (left : List Entry) → GivesAll before coming
       → AreOfTreeTo tree coming exchanges left → GivesAll (stream_from before exchanges) left
   streams_give_all before coming [] left all of = as_before before coming left all of

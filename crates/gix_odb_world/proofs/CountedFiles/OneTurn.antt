@@ -1,4 +1,4 @@
--- What a handle that lists folders of packs was answered: where its work begins, and after one event more.
+-- What a handle that lists folders of packs was answered: where its work begins, and after one more event.
 use Rattle.std.proofs.Common.{◌≡◌, inl, inr, ℕ, ◌≤◌, Bool, true, false, List, [], ◌∷◌, ◌++◌, length, Option, None, Result, Ok, Err, refl, sym, ap, ◌∙◌, subst, arith}
 use Rattle.std.specs.Prelude.{if◌then◌else◌}
 use Rattle.std.proofs.lemmas.List.{append_cancel_left, length_push}
@@ -46,7 +46,7 @@ same_listed one other is = cc is
 
 -- ---- the answers of a disk that has a tree
 
--- an answer is itself, whether it is that the call failed or not
+-- an answer is itself, whether the call failed or not
 is_itself : (answer : DiskAnswer) → IsOrFails answer answer
 is_itself (answers.Refused errors.Failed) = tt
 is_itself answer = refl
@@ -64,13 +64,13 @@ opened_as_told false dir (Err WrongKind) = ([], refl)
 opened_as_told false dir (Err LinkLoop) = ([], refl)
 
 module _ (tree : Tree) (disk : Volume) (here : tree_of disk.state ≡ tree) (coming : List Entry) where
-  -- what is asked on no stream
+  -- a call that is on no stream
   still_told : (ask : DiskAsk) → IsOrFails (if fails_now disk ask then answers.Refused errors.Failed else answer_of (tree_of disk.state) ask) (answer_of tree ask)
   still_told ask =
       subst (λ (t : Tree). IsOrFails (if fails_now disk ask then answers.Refused errors.Failed else answer_of t ask) (answer_of tree ask)) (sym here)
       (or_fails (fails_now disk ask) (answer_of tree ask))
 
-  -- a call is answered by the tree, where the stream that is open gives the entries that are coming
+  -- a call is answered by the tree, where the open stream gives the entries that are coming
   told_of_tree : (ask : DiskAsk)
       → ((dir : ℕ) → ask ≡ asks.NextEntry dir → (left : List Entry) × GivesNext coming (answer_now disk (asks.NextEntry dir)) left)
       → (left : List Entry) × IsOfTree tree coming ask (answer_now disk ask) left
@@ -87,23 +87,23 @@ module _ (tree : Tree) (disk : Volume) (here : tree_of disk.state ≡ tree) (com
   told_of_tree (asks.Rename from to) next = (coming, (still_told (asks.Rename from to), refl))
   told_of_tree (asks.Remove path) next = (coming, (still_told (asks.Remove path), refl))
 
--- ---- one event more
+-- ---- one more event
 
 module _ (first : Volume) (events : List Event) (e : Event) where
   abbrev whole : List Event
   whole = events ++ e ∷ []
 
-  -- a tree stood from then until now
+  -- the tree was this one from then until now
   abbrev Stands : List Event → (begun : ℕ) → Tree → Type 0
   Stands history begun tree = Throughout begun (length history) (λ moment. tree_at first history moment ≡ tree)
 
-  -- one that stood until the event stood before it
+  -- a tree that was there until the event was there before it
   stood_before : (begun : ℕ) (tree : Tree) → Stands whole begun tree → Stands events begun tree
   stood_before begun tree stood moment from to =
       let longer = length_push events e in
       sym (tree_at-before first events e moment to) ∙ stood moment from (omega (arith, to, longer))
 
-  -- where nothing was told
+  -- where nothing was answered
   pub given_at_first : (handle begun : ℕ) → told_since whole handle begun ≡ [] → AreGiven first whole handle begun
   given_at_first handle begun none = record {
     given = λ ask answer was.
@@ -112,7 +112,7 @@ module _ (first : Volume) (events : List Event) (e : Event) where
     of_tree = λ tree stood. ([], subst (λ (xs : List Exchange). AreOfTreeTo tree [] xs []) (sym none) refl);
   }
 
-  -- where nothing more is told
+  -- where nothing more is answered
   pub given_as_before : (handle begun : ℕ) → told_since whole handle begun ≡ told_since events handle begun → AreGiven first events handle begun
       → AreGiven first whole handle begun
   given_as_before handle begun same before = record {
@@ -161,7 +161,7 @@ module _ (first : Volume) (events : List Event) (e : Event) where
     IsGivenPart asked answer = Unit {0}
 
     module _ (tree : Tree) (stood : Stands events begun tree) (coming : List Entry) (of : AreOfTreeTo tree [] before coming) where
-      -- the stream that is open gives the entries that are coming
+      -- the open stream gives the entries that are coming
       next_of_tree : (dir : ℕ) → IsOwnStream before dir → (left : List Entry) × GivesNext coming (answer_now disk (asks.NextEntry dir)) left
       next_of_tree dir mine =
           let gives : GivesNext coming (answer_now disk (asks.NextEntry mine.stream.dir)) read.left =

@@ -1,4 +1,4 @@
--- A file at its spot: it stands there, and which changes leave it and the way to it alone.
+-- A file at its spot: it is there, and which changes leave it and the way to it alone.
 use Rattle.std.proofs.Common.{◌≡◌, ◌≢◌, inl, inr, true, [], ◌∷◌, ◌++◌, length, drop, Some, None, Ok, Err, sym, ap, ◌∙◌, subst}
 use Rattle.std.specs.Prelude.{if◌then◌else◌}
 use Rattle.odb_base.specs.Path.{Name, Path}
@@ -18,7 +18,7 @@ use Rattle.odb_nodes.proofs.TreeLemmas.Moved.{begins-own, behind-append}
 use Rattle.odb_nodes.proofs.TreeLemmas.Write.{vacant_at}
 use Rattle.odb_nodes.proofs.WayLaws.{file_here, own_on_way}
 
--- what lies in a directory stands at its own path
+-- what lies in a directory is at its own path
 stands_at_itself : (t : Tree) → IsTree t → (front : Path) (name : Name) (n : Node) → node_at t (front ++ name ∷ []) ≡ Some n
     → spot t (front ++ name ∷ []) ≡ Ok (front ++ name ∷ [])
 unfolding spot
@@ -33,7 +33,7 @@ stands_at_itself t is_tree front name n at =
     ∙ ap (λ c. if is_directory_content c then Ok (front ++ last) else Err WrongKind) d.content
     ∙ ap (λ r. Ok (front ++ r)) (behind-append front (name ∷ []))
 
--- the change of another writer leaves a file and the way to its spot alone, where it moves his file elsewhere
+-- the change of another writer leaves a file and the way to its spot alone, where it moves its file elsewhere
 pub spot_left : (t : Tree) → IsTree t → (front : Path) (name : Name) (s : Path) → s ≡ front ++ name ∷ [] → Stops t true s s
     → (other : Path) (change : Change) → IsOwnChange t other change → other ≢ s → ((p : Path) → change ≡ Rename other p → p ≢ s)
     → SameOnWay t (changed t change) true s

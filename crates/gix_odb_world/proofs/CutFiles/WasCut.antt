@@ -24,13 +24,13 @@ module _ (run : LawfulRun) where
 
   -- ---- what has become of a temporary file that was cut off
 
-  -- a file stands at a spot, and it is that of no other handle's write
+  -- a file is at a spot, and it is that of no other handle's write
   pub record Stands (handle now : ℕ) (s : Path) : Type 0 where
     pub stops : Stops (tree now) true s s
     pub apart : (other last : ℕ) (twin : Path) → other ≢ handle → HasMade first events other last twin now → (o : files.Own run other last twin now)
         → o.spot ≢ s
 
-  -- the event at a place is a turn of another handle that cut the file off, which stood alone until then
+  -- the event at a place is a turn of another handle that cut the file off, which was alone until then
   pub record CutAt (handle made : ℕ) (path : Path) (place : ℕ) : Type 0 where
     pub own : files.Own run handle made path place
     pub temporary : IsTemporary own.spot

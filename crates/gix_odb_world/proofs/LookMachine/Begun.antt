@@ -91,7 +91,7 @@ module _ (first : Volume) (events : List Event) (e : Event) (handle : ℕ) (stor
       refused = refused_at_first events e handle modes.core;
     }
 
-  -- what a call begins with is the look-up of its query
+  -- a call begins with the look-up of its query
   begins_call : (query : Query) (look : LookUp) → IsStarted first begun_whole handle store modes (call_of query)
       → begun_with store modes (MakeCall (call_of query)) ≡ Calling (Looking look)
       → IsLooking first begun_whole handle (running_from number (MakeCall (call_of query)) store modes) look

@@ -1,4 +1,4 @@
--- A turn of a query: what it asks for, and what it comes to.
+-- A turn of a query: what it asks for, and how it ends.
 use Rattle.std.proofs.Common.{◌≡◌, ℕ, ◌+◌, ◌<◌, List, [], ◌∷◌, ◌++◌, length, Option, None, Some, Ok, Err, Result, refl, sym, ◌∙◌, ap, subst, arith}
 use Rattle.std.proofs.lemmas.List.{length_push}
 use Rattle.std.proofs.Math.Seq.{take-length}
@@ -129,7 +129,7 @@ module _ (first : Volume) (events : List Event) (handle : ℕ) (running : Runnin
       what_is_handed_can_happen setting knows.fits.distinct view query.want id exchanges knows.asked event
       (asked_now (Some (parts.Core event)) is) shape seat
 
-  -- ---- what its turn comes to
+  -- ---- how its turn ends
 
   module _ (e : Event) (ran : IsRunning first events handle running) where
     abbrev whole : List Event
@@ -162,7 +162,7 @@ module _ (first : Volume) (events : List Event) (handle : ℕ) (running : Runnin
     module _ (told_now_is : List Exchange) (told_is : told_since whole handle running.begun ≡ told_now_is)
         (well : IsToldWell first whole handle store running.modes running.begun) (refused : AreRefused whole handle running.modes.core running.begun)
         (rule : IndicesShowOne (tree_at first whole) store (length whole)) where
-      -- a reply of the look-up behind what is told then
+      -- a reply of the look-up after the answers by then
       replies : (reply : Reply) → AreAsked setting (look_begun events handle store running.modes running.begun query) told_now_is
           → result_of (behind setting (look_begun events handle store running.modes running.begun query) told_now_is) ≡ Ok reply
           → Promise first whole handle store running.modes running.begun running.task reply
@@ -175,14 +175,14 @@ module _ (first : Volume) (events : List Event) (handle : ℕ) (running : Runnin
           (ap (λ l. result_of (behind setting l (told_since whole handle running.begun))) (sym begins_same)
           ∙ (ap (λ xs. result_of (behind setting (look_begun events handle store running.modes running.begun query) xs)) told_is ∙ is)))
 
-    -- what it comes to with another snapshot
+    -- its result with another snapshot
     abbrev ComesWith : Option View → Result Reply LookUp → Type 0
     ComesWith view_now (Ok reply) = Promise first whole handle store running.modes running.begun running.task reply
     ComesWith view_now (Err next) =
         IsLooking first whole handle (record running { modes = record running.modes { view = view_now }; turns = running.turns + 1; work = Calling (Looking next) }) next
         × ((entries : ℕ) → HasAtMost (tree_at first whole) store.parts running.begun (length events + 1) entries → running.turns + 1 < bound_of_call store running.modes entries None)
 
-    -- ---- a turn in which it was told something
+    -- ---- a turn in which it was answered
 
     module _ (exchange : Exchange) (asked : ask_of look ≡ Some exchange.ask)
         (told_is : told_since whole handle running.begun ≡ exchanges ++ exchange ∷ [])
@@ -203,7 +203,7 @@ module _ (first : Volume) (events : List Event) (handle : ℕ) (running : Runnin
           let more = length_push exchanges exchange in
           ap length told_is ∙ omega (arith, had, more)
 
-      -- it stands behind what its handle was told by then
+      -- it is at the state after all answers to its handle by then
       knows_on : (view_now : Option View)
           → IsLooking first whole handle (record running { modes = record running.modes { view = view_now }; turns = running.turns + 1; work = Calling (Looking fed_now) }) fed_now
       knows_on view_now = record {

@@ -1,4 +1,4 @@
--- A write that gives an object its name: the name reads as a whole encoding, and again where it holds one.
+-- A write that gives an object its name: the name reads as a whole encoding, and again where it holds one already.
 use Rattle.std.proofs.Common.{◌≡◌, inl, inr, ℕ, ◌+◌, ◌<◌, ◌≤◌, true, false, List, [], ◌∷◌, ◌++◌, length, take, Some, Ok, sym, ap, ◌∙◌, subst, arith}
 use Rattle.std.specs.Prelude.{slice_get}
 use Rattle.std.proofs.lemmas.Bool.{cases_lt}
@@ -44,7 +44,7 @@ module _ (run : LawfulRun) where
   is_tree : (now : ℕ) → IsTree (tree now)
   is_tree = is_tree_at run
 
-  -- trees of a front of the run
+  -- trees of a prefix of the run
   tree_front : (count place : ℕ) → place ≤ count → tree_at first (take count events) place ≡ tree place
   tree_front count place within = ap (λ es. tree_of (disk_after first es).state) (front_of_front events place count within)
 
@@ -189,7 +189,7 @@ module _ (run : LawfulRun) where
             leads = rename_file_spot (tree place) (is_tree place) (temp_path w.objects given.number) (name_path w) gives.from to given.renames from_is free;
           })
 
-      -- a path that leads to a file at that very spot reads as the whole encoding too
+      -- a path that leads to a file at that spot reads as the whole encoding too
       pub spot_again : (path : Path) → OwnSpot (tree place) path to → OwnSpot (tree (place + 1)) path to
       spot_again path there =
           subst (λ u. OwnSpot u path to) (sym next_is)

@@ -33,7 +33,7 @@ module _ (trees : ℕ → Tree) (Failed : Type 0) (store : Store) (begun now : �
   abbrev pub Directory : Type 0
   Directory = Sometime begun now (λ moment. ShowsDirectory (trees moment) objects)
 
-  -- what a turn says of the error with which it ends: the causes of a listing are told by what was asked and answered
+  -- what a turn says of the error with which it ends: the causes of a listing are shown by what was asked and answered
   abbrev pub Says : opening.Error → Type 0
   Says opening_errors.NotADirectory = Sometime begun now (λ moment. ¬ ShowsDirectory (trees moment) objects)
   Says (opening_errors.TooManySlots asked) = Directory
@@ -41,14 +41,14 @@ module _ (trees : ℕ → Tree) (Failed : Type 0) (store : Store) (begun now : �
   Says (opening_errors.LoadIndex error) = Unit {0}
   Says opening_errors.NoMemory = ⊥
 
-  -- of what an opening comes to
+  -- what it says of the stage after it
   abbrev pub Looks : OpenStage → Type 0
   Looks opens.Looking = ⊥
   Looks (opens.Done (replies.Refused (call_errors.Open error))) = Says error
   Looks (opens.Done reply) = ⊥
   Looks state = Directory
 
-  -- something was so at the last moment
+  -- something held at the last moment
   at_last : (P : ℕ → Type 0) → P now → Sometime begun now P
   at_last P so = record { moment = now; from = later; to = omega arith; was = so }
 
@@ -67,7 +67,7 @@ module _ (trees : ℕ → Tree) (Failed : Type 0) (store : Store) (begun now : �
   listing_keeps shown percent minimum (listed.Listed listing) = by_number shown (slots_for percent minimum (length listing.rows))
   listing_keeps shown percent minimum listed.Broken = tt
 
-  -- ---- the look
+  -- ---- the stat
 
   by_slots : Directory → (slots : Slots) → Looks (with_slots objects slots)
   by_slots shown (Given number) = by_number shown number
@@ -79,7 +79,7 @@ module _ (trees : ℕ → Tree) (Failed : Type 0) (store : Store) (begun now : �
   shown_last : ShowsDirectory (trees now) objects → Directory
   shown_last shown = at_last (λ moment. ShowsDirectory (trees moment) objects) shown
 
-  -- what the look showed
+  -- what the stat showed
   by_kind : (meta : Meta) → looked (trees now) objects true ≡ Ok meta → (kind : Kind) → meta.kind ≡ kind → Looks (after_kind objects store.slots kind)
   by_kind meta e kinds.Dir is = by_slots (shown_last (rw e is)) store.slots
   by_kind meta e kinds.File is = not_shown (rw e (λ dir. cc))
@@ -91,7 +91,7 @@ module _ (trees : ℕ → Tree) (Failed : Type 0) (store : Store) (begun now : �
   by_look (Err WrongKind) e = not_shown (rw e (λ nothing. nothing))
   by_look (Err LinkLoop) e = not_shown (rw e (λ nothing. nothing))
 
-  -- the look failed, or was answered by the last moment's tree
+  -- the stat failed, or was answered by the last moment's tree
   pub look_keeps : (fails : Bool) → (fails ≡ true → Failed)
       → Looks (after_look objects store.slots (cond fails (answers.Refused disk_errors.Failed) (answer_of (trees now) (asks.Look objects true))))
   unfolding answer_of

@@ -1,4 +1,4 @@
--- A turn of an opening: what it asks for, and what it comes to.
+-- A turn of an opening: what it asks for, and how it ends.
 use Rattle.std.proofs.Common.{◌≡◌, inl, ℕ, ◌+◌, ◌*◌, ◌<◌, ◌≤◌, Bool, true, false, cond, List, [], ◌∷◌, ◌++◌, length, Some, None, refl, sym, ◌∙◌, ap, subst, arith}
 use Rattle.std.specs.List.{IsDistinct}
 use Rattle.std.proofs.lemmas.List.{length_push}
@@ -61,7 +61,7 @@ use Rattle.gix_odb_world.proofs.QuietTurn.{failed_now, shown_now}
 use Rattle.gix_odb_world.proofs.ToldLemmas.{told_none}
 use Rattle.gix_odb_runs.proofs.WriteAsk.Quiet.{change_by-quiet}
 
--- what was so at some moment before an event was so before and with it
+-- what held at some moment before an event held before and with it
 pub shown_before : (first : Volume) (events : List Event) (e : Event) (begun : ℕ) (objects : Path)
     → Sometime begun (length events) (λ moment. ShowsDirectory (tree_at first events moment) objects)
     → Sometime begun (length (events ++ e ∷ [])) (λ moment. ShowsDirectory (tree_at first (events ++ e ∷ []) moment) objects)
@@ -116,7 +116,7 @@ module _ (first : Volume) (events : List Event) (handle : ℕ) (running : Runnin
     own_stream dir same =
         streams_of_openings_are_their_own setting slots exchanges knows.asked knows.well.suited dir (inl (asks_now ∙ ap (λ a. Some (parts.Disk a)) same))
 
-  -- ---- what its turn comes to
+  -- ---- how its turn ends
 
   module _ (e : Event) (ran : IsRunning first events handle running) where
     abbrev whole : List Event
@@ -135,7 +135,7 @@ module _ (first : Volume) (events : List Event) (handle : ℕ) (running : Runnin
     pub now_is : running.begun ≤ length whole
     now_is = let since = knows.since in let more = length_push events e in omega (arith, since, more)
 
-    -- of what it comes to, at the moment behind its turn
+    -- what it says of the stage after it, at the moment after its turn
     abbrev LooksNow : OpenStage → Type 0
     LooksNow next = Looks (tree_at first whole) Failed store running.begun (length whole) now_is next
 
@@ -160,7 +160,7 @@ module _ (first : Volume) (events : List Event) (handle : ℕ) (running : Runnin
       gives : AreGiven first whole handle running.begun
       gives = given_on_disk first events e handle running ran knows.since knows.given ask (own_stream ask is) turn told_is
 
-      -- it stands behind what its handle was told by then
+      -- it is at the stage after all answers to its handle by then
       stands : next ≡ opening_now whole handle store running.begun
       stands =
           ap (λ s. openings.fed objects store.parts.folders slots s (told.Disk answer)) knows.is
@@ -217,7 +217,7 @@ module _ (first : Volume) (events : List Event) (handle : ℕ) (running : Runnin
 -- ---- its turns
 
 module _ (first : Volume) (events : List Event) (e : Event) (handle : ℕ) (running : Running) (ran : IsRunning first events handle running) where
-  -- the turn that looks
+  -- the turn of the stat
   module _ (knows : IsOpening first events handle running opens.Looking) where
     abbrev pub look : DiskAsk
     look = asks.Look running.store.parts.objects true
@@ -274,7 +274,7 @@ module _ (first : Volume) (events : List Event) (e : Event) (handle : ℕ) (runn
       asked = turn.asked;
     }
 
-    -- no folder of its store comes twice
+    -- no folder occurs twice in its store
     distinct : IsDistinct same_path (folder_list running.store.parts)
     distinct =
         let stems = subst (Stems events handle) ran.status (stems_now first events ran.lawful handle) in

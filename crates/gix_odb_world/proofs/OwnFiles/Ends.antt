@@ -25,7 +25,7 @@ pub removing_ends : (w : ToWrite) (number : ℕ) (refusal : Refusal) (answer : D
     → (reply : Reply) × (result_of_write (loose_order.fed (write_at w (stages.Removing number refusal)) answer) ≡ Ok reply)
 removing_ends w number refusal answer = (_, refl)
 
--- one that gives the object its name does too
+-- a write that gives the object its name does too
 pub moving_ends : (w : ToWrite) (number : ℕ) (id : ObjectId)
     → result_of_write (loose_order.fed (write_at w (stages.Moving number id)) answers.Done) ≡ Ok (replies.Wrote id)
 moving_ends w number id = refl

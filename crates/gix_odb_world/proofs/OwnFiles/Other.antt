@@ -1,4 +1,4 @@
--- What the turn of another write makes of a temporary file.
+-- What the turn of another write does to a temporary file.
 use Rattle.std.proofs.Common.{◌≡◌, ◌≢◌, ◌⊎◌, inl, inr, ℕ, ◌+◌, true, [], ◌∷◌, ◌++◌, Some, Ok, sym, ap, ◌∙◌, subst}
 use Rattle.std.specs.Prelude.{slice_get}
 use Rattle.odb_base.specs.Path.{Name, Path}
@@ -81,7 +81,7 @@ module _ (run : LawfulRun) where
             | inr c ↦ inr (cut_now o w c)
           ]
 
-      -- a way that was cut off stays so
+      -- a way that was cut off stays cut off
       pub lost_spared : Lost run path now → Lost run path (now + 1)
       lost_spared l =
           let w = wrote run now e there files b in

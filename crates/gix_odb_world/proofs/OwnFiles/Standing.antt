@@ -1,4 +1,4 @@
--- What has become of a temporary file after an event: it stands at its own spot, or its way was cut off.
+-- What has become of a temporary file after an event: it is at its own spot, or its way was cut off.
 use Rattle.std.proofs.Common.{◌≡◌, ◌≢◌, ◌⊎◌, inl, inr, ℕ, ◌+◌, ◌<◌, Bool, true, false, [], take, Option, Some, None, Ok, refl, sym, ap, ◌∙◌, subst, arith}
 use Rattle.std.specs.Prelude.{slice_get, ◌==◌}
 use Rattle.std.proofs.lemmas.Bool.{eqb-false, eqb-true}
@@ -52,7 +52,7 @@ module _ (run : LawfulRun) where
   abbrev tree : ℕ → Tree
   tree = tree_at first events
 
-  -- it stands at its own spot, and nobody else touched it
+  -- it is at its own spot, and nobody else touched it
   pub record Own (handle made : ℕ) (path : Path) (now : ℕ) : Type 0 where
     pub spot : Path
     pub event : Event
@@ -87,7 +87,7 @@ module _ (run : LawfulRun) where
   cut_made handle made now path hm at lost =
       let both : Some lost.front ≡ Some hm.running.store.parts.objects = sym lost.parent ∙ parent_made handle made now path hm in subst (Cut NotTemporary (tree at)) (cc both) lost.cut
 
-  -- ---- one event more
+  -- ---- one more event
 
   -- a handle that is at a write after an event, by the status that the event left
   pub at_write_next : (now : ℕ) (e : Event) → slice_get events now ≡ Some e → (handle : ℕ) (running : Running) (call : LooseCall)

@@ -1,4 +1,4 @@
--- What a write's own turn makes of its temporary file.
+-- What a write's own turn does to its temporary file.
 use Rattle.std.proofs.Common.{◌≡◌, ℕ, ◌+◌, List, take, Option, Some, None, Ok, refl, sym, ap, ◌∙◌, subst, arith}
 use Rattle.std.specs.Prelude.{slice_get}
 use Rattle.std.proofs.lemmas.Option.{slice_get_within}
@@ -54,7 +54,7 @@ module _ (run : LawfulRun) where
       own_moves : (c : Change) → e.entry.change ≡ Some c → WriterMoves (tree now) hm.running.store.parts.objects writes.stage c
       own_moves c is = moves_of run now e handle hm.running hm.call hm.at.writes writes works c is
 
-      -- one that was cut off changes nothing
+      -- a write that was cut off changes nothing
       pub lost_turn : Lost run path now → e.entry.change ≡ None
       lost_turn l = by_change e.entry.change refl
         where
@@ -64,7 +64,7 @@ module _ (run : LawfulRun) where
               let at = stage_of_made run handle made now path hm writes in
               absurd (does_nothing (tree now) (is_tree run now) hm.running.store.parts.objects c writes.stage at.0 at.1 (cut_made run handle made now path hm now l) (own_moves c is))
 
-      -- one that goes on leaves its file at its spot
+      -- a write that continues leaves its file at its spot
       pub own_turn : (o : Own run handle made path now) → HasMade first events handle made path (now + 1)
           → Own run handle made path (now + 1)
       own_turn o after = by_change e.entry.change refl

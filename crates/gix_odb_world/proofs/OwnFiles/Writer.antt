@@ -111,7 +111,7 @@ module _ (run : LawfulRun) where
         },
       )
 
-  -- a write that has made a file stands past its making, and the file is that of its stage
+  -- a write that has made a file is past its making, and the file is that of its stage
   pub stage_of_made : (handle made now : ℕ) (path : Path) (hm : HasMade first events handle made path now) (writes : IsWriting first (take now events) handle hm.running hm.call)
       → (number : ℕ) × (number_made writes.stage ≡ Some number) × (path ≡ temp_path hm.running.store.parts.objects number)
   stage_of_made handle made now path hm writes = by_number (number_made writes.stage) refl making

@@ -1,4 +1,4 @@
--- What the disk answers while an object lies in a pack: the calls that look at its index, its pack or their folder find them.
+-- What the disk answers while an object lies in a pack: the calls that stat or read its index, its pack or their folder find them.
 use Rattle.std.proofs.Common.{◌≡◌, ℕ, Bool, true, false, List, Result, Ok, refl, sym, ap, ◌∙◌, subst}
 use Rattle.std.specs.Prelude.{if◌then◌else◌}
 use Rattle.odb_base.specs.Path.{Path}

@@ -1,4 +1,4 @@
--- Where a name of a folder leads somewhere, the folder leads to a directory; and a path that can be read is a file when it is looked at.
+-- Where a name of a folder leads somewhere, the folder leads to a directory; and a path that can be read is a file by its stat.
 use Rattle.std.proofs.Common.{◌≡◌, ◌⊎◌, inl, inr, ℕ, zero, suc, true, false, List, [], ◌∷◌, ◌++◌, Option, Some, None, Result, Ok, Err}
 use Rattle.std.proofs.Common.{refl, sym, ap, ◌∙◌, append_assoc}
 use Rattle.odb_base.specs.Path.{Name, Path}
@@ -17,7 +17,7 @@ use Rattle.odb_nodes.specs.declared.node.Node.{Node}
 -- ---- the folder of a name that leads somewhere
 
 module _ (tree : Tree) (name : Name) where
-  -- What a pass along a path says of one that has the name behind it: past a directory anything, past another node it is blocked.
+  -- What a pass along a path says of one that has another name after it: past a directory anything, past another node it is blocked.
   abbrev GoesBelow : Pass → Pass → Type 0
   GoesBelow (Reached path node) below = (node.content ≡ Dir) ⊎ (below ≡ Blocked)
   GoesBelow (Onward path) below = below ≡ Onward (path ++ name ∷ [])
@@ -79,7 +79,7 @@ led_somewhere : (led : Result Place Refusal) (meta : Meta) → meta_of_place led
 led_somewhere (Ok place) meta is = (place, refl)
 led_somewhere (Err refusal) meta is = let wrong : ◌≡◌ {A = Result Meta Refusal} (Err refusal) (Ok meta) = is in absurd (cc wrong)
 
--- a folder with a name at which a look finds something can be opened
+-- a folder with a name at which a stat finds something can be opened
 pub folder_of_a_name_opens : (tree : Tree) (folder : Path) (name : Name) (meta : Meta) → looked tree (folder ++ name ∷ []) false ≡ Ok meta
     → (entries : List Entry) × (opened tree folder ≡ Ok entries)
 unfolding looked opened
@@ -100,7 +100,7 @@ led_to_file : (led : Result Place Refusal) (file : List ℕ × ℕ) → file_of_
 led_to_file (Ok place) file is = (meta_of place.node, refl, file_has_kind place.node.dev place.node.ino place.node.content file is)
 led_to_file (Err refusal) file is = absurd (cc is)
 
--- a look at it finds a file, a link in the last place followed
+-- its stat finds a file, a link in the last place followed
 pub read_file_is_looked_at : (tree : Tree) (path : Path) (file : List ℕ × ℕ) → read_of tree path ≡ Ok file
     → (meta : Meta) × (looked tree path true ≡ Ok meta) × (meta.kind ≡ kinds.File)
 unfolding looked read_of

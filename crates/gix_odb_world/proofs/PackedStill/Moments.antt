@@ -1,4 +1,4 @@
--- An object that lies still in a pack, and an index that shows one content, before an event and with it.
+-- An object that stays unchanged in a pack, and an index that shows one content, before an event and with it.
 use Rattle.std.proofs.Common.{◌≡◌, ◌⊎◌, inl, inr, ℕ, ◌+◌, ◌<◌, ◌≤◌, List, [], ◌∷◌, ◌++◌, length, Option, None, Ok, ap, ◌∙◌, subst, arith}
 use Rattle.std.proofs.lemmas.Bool.{cases_lt}
 use Rattle.std.proofs.lemmas.List.{length_push}
@@ -19,7 +19,7 @@ use Rattle.gix_odb_world.specs.Running.PackedStill.{IndicesShowOne, IsPackedStil
 use Rattle.gix_odb_world.proofs.HistoryLemmas.{tree_at-before, tree_at-now}
 use Rattle.gix_odb_world.proofs.Stock.OneCore.{shown_later}
 
--- what was shown as the index of what lies still is sound
+-- what was shown as the index of what stays unchanged is sound
 pub shown_index_is_sound : (trees : ℕ → Tree) (store : Store) (begun now : ℕ) (id : ObjectId) (place : PackedPlace)
     → IsPackedStill trees store begun now id place → store.opened ≤ begun → begun ≤ now
     → (bytes : List ℕ) → WasShownAt trees store.opened now (index_at place) bytes → IsIndexSound store.hash id place bytes
@@ -37,7 +37,7 @@ module _ (first : Volume) (events : List Event) (e : Event) where
   longer : length whole ≡ length events + 1
   longer = length_push events e
 
-  -- what lay still up to the moment behind an event lay still up to the one before
+  -- what stayed unchanged up to the moment after an event did so up to the one before
   pub still_before : (store : Store) (begun : ℕ) (id : ObjectId) (place : PackedPlace) → IsPackedStill (tree_at first whole) store begun (length whole) id place
       → IsPackedStill (tree_at first events) store begun (length events) id place
   still_before store begun id place still = record {
@@ -48,7 +48,7 @@ module _ (first : Volume) (events : List Event) (e : Event) where
         still.one one other (shown_later first events e store (index_at place) one was) (shown_later first events e store (index_at place) other further);
   }
 
-  -- at any moment it lies so
+  -- at any moment it lies there
   pub lies_at : (store : Store) (begun : ℕ) (id : ObjectId) (place : PackedPlace) → IsPackedStill (tree_at first whole) store begun (length whole) id place
       → (moment : ℕ) → begun ≤ moment → moment ≤ length events → LiesIndexed (tree_at first events moment) store.hash id place
   lies_at store begun id place still moment from to = (still_before store begun id place still).always moment from to
@@ -94,7 +94,7 @@ module _ (first : Volume) (events : List Event) (e : Event) where
     shows_one_later : ShowsOne (tree_at first events) opened (length events) path → ShowsOne (tree_at first whole) opened (length whole) path
     shows_one_later shows one other was further = shows one other (shown_before one was) (shown_before other further)
 
-  -- each index shows one content still
+  -- each index still shows one content
   pub indices_show_one_later : (store : Store) → store.opened ≤ length events → tree_at first whole (length events + 1) ≡ tree_at first events (length events)
       → IndicesShowOne (tree_at first events) store (length events) → IndicesShowOne (tree_at first whole) store (length whole)
   indices_show_one_later store early quiet shows folder among name named =

@@ -1,4 +1,4 @@
--- What a call hands to the core of its store as a listing, by the work that it is at.
+-- What a call passes to the core of its store as a listing, by the work that it is at.
 use Rattle.std.proofs.Common.{◌≡◌, ℕ, List, [], take, Option, Some, None, sym, ap, ◌∙◌, subst, arith}
 use Rattle.std.specs.List.{All}
 use Rattle.std.proofs.lemmas.Option.{slice_get_within}
@@ -51,10 +51,10 @@ pub no_event : (ask : Option DiskAsk) (event : CoreEvent) → ¬ (loose_ask ask 
 no_event None event is = cc is
 no_event (Some ask) event is = cc is
 
--- ---- a listing that is handed on
+-- ---- a listing that is passed on
 
--- The rows of a listing have different paths; each is that of an index in the pack directory of one of the store's folders, and was seen in what the
--- handle was told; and where one tree answered all of it, they are the tree's listed files.
+-- The rows of a listing have different paths; each is that of an index in the pack directory of one of the store's folders, and was seen in the
+-- handle's answers; and where one tree gave all of them, they are the tree's listed files.
 pub record IsListed (store : Store) (told : List Exchange) (listing : Listing) : Type 0 where
   pub different : HasDifferentPaths listing.rows
   pub at : All (IsIndexRow (setting_in store)) listing.rows
@@ -112,6 +112,6 @@ module _ (first : Volume) (events : List Event) (is : IsKnownRun first events) (
   by (Calling (Writing call)) knows asks = absurd (no_event (disk_ask_of call) (events_of.Publish listing) asks)
   by (Calling (Refused error)) knows asks = absurd knows
 
-  -- what a turn of any call hands to the core as a listing
+  -- what a turn of any call passes to the core as a listing
   pub listed_by_turn : IsListed running.store told listing
   listed_by_turn = by running.work runs.1 asks_it

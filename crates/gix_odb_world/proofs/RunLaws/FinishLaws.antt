@@ -1,4 +1,4 @@
--- Laws of runs about turns of a handle that are all pending, and about lines that finish what a handle is at.
+-- Laws of runs about turns of a handle that are all pending, and about lines that finish a task.
 use Rattle.std.proofs.Common.{◌≡◌, ◌≢◌, ℕ, zero, suc, ◌+◌, ◌-◌, ◌<◌, List, [], ◌∷◌, ◌++◌, length, map, Some, refl, sym, ap, ◌∙◌, subst, arith}
 use Rattle.std.specs.Prelude.{slice_get}
 use Rattle.std.specs.List.{AllByRecursion}
@@ -20,8 +20,8 @@ use Rattle.gix_odb_world.specs.RunLaws.Pending.{AreInTime, AreLinesInTime, ArePe
 use Rattle.gix_odb_world.proofs.RunLaws.KnownRun.{IsKnownRun}
 use Rattle.gix_odb_world.proofs.RunLaws.PendingTurns.{in_time}
 
--- Turns of one handle that are all pending, one after another in a run, are fewer than the bound of the task that the handle is at, with those that it took
--- for the task before.
+-- Turns of one handle that are all pending, one after another in a run, are fewer than the bound of the task that the handle is at, with those that
+-- it took for the task before.
 pub pending_turns_are_fewer_than_the_bound : (first : Volume) (events : List Event) → IsKnownRun first events → (handle from count : ℕ) → 0 < count
     → ArePending events handle from count → AreInTime first events handle from count
 pending_turns_are_fewer_than_the_bound first events is handle from count some pending = in_time first events is.lawful handle from count pending some
@@ -39,7 +39,7 @@ get_right (z ∷ xs) ys i = let next : suc (length xs) + i ≡ suc (length xs + 
 
 -- ---- steps that were made, and events
 
--- the step of an event, and what it came to
+-- the step of an event, and its outcome
 abbrev made_in : Event → Made
 made_in e = record { step = e.step; outcome = e.outcome }
 
@@ -48,7 +48,7 @@ unfolding made_of
 made_of_events [] = refl
 made_of_events (e ∷ events) = ap (λ (ms : List Made). made_in e ∷ ms) (made_of_events events)
 
--- an event stands at a place, of which this is what was made
+-- an event and what was made there, by its place
 record IsMadeAt (events : List Event) (place : ℕ) (m : Made) : Type 0 where
   event : Event
   there : slice_get events place ≡ Some event
@@ -69,7 +69,7 @@ all_at P (m ∷ ms) all (suc i) within = all_at P ms all.1 i (omega (arith, with
 -- ---- lines
 
 module _ (first : Volume) (events : List Event) (lawful : IsLawful first events) where
-  -- what was made stands for the events from a place on
+  -- what was made are the events from a place on
   abbrev AreMade : ℕ → List Made → Type 0
   AreMade place made = (i : ℕ) (m : Made) → slice_get made i ≡ Some m → IsMadeAt events (place + i) m
 
@@ -152,7 +152,7 @@ all_made events made is i m there =
     let same : i ≡ 0 + i = omega arith in
     subst (λ (n : ℕ). IsMadeAt events n m) same (made_at events i m (ap (λ (ms : List Made). slice_get ms i) (sym is) ∙ there))
 
--- Each line of a script that is played and finishes what a handle is at ends in time: the pending turns for which it stands are fewer than the bound
+-- Each line of a script that is played and finishes a task ends in time: the pending turns for which it stands are fewer than the bound
 -- of the handle's task.
 pub lines_are_finished_in_time : (first : Volume) (events : List Event) → IsLawful first events → (made : List Step) → map (λ (e : Event). e.step) events ≡ made
     → (came : List Outcome) → map (λ (e : Event). e.outcome) events ≡ came → (lines : List Line) (last : List ℕ)

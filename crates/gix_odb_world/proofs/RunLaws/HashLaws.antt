@@ -25,7 +25,7 @@ use Rattle.gix_odb_world.specs.RunLaws.Turn.{IsQueryTurn}
 use Rattle.gix_odb_world.proofs.RunLaws.KnownRun.{IsKnownRun}
 use Rattle.gix_odb_world.proofs.RunLaws.QueryTurns.{IsLookTurn, look_turn, tree_in_front}
 
--- what was shown up to a moment of the front of a run was shown in the run
+-- what was shown up to a moment of a prefix of a run was shown in the run
 module _ (first : Volume) (events : List Event) (place : ℕ) (within : place ≤ length events) where
   shown_in_run : (opened from now : ℕ) → opened ≤ from → now ≤ place → (path : Path) (bytes : List ℕ) → WasShownAt (tree_at first (take place events)) from now path bytes
       → WasShownAt (tree_at first events) opened (length events) path bytes
@@ -42,7 +42,7 @@ module _ (first : Volume) (events : List Event) (place : ℕ) (within : place �
             (tree_in_front first events place was.moment (omega (arith, to, early))) was.was;
       }
 
-  -- where a call began after its store was opened, that has been so since the store was opened
+  -- where a call began after its store was opened, contents that were shown since the call began were shown since the store was opened
   contents_in_run : (opened begun now : ℕ) → opened ≤ begun → now ≤ place → (folder : Path) (id : ObjectId) (contents : Contents)
       → WasShown (tree_at first (take place events)) opened begun now folder id contents
       → WasShown (tree_at first events) opened opened (length events) folder id contents
@@ -52,8 +52,8 @@ module _ (first : Volume) (events : List Event) (place : ℕ) (within : place �
   contents_in_run opened begun now later early folder id (InPack name index pack offset) was =
       (was.0, shown_in_run opened opened now (omega arith) early _ index was.1, shown_in_run opened opened now (omega arith) early _ pack was.2)
 
--- Where each object in the files of a store, as the run shows them since the store was opened, has data that hash to its id, what a find finds has data that hash to
--- the id that it seeks.
+-- Where each object in the files of a store, as the run shows them since the store was opened, has data that hash to its id, what a find finds has
+-- data that hash to the id that it seeks.
 pub found_data_hash_to_the_sought_id : (first : Volume) (events : List Event) → IsKnownRun first events
     → (place : ℕ) (e : Event) (handle : ℕ) (running : Running) (asked : ObjectId) → IsQueryTurn events place e handle running (find_of asked)
     → (kind : Kind) (bytes : List ℕ) → e.outcome ≡ outcomes.Reply (replies.Found kind bytes)

@@ -29,9 +29,9 @@ use Rattle.gix_odb_world.proofs.RunLaws.KnownRun.{IsKnownRun}
 use Rattle.gix_odb_world.proofs.RunLaws.LastTold.{LastTold, last_told}
 use Rattle.gix_odb_world.proofs.RunLaws.QueryTurns.{IsLookTurn}
 
--- ---- what was told up to the next turn
+-- ---- the answers up to the next turn
 
--- behind a turn that told an exchange a handle was told nothing more until its next turn
+-- after a turn with an exchange a handle gets no more answers until its next turn
 pub told_before_next : (events : List Event) (handle begun place : ℕ) (e : Event) (next : ℕ) → IsTurnBefore events handle begun place e next → next ≤ length events
     → (exchange : Exchange) → exchange_of e.asked ≡ Some exchange
     → told_since (take next events) handle begun ≡ told_since (take place events) handle begun ++ exchange ∷ []
@@ -66,7 +66,7 @@ told_before_next events handle begun place e (suc next) turn within exchange is 
           ∙ told_turn (take place events) e handle begun (omega (arith, since, count)) turn.turn e.asked refl exchange is
     ]
 
--- ---- the turn that was told last
+-- ---- the turn of the last answer
 
 pub nth_drop : (n : ℕ) (xs : List Event) (k : ℕ) → slice_get (drop n xs) k ≡ slice_get xs (n + k)
 nth_drop zero xs k = let same : k ≡ 0 + k = omega arith in ap (slice_get xs) same
@@ -94,7 +94,7 @@ same_told one other is = cc is
 no_core : (event : CoreEvent) (ask : DiskAsk) → ¬ (parts.Core event ≡ parts.Disk ask)
 no_core event ask is = cc is
 
--- the event that told a call of the disk made it
+-- an event whose exchange has a call of the disk made the call
 pub asked_of : (asked : Asked) (ask : DiskAsk) (answer : DiskAnswer) → exchange_of asked ≡ Some (record { ask = parts.Disk ask; answer = told.Disk answer })
     → asked ≡ OfDisk ask answer
 asked_of OfNothing ask answer is = absurd (cc is)
@@ -143,7 +143,7 @@ module _ (first : Volume) (events : List Event) (next : ℕ) (e : Event) (handle
   unfolding told_since
   told_last x last = last_told handle since_begun last.0 x (sym at.works.counted ∙ at.turns) last.1
 
-  -- what a call was told last, where that is what a path reads as, was read in the turn before
+  -- the last answer to a call, where it is the result of a read of a path, was read in the turn before
   pub just_read : (path : Path) (answer : DiskAnswer) → IsLast (told_since past handle running.begun) (read_of path answer)
       → WasJustRead events handle running.begun next path answer
   just_read path answer is =
@@ -172,6 +172,6 @@ module _ (first : Volume) (events : List Event) (is : IsKnownRun first events) (
   by_kind (Made made) = absurd (subst LeavesDisk asked made.leaves)
   by_kind (Quiet quiet) = absurd (subst LeavesDisk asked quiet.leaves)
 
-  -- a call of the disk is answered as the disk answers it then
+  -- a call of the disk is answered as the disk would answer it then
   pub answered_then : answer_now (disk_after first before) ask ≡ answer
   answered_then = by_kind (kind_of first before e (is.lawful place e there))

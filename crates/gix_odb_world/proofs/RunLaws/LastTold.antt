@@ -1,4 +1,4 @@
--- The last exchange that a handle was told in events each turn of which told it one: the event that told it is its last turn.
+-- The last exchange of a handle in events each turn of which had one: the event that had it is its last turn.
 use Rattle.std.proofs.Common.{◌≡◌, ℕ, zero, suc, ◌+◌, ◌<◌, ◌≤◌, Bool, true, false, cond, List, [], ◌∷◌, ◌++◌, length, Option, Some, None, refl, sym, ap, ◌∙◌, subst, arith}
 use Rattle.std.specs.Prelude.{slice_get, count_by, if◌then◌else◌}
 use Rattle.std.specs.List.{cons_option, filter_map}
@@ -31,7 +31,7 @@ module _ (handle : ℕ) where
   turned-cons : (x : Event) (xs : List Event) → turned (x ∷ xs) ≡ cond (is_turn_of handle x) 1 0 + turned xs
   turned-cons x xs = sum_by-cons (λ (y : Event). cond (is_turn_of handle y) 1 0) x xs
 
-  -- each turn tells at most one exchange
+  -- each turn has at most one exchange
   told_few : (xs : List Event) → length (told xs) ≤ turned xs
   told_few [] = omega arith
   told_few (x ∷ xs) =
@@ -46,7 +46,7 @@ module _ (handle : ℕ) where
   none_turned (x ∷ xs) none (suc k) o there =
       none_turned xs (zero_of (is_turn_of handle x) (turned xs) (sym (turned-cons x xs) ∙ none)).1 k o there
 
-  -- an event told this exchange, and no later one is a turn
+  -- an event had this exchange, and no later one is a turn
   pub record LastTold (xs : List Event) (x : Exchange) : Type 0 where
     pub place : ℕ
     pub event : Event
@@ -74,7 +74,7 @@ module _ (handle : ℕ) where
     after = after_later y ys x last;
   }
 
-  -- it is told of a list whose first event is told of, and of the rest
+  -- it holds of a list where it holds of its first event and of the rest
   abbrev Ends : List Event → Type 0
   Ends ys = (earlier : List Exchange) (x : Exchange) → turned ys ≡ length (told ys) → told ys ≡ earlier ++ x ∷ [] → LastTold ys x
 

@@ -1,4 +1,4 @@
--- A look-up that found nothing ended at a look at the core, whose list is the one that was published or confirmed last for it.
+-- A look-up that found nothing ended with a read of the core's state, whose list is the one that was published or confirmed last for it.
 use Rattle.std.proofs.Common.{◌≡◌, ◌⊎◌, inl, inr, ℕ, Bool, true, false, cond, List, [], ◌∷◌, ◌++◌, slice_get, Option, Some, None, Ok, Err, refl, sym, ap, ◌∙◌, subst}
 use Rattle.std.specs.Prelude.{◌==◌}
 use Rattle.std.proofs.lemmas.Bool.{eqb-true}
@@ -59,7 +59,7 @@ use Rattle.gix_odb_looks.specs.declared.look_up.Purpose.TheVariants as purposes
 use Rattle.gix_odb_looks.proofs.MissLaws.Replies.{EndsNoMiss, IsMiss, found_is_no_miss, refused_is_no_miss, verdict_is_no_miss}
 use Rattle.gix_odb_world.specs.RunLaws.Missed.{EndAtLastList, last_list, list_by}
 
--- ---- what hands on no listing
+-- ---- what passes on no listing
 
 trying_lists_nothing : (number : Option ℕ) (stage : Stage) (answer : Answer) → number ≡ list_by number (tries.ask_at stage) answer
 trying_lists_nothing number (tries_stages.Loading (loaders.Reading place)) answer = refl
@@ -74,7 +74,7 @@ loose_lists_nothing number own ask answer is = subst (λ (a : Ask). number ≡ l
 
 -- ---- the list that was published or confirmed last
 
--- a list that the look-up published or confirmed itself is that one
+-- the list is one that the look-up published or confirmed itself
 abbrev PartAt : Option ℕ → Part → Type 0
 PartAt number parts.Snapshot = Unit {0}
 PartAt number (parts.List own loose) = Unit {0}
@@ -134,7 +134,7 @@ module _ (setting : Setting) (want : Want) where
     counted_at now next at true = refused_at _
     counted_at now next at false = at
 
-    -- a look-up that ended at a look whose view has the list
+    -- a look-up that ended with a read of the core's state whose view has the list
     record IsChecked (effect : Effect) (next : LookStage) : Type 0 where
       view : View
       shown : view_in (Ok effect) ≡ Some view
@@ -178,7 +178,7 @@ module _ (setting : Setting) (want : Want) where
       tried_at (Some view.list_no) head (parts.Published view.list_no) refl
       (seek (goal_of setting head) (record { indices = view.snapshot.indices; todo = view.todo; notes = notes }))
 
-  -- a step that hands on no list
+  -- a step that passes on no list
   abbrev IsNoList : RefreshStep → Type 0
   IsNoList (steps.Current view own) = ⊥
   IsNoList step = Unit {0}
@@ -219,7 +219,7 @@ module _ (setting : Setting) (want : Want) where
 
   -- ---- an exchange
 
-  -- the look-up ended at this exchange, a look whose view has the list
+  -- the look-up ended at this exchange, a read of the core's state whose view has the list
   record EndsHere (number : Option ℕ) (ask : Ask) (answer : Answer) (next : LookUp) : Type 0 where
     asked : ask ≡ asks.Core events.Look
     effect : Effect
@@ -300,7 +300,7 @@ module _ (setting : Setting) (want : Want) where
   no_miss_at number head (stages.Refreshing refresh purpose notes) at is = cc is
   no_miss_at number head (stages.Checking list_no notes) at is = cc is
 
-  -- the same behind a list that had this number
+  -- how a look-up ends after a list that had this number
   record Ends (number : Option ℕ) (exchanges : List Exchange) : Type 0 where
     before : List Exchange
     last : Exchange
@@ -363,7 +363,7 @@ module _ (setting : Setting) (want : Want) where
         (seek (goal_of setting (new_head want id)) (record { indices = snapshot.snapshot.indices; todo = []; notes = without_notes }))
     starts_at false = tt
 
-    -- A look-up that found nothing ended at a look at the core, whose list is the one that was published or confirmed last for it.
+    -- A look-up that found nothing ended with a read of the core's state, whose list is the one that was published or confirmed last for it.
     pub misses_end_at_the_last_list : (exchanges : List Exchange) → AreAsked setting (started setting snapshot want id) exchanges
         → result_of (behind setting (started setting snapshot want id) exchanges) ≡ Ok (not_found want) → EndAtLastList exchanges
     misses_end_at_the_last_list exchanges asked misses =

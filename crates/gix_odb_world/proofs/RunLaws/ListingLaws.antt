@@ -1,4 +1,4 @@
--- Laws of runs about the listings that calls hand to the core of their store.
+-- Laws of runs about the listings that calls pass to the core of their store.
 use Rattle.std.proofs.Common.{◌≡◌, ℕ, Bool, true, false, List, [], take, Result, Ok, Err, ap, arith}
 use Rattle.std.specs.Prelude.{if◌then◌else◌}
 use Rattle.std.proofs.lemmas.List.Elements.{All-weaker}
@@ -34,7 +34,7 @@ use Rattle.gix_odb_world.proofs.RunLaws.KnownRun.{IsKnownRun}
 use Rattle.gix_odb_world.proofs.RunLaws.OneTree.{one_tree, to_some}
 use Rattle.gix_odb_world.proofs.RunLaws.ToldThen.{told_then}
 
--- ---- a look at a path
+-- ---- the stat of a path
 
 look_so : (b : Bool) (o : Result Meta Refusal) (meta : Meta) → (if b then answers.Refused errors.Failed else meta_answer o) ≡ answers.Meta meta → o ≡ Ok meta
 look_so true o meta is = absurd (cc is)
@@ -50,7 +50,7 @@ module _ (first : Volume) (events : List Event) (is : IsKnownRun first events) w
   abbrev trees : ℕ → Tree
   trees moment = tree_at first events moment
 
-  -- a row that was seen in what a handle was told was shown so
+  -- a row that was seen in a handle's answers was shown then
   module _ (place handle begun : ℕ) where
     abbrev told : List Exchange
     told = told_since (take place events) handle begun
@@ -91,7 +91,7 @@ module _ (first : Volume) (events : List Event) (is : IsKnownRun first events) w
     listed : IsListed running.store exchanges listing
     listed = listed_by_turn first events is place e handle running turn listing publishes
 
-    -- The rows of a listing that a call hands to the core, a query or a write, have different paths. The path of each is an index path in the pack
+    -- The rows of a listing that a call passes to the core, a query or a write, have different paths. The path of each is an index path in the pack
     -- directory of one of the folders of the handle's store, and no row is of a multi-pack index. The index of each was itself a file at a moment of
     -- the call, and its pack's path showed a file at one.
     pub rows_that_a_turn_publishes_were_shown : AreRowsShown (setting_in running.store) trees running.begun place listing.rows
@@ -103,7 +103,7 @@ module _ (first : Volume) (events : List Event) (is : IsKnownRun first events) w
           (row_shown place handle running.begun) listing.rows listed.seen;
     }
 
-    -- Where the tree stood still since the call began, the rows are exactly the tree's listed files, in the order in which they are tried.
+    -- Where the tree stayed the same since the call began, the rows are exactly the tree's listed files, in the order in which they are tried.
     pub rows_that_a_turn_publishes_are_those_of_the_tree : StoodStill trees running.begun place
         → listing.rows ≡ longest_first (listed_in (trees running.begun) (folder_list running.store.parts))
     rows_that_a_turn_publishes_are_those_of_the_tree stood =

@@ -103,12 +103,12 @@ module _ (first : Volume) (past : List Event) (e : Event) (law : Law first past 
   event_has_memory : ¬ (RanOut e.asked)
   event_has_memory = memory_by e.outcome refl law.suits
 
--- No event of a run is answered by want of memory: by the disk, or by a core.
+-- No event of a run is answered with `out of memory`: by the disk, or by a core.
 pub no_event_is_answered_by_want_of_memory : (first : Volume) (events : List Event) → IsKnownRun first events
     → (place : ℕ) (e : Event) → slice_get events place ≡ Some e → ¬ (RanOut e.asked)
 no_event_is_answered_by_want_of_memory first events is place e there = event_has_memory first (take place events) e (is.lawful place e there)
 
--- ---- what a reply tells
+-- ---- what a reply reports
 
 module _ (first : Volume) (events : List Event) (handle : ℕ) (store : Store) (modes : Modes) (begun : ℕ) where
   opening_wants : (error : CallError)
@@ -157,7 +157,7 @@ module _ (first : Volume) (events : List Event) (handle : ℕ) (store : Store) (
 is_turn_if_replied : (step : Step) (error : CallError) (asked : Asked) (outcome : Outcome) → outcome ≡ outcomes.Reply (replies.Refused error) → Suits step outcome asked → IsTurn step
 is_turn_if_replied step error asked outcome is suits = subst (λ (o : Outcome). Suits step o asked) is suits
 
--- No query, opening or write of a run ends by an error that tells want of memory.
+-- No query, opening or write of a run ends by an error that reports that memory ran out.
 pub no_reply_tells_want_of_memory : (first : Volume) (events : List Event) → IsKnownRun first events
     → (place : ℕ) (e : Event) → slice_get events place ≡ Some e → (error : CallError) → e.outcome ≡ outcomes.Reply (replies.Refused error) → ¬ (TellsWant error)
 no_reply_tells_want_of_memory first events is place e there error ends wants =

@@ -1,4 +1,4 @@
--- Laws of runs about queries that are answered that nothing is there.
+-- Laws of runs about queries that end with "not found".
 use Rattle.std.proofs.Common.{◌≡◌, ℕ, ◌+◌, List, take, sym, subst}
 use Rattle.odb_asks.specs.MemDisk.{Volume}
 use Rattle.gix_odb_calls.specs.declared.query.Query.{Query}
@@ -15,8 +15,8 @@ use Rattle.gix_odb_world.proofs.RunLaws.KnownRun.{IsKnownRun}
 use Rattle.gix_odb_world.proofs.RunLaws.ListChecks.{misses_end_at_the_last_list}
 use Rattle.gix_odb_world.proofs.RunLaws.MovedLaws.{ended}
 
--- Where a query is answered that nothing is there, what its handle was last told since it began is the answer of a look at the core. The list of the
--- view that this look gave is the one that the core published or confirmed last for the query.
+-- Where a query ends with "not found", its handle's last answer since it began is that of a read of the core's state. The list of the
+-- view in this answer is the one that the core published or confirmed last for the query.
 pub query_that_misses_ends_at_its_last_list : (first : Volume) (events : List Event) → IsKnownRun first events
     → (place : ℕ) (e : Event) (handle : ℕ) (running : Running) (query : Query) → IsQueryTurn events place e handle running query
     → e.outcome ≡ outcomes.Reply (not_found query.want) → EndAtLastList (told_since (take (place + 1) events) handle running.begun)

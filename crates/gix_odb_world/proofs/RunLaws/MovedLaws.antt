@@ -266,7 +266,7 @@ module _ (first : Volume) (events : List Event) (is : IsKnownRun first events) (
               ]
         ]
 
-    -- ---- what was told while the object was loose
+    -- ---- the answers while the object was loose
 
     module _ (folder : Path) (moment : ℕ) (since : begun ≤ moment) (to : moment ≤ place + 1)
         (loose : (now : ℕ) → begun ≤ now → now ≤ moment → LiesAt store.parts query.want (tree_at first events now) folder id InLooseFile) where
@@ -348,7 +348,7 @@ module _ (first : Volume) (events : List Event) (is : IsKnownRun first events) (
       loose_before : AreLooseFair setting query.want id folder before
       loose_before x among = (good x (told_by_turn events begun moment handle x among)).1
 
-      -- ---- what was told since
+      -- ---- the answers since then
 
       module _ (among : Contains (folder_list store.parts) folder) (name : Name) (named : is_index_name name ≡ true) (offset : ℕ)
           (packed : (now : ℕ) → moment ≤ now → now ≤ place + 1 → LiesAt store.parts query.want (tree_at first events now) folder id (InPackFile name offset)) where
@@ -369,7 +369,7 @@ module _ (first : Volume) (events : List Event) (is : IsKnownRun first events) (
         closed : stream_in before ≡ None
         closed = no_stream_is_open_before_the_loose_folder_is_asked setting query.want id folder among view before asked_before published_before loose_before
 
-        -- all that was told, with what is fair behind the moment
+        -- all answers, with those that are fair after the moment
         record Parts : Type 0 where
           rest : List Exchange
           all : told_since whole handle begun ≡ before ++ rest
@@ -402,7 +402,7 @@ module _ (first : Volume) (events : List Event) (is : IsKnownRun first events) (
             (subst (AreAsked setting start) all_parts.all ended.asked) published_before loose_before all_parts.fair
             (sym (ap (λ (es : List Exchange). result_of (behind setting start es)) all_parts.all) ∙ ended.misses)
 
--- A query isn't answered that nothing is there, in a store whose list was read before, while its object moves from a loose file of a folder into a
+-- A query doesn't end with "not found", in a store whose list was read before, while its object moves from a loose file of a folder into a
 -- pack there.
 pub object_that_moves_into_a_pack_is_not_missed : (first : Volume) (events : List Event) → IsKnownRun first events
     → (place : ℕ) (e : Event) (handle : ℕ) (running : Running) (query : Query) → IsQueryTurn events place e handle running query

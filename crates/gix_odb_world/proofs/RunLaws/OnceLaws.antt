@@ -1,4 +1,4 @@
--- Laws of runs about queries whose object is at hand: they end in their first turn, which does nothing.
+-- Laws of runs about queries whose object is in their snapshot: they end in their first turn, which does nothing.
 use Rattle.std.proofs.Common.{◌≡◌, ℕ, List, [], ◌∷◌, length, take, Option, None, Result, refl, sym, ap, ◌∙◌, subst, arith}
 use Rattle.odb_asks.specs.MemDisk.{Volume}
 use Rattle.gix_odb_events.specs.declared.answer.Ask.{Ask}
@@ -65,8 +65,8 @@ module _ (first : Volume) (events : List Event) (place : ℕ) (e : Event) (handl
       says_yes = done.says_yes;
     }
 
--- Let a handle's snapshot, as its query began, have been read, and have an index with the id that is sought and the pack that each such index names
--- for it; for a test an index with the id is enough. Then the query ends in its first turn, which did nothing.
+-- Let a handle's snapshot, as its query began, be of a list that was read, with an index that has the sought id and the pack that each such index
+-- names for it; for a test an index with the id is enough. Then the query ends in its first turn, which did nothing.
 pub object_at_hand_is_found_in_the_first_turn : (first : Volume) (events : List Event) → IsKnownRun first events
     → (place : ℕ) (e : Event) (handle : ℕ) (running : Running) (query : Query) → IsQueryTurn events place e handle running query → running.turns ≡ 0
     → IsAtHand query.want (sought running.store.parts running.modes.ignoring query) (view_then events handle running.modes.core running.begun)

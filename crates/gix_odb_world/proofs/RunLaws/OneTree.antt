@@ -1,4 +1,4 @@
--- While a tree stands still, one tree answers all that a handle at work asks of the disk.
+-- While the tree stays the same, one tree answers all that a handle at work asks of the disk.
 use Rattle.std.proofs.Common.{◌≡◌, inl, inr, ℕ, zero, suc, ◌+◌, ◌≤◌, Bool, true, false, List, [], ◌∷◌, ◌++◌, length, take, Option, Some, None, Result, Ok, Err, refl, sym, ap, ◌∙◌, subst, arith}
 use Rattle.std.specs.Prelude.{slice_get, if◌then◌else◌}
 use Rattle.std.proofs.lemmas.List.{length_push}
@@ -74,7 +74,7 @@ or_fails true own = tt
 or_fails false own = same_answer own
 
 module _ (tree : Tree) where
-  -- one tree answers exchanges, and these entries are left behind them
+  -- one tree answers exchanges, and these entries are left after them
   abbrev AreOfTreeTo : (coming : List Entry) → List Exchange → (left : List Entry) → Type 0
   AreOfTreeTo coming [] left = coming ≡ left
   AreOfTreeTo coming (x ∷ xs) left = (mid : List Entry) × IsToldOfTree tree coming x.ask x.answer mid × AreOfTreeTo mid xs left
@@ -88,11 +88,11 @@ module _ (tree : Tree) where
   to_some coming [] left are = tt
   to_some coming (x ∷ xs) left are = (are.0, are.1, to_some are.0 xs left are.2)
 
-  -- the stream that is open is still to give what is left
+  -- the open stream is still to give what is left
   abbrev IsLeft : Option Stream → (left : List Entry) → Type 0
   IsLeft stream left = (s : Stream) → stream ≡ Some s → opened tree s.folder ≡ Ok (s.entries ++ left)
 
-  -- one tree answers what a handle was told, and its stream is still to give what is left
+  -- one tree gave a handle's answers, and its stream is still to give what is left
   pub record IsOneTree (exchanges : List Exchange) : Type 0 where
     pub left : List Entry
     pub are : AreOfTreeTo [] exchanges left
@@ -102,7 +102,7 @@ module _ (tree : Tree) where
   nothing_told exchanges none =
       subst IsOneTree (sym none) (record { left = []; are = refl; stream = λ s is. let wrong : None ≡ Some s = is in absurd (cc wrong) })
 
-  -- what an exchange more leaves
+  -- what one more exchange leaves
   record Leaves (old : Option Stream) (left : List Entry) (x : Exchange) : Type 0 where
     next : List Entry
     of : IsToldOfTree tree left x.ask x.answer next

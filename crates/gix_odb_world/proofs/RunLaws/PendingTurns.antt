@@ -1,4 +1,4 @@
--- Pending turns of a handle, one after another: they leave it at its task, each with one turn more, and are fewer than the task's bound.
+-- Pending turns of a handle, one after another: they leave it at its task, each with one more turn, and are fewer than the task's bound.
 use Rattle.std.proofs.Common.{◌≡◌, ℕ, zero, suc, ◌+◌, ◌<◌, ◌≤◌, List, [], ◌∷◌, ◌++◌, length, take, Option, Some, None, refl, sym, ap, ◌∙◌, subst, arith}
 use Rattle.std.specs.Prelude.{slice_get}
 use Rattle.odb_asks.specs.MemDisk.{Volume}
@@ -23,7 +23,7 @@ use Rattle.gix_odb_world.proofs.RunLaws.TurnsAtWork.{IsLeftBy, left_by_turn, tur
 
 -- ---- what a turn leaves of the bound
 
--- what is asked leaves the number of slots, unless it is a new core
+-- an ask leaves the number of slots, unless it is for a new core
 slots_kept : (at : Stand) (disk : Volume) (ask : Option Ask) (modes : Modes) → ((slots folders : ℕ) → ¬ (ask ≡ Some (work_asks.NewCore slots folders)))
     → (modes_after (told_now at disk ask) modes).slots ≡ modes.slots
 slots_kept at disk None modes never = refl
@@ -38,7 +38,7 @@ no_new_core first past handle store modes begun turns task ask asks call calls s
     subst (λ (t : Task). AsksAsTask first past handle store modes begun turns t (Some (work_asks.NewCore slots folders))) calls
     (subst (AsksAsTask first past handle store modes begun turns task) new asks)
 
--- the bound of a call is by the slots, and that of an opening isn't
+-- the bound of a call depends on the slots, and that of an opening doesn't
 bound_kept : (store : Store) (modes next : Modes) (task : Task) (entries : ℕ) → ((call : Call) → task ≡ MakeCall call → next.slots ≡ modes.slots)
     → bound_of_task store next task entries ≡ bound_of_task store modes task entries
 bound_kept store modes next OpenStore entries slots = refl
@@ -47,7 +47,7 @@ bound_kept store modes next (MakeCall call) entries slots =
 
 -- ---- a handle at its task
 
--- a handle has taken so many turns more for its task
+-- a handle has taken so many more turns for its task
 pub record GoesOn (before after : Running) (count : ℕ) : Type 0 where
   pub store : after.store ≡ before.store
   pub begun : after.begun ≡ before.begun
@@ -88,7 +88,7 @@ module _ (first : Volume) (past : List Event) (e : Event) (law : Law first past 
 
 -- ---- entries of folders
 
--- no folder had more entries in the front of a run that ends with an event than it had in the run
+-- no folder had more entries in the prefix of a run that ends with an event than it had in the run
 most_in_front : (first : Volume) (events : List Event) (place : ℕ) (e : Event) → slice_get events place ≡ Some e → (parts : StoreData) (begun now entries : ℕ)
     → place + 1 ≤ now → HasAtMost (tree_at first events) parts begun now entries
     → HasAtMost (tree_at first (take place events ++ e ∷ [])) parts begun (length (take place events) + 1) entries
@@ -111,7 +111,7 @@ below_bound : (before after k count bound same : ℕ) → after + 1 < bound → 
 below_bound before after k count bound same less is turns counts = omega (arith, less, is, turns, counts)
 
 module _ (first : Volume) (events : List Event) (lawful : IsLawful first events) (handle from count : ℕ) (pending : ArePending events handle from count) where
-  -- where the handle stands behind so many of the turns
+  -- the handle after so many of the turns
   record StandsBehind (running : Running) (k : ℕ) : Type 0 where
     after : Running
     status : status_of (take (from + k) events) handle ≡ Working after

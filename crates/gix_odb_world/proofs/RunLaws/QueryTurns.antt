@@ -1,4 +1,4 @@
--- What a run says of a turn of a query: its look-up stands behind all that its handle was told since the query began.
+-- What a run says of a turn of a query: its look-up is at the state after all answers to its handle since the query began.
 use Rattle.std.proofs.Common.{◌≡◌, ℕ, zero, suc, ◌<◌, ◌≤◌, List, [], ◌∷◌, length, take, Option, Some, None, refl, sym, ap, ◌∙◌, subst, arith}
 use Rattle.std.specs.Prelude.{unwrap_or}
 use Rattle.std.proofs.lemmas.Option.{same_Some, slice_get_within}
@@ -37,7 +37,7 @@ use Rattle.gix_odb_world.proofs.RunLaws.KnownRun.{IsKnownRun}
 no_opening : (query : Query) → ¬ (MakeCall (call_of query) ≡ OpenStore)
 no_opening query is = cc is
 
--- what a task asks, if it is a call that asks
+-- the query of a task, if it is a query
 abbrev asked_by_task : Task → Option Query
 asked_by_task OpenStore = None
 asked_by_task (MakeCall call) = query_of call
@@ -50,31 +50,31 @@ no_write query w is =
 same_query : (one other : Query) → MakeCall (call_of one) ≡ MakeCall (call_of other) → one ≡ other
 same_query one other is = same_Some one other (sym (query_of-call_of one) ∙ (ap asked_by_task is ∙ query_of-call_of other))
 
--- ---- the fronts of a run
+-- ---- the prefixes of a run
 
 length-take_few : (place : ℕ) (events : List Event) → length (take place events) ≤ place
 length-take_few zero events = omega arith
 length-take_few (suc place) [] = omega arith
 length-take_few (suc place) (e ∷ events) = let few = length-take_few place events in omega (arith, few)
 
--- a tree of the front of a run is one of the run
+-- a tree of the prefix of a run is one of the run
 pub tree_in_front : (first : Volume) (events : List Event) (place moment : ℕ) → moment ≤ place → tree_at first (take place events) moment ≡ tree_at first events moment
 tree_in_front first events place moment to = ap (λ (es : List Event). tree_of (disk_after first es).state) (front_of_front events moment place to)
 
--- what a handle saw then is the same
+-- what a handle saw then is the same in a prefix of the run
 pub view_in_front : (events : List Event) (handle core place number : ℕ) → number ≤ place → view_then (take place events) handle core number ≡ view_then events handle core number
 unfolding view_then
 view_in_front events handle core place number to =
     ap (λ (es : List Event). unwrap_or (snapshot_of handle (history_at (cores_after es) core).entries) unseen) (front_of_front events number place to)
 
--- a front of a lawful run is lawful
+-- a prefix of a lawful run is lawful
 pub lawful_front : (first : Volume) (events : List Event) (place : ℕ) → IsLawful first events → IsLawful first (take place events)
 lawful_front first events place lawful at e there =
     let whole = there_in_whole events at place e there in
     let within = whole.0 in
     subst (λ (es : List Event). Law first es e) (sym (front_of_front events at place (omega (arith, within)))) (lawful at e whole.1)
 
--- each handle knows up to a front of a run what it does
+-- each handle knows up to a prefix of a run what its status says
 pub runs_up_to : (first : Volume) (events : List Event) (place : ℕ) → place ≤ length events → RunsThroughout first events → RunsThroughout first (take place events)
 runs_up_to first events place within throughout now handle early =
     let few : length (take place events) ≤ place = length-take_few place events in
@@ -148,7 +148,7 @@ module _ (first : Volume) (events : List Event) (is : IsKnownRun first events) (
         told = works.told ∙ ap (told_now (stand_of past handle running) (disk_after first past)) asks;
       }
 
-  -- the handle of a query's turn stands at a look-up
+  -- the handle of a query's turn is at a look-up
   pub look_turn : IsLookTurn first events place e handle running query
   look_turn = by running.work refl runs.1
 
@@ -176,7 +176,7 @@ module _ (first : Volume) (events : List Event) (place : ℕ) (e : Event) (handl
   look_asks event asks =
       core_asked stands (disk_after first (take place events)) (ask_of at.look) asks.store asks.seat event asks.answer (sym at.told ∙ asks.asked)
 
-  -- and the other way round
+  -- and conversely
   pub asks_look : (event : CoreEvent) → ask_of at.look ≡ Some (parts.Core event) → AsksCore e event
   asks_look event is = record {
     store = stands.store;

@@ -93,7 +93,7 @@ module _ (first : Volume) (events : List Event) (is : IsKnownRun first events) w
                 (events_of.PutIndex put.0 path (record { kind = running.store.hash; bytes = bytes })) (ap ask_of at.is ∙ put.1),
           )
 
-      -- And so it is with a pack.
+      -- And where it read a pack, its next turn stores that.
       pub pack_that_a_turn_read_is_stored_in_the_next : IsPackPath setting path → is_pack running.store.hash bytes ≡ true
           → (pack : PackId) × AsksCore e (events_of.PutPack pack path (record { kind = running.store.hash; bytes = bytes }))
       pack_that_a_turn_read_is_stored_in_the_next pack parsed =
@@ -121,8 +121,8 @@ module _ (first : Volume) (events : List Event) (is : IsKnownRun first events) w
     backed (events_of.PassOver slot path why) last = missing path why last
     backed event last = tt
 
-    -- What a query stores is what it read in the turn before, as the file's path showed it then; and it passes a file over in the turn after a read of
-    -- its path alone, for what that read gave.
+    -- What a query stores is what it read in the turn before, as the file's path showed it then; and it passes a file over only in the turn after a
+    -- read of its path, for what that read gave.
     pub what_a_turn_stores_or_passes_over_was_just_read : (event : CoreEvent) → AsksCore e event → IsBacked events trees handle begun place running.store.hash event
     what_a_turn_stores_or_passes_over_was_just_read event asks_it =
         backed event

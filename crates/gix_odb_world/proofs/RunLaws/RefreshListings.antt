@@ -1,4 +1,4 @@
--- The listing that a refresh hands to the core of its store: its rows were seen, and where one tree answers they are the tree's listed files.
+-- The listing that a refresh passes to the core of its store: its rows were seen, and where one tree answers they are the tree's listed files.
 use Rattle.std.proofs.Common.{◌≡◌, ℕ, Bool, true, false, cond, List, [], ◌∷◌, Contains, Option, Some, None, Ok, Err, sym, ap, subst}
 use Rattle.std.specs.List.{All}
 use Rattle.std.proofs.lemmas.Option.{same_Some}
@@ -37,7 +37,7 @@ use Rattle.gix_odb_refresh.specs.declared.refresh.Refresh.TheVariants as stages
 same_part : (one other : Ask) → ◌≡◌ {A = Option Ask} (Some one) (Some other) → one ≡ other
 same_part one other is = same_Some one other is
 
--- what holds of the rows of a listing that is at hand holds of those that are handed on
+-- what holds of the rows of the listing so far holds of those that are passed on
 published : (P : List ListingRow → Type 0) (own listing : Listing) → P own.rows → asked_of (ends.More (stages.Publishing own)) ≡ Some (parts.Core (events_of.Publish listing)) → P listing.rows
 published P own listing here is = let same : own ≡ listing = cc is in subst (λ (l : Listing). P l.rows) same here
 

@@ -1,4 +1,4 @@
--- What a handle was told of the disk was what the disk answered at a moment since its task was set.
+-- The disk's answers to a handle were what the disk answered at a moment since its task was set.
 use Rattle.std.proofs.Common.{◌≡◌, inl, inr, ℕ, suc, ◌+◌, ◌<◌, ◌≤◌, Bool, true, false, List, [], ◌∷◌, take, drop, Contains, Option, Some, None, refl, sym, ap, ◌∙◌, arith}
 use Rattle.std.specs.Prelude.{slice_get, if◌then◌else◌}
 use Rattle.std.specs.List.{cons_option, filter_map}
@@ -49,7 +49,7 @@ if_turned false o x is = absurd (cc is)
 
 -- ---- in a run
 
--- a turn of the handle told it an exchange
+-- a turn of the handle had an exchange
 pub record ToldBy (events : List Event) (begun now handle : ℕ) (x : Exchange) : Type 0 where
   pub place : ℕ
   pub from : begun ≤ place
@@ -68,7 +68,7 @@ given_by : (events : List Event) (begun now handle : ℕ) (x : Exchange) → Con
 unfolding told_since
 given_by events begun now handle x among = found_in (exchange_in handle) (drop begun (take now events)) x among
 
--- what a handle was told since an event it was told by a turn since then
+-- each answer to a handle since an event was given in a turn since then
 pub told_by_turn : (events : List Event) (begun now handle : ℕ) (x : Exchange) → Contains (told_since (take now events) handle begun) x → ToldBy events begun now handle x
 told_by_turn events begun now handle x among =
     let found = given_by events begun now handle x among in
@@ -83,7 +83,7 @@ told_by_turn events begun now handle x among =
       gave = if_turned (is_turn_of handle found.event) (exchange_of found.event.asked) x found.gives;
     }
 
--- the disk answered so after the first so many events
+-- the disk gave this answer after the first so many events
 pub record WasAnswered (first : Volume) (events : List Event) (begun now : ℕ) (ask : DiskAsk) (answer : DiskAnswer) : Type 0 where
   pub moment : ℕ
   pub from : begun ≤ moment

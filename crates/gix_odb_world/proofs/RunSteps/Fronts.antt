@@ -1,4 +1,4 @@
--- Fronts of a list, and what stands in them.
+-- Prefixes of a list, and what lies in them.
 use Rattle.std.proofs.Common.{◌≡◌, ◌⊎◌, inl, inr, ℕ, zero, suc, ◌+◌, ◌<◌, ◌≤◌, List, [], ◌∷◌, ◌++◌, length, take, Some, None, refl, ap, ◌∙◌, arith}
 use Rattle.std.specs.Prelude.{slice_get}
 use Rattle.gix_odb_runs.specs.Event.{Event}
@@ -22,14 +22,14 @@ none_beyond [] place is = omega arith
 none_beyond (z ∷ zs) zero is = absurd (cc)
 none_beyond (z ∷ zs) (suc place) is = omega (arith, none_beyond zs place is)
 
--- at a place an event stands, or the run is over
+-- at a place there is an event, or the run is over
 pub event_or_end : (events : List Event) (place : ℕ) → ((e : Event) × (slice_get events place ≡ Some e)) ⊎ (slice_get events place ≡ None)
 event_or_end events place = elim (slice_get events place) as (λ o. slice_get events place ≡ o → ((e : Event) × (slice_get events place ≡ Some e)) ⊎ (slice_get events place ≡ None)) [
   | Some e ↦ λ is. inl (e, is)
   | None ↦ λ is. inr is
 ] refl
 
--- the front of a list has what stands there
+-- the prefix of a list has what is at that place
 pub there_in_front : {A : Type 0} (xs : List A) (place count : ℕ) (x : A) → place < count → slice_get xs place ≡ Some x
     → slice_get (take count xs) place ≡ Some x
 there_in_front [] place count x within is = absurd (cc)

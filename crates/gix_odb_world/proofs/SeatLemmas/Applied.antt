@@ -1,4 +1,4 @@
--- Where handles stand after a step that was applied.
+-- The seats of handles after a step that was applied.
 use Rattle.std.proofs.Common.{◌≡◌, ◌≢◌, ℕ, ◌+◌, Bool, true, false, List, [], ◌∷◌, ◌++◌, length, None, Some, Ok, refl, sym, ◌∙◌, ap, subst}
 use Rattle.std.specs.Prelude.{◌==◌, if◌then◌else◌}
 use Rattle.std.proofs.lemmas.Bool.{eqb-true, eqb-false}
@@ -37,7 +37,7 @@ use Rattle.gix_odb_world.proofs.SeatLemmas.Elsewhere.{StaysOut, are_opened, out_
 use Rattle.gix_odb_world.proofs.SeatLemmas.Entered.{seated_joined, seated_other}
 use Rattle.gix_odb_world.proofs.SeatLemmas.Opened.{IsOn}
 
--- where a handle at work stands: one that opens its store is at an opening, and registered nowhere; one at a call is registered
+-- the stand of a handle at work: one that opens its store is at an opening, and registered nowhere; one at a call is registered
 abbrev pub StandsAt : List History → (handle : ℕ) → Modes → Work → Task → Type 0
 StandsAt cores handle modes work OpenStore = (state : OpenStage) × (work ≡ Opening state) × IsOn state × IsNowhere cores handle
 StandsAt cores handle modes work (MakeCall call) = IsSeated cores handle modes
@@ -76,7 +76,7 @@ module _ (past : List Event) (e : Event) where
   abbrev pub before_it : List History
   before_it = cores_after past
 
-  -- where a handle is seated it is so after the event too, and where it isn't registered it isn't
+  -- where a handle is seated it still is after the event, and where it isn't registered it still isn't
   pub record Carries (handle : ℕ) : Type 0 where
     pub seated : (modes : Modes) → IsSeated before_it handle modes → IsSeated (cores_after now) handle modes
     pub out : StaysOut before_it (cores_after now) handle

@@ -1,4 +1,4 @@
--- Who is registered at which core, after an event of one handle. What a handle isn't registered at, no event of another one registers it at.
+-- Who is registered at which core, after an event of one handle. No event of another handle registers a handle.
 use Rattle.std.proofs.Common.{◌≡◌, ◌≢◌, ◌⊎◌, ℕ, zero, suc, Bool, true, false, List, [], ◌∷◌, ◌++◌, length, Some, None, Ok, refl, sym, ◌∙◌, ap, subst, inl, inr}
 use Rattle.std.specs.Prelude.{◌==◌, fold, slice_get, slice_set, unwrap_or}
 use Rattle.std.proofs.lemmas.Bool.{eqb-true, eqb-false}
@@ -67,7 +67,7 @@ history_at-push (core ∷ cores) new (suc place) =
 
 -- ---- where a handle is not registered
 
--- at no core where it wasn't is it registered then
+-- a handle is registered at no core where it wasn't before
 abbrev pub StaysOut : (cores cores_then : List History) (handle : ℕ) → Type 0
 StaysOut cores cores_then handle = (store : ℕ) → registered_at cores store handle ≡ None → registered_at cores_then store handle ≡ None
 
@@ -87,7 +87,7 @@ module _ (cores : List History) (store seat : ℕ) (event : CoreEvent) (effect :
         ∙ (kept_other (history_at cores store) seat event effect handle apart ∙ (ap (λ n. registered_at cores n handle) (sym there.0) ∙ was))
   ]
 
-  -- an event of its own does at every other core
+  -- an event of its own leaves it out of every other core
   pub out_own : (place : ℕ) → place ≢ store → registered_at cores place seat ≡ None → registered_at cores_then place seat ≡ None
   out_own place apart was = elim (history_at-set cores store own place) [
     | inl old ↦ ap (λ (h : History). registered (present h).handles seat) old ∙ was
@@ -101,14 +101,14 @@ module _ (cores : List History) (new : History) (handle : ℕ) where
     | inr there ↦ ap (λ (h : History). registered (present h).handles handle) there.1 ∙ none
   ]
 
-  -- at the other cores than a new one
+  -- a new core leaves it out of the other cores
   pub out_before : (place : ℕ) → place ≢ length cores → registered_at cores place handle ≡ None → registered_at (cores ++ new ∷ []) place handle ≡ None
   out_before place apart was = elim (history_at-push cores new place) [
     | inl old ↦ ap (λ (h : History). registered (present h).handles handle) old ∙ was
     | inr there ↦ absurd (apart there.0)
   ]
 
--- a core that was made for another handle
+-- a core that was made for another handle leaves it out
 pub out_new : (cores : List History) (slots folders seat handle : ℕ) (effect : Effect) → handle ≢ seat
     → StaysOut cores (cores ++ entered (opened slots folders 0 0) seat (events.Register false) (Ok effect) ∷ []) handle
 out_new cores slots folders seat handle effect apart =
@@ -145,13 +145,13 @@ pub are_opened : (events : List Event) → AreOpened (cores_after events)
 unfolding cores_after
 are_opened events = are_opened-fold events [] (λ store. opened_as 0 0 0 0)
 
--- the seat that an event removes is free behind it
+-- the seat that an event removes is free after it
 removed_here : (h : History) (seat : ℕ) (effect : Effect) → IsOpened h.opening → registered (present (entered h seat events.Remove (Ok effect))).handles seat ≡ None
 removed_here h seat effect opened =
     ap (λ (handles : Handles). registered handles seat) (handles-entered h seat events.Remove effect)
     ∙ own_seat (present h).handles seat events.Remove (seats_of_a_journal_are_in_order h.opening opened h.entries)
 
--- one that was registered at one core alone, and is removed there, is nowhere
+-- a handle that was registered at only one core, and is removed there, is nowhere
 pub out_removed : (cores : List History) (store seat : ℕ) (effect : Effect) → AreOpened cores
     → (history : History) → slice_get cores store ≡ Some history
     → ((place : ℕ) → place ≢ store → registered_at cores place seat ≡ None)

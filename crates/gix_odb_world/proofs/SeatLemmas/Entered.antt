@@ -1,4 +1,4 @@
--- What an event of one handle makes of the histories of cores, for every handle that is registered at one.
+-- What an event of one handle does to the histories of cores, for every handle that is registered at one.
 use Rattle.std.proofs.Common.{◌≡◌, ◌≢◌, ℕ, Bool, true, false, cond, List, [], ◌∷◌, ◌++◌, length, Option, Some, None, Ok, refl, sym, ◌∙◌, ap, subst, arith}
 use Rattle.std.specs.Prelude.{slice_get, ◌==◌, unwrap_or}
 use Rattle.std.specs.List.{cons_option, filter_map, last_or}
@@ -23,7 +23,7 @@ use Rattle.gix_odb_world.specs.Seats.{IsNowhere, IsSeated}
 use Rattle.gix_odb_world.proofs.HistoryLemmas.{slice_get-kept, slice_get-last}
 use Rattle.gix_odb_world.proofs.SeatLemmas.Elsewhere.{handles-entered, kept_other, out_before, out_new, out_other, out_own, slice_get-set_other, slice_get-set_same}
 
--- ---- an entry more
+-- ---- one more entry
 
 last_or-append : {X : Type 0} (o : Option X) (xs ys : List X) → last_or o (xs ++ ys) ≡ last_or (last_or o xs) ys
 last_or-append o [] ys = refl
@@ -106,7 +106,7 @@ module _ (cores : List History) (store seat : ℕ) (event : CoreEvent) (effect :
         snapshot = seated.snapshot;
       }
 
--- one that is registered at a core of which it shows the view
+-- a handle that is registered at a core whose view it has
 pub seated_joined : (cores : List History) (modes other : Modes) (handle from : ℕ) (view : View) (effect : Effect) → IsSeated cores from modes
     → IsNowhere cores handle
     → view_in (Ok effect) ≡ Some view → other.core ≡ modes.core → other.slots ≡ modes.slots → other.view ≡ Some view
@@ -144,7 +144,7 @@ seated_more cores slots folders seat handle modes effect apart seated =
       snapshot = seated.snapshot;
     }
 
--- and its own handle stands there
+-- and its own handle is seated there
 pub seated_new : (cores : List History) (slots folders handle : ℕ) (modes : Modes) (effect : Effect) (view : View) → IsNowhere cores handle
     → view_in (Ok effect) ≡ Some view → modes.core ≡ length cores → modes.slots ≡ slots → modes.view ≡ Some view
     → IsSeated (cores ++ entered (opened slots folders 0 0) handle (events.Register false) (Ok effect) ∷ []) handle modes

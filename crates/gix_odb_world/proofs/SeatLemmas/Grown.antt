@@ -13,7 +13,7 @@ use Rattle.gix_odb_world.proofs.HistoryLemmas.{slice_get-kept}
 use Rattle.gix_odb_world.proofs.RunSteps.Fronts.{front_of_front}
 use Rattle.gix_odb_world.proofs.SeatLemmas.Elsewhere.{slice_get-set_other, slice_get-set_same}
 
--- a core's history went on by further entries
+-- a core's history got further entries
 pub record HasGrown (cores : List History) (place : ℕ) (before : History) : Type 0 where
   pub history : History
   pub there : slice_get cores place ≡ Some history

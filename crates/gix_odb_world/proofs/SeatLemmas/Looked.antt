@@ -1,4 +1,4 @@
--- What an event that a look-up asks for leaves of who is registered where: it changes no registration, and hands its own handle the view.
+-- What an event that a look-up asks for leaves of who is registered where: it changes no registration, and passes its own handle the view.
 use Rattle.std.proofs.Common.{◌≡◌, ◌≢◌, ℕ, Bool, true, false, List, [], ◌∷◌, Some, Ok, Err, inl, inr, refl, sym, ◌∙◌, ap, subst}
 use Rattle.std.specs.Prelude.{◌==◌, IsSome, slice_get, unwrap_or}
 use Rattle.std.proofs.lemmas.Bool.{eqb-true, eqb-false}
@@ -63,7 +63,7 @@ module _ (cores : List History) (store seat : ℕ) (event : CoreEvent) (answer :
   history_is : (h : History) → slice_get cores store ≡ Some h → history_at cores store ≡ h
   history_is h there = ap (λ o. unwrap_or o (opened 0 0 0 0)) there
 
-  -- a handle at that core stays seated there, with a snapshot that the journal tells then
+  -- a handle at that core stays seated there, with a snapshot that the journal has then
   at_own_core : (handle : ℕ) (modes modes_then : Modes) (seated : IsSeated cores handle modes) → modes.core ≡ store → modes_then.core ≡ modes.core
       → modes_then.slots ≡ modes.slots → modes_then.view ≡ snapshot_of handle (entered seated.history seat event answer).entries
       → IsSeated cores_then handle modes_then
@@ -101,7 +101,7 @@ module _ (cores : List History) (store seat : ℕ) (event : CoreEvent) (answer :
         snapshot = seated.snapshot;
       }
 
--- and its own one does, with the view that it was handed
+-- and its own one does, with the view that was passed to it
 pub seated_looking : (cores : List History) (seat : ℕ) (modes : Modes) (event : CoreEvent) (answer : CoreAnswer) → IsOfLooks event → IsSeated cores seat modes
     → IsSeated (cores_after_asked cores (OfCore modes.core seat event answer)) seat (modes_after (OfCore modes.core seat event answer) modes)
 seated_looking cores seat modes event answer of seated =

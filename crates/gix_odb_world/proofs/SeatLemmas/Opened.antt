@@ -1,4 +1,4 @@
--- How an opening goes on, and how it ends.
+-- How an opening continues, and how it ends.
 use Rattle.std.proofs.Common.{◌≡◌, ℕ, Bool, true, false, List, length, Option, Ok, Err, Result, refl, sym, ap, subst}
 use Rattle.std.specs.Prelude.{if◌then◌else◌, nat_le}
 use Rattle.odb_base.specs.Path.{Path}

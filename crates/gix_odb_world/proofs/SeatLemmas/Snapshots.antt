@@ -35,7 +35,7 @@ newest past = min (length past) last_state
 newest-push : (past : List Entry) (entry : Entry) → newest (past ++ entry ∷ []) ≡ number_behind past
 newest-push past entry = ap (λ n. min n last_state) (length-append past (entry ∷ []))
 
--- a view shows no later shape, and none that an entry behind a number left: none of its numbers is greater
+-- a view shows no later shape, and none that an entry after a number left: none of its numbers is greater
 record IsShownBy (view : View) (number : ℕ) (shape : Shape) : Type 0 where
   list_no : view.list_no ≤ shape.list_no
   state_id : view.snapshot.marker.state_id ≤ shape.state_id
@@ -62,7 +62,7 @@ no_older_then one two three first next =
 -- ---- a journal
 
 module _ (seat : ℕ) where
-  -- an entry leaves the snapshot, or hands another one over
+  -- an entry leaves the snapshot, or passes another one on
   snapshot_by : (past : List Entry) (entry : Entry) (own : Bool) → (entry.seat == seat) ≡ own → (o : Option View) → view_in entry.answer ≡ o
       → (snapshot_of seat (past ++ entry ∷ []) ≡ snapshot_of seat past) ⊎ ((view : View) × (view_in entry.answer ≡ Some view) × (snapshot_of seat (past ++ entry ∷ []) ≡ Some view))
   snapshot_by past entry false is o at = inl (snapshot-push seat past entry ∙ ap (last_or (snapshot_of seat past)) (handed_by seat entry false is))
@@ -78,7 +78,7 @@ module _ (seat : ℕ) where
       )
 
   module _ (opening : Shape) where
-    -- a view that an entry hands over shows the shape behind it
+    -- a view that an entry passes on shows the shape after it
     shown_by : (past : List Entry) (entry : Entry) (view : View) → IsNext opening past entry → view_in entry.answer ≡ Some view
         → IsShownBy view (newest (past ++ entry ∷ [])) (replay opening (past ++ entry ∷ []))
     shown_by past entry view next handed =
@@ -110,7 +110,7 @@ module _ (seat : ℕ) where
       | inr new ↦ let both : new.0 ≡ view = cc (new.2, is) in shown_by past entry view next (new.1 ∙ ap Some both)
     ]
 
-    -- a snapshot that is there and no older
+    -- a snapshot that exists and is no older
     abbrev Later : (before : View) → List Entry → Type 0
     Later before entries = (now : View) × (snapshot_of seat entries ≡ Some now) × IsNoOlder before now
 

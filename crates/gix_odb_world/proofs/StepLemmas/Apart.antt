@@ -19,7 +19,7 @@ use Rattle.gix_odb_world.specs.Headline.{FailsAsListed, Law, LeavesDisk, Suits, 
 use Rattle.gix_odb_world.specs.Changes.{ChangesAs}
 use Rattle.gix_odb_world.proofs.HistoryLemmas.{disk_after-push}
 
--- an event that asked so, if it asked for anything, and made no call of the disk
+-- an event that asked this, if it asked for anything, and made no call of the disk
 abbrev pub apart : Step → Outcome → Did → Option Change → ℕ → Asked → Event
 apart step outcome did change faults asked =
     record { step = step; outcome = outcome; entry = record { did = did; change = change; faults = faults }; asked = asked }
@@ -36,7 +36,7 @@ no_quiet_turn handle outcomes.Pending asked suits done no_reply not_pending = no
 no_quiet_turn handle (outcomes.Reply reply) asked suits done no_reply not_pending = no_reply reply refl
 no_quiet_turn handle (outcomes.Misuse why) asked suits done no_reply not_pending = false≢true done
 
--- without a call of the disk the change of the record alone takes it on, and no call failed
+-- without a call of the disk only the change of the record changes it, and no call failed
 pub left_alone : (disk : Volume) (asked : Asked) (change : Option Change) → LeavesDisk asked → disk_after_asked disk asked change ≡ disk_after_change disk change
 left_alone disk OfNothing change leaves = refl
 left_alone disk (OfDisk ask answer) change leaves = absurd leaves

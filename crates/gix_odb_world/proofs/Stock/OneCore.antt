@@ -55,7 +55,7 @@ module _ (first : Volume) (events : List Event) (e : Event) (store : Store) wher
         was = subst (λ tree. (time : ℕ) × (read_of tree path ≡ Ok (bytes, time))) (sym (tree_at-before first events e was.moment was.to)) was.was;
       }
 
-  -- it stays so
+  -- it still holds
   pub of_store_later : (history : History) → IsOfStore first events store history → IsOfStore first whole store history
   of_store_later history of = record {
     slots = of.slots;
@@ -66,7 +66,7 @@ module _ (first : Volume) (events : List Event) (e : Event) (store : Store) wher
         IsHanded-wider (ShownSince first events store) (ShownSince first whole store) shown_later (setting_in store) store.hash entry.event (of.handed entry among);
   }
 
-  -- with an entry more
+  -- with one more entry
   pub of_store_grown : (history : History) (seat : ℕ) (event : CoreEvent) (answer : CoreAnswer) → answer ≡ answer_behind history seat event
       → CanHappen (present history) seat event
       → IsHanded (ShownSince first events store) (setting_in store) store.hash event → IsOfStore first events store history

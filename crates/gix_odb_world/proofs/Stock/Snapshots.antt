@@ -29,7 +29,7 @@ use Rattle.gix_odb_runs.specs.Event.{Event}
 use Rattle.gix_odb_world.specs.Seats.{IsSeated}
 use Rattle.gix_odb_world.proofs.Stock.OneCore.{IsOfStore, IsStocked, ShownSince}
 
--- ---- the front of a journal
+-- ---- the prefix of a journal
 
 seam : {A : Type 0} (xs : List A) (x : A) (ys : List A) → slice_get (xs ++ x ∷ ys) (length xs) ≡ Some x
 seam [] x ys = refl
@@ -64,7 +64,7 @@ module _ (first : Volume) (events : List Event) (store : Store) (history : Histo
   pub slots_are : length history.opening.slots ≡ of.slots
   slots_are = ap (λ (s : Shape). length s.slots) of.opening ∙ length-replicate of.slots None
 
-  -- a view that an entry hands over shows what was read
+  -- a view that an entry passes on shows what was read
   module _ (past : List Entry) (entry : Entry) (later : List Entry) (splits : history.entries ≡ past ++ entry ∷ later) where
     abbrev to_here : List Entry
     to_here = past ++ entry ∷ []

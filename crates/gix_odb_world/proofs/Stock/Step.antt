@@ -1,4 +1,4 @@
--- What one event makes of the cores of stores, and of whose cores they are.
+-- What one event does to the cores of stores, and to whose cores they are.
 pub mod Grown
 use Rattle.std.proofs.Common.{◌≡◌, ℕ, ◌+◌, Bool, true, false, List, [], ◌∷◌, ◌++◌, length, Option, Some, None, refl, sym, ◌∙◌, ap, subst}
 use Rattle.std.specs.Prelude.{◌==◌, slice_get, unwrap_or, if◌then◌else◌}
@@ -219,7 +219,7 @@ module _ (first : Volume) (past : List Event) (e : Event) (lawful : IsLawful fir
             what_is_handed_can_happen setting knows.fits.distinct view knows.query.want id exchanges knows.asked event asked (present (history_at cores running.modes.core)) number,
           )
 
-    -- an open store's opening told the core that it made
+    -- the opening of an open store has the core that it made
     opening_made : (task : Task) → running.task ≡ task → task ≡ OpenStore → (reply : Reply) → e.outcome ≡ outcomes.Reply reply → refuses_opening reply ≡ false
         → (slots : ℕ) × (folders : ℕ) × (core : ℕ) × (seat : ℕ) × (answer : CoreAnswer) × (e.asked ≡ OfNewCore slots folders core seat answer)
     opening_made task task_is opens_it reply out sound =
@@ -355,6 +355,6 @@ module _ (first : Volume) (past : List Event) (e : Event) (lawful : IsLawful fir
       let grows = grown_same first past e before OfNothing suits refl in
       finish before.stores grows (λ handle. subst (λ o. Owns before.stores (status_after (length past + 1) e.step o e.asked table handle)) (sym out) (kept before.stores grows handle))
 
-  -- one event more
+  -- one more event
   pub stocked_on : AreStocked first now
   stocked_on = by_outcome e.outcome refl law.suits

@@ -1,4 +1,4 @@
--- Along a run the streams of handles at work stand open, and no two handles read one.
+-- Along a run the streams of handles at work are open, and no two handles read one.
 use Rattle.std.proofs.Common.{◌≡◌, ◌≢◌, ◌⊎◌, ℕ, true, false, List, Contains, Option, Some, None, inl, inr, sym, ◌∙◌, ap}
 use Rattle.odb_base.specs.Path.{Path}
 use Rattle.odb_asks.specs.MemDisk.{Volume}
@@ -37,7 +37,7 @@ use Rattle.gix_odb_world.proofs.Streams.OneEvent.{StandsOpen}
 
 -- ---- what a handle at work asks of streams
 
--- the call of the disk of a handle that is at work: it opens folders of packs alone, and reads and closes its own stream alone
+-- the call of the disk of a handle that is at work: it opens only folders of packs, and reads and closes only its own stream
 pub record AsksOwn (events : List Event) (handle : ℕ) (running : Running) (ask : DiskAsk) : Type 0 where
   pub opens : (path : Path) → ask ≡ asks.OpenDir path → (folder : Path) × Contains (folder_list running.store.parts) folder × (path ≡ pack_folder folder)
   pub on : (dir : ℕ) → IsOnStream dir ask → (stream : Stream) × (stream_in (told_since events handle running.begun) ≡ Some stream) × (stream.dir ≡ dir)
@@ -132,7 +132,7 @@ asks_own first events handle running (Calling (Looking look)) knows ask is =
 
 -- ---- all streams
 
--- the stream of each handle at work stands open, and those of two handles have two numbers
+-- the stream of each handle at work is open, and those of two handles have two numbers
 pub record AreOpen (first : Volume) (events : List Event) : Type 0 where
   pub stands : (handle : ℕ) (running : Running) → status_of events handle ≡ Working running → (stream : Stream)
       → stream_in (told_since events handle running.begun) ≡ Some stream → StandsOpen first events running stream

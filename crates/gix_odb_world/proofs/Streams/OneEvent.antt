@@ -1,4 +1,4 @@
--- What one event leaves of the handles at work, and of a stream that stands open.
+-- What one event leaves of the handles at work, and of an open stream.
 use Rattle.std.proofs.Common.{◌≡◌, ◌⊎◌, ℕ, ◌+◌, ◌≤◌, Bool, true, false, List, [], ◌∷◌, ◌++◌, length, Contains, Option, Some, None, Ok, Err, Result, inl, inr, refl, sym, subst, arith}
 use Rattle.std.specs.Prelude.{◌==◌, if◌then◌else◌}
 use Rattle.std.proofs.lemmas.Bool.{eqb-true}
@@ -27,7 +27,7 @@ use Rattle.gix_odb_runs.specs.Run.{disk_after, disk_after_asked, disk_after_chan
 use Rattle.gix_odb_world.specs.Status.{Free, Resting, Status, Working, after_reply, cloned, come_to, ignoring_from, refuses_opening, replied, started, status_after, status_of, turned, with_status}
 use Rattle.gix_odb_world.proofs.HistoryLemmas.{disk_after-push, status_of-push, tree_at-before}
 
--- ---- a stream that stands open
+-- ---- an open stream
 
 -- A stream of a query: it was opened on the folder of packs of a folder of the store, at some moment since the query began, and what it
 -- gave since and is still to give is what the folder's directory listed then.
@@ -64,7 +64,7 @@ module _ (first : Volume) (past : List Event) (e : Event) where
         stream_of_a_directory_is_kept_by_another_state tree folder _ dir given coming
         (stream_of_a_directory_is_kept_by_other_calls tree folder disk dir given coming is ask leaves) _
 
-    -- it stands as it did over an event that isn't on it
+    -- it stays as it was over an event that isn't on it
     pub kept_stream : LeavesStream dir e.asked → IsStreamOf tree folder (disk_after first past) dir given coming → IsStreamOf tree folder (disk_after first now) dir given coming
     kept_stream leaves is =
         subst (λ d. IsStreamOf tree folder d dir given coming) (sym (disk_after-push first past e)) (asked_keeps (disk_after first past) e.asked e.entry.change leaves is)

@@ -47,12 +47,12 @@ leaves_stream dir (OfDisk ask answer) leaves = absurd leaves
 leaves_stream dir (OfCore store seat event answer) leaves = tt
 leaves_stream dir (OfNewCore slots folders store seat answer) leaves = tt
 
--- the stream behind what was told, if anything was
+-- the stream after an exchange, if there was one
 abbrev streamed : Option Stream → Option Exchange → Option Stream
 streamed before None = before
 streamed before (Some exchange) = stream_by before exchange.ask exchange.answer
 
--- the stream behind an answer to a call for its next entry
+-- the stream after an answer to a call for its next entry
 abbrev read_by : Stream → DiskAnswer → Stream
 read_by stream answer = record { folder = stream.folder; dir = stream.dir; entries = given_by stream.entries answer }
 
@@ -67,7 +67,7 @@ module _ (first : Volume) (past : List Event) (e : Event) (law : Law first past 
   knows_at : (handle : ℕ) (was : Running) → status_of past handle ≡ Working was → Runs first past handle (Working was)
   knows_at handle was status = subst (Runs first past handle) status (runs handle)
 
-  -- ---- what its exchanges tell of the stream of a handle
+  -- ---- what its exchanges show of the stream of a handle
 
   module _ (handle begun : ℕ) (since : begun ≤ length past) where
     abbrev old : Option Stream
@@ -106,7 +106,7 @@ module _ (first : Volume) (past : List Event) (e : Event) (law : Law first past 
     path : Path
     opened : answer_now disk (asks.OpenDir path) ≡ answers.Dir dir
 
-  -- it stands open after the event
+  -- it is open after the event
   record Stays (handle : ℕ) (running : Running) (stream : Stream) : Type 0 where
     stands : StandsOpen first now running stream
     came : Had handle stream.dir ⊎ OpenedNow handle stream.dir
@@ -278,7 +278,7 @@ module _ (first : Volume) (past : List Event) (e : Event) (law : Law first past 
 
   -- ---- all streams
 
-  -- a handle that began now was told nothing
+  -- a handle that began now was answered nothing
   none_yet : (handle begun : ℕ) (stream : Stream) → begun ≡ length past + 1 → ¬ (stream_in (told_since now handle begun) ≡ Some stream)
   none_yet handle begun stream fresh is =
       let all : begun ≡ length now = fresh ∙ sym (length_push past e) in

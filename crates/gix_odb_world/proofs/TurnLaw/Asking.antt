@@ -1,4 +1,4 @@
--- What a turn does that asks so: what its record says, what it changes, and what the code of it does.
+-- What a turn does that asks this: what its record says, what it changes, and what the code of it does.
 use Rattle.std.proofs.Common.{◌≡◌, ℕ, List, Option, Some, None, Ok, Err, Result, refl, ap, subst, sym}
 use Rattle.odb_base.specs.Path.{Path}
 use Rattle.odb_nodes.specs.Tree.{IsTree, tree_of}
@@ -30,7 +30,7 @@ suits_turn number (Err work) (OfDisk ask answer) ends = (tt, tt)
 suits_turn number (Err work) (OfCore store seat event answer) ends = (tt, tt)
 suits_turn number (Err work) (OfNewCore slots folders store seat answer) ends = (tt, tt)
 
--- what tells nothing was asked for nothing
+-- where nothing was asked, the work asked for nothing
 pub told_nothing : (at : Stand) (disk : Volume) (ask : Option Ask) → told_now at disk ask ≡ OfNothing → ask ≡ None
 told_nothing at disk None is = refl
 told_nothing at disk (Some (parts.Disk ask)) is = absurd (cc is)
@@ -51,7 +51,7 @@ fails_listed at disk (Some (parts.Disk ask)) = has_failed-now disk ask
 fails_listed at disk (Some (parts.Core event)) = tt
 fails_listed at disk (Some (parts.NewCore slots folders)) = tt
 
--- a record that tells no call
+-- a record that has no call
 no_call : (opened : Option Path) (at : Stand) (disk : Volume) (ask : Option Ask) (did : Did) → did ≡ did_asked opened at disk ask → NoCall (did_asked opened at disk ask)
     → NoCall did
 no_call opened at disk ask did is none = subst NoCall (sym is) none

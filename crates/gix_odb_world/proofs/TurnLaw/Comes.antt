@@ -1,5 +1,5 @@
--- What a turn of any work comes to: its reply keeps its promise, or the work goes on and knows as much. All of it is what the laws of
--- its machine say.
+-- How a turn of any work ends: its reply keeps its promise, or the work goes on and knows as much. All of this follows from the laws of
+-- its machine.
 use Rattle.std.proofs.Common.{◌≡◌, ℕ, ◌+◌, ◌<◌, ◌≤◌, List, [], ◌∷◌, ◌++◌, length, None, Some, Ok, Err, Result, ap, subst}
 use Rattle.odb_asks.specs.MemDisk.{Volume}
 use Rattle.gix_odb_calls.specs.declared.call.Reply.{Reply}
@@ -28,7 +28,7 @@ module _ (first : Volume) (events : List Event) (handle : ℕ) (running : Runnin
   pub event_of : (event : CoreEvent) → ask_in running.store work ≡ Some (parts.Core event) → (shape : Shape) (seat : ℕ) → CanHappen shape seat event
   event_of event is shape seat = (laws_at work).turns.happens first events handle running (at work).state knows event is shape seat
 
--- what a machine comes to, among all work
+-- how a machine ends, among all work
 placed_comes : (first : Volume) (events : List Event) (e : Event) (handle : ℕ) (running : Running) (m : Machine) (Known : KnowsAt m) → KeepsLaws m Known
     → (asked : Asked) (result : Result Reply m.State)
     → MachineComes first events e handle running m Known asked result → ComesTo first events e handle running asked (placed m result)

@@ -60,7 +60,7 @@ module _ (first : Volume) (events : List Event) (handle begun turns : ℕ) (w : 
       (Renames number (made (stages.Moving number id) number refl s) (had (stages.Moving number id) s))
   at_stage (stages.Removing number refusal) s = Removes number (made (stages.Removing number refusal) number refl s)
 
--- a running write asks in its turn, which is counted from where what stood in front of it is ready
+-- a running write asks in its turn, which is counted from where the refresh before it is ready
 pub in_order_write : (first : Volume) (events : List Event) (handle : ℕ) (running : Running) (call : LooseCall)
     → (at : IsAtOwnWrite first events handle running call)
     → AsksInOrder first events handle running.store running.modes running.begun running.turns (MakeCall (call_to_write at.writing.write)) (ask_at_stage at.writing.write at.writing.stage)

@@ -1,4 +1,4 @@
--- A write where it begins: behind what stands in front of it, or at its own turns where its handle has seen a list that was read.
+-- A write where it begins: at the refresh before it, or at its own turns where its handle has seen a list that was read.
 use Rattle.std.proofs.Common.{◌≡◌, ℕ, ◌+◌, ◌≤◌, Bool, true, false, List, [], ◌∷◌, ◌++◌, length, None, Option, refl, sym, ◌∙◌, ap, subst, arith}
 use Rattle.std.specs.Prelude.{if◌then◌else◌}
 use Rattle.std.proofs.lemmas.List.{length_push}
@@ -72,7 +72,7 @@ module _ (first : Volume) (events : List Event) (e : Event) (handle : ℕ) (stor
     since : number ≤ length whole
     since = let longer = length_push events e in omega (arith, longer)
 
-    -- what stands in front of it begins from the snapshot that its handle has
+    -- the refresh before it begins from the snapshot that its handle has
     begins : refresh_begun whole handle modes number ≡ started (view_in_modes modes)
     begins = ap started (sym (snapshot_seen events e handle modes start.seated))
 

@@ -1,4 +1,4 @@
--- A turn of what stands in front of a write: what it asks for, and what it comes to.
+-- A turn of the refresh before a write: what it asks for, and how it ends.
 use Rattle.std.proofs.Common.{◌≡◌, inl, ℕ, ◌+◌, ◌*◌, ◌<◌, ◌≤◌, List, [], ◌∷◌, ◌++◌, length, Option, Some, None, Err, refl, sym, ◌∙◌, ap, subst, arith}
 use Rattle.std.proofs.lemmas.List.{length_push}
 use Rattle.odb_asks.specs.MemDisk.{Volume}
@@ -106,7 +106,7 @@ module _ (first : Volume) (events : List Event) (handle : ℕ) (running : Runnin
       streams_of_refreshes_are_their_own setting snapshot exchanges knows.asked dir
       (inl (asks_now (parts.Disk ask) is ∙ ap (λ a. Some (parts.Disk a)) same))
 
-  -- ---- what its turn comes to
+  -- ---- how its turn ends
 
   module _ (e : Event) where
     abbrev whole : List Event
@@ -115,7 +115,7 @@ module _ (first : Volume) (events : List Event) (handle : ℕ) (running : Runnin
     abbrev Comes : Asked → RefreshStep → Type 0
     Comes asked next = MachineComes first events e handle running writing KnowsOfWrite asked (front_result call next)
 
-    -- a turn in which it was told something, and which changed nothing
+    -- a turn in which it was answered, and which changed nothing
     module _ (exchange : Exchange) (asked_it : Asks exchange.ask)
         (told_is : told_since whole handle running.begun ≡ exchanges ++ exchange ∷ [])
         (well : IsAnsweredWell first whole handle store running.begun) (refused : AreRefused whole handle running.modes.core running.begun)

@@ -1,4 +1,4 @@
--- What a turn of a write comes to: what it knows where it goes on, and what its end keeps of its promise.
+-- How a turn of a write ends: what it knows where it goes on, and what its end keeps of its promise.
 use Rattle.std.specs.Prelude.{◌==◌, Bool, true, false, nat_le, if◌then◌else◌}
 use Rattle.std.proofs.Common.{◌≡◌, ℕ, ◌+◌, List, [], ◌∷◌, ◌++◌, length, take, Contains, Option, Some, None, Ok, Err, refl, sym, ap, ◌∙◌, subst, zero, suc, ◌⊎◌, arith, inl, inr}
 use Rattle.std.proofs.lemmas.Grind.{common_steps}
@@ -77,7 +77,7 @@ module _ (t : TurnOfWrite) where
         (λ m. let a = all_asked (exchanged m.0 (answers.Refused disk_errors.NoMemory)) m.1 in absurd (never_wants (disk_after first (take a.place whole)) m.0 a.at.given))
         (CountsOf (job_to_write w)) (CountsOf (job_to_write w)) (λ n k. k) (error_from (head_to_write w) refusal) h
 
-    -- what a turn comes to
+    -- how a turn ends
     abbrev pub Goes : Onward → Type 0
     Goes (Stage stage) = StandsAt first whole handle begun (turns + 1) w stage
     Goes (End (Ok id)) = HasWritten first whole handle begun w id
@@ -87,7 +87,7 @@ module _ (t : TurnOfWrite) where
     abbrev IsUntouchedAt : Refusal → Type 0
     IsUntouchedAt refusal = (at : Path) → error_from (head_to_write w) refusal ≡ loose_errors.Io messages.CreateTempFile at → ChangedNothing whole handle begun
 
-    -- what is to be shown of it, beside its exchanges
+    -- what is to be shown of it, besides its exchanges
     abbrev pub Parts : Onward → Type 0
     Parts (Stage stage) =
         (¬ (IsRename e.entry.change)) × TurnsMadeOnly whole handle begun w.objects (number_made stage) × Holds first whole handle begun w.objects (number_made stage) (content_at w stage)
@@ -122,7 +122,7 @@ module _ (t : TurnOfWrite) where
               (IsAlong-done (head_to_write w) (w.hash) w.known w.bytes (End (Err refusal)) longer along));
         }
 
-    -- The next piece is appended, or the end of the data is told, as soon as data are asked for.
+    -- The next piece is appended, or the end of the data is reported, as soon as data are asked for.
     abbrev pub PartsTo : WriteAsk → Type 0
     PartsTo (wants.Disk stage) = Parts (Stage stage)
     PartsTo (wants.Data number written) = Parts (Stage (stages.Filling number written))

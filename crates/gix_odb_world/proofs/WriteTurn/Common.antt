@@ -1,4 +1,4 @@
--- What is common to all turns of a write: what was asked, what stands in its file, and what its end or its next stage needs.
+-- What is common to all turns of a write: what was asked, what its file holds, and what its end or its next stage needs.
 use Rattle.std.proofs.Common.{Contains, ◌≡◌, ℕ, ◌+◌, ◌≤◌, List, [], ◌∷◌, ◌++◌, length, Option, Some, None, Ok, sym, ap, ◌∙◌, subst, arith}
 use Rattle.std.proofs.lemmas.List.{length_push}
 use Rattle.std.proofs.Math.Seq.{take-length}
@@ -36,7 +36,7 @@ use Rattle.gix_odb_world.proofs.HistoryLemmas.{tree_at-now}
 use Rattle.gix_odb_runs.proofs.WriteAsk.{Made}
 use Rattle.gix_odb_world.proofs.WriteKept.{alone_before, asked_at_kept, asked_now, each_turn_push}
 
--- a write that is to remove its file was not refused the making of it
+-- a write that is to remove its file was not refused its making
 pub made_before_removal : (head : WriteHead) (Named : ObjectId → Type 0) (Counted : ℕ → Type 0) (number : ℕ) (refusal : Refusal) (past : List Exchange) (at : Path)
     → IsStopped head Named ⊥ Counted number refusal past
     → error_from head refusal ≡ loose_errors.Io messages.CreateTempFile at → (P : Type 0) → P
@@ -67,7 +67,7 @@ pub record TurnOfWrite : Type 0 where
   pub w : ToWrite
   pub since : begun ≤ length events
 
--- what the write knows that stands at a stage before it
+-- what the write knows that is at a stage before it
 abbrev pub Stands : TurnOfWrite → WriteStage → Type 0
 Stands t stage = StandsAt t.first t.events t.handle t.begun t.turns t.w stage
 

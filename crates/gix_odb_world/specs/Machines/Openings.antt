@@ -13,7 +13,7 @@ abbrev pub opening_fed : Store → OpenStage → Option Answer → OpenStage
 opening_fed store state None = state
 opening_fed store state (Some answer) = openings.fed store.parts.objects store.parts.folders store.slots state answer
 
--- an opening as a machine: one look, a listing where its indices are to be counted, the registration, and then its reply
+-- an opening as a machine: one stat, a listing where its indices are to be counted, the registration, and then its reply
 abbrev pub opening : Machine
 opening = record {
   State = OpenStage;

@@ -20,7 +20,7 @@ use Rattle.gix_odb_world.specs.Bound.{bound_of_task}
 use Rattle.gix_odb_runs.specs.Writing.{ToWrite, call_to_write}
 use Rattle.gix_odb_world.specs.Machine.{Machine}
 
--- a write on its way: behind what stands in front of it, at its own turns, or not to be made, since its store could not be listed
+-- a write under way: in the refresh before it, at its own turns, or not to be made, since its store could not be listed
 pub data WriteState : Type 0 where
   InFront : (refresh : Refresh) (call : LooseCall) → WriteState
   Own : (call : LooseCall) → WriteState
@@ -40,7 +40,7 @@ abbrev pub own_result : Result Reply LooseCall → Result Reply WriteState
 own_result (Ok reply) = Ok reply
 own_result (Err call) = Err (Own call)
 
--- what a write comes to by a step of the refresh before it
+-- the result of a write by a step of the refresh before it
 abbrev pub front_result : LooseCall → RefreshStep → Result Reply WriteState
 front_result call (fronts.More refresh) = Err (InFront refresh call)
 front_result call (fronts.Refused error) = Ok (unlisted error)
@@ -58,7 +58,7 @@ writes_by (InFront refresh call) = None
 writes_by (Own call) = Some call
 writes_by (Unlisted error) = None
 
--- a write as a machine: the list of its store is read first, where it was not
+-- a write as a machine: the list of its store is read first, where it was not read before
 abbrev pub writing : Machine
 writing = record {
   State = WriteState;

@@ -1,4 +1,4 @@
--- How a query ends whose object is at hand.
+-- How a query ends whose object is in its snapshot.
 use Rattle.std.specs.Prelude.{◌≡◌}
 use Rattle.gix_odb_calls.specs.declared.call.Reply.{Reply}
 use Rattle.gix_odb_calls.specs.declared.query.Query.{Query}
@@ -8,7 +8,7 @@ use Rattle.gix_odb_look_laws.specs.AtHand.{SaysYes}
 use Rattle.gix_odb_runs.specs.Event.{Event, OfNothing}
 use Rattle.gix_odb_runs.specs.declared.record.Did.TheVariants.{Nothing}
 
--- In an event a query ended: it asked for nothing and did nothing, and its reply isn't that the object is missing. A test is answered by a yes.
+-- In an event a query ended: it asked for nothing and did nothing, and its reply isn't "not found". A test is answered with yes.
 pub record EndsUnasked (query : Query) (e : Event) : Type 0 where
   pub reply : Reply
   pub ends : e.outcome ≡ outcomes.Reply reply

@@ -1,4 +1,4 @@
--- The rows of a listing that a call hands to the core of its store.
+-- The rows of a listing that a call passes to the core of its store.
 use Rattle.std.specs.Prelude.{◌≡◌, ℕ, ◌≤◌, List, true, false, All, Ok}
 use Rattle.odb_base.specs.Path.{Path}
 use Rattle.odb_nodes.specs.Tree.{Tree}
@@ -32,12 +32,12 @@ pub record IsRowShown (trees : ℕ → Tree) (begun now : ℕ) (row : ListingRow
   pub pack : Sometime begun now (λ moment. ShowsSomeFile (trees moment) (pack_path row.path))
 
 -- The rows of a listing have different paths. Each is that of an index in the pack directory of one of a store's folders, and of no multi-pack index,
--- and was shown so.
+-- and was shown at such a moment.
 pub record AreRowsShown (setting : Setting) (trees : ℕ → Tree) (begun now : ℕ) (rows : List ListingRow) : Type 0 where
   pub different : HasDifferentPaths rows
   pub at : All (IsIndexRow setting) rows
   pub shown : All (IsRowShown trees begun now) rows
 
--- the tree stood still from one moment to another
+-- the tree stayed the same from one moment to another
 abbrev pub StoodStill : (trees : ℕ → Tree) → (begun now : ℕ) → Type 0
 StoodStill trees begun now = (moment : ℕ) → begun ≤ moment → moment ≤ now → trees moment ≡ trees begun

@@ -1,4 +1,4 @@
--- Answers and errors that tell want of memory.
+-- Answers and errors that report that memory ran out.
 use Rattle.std.specs.Prelude.{◌≡◌, Err}
 use Rattle.odb_asks.specs.declared.ask.DiskAnswer.TheVariants as answers
 use Rattle.odb_nodes.specs.declared.disk_error.DiskError.TheVariants as disk_errors
@@ -13,14 +13,14 @@ use Rattle.gix_odb_loose.specs.declared.find.Error.TheVariants as loose_errors
 use Rattle.gix_odb_loose.specs.declared.write.Error.TheVariants as loose_write_errors
 use Rattle.gix_odb_runs.specs.Event.{Asked, OfCore, OfDisk, OfNewCore, OfNothing}
 
--- what was asked in an event was answered by want of memory: by the disk, or by a core
+-- what was asked in an event was answered with `out of memory`: by the disk, or by a core
 abbrev pub RanOut : Asked → Type 0
 RanOut OfNothing = ⊥
 RanOut (OfDisk ask answer) = answer ≡ answers.Refused disk_errors.NoMemory
 RanOut (OfCore store seat event answer) = answer ≡ Err refusals.NoMemory
 RanOut (OfNewCore slots folders store seat answer) = answer ≡ Err refusals.NoMemory
 
--- the errors of openings, queries and writes that tell it
+-- the errors of openings, queries and writes that report it
 abbrev pub TellsWant : CallError → Type 0
 TellsWant (call_errors.Open opening_errors.NoMemory) = Unit {0}
 TellsWant (call_errors.Open (opening_errors.LoadIndex load_errors.NoMemory)) = Unit {0}

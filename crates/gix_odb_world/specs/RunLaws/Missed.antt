@@ -1,4 +1,4 @@
--- How a query ends that found nothing: at a look at the core, whose list is the one that was published or confirmed last for it.
+-- How a query ends that found nothing: with a read of the core's state, whose list is the one that was published or confirmed last for it.
 use Rattle.std.specs.Prelude.{◌≡◌, ℕ, List, [], ◌∷◌, ◌++◌, Option, Some, None, Ok}
 use Rattle.gix_odb_events.specs.Answers.{view_in}
 use Rattle.gix_odb_events.specs.declared.event.Effect.{Effect}
@@ -11,7 +11,7 @@ use Rattle.gix_odb_events.specs.declared.answer.Ask.{Ask}
 use Rattle.gix_odb_events.specs.declared.answer.Ask.TheVariants as asks
 use Rattle.gix_odb_looks.specs.Exchange.{Exchange}
 
--- the number of the list that the core answered last to a listing that was handed to it, by publishing it or by confirming it
+-- the number of the list that the core answered last to a listing that it got, by publishing it or by confirming it
 abbrev pub list_by : (before : Option ℕ) → Ask → Answer → Option ℕ
 list_by before (asks.Core (events.Publish listing)) (told.Core (Ok (effects.Published view))) = Some view.list_no
 list_by before (asks.Core (events.Publish listing)) (told.Core (Ok (effects.Unchanged view))) = Some view.list_no
@@ -21,8 +21,8 @@ abbrev pub last_list : (before : Option ℕ) → List Exchange → Option ℕ
 last_list before [] = before
 last_list before (exchange ∷ exchanges) = last_list (list_by before exchange.ask exchange.answer) exchanges
 
--- The last of these exchanges is a look at the core, and the list of the view that it gave is the one that was published or confirmed last in those
--- before it, of which there is one.
+-- The last of these exchanges is a read of the core's state, and the list of the view that it gave is the one that was published or confirmed last
+-- in those before it, of which there is one.
 pub record EndAtLastList (exchanges : List Exchange) : Type 0 where
   pub before : List Exchange
   pub last : Exchange

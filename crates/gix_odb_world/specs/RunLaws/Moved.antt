@@ -11,8 +11,8 @@ use Rattle.gix_odb.specs.Moments.{Throughout}
 use Rattle.gix_odb_runs.specs.Cores.{cores_after, history_at}
 use Rattle.gix_odb_runs.specs.Event.{Event}
 
--- In one folder of a store, at each moment from `begun` to some moment the object of an id lies in its loose file, and at each from that one to `now`
--- it lies in a pack by the index of one name, at one offset, each time in contents that are sound for what is wanted.
+-- In one folder of a store, at each moment from `begun` to some moment the object of an id is in its loose file, and at each from that one to `now`
+-- it is in a pack by the index of one name, at one offset, each time in contents that are sound for what is wanted.
 pub record HasMoved (trees : ℕ → Tree) (store : StoreData) (begun now : ℕ) (want : Want) (id : ObjectId) : Type 0 where
   pub folder : Path
   pub among : Contains (folder_list store) folder

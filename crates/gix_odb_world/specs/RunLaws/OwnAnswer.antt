@@ -1,4 +1,4 @@
--- The answers that are an opening's or a call's own, and that a run shows no cause for another one.
+-- The answers that are an opening's or a call's own, and when a run shows no cause for an error.
 use Rattle.std.specs.Prelude.{ℕ, List, length}
 use Rattle.odb_asks.specs.MemDisk.{Volume}
 use Rattle.gix_object.specs.declared.want.Want.{Want}
@@ -24,7 +24,7 @@ use Rattle.gix_odb_world.specs.Told.{told_since}
 
 -- ---- own answers
 
--- a find finds an object or none, a look for a header a header or none, and a test says yes or no
+-- a find finds an object or none, a look-up of a header a header or none, and a test says yes or no
 abbrev pub IsOwnOfWant : Want → Reply → Type 0
 IsOwnOfWant wants.Object (replies.Found kind bytes) = Unit {0}
 IsOwnOfWant wants.Object replies.NotFound = Unit {0}
@@ -41,7 +41,7 @@ IsOwnOfWrite reply = ⊥
 abbrev pub IsOwnOfCall : Call → Reply → Type 0
 IsOwnOfCall call reply = by_call (λ query. IsOwnOfWant query.want reply) (λ kind size bytes known. IsOwnOfWrite reply) call
 
--- an opening tells the slots of its store; none of these answers is a refusal
+-- an opening returns the slots of its store; none of these answers is a refusal
 abbrev pub IsOwnAnswer : Task → Reply → Type 0
 IsOwnAnswer OpenStore (replies.Opened slots) = Unit {0}
 IsOwnAnswer OpenStore reply = ⊥
@@ -55,17 +55,17 @@ NoQueryCause first events handle store modes begun query =
     (error : finding.Error) → ¬ (FindCause (tree_at first events) (FailedSince events handle begun) (RefusedSince events handle modes.core begun) (told_since events handle begun) store
     begun (length events) query.want (sought store.parts modes.ignoring query) error)
 
--- the same of a write: of no error of the loose objects, and of none of the listing in front of it
+-- what they show of a write is the cause of no error of the loose objects, and of none of the listing before it
 pub record NoWriteCause (first : Volume) (events : List Event) (handle : ℕ) (store : Store) (modes : Modes) (begun : ℕ) (w : ToWrite) : Type 0 where
   pub written : (error : loose_write.Error) → ¬ (CauseOfWrite first events handle begun w error)
   pub listed : (error : load.Error) → ¬ (LoadCause (RefusedSince events handle modes.core begun) (IsCaused (setting_in store) (told_since events handle begun) error) error)
 
--- the same of an opening
+-- what they show of an opening is the cause of no error
 abbrev pub NoOpeningCause : Volume → List Event → (handle : ℕ) → Store → (begun : ℕ) → Type 0
 NoOpeningCause first events handle store begun =
     (error : opening.Error) → ¬ (OpeningCause (tree_at first events) (FailedSince events handle begun) (told_since events handle begun) store begun (length events) error)
 
--- the same of any task
+-- what they show of a task is the cause of no error
 abbrev pub NoCause : Volume → List Event → (handle : ℕ) → Store → Modes → (begun : ℕ) → Task → Type 0
 NoCause first events handle store modes begun OpenStore = NoOpeningCause first events handle store begun
 NoCause first events handle store modes begun (MakeCall call) =

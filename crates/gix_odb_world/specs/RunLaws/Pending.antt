@@ -1,4 +1,4 @@
--- Turns of one handle that are all pending, one after another, and that they are fewer than the bound of its task.
+-- Turns of one handle that are all pending, one after another: they are fewer than the bound of its task.
 use Rattle.std.specs.Prelude.{◌≡◌, ◌≢◌, ℕ, ◌+◌, ◌<◌, ◌≤◌, List, [], ◌∷◌, take, slice_get, Some}
 use Rattle.odb_asks.specs.MemDisk.{Volume}
 use Rattle.gix_odb_calls.specs.declared.line.Line.{Line}
@@ -24,7 +24,7 @@ abbrev pub ArePending : List Event → (handle from count : ℕ) → Type 0
 ArePending events handle from count = (place : ℕ) → from ≤ place → place < from + count → IsPendingTurn events handle place
 
 -- A handle was at a task at a place, and took so many turns from there on. With those that it took for the task before, they are fewer than the
--- task's bound, for any number of entries that no folder which it may list had more of from the step that set the task to the last of the turns.
+-- task's bound, where no folder that it may list had more than `entries` entries from the step that set the task to the last of the turns.
 pub record AreInTime (first : Volume) (events : List Event) (handle from count : ℕ) : Type 0 where
   pub running : Running
   pub status : status_of (take from events) handle ≡ Working running
@@ -34,7 +34,7 @@ pub record AreInTime (first : Volume) (events : List Event) (handle from count :
 
 -- ---- the lines of a script
 
--- The turns of a line that finishes what a handle is at stand from one place to another. The last of them alone isn't pending, and those before
+-- The turns of a line that finishes a task lie from one place to another. Only the last of them isn't pending, and those before
 -- it, if there are any, are in time.
 pub record FinishesInTime (first : Volume) (events : List Event) (handle from to : ℕ) : Type 0 where
   pub count : ℕ
@@ -46,12 +46,12 @@ pub record FinishesInTime (first : Volume) (events : List Event) (handle from to
   pub ends : last.outcome ≢ outcomes.Pending
   pub in_time : 0 < count → AreInTime first events handle from count
 
--- a line whose steps stand from one place to another: only a finish may take more than one
+-- a line whose steps lie from one place to another: only a finish may take more than one
 abbrev pub IsLineInTime : Volume → List Event → (from to : ℕ) → Line → Type 0
 IsLineInTime first events from to (Finish handle) = FinishesInTime first events handle from to
 IsLineInTime first events from to (One step) = to ≡ from
 
--- Each of the lines, whose steps stand one after another from a place on. `last` has, for each line, the place of its last step.
+-- Each of the lines, whose steps lie one after another from a place on. `last` has, for each line, the place of its last step.
 abbrev pub AreLinesInTime : Volume → List Event → (from : ℕ) → List Line → (last : List ℕ) → Type 0
 AreLinesInTime first events from [] last = Unit {0}
 AreLinesInTime first events from (line ∷ lines) [] = ⊥

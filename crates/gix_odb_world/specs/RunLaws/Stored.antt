@@ -13,7 +13,7 @@ use Rattle.gix_odb_look_laws.specs.JustRead.{IsWhy}
 use Rattle.gix_odb_runs.specs.Event.{Event}
 use Rattle.gix_odb_world.specs.RunLaws.Turn.{IsTurnBefore, Reads}
 
--- In the turn before a place a call read a path, and was answered so.
+-- In the turn before a place a call read a path, and got this answer.
 pub record WasJustRead (run : List Event) (handle begun next : ℕ) (path : Path) (answer : DiskAnswer) : Type 0 where
   pub place : ℕ
   pub event : Event

@@ -1,4 +1,4 @@
--- A turn of a query in a run, what it asks, and the turn of its handle that comes before another.
+-- A turn of a query in a run, what it asks, and the turn of its handle before another one.
 use Rattle.std.specs.Prelude.{◌≡◌, ℕ, ◌<◌, ◌≤◌, List, take, slice_get, Some}
 use Rattle.odb_base.specs.Path.{Path}
 use Rattle.odb_asks.specs.declared.ask.DiskAnswer.{DiskAnswer}
@@ -15,7 +15,7 @@ pub record IsTurnAt (events : List Event) (place : ℕ) (e : Event) (handle : �
   pub there : slice_get events place ≡ Some e
   pub turns : Turns (take place events) e handle running
 
--- which is a query
+-- the event is a turn of a query
 pub record IsQueryTurn (events : List Event) (place : ℕ) (e : Event) (handle : ℕ) (running : Running) (query : Query) : Type 0 where
   pub there : slice_get events place ≡ Some e
   pub turns : Turns (take place events) e handle running
@@ -28,7 +28,7 @@ pub record AsksCore (e : Event) (event : CoreEvent) : Type 0 where
   pub answer : CoreAnswer
   pub asked : e.asked ≡ OfCore store seat event answer
 
--- an event read a path, and was answered so
+-- an event read a path, and got this answer
 abbrev pub Reads : Event → Path → DiskAnswer → Type 0
 Reads e path answer = e.asked ≡ OfDisk (asks.Read path) answer
 

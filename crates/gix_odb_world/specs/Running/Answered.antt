@@ -1,4 +1,4 @@
--- What is true of all that a handle was told since it began to list folders of packs. No public clause needs more of it than its name.
+-- What is true of all answers to a handle since it began to list folders of packs. No public clause needs more of it than its name.
 use Rattle.std.specs.Prelude.{ℕ, List, length, None}
 use Rattle.odb_asks.specs.MemDisk.{Volume}
 use Rattle.gix_odb_looks.specs.Exchange.{AreAnswered}

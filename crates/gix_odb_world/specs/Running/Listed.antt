@@ -1,5 +1,5 @@
--- What the disk answered a handle since it began to list folders of packs: each answer at some moment, and while one tree stood, all by that
--- tree. No public clause needs more of it than its name.
+-- What the disk answered a handle since it began to list folders of packs: each answer at some moment, and while the tree stayed the same, all by
+-- that tree. No public clause needs more of it than its name.
 use Rattle.std.specs.Prelude.{◌≡◌, ℕ, List, [], ◌∷◌, length}
 use Rattle.odb_asks.specs.MemDisk.{Volume}
 use Rattle.odb_asks.specs.declared.ask.DiskAnswer.{DiskAnswer}
@@ -16,13 +16,13 @@ use Rattle.gix_odb_runs.specs.Run.{tree_at}
 use Rattle.gix_odb_world.specs.Running.Query.{IsGiven}
 use Rattle.gix_odb_world.specs.Told.{told_since}
 
--- One tree answers the calls of exchanges. At first these entries are to come from the stream that is open, and those are left in the end.
+-- One tree answers the calls of exchanges. At first these entries are to come from the open stream, and those are left in the end.
 abbrev pub AreOfTreeTo : Tree → (coming : List Entry) → List Exchange → (left : List Entry) → Type 0
 AreOfTreeTo tree coming [] left = left ≡ coming
 AreOfTreeTo tree coming (exchange ∷ exchanges) left =
     (between : List Entry) × IsToldOfTree tree coming exchange.ask exchange.answer between × AreOfTreeTo tree between exchanges left
 
--- the disk gave each answer since the handle began, and a tree that stood at every moment gave them all
+-- the disk gave each answer since the handle began, and a tree that was there at every moment gave them all
 pub record AreGiven (first : Volume) (events : List Event) (handle begun : ℕ) : Type 0 where
   pub given : (ask : DiskAsk) (answer : DiskAnswer) → WasTold (told_since events handle begun) (asks.Disk ask) (told.Disk answer)
       → IsGiven first events handle begun ask answer

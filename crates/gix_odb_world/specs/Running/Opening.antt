@@ -13,13 +13,13 @@ use Rattle.gix_odb_world.specs.Running.Answered.{IsAnsweredWell}
 use Rattle.gix_odb_world.specs.Running.Listed.{AreGiven}
 use Rattle.gix_odb_world.specs.Told.{opening_now, told_since}
 
--- behind its look an opening has seen the directory
+-- after its stat an opening has seen the directory
 abbrev pub HasSeen : Volume → List Event → Running → OpenStage → Type 0
 HasSeen first events running opens.Looking = Unit {0}
 HasSeen first events running (opens.Done reply) = ⊥
 HasSeen first events running state = Sometime running.begun (length events) (λ moment. ShowsDirectory (tree_at first events moment) running.store.parts.objects)
 
--- An opening stands behind what its handle was told since it began, each of which answered what it asked then, and had a turn for each.
+-- An opening is at the stage after all answers to its handle since it began, each of which answered its ask then, and had a turn for each.
 pub record IsOpening (first : Volume) (events : List Event) (handle : ℕ) (running : Running) (state : OpenStage) : Type 0 where
   pub task : running.task ≡ OpenStore
   pub since : running.begun ≤ length events

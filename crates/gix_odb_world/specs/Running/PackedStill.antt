@@ -1,4 +1,4 @@
--- An object that lies still in a pack while a query works, as far as its look-ups may see it. No public clause cites this.
+-- An object that stays unchanged in a pack while a query works, as far as its look-ups may see it. No public clause cites this.
 use Rattle.std.specs.Prelude.{◌≡◌, ℕ, true, List, Contains}
 use Rattle.odb_base.specs.Path.{Name, Path}
 use Rattle.odb_nodes.specs.Tree.{Tree}
@@ -21,7 +21,7 @@ pub record LiesIndexed (tree : Tree) (hash : Kind) (id : ObjectId) (place : Pack
   pub pack : List ℕ
   pub shows_pack : ShowsFile tree (pack_at place) pack
 
--- it is so at every moment from `begun` to `now`, and the index has shown nothing else since the store was opened
+-- it lies there at every moment from `begun` to `now`, and the index has shown nothing else since the store was opened
 pub record IsPackedStill (trees : ℕ → Tree) (store : Store) (begun now : ℕ) (id : ObjectId) (place : PackedPlace) : Type 0 where
   pub always : Throughout begun now (λ moment. LiesIndexed (trees moment) store.hash id place)
   pub one : ShowsOne trees store.opened now (index_at place)

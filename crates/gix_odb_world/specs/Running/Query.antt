@@ -32,7 +32,7 @@ use Rattle.gix_odb_world.specs.Running.Refused.{AreRefused}
 pub use Rattle.gix_odb_world.specs.Told.{call_of}
 use Rattle.gix_odb_world.specs.Told.{look_begun, look_now, told_since, view_then}
 
--- ---- what its handle was told
+-- ---- the answers to its handle
 
 -- the disk gave this answer at some moment since the query began, as it was then
 pub record IsGiven (first : Volume) (events : List Event) (handle begun : ℕ) (ask : DiskAsk) (answer : DiskAnswer) : Type 0 where
@@ -44,12 +44,12 @@ pub record IsGiven (first : Volume) (events : List Event) (handle begun : ℕ) (
   pub is : answer ≡ answer_now disk ask
   pub failed : fails_now disk ask ≡ true → FailedSince events handle begun
 
--- the number of the list behind exchanges
+-- the number of the list after exchanges
 abbrev pub number_after : (before : ℕ) → List Exchange → ℕ
 number_after before [] = before
 number_after before (exchange ∷ exchanges) = number_after (number_by before exchange.answer) exchanges
 
--- All that its handle was told since it began is true of the run; and where none of it failed, it is fair to what lay still in a pack throughout.
+-- All answers to its handle since it began are true of the run; and where none of them failed, they are fair to what stayed unchanged in a pack.
 pub record IsToldWell (first : Volume) (events : List Event) (handle : ℕ) (store : Store) (modes : Modes) (begun : ℕ) : Type 0 where
   pub opened : store.opened ≤ begun
   pub snapshot : IsShownView (WasShownAt (tree_at first events) store.opened (length events)) (setting_in store) store.hash (view_then events handle modes.core begun)
@@ -68,12 +68,12 @@ pub record IsToldWell (first : Volume) (events : List Event) (handle : ℕ) (sto
 
 -- ---- what it knows
 
--- what the store of a query is: no folder of it comes twice, and the sought id is of its hash
+-- what the store of a query is: no folder occurs twice in it, and the sought id is of its hash
 pub record IsFit (store : Store) (modes : Modes) (query : Query) : Type 0 where
   pub distinct : IsDistinct same_path (folder_list store.parts)
   pub hashed : kind_of (sought store.parts modes.ignoring query) ≡ store.hash
 
--- A query stands behind what its handle was told since it began, each of which answered what it asked then, and had a turn for each.
+-- A query is at the state after all answers to its handle since it began, each of which answered its ask then, and had a turn for each.
 pub record IsLooking (first : Volume) (events : List Event) (handle : ℕ) (running : Running) (look : LookUp) : Type 0 where
   pub query : Query
   pub task : running.task ≡ MakeCall (call_of query)

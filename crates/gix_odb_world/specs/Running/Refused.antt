@@ -8,7 +8,7 @@ use Rattle.gix_odb_runs.specs.Event.{CoreEvent, Event}
 use Rattle.gix_odb_world.specs.Refused.{RefusedSince}
 use Rattle.gix_odb_world.specs.Told.{told_since}
 
--- each refusal that the handle was told since has its cause
+-- each refusal that the handle got since then has its cause
 abbrev pub AreRefused : List Event → (handle core begun : ℕ) → Type 0
 AreRefused events handle core begun =
     (event : CoreEvent) (refusal : Refusal) → WasTold (told_since events handle begun) (asks.Core event) (told.Core (Err refusal))

@@ -37,11 +37,11 @@ use Rattle.gix_odb_runs.specs.Writing.{AskedAt, AskedSince, ChangedNothing, Left
 abbrev pub job_to_write : ToWrite → WriteJob
 job_to_write w = write_of (head_to_write w) (w.hash) w.known w.bytes
 
--- a write that stands at a stage
+-- a write that is at a stage
 abbrev pub write_at : ToWrite → WriteStage → LooseCall
 write_at w stage = record { stage = loose_stages.Writing (record { head = head_to_write w; stage = stage; bytes = w.bytes; hash = w.hash; known = w.known }) }
 
--- the file that a write made holds so much, where nobody else touched it: nothing, and then the header and the data
+-- what the file that a write made holds, where nobody else touched it: nothing, and then the header and the data
 abbrev pub content_at : ToWrite → WriteStage → Option (List ℕ)
 content_at w (write_stages.Making number) = None
 content_at w (write_stages.Heading number) = Some []
@@ -66,7 +66,7 @@ abbrev pub IsUntouched : List Event → (handle begun : ℕ) → (number : Optio
 IsUntouched events handle begun None = ChangedNothing events handle begun
 IsUntouched events handle begun (Some number) = Unit {0}
 
--- what a write knows that was led to a stage, after so many turns of its own: each asked the disk once
+-- what a write knows that reached a stage, after so many turns of its own: each asked the disk once
 pub record StandsAt (first : Volume) (events : List Event) (handle begun own : ℕ) (w : ToWrite) (stage : WriteStage) : Type 0 where
   pub past : List Exchange
   pub along : IsAlong (job_to_write w) (Stage stage) past
@@ -77,8 +77,8 @@ pub record StandsAt (first : Volume) (events : List Event) (handle begun own : �
   pub untouched : IsUntouched events handle begun (number_made stage)
   pub holds : Holds first events handle begun w.objects (number_made stage) (content_at w stage)
 
--- A running write: what it is to write, and what it knows after so many turns of its own. Other turns, that changed nothing, may have come in
--- front.
+-- A running write: what it is to write, and what it knows after so many turns of its own. Other turns, that changed nothing, may have come
+-- before.
 pub record IsWriting (first : Volume) (events : List Event) (handle : ℕ) (running : Running) (call : LooseCall) : Type 0 where
   pub write : ToWrite
   pub into : write.objects ≡ running.store.parts.objects
@@ -89,16 +89,16 @@ pub record IsWriting (first : Volume) (events : List Event) (handle : ℕ) (runn
   pub own : ℕ
   pub stands : StandsAt first events handle running.begun own write stage
 
--- what a write is to write that its handle was told to
+-- the write that the task of its handle sets
 pub record IsTask (running : Running) (w : ToWrite) : Type 0 where
   pub into : w.objects ≡ running.store.parts.objects
   pub hashed : w.hash ≡ running.store.hash
   pub fits : w.size < 2 ^ 64
   pub task : running.task ≡ MakeCall (call_to_write w)
 
--- ---- what stands in front of a write
+-- ---- the refresh before a write
 
--- The refresh in front of a write stands behind what its handle was told since the write began, each of which answered what it asked then, and
+-- The refresh before a write is at the step after all answers to its handle since the write began, each of which answered its ask then, and
 -- had a turn for each. It has changed nothing.
 pub record IsInFront (first : Volume) (events : List Event) (handle : ℕ) (running : Running) (refresh : Refresh) (call : LooseCall) : Type 0 where
   pub write : ToWrite
@@ -113,7 +113,7 @@ pub record IsInFront (first : Volume) (events : List Event) (handle : ℕ) (runn
   pub refused : AreRefused events handle running.modes.core running.begun
   pub unchanged : ChangedNothing events handle running.begun
 
--- A write that is the task of its handle: what stood in front of it is ready, and took no more turns than a lap; the other turns are its own.
+-- A write that is the task of its handle: the refresh before it is ready, and took no more turns than a lap; the other turns are its own.
 pub record IsAtOwnWrite (first : Volume) (events : List Event) (handle : ℕ) (running : Running) (call : LooseCall) : Type 0 where
   pub writing : IsWriting first events handle running call
   pub task : running.task ≡ MakeCall (call_to_write writing.write)
@@ -125,7 +125,7 @@ pub record IsAtOwnWrite (first : Volume) (events : List Event) (handle : ℕ) (r
 
 -- ---- at any of its states
 
--- what a write knows at any of its states. No write is left that is not to be made
+-- what a write knows at any of its states; no write is left in the state that is not to be made
 abbrev pub KnowsOfWrite : Volume → List Event → (handle : ℕ) → Running → WriteState → Type 0
 KnowsOfWrite first events handle running (InFront refresh call) = IsInFront first events handle running refresh call
 KnowsOfWrite first events handle running (Own call) = IsAtOwnWrite first events handle running call

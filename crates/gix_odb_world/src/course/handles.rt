@@ -38,7 +38,7 @@ impl Course {
         drop(old);
     }
 
-    /// Takes a handle that is at work out of the table. Any other one stays where it is.
+    /// Takes a handle at work out of the table. The error says why the number has none; any other handle stays in place.
     pub(super) fn take_work(&mut self, number: u32) -> Result<Handle, Why>
         ensures taken { IfOk result (λ handle. stored_at self.old number ≡ Some handle) }
         ensures puts { OnOk result (PutsHandle self.old self.new number None) }
@@ -54,7 +54,7 @@ impl Course {
         }
     }
 
-    /// Puts a handle under a number that has none, if there is one to put.
+    /// Puts a handle, if there is one, under a number that has none.
     pub(super) fn set(&mut self, number: u32, handle: Option<Handle>) -> Result<(), NoMemory>
         requires free { stored_at self.old number ≡ None }
         ensures puts { OnOk result (PutsHandle self.old self.new number handle) }
@@ -83,7 +83,7 @@ impl Course {
         }
     }
 
-    /// Why a number isn't free.
+    /// Returns why a number isn't free.
     pub(super) fn why_not_free(&self, number: u32) -> Option<Why>
         ensures why { result ≡ reasons.why_not_open (phase_of_handle (handle_at self.now number)) true }
     {
@@ -93,7 +93,7 @@ impl Course {
         }
     }
 
-    /// Why a clone isn't valid.
+    /// Returns why a clone isn't valid.
     pub(super) fn why_not_clone(&self, number: u32, from: u32) -> Option<Why>
         ensures why { result ≡ reasons.why_not_clone (phase_of_handle (handle_at self.now number)) (phase_of_handle (handle_at self.now from)) }
     {
@@ -103,7 +103,7 @@ impl Course {
         }
     }
 
-    /// The handle that has a number, if it is idle, or why it isn't.
+    /// Returns the handle that has a number, if it is idle. The error says why it isn't.
     pub(super) fn idle(&self, number: u32) -> Result<Idle<'_>, Why>
         ensures handle { IfOk result (λ idle. stored_at self.now number ≡ Some (record { core = idle.core; at = HandleAt.Resting idle.state.now })) }
         ensures why { result_err result ≡ reasons.why_not_idle (phase_of_handle (handle_at self.now number)) }
@@ -120,7 +120,7 @@ impl Course {
         }
     }
 
-    /// The handle that has a number, if a call may start on it: it is idle, and the call's ids are of its store's hash.
+    /// Returns the handle that has a number, if a call may start on it: it is idle, and the call's ids have its hash.
     pub(super) fn ready(&self, number: u32, call: &Call) -> Result<Idle<'_>, Why>
         ensures handle { IfOk result (λ idle. stored_at self.now number ≡ Some (record { core = idle.core; at = HandleAt.Resting idle.state.now })) }
         ensures of_hash { IfOk result (λ idle. IsOfHash (hash_of idle.state.now) call.now) }
@@ -134,21 +134,21 @@ impl Course {
         }
     }
 
-    /// Why the start of a call isn't valid.
+    /// Returns why the start of a call isn't valid.
     pub(super) fn why_not_start(&self, number: u32, call: &Call) -> Option<Why>
         ensures why { result ≡ reasons.why_not_start (phase_of_handle (handle_at self.now number)) call.now }
     {
         self.ready(number, call).err()
     }
 
-    /// Why a step that needs an idle handle isn't valid.
+    /// Returns why a step that needs an idle handle isn't valid.
     pub(super) fn why_not_idle(&self, number: u32) -> Option<Why>
         ensures why { result ≡ reasons.why_not_idle (phase_of_handle (handle_at self.now number)) }
     {
         self.idle(number).err()
     }
 
-    /// Why a turn isn't valid.
+    /// Returns why a turn isn't valid.
     pub(super) fn why_not_running(&self, number: u32) -> Option<Why>
         ensures why { result ≡ reasons.why_not_running (phase_of_handle (handle_at self.now number)) }
     {

@@ -28,7 +28,7 @@ impl Course {
         }
     }
 
-    /// Makes a change of another program that is valid, and of which was told what it makes watched paths show.
+    /// Makes another program's valid change, of which it is known what it makes watched paths show.
     fn make_change(
         &mut self,
         alloc: Global,

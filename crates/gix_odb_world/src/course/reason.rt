@@ -23,7 +23,7 @@ use odb_disk::{Change, PathText};
 use std::alloc::Global;
 
 impl Course {
-    /// The first reason why a step isn't valid now, or `None` where it is.
+    /// Returns the first reason why a step isn't valid now, or `None` where it is.
     pub(super) fn first_reason(&self, alloc: Global, step: &Step) -> Result<Option<Why>, NoMemory>
         requires fits { Fits self.now.shown (tree_of self.now.disk.state) }
         ensures reason { IfOk result (IsReasonNow self.now step.now) }
@@ -46,7 +46,7 @@ impl Course {
         }
     }
 
-    /// Why an open step isn't valid.
+    /// Returns why an open step isn't valid.
     fn why_not_open(
         &self,
         alloc: Global,
@@ -69,7 +69,7 @@ impl Course {
         }
     }
 
-    /// Why another program's change isn't valid.
+    /// Returns why another program's change isn't valid.
     fn why_not_change(&self, alloc: Global, change: &Change) -> Result<Option<Why>, NoMemory>
         requires fits { Fits self.now.shown (tree_of self.now.disk.state) }
         ensures why { IfOk result (IsReasonNow self.now (Step.Disk change.now)) }
@@ -83,7 +83,7 @@ impl Course {
         }
     }
 
-    /// Why another program's change isn't valid; or what it would make watched paths show.
+    /// Returns what another program's change would make watched paths show. The error says why it isn't valid.
     pub(super) fn judged_change(
         &self,
         alloc: Global,
@@ -103,7 +103,7 @@ impl Course {
         Ok(Ok(revealed))
     }
 
-    /// Why a turn isn't valid; or what its work asks for, the change that this would make, and what watched paths would show by it.
+    /// Returns what a turn's work asks for, its change, and what watched paths would show by it; or why it isn't valid.
     pub(super) fn check_turn(
         &self,
         alloc: Global,
@@ -126,7 +126,7 @@ impl Course {
         }
     }
 
-    /// Why a turn isn't valid.
+    /// Returns why a turn isn't valid.
     fn why_not_turn(&self, alloc: Global, number: u32) -> Result<Option<Why>, NoMemory>
         requires fits { Fits self.now.shown (tree_of self.now.disk.state) }
         ensures why { IfOk result (IsReasonNow self.now (Step.Turn number)) }

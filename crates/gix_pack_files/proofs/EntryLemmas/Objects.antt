@@ -1,4 +1,4 @@
--- The object behind a header.
+-- The object after a header.
 use Rattle.std.proofs.Common.{◌≡◌, ℕ, ◌+◌, ◌-◌, ◌<◌, ◌≤◌, inl, inr, Bool, true, false, List, length, take, Option, Result}
 use Rattle.std.proofs.Common.{Ok, Err, if◌then◌else◌, length-drop, length-take-le, subst, refl, sym, ap, ◌∙◌, arith}
 use Rattle.std.proofs.lemmas.Bool.{and_parts, cases_lt, le-ltb, leb-true, lt-ltb}
@@ -12,9 +12,9 @@ use Rattle.gix_pack_files.specs.declared.data.Error.TheVariants.{BadEntry, OutOf
 use Rattle.gix_pack_files.specs.declared.data.entry.Header.{Header}
 use Rattle.gix_pack_files.proofs.EntryLemmas.{head_before, head_behind, head_within}
 
--- ---- the object behind a header
+-- ---- the object after a header
 
--- where a header stands that is read, and its length
+-- a header that is read at an offset, and its length
 record Stands (kind : Kind) (bytes : List ℕ) (offset len : ℕ) : Type 0 where
   behind_front : entries_place ≤ offset
   before_trailer : offset < trailer_place kind bytes
@@ -75,7 +75,7 @@ header_stands kind bytes offset header h = by_head (head_at kind bytes offset) r
     by_head (Err error) is = let none : header_at kind bytes offset ≡ Err error = rw (sym is) refl in absurd (cc (none, h))
     by_head (Ok head) is = by_kind head is (kind_of_code head.code) refl
 
--- a header that is read stands behind the pack's own, and ends before the trailing hash
+-- a header that is read is after the pack's own, and ends before the trailing hash
 pub header_ends : (kind : Kind) (bytes : List ℕ) (offset : ℕ) (header : Header) → header_at kind bytes offset ≡ Ok header → (entries_place ≤ offset)
     × (offset + header.header_len ≤ trailer_place kind bytes)
 header_ends kind bytes offset header h =
@@ -106,7 +106,7 @@ module _ (kind : Kind) (bytes : List ℕ) (offset : ℕ) (limit : Option ℕ) (h
   abbrev place : ℕ
   place = offset + header.header_len
 
-  -- its data leave the entries
+  -- its data extend beyond the entries
   pub object_beyond : (end : ℕ) → header_at kind bytes offset ≡ Ok header → is_within limit header.size ≡ true → end ≡ trailer_place kind bytes → end - place < header.size
       → object_behind kind bytes offset limit header ≡ Err BadEntry
   object_beyond end read within end_is past =

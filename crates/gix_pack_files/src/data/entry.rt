@@ -1,7 +1,7 @@
-//! What is read of an entry: its header, the object behind it, and where it stands.
+//! What is read of an entry: its header, the object after it, and its location.
 use gix_object::Kind;
 
-/// What the header of an entry tells: kind, size, and its own length.
+/// The header of an entry: kind, size, and its own length.
 #[derive(Clone, Copy, Debug)]
 pub struct Header {
     pub kind: Kind,
@@ -18,7 +18,7 @@ pub struct Entry<'a> {
     pub bytes: &'a [u8],
 }
 
-/// Where an object stands: the number of its pack, and the place and the length of its entry, header and data.
+/// The location of an object: the number of its pack, and the offset and the length of its entry, header and data.
 #[derive(Clone, Copy, Debug)]
 pub struct Location {
     pub pack_id: u32,

@@ -1,4 +1,4 @@
-//! The header of an entry, read from the bytes that begin with it.
+//! The header of an entry, read from the bytes at whose start it is.
 ghost use Rattle.std.specs.Prelude.{◌≡◌, ◌<◌, ◌≤◌, length, nat_lt, IfSome};
 ghost use Rattle.std.specs.List.{position};
 ghost use Rattle.gix_pack_files.specs.Pack.{longest_header, most_size_bytes, size_bits};
@@ -7,13 +7,13 @@ ghost use Rattle.gix_pack_files.specs.PackHead.{head_from, head_seen, head_whole
 use super::Error;
 use gix_pack_tables::bytes::{behind_first, part_of};
 
-// How long a header is at most: a first byte with four bits of the size, and nine with seven each.
+// The length of the longest header: a first byte with four bits of the size, and nine with seven each.
 const LONGEST_HEADER: usize = 10;
 
 // A size below 2^64 has four bits in the first byte, and a number below this in the others.
 const HIGH_LIMIT: u64 = 1 << 60;
 
-// What the header of an entry holds, whatever its type is.
+// The contents of an entry's header, whatever its type.
 #[derive(Clone, Copy)]
 pub(super) struct Head {
     pub(super) code: u8,
@@ -21,7 +21,7 @@ pub(super) struct Head {
     pub(super) header_len: usize,
 }
 
-// The header that bytes begin with, whose last byte alone has bit 7 clear.
+// The header at the start of bytes; only its last byte has bit 7 clear.
 #[tactic(auto, using(crate::proofs::EntryLemmas::head_missing, crate::proofs::EntryLemmas::head_long, crate::proofs::EntryLemmas::head_found))]
 pub(super) fn read_head(rest: &[u8]) -> Result<Head, Error>
     ensures head { head_seen result ≡ head_from rest.now }
@@ -35,7 +35,7 @@ pub(super) fn read_head(rest: &[u8]) -> Result<Head, Error>
     head_in(part_of(rest, 0, last + 1))
 }
 
-// Where the first byte stands whose bit 7 is clear.
+// The place of the first byte whose bit 7 is clear.
 fn place_of_last(rest: &[u8]) -> Option<usize>
     ensures first { result ≡ position (λ b. nat_lt b 128) rest.now }
     ensures within { IfSome result (λ last. last < length rest.now) }
@@ -62,7 +62,7 @@ fn head_in(header: &[u8]) -> Result<Head, Error>
     })
 }
 
-// The number that bytes of seven bits are, the lowest first.
+// The number in bytes of seven bits, the lowest first.
 #[tactic(auto, using(crate::proofs::EntryLemmas::bits_none, crate::proofs::EntryLemmas::bits_before, crate::proofs::EntryLemmas::bits_small, crate::proofs::EntryLemmas::bits_fit))]
 fn size_bits_in(bytes: &[u8]) -> u64
     requires short { length bytes.now ≤ most_size_bytes }

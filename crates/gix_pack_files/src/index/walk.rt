@@ -1,4 +1,4 @@
-//! A walk through the rows of an index.
+//! An iteration over the rows of an index.
 ghost use Rattle.std.specs.Iterator.{YieldsFirstBy, item_count};
 ghost use Rattle.gix_pack_files.specs.IndexRows.{entries_left, row_seen};
 

@@ -23,7 +23,7 @@ first_of row = slice_index (bytes_of row.id) 0
 abbrev counts : List Placed → ℕ → ℕ
 counts rows first = count_to (map id_of rows) first
 
--- 1 for a byte that is counted, and 0 for another
+-- 1 for a byte that is counted, and 0 for others
 abbrev counted : ℕ → ℕ → ℕ
 counted byte first = cond (nat_le byte first) 1 0
 
@@ -69,7 +69,7 @@ counts_all hash (row ∷ rows) placed =
     let rest = counts_all hash rows placed.1 in
     omega arith
 
--- ids of one kind in order begin with bytes in order
+-- ids of the same kind in order begin with bytes in order
 order_by : (a b : ObjectId) → kind_of a ≡ kind_of b → is_lt (id_cmp a b) ≡ true → slice_index (bytes_of a) 0 ≤ slice_index (bytes_of b) 0
 order_by (Sha1 a) (Sha1 b) kinds h = first_no_higher a b h
 order_by (Sha1 a) (Sha256 b) kinds h = cc kinds
@@ -142,7 +142,7 @@ module _ (hash : Kind) where
 
 -- ---- counts that are written
 
--- the count of a byte, and those of the bytes behind it
+-- the count of a byte, and those of the bytes after it
 abbrev pub counts_from : List Placed → ℕ → List ℕ
 counts_from rows first = number_bytes (map (count_to (map id_of rows)) (range_with_len first (256 - first)))
 

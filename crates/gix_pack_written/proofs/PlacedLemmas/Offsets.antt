@@ -9,7 +9,7 @@ use Rattle.gix_pack_written.specs.declared.rows.Placed.{Placed}
 
 -- ---- wide offsets
 
--- what is written of wide offsets, one row on
+-- the wide offsets that are written, one row on
 abbrev pub wides : List Placed → List ℕ
 wides rows = long_number_bytes (filter is_wide (map offset_of rows))
 

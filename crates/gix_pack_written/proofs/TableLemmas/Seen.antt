@@ -1,11 +1,11 @@
--- A table of rows seen as others with the same ids.
+-- A table of rows mapped to other rows with the same ids.
 use Rattle.std.proofs.Common.{◌≡◌, List, [], ◌∷◌, map, Ordering, Less, Equal, Greater, refl, ap, ◌∙◌}
 use Rattle.std.specs.Ordering.{match_ordering}
 use Rattle.gix_hash.specs.ObjectId.{id_cmp}
 use Rattle.gix_hash.specs.declared.object_id.ObjectId.{ObjectId}
 use Rattle.gix_pack_written.specs.WrittenTables.{put_row, table_of}
 
--- ---- rows seen as others with the same ids
+-- ---- rows mapped to others with the same ids
 
 module _ {A B : Type 0} (see : A → B) (id_a : A → ObjectId) (id_b : B → ObjectId) (same : (a : A) → id_b (see a) ≡ id_a a) where
   seen_by : (o : Ordering) (row other : A) (rows rest : List A) (rest_seen : List B) → map see rest ≡ rest_seen

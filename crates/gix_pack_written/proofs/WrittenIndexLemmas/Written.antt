@@ -63,7 +63,7 @@ is_index_of hash objects =
       bytes_are = refl;
     }
 
--- ---- what is known of the rows on the way
+-- ---- what is known of the rows in between
 
 pub index_rows_are : (hash : Kind) (objects : List Object) (none given table rows : List Placed) → none ≡ [] → given ≡ none ++ placed_from hash 0 entries_place objects
     → table ≡ table_of id_of given → rows ≡ table → rows ≡ index_placed hash objects
@@ -90,7 +90,7 @@ module _ (hash : Kind) (objects : List Object) (rows : List Placed) (are : rows 
   pub index_each : AllByRecursion (IsPlaced hash) (placed_from hash 0 entries_place objects) → AllByRecursion (IsPlaced hash) rows
   index_each placed = subst (AllByRecursion (IsPlaced hash)) (sym are) (each_of_table id_of (IsPlaced hash) (placed_from hash 0 entries_place objects) placed)
 
--- the tables one behind another
+-- the tables one after another
 pub front_steps : (rows : List Placed) (pack own l0 l1 l2 l3 l4 l5 l6 : List ℕ) → l0 ≡ signature → l1 ≡ l0 ++ number_bytes (counts_of (map id_of rows)) → l2 ≡ l1 ++ flat_map bytes_of (map id_of rows)
     → l3 ≡ l2 ++ replicate (4 * length rows) 0 → l4 ≡ l3 ++ number_bytes (narrow_from 0 (map offset_of rows)) → l5 ≡ l4 ++ long_number_bytes (filter is_wide (map offset_of rows))
     → l6 ≡ l5 ++ own → own ≡ pack
@@ -104,7 +104,7 @@ front_steps rows pack own l0 l1 l2 l3 l4 l5 l6 a b c d e f g h =
     g ∙ ap (λ (l : List ℕ). l ++ own) five ∙ ap (λ (p : List ℕ). signature ++ number_bytes (counts_of (map id_of rows)) ++ flat_map bytes_of (map id_of rows)
     ++ replicate (4 * length rows) 0 ++ number_bytes (narrow_from 0 (map offset_of rows)) ++ long_number_bytes (filter is_wide (map offset_of rows)) ++ p) h
 
--- the index of objects is read back, where their ids are ids and their places fit
+-- the index of objects is read back, where their ids are ids and their offsets fit
 pub index_read_back : (hash : Kind) (objects : List Object) (rows : List Placed) (front : List ℕ) → rows ≡ index_placed hash objects → front ≡ front_of_rows rows (pack_hash hash objects)
     → IsId (hash_of hash (pack_front objects)) → IsId (hash_of hash front) → length objects < 2 ^ 31 → AllByRecursion (IsPlaced hash) (placed_from hash 0 entries_place objects)
     → ReadsIndex hash objects (front ++ bytes_of (hash_of hash front))

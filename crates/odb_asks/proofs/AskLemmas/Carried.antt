@@ -38,7 +38,7 @@ read_told (Err errors.NotEmpty) told is = absurd is
 read_told (Err errors.Failed) told is = tt
 read_told (Err errors.NoMemory) told is = tt
 
--- a call that reads, where the disk may not tell its state
+-- a call that reads, on a disk that may not report its state
 module _ {path : Path} {ask : DiskAsk} {answer : DiskAnswer} where
   pub carried_look : {follow : Bool} → ask ≡ asks.Look path follow → (r : Result Meta DiskError) → answer ≡ told_look r → (o : Option State)
       → IfSome o (λ s. Answers r (looked (tree_of s) path follow)) → IfSome o (λ s. AnswersAsk answer (answer_of (tree_of s) ask))
@@ -54,7 +54,7 @@ module _ {path : Path} {ask : DiskAsk} {answer : DiskAnswer} where
 
 -- ---- a call that writes
 
--- a call that writes asks for the changes of a word: a tree answers to it by them, and it makes them there
+-- a call that writes asks for the changes that a word says: a tree answers by them, and makes them
 pub record AsksFor (change_in : Tree → Result Change writing.Refusal) (ask : DiskAsk) : Type 0 where
   pub answers_by : (t : Tree) → answer_of t ask ≡ write_answer (change_in t)
   pub changes_by : (t : Tree) → change_of_ask t ask ≡ result_ok (change_in t)
@@ -94,7 +94,7 @@ write_told (Err errors.NotEmpty) told is = ap write_answer (sym is) ∙ done_ans
 write_told (Err errors.Failed) told is = tt
 write_told (Err errors.NoMemory) told is = tt
 
--- what a disk answers to a call that writes, and what it leaves, where it may not tell its state
+-- what a disk that may not report its state answers to a call that writes, and its state afterwards
 module _ {change_in : Tree → Result Change writing.Refusal} {asked : DiskAsk} (asks_for : AsksFor change_in asked) {ask : DiskAsk} (is : ask ≡ asked)
     (r : Result (Unit {0}) DiskError) {answer : DiskAnswer} (told : answer ≡ told_write r) (o : Option State) where
   pub carried_write : IfSome o (λ s. AnswersWrite r (done (change_in (tree_of s)))) → IfSome o (λ s. AnswersAsk answer (answer_of (tree_of s) ask))
@@ -119,7 +119,7 @@ module _ {change_in : Tree → Result Change writing.Refusal} {asked : DiskAsk} 
       by_result (Ok x) made kept = made ∙ done_told o
       by_result (Err e) made kept = kept ∙ kept_told o e
 
--- a look and a read leave the state as it was
+-- a stat and a read leave the state as it was
 module _ (ask : DiskAsk) (o new : Option State) (same : new ≡ o) where
   pub looked_state : (answer : DiskAnswer) (r : Result Meta DiskError) → answer ≡ told_look r → new ≡ state_told_after o ask answer
   looked_state answer r is = same ∙ by_state o r ∙ ap (state_told_after o ask) (sym is)

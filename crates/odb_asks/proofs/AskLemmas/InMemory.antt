@@ -1,4 +1,4 @@
--- From what a call that is given as a value keeps to on every disk to what a disk in memory answers, and is afterwards.
+-- From what a call that is given as a value keeps to on every disk to what a disk in memory answers, and how it is afterwards.
 use Rattle.std.specs.Prelude.{if◌then◌else◌}
 use Rattle.std.specs.Result.{result_ok}
 use Rattle.std.proofs.Common.{◌≡◌, ◌≢◌, ◌↔◌, true, false, Bool, List, [], ◌∷◌, Option, Some, None, Result, Ok, Err, refl, sym, ap, ◌∙◌, cond}
@@ -24,7 +24,7 @@ use Rattle.odb_asks.proofs.MemDiskLemmas.{after_call-state, after_call-streams}
 
 -- ---- what it answers
 
--- a call fails exactly where it is to
+-- a call fails exactly if it is to
 abbrev FailsAs : Bool → DiskAnswer → Type 0
 FailsAs fails answer = (answer ≡ answers.Refused errors.Failed) ↔ (fails ≡ true)
 

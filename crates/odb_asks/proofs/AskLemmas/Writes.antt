@@ -1,4 +1,4 @@
--- A call that writes on a disk in memory: what its tree tells and makes is what the disk answers and is afterwards.
+-- A call that writes on a disk in memory: the disk answers what its tree says, and its tree makes the change.
 use Rattle.std.proofs.Common.{◌≡◌, ◌≢◌, false, Option, Some, None, Result, Ok, Err, OnOk, OnErr, refl, sym, ap, ◌∙◌, subst}
 use Rattle.std.specs.Result.{result_ok}
 use Rattle.std.proofs.lemmas.Bool.{false≢true}
@@ -22,7 +22,7 @@ use Rattle.odb_asks.proofs.AskedLaws.{IsTree-asked}
 use Rattle.odb_asks.proofs.AskLemmas.Carried.{AsksFor}
 use Rattle.odb_asks.proofs.AskLemmas.InMemory.{after_count-state}
 
--- what a tree tells is an answer of a disk, and no failure
+-- what a tree says is an answer of a disk, and no failure
 Tells-answers : {A : Type 0} (r : Result A DiskError) (told : Result A Refusal) → Tells r told → AnswersWrite r told
 Tells-answers (Ok x) told is = is
 Tells-answers (Err errors.Absent) told is = is
@@ -53,7 +53,7 @@ unfolding after_write
 written-state_of t None = refl
 written-state_of t (Some change) = ap (λ u. state_of (changed u change)) (sym (tree_of-state_of t))
 
--- what a call that writes comes to: the disk before it, what it answers, and the disk afterwards
+-- a call that writes: the disk before it, what it answers, and the disk afterwards
 pub record Writes (change_in : Tree → Result Change Refusal) (ask : DiskAsk) (old : Volume) (r : Result (Unit {0}) DiskError) (new : Volume) : Type 0 where
   pub answer : AnswersWrite r (done (change_in (tree_of old.state)))
   pub made : OnOk r (Some new.state ≡ Some (written old.state (result_ok (change_in (tree_of old.state)))))

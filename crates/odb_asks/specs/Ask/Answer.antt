@@ -1,4 +1,4 @@
--- What a tree answers to a call that is given as a value, which change the call makes, and what it leaves.
+-- What a tree answers to a call that is given as a value, which change the call makes, and the state after it.
 use Rattle.std.specs.Prelude.{◌≡◌, ℕ, Bool, true, false, List, [], ◌∷◌, Option, Some, None, Result, Ok, Err}
 use Rattle.std.specs.Result.{result_ok}
 use Rattle.odb_base.specs.Path.{Path}
@@ -19,7 +19,7 @@ use Rattle.odb_asks.specs.declared.ask.DiskAnswer.TheVariants as answers
 use Rattle.odb_asks.specs.declared.ask.Op.{Op}
 use Rattle.odb_asks.specs.declared.ask.Op.TheVariants as ops
 
--- the error that a refusal is answered by
+-- the error with which a refusal is answered
 abbrev pub error_of : Refusal → DiskError
 error_of Absent = errors.Absent
 error_of WrongKind = errors.WrongKind
@@ -44,7 +44,7 @@ abbrev pub write_answer : {A : Type 0} → Result A writing.Refusal → DiskAnsw
 write_answer (Ok x) = answers.Done
 write_answer (Err refusal) = answers.Refused (error_of_write refusal)
 
--- what an opening is answered that would give this number, and what a stream gives that has these entries left
+-- the answers to an opening that would give this number, and to a stream that has these entries left
 abbrev pub dir_answer : ℕ → Result (List Entry) Refusal → DiskAnswer
 dir_answer dir (Ok entries) = answers.Dir dir
 dir_answer dir (Err refusal) = answers.Refused (error_of refusal)
@@ -54,8 +54,8 @@ entry_answer (Some (entry ∷ rest)) = answers.Entry entry
 entry_answer (Some []) = answers.End
 entry_answer None = answers.Refused errors.Absent
 
--- What a tree answers to a call where no stream is open. A call that isn't of streams is answered so whatever streams
--- are open.
+-- What a tree answers to a call if no stream is open. A call that isn't on a stream is answered so whatever streams are
+-- open.
 unfoldable pub answer_of : Tree → DiskAsk → DiskAnswer
 answer_of tree (asks.Look path follow) = meta_answer (looked tree path follow)
 answer_of tree (asks.Read path) = file_answer (read_of tree path)
@@ -68,7 +68,7 @@ answer_of tree (asks.Append path bytes) = write_answer (change_of_append tree pa
 answer_of tree (asks.Rename from to) = write_answer (change_of_rename tree from to)
 answer_of tree (asks.Remove path) = write_answer (change_of_remove tree path)
 
--- the change that a call makes in a tree: one that only reads makes none, and a refused call makes none
+-- the change of a call in a tree: one that only reads makes none, and one that fails makes none
 unfoldable pub change_of_ask : Tree → DiskAsk → Option Change
 change_of_ask tree (asks.Look path follow) = None
 change_of_ask tree (asks.Read path) = None
@@ -81,7 +81,7 @@ change_of_ask tree (asks.Append path bytes) = result_ok (change_of_append tree p
 change_of_ask tree (asks.Rename from to) = result_ok (change_of_rename tree from to)
 change_of_ask tree (asks.Remove path) = result_ok (change_of_remove tree path)
 
--- The name of a call, and its path: that of the source, where there are two. A call on an open stream names none.
+-- The name of a call, and its path: the source, if there are two. A call on an open stream has none.
 abbrev pub op_of : DiskAsk → Op
 op_of (asks.Look path follow) = ops.Look
 op_of (asks.Read path) = ops.Read
@@ -117,12 +117,12 @@ abbrev pub ran_out : DiskAnswer → Bool
 ran_out (answers.Refused errors.NoMemory) = true
 ran_out answer = false
 
--- what is left of a state by a call with this answer: its change, where it was done
+-- the state after a call with this answer: its change is made if it was done
 abbrev pub state_after : State → DiskAsk → DiskAnswer → State
 state_after state ask answers.Done = written state (change_of_ask (tree_of state) ask)
 state_after state ask answer = state
 
--- the same where the disk may not tell its state
+-- the state after a call, on a disk that may not report its state
 abbrev pub state_told_after : Option State → DiskAsk → DiskAnswer → Option State
 state_told_after None ask answer = None
 state_told_after (Some state) ask answer = Some (state_after state ask answer)

@@ -1,4 +1,4 @@
--- What a disk in memory answers to a call that is given as a value, and what it is afterwards.
+-- What a disk in memory answers to a call that is given as a value, and how it is afterwards.
 use Rattle.std.specs.Prelude.{◌≡◌, ◌↔◌, Bool, true, false, ◌&&◌, if◌then◌else◌}
 use Rattle.odb_nodes.specs.Tree.{Tree, tree_of}
 use Rattle.odb_nodes.specs.Tree.Write.{written}
@@ -15,7 +15,7 @@ use Rattle.odb_asks.specs.Ask.Answer.{answer_of, dir_answer, entry_answer, chang
 
 -- ---- what it answers
 
--- what a disk with a tree and streams answers to a call, where it gives a new stream the least number
+-- what a disk with a tree and streams answers to a call, if it gives a new stream the least number
 abbrev pub answer_in : Tree → Streams → DiskAsk → DiskAnswer
 answer_in tree streams (asks.OpenDir path) = dir_answer (least_closed streams) (opened tree path)
 answer_in tree streams (asks.NextEntry dir) = entry_answer (still_gives streams dir)
@@ -34,13 +34,13 @@ fails_now disk ask = is_counted ask && next_fails disk
 abbrev pub answer_now : Volume → DiskAsk → DiskAnswer
 answer_now disk ask = if fails_now disk ask then answers.Refused errors.Failed else answer_in (tree_of disk.state) disk.streams ask
 
--- ---- what it is afterwards
+-- ---- how it is afterwards
 
 -- a disk in memory after a call was counted
 abbrev pub after_count : Volume → DiskAsk → Volume
 after_count disk ask = if is_counted ask then after_call disk else disk
 
--- what is left of the streams by a call with this answer: a refused one changes none
+-- the streams after a call with this answer: one that fails changes none
 abbrev pub streams_left : Tree → Streams → DiskAsk → DiskAnswer → Streams
 streams_left tree streams ask (answers.Refused error) = streams
 streams_left tree streams ask answer = streams_after tree streams ask
@@ -59,12 +59,12 @@ abbrev pub TakesLeast : Streams → DiskAnswer → Type 0
 TakesLeast streams (answers.Dir dir) = IsLeastClosed streams.open_dirs dir
 TakesLeast streams answer = Unit {0}
 
--- A disk in memory was asked, gave an answer and is another one afterwards: the call is counted, it fails exactly where
--- its number is listed, and a stream that it opens has the least number.
+-- A disk in memory was asked, answered and is another one afterwards: the call is counted, it fails exactly if its number
+-- is listed, and a stream that it opens has the least number.
 pub record IsCounted (old : Volume) (ask : DiskAsk) (answer : DiskAnswer) (new : Volume) : Type 0 where
-  -- the calls are one more, and the failed ones too if it failed; a close has no number
+  -- one more call, and one more failed call if it failed; a close has no number
   pub counted : new.calls ≡ (after_count old ask).calls
   -- a close never fails
   pub failed : (answer ≡ answers.Refused errors.Failed) ↔ (fails_now old ask ≡ true)
-  -- so what the number is can be told before the call
+  -- so the number is known before the call
   pub least : TakesLeast old.streams answer

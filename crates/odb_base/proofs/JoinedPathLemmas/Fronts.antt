@@ -22,7 +22,7 @@ names_none (name ∷ path) none = absurd (none _ refl)
 
 -- ---- the names that two paths begin with
 
--- nothing stands at an index of one of them
+-- one of them has nothing at this index
 same_first-none : (own its : Path) → length own ≤ 0 → HasSameFirst own its None
 same_first-none [] its none = tt
 same_first-none (name ∷ own) its none = absurd (omega arith)

@@ -53,7 +53,7 @@ pub empty_root : (text : List ℕ) → IsJoined text → (text ≡ []) ↔ (name
 unfolding joined names_joined
 empty_root text whole = (λ e. ap names_joined e, λ e. whole.whole ∙ ap joined e)
 
--- what a path that is seen in a text knows of the text
+-- a path that is seen in a text: its text and its names
 module _ (text : List ℕ) (path : Path) (view : names_joined text ≡ path) (whole : IsJoined text) where
   pub whole_text : text ≡ joined path
   whole_text = whole.whole ∙ ap joined view
@@ -99,7 +99,7 @@ unfolding joined
 ends_last [] x xs some = refl
 ends_last (name ∷ names) x xs some = ap (λ o. ordering_then o (slice_cmp nat_cmp xs (name ++ flat_map (λ n. 0 ∷ n) names))) (nul_last x some)
 
--- names are compared before what stands behind them
+-- names are compared before what follows them
 names_first : (p q : Path) (a b : Name) → list_any (λ c. c == 0) a ≡ false → list_any (λ c. c == 0) b ≡ false
     → slice_cmp nat_cmp (a ++ joined p) (b ++ joined q) ≡ ordering_then (name_cmp a b) (slice_cmp nat_cmp (joined p) (joined q))
 names_first p q [] [] free free' = refl

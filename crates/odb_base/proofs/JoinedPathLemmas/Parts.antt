@@ -1,4 +1,4 @@
--- The parts of a text: its front and its last name, its names with slashes, and what goes on behind another.
+-- The parts of a text: its front and its last name, its names with slashes, and what follows another.
 use Rattle.std.proofs.Common.{◌≡◌, ◌≢◌, inl, inr, ◌==◌, ℕ, suc, ◌+◌, ◌-◌, ◌<◌, true, false, cond, List, [], ◌∷◌, ◌++◌, length, get_or, take}
 use Rattle.std.proofs.Common.{drop, map, append-nil, append_assoc, Some, None, refl, sym, ap, subst, ◌∙◌, lit<, arith, length-append}
 use Rattle.std.specs.List.{All, slice_split, list_any, list_all, flat_map, starts_with}
@@ -18,7 +18,7 @@ use Rattle.odb_base.proofs.JoinedPathLemmas.Names.{free-any, joined-push, joined
 
 -- ---- a text cut at its last NUL
 
--- the cut at the last byte c is the one behind which no c stands
+-- the cut at the last byte c is the one after which there is no c
 pub rsplit_after : (c : ℕ) (text front back before after : List ℕ) → SplitsAroundMatch (RFindsChar c) text before after → c < 128 → text ≡ front ++ c ∷ back
     → list_any (λ b. b == c) back ≡ false → (before ≡ front) × (after ≡ back)
 rsplit_after c text front back before after (i, j, found, before_is, after_is, ordered, before_len, after_len) low is free =
@@ -52,7 +52,7 @@ has_last first [] = record { front = []; name = first; is = refl }
 has_last first (next ∷ names) =
     let last = has_last next names in record { front = first ∷ last.front; name = last.name; is = ap (λ ns. first ∷ ns) last.is }
 
--- what is told by the last NUL of a path's text, if it has one
+-- what follows from the last NUL of a path's text, if it has one
 pub record IsCut (path : Path) (before after : List ℕ) : Type 0 where
   pub front : Path
   pub before_is : before ≡ joined front
@@ -74,7 +74,7 @@ cut (first ∷ rest) before after names splits =
     (is_name-no_nul last.name (and_parts _ _ parts.1).0) in
     record { front = last.front; before_is = at.0; is = last.is ∙ ap (λ n. last.front ++ n ∷ []) (sym at.1); are_names = parts.0 }
 
--- the same of a path that is seen in a text
+-- what follows for a path that is seen in a text
 module _ (text : List ℕ) (path : Path) (view : names_joined text ≡ path) (whole : IsJoined text) (read : List ℕ) (is : read ≡ text) where
   pub same : read ≡ joined path
   same = is ∙ whole_text text path view whole
@@ -127,7 +127,7 @@ pub slashed-text : (path : Path) → list_all is_name path ≡ true → path ≢
 slashed-text [] names some = absurd (some refl)
 slashed-text (name ∷ rest) names some = slashed-joined (name ∷ rest) names ∙ sym (text_of-slashed (name ∷ rest) (omega arith))
 
--- ---- a text behind another
+-- ---- a text after another
 
 -- names, and then a NUL and any text
 joined-split : (base : Path) (rest : List ℕ) → list_all is_name base ≡ true → names_joined (joined base ++ 0 ∷ rest) ≡ base ++ names_joined (0 ∷ rest)

@@ -1,4 +1,4 @@
-//! The streams of a real disk: what they give, and which of them owe a failure for what was passed over.
+//! The streams of a real disk: what they give, and which of them must still fail for what they skipped.
 ghost use Rattle.std.specs.Prelude.{◌≡◌, ◌≢◌, ◌≤◌, ◌+◌, true, false, Err, Some, None, OnOk, OnErr, IfOk, IfErr, IfSome, vec_len, vec_capacity};
 ghost use Rattle.std.specs.Iterator.{IsFinite};
 ghost use Rattle.std.specs.IoError.{error_kind};
@@ -21,7 +21,7 @@ use std::rt::Files;
 const MOST_ENTRIES: usize = 16_777_216;
 
 impl<R: Files> HostDisk<R> {
-    /// Opens a stream of all that is read of a directory, if the system opened it. A refused call changes no stream.
+    /// Opens a stream of all that is read of a directory, if the system opened it. On error no stream changes.
     pub(super) fn open_listed<
         F: Files + Drop,
         A: Allocator + Drop,
@@ -46,7 +46,7 @@ impl<R: Files> HostDisk<R> {
         Ok(dir)
     }
 
-    /// Opens a stream of what was read. A refused call changes nothing.
+    /// Opens a stream of what was read. On error nothing changes.
     fn open(&mut self, listing: Listing) -> Result<DirId, NoMemory>
         ensures opened { IfOk result (λ dir. (path : Path) → Opens None path self.old.streams self.new.streams dir) }
         ensures given { IfOk result (λ dir. still_gives self.new.streams dir ≡ Some listing.entries) }
@@ -62,7 +62,7 @@ impl<R: Files> HostDisk<R> {
         Ok(dir)
     }
 
-    /// Says whether a stream owes a failure, whatever another one did that had its number.
+    /// Sets whether a stream must still fail, whatever an earlier one with its number did.
     fn set_owing(&mut self, number: u64, owes: bool)
         requires room { vec_len self.old.odd + 1 ≤ vec_capacity self.old.odd }
         ensures same { (self.new.streams ≡ self.old.streams) × (self.new.faults ≡ self.old.faults) }
@@ -77,7 +77,7 @@ impl<R: Files> HostDisk<R> {
         }
     }
 
-    /// Fails once where a stream passed something over.
+    /// Fails once if a stream skipped something.
     pub(super) fn passed_over(&mut self, dir: &DirId) -> Result<(), DiskError>
         ensures same { (self.new.streams ≡ self.old.streams) × (self.new.faults ≡ self.old.faults) }
         ensures passed { OnOk result (owes_failure self.old.odd.items dir.now ≡ false) }
@@ -95,7 +95,7 @@ impl<R: Files> HostDisk<R> {
         Err(DiskError::Failed)
     }
 
-    /// Lets it go that a stream passed something over.
+    /// Forgets that a stream skipped something.
     pub(super) fn forget(&mut self, number: u64)
         ensures same { (self.new.streams ≡ self.old.streams) × (self.new.faults ≡ self.old.faults) }
         ensures forgotten { owes_failure self.new.odd.items number ≡ false }

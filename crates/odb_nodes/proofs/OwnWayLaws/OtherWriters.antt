@@ -1,4 +1,4 @@
--- What the change of another writer leaves of a file of one's own and of its way, and of a way that it cuts off.
+-- What the change of another writer leaves of one's own file and its way, and of a way that it cuts off.
 use Rattle.std.proofs.Common.{◌≡◌, ◌≢◌, ◌⊎◌, inl, inr, ℕ, true, false, List, [], ◌∷◌, ◌++◌, length, drop, Some, Ok, Err, refl, sym, ap, ◌∙◌, subst}
 use Rattle.std.proofs.lemmas.Bool.{false≢true}
 use Rattle.std.proofs.lemmas.List.{append_cancel_left}
@@ -80,7 +80,7 @@ module _ (Apart : Path → Type 0) (t : Tree) (is_tree : IsTree t) (front : Path
 
 -- ---- the change of another writer
 
--- the file whose path it is stays as it was, and the way to it ends at the file that was moved onto a link there
+-- one's own file stays as it was, and the way to it ends at the file that was moved onto a link there
 pub record CutsOff (t : Tree) (front : Path) (name : Name) (s other : Path) (change : Change) : Type 0 where
   pub to : Path
   pub is : change ≡ Rename other to

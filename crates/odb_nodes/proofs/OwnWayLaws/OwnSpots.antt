@@ -26,15 +26,15 @@ use Rattle.odb_nodes.proofs.WayWriteLaws.{append_change, append_file_spot, appen
 
 -- ---- a file on a way
 
--- a file stands on the way of a path
+-- a file is on the way of a path
 pub record Stops (t : Tree) (follow : Bool) (path stop : Path) : Type 0 where
   pub on : on_way t follow path stop ≡ true
   pub node : Node
   pub at : node_at t stop ≡ Some node
   pub file : is_file_content node.content ≡ true
 
--- the change of a writer whose own file stands at s: he makes an empty file or a directory where nothing stands, or appends
--- to his file, moves it over no directory, or removes it
+-- the change of a writer whose own file is at s: he makes an empty file or a directory where nothing is, or appends to his
+-- file, moves it, but not over a directory, or removes it
 abbrev pub IsOwnChange : Tree → Path → Change → Type 0
 IsOwnChange t s (PutFile q time bytes) = (time ≡ 0) × (bytes ≡ []) × ((other : Path) × (vacant t other ≡ Ok q))
 IsOwnChange t s (MakeDir q dev) = (other : Path) × (vacant t other ≡ Ok q)
@@ -44,7 +44,7 @@ IsOwnChange t s (Remove q) = (q ≡ s) × ((other : Path) × (file_spot t other 
 IsOwnChange t s (PutLink q target) = ⊥
 IsOwnChange t s (SetTime q time) = ⊥
 
--- a rename onto what is on the way of a path: a link, or the file that stands there
+-- a rename onto what is on the way of a path: a link, or the file there
 pub record Replaces (t : Tree) (follow : Bool) (path stop s : Path) (change : Change) : Type 0 where
   pub to : Path
   pub is : change ≡ Rename s to
@@ -56,7 +56,7 @@ module _ (t : Tree) (is_tree : IsTree t) (follow : Bool) (path stop : Path) (sto
   unfolding on_way
   trod q on = stop_trod t is_tree stop stops.node stops.at stops.file follow most_links path stops.on q on
 
-  -- what lies in a directory, and is neither a directory nor that file, is on the way only as a link
+  -- what is in a directory, and is neither a directory nor that file, is on the way only as a link
   link_or_stop : (q : Path) → lies_in_directory t q ≡ true → is_directory (node_at t q) ≡ false → on_way t follow path q ≡ true → (is_link (node_at t q) ≡ true) ⊎ (q ≡ stop)
   link_or_stop q lies other on = elim (trod q on) [
     | Passed is ↦ absurd (false≢true (sym other ∙ is))
@@ -79,7 +79,7 @@ module _ (t : Tree) (is_tree : IsTree t) (follow : Bool) (path stop : Path) (sto
       let f = file_at t other s is in
       off s (file_lies t is_tree s f.node f.at f.file) (file_no_directory t s f.node f.at f.file) (ap is_link f.at ∙ file_no_link f.node.content f.file) apart
 
-  -- a writer's change leaves the way alone, but for a rename onto a link on it, or onto the file on it
+  -- a writer's change leaves the way alone, except for a rename onto a link on it, or onto the file on it
   pub same_or_replaces : (s : Path) (change : Change) → IsOwnChange t s change → s ≢ stop → SameOnWay t (changed t change) follow path ⊎ Replaces t follow path stop s change
   same_or_replaces s (PutFile q time bytes) own apart = inl (same_put_file t follow path q time bytes (vacant_off own.2.0 q own.2.1))
   same_or_replaces s (MakeDir q dev) own apart = inl (same_make_dir t follow path q dev (vacant_off own.0 q own.1))
@@ -100,7 +100,7 @@ module _ (t : Tree) (is_tree : IsTree t) (follow : Bool) (path stop : Path) (sto
           let r = replaceable_at t own.2.0 p own.2.1 in
           inr (record { to = p; is = ap (λ x. Rename x p) own.0; on = on; over = link_or_stop p (spot_lies t is_tree own.2.0 p r.is r.free) r.free on })
 
-  -- where it renames onto what is on the way, its file stands there now
+  -- after a rename onto what is on the way, its file is there now
   module _ (s p : Path) (own : IsOwnChange t s (Rename s p)) (apart : s ≢ stop) (on : on_way t follow path p ≡ true) where
     s_off : on_way t follow path s ≡ false
     s_off = file_off own.1.0 s own.1.1 apart
@@ -130,12 +130,12 @@ module _ (t : Tree) (is_tree : IsTree t) (follow : Bool) (path stop : Path) (sto
         let f = file_at t own.1.0 s own.1.1 in
         record { on = still_on; node = f.node; at = ap (λ u. node_at u p) (made-rename t s p) ∙ moved_target t s p ∙ f.at; file = f.file }
 
--- a file stands there still where the way was left alone
+-- a file is still there if the way was left alone
 pub stops_kept : (t u : Tree) (follow : Bool) (path stop : Path) → SameOnWay t u follow path → Stops t follow path stop → Stops u follow path stop
 stops_kept t u follow path stop same stops =
     record { on = on_way_kept t u follow path same stop ∙ stops.on; node = stops.node; at = same stop stops.on ∙ stops.at; file = stops.file }
 
--- what is left alone on the way of a name in a directory is so on that of the directory
+-- if the way of a name in a directory is left alone, so is that of the directory
 pub same_front : (t u : Tree) (front : Path) (name : Name) → SameOnWay t u true (front ++ name ∷ []) → SameOnWay t u true front
 same_front t u front name same = same_directory t u front name (same_unfollowed t u (front ++ name ∷ []) same)
 
@@ -205,14 +205,14 @@ module _ (t : Tree) (is_tree : IsTree t) (path : Path) (change : Change) where
         let same : change ≡ Remove s = cc in
         subst (IsOwnChange t s) (sym same) (refl, (path, own.leads))
 
-  -- so is what he makes where nothing stands, wherever his own file is
+  -- and so is what he makes where nothing is, wherever his own file is
   pub own_new_change : (s : Path) → change_of_new_file t path ≡ Ok change → IsOwnChange t s change
   own_new_change s is = let c = new_file_change t path change is in subst (IsOwnChange t s) (sym c.2) (refl, refl, (path, c.1))
 
   pub own_dir_change : (s : Path) → change_of_make_dir t path ≡ Ok change → IsOwnChange t s change
   own_dir_change s is = let c = make_dir_change t path change is in subst (IsOwnChange t s) (sym c.2) (path, c.1)
 
--- a file isn't where nothing stands
+-- a file isn't where nothing is
 pub own_not_vacant : (t : Tree) (path s other q : Path) → OwnSpot t path s → vacant t other ≡ Ok q → s ≢ q
 own_not_vacant t path s other q own free same =
     let f = file_at t path s own.leads in

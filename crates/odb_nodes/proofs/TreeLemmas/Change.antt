@@ -31,7 +31,7 @@ at_after_take t p q k at =
       | inr apart ↦ (apart, sym (node_at-taken_other t p q apart) ∙ at)
     ]
 
--- ---- the directory that a path lies in
+-- ---- the directory that a path is in
 
 pub lies_in-push : (t : Tree) (directory : Path) (name : Name) → lies_in_directory t (directory ++ name ∷ []) ≡ is_directory (node_at t directory)
 lies_in-push t directory name = ap (λ o. is_directory (option_and_then (node_at t) o)) (parent_of-push directory name)
@@ -153,9 +153,9 @@ nil_names t directory none =
       | Some name ↦ λ is. absurd (none name n (ap (node_at t) (sym (name_in-path directory p name is)) ∙ node_at-entries_of t p ∙ found))
     ] refl)
 
--- ---- what a change makes
+-- ---- what a change does
 
--- a node that stands somewhere
+-- a node that is somewhere
 pub record Standing (o : Option Node) : Type 0 where
   pub node : Node
   pub at : o ≡ Some node
@@ -185,7 +185,7 @@ module _ (t : Tree) (p : Path) where
   unfolding changed
   made-remove = refl
 
--- a node that isn't the root lies in a directory
+-- a node other than the root is in a directory
 pub lies_in-node : (t : Tree) → IsTree t → (p : Path) (n : Node) → [] ≢ p → node_at t p ≡ Some n → lies_in_directory t p ≡ true
 lies_in-node t is_tree p n below_root at =
     let s = split_last p below_root in

@@ -1,4 +1,4 @@
--- Laws of changes: a possible change keeps a tree a tree, and what a change makes of a state.
+-- Laws of changes: a possible change keeps a tree a tree, and what a change does to a state.
 use Rattle.std.proofs.Common.{◌≡◌, ℕ, true, false, List, Option, Some, None, Result, Ok, Err, is_none, refl, sym, ap, ◌∙◌, subst}
 use Rattle.std.proofs.lemmas.Bool.{false≢true, and_parts, not-true}
 use Rattle.odb_base.specs.Path.{Path}
@@ -65,7 +65,7 @@ module _ (t : Tree) (is_tree : IsTree t) (p : Path) where
   IsTree-remove : lies_in_directory t p ≡ true → is_nil (names_in t p) ≡ true → IsTree (without t p)
   IsTree-remove lies nil = IsTree-without t is_tree p (λ root. false≢true (sym (root_lies_nowhere t p (sym root)) ∙ lies)) (no_names_below t p nil)
 
--- the tree stays one where bytes are appended
+-- the tree stays one when bytes are appended
 IsTree-longer : (t : Tree) → IsTree t → (more : List ℕ) (told : Result Place Refusal) → is_file_place told ≡ true → StandsAt t told → IsTree (with_longer t more told)
 IsTree-longer t is_tree more (Err refusal) file stands = cc
 IsTree-longer t is_tree more (Ok place) file stands =
@@ -117,7 +117,7 @@ pub after_write-tree : (s : State) (change : Change) → tree_of (after_write s 
 unfolding after_write
 after_write-tree s change = tree_of-state_of (changed (tree_of s) change)
 
--- ---- what a move makes
+-- ---- what a move does
 
 pub made-rename : (t : Tree) (from to : Path) → changed t (Rename from to) ≡ with_moved t from to
 unfolding changed

@@ -39,7 +39,7 @@ module _ (t : Tree) (follow : Bool) (way : Path) where
   unfolding pass
   pass_ends = refl
 
--- ---- where a node stands, its way is directories
+-- ---- the way of a node is directories
 
 is_Dir : (c : Content) → is_directory_content c ≡ true → c ≡ Dir
 is_Dir (File bytes time) e = cc
@@ -69,7 +69,7 @@ module _ (t : Tree) (is_tree : IsTree t) where
       let d = IsDir-from t (way ++ name ∷ []) below in
       is_tree.ways way name d.node d.at
 
-  -- a pass along the names of a node comes to the node
+  -- a pass along the names of a node reaches the node
   pub pass_to : (follow : Bool) (way names : Path) (n : Node) → node_at t (way ++ names) ≡ Some n → pass t follow way names ≡ ending follow (way ++ names) (Some n)
   pass_to follow way [] n at =
       let whole : way ++ [] ≡ way = append-nil way in
@@ -81,7 +81,7 @@ module _ (t : Tree) (is_tree : IsTree t) where
       ∙ pass_to follow (way ++ name ∷ []) names n (ap (node_at t) regroup ∙ at)
       ∙ ap (λ w. ending follow w (Some n)) regroup
 
--- ---- a pass that comes to the last node on a way
+-- ---- a pass that reaches the last node on a way
 
 module _ (t : Tree) (is_tree : IsTree t) where
   -- each directory on the way of a node is passed
@@ -94,7 +94,7 @@ module _ (t : Tree) (is_tree : IsTree t) where
       ∙ pass_from follow (way ++ name ∷ []) names rest n (ap (node_at t) regroup ∙ at)
       ∙ ap (λ w. pass t follow w rest) regroup
 
--- A way that a path goes beyond, where nothing stands at the next name.
+-- A path goes beyond this way, and nothing is at the next name.
 pub record IsShort (t : Tree) (path way : Path) : Type 0 where
   pub name : Name
   pub names : Path
@@ -160,9 +160,9 @@ module _ (t : Tree) (follow : Bool) (path : Path) where
   unfolding followed_within
   followed_onward links less onward one is = ap (λ l. followed_within l t follow path) one ∙ ap (arrives (followed_within less t follow)) is
 
--- ---- a place is where its node stands
+-- ---- a place is where its node is
 
--- the place that a path leads to has the node that stands there
+-- the place that a path leads to has the node that is there
 abbrev pub StandsAt : Tree → Result Place Refusal → Type 0
 StandsAt t told = (place : Place) → told ≡ Ok place → node_at t place.path ≡ Some place.node
 

@@ -1,4 +1,4 @@
--- Laws of looks and reads, for callers: what a look at a path says of a read of it, and what a read gives after a change.
+-- Laws of stats and reads, for callers: what a stat of a path says of a read of it, and what a read gives after a change.
 use Rattle.std.proofs.Common.{◌≡◌, ◌≢◌, ℕ, true, List, length, Option, Some, None, Result, Ok, Err, refl, sym, ap, ◌∙◌}
 use Rattle.odb_base.specs.Path.{Path}
 use Rattle.odb_nodes.specs.Tree.{Tree, IsTree, node_at}
@@ -15,7 +15,7 @@ use Rattle.odb_nodes.proofs.TreeLemmas.Follow.{pass_to_other, followed_reached}
 use Rattle.odb_nodes.proofs.TreeLemmas.Change.{made-put_file}
 use Rattle.odb_nodes.proofs.TreeLemmas.Changed.{IsTree-changed}
 
--- ---- a look and a read of one path
+-- ---- a stat and a read of one path
 
 -- a read gives a file of a length and a time
 pub record ReadsAs (t : Tree) (path : Path) (len time : ℕ) : Type 0 where
@@ -23,7 +23,7 @@ pub record ReadsAs (t : Tree) (path : Path) (len time : ℕ) : Type 0 where
   pub is : read_of t path ≡ Ok (bytes, time)
   pub long : length bytes ≡ len
 
--- a look finds a file of a length and a time
+-- a stat finds a file of a length and a time
 pub record LooksAs (t : Tree) (path : Path) (len time : ℕ) : Type 0 where
   pub meta : Meta
   pub is : looked t path true ≡ Ok meta
@@ -76,22 +76,22 @@ place_found (Ok place) bytes time is =
 place_found (Err refusal) bytes time is = cc
 
 module _ (t : Tree) (path : Path) where
-  -- a look at a file means that the read succeeds, with a file of that length and time
+  -- if a stat finds a file, the read succeeds, with a file of that length and time
   pub read_of-file : (m : Meta) → looked t path true ≡ Ok m → m.kind ≡ kinds.File → ReadsAs t path m.len m.time
   unfolding looked read_of
   read_of-file m is kind = let f = found_file (followed t true path) m is kind in record { bytes = f.0; is = f.1; long = f.2 }
 
-  -- a look at another kind means that the read finds the wrong kind
+  -- if a stat finds another kind, the read finds the wrong kind
   pub read_of-other : (m : Meta) → looked t path true ≡ Ok m → m.kind ≢ kinds.File → read_of t path ≡ Err WrongKind
   unfolding looked read_of
   read_of-other m is other = found_other (followed t true path) m is other
 
-  -- a refused look refuses the read alike
+  -- if a stat is refused, the read is refused alike
   pub read_of-refused : (e : Refusal) → looked t path true ≡ Err e → read_of t path ≡ Err e
   unfolding looked read_of
   read_of-refused e is = refused_alike (followed t true path) e is
 
-  -- a read that succeeds means that a look finds such a file
+  -- if a read succeeds, a stat finds such a file
   pub looked-read : (bytes : List ℕ) (time : ℕ) → read_of t path ≡ Ok (bytes, time) → LooksAs t path (length bytes) time
   unfolding looked read_of
   looked-read bytes time is = let p = place_found (followed t true path) bytes time is in record { meta = p.0; is = p.1; kind = p.2; long = p.3; timed = p.4 }

@@ -13,7 +13,7 @@ use Rattle.odb_nodes.specs.Tree.Change.{moved_entry, with_moved}
 use Rattle.odb_nodes.specs.declared.node.Node.{Node}
 use Rattle.odb_nodes.proofs.TreeLemmas.{same_path, own_path, other_path}
 
--- ---- paths that lie below others
+-- ---- paths below others
 
 abbrev pub begins : Path → Path → Bool
 begins q base = starts_with same_name q base
@@ -28,7 +28,7 @@ pub begins-more : (q base rest : Path) → begins q base ≡ true → begins (q 
 begins-more q base rest is =
     lies_below (q ++ rest) base (drop (length base) q ++ rest) (ap (λ p. p ++ rest) (goes_beyond q base is) ∙ append_assoc base (drop (length base) q) rest)
 
--- what a path has behind its base
+-- the rest of a path after its base
 pub behind-append : (base rest : Path) → drop (length base) (base ++ rest) ≡ rest
 behind-append base rest = append_cancel_left base _ _ (sym (goes_beyond (base ++ rest) base (begins-append base rest)))
 
@@ -41,7 +41,7 @@ root_begins base other = false_from_ne_true _ (λ is. other (sym (no_names_left 
 
 -- ---- what is found after a move
 
--- what stands at a path after a move, by whether it lies below the target or the source
+-- what is at a path after a move, by whether it is below the target or the source
 abbrev pub moved_at : {X : Type 0} → Bool → Bool → Option X → Option X → Option X
 moved_at true left there here = there
 moved_at false true there here = None
@@ -52,7 +52,7 @@ moved_at_none true left = refl
 moved_at_none false true = refl
 moved_at_none false false = refl
 
--- one entry more
+-- one more entry
 moved_at_more : {X : Type 0} (below left k c d : Bool) (n : X) (there here : Option X) → (below ≡ true → k ≡ c) → (below ≡ false → left ≡ true → k ≡ false) → (below ≡ false → left ≡ false → k ≡ d)
     → cond k (Some n) (moved_at below left there here) ≡ moved_at below left (cond c (Some n) there) (cond d (Some n) here)
 moved_at_more true left k c d n there here one two three = ap (λ b. cond b (Some n) there) (one refl)
@@ -77,7 +77,7 @@ module _ (from to q : Path) where
   origin = from ++ drop (length to) q
 
   module _ (p : Path) where
-    -- where an entry goes that lies below the source
+    -- where an entry goes that is below the source
     goes : begins p from ≡ true → begins q to ≡ true → eq_by_cmp path_cmp q (to ++ drop (length from) p) ≡ eq_by_cmp path_cmp (from ++ drop (length to) q) p
     goes source target =
         same_place q (to ++ drop (length from) p) (from ++ drop (length to) q) p
@@ -118,7 +118,7 @@ module _ (from to q : Path) where
             ] refl
       ] refl
 
--- ---- what stands at a path after a move
+-- ---- what is at a path after a move
 
 module _ (t : Tree) (from to : Path) where
   pub node_at-with_moved : (q : Path) → node_at (with_moved t from to) q ≡ moved_at (begins q to) (begins q from) (node_at t (from ++ drop (length to) q)) (node_at t q)
@@ -148,7 +148,7 @@ module _ (t : Tree) (from to : Path) where
         node_at-with_moved q ∙ ap (λ b. moved_at b (begins q from) (node_at t (from ++ drop (length to) q)) (node_at t q)) other
         ∙ ap (λ b. moved_at false b (node_at t (from ++ drop (length to) q)) (node_at t q)) apart
 
--- where a node stood before a move
+-- where a node was before a move
 pub record WasBelow (t : Tree) (from to q : Path) (k : Node) : Type 0 where
   pub rest : Path
   pub is : q ≡ to ++ rest

@@ -1,4 +1,4 @@
--- A tree stays a tree where what can be moved is moved.
+-- A tree stays a tree when what can be moved is moved.
 use Rattle.std.proofs.Common.{◌≡◌, ◌≢◌, ◌⊎◌, true, false, not, ◌&&◌, [], ◌∷◌, ◌++◌, length, drop, Option, Some, None, is_none}
 use Rattle.std.proofs.Common.{refl, sym, ap, ◌∙◌, inl, inr, cond, subst, append-nil, append_assoc, length-append, arith}
 use Rattle.std.proofs.lemmas.Bool.{false≢true, false_from_ne_true, and_parts, not-true}
@@ -25,7 +25,7 @@ same_front d e x y is =
     let front : d ≡ e = same_Some d e (sym (parent_of-push d x) ∙ ap parent_of is ∙ parent_of-push e y) in
     (front, is ∙ ap (λ p. p ++ y ∷ []) (sym front))
 
--- a directory doesn't lie below what lies in it
+-- a directory isn't below what is in it
 pub shorter_front : (d : Path) (x : Name) → begins d (d ++ x ∷ []) ≡ false
 shorter_front d x = false_from_ne_true _ (λ is.
     let whole = goes_beyond d (d ++ x ∷ []) is in
@@ -34,7 +34,7 @@ shorter_front d x = false_from_ne_true _ (λ is.
     let l2 = length-append d (x ∷ []) in
     absurd (omega arith))
 
--- what lies below a path and isn't it
+-- what is below a path and isn't it
 pub goes_on : (q base : Path) → begins q base ≡ true → q ≢ base → (name : Name) × (names : Path) × (q ≡ base ++ name ∷ names)
 goes_on q base is apart = split (drop (length base) q) (goes_beyond q base is)
   where
@@ -56,7 +56,7 @@ pub file_lies : (t : Tree) → IsTree t → (p : Path) (n : Node) → node_at t 
 file_lies t is_tree p n at file =
     lies_in-node t is_tree p n (λ root. false≢true (sym (ap (λ q. is_directory (node_at t q)) root ∙ file_no_directory t p n at file) ∙ is_tree.root)) at
 
--- nothing stands below a path that is no directory
+-- nothing is below a path that is no directory
 pub nothing_below : (t : Tree) → IsTree t → (p : Path) → is_directory (node_at t p) ≡ false → (name : Name) (names : Path) (n : Node) → node_at t (p ++ name ∷ names) ≢ Some n
 nothing_below t is_tree p other name names n at = false≢true (sym other ∙ way_is_directory t is_tree p name names n at)
 
@@ -76,7 +76,7 @@ module _ (t : Tree) (is_tree : IsTree t) (from to : Path) (lies : lies_in_direct
   source_below_root : [] ≢ from
   source_below_root root = false≢true (sym outside ∙ ap (begins to) (sym root) ∙ begins-append [] to)
 
-  -- where neither end lies below a path, the path has what it had
+  -- if a path is above neither end, it has what it had
   front_stays : (d : Path) (x : Name) → begins (d ++ x ∷ []) to ≡ false → begins (d ++ x ∷ []) from ≡ false → node_at after d ≡ node_at t d
   front_stays d x other apart =
       moved_other t from to d
@@ -125,7 +125,7 @@ module _ (t : Tree) (is_tree : IsTree t) (from to : Path) (lies : lies_in_direct
 
 -- ---- what can be moved
 
--- a path below a file or a link lies in no directory
+-- a path below a file or a link is in no directory
 pub leaf_outside : (t : Tree) → IsTree t → (from to : Path) → is_directory (node_at t from) ≡ false → lies_in_directory t to ≡ true → from ≢ to → begins to from ≡ false
 leaf_outside t is_tree from to leaf lies apart = false_from_ne_true _ (λ is.
     let g = goes_on to from is (λ same. apart (sym same)) in

@@ -1,4 +1,4 @@
--- Laws of possible changes: what stands where one is made.
+-- Laws of possible changes: what is there when one is made.
 use Rattle.std.proofs.Common.{◌≡◌, ◌≢◌, ℕ, ◌&&◌, true, false, List, [], Option, Some, None, is_some, is_none, refl, sym, ap, ◌∙◌}
 use Rattle.std.proofs.lemmas.Bool.{false≢true, and_parts, and_left, and_right, not-true}
 use Rattle.odb_base.specs.Path.{Path}
@@ -9,7 +9,7 @@ use Rattle.odb_nodes.specs.declared.node.Node.{Node}
 use Rattle.odb_nodes.specs.declared.change.Change.TheVariants.{PutFile, MakeDir, PutLink, Append, Remove, SetTime}
 use Rattle.odb_nodes.proofs.TreeLemmas.Change.{root_lies_nowhere}
 
--- a node can be put at a path: it lies in a directory, and no directory stands there
+-- a node can be put at a path: it is in a directory, and no directory is there
 pub record CanPut (t : Tree) (p : Path) : Type 0 where
   pub lies : lies_in_directory t p ≡ true
   pub no_directory : is_directory (node_at t p) ≡ false

@@ -1,4 +1,4 @@
--- Laws of the node of a file or a link that is put: one that stands there keeps its node, else it is a new one.
+-- Laws of the node of a file or a link that is put: one that is already there keeps its node, else it is a new one.
 use Rattle.std.proofs.Common.{◌≡◌, ℕ, true, false, List, Option, Some, None, refl, sym, ap, ◌∙◌}
 use Rattle.std.proofs.lemmas.Bool.{false≢true}
 use Rattle.odb_base.specs.Path.{Path}

@@ -63,7 +63,7 @@ pub spot_is_in : (t : Tree) (path s : Path) → spot t path ≡ Ok s → s ≢ [
 unfolding spot
 spot_is_in t path s is below = spot_in t path s (parent_of path) refl is below
 
--- a spot where no directory stands lies in a directory
+-- a spot that is no directory is in a directory
 pub spot_lies : (t : Tree) → IsTree t → (path s : Path) → spot t path ≡ Ok s → is_directory (node_at t s) ≡ false → lies_in_directory t s ≡ true
 spot_lies t is_tree path s is other =
     let i = spot_is_in t path s is (λ root. false≢true (sym other ∙ ap (λ q. is_directory (node_at t q)) root ∙ is_tree.root)) in
@@ -72,7 +72,7 @@ spot_lies t is_tree path s is other =
     let whole : i.place.path ++ last.0 ∷ [] ≡ s = ap (λ r. i.place.path ++ r) (sym behind) ∙ i.is in
     ap (lies_in_directory t) (sym whole) ∙ lies_in-push t i.place.path last.0 ∙ ap is_directory (place_stands t most_links true i.front i.place i.leads) ∙ i.directory
 
--- ---- what stands at a spot
+-- ---- what is at a spot
 
 pub record VacantAt (t : Tree) (path s : Path) : Type 0 where
   pub is : spot t path ≡ Ok s

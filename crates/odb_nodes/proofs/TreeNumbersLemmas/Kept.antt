@@ -1,4 +1,4 @@
--- That the numbers stay well kept by a change.
+-- The numbers stay well kept by a change.
 use Rattle.std.proofs.Common.{◌≡◌, ◌≢◌, ℕ, ◌+◌, ne_eqb, ◌<◌, ◌≤◌, ◌==◌, ◌&&◌, ◌||◌, Bool, true, false, not, cond, List, []}
 use Rattle.std.proofs.Common.{Option, Some, None, IsSome, refl, sym, ap, ◌∙◌, subst, inl, inr, eq-eqb, eqb-true, arith}
 use Rattle.std.proofs.lemmas.Bool.{false≢true, false_from_ne_true, or_left, or_cases, and_parts, eqb-false, cases_eq}
@@ -186,7 +186,7 @@ module _ (t u : Tree) (is_tree : IsTree t) (next : ℕ) (free : List ℕ) (numbe
     pub AreNumbers-changed : AreNumbers u next free
     AreNumbers-changed = let n = node_of (node_at t p) stands in AreNumbers-over_node n.node n.at
 
--- a node is taken out
+-- a node is removed
 pub IsTree-taken : (t u : Tree) (is_tree : IsTree t) (p : Path) → [] ≢ p → is_nil (names_in t p) ≡ true → u ≡ without t p → IsTree u
 IsTree-taken t u is_tree p below_root nil taken = subst IsTree (sym taken) (IsTree-without t is_tree p below_root (no_names_below t p nil))
 

@@ -59,7 +59,7 @@ or-cond : (a b : Bool) → cond a true b ≡ (a || b)
 or-cond true b = refl
 or-cond false b = refl
 
--- one number more is free
+-- one more number is free
 pub freed_number : (free now : List ℕ) (at : Option Node) (node : Node) → Some node ≡ at → ((n : ℕ) → is_listed now n ≡ cond (is_at (nat_cmp node.ino) n) true (is_listed free n)) → (n : ℕ)
     → is_listed now n ≡ (has_number at n || is_listed free n)
 freed_number free now at node is h n =

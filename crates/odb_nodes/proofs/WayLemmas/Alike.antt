@@ -88,7 +88,7 @@ ways_onward_alike f g Blocked same = refl
 
 -- ---- trees that have alike nodes on the way
 
--- two trees have nodes of one outline at the fronts of some paths
+-- two trees have nodes of one outline at the prefixes of some paths
 abbrev pub Alike : Tree → Tree → List Path → Type 0
 Alike t u ways = (q : Path) → is_front_of_one ways q ≡ true → outline (node_at u q) ≡ outline (node_at t q)
 

@@ -1,10 +1,10 @@
--- Two fronts of one path.
+-- Two prefixes of one path.
 use Rattle.std.proofs.Common.{◌≡◌, ◌⊎◌, inl, inr, true, [], ◌∷◌, ◌++◌, length, drop, refl, sym, ap, ◌∙◌, append_assoc}
 use Rattle.odb_base.specs.Path.{Name, Path}
 use Rattle.odb_base.specs.PathLaws.{goes_beyond, lies_below}
 use Rattle.odb_nodes.proofs.TreeLemmas.Moved.{begins, behind-append}
 
--- of two fronts of a path one is a front of the other, or goes beyond it
+-- of two prefixes of a path one is a prefix of the other, or goes beyond it
 two_fronts : (p q r s : Path) → p ++ r ≡ q ++ s → ((rest : Path) × (p ≡ q ++ rest)) ⊎ ((name : Name) × (names : Path) × (q ≡ p ++ name ∷ names))
 two_fronts p [] r s is = inl (p, refl)
 two_fronts [] (y ∷ q) r s is = inr (y, q, refl)
@@ -23,7 +23,7 @@ no_tail : (rest s : Path) → [] ≡ rest ++ s → rest ≡ []
 no_tail [] s is = refl
 no_tail (x ∷ rest) s is = absurd (cc)
 
--- a front of a path with one name more is one of the path, or the whole
+-- a prefix of a path with one more name is one of the path, or the whole
 pub front_or_whole : (front : Path) (name : Name) (q : Path) → begins (front ++ name ∷ []) q ≡ true → (begins front q ≡ true) ⊎ (q ≡ front ++ name ∷ [])
 front_or_whole front name q is =
     let s = drop (length q) (front ++ name ∷ []) in

@@ -1,4 +1,4 @@
--- Which paths are on a way, and where a path with one name more leads.
+-- Which paths are on a way, and where a path with one more name leads.
 use Rattle.std.proofs.Common.{◌≡◌, ◌⊎◌, inl, inr, ℕ, zero, suc, Bool, true, false, List, [], ◌∷◌, ◌++◌, length, drop, map}
 use Rattle.std.proofs.Common.{Option, Some, None, Result, Ok, Err, refl, sym, ap, ◌∙◌, subst, append_assoc, append-nil}
 use Rattle.std.proofs.lemmas.Bool.{false≢true, or_left, or_right, or_cases}
@@ -12,12 +12,12 @@ use Rattle.odb_nodes.specs.declared.node.Content.{Content}
 use Rattle.odb_nodes.specs.declared.node.Content.TheVariants.{File, Dir, Link}
 use Rattle.odb_nodes.proofs.TreeLemmas.Moved.{begins, begins-own, begins-more}
 
--- ---- fronts
+-- ---- prefixes
 
 begins_by : (way q s : Path) → begins way q ≡ true → begins q s ≡ true → begins way s ≡ true
 begins_by way q s own front = ap (λ p. begins p s) (goes_beyond way q own) ∙ begins-more q s (drop (length q) way) front
 
--- a front of a front is one
+-- a prefix of a prefix is one
 pub front_of_front : (ways : List Path) (q s : Path) → begins q s ≡ true → is_front_of_one ways q ≡ true → is_front_of_one ways s ≡ true
 front_of_front [] q s front on = absurd (false≢true on)
 front_of_front (way ∷ ways) q s front on = elim (or_cases (begins way q) (is_front_of_one ways q) on) [
@@ -25,7 +25,7 @@ front_of_front (way ∷ ways) q s front on = elim (or_cases (begins way q) (is_f
   | inr more ↦ or_right (begins way s) _ (front_of_front ways q s front more)
 ]
 
--- what is a front of a path is one of the path with one name more
+-- a prefix of a path is one of the path with one more name
 pub front_of_more : (ways : List Path) (name : Name) (q : Path) → is_front_of_one ways q ≡ true → is_front_of_one (map (λ way. way ++ name ∷ []) ways) q ≡ true
 front_of_more [] name q on = absurd (false≢true on)
 front_of_more (way ∷ ways) name q on = elim (or_cases (begins way q) (is_front_of_one ways q) on) [
@@ -43,7 +43,7 @@ front_of_own [] p one = absurd one
 front_of_own (way ∷ ways) p (inl same) = or_left (begins way p) _ (ap (begins way) (sym same) ∙ begins-own way)
 front_of_own (way ∷ ways) p (inr more) = or_right (begins way p) _ (front_of_own ways p more)
 
--- what is on the way behind a pass is on the way that a link leads on to
+-- what is on the way after a pass is on the way that a link leads on to
 pub in_led : (further : Path → List Path) (p : Pass) (q : Path) → is_front_of_one (ways_onward further p) q ≡ true → (path : Path) × (p ≡ Onward path) × (is_front_of_one (further path) q ≡ true)
 in_led further (Reached path node) q on = absurd (false≢true on)
 in_led further (Onward path) q on = (path, refl, on)
@@ -130,10 +130,10 @@ unfollowed_front t (suc links) path q on =
           (ap (λ p. is_front_of_one (ways_onward (ways_within links t true) p) q) (unfollowed_onward t [] path l.0 l.1) ∙ unfollowed_front t links l.0 q l.2)
     ]
 
--- ---- a path with one name more
+-- ---- a path with one more name
 
 module _ (t : Tree) (name : Name) where
-  -- what a directory at a path says of one name more
+  -- what a directory at a path says of one more name
   abbrev pub next : Bool → Path → Pass
   next follow path = ending follow (path ++ name ∷ []) (node_at t (path ++ name ∷ []))
 
@@ -143,7 +143,7 @@ module _ (t : Tree) (name : Name) where
   inside Dir further = further
   inside (Link target) further = Blocked
 
-  -- what a pass along a path says of one name more
+  -- what a pass along a path says of one more name
   abbrev pub by_name : Bool → Pass → Pass
   by_name follow (Reached path node) = inside node.content (next follow path)
   by_name follow (Onward path) = Onward (path ++ name ∷ [])

@@ -1,4 +1,4 @@
--- Where spots are: in trees that are alike on the way to them, and where something stands there.
+-- Where spots are: in trees that are alike on the way to them, and where something is there.
 use Rattle.std.proofs.Common.{◌≡◌, ◌≢◌, ℕ, zero, suc, Bool, true, false, [], ◌∷◌, ◌++◌, length, drop, Some, None, Result, Ok, Err, refl, sym, ap, ◌∙◌, cond}
 use Rattle.std.proofs.lemmas.Bool.{false≢true, or_left}
 use Rattle.odb_base.specs.Path.{Name, Path, parent_of}
@@ -60,7 +60,7 @@ module _ (t : Tree) (path s : Path) (is : spot t path ≡ Ok s) where
       let behind : drop (length i.front) path ≡ last.0 ∷ [] = ap (drop (length i.front)) last.1 ∙ behind-append i.front (last.0 ∷ []) in
       record { spot_in = i; name = last.0; path_is = last.1; is = ap (λ r. i.place.path ++ r) (sym behind) ∙ i.is }
 
--- ---- what stands at a spot is where the path leads
+-- ---- what is at a spot is where the path leads
 
 is_Dir : (content : Content) → is_directory_content content ≡ true → content ≡ Dir
 is_Dir (File bytes time) is = absurd (false≢true is)

@@ -1,4 +1,4 @@
--- Ways on which a file stands: what else is on them, and that they lead to that file or nowhere.
+-- Ways with a file on them: what else is on them, and that they lead to that file or nowhere.
 use Rattle.std.proofs.Common.{◌≡◌, ◌≢◌, inl, inr, ℕ, zero, suc, Bool, true, false, ◌||◌, [], ◌∷◌, ◌++◌, length, drop, Some}
 use Rattle.std.proofs.Common.{None, Result, Ok, Err, refl, sym, ap, ◌∙◌, subst, append_assoc, append-nil, arith}
 use Rattle.std.proofs.lemmas.Bool.{false≢true, or_cases, or_left, or_right}
@@ -26,7 +26,7 @@ module _ (t : Tree) (is_tree : IsTree t) (stop : Path) (n : Node) (at : node_at 
   no_link : (content : Content) → is_file_content content ≡ true → (target : Path) → content ≢ Link target
   no_link content is target link = false≢true (sym (ap is_file_content link) ∙ is)
 
-  -- a pass that comes to a file goes no further
+  -- a pass that reaches a file goes no further
   blocked_at : (content : Content) → n.content ≡ content → is_file_content content ≡ true → (follow : Bool) (name : Name) (names : Path) → pass t follow [] (stop ++ name ∷ names) ≡ Blocked
   blocked_at (File bytes time) is _ follow name names = pass_from t is_tree follow [] stop (name ∷ names) n at ∙ pass_blocked t follow stop (name ∷ names) n bytes time (omega arith) at is
   blocked_at Dir is other follow name names = absurd (false≢true other)
@@ -44,7 +44,7 @@ module _ (t : Tree) (is_tree : IsTree t) (stop : Path) (n : Node) (at : node_at 
   ends_here : (follow : Bool) (path x : Path) → begins path stop ≡ true → pass t follow [] path ≢ Onward x
   ends_here follow path x own is = never_onward follow (drop (length stop) path) x (ap (pass t follow []) (sym (goes_beyond path stop own)) ∙ is)
 
-  -- the fronts of a path along which the file stands
+  -- the prefixes of a path along which the file is
   own_trod : (path q : Path) → begins path stop ≡ true → begins path q ≡ true → Trod t stop q
   own_trod path q own front = elim (fronts_of path stop q own front) [
     | inl shorter ↦ elim shorter.0 as (λ r. stop ≡ q ++ r → Trod t stop q) [
@@ -54,12 +54,12 @@ module _ (t : Tree) (is_tree : IsTree t) (stop : Path) (n : Node) (at : node_at 
     | inr longer ↦ subst (Trod t stop) (sym longer.2) (Behind (behind t is_tree true stop stop longer.0 longer.1 (file_no_directory t stop n at file)))
   ]
 
-  -- the fronts of a path that a link leads on from
+  -- the prefixes of a path that a link leads on from
   led_trod : (follow : Bool) (path x q : Path) → pass t follow [] path ≡ Onward x → begins path q ≡ true → Trod t stop q
   led_trod follow path x q led front =
       pass_trod t is_tree follow stop [] path q (drop (length q) path) (goes_beyond path q front) (ap comes led) (λ p m reached. let both : Onward x ≡ Reached p m = sym led ∙ reached in cc)
 
-  -- what is on the way is a directory, a link, the file, or lies in no directory
+  -- what is on the way is a directory, a link, the file, or is in no directory
   pub stop_trod : (follow : Bool) (links : ℕ) (path : Path) → on_way_within links t follow path stop ≡ true → (q : Path) → on_way_within links t follow path q ≡ true → Trod t stop q
   unfolding ways_within
   stop_trod follow zero path on q front = elim (or_cases (begins path stop) false on) [
@@ -123,13 +123,13 @@ module _ (t : Tree) (is_tree : IsTree t) (stop : Path) (n : Node) (at : node_at 
             ∙ stopped follow name links f.0 f.2
       ]
 
--- ---- a link on the way of what stands in a directory is on the way of the directory
+-- ---- a link on the way of what is in a directory is on the way of the directory
 
 module _ (t : Tree) (is_tree : IsTree t) (name : Name) (dir : Place) (n : Node) (at : node_at t (dir.path ++ name ∷ []) ≡ Some n) (file : is_file_content n.content ≡ true) where
   file_or_link : (q : Path) → q ≡ dir.path ++ name ∷ [] → is_link (node_at t q) ≢ true
   file_or_link q same link = false≢true (sym (ap (λ p. is_link (node_at t p)) same ∙ ap is_link at ∙ file_no_link n.content file) ∙ link)
 
-  -- the directory that a node stands in is where its own path leads
+  -- the directory of a node is where its own path leads
   own_directory : (links : ℕ) (front : Path) (m : Node) → followed_within links t true front ≡ Ok dir → node_at t (front ++ name ∷ []) ≡ Some m → dir.path ≡ front
   own_directory links front m leads there =
       let d = IsDir-from t front (is_tree.ways front name m there) in
@@ -168,7 +168,7 @@ module _ (t : Tree) (is_tree : IsTree t) (name : Name) (dir : Place) (n : Node) 
       let stays : next t name true path ≡ ending true (path ++ name ∷ []) (Some n) = ap (ending true (path ++ name ∷ [])) (ap (λ p. node_at t (p ++ name ∷ [])) here ∙ at) in
       file_stays (path ++ name ∷ []) x n.content refl file (sym (ap (λ c. inside t name c (next t name true path)) is ∙ stays) ∙ onward)
 
-  -- where the directory's pass leads on to, that of the longer path leads on with one name more
+  -- where the directory's pass leads on to, that of the longer path leads on with one more name
   onward_by : (links : ℕ) (x : Path) (p : Pass) → arrives (followed_within links t true) p ≡ Ok dir → by_name t name true p ≡ Onward x → (y : Path) × (p ≡ Onward y) × (x ≡ y ++ name ∷ [])
   onward_by links x (Reached path node) leads onward = absurd (reached_no_link path node x node.content leads refl onward)
   onward_by links x (Onward y) leads onward = (y, refl, cc)

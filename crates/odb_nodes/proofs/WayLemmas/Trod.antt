@@ -1,4 +1,4 @@
--- What stands on the way of a path that leads somewhere.
+-- What is on the way of a path that leads somewhere.
 use Rattle.std.proofs.Common.{◌≡◌, inl, inr, ℕ, zero, suc, Bool, true, false, [], ◌∷◌, ◌++◌, length, drop, Option, Some, None, Result, Ok, Err, refl, sym, ap, ◌∙◌, subst, append_assoc, append-nil}
 use Rattle.std.proofs.lemmas.Bool.{false≢true, or_cases}
 use Rattle.odb_base.specs.Path.{Name, Path}
@@ -15,15 +15,15 @@ use Rattle.odb_nodes.proofs.TreeLemmas.Moved.{begins}
 use Rattle.odb_nodes.proofs.TreeLemmas.MovedTree.{none_below}
 use Rattle.odb_nodes.proofs.WayLemmas.Further.{in_led}
 
--- What a path on a way is: a directory that is passed, a link that leads on, the place that is reached, or it lies
--- behind a link, where nothing stands.
+-- What a path on a way is: a directory that is passed, a link that leads on, the place that is reached, or it is after a
+-- link, where nothing is.
 pub data Trod (t : Tree) (last q : Path) : Type 0 where
   Passed : is_directory (node_at t q) ≡ true → Trod t last q
   Crossed : is_link (node_at t q) ≡ true → Trod t last q
   Last : q ≡ last → Trod t last q
   Behind : lies_in_directory t q ≡ false → Trod t last q
 
--- a pass that comes to a node, or to a link that leads on
+-- a pass that reaches a node, or a link that leads on
 abbrev pub comes : Pass → Bool
 comes (Reached path node) = true
 comes (Onward path) = true
@@ -54,7 +54,7 @@ module _ (t : Tree) (is_tree : IsTree t) (follow : Bool) (last : Path) where
   beyond_trod way names further None at come = absurd (false≢true come)
   beyond_trod way names further (Some node) at come = passed_trod way names further node node.content at refl come
 
-  -- what lies behind what is no directory lies in none
+  -- what is below something that is no directory is in none
   pub behind : (way : Path) (name : Name) (names : Path) → is_directory (node_at t way) ≡ false → lies_in_directory t (way ++ name ∷ names) ≡ false
   behind way name names other =
       let s = split_last (name ∷ names) (λ e. cc) in
@@ -90,7 +90,7 @@ module _ (t : Tree) (is_tree : IsTree t) (follow : Bool) (last : Path) where
       further_trod way x front (name ∷ names) (pass t follow (way ++ name ∷ []) names) (node_at t way) refl come ends
       (λ c e. subst (Trod t last) regroup (pass_trod (way ++ name ∷ []) names front rest tail c e))
 
--- what a pass says where a path leads to a place
+-- what a pass says if a path leads to a place
 arrived_comes : (further : Path → Result Place Refusal) (p : Pass) (place : Place) → arrives further p ≡ Ok place → comes p ≡ true
 arrived_comes further (Reached path node) place is = refl
 arrived_comes further (Onward path) place is = refl

@@ -1,4 +1,4 @@
--- From the place that a call tells to its change, and from its change to what it tells and makes.
+-- From the place that a call finds to its change, and from its change to its answer and its tree.
 use Rattle.std.proofs.Common.{◌≡◌, ℕ, true, false, List, [], Some, Result, Ok, Err, refl, sym, ap, ◌∙◌, cond, subst}
 use Rattle.std.specs.Result.{result_ok}
 use Rattle.odb_base.specs.Path.{Path}
@@ -68,7 +68,7 @@ module _ (t : Tree) (path s : Path) where
     pub new_file_told : (bytes : List ℕ) → bytes ≡ [] → change_of_new_file t path ≡ Ok (PutFile s 0 bytes)
     new_file_told bytes none = change_of_new_file-is ∙ ap (λ b. Ok (PutFile s 0 b)) (sym none)
 
-    -- where nothing stands, a path lies in a directory
+    -- where nothing is, a path is in a directory
     pub vacant_lies : IsTree t → lies_in_directory t s ≡ true
     vacant_lies is_tree = let v = vacant_at t path s is in spot_lies t is_tree path s v.is (ap is_directory v.absent)
 
@@ -97,7 +97,7 @@ refused_as_told word errors.NotEmpty is = ap done is
 refused_as_told word errors.Failed is = absurd is
 refused_as_told word errors.NoMemory is = tt
 
--- what a change makes is what its call makes
+-- what a change does is what its call does
 pub made_as_told : (t u : Tree) (word : Result Change Refusal) (change : Change) → word ≡ Ok change → u ≡ changed t change → u ≡ changed_by t (result_ok word)
 made_as_told t u word change is made = made ∙ sym (ap (λ r. changed_by t (result_ok r)) is)
 

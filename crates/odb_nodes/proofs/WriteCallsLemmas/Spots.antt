@@ -1,4 +1,4 @@
--- From the steps of a call that writes to the place that it tells.
+-- From the steps of a call that writes to the place that it finds.
 use Rattle.std.proofs.Common.{◌≡◌, ◌≢◌, ℕ, Bool, true, false, [], ◌∷◌, ◌++◌, length, drop, Option, Some, None, Result, Ok, Err, refl, sym, ap, ◌∙◌, cond, subst}
 use Rattle.odb_base.specs.Path.{Path, parent_of}
 use Rattle.odb_nodes.specs.Tree.{Tree, node_at, names_in, is_directory}
@@ -37,7 +37,7 @@ refused_then next told errors.NotEmpty is = ap (and_then next) is
 refused_then next told errors.Failed is = absurd is
 refused_then next told errors.NoMemory is = tt
 
--- an error in place of something found is want of memory
+-- an error in place of something found is out of memory
 found_refused : {A B : Type 0} (x : A) (word : Result B Refusal) (e : DiskError) → Tells {A = A} (Err e) (Ok x) → Tells {A = B} (Err e) word
 found_refused x word errors.Absent is = absurd (cc)
 found_refused x word errors.WrongKind is = absurd (cc)
@@ -96,7 +96,7 @@ module _ (t : Tree) (path : Path) where
       pub spot_there : is_directory (node_at t p) ≡ true → (last : Path) → front ++ last ≡ path → spot t path ≡ Ok (p ++ last)
       spot_there directory last whole = in_there true directory ∙ ap (λ r. Ok (p ++ r)) (ap (drop (length front)) (sym whole) ∙ behind-append front last)
 
--- ---- what stands at the spot
+-- ---- what is at the spot
 
 module _ (t : Tree) (path s : Path) (is : spot t path ≡ Ok s) where
   pub vacant_here : node_at t s ≡ None → vacant t path ≡ Ok s
@@ -146,7 +146,7 @@ module _ (t : Tree) (path : Path) where
       ap (λ r. and_then file_path (from_followed r)) l.is ∙ ap (λ k. cond k (Ok l.place.path) (Err WrongKind)) (ap (λ (m : Node). is_file_content m.content) same ∙ file)
       ∙ ap (λ q. cond b (Ok q) (Err WrongKind)) l.path_is
 
-  -- a path is only led to where a node stands
+  -- a path leads only to where a node is
   pub led_nowhere : (p : Path) → from_followed (path_of_place (followed t true path)) ≡ Ok p → node_at t p ≢ None
   led_nowhere p found none = let l = led_to t path p found in let both : None ≡ Some l.place.node = sym none ∙ l.at in cc
 

@@ -12,12 +12,12 @@ use Rattle.odb_nodes.specs.declared.node.Content.TheVariants.{File, Dir, Link}
 use Rattle.odb_nodes.specs.declared.change.Change.{Change}
 use Rattle.odb_nodes.specs.declared.change.Change.TheVariants.{PutFile, MakeDir, PutLink, Rename, Append, Remove, SetTime}
 
--- the node of the directory that a path lies in
+-- the node of the directory that a path is in
 abbrev pub parent_node : Tree → Path → Option Node
 parent_node tree path = option_and_then (node_at tree) (parent_of path)
 
--- The path lies in a directory, which no link leads to: each node of a tree lies in directories alone.
--- The root lies in none, so it is never put and never removed.
+-- The path is in a directory, without a link on its way: each node of a tree is below directories alone. The root is in none,
+-- so it is never put and never removed.
 abbrev pub lies_in_directory : Tree → Path → Bool
 lies_in_directory tree path = is_directory (parent_node tree path)
 
@@ -25,8 +25,8 @@ abbrev pub is_nil : List Name → Bool
 is_nil [] = true
 is_nil (name ∷ names) = false
 
--- Whether what stands at `from` can be moved to `to`: a directory where nothing stands, and not into itself; a
--- file or a link, which has nothing below it, where no directory stands.
+-- Whether the node at `from` can be moved to `to`: a directory to where nothing is, and not into itself; a file or a link,
+-- which has nothing below it, to where no directory is.
 abbrev pub can_move : Tree → Path → Path → Option Node → Bool
 can_move tree from to None = false
 can_move tree from to (Some node) = if is_directory_content node.content then is_none (node_at tree to) && not (starts_with same_name to from) else not (is_directory (node_at tree to))
@@ -44,9 +44,9 @@ abbrev pub is_file : Option Node → Bool
 is_file None = false
 is_file (Some node) = is_file_content node.content
 
--- Whether a change is possible. A file or a link is put where no directory stands, a directory is made where nothing
--- stands, what is renamed can be moved, bytes are appended where the path leads to a file, links followed, what is
--- removed is there and has no names in it, and a time is set where a file stands.
+-- Whether a change is possible. A file or a link is put where no directory is, a directory is made where nothing is, what is
+-- renamed can be moved, bytes are appended to the file that the path leads to, following links, what is removed exists and
+-- has no names in it, and a time is set on a file.
 unfoldable pub is_possible_in : Tree → Change → Bool
 is_possible_in tree (PutFile path time bytes) = lies_in_directory tree path && not (is_directory (node_at tree path))
 is_possible_in tree (MakeDir path dev) = lies_in_directory tree path && is_none (node_at tree path)
@@ -79,7 +79,7 @@ abbrev pub put_over : Tree → Path → Content → Node → Content → Node
 put_over tree path content node (File bytes time) = record node { content = content }
 put_over tree path content node old = new_node tree path content
 
--- the node of a file that is put at a path: a file that stands there keeps its node, else it is a new one
+-- the node of a file that is put at a path: a file that is already there keeps its node, else it is a new one
 abbrev pub put_node : Tree → Path → Content → Option Node → Node
 put_node tree path content None = new_node tree path content
 put_node tree path content (Some node) = put_over tree path content node node.content
@@ -88,18 +88,17 @@ abbrev pub link_over : Tree → Path → Path → Node → Content → Node
 link_over tree path target node (Link old) = record node { content = Link target }
 link_over tree path target node old = new_node tree path (Link target)
 
--- the node of a link that is put at a path: a link that stands there keeps its node, else it is a new one
+-- the node of a link that is put at a path: a link that is already there keeps its node, else it is a new one
 abbrev pub link_node : Tree → Path → Path → Option Node → Node
 link_node tree path target None = new_node tree path (Link target)
 link_node tree path target (Some node) = link_over tree path target node node.content
 
--- Where a node stands after a move of what is at `from` and below it: that part stands at `to`, and nothing else
--- stays there.
+-- Where a node is after a move of what is at `from` and below it: that part is at `to` then, and what else was there is gone.
 abbrev pub moved_entry : Path → Path → Path × Node → Option (Path × Node)
 moved_entry from to entry =
     if starts_with same_name entry.0 from then Some (to ++ drop (length from) entry.0, entry.1) else (if starts_with same_name entry.0 to then None else Some entry)
 
--- the tree in which what stood at `from` and below it stands at `to`, each node as it was
+-- the tree after what is at `from` and below it moved to `to`, each node as it was
 unfoldable pub with_moved : Tree → Path → Path → Tree
 with_moved tree from to = tree_of_entries (filter_map (moved_entry from to) (entries_of tree))
 
@@ -120,7 +119,7 @@ timed time (File bytes old) = File bytes time
 timed time Dir = Dir
 timed time (Link target) = Link target
 
--- the tree with another time at the file that stands at a path
+-- the tree with another time at the file at a path
 abbrev pub with_time : Tree → Path → ℕ → Option Node → Tree
 with_time tree path time None = tree
 with_time tree path time (Some node) = with_node tree path (record node { content = timed time node.content })

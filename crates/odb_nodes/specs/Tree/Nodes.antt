@@ -1,4 +1,4 @@
--- The laws of what stands at a path: trees are the same where each path has the same node.
+-- The laws of what is at a path: trees are the same if each path has the same node.
 use Rattle.std.specs.Prelude.{◌≡◌, List, Some, None, map, refl, cond}
 use Rattle.std.proofs.Common.{ap, T}
 use Rattle.std.specs.FinMap as finite
@@ -26,7 +26,7 @@ pub node_at-tree_of_entries : (es : List (Path × Node)) (q : Path) → node_at 
 unfolding node_at tree_of_entries
 node_at-tree_of_entries es q = get-from_entries path_order es q
 
--- the nodes with their paths, in the order of these
+-- the nodes with their paths, in the order of the paths
 pub entries_of : Tree → List (Path × Node)
 entries_of t = finite.entries t.nodes
 

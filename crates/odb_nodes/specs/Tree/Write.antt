@@ -1,4 +1,4 @@
--- What a call that writes makes of a tree: its change, or why it is refused.
+-- What a call that writes does to a tree: its change, or why it is refused.
 use Rattle.std.specs.Prelude.{ℕ, ◌++◌, true, List, [], length, drop, Option, Some, None, Result, Ok, Err, if◌then◌else◌}
 use Rattle.std.specs.Result.{result_ok}
 use Rattle.odb_base.specs.Path.{Path, parent_of}
@@ -29,7 +29,7 @@ abbrev pub from_followed : {A : Type 0} → Result A following.Refusal → Resul
 from_followed (Ok found) = Ok found
 from_followed (Err refusal) = Err (refusal_from refusal)
 
--- what comes after a step, unless that is refused
+-- the next step, unless the first is refused
 abbrev pub and_then : {A B : Type 0} → (A → Result B Refusal) → Result A Refusal → Result B Refusal
 and_then next (Ok found) = next found
 and_then next (Err refusal) = Err refusal
@@ -42,8 +42,7 @@ abbrev pub spot_below : Tree → Path → Option Path → Result Path Refusal
 spot_below tree path None = Ok []
 spot_below tree path (Some front) = and_then (in_directory (drop (length front) path)) (from_followed (followed tree true front))
 
--- Where the last name of a path stands: links on its way are followed, but not one in the last place.
--- The root stands at the root.
+-- Where the last name of a path is: links on its way are followed, but not one in the last place. The root is at the root.
 unfoldable pub spot : Tree → Path → Result Path Refusal
 spot tree path = spot_below tree path (parent_of path)
 
@@ -51,7 +50,7 @@ abbrev pub vacant_spot : Path → Option Node → Result Path Refusal
 vacant_spot place None = Ok place
 vacant_spot place (Some node) = Err Exists
 
--- the spot of a path where nothing stands
+-- the spot of a path where nothing is
 unfoldable pub vacant : Tree → Path → Result Path Refusal
 vacant tree path = and_then (λ place. vacant_spot place (node_at tree place)) (spot tree path)
 
@@ -63,7 +62,7 @@ movable_spot place (Some node) = if is_directory_content node.content then Err W
 unfoldable pub movable : Tree → Path → Result Path Refusal
 movable tree path = and_then (λ place. movable_spot place (node_at tree place)) (spot tree path)
 
--- the spot of a path where no directory stands
+-- the spot of a path where no directory is
 unfoldable pub replaceable : Tree → Path → Result Path Refusal
 replaceable tree path = and_then (λ place. if is_directory (node_at tree place) then Err WrongKind else Ok place) (spot tree path)
 
@@ -80,13 +79,13 @@ removable tree path = and_then (λ place. removable_spot tree place (node_at tre
 abbrev pub file_path : Place → Result Path Refusal
 file_path place = if is_file_content place.node.content then Ok place.path else Err WrongKind
 
--- where the file is that a path leads to, links followed
+-- where the file is that a path leads to, following links
 unfoldable pub file_spot : Tree → Path → Result Path Refusal
 file_spot tree path = and_then file_path (from_followed (followed tree true path))
 
 -- ---- the change of each call
 
--- a directory is made on the device of the one that it lies in
+-- a directory is made on the device of its parent
 unfoldable pub change_of_make_dir : Tree → Path → Result Change Refusal
 change_of_make_dir tree path = and_then (λ place. Ok (MakeDir place (device_of (parent_node tree place)))) (vacant tree path)
 
@@ -103,7 +102,7 @@ change_of_rename tree from to = and_then (λ source. and_then (λ target. Ok (Re
 unfoldable pub change_of_remove : Tree → Path → Result Change Refusal
 change_of_remove tree path = and_then (λ place. Ok (Remove place)) (removable tree path)
 
--- ---- what a call leaves
+-- ---- the state after a call
 
 -- whether a call is done, by its change
 abbrev pub done : Result Change Refusal → Result (Unit {0}) Refusal
@@ -124,7 +123,7 @@ abbrev pub written : State → Option Change → State
 written state None = state
 written state (Some change) = after_write state change
 
--- the same where the disk may not tell its state, by what its tree makes of the call
+-- the state after a call on a disk that may not report its state; the call's change depends on its tree
 abbrev pub written_as : (Tree → Result Change Refusal) → Option State → Option State
 written_as change_in None = None
 written_as change_in (Some state) = Some (written state (result_ok (change_in (tree_of state))))

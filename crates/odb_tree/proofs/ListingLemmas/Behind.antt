@@ -1,4 +1,4 @@
--- The first node behind a path, and what lies below an entry of a directory.
+-- The first node after a path, and what is below an entry of a directory.
 use Rattle.std.proofs.Common.{◌≡◌, ◌≢◌, ◌&&◌, Bool, true, false, cond, [], ◌∷◌, ◌++◌, length, drop, map, Option, Some}
 use Rattle.std.proofs.Common.{None, IsSome, is_some, T, refl, sym, ap, subst, ◌∙◌, append-nil, length-append, arith}
 use Rattle.std.specs.Ordering.{is_lt, is_gt, ordering_reverse}
@@ -81,7 +81,7 @@ behind-cons : (last : Path) (e : Path × Node) (es : Nodes) (b : Bool) → is_lt
 behind-cons last e es true is = ap (λ b. cond (b && true) (e ∷ behind last es) (behind last es)) is
 behind-cons last e es false is = ap (λ b. cond (b && true) (e ∷ behind last es) (behind last es)) is
 
--- all come behind what is before them
+-- all are after what is before them
 all_behind : (last : Path) (es : Nodes) → T (below_all path_cmp last es) → behind last es ≡ es
 all_behind last [] below = refl
 all_behind last (e ∷ es) below = behind-cons last e es true (of_test _ (first _ _ below)) ∙ ap (λ l. e ∷ l) (all_behind last es (second _ _ below))
@@ -108,7 +108,7 @@ some_either false n o some = some
 own_found : (e : Path × Node) (es : Nodes) → find path_cmp e.0 (e ∷ es) ≡ Some e.1
 own_found e es = ap (λ b. cond b (Some e.1) (find path_cmp e.0 es)) (own_path e.0)
 
--- ---- the first node behind a path
+-- ---- the first node after a path
 
 module _ (q p : Path) (n : Node) (more : Nodes) where
   pub first_later : (es : Nodes) → behind q es ≡ (p, n) ∷ more → path_cmp q p ≡ Less
@@ -133,7 +133,7 @@ module _ (q p : Path) (n : Node) (more : Nodes) where
         | false ↦ λ before. some_either _ _ _ (first_found es (sym (behind-cons q e es false before) ∙ is))
       ] refl
 
-  -- what comes behind the first node is what comes behind it in turn
+  -- what is after the first node is what is after it in turn
   pub behind_first : (es : Nodes) → T (is_sorted path_cmp es) → behind q es ≡ (p, n) ∷ more → behind p es ≡ more
   behind_first [] sorted is = absurd (cc)
   behind_first (e ∷ es) sorted is =
@@ -153,7 +153,7 @@ module _ (q p : Path) (n : Node) (more : Nodes) where
             behind-cons p e es false not_behind ∙ behind_first es (second _ _ sorted) so_on
       ] refl
 
--- ---- what lies below an entry of a directory
+-- ---- what is below an entry of a directory
 
 module _ (directory p last : Path) (below : starts_with same_name p directory ≡ true) (deeper : path_cmp directory p ≡ Less) where
   no_entry_below : (at : Path × Node) → path_cmp p at.0 ≡ Less → starts_with same_name at.0 p ≡ true → entry_in directory at ≡ None
@@ -172,7 +172,7 @@ module _ (directory p last : Path) (below : starts_with same_name p directory �
       apart q base is same = let both_are : Less ≡ Equal = sym is ∙ ap (path_cmp base) same ∙ tied_itself path_order base in cc
 
   module _ (rest : Path) (whole : last ≡ p ++ rest) (further : path_cmp p last ≡ Less) where
-    -- what stands up to the last path below an entry has no entry
+    -- what is there up to the last path below an entry has no entry
     pub passed : (es : Nodes) → entries_among directory (behind p es) ≡ entries_among directory (behind last es)
     passed [] = refl
     passed (e ∷ es) =
@@ -209,7 +209,7 @@ later_still last path to later begins = by_rest (drop (length path) to) (goes_be
     by_rest [] whole = ap (path_cmp last) (whole ∙ append-nil path) ∙ later
     by_rest (name ∷ names) whole = path_order.trans last path to later (ap (path_cmp path) whole ∙ before_rest path name names)
 
--- no entry comes behind a path that comes behind the directory and isn't in it
+-- no entry is after a path that is after the directory and isn't in it
 module _ (directory path : Path) (later : path_cmp directory path ≡ Less) (other : starts_with same_name path directory ≡ false) where
   pub no_entry_after : (at : Path × Node) → is_gt (path_cmp path at.0) ≡ false → entry_in directory at ≡ None
   no_entry_after at after = no_entry directory at (λ name is.

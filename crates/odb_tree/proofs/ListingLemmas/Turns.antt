@@ -37,7 +37,7 @@ none_listed t directory none empty = record {
 }
 
 module _ (t : Tree) (directory last : Path) (so_far : List Entry) (listed : IsListedTo t directory last so_far) (now : List Entry) where
-  -- what lies below the last entry is passed
+  -- what is below the last entry is passed
   pub passed_on : (path to : Path) → GoesTo t directory last path so_far now → starts_with same_name to path ≡ true → IsListedTo t directory to now
   passed_on path to went begins =
       let past = skipped directory path to went.below (under_before directory last path listed.below went.behind) begins (entries_of t) in
@@ -48,7 +48,7 @@ module _ (t : Tree) (directory last : Path) (so_far : List Entry) (listed : IsLi
 
 -- ---- a part of a listing, without a step aside
 
--- A listing that began behind a path: the entries so far, the path at which it may stop, and the nodes that are left.
+-- A listing that began after a path: the entries so far, the path at which it may stop, and the nodes that are left.
 pub record IsUnderWay (t : Tree) (directory from : Path) (old now : List Entry) (stop : Option Path) (left : Nodes) : Type 0 where
   pub at : Path
   pub left_is : left ≡ behind at (entries_of t)
@@ -118,7 +118,7 @@ module _ (t : Tree) (directory from : Path) (old now : List Entry) (stop : Optio
         let none : entries_among directory left ≡ [] = ap (entries_among directory) next ∙ ap (λ o. cons_option o (entries_among directory more)) here ∙ rest in
         sym (append-nil now) ∙ ap (λ xs. now ++ xs) (sym none) ∙ so_far.listed
 
--- ---- a path behind all that lies below another one
+-- ---- a path after all that is below another one
 
 name_before : (name : Name) → name_cmp name (name ++ 1 ∷ []) ≡ Less
 name_before [] = refl
@@ -135,7 +135,7 @@ last_name-push [] name = refl
 last_name-push (first ∷ []) name = refl
 last_name-push (first ∷ other ∷ path) name = last_name-push (other ∷ path) name
 
--- the name of the path with the byte 1 behind it comes behind all that lies below the path
+-- the path with the byte 1 added to its name is after all that is below the path
 pub all_before : (path front : Path) (name : Name) (end : Path) → parent_of path ≡ Some front → last_name path ≡ Some name → end ≡ front ++ (name ++ 1 ∷ []) ∷ [] → (rest : Path)
     → path_cmp (path ++ rest) end ≡ Less
 all_before path front name end front_is name_is end_is rest =

@@ -25,7 +25,7 @@ pub before_rest : (directory : Path) (name : Name) (names : Path) → path_cmp d
 before_rest [] name names = refl
 before_rest (step ∷ steps) name names = ap (λ o. ordering_then o (path_cmp steps (steps ++ name ∷ names))) (tied_itself nat_list_cmp_total step) ∙ before_rest steps name names
 
--- a directory comes before all that comes after what lies below it
+-- a directory is before all that is after what is below it
 before_all : (base rest p : Path) → path_cmp (base ++ rest) p ≡ Less → path_cmp base p ≡ Less
 before_all [] [] [] less = absurd (cc)
 before_all [] (x ∷ xs) [] less = absurd (cc)
@@ -54,7 +54,7 @@ pub none_from : (o : Option Node) → (is_some o ≡ true → ⊥) → o ≡ Non
 none_from None other = refl
 none_from (Some n) other = absurd (other refl)
 
--- where the first node behind a path lies elsewhere, none lies below the directory
+-- if the first node after a path is elsewhere, none is below the directory
 pub none_behind : (t : Tree) (base last p : Path) → begins last base ≡ true → path_cmp last p ≡ Less → ((q : Path) → path_cmp last q ≡ Less → IsSome (node_at t q) → is_gt (path_cmp p q) ≡ false)
     → begins p base ≡ false → NoneBehind t base last
 none_behind t base last p under behind least other q below later = none_from (node_at t q) (λ some.
@@ -92,7 +92,7 @@ among_at (x ∷ xs) (suc i) d h is = or_right _ _ (among_at xs i d (omega arith)
 
 -- ---- the loop that gathers the paths below a directory
 
--- those up to a path are gathered, and the others come behind it
+-- those up to a path are gathered, and the others are after it
 pub record AreSoFar (t : Tree) (base last : Path) (paths : List Path) : Type 0 where
   pub under : begins last base ≡ true
   pub below : (q : Path) → is_among q paths ≡ true → begins q base ≡ true
@@ -121,7 +121,7 @@ so_far_next t base last p paths so next = record {
   ];
 }
 
--- how many entries come behind a path
+-- the number of entries after a path
 pub behind_count : List (Path × Node) → Path → ℕ
 behind_count [] last = 0
 behind_count (e ∷ es) last = cond (is_lt (path_cmp last e.0)) 1 0 + behind_count es last
@@ -146,7 +146,7 @@ module _ (last p : Path) (later : path_cmp last p ≡ Less) where
       let one = cond_le (is_lt (path_cmp p e.0)) (is_lt (path_cmp last e.0)) (λ lt. ap is_lt (path_order.trans last p e.0 later (lt_less _ lt))) in
       omega arith
 
-  -- fewer come behind a later one
+  -- fewer are after a later one
   pub fewer_behind : (es : List (Path × Node)) → IsSome (lookup (is_at (path_cmp p)) es) → behind_count es p < behind_count es last
   unfolding behind_count
   fewer_behind [] some = absurd (false≢true some)

@@ -1,4 +1,4 @@
--- That the copies and what is taken out make the whole move.
+-- The copies and what is removed make the whole move.
 use Rattle.std.proofs.Common.{◌≡◌, ◌≢◌, ◌⊎◌, ℕ, suc, ◌+◌, ◌<◌, true, false, List, [], ◌∷◌, ◌++◌, length, get_or, drop, map}
 use Rattle.std.proofs.Common.{Option, Some, None, IsSome, is_some, refl, sym, ap, ◌∙◌, subst, inl, inr, add-one, drop-cons}
 use Rattle.std.specs.Ordering.{eq_by_cmp}
@@ -63,7 +63,7 @@ drop_all (x ∷ xs) = drop_all xs
 pub all_copied : (u : Tree) (ss ds : List Path) (i : ℕ) → i ≡ length ss → with_copies u (drop i ss) (drop i ds) ≡ u
 all_copied u ss ds i end = ap (λ xs. with_copies u xs (drop i ds)) (ap (λ k. drop k ss) end ∙ drop_all ss)
 
--- ---- what is taken out
+-- ---- what is removed
 
 pub without_all_other : (t : Tree) (ps : List Path) (q : Path) → is_among q ps ≡ false → node_at (without_all t ps) q ≡ node_at t q
 without_all_other t [] q other = refl
@@ -96,7 +96,7 @@ module _ (from to : Path) (apart_to : (q : Path) → begins q from ≡ true → 
   target_below : (s : Path) → begins (moved_path from to s) to ≡ true
   target_below s = begins-append to (drop (length from) s)
 
-  -- what lies below the source isn't a target
+  -- what is below the source isn't a target
   no_target : (q s : Path) → begins q from ≡ true → q ≢ moved_path from to s
   no_target q s below same = false≢true (sym (apart_to q below) ∙ ap (λ r. begins r to) same ∙ target_below s)
 
@@ -127,7 +127,7 @@ module _ (from to : Path) (apart_to : (q : Path) → begins q from ≡ true → 
   unfolding origin
   moved-origin q is = ap (λ k. to ++ k) (behind-append from (drop (length to) q)) ∙ sym (goes_beyond q to is)
 
-  -- a path is a target where its origin is a source
+  -- a path is a target if its origin is a source
   target_among : (ss : List Path) (q : Path) → begins q to ≡ true → is_among (origin q) ss ≡ true → is_among q (map (moved_path from to) ss) ≡ true
   target_among [] q below is = absurd (false≢true is)
   target_among (s ∷ ss) q below is =
@@ -192,7 +192,7 @@ module _ (from to : Path) (apart_to : (q : Path) → begins q from ≡ true → 
               | false ↦ λ none. without_all_other both sources q none ∙ elsewhere q other ∙ none_from (node_at t q) (λ some. false≢true (sym none ∙ are.all q source some))
             ] refl
 
-    -- what was copied is taken back
+    -- what was copied is removed again
     pub taken_back : (u : Tree) → ((q : Path) → is_among q targets ≡ false → node_at u q ≡ node_at t q) → without_all u targets ≡ t
     taken_back u others = same_tree _ _ (λ q.
         elim (is_among q targets) as (λ b. is_among q targets ≡ b → node_at (without_all u targets) q ≡ node_at t q) [

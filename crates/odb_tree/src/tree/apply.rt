@@ -1,4 +1,4 @@
-//! Changes that are made in a tree: each is tested by `is_possible` first, and applied where it is possible.
+//! Changes of a tree: each is tested by `is_possible` first, and applied if it is possible.
 use super::Tree;
 use crate::node_map::{free_number, move_node, put_time, take};
 use crate::node_moves::move_below;
@@ -11,7 +11,7 @@ impl Tree {
     ghost use Rattle.odb_nodes.specs.Tree.{node_at, with_node, is_directory};
     ghost use Rattle.odb_nodes.specs.Tree.Change.{changed, is_possible_in, lies_in_directory, new_node};
 
-    /// Makes a change that another program makes. A refused one changes nothing.
+    /// Makes a change of another program. On error nothing changes.
     pub fn change(&mut self, alloc: Global, change: &Change) -> Result<(), Impossible>
         ensures made { OnOk result (self.new ≡ changed self.old change.now) }
         ensures possible { OnOk result (is_possible_in self.old change.now ≡ true) }
@@ -25,7 +25,7 @@ impl Tree {
         Ok(())
     }
 
-    /// Makes a change that is possible. A refused call changes nothing.
+    /// Makes a change that is possible. On error nothing changes.
     fn apply(&mut self, alloc: Global, change: &Change) -> Result<(), NoMemory>
         requires possible { is_possible_in self.old change.now ≡ true }
         ensures made { OnOk result (self.new ≡ changed self.old change.now) }
@@ -47,7 +47,7 @@ impl Tree {
         }
     }
 
-    /// Puts a file. A refused call changes nothing.
+    /// Puts a file. On error nothing changes.
     pub(super) fn apply_put_file(
         &mut self,
         alloc: Global,
@@ -68,7 +68,7 @@ impl Tree {
         self.put_new_node(alloc, path, content)
     }
 
-    /// Makes a directory. A refused call changes nothing.
+    /// Makes a directory. On error nothing changes.
     pub(super) fn apply_make_dir(
         &mut self,
         alloc: Global,
@@ -82,7 +82,7 @@ impl Tree {
         self.put_new(alloc, path, dev, Content::Dir)
     }
 
-    /// Puts a link. A refused call changes nothing.
+    /// Puts a link. On error nothing changes.
     fn apply_put_link(
         &mut self,
         alloc: Global,
@@ -102,8 +102,7 @@ impl Tree {
         self.put_new_node(alloc, path, content)
     }
 
-    /// Puts a new node where no directory stands, on the device of the directory that it lies in. A refused call
-    /// changes nothing.
+    /// Puts a new node where no directory is, on the device of its parent. On error nothing changes.
     fn put_new_node(
         &mut self,
         alloc: Global,
@@ -119,7 +118,7 @@ impl Tree {
         self.put_new(alloc, path, dev, content)
     }
 
-    /// Moves what stands at a path. A refused call changes nothing.
+    /// Moves what is at a path. On error nothing changes.
     pub(super) fn apply_rename(
         &mut self,
         alloc: Global,
@@ -139,7 +138,7 @@ impl Tree {
         self.move_leaf(alloc, from, to)
     }
 
-    /// Moves a directory and what lies below it, to where nothing stands. A refused call changes nothing.
+    /// Moves a directory and what is below it, to where nothing is. On error nothing changes.
     fn move_directory(
         &mut self,
         alloc: Global,
@@ -154,7 +153,7 @@ impl Tree {
         move_below(alloc, &mut self.nodes, from, to)
     }
 
-    /// Moves a file or a link to another path. A refused call changes nothing.
+    /// Moves a file or a link to another path. On error nothing changes.
     fn move_leaf(&mut self, alloc: Global, from: &PathText, to: &PathText) -> Result<(), NoMemory>
         requires possible { is_possible_in self.old (Change.Rename from.now to.now) ≡ true }
         requires leaf { is_directory (node_at self.old from.now) ≡ false }
@@ -167,7 +166,7 @@ impl Tree {
         Ok(())
     }
 
-    /// Adds bytes to the file that a path leads to. A refused call changes nothing.
+    /// Appends bytes to the file that a path leads to. On error nothing changes.
     pub(super) fn apply_append(
         &mut self,
         alloc: Global,
@@ -182,7 +181,7 @@ impl Tree {
         self.append_at(&place, bytes)
     }
 
-    /// Removes what stands at a path. A refused call changes nothing.
+    /// Removes what is at a path. On error nothing changes.
     pub(super) fn apply_remove(&mut self, path: &PathText) -> Result<(), NoMemory>
         requires possible { is_possible_in self.old (Change.Remove path.now) ≡ true }
         ensures made { OnOk result (self.new ≡ changed self.old (Change.Remove path.now)) }

@@ -1,11 +1,11 @@
-//! Where a path leads in a tree, links followed.
+//! Where a path leads in a tree, following links.
 use super::{MAX_LINKS, Tree};
 use crate::node_map::path_before;
 use crate::{ByteList, NoMemory, PathText};
 use odb_nodes::{Content, DiskError, Meta, Node};
 use std::alloc::Global;
 
-/// Where one pass along the names of a path comes.
+/// Where one pass along the names of a path ends.
 #[derive(Drop)]
 pub(super) enum Way<'a> {
     Reached(&'a Node),
@@ -23,7 +23,7 @@ impl Tree {
     ghost use Rattle.odb_nodes.specs.TreeCalls.{ComesOnward, Leads};
     ghost use Rattle.odb_tree.specs.PassCalls.{Comes, onward_of};
 
-    /// What a look at a path gives. A link in the last place is followed where `follow` is set.
+    /// Stats a path. A link in the last place is followed if `follow` is set.
     pub fn look(&self, alloc: Global, path: &PathText, follow: bool) -> Result<Meta, DiskError>
         ensures answer { Answers result (looked self.now path.now follow) }
         ensures never_fails { result ≢ Err DiskError.Failed }
@@ -32,7 +32,7 @@ impl Tree {
         Ok(node.meta())
     }
 
-    /// The bytes and the time of a file, links followed.
+    /// The bytes and the time of a file, following links.
     pub fn read(&self, alloc: Global, path: &PathText) -> Result<(ByteList, u64), DiskError>
         ensures answer { Answers result (read_of self.now path.now) }
         ensures never_fails { result ≢ Err DiskError.Failed }
@@ -53,7 +53,7 @@ impl Tree {
         Ok(ways)
     }
 
-    /// Adds the paths along which a path is followed with so many links left.
+    /// Adds the paths along which a path is followed, with `links` more links to follow.
     fn add_ways(
         &self,
         alloc: Global,
@@ -84,7 +84,7 @@ impl Tree {
         }
     }
 
-    /// The node that a path leads to, with so many links left to follow.
+    /// The node that a path leads to, following at most `links` links.
     fn follow<'a>(
         &'a self,
         alloc: Global,
@@ -105,7 +105,7 @@ impl Tree {
         }
     }
 
-    /// Where one pass along the names of a path comes: to its node, or to the first link that has to be followed.
+    /// Passes along the names of a path once: to its node, or to the first link that has to be followed.
     pub(super) fn pass<'a>(
         &'a self,
         alloc: Global,
@@ -123,8 +123,8 @@ impl Tree {
         }
     }
 
-    /// Where the first link on the way of a path leads at which nothing stands. Each node lies in directories,
-    /// so only the last node on the way can be a file or a link. What comes just before the path begins with it.
+    /// Where the first link on the way of a missing path leads. Each node is below directories alone, so only the
+    /// last node on the way can be a file or a link. What is just before the path begins with it.
     fn onward_by_link(&self, alloc: Global, path: &PathText) -> Result<PathText, DiskError>
         requires absent { node_at self.now path.now ≡ None }
         requires tree { IsTree self.now }

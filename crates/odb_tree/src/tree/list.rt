@@ -19,7 +19,7 @@ use std::collections::BTreeMap;
 use std::ops::Bound;
 
 impl Tree {
-    /// The entries of the directory that a path leads to, links followed, in the order of the bytes of their names.
+    /// The entries of the directory that a path leads to, following links, in the order of the bytes of their names.
     pub fn entries(&self, alloc: Global, path: &PathText) -> Result<EntryQueue, DiskError>
         ensures answer { Answers result (opened self.now path.now) }
         ensures never_fails { result ≢ Err DiskError.Failed }
@@ -32,7 +32,7 @@ impl Tree {
     }
 }
 
-/// The entries of a directory. What lies below one of them stands right behind it, and is passed in one step.
+/// The entries of a directory. What is below one of them comes right after it, and is passed in one step.
 fn entries_below(
     alloc: Global,
     nodes: &BTreeMap<PathText, Node>,
@@ -48,7 +48,7 @@ fn entries_below(
     Ok(entries)
 }
 
-/// Adds the entries of a directory behind a path, up to the first that has a node below it, and gives its path.
+/// Adds the entries of a directory after a path, up to the first that has a node below it, and returns its path.
 fn add_entries<'a>(
     alloc: Global,
     entries: &mut EntryQueue,
@@ -75,14 +75,14 @@ fn add_entries<'a>(
     Ok(None)
 }
 
-/// The path of a node, if others may lie below it.
+/// The path of a node, if others may be below it.
 fn if_directory<'a>(path: &'a PathText, node: &Node) -> Option<&'a PathText>
     ensures directory { IfSome (option_copied result) (λ directory. directory ≡ path.now) }
 {
     if node.is_dir() { Some(path) } else { None }
 }
 
-/// The last path of the nodes that lie below a node, or its own where none does.
+/// The last path of the nodes below a node, or its own if there are none.
 fn last_below<'a>(
     alloc: Global,
     nodes: &'a BTreeMap<PathText, Node>,
@@ -101,8 +101,8 @@ fn last_below<'a>(
     }
 }
 
-/// A path that comes behind all that lies below another one: a name has no NUL, so none comes between a name and
-/// itself with the byte 1 behind it but those that begin so. The root has no such path.
+/// A path after all that is below another one: a name has no NUL, so only what begins with a name comes between it
+/// and the name with the byte 1 added. The root has no such path.
 fn end_of(alloc: Global, path: &PathText) -> Result<Option<PathText>, NoMemory>
     ensures end { IfOk result (λ end. IfSome end (λ end. (rest : Path) → path_cmp (path.now ++ rest) end ≡ Less)) }
 {
@@ -120,7 +120,7 @@ fn end_of(alloc: Global, path: &PathText) -> Result<Option<PathText>, NoMemory>
     }
 }
 
-/// A name with the byte 1 behind it.
+/// A name with the byte 1 after it.
 fn name_behind(alloc: Global, name: &str) -> Result<String, NoMemory>
     ensures behind { IfOk result (λ behind. string_bytes behind ≡ name.now ++ 1 ∷ []) }
 {

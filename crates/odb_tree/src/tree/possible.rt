@@ -37,7 +37,7 @@ impl Tree {
         }
     }
 
-    /// Whether what stands at a path can be moved to another one.
+    /// Whether what is at a path can be moved to another one.
     #[tactic(auto, unfolding(odb_nodes::specs::Tree::Change::is_possible_in))]
     fn can_rename(&self, alloc: Global, from: &PathText, to: &PathText) -> Result<bool, NoMemory>
         ensures can { IfOk result (λ can. can ≡ is_possible_in self.now (Change.Rename from.now to.now)) }
@@ -48,7 +48,7 @@ impl Tree {
         Ok(self.can_move(from, to))
     }
 
-    /// Whether what stands at a path can be moved to another one, which lies in a directory.
+    /// Whether what is at a path can be moved to another one, which is in a directory.
     fn can_move(&self, from: &PathText, to: &PathText) -> bool
         ensures can { result ≡ can_move self.now from.now to.now (node_at self.now from.now) }
     {
@@ -59,7 +59,7 @@ impl Tree {
         }
     }
 
-    /// Whether a path leads to a file, links followed.
+    /// Whether a path leads to a file, following links.
     fn leads_to_file(&self, alloc: Global, path: &PathText) -> Result<bool, NoMemory>
         ensures leads { IfOk result (λ leads. leads ≡ is_file_place (followed self.now true path.now)) }
     {
@@ -72,7 +72,7 @@ impl Tree {
         }
     }
 
-    /// Where the file is that a path leads to, links followed.
+    /// Where the file is that a path leads to, following links.
     pub(super) fn file_led_to(&self, alloc: Global, path: &PathText) -> Result<PathText, NoMemory>
         requires leads { is_file_place (followed self.now true path.now) ≡ true }
         ensures place { IfOk result (λ place. file_spot self.now path.now ≡ Ok place) }
@@ -86,7 +86,7 @@ impl Tree {
         }
     }
 
-    /// Whether a node stands at a path that has no names in it. The root is never removed.
+    /// Whether a node without names in it is at a path. The root is never removed.
     fn can_remove(&self, path: &PathText) -> bool
         ensures can { result ≡ is_possible_in self.now (Change.Remove path.now) }
     {

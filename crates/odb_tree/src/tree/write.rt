@@ -1,5 +1,5 @@
-//! The calls of a disk that write, on its tree. Each finds the spots of its paths and makes its change there; the function
-//! of its name with `change_of_` before it tells the change alone.
+//! The calls of a disk that write, on its tree. Each finds the spots of its paths and makes its change there; the
+//! function with `change_of_` before its name returns the change alone.
 ghost use Rattle.std.specs.Prelude.{◌≡◌, true, IfOk, OnOk, OnErr};
 ghost use Rattle.std.specs.Result.{result_ok};
 ghost use Rattle.odb_nodes.specs.Answers.{Tells};
@@ -20,7 +20,7 @@ impl Tree {
     ghost use Rattle.odb_nodes.specs.Tree.Write.{change_of_make_dir, change_of_new_file, change_of_append, change_of_rename, change_of_remove, done, changed_by};
     ghost use Rattle.odb_nodes.specs.TreeCalls.{path_of_place};
 
-    /// Makes a directory where nothing stands. A refused call changes nothing.
+    /// Makes a directory where nothing is. On error nothing changes.
     pub fn make_dir(&mut self, alloc: Global, path: &PathText) -> Result<(), DiskError>
         ensures told { Tells result (done (change_of_make_dir self.old path.now)) }
         ensures made { OnOk result (self.new ≡ changed_by self.old (result_ok (change_of_make_dir self.old path.now))) }
@@ -32,7 +32,7 @@ impl Tree {
         Ok(())
     }
 
-    /// Makes an empty file with time 0 where nothing stands. A refused call changes nothing.
+    /// Makes an empty file with time 0 where nothing is. On error nothing changes.
     pub fn new_file(&mut self, alloc: Global, path: &PathText) -> Result<(), DiskError>
         ensures told { Tells result (done (change_of_new_file self.old path.now)) }
         ensures made { OnOk result (self.new ≡ changed_by self.old (result_ok (change_of_new_file self.old path.now))) }
@@ -44,7 +44,7 @@ impl Tree {
         Ok(())
     }
 
-    /// Adds bytes at the end of a file, links followed. A refused call changes nothing.
+    /// Appends bytes to a file, following links. On error nothing changes.
     pub fn append(&mut self, alloc: Global, path: &PathText, bytes: &[u8]) -> Result<(), DiskError>
         ensures told { Tells result (done (change_of_append self.old path.now bytes.now)) }
         ensures made { OnOk result (self.new ≡ changed_by self.old (result_ok (change_of_append self.old path.now bytes.now))) }
@@ -56,7 +56,7 @@ impl Tree {
         Ok(())
     }
 
-    /// Moves a file or a link over nothing, a file or a link. A refused call changes nothing.
+    /// Moves a file or a link over nothing, a file or a link. On error nothing changes.
     pub fn rename(&mut self, alloc: Global, from: &PathText, to: &PathText) -> Result<(), DiskError>
         ensures told { Tells result (done (change_of_rename self.old from.now to.now)) }
         ensures made { OnOk result (self.new ≡ changed_by self.old (result_ok (change_of_rename self.old from.now to.now))) }
@@ -68,7 +68,7 @@ impl Tree {
         Ok(())
     }
 
-    /// Removes a file, a link or an empty directory. A refused call changes nothing.
+    /// Removes a file, a link or an empty directory. On error nothing changes.
     pub fn remove(&mut self, alloc: Global, path: &PathText) -> Result<(), DiskError>
         ensures told { Tells result (done (change_of_remove self.old path.now)) }
         ensures made { OnOk result (self.new ≡ changed_by self.old (result_ok (change_of_remove self.old path.now))) }
@@ -142,7 +142,7 @@ impl Tree {
         Ok(Change::Remove { path })
     }
 
-    /// Where the last name of a path stands, links on its way followed.
+    /// Where the last name of a path is, following links on its way.
     fn spot(&self, alloc: Global, path: &PathText) -> Result<PathText, DiskError>
         ensures told { Tells result (spot self.now path.now) }
     {
@@ -156,7 +156,7 @@ impl Tree {
         Ok(moved_path(alloc, path, &front, &place)?)
     }
 
-    /// The spot of a path where nothing stands.
+    /// The spot of a path where nothing is.
     fn vacant(&self, alloc: Global, path: &PathText) -> Result<PathText, DiskError>
         ensures told { Tells result (vacant self.now path.now) }
         ensures is_tree { OnOk result (IsTree self.now) }
@@ -180,7 +180,7 @@ impl Tree {
         }
     }
 
-    /// The spot of a path where no directory stands.
+    /// The spot of a path where no directory is.
     fn replaceable(&self, alloc: Global, path: &PathText) -> Result<PathText, DiskError>
         ensures told { Tells result (replaceable self.now path.now) }
         ensures is_tree { OnOk result (IsTree self.now) }
@@ -210,7 +210,7 @@ impl Tree {
         Ok(place)
     }
 
-    /// Where the file is that a path leads to, links followed.
+    /// Where the file is that a path leads to, following links.
     pub(super) fn file_spot(&self, alloc: Global, path: &PathText) -> Result<PathText, DiskError>
         ensures told { Tells result (file_spot self.now path.now) }
         ensures is_tree { OnOk result (IsTree self.now) }
@@ -222,7 +222,7 @@ impl Tree {
         }
     }
 
-    /// The path of the node that a path leads to, links followed, with so many links left to follow.
+    /// The path of the node that a path leads to, following at most `links` links.
     pub(super) fn place(
         &self,
         alloc: Global,

@@ -26,7 +26,7 @@ const CHUNKS: &[u8] = b"\
     \0\0\0\0\0\0\0\0\0\0\x04\x98\
     pack-a.idx\0pack-b.idx\0\0\0";
 
-/// A file of the two ids: what stands before its counts, and the parts behind them.
+/// A file of the two ids: the bytes before its counts, and the parts after them.
 fn with_counts(
     alloc: Global,
     front: &[u8],
@@ -45,12 +45,12 @@ fn with_counts(
     Ok(file)
 }
 
-/// An index with these offsets, its checks zeros, and so many zeros in place of hashes.
+/// An index with these offsets, its checks zeros, and zeros in place of hashes.
 fn index(alloc: Global, offsets: &[u8], hashes: &[u8]) -> Result<Vec<u8>, AllocError> {
     with_counts(alloc, SIGNATURE, 31, 131, &[IDS, &[0; 8], offsets, hashes])
 }
 
-/// A multi-pack index whose second id is in the first pack, with so many zeros in place of its hash.
+/// A multi-pack index whose second id is in the first pack, with zeros in place of its hash.
 fn packs(alloc: Global, hash: &[u8]) -> Result<Vec<u8>, AllocError> {
     let offsets = b"\0\0\0\x01\0\0\0\x17\0\0\0\0\0\0\0\x0c";
     with_counts(alloc, CHUNKS, 31, 131, &[IDS, offsets, hash])

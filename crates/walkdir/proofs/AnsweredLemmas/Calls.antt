@@ -78,7 +78,7 @@ module _ {D : Type 0} (answered : D → DiskAsk → DiskAnswer → D → Type 0)
         refl,
       ) (leads_nowhere answered new)
 
-  -- a place that a look told, by the names that the code has
+  -- a place that a stat reported, by the names that the code has
   pub look_known : (first : D) (depth : ℕ) (path at : Path) (old new : D) (meta : Meta) (place : Place) → Leads answered first old
       → LooksBy answered depth path true old (Ok meta) new → path ≡ at
       → place ≡ place_of meta → IsPlaceTold answered first new at place

@@ -1,4 +1,4 @@
--- What an entry that was handled was answered: looks told an error, or nothing more was asked, or a directory was entered.
+-- What a handled entry was answered: stats reported an error, or nothing more was asked, or a directory was entered.
 use Rattle.std.proofs.Common.{◌≡◌, ℕ, true, List, length, Option, Result, Ok, Err, sym, subst}
 use Rattle.std.specs.Prelude.{IfErr}
 use Rattle.odb_base.specs.Path.{Path}
@@ -19,7 +19,7 @@ use Rattle.walkdir.proofs.AnsweredLemmas.Steps.{entry_told, lost_item_told}
 use Rattle.walkdir.proofs.RefusedLemmas.{given_at, looked_beside, lost_item_at}
 
 module _ {D : Type 0} (answered : D → DiskAsk → DiskAnswer → D → Type 0) where
-  -- looks told an error of an entry that lies in the innermost directory
+  -- stats reported an error of an entry that is in the innermost directory
   pub tells_seen : (a b : D) (stack : List DirList) (path : Path) (depth : ℕ) (r : Result (Option DirEntry) Error) (error : Error) → r ≡ Err error
       → Leads answered a b → ((first : D) → IsStackTold answered first a stack → IsSeenIn answered first b error.inner)
       → IsOfEntry path depth error → depth ≡ length stack → LiesIn path stack → TellsOn answered a stack (handed r) b stack

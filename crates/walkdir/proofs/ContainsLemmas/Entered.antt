@@ -1,4 +1,4 @@
--- Laws of a directory that is entered: it comes before its contents, or after them.
+-- Laws of a directory that is entered: it is given before its contents, or after them.
 use Rattle.std.proofs.Common.{◌≡◌, ℕ, Bool, true, false, ◌&&◌, ◌||◌, not, cond, List, [], ◌∷◌, ◌++◌, Option, Some, None, Ok, refl, sym, ap, subst, ◌∙◌, append_assoc, append-nil}
 use Rattle.std.specs.Option.{option_to_list}
 use Rattle.odb_base.specs.Path.{Path}
@@ -31,7 +31,7 @@ pub shown_as : (b : Bool) (entry : DirEntry) → option_to_list (handed (Ok (giv
 shown_as true entry = refl
 shown_as false entry = refl
 
--- it comes after its contents
+-- it is given after its contents
 pub entered_first : (state : Option State) (old new : Progress) (entry : DirEntry) (place : Option Place) (path : Path) (depth : ℕ)
     → path ≡ entry.path → depth ≡ entry.depth
     → old.options.contents_first ≡ true → is_dir entry ≡ true → PushesDirectory state old path depth place (Some entry) new
@@ -53,7 +53,7 @@ entered_first (Some s) old new entry place path depth same_path same_depth first
           ++ pushed.others) after);
     }
 
--- it comes before them
+-- it is given before them
 pub entered_now : (state : Option State) (old new : Progress) (entry : DirEntry) (place : Option Place) (path : Path) (depth : ℕ)
     (given : Option DirEntry) → path ≡ entry.path
     → depth ≡ entry.depth → (old.options.contents_first && is_dir entry) ≡ false → given ≡ given_if (is_given old.options entry.depth) entry

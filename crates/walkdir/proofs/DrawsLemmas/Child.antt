@@ -1,4 +1,4 @@
--- A child is drawn from the innermost directory, or that is left.
+-- A child is drawn from the innermost directory, or the directory is left.
 use Rattle.std.proofs.Common.{◌≡◌, ℕ, ◌+◌, Bool, true, false, List, [], ◌∷◌, ◌++◌, length, map, Option, Some, None, Ok, Err, refl, sym, ap, subst, ◌∙◌, append_assoc}
 use Rattle.std.specs.Prelude.{if◌then◌else◌}
 use Rattle.std.specs.Option.{option_to_list}
@@ -66,7 +66,7 @@ module _ (old new : Progress) (list : DirList) (items : Items) (outer : List Dir
       (error_stands walk old.streams new.streams list items outer error rest (same before keeps) (more before keeps kept)
       (subst (λ s. StandsFor walk new.streams s rest) is stands))
 
-  -- from what was read of it before
+  -- from what was already read of it
   pub draws_held : (item : Option Item) → TakesHeld list.items item items → stream_in list.items ≡ None → new.streams ≡ old.streams
       → DrawsChild old item new
   draws_held None takes none streams = λ before keeps. (
@@ -158,7 +158,7 @@ given_shown : (b : Bool) (entry : DirEntry) → map {B = Item} Ok (option_to_lis
 given_shown true entry = refl
 given_shown false entry = refl
 
--- the entry of a directory that comes after its contents
+-- the entry of a directory that is given after its contents
 pub own_given : (options : Options) (after entry : Option DirEntry) (own : DirEntry) → after ≡ Some own
     → entry ≡ given_if (is_given options own.depth) own
     → map Ok (option_to_list entry) ≡ own_entry options after

@@ -1,4 +1,4 @@
--- What one call of a filtered walk gives and leaves, on a disk that tells its tree.
+-- What one call of a filtered walk gives and leaves, on a disk whose tree is known.
 use Rattle.std.proofs.Common.{◌≡◌, ℕ, Bool, true, false, List, [], ◌∷◌, ◌++◌, Option, Some, None, Ok, Err, refl, sym, subst, ◌∙◌}
 use Rattle.std.specs.Fn.{Mut, CalledAt}
 use Rattle.std.specs.Option.{option_to_list}
@@ -25,7 +25,7 @@ use Rattle.walkdir.specs.declared.iter.OnDisk.{OnDisk}
 
 module _ {D W : Type 0} (state : D → Option State) (streams : D → Streams) (faults : D → ℕ) (answered : D → DiskAsk → DiskAnswer → D → Type 0)
     (progress : W → Streams → Progress) where
-  -- what one call of a filtered walk leaves: where the rest is left of what is still to come, so is the item and the rest
+  -- one call of a filtered walk: if the filter leaves these items of the rest, it leaves the item and these of all
   pub record Leads {F : Type 0} (walk : Walking) (asked : F → DirEntry → Bool → F → Type 0) (told : State) (before : Streams) (s : OnDisk D W)
       (f : F) (item : Option Item) (t : OnDisk D W) (h : F) : Type 0 where
     pub tells : state t.disk.now ≡ Some told
@@ -69,7 +69,7 @@ module _ {D W : Type 0} (state : D → Option State) (streams : D → Streams) (
         above = subst (λ o. GivesEntered o old item new) tells step.above walk before tree of keeps lost above;
       }
 
-  -- a rejected entry is passed over, with what it contains where it was entered
+  -- a rejected entry is left out, with what it contains if it was entered
   passed_over : {F : Type 0} (b : Bool) (walk : Walking) (asked : F → DirEntry → Bool → F → Type 0) (before : Streams) (s m n : OnDisk D W)
       (entry : DirEntry) (last given : List Item) (f g h : F) → asked f entry false g
       → (b ≡ true → is_dir entry ≡ true)

@@ -1,4 +1,4 @@
--- Whether an entry is entered, and where it stands.
+-- Whether an entry is entered, and at which place it is.
 use Rattle.std.proofs.Common.{◌≡◌, ℕ, true, false, ◌&&◌, ◌||◌, cond, Option, Some, None, Result, Ok, Err, IfSome, sym, ap, subst, ◌∙◌}
 use Rattle.odb_base.specs.Path.{Path}
 use Rattle.odb_asks.specs.Ask.{error_of}
@@ -19,7 +19,7 @@ use Rattle.walkdir.specs.declared.stack.follow.Found.{Found}
 use Rattle.walkdir.proofs.HandlesLemmas.{passed_on}
 use Rattle.walkdir.proofs.HandlesLemmas.Followed.{looked_at}
 
--- ---- where a directory stands
+-- ---- the place of a directory
 
 refused_place : (entry : DirEntry) (error : Error) (told : Result Meta Refusal) → told_at entry.depth entry.path told ≡ Err error
     → told_place entry told ≡ Err error
@@ -33,7 +33,7 @@ wanted_told walk options entry same wanted =
     ap (λ b. cond b (told_place entry (looked walk.tree entry.path true)) (Ok None)) (ap (λ (o : Options). o.follow_links || o.same_file_system) same
     ∙ wanted)
 
--- the look at a directory fails
+-- the stat of a directory fails
 pub place_refused : (state : Option State) (options : Options) (found : Found) (depth : ℕ) (path : Path) (error : Error)
     → (options.follow_links || options.same_file_system) ≡ true
     → depth ≡ found.entry.depth → path ≡ found.entry.path

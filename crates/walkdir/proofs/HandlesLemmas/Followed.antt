@@ -1,4 +1,4 @@
--- What an entry is taken for: itself, or what stands behind a link that is followed.
+-- What an entry is taken for: itself, or the target of a link that is followed.
 use Rattle.std.proofs.Common.{◌≡◌, ℕ, ◌⊎◌, inl, inr, Bool, true, false, ◌&&◌, cond, List, [], ◌∷◌, map, reverse, Option, Some, None, Result, Ok, Err, IfSome, refl, sym, ap, subst, ◌∙◌}
 use Rattle.std.specs.Prelude.{find}
 use Rattle.std.specs.Option.{option_map}
@@ -74,7 +74,7 @@ follows_link : (walk : Walking) (options : Options) (entry : DirEntry) → walk.
 follows_link walk options entry same follow link =
     ap (λ (o : Options). o.follow_links && is_link entry) same ∙ ap (λ b. b && is_link entry) follow ∙ link
 
--- the look through a link fails
+-- the stat through a link fails
 pub follows_refused : (state : Option State) (options : Options) (above : List Ancestor) (entry : DirEntry) (depth : ℕ) (path : Path) (error : Error)
     → options.follow_links ≡ true
     → is_link entry ≡ true → depth ≡ entry.depth → path ≡ entry.path
@@ -123,7 +123,7 @@ follows_loop (Some s) options above entry depth path meta error follow link same
     looping more loops is (inl same) = inr (inr (is ∙ ap Err (sym same)))
     looping more loops is (inr lost) = inl lost
 
--- it is taken for what stands behind it
+-- it is taken for its target
 pub follows_found : (state : Option State) (options : Options) (above : List Ancestor) (entry : DirEntry) (depth : ℕ) (path : Path) (meta : Meta)
     → options.follow_links ≡ true → is_link entry ≡ true → depth ≡ entry.depth → path ≡ entry.path
     → IfSome state (λ s. Tells depth path (Ok meta) (told_at depth path (looked (tree_of s) path true))) → loop_at above meta ≡ None

@@ -28,7 +28,7 @@ use Rattle.walkdir.proofs.HandlesLemmas.Entered.{other_is}
 use Rattle.walkdir.proofs.HandlesLemmas.{not_lost}
 use Rattle.walkdir.proofs.HandlesLemmas.Followed.{not_followed, taken_same}
 
--- ---- which entries are looked at
+-- ---- which entries are statted
 
 pub link_looked_at : (options : Options) (entry : DirEntry) → (options.follow_links && is_link entry) ≡ true → is_looked_at options entry ≡ true
 link_looked_at options entry follow =
@@ -56,7 +56,7 @@ root_looked_at options entry root =
     or_third (options.follow_links && is_link entry) ((options.follow_links || options.same_file_system) && is_dir entry)
     (is_root_link entry && options.follow_root_links) root
 
--- an entry is looked at where what it is taken for is looked at
+-- an entry is statted if what it is taken for is statted
 taken_looked_at : (walk : Walking) (above : List Ancestor) (entry taken : DirEntry) → taken_for walk above entry ≡ Ok taken
     → is_looked_at walk.options taken ≡ true
     → is_looked_at walk.options entry ≡ true

@@ -48,14 +48,14 @@ ancestors_put [] list items outer = refl
 ancestors_put (first ∷ inner) list items outer =
     ap (λ (a : List Ancestor). (record { path = first.path; place = first.place }) ∷ a) (ancestors_put inner list items outer)
 
--- the directories stay where one has other contents
+-- the directories stay if one gets other contents
 pub puts_above : (old new : List DirList) (index : ℕ) (items : Items) → Puts old new index items → ancestors (reverse new) ≡ ancestors (reverse old)
 puts_above old new index items puts =
     ap (λ (l : List DirList). ancestors (reverse l)) puts.is ∙ ap ancestors (reversed_at puts.outer (record puts.list { items = items }) puts.inner)
     ∙ ancestors_put (reverse puts.inner) puts.list items (reverse puts.outer)
     ∙ sym (ap (λ (l : List DirList). ancestors (reverse l)) puts.was ∙ ap ancestors (reversed_at puts.outer puts.list puts.inner))
 
--- ---- the directory at an index has no stream any more
+-- ---- the directory at an index has no stream any longer
 
 pub closed_past : (outer : List DirList) (list : DirList) (inner lists : List DirList) (index : ℕ) → length outer ≡ index
     → lists ≡ outer ++ list ∷ inner
@@ -135,7 +135,7 @@ shallow_held options start lists first_open index list item items sound within a
           cc
     ] refl
 
--- what was read of a directory stands one deeper
+-- what was read of a directory is one deeper
 pub held_at : (options : Options) (start : Option Path) (lists : List DirList) (first_open index : ℕ) (list : DirList)
     → IsSound options start lists first_open
     → index < length lists → list ≡ get_or lists index list → AreAt list.path (index + 1) (held list.items)
@@ -168,7 +168,7 @@ given_depth : (b : Bool) (entry : DirEntry) (n : ℕ) → entry.depth ≡ n → 
 given_depth true entry n is = is
 given_depth false entry n is = tt
 
--- the entry of a directory that is left stands as deep as it did
+-- the entry of a directory that is left is as deep as it was
 pub left_depth : (options : Options) (start : Option Path) (old new : List DirList) (list : DirList) (first_open : ℕ) (entry : DirEntry)
     (result : Option DirEntry) (b : Bool)
     → IsSound options start old first_open → old ≡ new ++ list ∷ [] → list.after ≡ Some entry → result ≡ given_if b entry
@@ -190,7 +190,7 @@ given_own : (b : Bool) (entry : DirEntry) (outer : List DirList) → is_dir entr
 given_own true entry outer dir lies = (dir, lies)
 given_own false entry outer dir lies = tt
 
--- the entry of a directory that is left is a directory, and lies in the one that is innermost then
+-- the entry of a directory that is left is a directory, in the one that is innermost then
 pub left_own : (options : Options) (start : Option Path) (old new : List DirList) (list : DirList) (first_open : ℕ) (entry : DirEntry)
     (result : Option DirEntry) (b : Bool)
     → IsSound options start old first_open → old ≡ new ++ list ∷ [] → list.after ≡ Some entry → result ≡ given_if b entry
@@ -201,7 +201,7 @@ left_own options start old new list first_open entry result b sound was is given
     subst (λ (o : Option DirEntry). IfSome o (λ e. (is_dir e ≡ true) × LiesIn e.path (reverse new))) (sym given)
     (given_own b entry (reverse new) own.1 (subst (λ (o : Option DirEntry). IfSome o (λ e. LiesIn e.path (reverse new))) is nested.1))
 
--- an element is what stands at its index
+-- an element is the one at its index
 pub one_at : (lists : List DirList) (index : ℕ) (a b : DirList) → index < length lists → a ≡ get_or lists index a → b ≡ get_or lists index b → a ≡ b
 one_at lists index a b within first second =
     first ∙ ap (λ l. get_or l index a) (cut_at lists index b within second) ∙ ap (λ n. get_or (take index lists ++ b ∷ drop (suc index) lists) n a)

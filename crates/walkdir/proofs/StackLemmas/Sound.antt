@@ -1,4 +1,4 @@
--- What always holds of a stack, also where one directory is put on it, taken off, or has other contents.
+-- What always holds of a stack, also after one directory is put on it, taken off, or gets other contents.
 use Rattle.std.proofs.Common.{◌≡◌, ℕ, ◌+◌, ◌<◌, ◌≤◌, min, List, [], ◌∷◌, ◌++◌, length, reverse, take, Option, Some, None, IfSome, sym, ap, subst, ◌∙◌, arith, length-append}
 use Rattle.std.specs.Prelude.{Bool, true, false, if◌then◌else◌}
 use lib.ListN.{length-reverse}

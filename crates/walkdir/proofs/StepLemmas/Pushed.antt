@@ -57,7 +57,7 @@ goes_pushed old new list before now same is opens room bounded costs unskipped =
           (length old.stack)) (sym is) (omega arith));
     }
 
--- a directory was opened, and nothing came of it
+-- a directory was opened, but isn't put on the stack
 pub goes_failed : (old new : Progress) (count before now : ℕ) → Same old new → new.stack ≡ old.stack → new.streams.open_dirs ≡ old.streams.open_dirs
     → new.streams.peak ≤ max old.streams.peak (open_count old.streams + 1) → length (own_streams old.stack) + 1 ≤ old.options.max_open
     → Costs count before now
@@ -131,7 +131,7 @@ goes_popped old new list at same was closed =
       work = λ streams k. let le = work_popped old new list same was closed streams k in omega arith;
     }
 
--- ---- a directory that is entered where room was made
+-- ---- a directory that is entered after room was made
 
 pub goes_more : (a b : Progress) (x y given less more : ℕ) → less ≤ more → GoesOn a x given less b y → GoesOn a x given more b y
 goes_more a b x y given less more le goes = record {

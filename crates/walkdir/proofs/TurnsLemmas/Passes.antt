@@ -1,4 +1,4 @@
--- Turns that gave nothing so far, and the item of a step behind them.
+-- Turns that gave nothing so far, and the item of a step after them.
 use Rattle.std.proofs.Common.{◌≡◌, ℕ, ◌<◌, ◌≤◌, true, false, [], Option, Some, None, Err, refl, sym, ap, subst, ◌∙◌, arith}
 use Rattle.odb_base.specs.Path.{Path}
 use Rattle.odb_asks.specs.Streams.{Streams}
@@ -54,7 +54,7 @@ lost_entered : (state : Option State) (old new : Progress) (error : Error) → i
 lost_entered None old new error is = tt
 lost_entered (Some s) old new error is = λ walk before tree of keeps lost entered. absurd (let no : true ≡ false = sym is ∙ lost in cc)
 
--- only the mark of an entered directory goes
+-- only the mark of an entered directory is removed
 pub passes_none : (state : Option State) (old : Progress) → Passes state old (record old { entered = false })
 passes_none state old =
     let new : Progress = record old { entered = false } in

@@ -24,7 +24,7 @@ use Rattle.walkdir.specs.declared.stack.Turn.{Turn}
 use Rattle.walkdir.proofs.CausesLemmas.{caused_turn}
 use Rattle.walkdir.proofs.InnermostLemmas.{after_turn}
 
--- the root is taken up
+-- the root is handled
 pub turn_begins : (state : Option State) (old mid new : Progress) (root : Path) (r : Result (Option DirEntry) Error) → old.start ≡ Some root
     → mid.options ≡ old.options → mid.order ≡ old.order
     → ((before : Streams) → Keeps before old → Keeps before mid) → new.options ≡ old.options → new.order ≡ old.order → new.start ≡ None
@@ -56,7 +56,7 @@ pub record Runs (old new : Progress) : Type 0 where
   pub start : new.start ≡ None
   pub device : new.device ≡ old.device
 
--- a walk that has begun, and is in some directory, goes on where its stack is kept
+-- a walk that has begun, and is in some directory, goes on if its stack is kept
 pub runs_kept : {S : Type 0} (order : S → Order) (old new : Stack S) (a b : Streams) → old.start ≡ None → 0 < length old.lists.items
     → KeepsStack old new → new.start ≡ None → Runs (progress order old a) (progress order new b)
 runs_kept order old new a b first some kept start = record {
@@ -157,7 +157,7 @@ turn_leaves (Some s) old mid new entry runs options keeps draws leaves = λ walk
       (over.1 walk (map Ok (option_to_list entry) ++ rest) all)),
 )
 
--- a turn that comes to what a call gave
+-- a turn that gives what a call gave
 pub turns_of : (old new : Progress) (turn : Turn) (r : Result (Option DirEntry) Error) → turn ≡ turn_of r → new.options ≡ old.options
     → ((before : Streams) → Keeps before old → Keeps before new)
     → (old.entered ≡ false → new.entered ≡ is_innermost new.stack (handed r)) → work_left new < work_left old

@@ -32,12 +32,12 @@ pub record DrawsEntry (depth : ℕ) (path : Path) (old : Streams) (dir : ℕ) (c
 abbrev pub left_of : Streams → ℕ → ℕ
 left_of streams dir = unwrap_or (left streams dir) 0
 
--- the same streams, but that one may have less left
+-- the same streams, except that one may have less left
 abbrev pub IsDrawn : Streams → ℕ → Streams → Type 0
 IsDrawn old dir new =
     (new ≡ old) ⊎ ((rest : List Entry) × (is_open old dir ≡ true) × (length rest ≤ left_of old dir) × (new ≡ with_stream old dir rest))
 
--- why a stream gives an error: want of memory, a failure of the disk, or that it isn't open
+-- why a stream gives an error: memory ran out, the disk failed, or it isn't open
 abbrev pub BreaksOff : ℕ → Streams → ℕ → Error → Type 0
 BreaksOff depth old dir error = (error ≡ no_memory) ⊎ ((error ≡ stream_error depth refusals.Failed) ⊎ (still_gives old dir ≡ None))
 
@@ -47,7 +47,7 @@ Draws depth path old dir None new = (still_gives old dir ≡ Some []) × (new �
 Draws depth path old dir (Some (Ok child)) new = DrawsEntry depth path old dir child new
 Draws depth path old dir (Some (Err error)) new = BreaksOff depth old dir error × IsDrawn old dir new
 
--- what a directory is opened to: a new stream, or what it gave, and then none is open more than before
+-- the result of opening a directory: a new stream, or what it gave, and then none more is open than before
 abbrev pub HasOpened : OpenDirs → Option ℕ → OpenDirs → Type 0
 HasOpened old None new = new ≡ old
 HasOpened old (Some dir) new =
@@ -90,17 +90,17 @@ pub record ReadInOrder (order : Order) (depth : ℕ) (path : Path) (old : Stream
   pub streamed : StreamsAll depth path old dir given
   pub sorted : IsInOrder order given (held items)
 
--- where the tree is told, this holds of contents that were read, for each walk of the tree with this order
+-- if the tree is known, this holds of contents that were read, for each walk of the tree with this order
 abbrev pub ForContentsRead : Option State → Option Order → Result Items Error → (Walking → Items → Type 0) → Type 0
 ForContentsRead state order result Holds =
     IfSome state (λ s. IfOk result (λ items. (walk : Walking) → walk.tree ≡ tree_of s → walk.order ≡ order → Holds walk items))
 
--- a directory below the greatest depth is opened to its contents
+-- a directory at less than the greatest depth is opened to its contents
 abbrev pub OpensContents : Option State → Option Order → Path → ℕ → Result Items Error → Streams → Type 0
 OpensContents state order path depth result new =
     ForContentsRead state order result (λ walk items. depth < walk.options.max_depth → HasContentsLeft walk new path depth items)
 
--- the same at any depth
+-- a directory at any depth is opened to its contents
 abbrev pub HasContents : Option State → Option Order → Options → Path → ℕ → Result Items Error → Streams → Type 0
 HasContents state order options path depth result new =
     ForContentsRead state order result (λ walk items. walk.options ≡ options → HasContentsLeft walk new path depth items)

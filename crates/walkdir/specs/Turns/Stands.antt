@@ -14,7 +14,7 @@ use Rattle.walkdir.specs.declared.dent.DirEntry.{DirEntry}
 use Rattle.walkdir.specs.declared.directory.DirList.{DirList}
 use Rattle.walkdir.specs.declared.directory.Place.{Place}
 
--- ---- where the tree is told
+-- ---- if the tree is known
 
 -- a walk's stack is one of this walk, and the root's device is known where it matters
 pub record IsIn (walk : Walking) (at : Progress) : Type 0 where
@@ -30,16 +30,16 @@ StandsAt walk at items = StandsFor walk at.streams at.stack items
 abbrev pub StandsBack : Walking → Progress → Progress → Type 0
 StandsBack walk old new = (rest : List Item) → StandsAt walk new rest → StandsAt walk old rest
 
--- the directories stay the same, but for what they have left
+-- the directories stay the same, except for what they have left
 abbrev pub StandsAsBefore : Progress → Progress → Type 0
 StandsAsBefore old new =
     (ancestors new.stack ≡ ancestors old.stack) × ((walk : Walking) (before : Streams) → Keeps before old → StandsBack walk old new)
 
--- where the tree is told, this holds of each walk of it whose stack this is
+-- if the tree is known, this holds of each walk of it whose stack this is
 abbrev pub ForEachWalkOnStack : Option State → Progress → (Walking → Type 0) → Type 0
 ForEachWalkOnStack state at Holds = IfSome state (λ s. (walk : Walking) → walk.tree ≡ tree_of s → IsIn walk at → Holds walk)
 
--- the same of each walk of it that was made with these options and this order
+-- if the tree is known, this holds of each walk of it that was made with these options and this order
 abbrev pub ForEachWalkMadeSo : Option State → Progress → (Walking → Type 0) → Type 0
 ForEachWalkMadeSo state at Holds =
     IfSome state (λ s. (walk : Walking) → walk.tree ≡ tree_of s → walk.options ≡ at.options → walk.order ≡ at.order → Holds walk)
@@ -50,7 +50,7 @@ JoinsWalk walk old entry items =
     (first : List Item) × ((others : List Item) × WalkOf walk (ancestors old.stack) entry first × StandsAt walk old others
     × (items ≡ first ++ others))
 
--- What is given of an entry, and then what is still to come, are the walk of the entry and then what was to come before.
+-- What is given for an entry, and then what is still to come, are the walk of the entry and then what was to come before.
 abbrev pub HandlesEntry : Option State → Progress → DirEntry → Option Item → Progress → Type 0
 HandlesEntry state old entry item new =
     ForEachWalkOnStack state old (λ walk. (before : Streams) → Keeps before old → is_lost item ≡ false
@@ -78,16 +78,16 @@ DrawsChild old (Some (Err error)) new =
     (walk : Walking) (before : Streams) → Keeps before old → is_lost (Some (Err error)) ≡ false → (rest : List Item) → StandsAt walk new rest
     → StandsAt walk old (Err error ∷ rest)
 
--- a directory that is over gives its own entry, if that comes now
+-- a directory that is over gives its own entry, if that is given now
 abbrev pub LeavesIt : Progress → Option DirEntry → Progress → Type 0
 LeavesIt old entry new =
     (walk : Walking) (before : Streams) → walk.options ≡ old.options → Keeps before old → IsOver old.streams old.stack
     → (rest : List Item) → StandsAt walk new rest → StandsAt walk old (map Ok (option_to_list entry) ++ rest)
 
--- ---- how an entry is taken up
+-- ---- how an entry is handled
 
--- what a stack stands for with one directory more: the contents of that directory, its entry if that comes after them, and
--- what was to come before
+-- what a stack with one more directory stands for: the contents of that directory, its entry if that is given after them,
+-- and what was to come before
 pub record StandsPushed (walk : Walking) (old : Progress) (path : Path) (depth : ℕ) (place : Option Place) (after : Option DirEntry)
     (items : List Item) : Type 0 where
   pub contents : List Item
@@ -110,7 +110,7 @@ pub record StandsEntered (walk : Walking) (old : Progress) (entry : DirEntry) (p
   pub behind : StandsAt walk old others
   pub is : items ≡ around walk.options entry contents ++ others
 
--- What is given of an entered directory, or of a link at the root, and then what is still to come.
+-- What is given for an entered directory, or a link at the root, and then what is still to come.
 abbrev pub EntersDirectory : Option State → Progress → DirEntry → Option Place → Option Item → Progress → Type 0
 EntersDirectory state old entry place item new =
     ForEachWalkMadeSo state old (λ walk. (before : Streams) → Keeps before old → (is_dir entry || is_link entry) ≡ true → is_lost item ≡ false

@@ -15,14 +15,14 @@ IsRefused refusals.NoMemory told = ⊥
 IsRefused error (Ok found) = ⊥
 IsRefused error (Err refusal) = error ≡ error_of refusal
 
--- ---- what a look tells
+-- ---- what a stat reports
 
--- what the tree says of a look at a place, as the walk says it
+-- what the tree says to a stat of a place, as the walk reports it
 abbrev pub told_at : {A : Type 0} → ℕ → Path → Result A Refusal → Result A Error
 told_at depth path (Ok found) = Ok found
 told_at depth path (Err refusal) = Err (io_error depth path (error_of refusal))
 
--- what a call at a place answers: what the tree says, want of memory, or that the disk failed
+-- what a call at a place answers: what the tree says, that memory ran out, or that the disk failed
 abbrev pub Tells : {A : Type 0} → ℕ → Path → Result A Error → Result A Error → Type 0
 Tells depth path (Ok found) told = told ≡ Ok found
 Tells depth path (Err error) told = (error ≡ no_memory) ⊎ ((error ≡ io_error depth path refusals.Failed) ⊎ (told ≡ Err error))

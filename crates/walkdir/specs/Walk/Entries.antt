@@ -22,7 +22,7 @@ use Rattle.walkdir.specs.Walk.Given.{Ancestor, Item, Walking}
 abbrev pub place_of : Meta → Place
 place_of meta = record { dev = meta.dev; ino = meta.ino }
 
--- an entry by what a look tells
+-- an entry from the result of a stat
 abbrev pub entry_by : Path → Bool → ℕ → Meta → DirEntry
 entry_by path followed depth meta = entry_at path meta.kind followed depth meta.ino
 
@@ -30,7 +30,7 @@ abbrev pub same_place : Place → Option Place → Bool
 same_place place None = false
 same_place place (Some other) = (place.dev == other.dev) && (place.ino == other.ino)
 
--- the nearest of the directories above that stands at a place, if a directory is found there
+-- the nearest of the directories above that is at a place, if a directory is found there
 abbrev pub loop_at : List Ancestor → Meta → Option Ancestor
 loop_at above meta = if is_dir_kind meta.kind then find (λ ancestor. same_place (place_of meta) ancestor.place) above else None
 
@@ -42,8 +42,8 @@ abbrev pub through_link : List Ancestor → DirEntry → Result Meta Refusal →
 through_link above entry (Err refusal) = Err (io_error entry.depth entry.path (error_of refusal))
 through_link above entry (Ok meta) = unless_loop entry meta (loop_at above meta)
 
--- Where links are followed, a link is looked at through its target: a failure is an error in its place, and so is a
--- directory that the walk is in.
+-- If links are followed, the target of a link is statted: a failure is an error in its place, and so is a directory that
+-- the walk is in.
 unfoldable pub taken_for : Walking → List Ancestor → DirEntry → Result DirEntry Error
 taken_for walk above entry =
     if walk.options.follow_links && is_link entry then through_link above entry (looked walk.tree entry.path true) else Ok entry
@@ -53,7 +53,7 @@ taken_for walk above entry =
 abbrev pub device_at : Result Meta Refusal → Option ℕ
 device_at told = option_map (λ meta. meta.dev) (result_ok told)
 
--- the device of the root, links followed
+-- the device of the root, following links
 abbrev pub root_device : Walking → Option ℕ
 root_device walk = device_at (looked walk.tree walk.root true)
 
@@ -71,16 +71,16 @@ abbrev pub enters_at : Walking → DirEntry → Result Meta Refusal → Result E
 enters_at walk entry (Err refusal) = Err (io_error entry.depth entry.path (error_of refusal))
 enters_at walk entry (Ok meta) = Ok (on_device walk entry meta)
 
--- whether it matters where directories stand: for loops, or for devices
+-- whether the places of directories matter: for loops, or for devices
 abbrev pub knows_places : Options → Bool
 knows_places options = options.follow_links || options.same_file_system
 
--- there it is looked at first
+-- if places matter, it is statted first
 abbrev pub enters_directory : Walking → DirEntry → Result Entering Error
 enters_directory walk entry =
     if knows_places walk.options then enters_at walk entry (looked walk.tree entry.path true) else Ok (Enters None)
 
--- A root link that isn't followed is looked at through its target: where a directory is there, it is entered.
+-- The target of a root link that isn't followed is statted: a directory is entered.
 abbrev pub enters_root_link : DirEntry → Result Meta Refusal → Result Entering Error
 enters_root_link entry (Err refusal) = Err (io_error entry.depth entry.path (error_of refusal))
 enters_root_link entry (Ok meta) = Ok (if is_dir_kind meta.kind then Enters (Some (place_of meta)) else Stays)
@@ -88,7 +88,7 @@ enters_root_link entry (Ok meta) = Ok (if is_dir_kind meta.kind then Enters (Som
 abbrev pub is_root_link : DirEntry → Bool
 is_root_link entry = is_link entry && (entry.depth == 0)
 
--- what is no directory is entered where it is a link at the root through which the walk goes
+-- what is no directory is entered if it is a link at the root that the walk goes through
 abbrev pub enters_leaf : Walking → DirEntry → Result Entering Error
 enters_leaf walk entry =
     if is_root_link entry && walk.options.follow_root_links then enters_root_link entry (looked walk.tree entry.path true) else Ok Stays
@@ -97,10 +97,10 @@ unfoldable pub entering : Walking → DirEntry → Result Entering Error
 entering walk entry =
     if is_dir entry then enters_directory walk entry else enters_leaf walk entry
 
--- ---- rule: which entries are looked at
+-- ---- rule: which entries are statted
 
--- A look may fail. Looked at are a link that is followed, a directory where devices or loops matter, and a link at the
--- root through which the walk goes.
+-- A stat may fail. What is statted: a link that is followed, a directory if devices or loops matter, and a link at the root
+-- that the walk goes through.
 abbrev pub is_looked_at : Options → DirEntry → Bool
 is_looked_at options entry =
     (options.follow_links && is_link entry) || ((knows_places options && is_dir entry) || (is_root_link entry && options.follow_root_links))
@@ -110,7 +110,7 @@ is_looked_at options entry =
 abbrev pub shown : Options → DirEntry → List Item
 shown options entry = if is_given options entry.depth then Ok entry ∷ [] else []
 
--- a root link that isn't followed comes before its contents in any case
+-- a root link that isn't followed is given before its contents in any case
 abbrev pub comes_after : Options → DirEntry → Bool
 comes_after options entry = options.contents_first && not (is_link entry)
 

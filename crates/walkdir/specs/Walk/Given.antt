@@ -12,7 +12,7 @@ use Rattle.walkdir.specs.declared.directory.Place.{Place}
 abbrev pub Order : Type 0
 Order = DirEntry → DirEntry → Ordering
 
--- a walk: its tree, its root, its options, and the order of entries where they are sorted
+-- a walk: its tree, its root, its options, and the order of entries if they are sorted
 pub record Walking : Type 0 where
   pub tree : Tree
   pub root : Path
@@ -23,7 +23,7 @@ pub record Walking : Type 0 where
 abbrev pub Item : Type 0
 Item = Result DirEntry Error
 
--- a directory that was entered, and where it stands, if the walk has to know it
+-- a directory that was entered, and its place, if the walk has to know it
 pub record Ancestor : Type 0 where
   pub path : Path
   pub place : Option Place

@@ -1,4 +1,4 @@
-//! What the innermost directory still has is drawn, and the directory is left.
+//! Draws from the innermost directory, and leaves it.
 use super::Stack;
 use crate::directory::Items;
 use crate::read::next_of;
@@ -22,7 +22,7 @@ impl<S: Sorter + Drop> Stack<S> {
     ghost use Rattle.walkdir.specs.Entry.{is_dir};
     ghost use Rattle.walkdir.specs.declared.directory.DirList.{DirList};
 
-    /// The next child of the innermost directory. After an error in the middle of its stream nothing more comes.
+    /// The next child of the innermost directory. Nothing follows an error in the middle of its stream.
     pub(super) fn next_child<D: Disk>(
         &mut self,
         disk: &mut D,
@@ -51,7 +51,7 @@ impl<S: Sorter + Drop> Stack<S> {
         list.items.take_first()
     }
 
-    /// The next child by the open stream of the innermost directory. An error closes it.
+    /// The next child from the open stream of the innermost directory. An error closes the stream.
     fn next_open<D: Disk>(
         &mut self,
         disk: &mut D,
@@ -86,7 +86,7 @@ impl<S: Sorter + Drop> Stack<S> {
         }
     }
 
-    /// Leaves the innermost directory, and gives it if it comes after its contents.
+    /// Leaves the innermost directory, and gives it if it is given after its contents.
     pub(super) fn leave<D: Disk>(&mut self, disk: &mut D) -> Option<DirEntry>
         requires some { 0 < length self.old.lists.items }
         ensures goes { GoesOn (progress S.order self.old (D.streams disk.old)) (D.faults disk.old) (0) (0)

@@ -1,4 +1,4 @@
-//! A directory is put on the stack, and an outer one makes room for its stream.
+//! Puts a directory on the stack, after an outer one made room for its stream.
 use super::Stack;
 use crate::directory::{DirList, Items, Place};
 use crate::read::{open, rest_of};
@@ -29,7 +29,7 @@ impl<S: Sorter + Drop> Stack<S> {
     ghost use Rattle.walkdir.specs.Entry.{is_dir};
     ghost use Rattle.std.specs.Option.{option_map};
 
-    /// Enters a directory. It is given now, or where its contents are over. A link at the root is given now in any case.
+    /// Enters a directory. It is given now, or after its contents. A link at the root is given now in any case.
     pub(super) fn enter<D: Disk>(
         &mut self,
         disk: &mut D,
@@ -125,7 +125,7 @@ impl<S: Sorter + Drop> Stack<S> {
         }
     }
 
-    /// The contents of a directory. One at the greatest depth has none, and isn't opened.
+    /// The contents of a directory. At the greatest depth it has none, and isn't opened.
     fn contents<D: Disk>(&self, disk: &mut D, path: &PathText, depth: usize) -> Result<Items>
         ensures streams { OpensAtMost (D.streams disk.old) (stream_of result) (D.streams disk.new) }
         ensures bounded { IfOk result (λ items. left_in (D.streams disk.new) items ≤ most_entries) }
@@ -146,7 +146,7 @@ impl<S: Sorter + Drop> Stack<S> {
         }
     }
 
-    /// Reads the rest of the outermost open directory, where as many are open as may be.
+    /// Reads the rest of the outermost open directory, if the most directories are open already.
     fn make_room<D: Disk>(&mut self, disk: &mut D) -> Result<()>
         ensures goes { GoesOn (progress S.order self.old (D.streams disk.old)) (D.faults disk.old) (0) (0)
             (progress S.order self.new (D.streams disk.new)) (D.faults disk.new) }

@@ -7,7 +7,7 @@ use crate::{DirEntry, Error, Result};
 use odb_asks::Disk;
 use odb_disk::{Kind, PathText};
 
-/// An entry, and where it stands if that is known.
+/// An entry, and its place if that is known.
 #[derive(Drop)]
 pub struct Found {
     pub(super) entry: DirEntry,
@@ -25,7 +25,7 @@ impl<S: Sorter + Drop> Stack<S> {
     ghost use Rattle.walkdir.specs.Entry.{is_link};
     ghost use Rattle.walkdir.specs.Stack.{ancestors};
 
-    /// The entry itself, or what stands behind it where it is a link that is followed.
+    /// The entry itself, or its target if it is a link that is followed.
     pub(super) fn followed<D: Disk>(&self, disk: &mut D, entry: DirEntry) -> Result<Found>
         ensures same { IfOk result (λ found. (found.entry.depth ≡ entry.depth) × (found.entry.path ≡ entry.path)) }
         ensures place { IfErr result (λ e. IsOfEntry entry.path entry.depth e) }
@@ -55,7 +55,7 @@ impl<S: Sorter + Drop> Stack<S> {
         })
     }
 
-    /// Refuses a place where a directory stands that the walk is in. The nearest such directory is named.
+    /// Fails if the walk is in a directory at this place. The error names the nearest such directory.
     fn check_loop(&self, depth: usize, child: &PathText, place: Place) -> Result<()>
         ensures checks { ChecksLoop depth child.now (standing_at (ancestors (reverse self.now.lists.items)) place)
             result }
@@ -93,7 +93,7 @@ impl<S: Sorter + Drop> Stack<S> {
         }
     }
 
-    /// Whether a directory is entered. Where the walk stays on the root's device, one on another isn't.
+    /// Whether a directory is entered. If the walk stays on the root's device, one on another device isn't.
     fn entering_directory<D: Disk>(&self, disk: &mut D, found: &Found) -> Result<Entering>
         ensures enters { EntersBy enters_directory (D.state disk.old) self.now.options self.now.root_device found.now
             result }
@@ -112,7 +112,7 @@ impl<S: Sorter + Drop> Stack<S> {
         }
     }
 
-    /// Where a directory stands, if the walk has to know it.
+    /// The place of a directory, if the walk has to know it.
     fn place_of<D: Disk>(&self, disk: &mut D, found: &Found) -> Result<Option<Place>>
         ensures place { FindsPlace (D.state disk.old) self.now.options found.now result }
         ensures looks { IfErr result (λ _. knows_places self.now.options ≡ true) }
@@ -133,7 +133,7 @@ impl<S: Sorter + Drop> Stack<S> {
         Ok(Some(place_in(&meta)))
     }
 
-    /// Whether the walk may enter a directory that stands here.
+    /// Whether the walk may enter a directory at this place.
     fn is_on_device(&self, entry: &DirEntry, place: Option<Place>) -> bool
         ensures told { result ≡ may_enter self.now.options self.now.root_device entry.now place }
     {

@@ -7,7 +7,7 @@ use Rattle.walkdir.specs.declared.dent.DirEntry.{DirEntry}
 use Rattle.walkdir_uses.proofs.FoundLemmas.{if_err, yields_more}
 use Rattle.walkdir_uses.proofs.all_of.Goals as goal
 
--- an entry more
+-- one more entry
 pub loop-item-preserved : goal.loop-item-preserved
 loop-item-preserved g c =
     let entry = c.in_ok-item.field-0 in
@@ -21,7 +21,7 @@ loop-item-preserved g c =
           (sym (ap (λ (entries : List DirEntry). map Ok entries) c.in_ok-push.ensures.items ∙ map-append Ok c.loop-item.entries.items (entry ∷ []))) along;
     }
 
--- an error is given behind the entries
+-- an error is given after the entries
 pub returns-in_err-item-clause-part : goal.returns-in_err-item-clause-part
 returns-in_err-item-clause-part g c =
     let error = c.in_err-item.field-0.0 in
@@ -30,7 +30,7 @@ returns-in_err-item-clause-part g c =
     let along = yields_more g.W.Iterator.next_gives c.args.walk.now items c.loop-item.walk (Err error) c.next.new.self c.loop-item.invariant.gave step in
     if_err c.from_residual.result error _ c.from_residual.ensures.1 (items ++ Err error ∷ [], along, inr (c.loop-item.entries.items, refl))
 
--- memory ran out behind one entry more
+-- memory ran out after one more entry
 pub returns-in_err-push-clause-part : goal.returns-in_err-push-clause-part
 returns-in_err-push-clause-part g c =
     let entry = c.in_ok-item.field-0 in

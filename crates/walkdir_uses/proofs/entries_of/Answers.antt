@@ -35,7 +35,7 @@ returns-clause-only g c =
     (λ s told. only_entries g.S.Sorter.order g.met.S.Sorter.total (tree_of s) c.args.walk entries
     (subst (λ o. IfSome o (λ x. IsWalk (walking g.S.Sorter.order (tree_of x) c.args.walk) (map Ok entries))) told (returns-clause-entries g c)))
 
--- where the walk is over, and at each `?`, it is dropped
+-- when the walk is over, and at each `?`, it is dropped
 pub returns-clause-back : goal.returns-clause-back
 returns-clause-back g c =
     let begun = ap (at_walk g.D.Disk.state g.D.Disk.streams g.D.Disk.faults g.D.Disk.answered
@@ -70,7 +70,7 @@ returns-in_err-entry-clause-back g c =
     c.next.ensures.steps c.drop-entry-iterator.ensures.back in
     search rules
 
--- an error is the next item behind the entries
+-- an error is the next item after the entries
 pub returns-in_err-entry-clause-first : goal.returns-in_err-entry-clause-first
 returns-in_err-entry-clause-first g c =
     let error = c.in_err-entry.field-0.0 in

@@ -21,7 +21,7 @@ returns-clause-size g c =
     let sized = subst (λ o. IfSome o (λ x. IfOk c.total_of.result (λ size. size ≡ total_size (tree_of x) entries))) (c.in_ok-entries.ensures.state ∙ told) c.total_of.ensures.size in
     if_ok_then c.total_of.result _ _ sized (λ size is. (entries, subst (λ walk. IsWalk walk (map Ok entries)) same walked, is)))
 
--- it is a look at a file of the walk
+-- it is a stat of a file of the walk
 pub returns-clause-first : goal.returns-clause-first
 returns-clause-first g c =
     let entries = c.in_ok-entries.entries.items in

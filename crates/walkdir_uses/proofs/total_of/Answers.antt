@@ -46,13 +46,13 @@ loop-entry-preserved g c =
 pub returns-clause-cost : goal.returns-clause-cost
 returns-clause-cost g c = costs_none _ _ c.loop-entry.invariant.later
 
--- a look that is refused has its failure by a fault
+-- a stat that is refused has its failure by a fault
 pub returns-in_err-metadata-clause-cost : goal.returns-in_err-metadata-clause-cost
 returns-in_err-metadata-clause-cost g c =
     let error = c.in_err-metadata.field-0.0 in
     costs_of_error c.from_residual.result error _ _ c.from_residual.ensures.1 (costs_earlier (failures error) _ _ _ c.loop-entry.invariant.later c.in_err-metadata.ensures.cause)
 
--- it is a look at a file among the entries
+-- it is a stat of a file among the entries
 pub returns-in_err-metadata-clause-refused : goal.returns-in_err-metadata-clause-refused
 returns-in_err-metadata-clause-refused g c =
     let error = c.in_err-metadata.field-0.0 in

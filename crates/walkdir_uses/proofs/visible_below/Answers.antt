@@ -14,7 +14,7 @@ use Rattle.walkdir_uses.proofs.FoundLemmas.{back_default, walks_below}
 use Rattle.walkdir_uses.specs.Found.{IsStoppedIn, as_given, is_visible}
 use Rattle.walkdir_uses.proofs.visible_below.Goals as goal
 
--- the disk is back where the walk is dropped, which is on it still
+-- the disk is back when the walk is dropped, which is still on it
 pub returns : goal.returns
 returns g c =
     let walk = c.in_ok-walk.walk in

@@ -1,4 +1,4 @@
--- What was written for what was read was written for the script.
+-- What was written for the bytes that were read was written for the script.
 use Rattle.std.proofs.Common.{refl}
 use Rattle.gitodb.specs.declared.command.Command.TheVariants.{World}
 use Rattle.gitodb.proofs.SessionLemmas.{Ends-world}

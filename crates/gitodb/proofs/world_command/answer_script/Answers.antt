@@ -1,4 +1,4 @@
--- The disk, the lines, the ending and what is told are those of the reading.
+-- The disk, the lines, the ending and the message are those of the reading.
 use Rattle.std.proofs.Common.{ap, ◌∙◌}
 use Rattle.odb_script.specs.declared.reader.Reading.{Reading}
 use Rattle.odb_script.specs.Script.{disk_of, lines_of}

@@ -1,4 +1,4 @@
--- The lines of no places are nothing; one place more adds its line.
+-- No places have no lines; one more place adds its line.
 use Rattle.std.proofs.Common.{ap, ◌++◌, ◌∙◌}
 use Rattle.odb_print.specs.Print.{line_of}
 use Rattle.odb_print.proofs.PrintLemmas.{printed_at-nothing, printed_at-more}

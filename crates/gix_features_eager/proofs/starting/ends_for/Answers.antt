@@ -1,4 +1,4 @@
--- Whoever sends and takes knows how the iterator was, and then each of both.
+-- The one end that sends and takes knows how the iterator was, and then each of the two ends does.
 use Rattle.std.proofs.Common.{rules}
 use Rattle.gix_features_channels.proofs.EndsLemmas.{forks}
 use Rattle.gix_features_eager.proofs.EagerLemmas.{split_known}

@@ -1,4 +1,4 @@
--- Whoever sends and takes knows how the iterator was.
+-- The end that sends and takes knows how the iterator was.
 use Rattle.gix_features_eager.proofs.starting.make_known.Goals as goal
 
 pub returns-clause-known : goal.returns-clause-known

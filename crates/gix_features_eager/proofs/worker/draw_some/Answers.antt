@@ -1,4 +1,4 @@
--- What is sent goes on with what was sent: the next items, or that there are no more.
+-- What is sent continues what was sent: the next items, or that there are no more.
 use Rattle.std.proofs.Common.{refl, rules}
 use Rattle.gix_features_messages.proofs.MessagesLemmas.{sent_chunk, sent_chunk_to, told_sent, told_whole}
 use Rattle.gix_features_eager.proofs.worker.draw_some.Goals as goal

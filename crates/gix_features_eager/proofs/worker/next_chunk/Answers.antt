@@ -1,4 +1,4 @@
--- An item that came stands behind those before it.
+-- An item that came follows those before it.
 use Rattle.std.proofs.Common.{◌∷◌, [], refl}
 use Rattle.gix_features_messages.proofs.MessagesLemmas.{Yields-append}
 use Rattle.gix_features_eager.proofs.worker.next_chunk.Goals as goal

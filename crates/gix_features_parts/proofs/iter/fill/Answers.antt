@@ -1,4 +1,4 @@
--- An item that came stands behind those before it, also where there is no memory for it.
+-- An item that came follows those before it, also if memory runs out for it.
 use Rattle.std.proofs.Common.{◌∷◌, ◌++◌, [], ◌<◌, ◌≤◌, length, arith, length-append}
 use Rattle.std.proofs.lemmas.Result.{err_from_is_err_and}
 use Rattle.gix_features_parts.proofs.ChunksLemmas.{Runs-push, Runs-leaves}

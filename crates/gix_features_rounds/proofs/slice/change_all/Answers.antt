@@ -1,4 +1,4 @@
--- What the rounds come to.
+-- The result of the rounds.
 use Rattle.std.proofs.Common.{length, ap, arith}
 use Rattle.gix_features_workers.specs.Workers.{BeginsAs, EndsAs}
 use Rattle.gix_features_rounds.specs.Rounds.{ChangesTo}

@@ -1,4 +1,4 @@
--- What a round leaves is what the next begins with.
+-- Each round begins with what the last one left.
 use Rattle.std.proofs.Common.{Ok, Err, rules, arith, of_calls}
 use Rattle.gix_features_rounds.specs.Rounds.{Rounds}
 use Rattle.gix_features_rounds.proofs.slice.in_rounds.Goals as goal

@@ -2,7 +2,7 @@ use Rattle.std.proofs.Common.{◌<◌, List, length, Result}
 use Rattle.gix_features_rounds.specs.Rounds.{ChangesTo, Rounds}
 use Rattle.gix_features_rounds.proofs.slice.in_rounds.Given as goal
 
--- what the rounds from here on make is what all make
+-- what the rounds from here on do is what all do
 abbrev pub invariant-rounds : goal.invariant-rounds
 invariant-rounds g l = record {
   some : 0 < length l.states;

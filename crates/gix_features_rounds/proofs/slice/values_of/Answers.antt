@@ -1,4 +1,4 @@
--- What comes of a further state stands behind what came of those before it.
+-- The result of one more state follows those before it.
 use Rattle.gix_features_workers.specs.Workers.{EndsAs}
 use Rattle.gix_features_rounds.proofs.RoundsLemmas.{AllZip-push}
 use Rattle.gix_features_rounds.proofs.slice.values_of.Goals as goal

@@ -1,4 +1,4 @@
--- The streams are the shares of one list of outputs, which is what they are merged to.
+-- The streams are the shares of one list of outputs, into which they are merged.
 use Rattle.std.proofs.Common.{sym, subst}
 use Rattle.gix_features_workers.specs.Workers.{BeginsAs, ConsumesTo, EndsAs, AreWorked}
 use Rattle.gix_features_workers.specs.Dealt.{AreShares}

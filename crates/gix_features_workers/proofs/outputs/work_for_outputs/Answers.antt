@@ -1,4 +1,4 @@
--- What comes of the last states isn't asked for.
+-- The results of the last states aren't asked for.
 use Rattle.gix_features_workers.proofs.ReducedLemmas.{AreWorked-forget}
 use Rattle.gix_features_workers.proofs.outputs.work_for_outputs.Goals as goal
 

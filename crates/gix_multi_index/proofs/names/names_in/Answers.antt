@@ -3,14 +3,14 @@ use Rattle.gix_multi_index.specs.MultiIndexNames.{go_on}
 use Rattle.gix_multi_index.proofs.NameLemmas.{length_pushed, name_refused, name_taken, names_step}
 use Rattle.gix_multi_index.proofs.names.names_in.Goals as goal
 
--- the name does not come behind the last one
+-- the name is not above the last one
 pub returns-then-not-is_above-clause-none : goal.returns-then-not-is_above-clause-none
 returns-then-not-is_above-clause-none c =
     c.loop-left.invariant.same_so_far
     ∙ name_refused c.loop-left.last.now c.in-Some.found.0.now c.loop-left.left c.loop-left.rest.now c.in-Some.found.1.now
     (omega arith) c.in-Some.ensures.parts c.in-Some.ensures.fits (sym c.is_above.ensures.above ∙ c.if-not-is_above.true)
 
--- a name more
+-- one more name
 pub loop-left-preserved : goal.loop-left-preserved
 loop-left-preserved c =
     let added : c.push.new.self.items ≡ c.loop-left.names.items ++ c.in-Some.found.0.now ∷ [] = c.in_ok-push.ensures.items

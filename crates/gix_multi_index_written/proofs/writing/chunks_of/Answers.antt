@@ -1,4 +1,4 @@
--- The chunks are put one behind another.
+-- The chunks are put one after another.
 use Rattle.std.proofs.Common.{map, ap}
 use Rattle.gix_multi_index_written.specs.MultiIndexChunks.{chunk_seen}
 use Rattle.gix_multi_index_written.specs.WrittenMultiIndex.{named_seen, names_of}

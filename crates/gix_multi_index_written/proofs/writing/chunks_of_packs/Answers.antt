@@ -1,4 +1,4 @@
--- The rows of the chunks are the table of the objects' places.
+-- The rows of the chunks are the table of the objects' offsets.
 use Rattle.std.proofs.Common.{List, map, ap, subst, ◌∙◌}
 use Rattle.std.specs.List.{AllByRecursion}
 use Rattle.gix_multi_index_written.specs.PlacedPackRow.{pack_row_of}

@@ -1,4 +1,4 @@
--- The rows that are written are the table of the objects' places, and the bytes are the multi-index that is defined.
+-- The rows that are written are the table of the objects' offsets, and the bytes are the multi-index that is defined.
 use Rattle.std.proofs.Common.{◌≡◌, ℕ, length, map, refl, sym, ap, subst, ◌∙◌}
 use Rattle.std.proofs.lemmas.List.{length-map}
 use Rattle.gix_multi_index_written.specs.MultiIndexChunks.{chunk_seen, front_with}

@@ -3,7 +3,7 @@ use Rattle.gix_multi_index_written.specs.MultiIndexChunks.{objects_over}
 use Rattle.gix_multi_index_written.specs.WrittenMultiIndex.{named_seen}
 use Rattle.gix_multi_index_written.proofs.writing.have_few.Given as goal
 
--- what is left of the limit
+-- the rest of the limit
 abbrev pub invariant-loop-pack : goal.invariant-loop-pack
 invariant-loop-pack l =
     record {

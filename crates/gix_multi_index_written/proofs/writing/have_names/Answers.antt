@@ -1,4 +1,4 @@
--- The name at hand is one, and is below the next.
+-- The present name is one, and is below the next.
 use Rattle.std.proofs.Common.{List, map, sym, ap, ◌∙◌, arith}
 use Rattle.gix_multi_index.specs.MultiIndex.Held.{is_index_name}
 use Rattle.gix_multi_index_written.specs.MultiIndexChunks.{below_first}

@@ -1,4 +1,4 @@
--- The header, the table and the chunks are put one behind another.
+-- The header, the table and the chunks are put one after another.
 use Rattle.std.proofs.Common.{arith}
 use Rattle.gix_multi_index_written.proofs.WrittenMultiIndexLemmas.Loops.{bytes_all}
 use Rattle.gix_multi_index_written.proofs.WrittenMultiIndexLemmas.{front_steps}

@@ -1,4 +1,4 @@
--- A wide offset is written as its row among the wide ones, and another one as it is.
+-- A wide offset is written as its row among the wide ones, and any other as it is.
 use Rattle.std.proofs.Common.{ℕ, ◌++◌, sym, ap, ◌∙◌, arith}
 use Rattle.std.specs.Int.{w32, to_be_bytes}
 use Rattle.gix_multi_index_written.proofs.WrittenMultiIndexLemmas.Loops.{row_on_low, row_on_wide, rows_end}

@@ -1,4 +1,4 @@
--- A chunk's row is written, and the next one stands where it ends.
+-- A chunk's row is written, and the next chunk begins where it ends.
 use Rattle.std.proofs.Common.{◌≡◌, ◌+◌, length, arith}
 use Rattle.std.proofs.lemmas.Grind.{common_steps}
 use Rattle.gix_multi_index_written.proofs.WrittenMultiIndexLemmas.Loops.{end_all, end_on, table_all, table_on}

@@ -11,7 +11,7 @@ either true false = refl
 either false true = refl
 either false false = refl
 
--- a path more in a set of paths
+-- one more path in a set of paths
 path_more : (path place : Path) (had has : Bool) → has ≡ cond (is_eq (path_cmp path place)) true had → has ≡ (had || same_path path place)
 path_more path place had has put =
     put

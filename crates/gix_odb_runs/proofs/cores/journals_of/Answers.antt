@@ -6,7 +6,7 @@ use Rattle.gix_odb_core.specs.Journal.{entries_of}
 use Rattle.gix_odb_runs.specs.JournalKept.{IsJournal}
 use Rattle.gix_odb_runs.proofs.cores.journals_of.Goals as goal
 
--- one journal more is that of one core more
+-- one more journal is that of one more core
 pub loop-core-preserved : goal.loop-core-preserved
 loop-core-preserved c = (
   ap (map entries_of) c.in_ok-push.ensures.ok

@@ -5,7 +5,7 @@ use Rattle.gix_odb_shown.specs.Revealed.{IsSeen}
 use Rattle.gix_odb_shown.specs.Touched.{LiesIn}
 use Rattle.gix_odb_shown.proofs.revealed.look_at_named.Given as goal
 
--- the paths so far are looked at, and those that are left are watched ones
+-- the paths so far are read, and those that are left are watched ones
 abbrev pub invariant-loop-folder : goal.invariant-loop-folder
 invariant-loop-folder l = record {
   seen : (folders : List Path) → IsSeen l.sight folders [] l.fn.revealed → IsSeen l.sight folders l.yielded l.revealed;

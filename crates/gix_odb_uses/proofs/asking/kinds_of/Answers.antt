@@ -7,7 +7,7 @@ use Rattle.gix_odb_uses.proofs.ObjectLemmas.{at_told, header_refused, if_err_mad
 use Rattle.gix_odb_uses.proofs.ReadLemmas.{reads_front, reads_more}
 use Rattle.gix_odb_uses.proofs.asking.kinds_of.Goals as goal
 
--- one id more has its kind
+-- one more id has its kind
 pub loop-id-preserved : goal.loop-id-preserved
 loop-id-preserved g c =
     let state = g.D.Disk.state in
@@ -22,7 +22,7 @@ loop-id-preserved g c =
       asked = reads_more g.D.Disk.answered c.args.store.now c.args.ids.now c.loop-id.id-index _ _ _ _ c.loop-id-test.true c.loop-id.invariant.asked c.kind_at.ensures.asked;
     }
 
--- the look for the header of this id was refused
+-- the header look-up of this id was refused
 pub returns-in_err-kind-clause-refused : goal.returns-in_err-kind-clause-refused
 returns-in_err-kind-clause-refused g c =
     let state = g.D.Disk.state in
@@ -38,7 +38,7 @@ returns-in_err-kind-clause-refused g c =
           c.in_err-kind.ensures.refused,
     )
 
--- memory ran out behind the look for this one
+-- memory ran out after the look-up of this one
 pub returns-in_err-add-clause-refused : goal.returns-in_err-add-clause-refused
 returns-in_err-add-clause-refused g c =
     let some = some_among c.args.ids.now c.loop-id.id-index c.loop-id-test.true in

@@ -5,7 +5,7 @@ use Rattle.gix_odb_uses.specs.Objects.{IsKindAt}
 use Rattle.gix_odb_uses.specs.Reads.{MayReadEach}
 use Rattle.gix_odb_uses.proofs.asking.kinds_of.Given as goal
 
--- the kinds of the ids so far, on a disk that is as it was
+-- the kinds of the ids so far, on an unchanged disk
 abbrev pub invariant-loop-id : goal.invariant-loop-id
 invariant-loop-id g l = record {
   kinds : IfSome (g.D.Disk.state l.initial.disk) (λ s. AllZip (IsKindAt l.store s) (take l.id-index l.ids) l.kinds.items);

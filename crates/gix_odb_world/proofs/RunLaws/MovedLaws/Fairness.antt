@@ -1,4 +1,4 @@
--- While an object lies in a pack, from some moment of a call on, what its handle is told from then on is fair to it.
+-- While an object lies in a pack, from some moment of a call on, the answers to its handle from then on are fair to it.
 use Rattle.std.proofs.Common.{◌≡◌, inl, inr, ℕ, zero, suc, ◌<◌, ◌≤◌, false, List, [], ◌∷◌, ◌++◌, length, take, Contains, Option, Some, None, Ok, refl, sym, ap, ◌∙◌, subst, append-nil, append_assoc, arith}
 use Rattle.std.specs.Prelude.{slice_get, unwrap_or}
 use Rattle.std.proofs.lemmas.Bool.{cases_lt, false_from_ne_true}
@@ -74,7 +74,7 @@ module _ (first : Volume) (events : List Event) (is : IsKnownRun first events) (
   HasStream now =
       (stream : Stream) → stream_in (told_since (take now events) handle begun) ≡ Some stream → IsOpenedSince first events since last (disk_after first (take now events)) stream
 
-  -- what the handle was told behind what it was told first is fair
+  -- the answers to the handle after the first ones are fair
   pub record IsFairTo (now : ℕ) : Type 0 where
     pub behind : List Exchange
     pub told_is : told_since (take now events) handle begun ≡ before ++ behind
@@ -126,14 +126,14 @@ module _ (first : Volume) (events : List Event) (is : IsKnownRun first events) (
       lies_now : LiesIndexed (tree_of disk.state) store.hash id place
       lies_now = lies now later (let lt = up in omega (arith, lt))
 
-      -- what is so behind one event more
+      -- what holds after one more event
       pub record GoesOn : Type 0 where
         pub behind : List Exchange
         pub told_is : told_since whole handle begun ≡ before ++ behind
         pub fair : AreFair store.hash id place before behind
         pub stream : (stream : Stream) → stream_in (told_since whole handle begun) ≡ Some stream → IsOpenedSince first events since last (disk_after first whole) stream
 
-      -- nothing was told
+      -- nothing was answered
       silent : told_since whole handle begun ≡ exchanges → ((stream : Stream) → stream_in exchanges ≡ Some stream → LeavesStream stream.dir e.asked) → GoesOn
       silent nothing leaves = record {
         behind = one.behind;
@@ -144,7 +144,7 @@ module _ (first : Volume) (events : List Event) (is : IsKnownRun first events) (
             stays_open first events is since last now later (let lt = up in omega (arith, lt)) e there stream (leaves stream old) (one.stream stream old);
       }
 
-      -- an exchange was told
+      -- there was an exchange
       told_one : (x : Exchange) → told_since whole handle begun ≡ exchanges ++ x ∷ [] → IsFair store.hash id place exchanges x.ask x.answer
           → ((stream : Stream) → stream_in (exchanges ++ x ∷ []) ≡ Some stream → IsOpenedSince first events since last (disk_after first whole) stream) → GoesOn
       told_one x more fair stream = record {
@@ -231,7 +231,7 @@ module _ (first : Volume) (events : List Event) (is : IsKnownRun first events) (
             status = status;
           }
 
-          -- the core is that of its store, and only what was shown is handed to it
+          -- the core is that of its store, and gets only what was shown
           record IsHandedWell : Type 0 where
             stock : IsStocked first past was.modes.core was.store
             handed : IsHanded (ShownSince first past was.store) (setting_in was.store) was.store.hash event

@@ -1,4 +1,4 @@
--- Lists of exchanges, and what was told up to a moment.
+-- Lists of exchanges, and the answers up to a moment.
 use Rattle.std.proofs.Common.{◌≡◌, ℕ, zero, suc, ◌≤◌, List, [], ◌∷◌, ◌++◌, length, take, drop, refl, sym, ap, ◌∙◌, arith}
 use Rattle.std.specs.List.{filter_map}
 use Rattle.std.proofs.lemmas.List.{drop-append-le}
@@ -24,7 +24,7 @@ length_front zero xs within = refl
 length_front (suc n) [] within = absurd (omega (arith, within))
 length_front (suc n) (x ∷ xs) within = let rest = length_front n xs (omega (arith, within)) in omega (arith, rest)
 
--- what was told up to a moment comes before what was told later
+-- the answers up to a moment come before later ones
 pub told_first_part : (events : List Event) (handle begun early late : ℕ) → begun ≤ early → early ≤ late → late ≤ length events
     → (rest : List Exchange) × (told_since (take late events) handle begun ≡ told_since (take early events) handle begun ++ rest)
 unfolding told_since

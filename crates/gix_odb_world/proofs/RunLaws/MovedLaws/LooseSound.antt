@@ -1,4 +1,4 @@
--- A loose file that is sound for what is wanted answers it, where the call of the disk doesn't fail.
+-- A loose file that is sound for what is wanted gives it, where the call of the disk doesn't fail.
 use Rattle.std.proofs.Common.{◌≡◌, ◌⊎◌, inl, inr, ℕ, Bool, true, false, List, [], ◌++◌, length, Option, Some, None, Result, Ok, Err, refl, sym, ap, ◌∙◌, subst}
 use Rattle.std.proofs.lemmas.Bool.{false≢true}
 use Rattle.std.proofs.lemmas.Option.{same_Some}
@@ -184,7 +184,7 @@ module _ (limit : Option ℕ) (id : ObjectId) (folder : Path) (disk : Volume) (w
     test_has answer (Ok false) is says = absurd (says.missed tt leads)
     test_has answer (Err error) is says = absurd (test_sound error (says.refused error refl))
 
-    -- what the disk answers to the one call by which a query asks for the object
+    -- the disk's answer to the one call by which a query asks for the object
     read_has : (want : Want) (own : loose_files.Answer) → loose_files.Holds limit (job_of want id) bytes own → (ask : DiskAsk)
         → folder_ask (asking limit want id folder) ≡ ask → HasLoose setting want id folder (answer_now disk ask)
     read_has Object (loose_files.Object kind found) holds ask is =
@@ -219,7 +219,7 @@ fails_as_next limit Header id folder disk ask is works =
 fails_as_next limit Presence id folder disk ask is works =
     subst (λ (a : DiskAsk). fails_now disk a ≡ false) (sym is) works
 
--- An object that lies in its loose file, sound for a query, is had by what the disk answers to the query, where that call doesn't fail.
+-- An object that lies in its loose file, sound for a query, is found by the disk's answer to the query, where that call doesn't fail.
 pub sound_file_is_had : (store : StoreData) (setting : Setting) → setting.limit ≡ store.limit → (want : Want) (id : ObjectId) (folder : Path) (disk : Volume)
     → LiesAt store want (tree_of disk.state) folder id InLooseFile → (ask : DiskAsk) → folder_ask (asking store.limit want id folder) ≡ ask
     → fails_now disk ask ≡ false → HasLoose setting want id folder (answer_now disk ask)

@@ -1,4 +1,4 @@
--- The stream of a handle at work that was opened while an object lay in a pack, over one event more.
+-- The stream of a handle at work that was opened while an object lay in a pack, over one more event.
 use Rattle.std.proofs.Common.{◌≡◌, ℕ, ◌≤◌, List, [], ◌∷◌, ◌++◌, length, take, Option, Some, refl, sym, ap, ◌∙◌, subst, arith}
 use Rattle.std.specs.Prelude.{slice_get}
 use Rattle.std.proofs.lemmas.Option.{same_Some, slice_get_within}
@@ -39,11 +39,11 @@ leaves_stream dir (OfDisk ask answer) leaves = absurd leaves
 leaves_stream dir (OfCore store seat event answer) leaves = tt
 leaves_stream dir (OfNewCore slots folders store seat answer) leaves = tt
 
--- the stream behind an answer to a call for its next entry
+-- the stream after an answer to a call for its next entry
 abbrev read_by : Stream → DiskAnswer → Stream
 read_by stream answer = record { folder = stream.folder; dir = stream.dir; entries = given_by stream.entries answer }
 
--- A stream stands open after so many events that was opened at a moment from one to another, on what its folder listed then.
+-- A stream is open after so many events, and was opened at a moment from one to another, on what its folder listed then.
 pub record IsOpenedSince (first : Volume) (events : List Event) (since last : ℕ) (disk : Volume) (stream : Stream) : Type 0 where
   pub moment : ℕ
   pub from : since ≤ moment
@@ -183,6 +183,6 @@ module _ (first : Volume) (events : List Event) (is : IsKnownRun first events) (
       by_call stream (asks.Rename from to) same gives = kept stream (asks.Rename from to) same (λ on. on) gives
       by_call stream (asks.Remove path) same gives = kept stream (asks.Remove path) same (λ on. on) gives
 
-      -- behind its own call of the disk
+      -- after its own call of the disk
       pub called_stream : (stream : Stream) → stream_by old (parts.Disk ask) (told.Disk (answer_now disk ask)) ≡ Some stream → Stays stream
       called_stream stream gives = by_call stream ask refl gives

@@ -1,4 +1,4 @@
--- A core's list that was read stays read, and each view that it hands over then says so.
+-- A core's list that was read stays read, and each view that it passes on then says so.
 use Rattle.std.proofs.Common.{◌≡◌, inl, inr, ℕ, zero, suc, ◌+◌, Bool, true, false, cond, ◌==◌, List, [], ◌∷◌, ◌++◌, length, slice_set, arith, Option, Some, None, Ok, Err, refl, sym, ap, ◌∙◌, subst}
 use Rattle.std.proofs.lemmas.Bool.{false≢true}
 use Rattle.gix_odb_slots.specs.Files.{slot_with_index, slot_with_pack}
@@ -57,12 +57,12 @@ module _ (h : History) (seat : ℕ) (event : CoreEvent) (answer : CoreAnswer) wh
   abbrev entry : Entry
   entry = cores_of.entry_of h seat event answer
 
-  -- with an entry more a list that was read is read
+  -- with one more entry a list that was read is read
   entered_read : IsRead (present h) → IsRead (present (entered h seat event answer))
   entered_read is =
       subst IsRead (sym (replay_of_joined_journals h.entries (entry ∷ []) h.opening)) (answer_read (present h) entry answer is)
 
-  -- and the view that the entry hands over says so
+  -- and the view that the entry passes on says so
   pub view_read : answer ≡ answer_behind h seat event → IsRead (present h) → (view : View) → view_in answer ≡ Some view → view.read ≡ true
   view_read answered is view handed =
       let next : IsNext h.opening h.entries entry = record { numbered = refl; answered = inr answered } in

@@ -45,7 +45,7 @@ module _ (first : Volume) (past : List Event) (e : Event) (before : AreStocked f
         keeps = λ core store has. has;
       }
 
-  -- an event of a core that can happen, and hands it what was read
+  -- an event of a core that can happen, and passes it what was read
   pub grown_core : (core handle : ℕ) (event : CoreEvent) → e.asked ≡ OfCore core handle event (answer_behind (history_at cores core) handle event)
       → CanHappen (present (history_at cores core)) handle event
       → ((store : Store) → slice_get before.stores core ≡ Some store → IsHanded (ShownSince first past store) (setting_in store) store.hash event)

@@ -19,7 +19,7 @@ true_or_false : (b : Bool) → b ≡ true → b ≡ false → ⊥
 true_or_false true h k = cc k
 true_or_false false h k = cc h
 
--- the ids rise and the counts are theirs, so that the offsets decide
+-- the ids rise and the counts are theirs, so the offsets decide
 pub returns-then-counts_agree : goal.returns-then-counts_agree
 returns-then-counts_agree c = record {
   agree = elim c.if-is_rising.branch [
@@ -34,7 +34,7 @@ returns-then-counts_agree c = record {
   ];
 }
 
--- the ids don't rise, or a count is another
+-- the ids don't rise, or a count differs
 pub returns-else-counts_agree : goal.returns-else-counts_agree
 returns-else-counts_agree c = record {
   agree = elim c.if-is_rising.branch [

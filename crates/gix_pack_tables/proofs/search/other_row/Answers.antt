@@ -13,7 +13,7 @@ loop-row-preserved c =
     one_row_more ids c.args.from c.loop-row.row c.id_at.result (λ id. prefix_cmp c.args.prefix.now id ≡ c.args.order) c.loop-row.invariant at
     (c.compares.ensures.compared.0 (grind arith))
 
--- behind the last row there is none
+-- after the last row there is none
 pub returns-clause-other : goal.returns-clause-other
 returns-clause-other c = λ id get is.
     let inside = slice_get_within (ids_of c.args.kind c.args.n c.args.ids.now) c.args.n id get in

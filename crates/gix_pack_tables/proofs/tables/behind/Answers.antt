@@ -3,7 +3,7 @@ use Rattle.gix_pack_tables.proofs.RowsLemmas.{none_to, one_more, rising_rest, ro
 use Rattle.gix_pack_tables.proofs.tables.behind.Goals as goal
 use Rattle.gix_pack_tables.proofs.tables.behind.Goals.{then-loop-left-test+else-rest-first, else-loop-left-test}
 
--- an id more is passed
+-- one more id is passed
 pub loop-left-preserved : goal.loop-left-preserved
 loop-left-preserved c =
     let kind = c.args.kind in

@@ -3,7 +3,7 @@ use Rattle.gix_pack_tables.specs.Rows.{count_to, ids_of}
 use Rattle.gix_pack_tables.proofs.RowsLemmas.{right_count, wrong_count}
 use Rattle.gix_pack_tables.proofs.tables.counts_agree.Goals as goal
 
--- a count is another
+-- a count differs
 pub returns-then-number_at-n : goal.returns-then-number_at-n
 returns-then-number_at-n c = record {
   agree = let ids = ids_of c.args.kind c.args.n c.args.ids.now in

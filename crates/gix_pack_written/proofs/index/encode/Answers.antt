@@ -1,4 +1,4 @@
--- The rows that are written are the table of the objects' places, and the bytes are the index that is defined.
+-- The rows that are written are the table of the objects' offsets, and the bytes are the index that is defined.
 use Rattle.std.proofs.Common.{◌≡◌, map, sym, ap, subst, ◌∙◌, arith}
 use Rattle.std.proofs.lemmas.List.{length-map}
 use Rattle.gix_hash.specs.ObjectId.{bytes_of, IsId}

@@ -1,4 +1,4 @@
--- The tables are put one behind another.
+-- The tables are put one after another.
 use Rattle.std.proofs.Common.{◌≡◌, List, ℕ, ◌++◌, ap, ◌∙◌}
 use Rattle.gix_hash.specs.ObjectId.{bytes_of}
 use Rattle.gix_pack_files.specs.Index.{signature}

@@ -1,4 +1,4 @@
--- The rows are put behind none, and their table is made.
+-- The rows are added to an empty list, and their table is made.
 use Rattle.std.proofs.Common.{map, refl}
 use Rattle.gix_pack_written.specs.WrittenPack.{object_seen}
 use Rattle.gix_pack_written.proofs.WrittenIndexLemmas.Written.{each_given, index_rows_are}

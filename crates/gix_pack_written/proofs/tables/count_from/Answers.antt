@@ -1,4 +1,4 @@
--- The row at hand begins with a byte that is counted, or with a higher one.
+-- The present row begins with a byte that is counted, or with a higher one.
 use Rattle.std.proofs.Common.{ℕ, ◌<◌, ◌≤◌, List, slice_index, subst, arith}
 use Rattle.gix_pack_written.proofs.PlacedLemmas.Counts.{counts_high, counts_low}
 use Rattle.gix_pack_written.proofs.tables.count_from.Goals as goal

@@ -1,4 +1,4 @@
--- The next count is written, and is at most the one behind it.
+-- The next count is written, and is at most the one after it.
 use Rattle.std.proofs.Common.{◌+◌, arith}
 use Rattle.gix_pack_written.proofs.PlacedLemmas.Counts.{counts_grow, counts_on}
 use Rattle.gix_pack_written.proofs.tables.put_counts.Goals as goal

@@ -8,7 +8,7 @@ use Rattle.list_walk.proofs.run.listed.Goals as goal
 pub folders-init : goal.folders-init
 folders-init g c = record { state = refl; faults = omega arith; error_faults = omega arith; back = still_back _ _; walked = begins_walks _ _ _ _ }
 
--- a folder more
+-- one more folder
 pub folders-preserved : goal.folders-preserved
 folders-preserved g c = record {
   state = c.visited.ensures.state ∙ c.folders.invariant.state;

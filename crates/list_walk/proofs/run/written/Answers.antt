@@ -17,14 +17,14 @@ items-init g c = record {
   so_far = begins _ _ _ _ _ _ _ c.new-lines.ensures.empty;
 }
 
--- want of memory: the lines before it
+-- out of memory: the lines before it
 pub returns-then-is_want-clause-ends : goal.returns-then-is_want-clause-ends
 returns-then-is_want-clause-ends g c =
     ends_by _ c.ended.result statuses.NoMemory _ _ c.ended.ensures.ok c.ended.ensures.err
     (λ added. front _ _ _ _ _ _ _ _ _ _ _ _ None _ _ c.items.invariant.so_far _ _ c.in-Some.ensures.steps.2 (all_of _ _ _ added))
     (λ part. front _ _ _ _ _ _ _ _ _ _ _ _ None _ _ c.items.invariant.so_far _ _ c.in-Some.ensures.steps.2 part)
 
--- an item more
+-- one more item
 pub items-preserved : goal.items-preserved
 items-preserved g c = record {
   own = c.in-Some.ensures.steps.0;

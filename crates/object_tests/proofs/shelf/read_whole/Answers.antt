@@ -2,7 +2,7 @@ use Rattle.std.proofs.Common.{arith}
 use Rattle.object_tests.proofs.SourceLemmas.{ReadSoFar-more, Takes-ReadSoFar}
 use Rattle.object_tests.proofs.shelf.read_whole.Goals as goal
 
--- bytes that there is no memory for were read
+-- memory ran out for bytes that were read
 pub returns-in_err-extend_from_slice-clause-drawn :
     goal.returns-in_err-extend_from_slice-clause-drawn
 returns-in_err-extend_from_slice-clause-drawn g c =

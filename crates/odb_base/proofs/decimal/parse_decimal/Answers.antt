@@ -13,7 +13,7 @@ returns-then-is_plain-clause-spelled c = spelled _ _ (returns-then-is_plain-clau
 pub returns-then-is_plain-clause-only : goal.returns-then-is_plain-clause-only
 returns-then-is_plain-clause-only c = only _ _ (returns-then-is_plain-clause-exact c)
 
--- no other is a number
+-- no other text is a number
 pub returns-else-is_plain-clause-exact : goal.returns-else-is_plain-clause-exact
 returns-else-is_plain-clause-exact c =
     sym (number_of-not_plain c.args.text.now (ap is_plain (sym c.as_bytes.ensures.value) ∙ sym c.is_plain.ensures.plain ∙ c.if-is_plain.false))

@@ -1,4 +1,4 @@
--- Both tests are true exactly where packs can be written.
+-- Both tests are true exactly if packs can be written.
 use Rattle.odb_script.proofs.PackLemmas.{can_be_written-same}
 use Rattle.odb_script.proofs.objects.can_be_written.Goals as goal
 

@@ -3,7 +3,7 @@ use Rattle.odb_script.specs.Content.{items_of, object_of}
 use Rattle.odb_script.specs.Line.{texts_of}
 use Rattle.odb_script.proofs.objects.objects_of.Given as goal
 
--- the texts that are left spell, behind the items so far, what all spell
+-- the texts that are left spell, after the items so far, what all spell
 abbrev pub invariant-loop-rest : goal.invariant-loop-rest
 invariant-loop-rest l = items_of object_of (texts_of l.rest) l.objects ≡ items_of object_of (texts_of l.initial.rest) []
 

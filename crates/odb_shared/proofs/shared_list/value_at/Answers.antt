@@ -5,7 +5,7 @@ use Rattle.odb_shared.specs.Blocks.{joined}
 use Rattle.odb_shared.proofs.BlocksLemmas.{get_joined, joined_past}
 use Rattle.odb_shared.proofs.shared_list.value_at.Goals as goal
 
--- the place is behind the last block
+-- the place is after the last block
 pub returns-in-None : goal.returns-in-None
 returns-in-None g c =
     let past = joined_past 64 c.args.blocks.now c.args.place c.requires.filled (lit< tt) (sym c.in-None.ensures.block) in

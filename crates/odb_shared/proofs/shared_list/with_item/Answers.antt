@@ -5,7 +5,7 @@ use Rattle.odb_shared.specs.Blocks.{AreFilled, joined}
 use Rattle.odb_shared.proofs.BlocksLemmas.{joined_past, set_joined}
 use Rattle.odb_shared.proofs.shared_list.with_item.Goals as goal
 
--- the place is behind the last block
+-- the place is after the last block
 pub returns-in-None-clause-filled : goal.returns-in-None-clause-filled
 returns-in-None-clause-filled g c =
     IfOk-weaker c.try_clone.result (λ copy. copy ≡ c.args.blocks.now) (AreFilled 64) (λ copy e. rw e c.requires.filled) c.try_clone.ensures.value

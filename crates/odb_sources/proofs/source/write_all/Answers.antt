@@ -1,4 +1,4 @@
--- A write that follows adds to the front that is written; one that failed leaves it.
+-- A write adds to the bytes that are written; one that fails leaves them.
 use Rattle.std.proofs.Common.{arith}
 use Rattle.odb_sources.proofs.SourceLemmas.{Written-more, Adds-front, OnErr-always}
 use Rattle.odb_sources.proofs.source.write_all.Goals as goal

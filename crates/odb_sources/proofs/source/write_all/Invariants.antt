@@ -2,7 +2,7 @@ use Rattle.std.proofs.Common.{◌≤◌, length}
 use Rattle.odb_sources.proofs.SourceLemmas.{Written}
 use Rattle.odb_sources.proofs.source.write_all.Given as goal
 
--- a front of the bytes is written, and no fault was lost
+-- a prefix of the bytes is written, and no fault was lost
 abbrev pub invariant-writing : goal.invariant-writing
 invariant-writing g l =
     Written (g.K.Sink.held l.fn.sink) (g.K.Sink.held l.sink) l.bytes l.rest × (g.K.Sink.faults l.fn.sink ≤ g.K.Sink.faults l.sink)

@@ -2,7 +2,7 @@ use Rattle.pack_find_tests.proofs.TwoRowsLemmas.{HasDifferentPaths-few, HasDiffe
 use Rattle.std.proofs.Common.{sym, ◌∙◌}
 use Rattle.pack_find_tests.proofs.happening.are_apart.Goals as goal
 
--- one row at most
+-- at most one row
 pub returns-in-empty : goal.returns-in-empty
 returns-in-empty c = record { apart = λ yes. HasDifferentPaths-few _ c.in-empty.len_below }
 

@@ -1,4 +1,4 @@
--- One id more has its line.
+-- One more id has its line.
 use Rattle.gix_pack.specs.MultiIndex.{told}
 use Rattle.probe_index.specs.Lines.{IsPackLine}
 use Rattle.probe_index.proofs.LinesLemmas.{AreLines-more}

@@ -1,4 +1,4 @@
--- No bytes are shown as nothing; one byte more adds what it is shown as.
+-- No bytes are shown as nothing; one more byte adds what it is shown as.
 use Rattle.script_reasons.proofs.ToldLemmas.{shown_bytes-nothing, shown_bytes-more}
 use Rattle.script_reasons.proofs.wording.add_bytes.Goals as goal
 

@@ -1,4 +1,4 @@
--- What was taken out of the pipe begins what was written, and what was read begins that.
+-- What was taken out of the pipe is a prefix of what was written, and what was read is a prefix of that.
 use Rattle.std.proofs.Common.{sym, ap, ◌∙◌, ◌++◌, ◌≡◌}
 use Rattle.gix_features_pipe.specs.Pipe.{written, taken}
 use Rattle.gix_features_pipe.proofs.PipeLaws.{what_is_read_was_written}

@@ -1,4 +1,4 @@
--- What is copied is the front of the bytes at hand, and these were used.
+-- What is copied is the front of the buffered bytes, and these were used.
 use Rattle.std.proofs.Common.{◌≡◌, [], ◌++◌, List, ℕ, length, map, take, drop, min, sym, ap, ◌∙◌, subst, arith}
 use Rattle.std.proofs.lemmas.List.{take_at, length-take}
 use Rattle.gix_features_pipe.specs.Pipe.{Byte, Reads, at_hand}

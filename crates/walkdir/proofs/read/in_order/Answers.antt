@@ -1,4 +1,4 @@
--- Children in order: the errors, and behind them the entries, stably sorted.
+-- Children in order: the errors, and after them the entries, stably sorted.
 use Rattle.std.proofs.Common.{◌≡◌, ◌++◌, ap, map, subst, sym, ◌∙◌, rules}
 use Rattle.std.specs.Prelude.{Ok}
 use Rattle.std.specs.Cmp.{IsStrictWeakOrder}

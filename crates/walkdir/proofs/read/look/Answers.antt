@@ -1,4 +1,4 @@
--- A look tells what the disk answered, or the refusal as an error.
+-- A stat returns what the disk answered, or the refusal as an error.
 use Rattle.walkdir.proofs.FailuresLaws.{costs_none}
 use Rattle.walkdir.proofs.ReadLemmas.{costs_refused, refused_on, told_found, told_refused}
 use Rattle.walkdir.proofs.read.look.Goals as goal

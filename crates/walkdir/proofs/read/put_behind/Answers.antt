@@ -1,4 +1,4 @@
--- All entries are put behind what was there.
+-- All entries are put after what was there.
 use Rattle.std.proofs.Common.{◌++◌, map, arith}
 use Rattle.std.specs.Prelude.{Ok}
 use Rattle.walkdir.proofs.OrderLemmas.{all_behind, none_left}

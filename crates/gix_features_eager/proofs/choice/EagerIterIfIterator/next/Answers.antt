@@ -1,4 +1,4 @@
--- A further item stands behind those that were given.
+-- One more item follows those that were given.
 use Rattle.gix_features_eager.proofs.EagerLemmas.{drawn_on_demand}
 use Rattle.gix_features_eager.proofs.choice.EagerIterIfIterator.next.Goals as goal
 

@@ -1,4 +1,4 @@
--- What is at hand is given first, and each chunk is at hand where nothing was.
+-- What is left of a chunk is given first, and a new chunk is taken when nothing is left.
 use Rattle.std.proofs.Common.{refl}
 use Rattle.gix_features_eager.proofs.EagerLemmas.{given_next}
 use Rattle.gix_features_eager.proofs.iter.EagerIter.draw.Goals as goal

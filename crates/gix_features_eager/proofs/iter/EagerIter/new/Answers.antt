@@ -1,4 +1,4 @@
--- Nothing is at hand at first.
+-- Nothing is left of a chunk at first.
 use Rattle.gix_features_eager.proofs.iter.EagerIter.new.Goals as goal
 
 pub returns-clause-begun : goal.returns-clause-begun

@@ -1,4 +1,4 @@
--- The next item of the iterator that is here stands behind those that were given.
+-- The next item of the iterator that is here follows those that were given.
 use Rattle.gix_features_eager.proofs.EagerLemmas.{came_here, came_all_here}
 use Rattle.gix_features_eager.proofs.iter.EagerIter.next_here.Goals as goal
 

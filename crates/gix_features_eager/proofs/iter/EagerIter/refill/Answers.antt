@@ -1,4 +1,4 @@
--- A chunk is at hand where nothing was; and where the worker said that these were all, they were.
+-- A new chunk is taken when nothing is left; if the worker said that there are no more items, there are none.
 use Rattle.gix_features_eager.proofs.EagerLemmas.{came_by, came_taken, given_chunk}
 use Rattle.gix_features_eager.proofs.iter.EagerIter.refill.Goals as goal
 

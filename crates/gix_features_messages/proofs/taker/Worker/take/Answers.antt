@@ -1,4 +1,4 @@
--- A chunk goes on with what was taken, the last message says that it was all, and behind the first no other is like it.
+-- A chunk continues what was taken, the last message says that it was all, and after the first no other is like it.
 use Rattle.std.proofs.Common.{ap, ◌∙◌, rules}
 use Rattle.gix_features_messages.specs.Messages.{IsTold}
 use Rattle.gix_features_channels.proofs.EndsLemmas.{takes, rests}

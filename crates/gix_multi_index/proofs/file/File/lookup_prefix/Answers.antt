@@ -2,7 +2,7 @@ use Rattle.std.proofs.Common.{List, map, subst}
 use Rattle.gix_pack_tables.specs.Rows.{PackRow, IsPrefixRun}
 use Rattle.gix_multi_index.proofs.file.File.lookup_prefix.Goals as goal
 
--- the same of the rows that the bytes tell
+-- in the rows of the bytes
 pub returns : goal.returns
 returns c = record {
   run = subst (λ (rows : List PackRow). IsPrefixRun (map

@@ -4,7 +4,7 @@ use Rattle.gix_pack_tables.specs.Rows.{ids_of, IsRowOf}
 use Rattle.gix_multi_index.proofs.PackRowLemmas.{ids_in_rows}
 use Rattle.gix_multi_index.proofs.rows.Rows.row_of.Goals as goal
 
--- the same of the ids of the rows
+-- in the ids of the rows
 pub returns : goal.returns
 returns c = record {
   row = subst (λ (ids : List ObjectId). IsRowOf ids c.args.id.now c.row_of.result) (sym (ids_in_rows c.args.self.now.kind c.args.self.now.layout c.args.self.now.bytes.now))

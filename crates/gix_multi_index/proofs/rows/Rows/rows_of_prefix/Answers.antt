@@ -4,7 +4,7 @@ use Rattle.gix_pack_tables.specs.Rows.{ids_of, IsPrefixRun}
 use Rattle.gix_multi_index.proofs.PackRowLemmas.{ids_in_rows}
 use Rattle.gix_multi_index.proofs.rows.Rows.rows_of_prefix.Goals as goal
 
--- the same of the ids of the rows
+-- in the ids of the rows
 pub returns : goal.returns
 returns c =
     let rows = c.args.self.now in

@@ -1,5 +1,5 @@
 use Rattle.gix_odb_core.proofs.apply.Core.into_remains.Goals as goal
 
--- what holds of the journal of a core is known of what is left of it
+-- the invariant of a core's journal is known of what remains of the core
 pub invariant_of-result : goal.invariant_of-result
 invariant_of-result c = record { legal = c.self.invariant.legal; possible = c.self.invariant.possible; complete = c.self.invariant.complete }

@@ -13,7 +13,7 @@ pub returns-clause-cause : goal.returns-clause-cause
 returns-clause-cause g c =
     test_cause (g.D.Disk.state c.args.disk.now) c.args.self.now c.args.id.now _ _ _ c.in_ok-path.ensures.path c.in_ok-answer.ensures.cause c.in_ok-there.there c.in_ok-there.ensures.answer
 
--- memory ran out for the path, for the ask, and for an error that tells the path
+-- memory ran out for the path, for the ask, or for an error with the path
 pub returns-in_err-path-clause-asked : goal.returns-in_err-path-clause-asked
 returns-in_err-path-clause-asked g c = unasked g.D.Disk.answered _ _ c.from_residual.result _ _ refl (want_of_memory c.from_residual.result c.from_residual.ensures.1)
 

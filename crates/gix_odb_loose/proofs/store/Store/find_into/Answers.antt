@@ -27,7 +27,7 @@ returns-clause-cause g c =
     find_cause _ c.args.self.now c.args.id.now _ _ _ c.in_ok-path.ensures.path c.in_ok-answer.ensures.cause c.in_ok-answer.ensures.told c.in-Err.error
     (cc (c.in-Err.is, c.in_ok-found.ensures.answer))
 
--- memory ran out for the path, for the ask, and for an error that tells the path
+-- memory ran out for the path, for the ask, or for an error with the path
 pub returns-in_err-path-clause-asked : goal.returns-in_err-path-clause-asked
 returns-in_err-path-clause-asked g c =
     unasked g.D.Disk.answered _ _ (put_in c.from_residual.result _) _ _ refl

@@ -17,7 +17,7 @@ returns-then-self-clause-fewer g c =
     ended_less c.args.self.now c.end.new.self c.args.number c.args.written c.args.self.now.head.size (name_for w.known w.hash w.head at.all)
     (c.end.ensures.ended w.known w.hash w.head at.all at.holds.0.named)
 
--- memory ran out behind what was read
+-- memory ran out after the read
 pub returns-in_err-next_piece-clause-goes_on : goal.returns-in_err-next_piece-clause-goes_on
 returns-in_err-next_piece-clause-goes_on g c =
     λ w state now past at.

@@ -9,7 +9,7 @@ pub loop-index-smaller : goal.loop-index-smaller
 loop-index-smaller c = subst (λ (left : List SnapshotIndex). length left < length c.loop-index.indices) (sym c.in_ok-index.ensures.rest)
     (shorter c.in-Some.index c.loop-index.indices (sym c.in-Some.is ∙ c.in_ok-index.ensures.first))
 
--- the index has nothing, and is left behind
+-- the index has nothing, and is skipped
 pub loop-index-preserved : goal.loop-index-preserved
 loop-index-preserved c =
     let first = sym c.in-Some.is ∙ c.in_ok-index.ensures.first in

@@ -14,7 +14,7 @@ returns-then-is_nothing c = record {
       (c.is_nothing.ensures.named c.if-is_nothing.true) c.nothing.result c.nothing.ensures.files c.nothing.ensures.plain;
 }
 
--- the put of a file is told whole
+-- the put of a file has its file whole
 pub seen_put-requires : goal.seen_put-requires
 seen_put-requires c =
     let put = rw c.in-Some.is at c.in_ok-as_put.ensures.put in

@@ -12,6 +12,6 @@ returns-in-Ok c = record {
       c.feed_turn.ensures.feeds;
 }
 
--- what the handle is told suits what its work asks for
+-- what the handle is fed suits what its work asks for
 pub feed_turn-requires-clause-answers : goal.feed_turn-requires-clause-answers
 feed_turn-requires-clause-answers c = subst (λ ask. IsToldTo ask c.in-Ok.carried.told) c.requires.asked c.in-Ok.ensures.carried.suits

@@ -64,7 +64,7 @@ carry_out-requires-clause-under_way c =
 pub carry_out-requires-clause-asked : goal.carry_out-requires-clause-asked
 carry_out-requires-clause-asked c = c.requires.asked ∙ ap ask_by_handle (ap (option_map seen) c.in-Ok.ensures.taken)
 
--- the change that was told is still the one that it makes
+-- the change that was judged is still the one that it makes
 pub carry_out-requires-clause-change : goal.carry_out-requires-clause-change
 carry_out-requires-clause-change c =
     subst (λ (disk : Volume). c.args.judged.change ≡ change_asked disk c.args.judged.ask) (sym c.in-Ok.ensures.puts.disk) c.requires.change

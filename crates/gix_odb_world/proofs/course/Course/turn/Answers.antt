@@ -28,7 +28,7 @@ pub make_turn-requires-clause-valid : goal.make_turn-requires-clause-valid
 make_turn-requires-clause-valid c =
     subst (λ (j : Result Judged Why). IsReasonNow c.args.self.now (steps.Turn c.args.number) (result_err j)) c.in-Ok.is c.in_ok-checked.ensures.why
 
--- what is handed on is what the work asks for, its change, and what watched paths show by it
+-- what is passed on is what the work asks for, its change, and what watched paths show by it
 pub make_turn-requires-clause-asked : goal.make_turn-requires-clause-asked
 make_turn-requires-clause-asked c =
     subst (λ (j : Result Judged Why). IfOk j (λ told. told.ask ≡ ask_by_handle (handle_at c.args.self.now c.args.number))) c.in-Ok.is c.in_ok-checked.ensures.asked

@@ -5,7 +5,7 @@ use Rattle.gix_pack_tables.specs.Rows.{IsRowOf}
 use Rattle.gix_pack_files.proofs.IndexLemmas.{row_read}
 use Rattle.gix_pack_files.proofs.index.File.lookup.Goals as goal
 
--- the same of the count and of the table that are handed on
+-- by the count and the table that are passed on
 pub returns : goal.returns
 returns c =
     let file = c.self.inside.file in

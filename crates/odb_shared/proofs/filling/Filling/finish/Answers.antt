@@ -4,7 +4,7 @@ use Rattle.odb_shared.specs.Blocks.{AreFilled, joined}
 use Rattle.odb_shared.proofs.BlocksLemmas.{AreFilled-push, joined-push}
 use Rattle.odb_shared.proofs.filling.Filling.finish.Goals as goal
 
--- the last block stands behind the full ones
+-- the last block follows the full ones
 pub returns-clause-filled : goal.returns-clause-filled
 returns-clause-filled g c =
     IfOk-weaker c.new.result (λ blocks. blocks ≡ c.add_block.new.blocks) (AreFilled 64)

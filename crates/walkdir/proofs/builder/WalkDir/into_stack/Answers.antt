@@ -1,4 +1,4 @@
--- What is kept beside a disk is what was built, before it begins.
+-- The state of a walk before it begins is what was built.
 use Rattle.std.proofs.Common.{ap, ◌∙◌}
 use Rattle.walkdir.specs.Progress.{begun}
 use Rattle.walkdir.proofs.builder.WalkDir.into_stack.Goals as goal

@@ -1,4 +1,4 @@
--- The next entry is accepted, or passed over with what lies below it.
+-- The next entry is accepted, or left out with what is below it.
 use Rattle.std.proofs.Common.{Some, arith, refl, sym, subst, ◌∙◌}
 use Rattle.std.proofs.lemmas.Fn.{called_at}
 use denote.Param.Always.{mut_next}

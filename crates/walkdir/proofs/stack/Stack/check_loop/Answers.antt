@@ -1,4 +1,4 @@
--- The nearest directory that stands at a place is found from the innermost on.
+-- The nearest directory at a place is found from the innermost on.
 use Rattle.std.proofs.Common.{◌≡◌, Some, None, ap, reverse, sym, ◌∙◌, rules, tests}
 use Rattle.std.specs.Borrow.{Bor}
 use Rattle.std.specs.Prelude.{find}

@@ -1,4 +1,4 @@
--- The root's device is what a look at it told, where it matters.
+-- The root's device is what a stat of it reported, where it matters.
 use Rattle.std.proofs.Common.{true, Ok, Err, subst, sym}
 use Rattle.std.specs.Prelude.{IfErr}
 use Rattle.walkdir.specs.AnsweredTurns.{IsSeenIn}

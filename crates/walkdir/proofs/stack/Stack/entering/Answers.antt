@@ -1,4 +1,4 @@
--- A directory or a root link is entered where the rules say so.
+-- A directory or a root link is entered if the rules say so.
 use Rattle.std.proofs.Common.{◌≡◌, ◌&&◌, true, false, cond, Some, ap, subst, sym, ◌∙◌, arith, Ok, Err}
 use Rattle.std.proofs.lemmas.Bool.Decides.{nat_tests}
 use Rattle.walkdir.specs.Entry.{is_dir_kind}

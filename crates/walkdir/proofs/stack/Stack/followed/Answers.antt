@@ -1,4 +1,4 @@
--- A link that is followed is taken for what stands behind it, unless that is a loop.
+-- A link that is followed is taken for its target, unless that is a loop.
 use Rattle.std.proofs.Common.{◌≡◌, ◌&&◌, true, false, Some, None, Ok, Err, ap, reverse, subst, sym, ◌∙◌, arith}
 use Rattle.std.specs.Prelude.{IfErr}
 use Rattle.walkdir.specs.Entry.{is_dir_kind, is_link}

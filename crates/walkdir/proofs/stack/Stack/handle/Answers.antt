@@ -1,4 +1,4 @@
--- An entry is followed, and then stays, is entered, or gives the error of a look.
+-- An entry is followed, and then stays, is entered, or gives the error of a stat.
 use Rattle.std.proofs.Common.{◌≡◌, Ok, Err, refl, reverse, subst, sym, ◌∙◌}
 use lib.ListN.{length-reverse}
 use Rattle.odb_base.specs.Path.{Path}

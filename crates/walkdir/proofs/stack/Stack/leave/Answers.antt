@@ -1,4 +1,4 @@
--- The innermost directory is left, its stream closed, and its own entry given where it comes after its contents.
+-- The innermost directory is left, its stream closed, and its own entry given if it is given after its contents.
 use Rattle.std.proofs.Common.{◌≡◌, Option, true, map, Ok, ap, length, min, refl, reverse, subst, sym, ◌∙◌, arith}
 use Rattle.std.specs.Option.{option_to_list}
 use Rattle.std.specs.Prelude.{IfSome, None, Some}

@@ -1,4 +1,4 @@
--- The outermost open directory is read to its end where as many are open as may be.
+-- The outermost open directory is read to its end if the most directories are open already.
 use Rattle.std.proofs.Common.{◌≡◌, ◌+◌, ◌<◌, [], length, refl, subst, sym, take, arith, reverse}
 use Rattle.walkdir.specs.Stack.{own_streams}
 use Rattle.walkdir.proofs.SoundLemmas.{is_sound_of, sound_of}

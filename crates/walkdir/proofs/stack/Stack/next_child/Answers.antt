@@ -1,4 +1,4 @@
--- What was read of a directory before is taken from its front.
+-- What was already read of a directory is taken from its front.
 use Rattle.std.proofs.Common.{◌≡◌, ◌+◌, ◌<◌, ◌≤◌, None, ap, length, length-set, refl, reverse, set, subst, suc, sym, ◌∙◌, arith}
 use Rattle.odb_asks.specs.Streams.{Streams}
 use Rattle.walkdir.specs.Progress.{Keeps, Progress}
@@ -50,7 +50,7 @@ invariant_of-self-clause-few g c =
     let same = length-set walk.lists.items c.args.index (record c.index_mut-list.result.now { items = c.take_first.new.self }) in
     subst (λ n. n ≤ walk.first_open + walk.options.max_open) (sym same) walk.few
 
--- the first of what was read before is taken, or there is nothing
+-- the first of what was already read is taken, or there is nothing
 pub returns : goal.returns
 returns g c =
     let walk = c.args.self.now in

@@ -1,4 +1,4 @@
--- The place of a directory is the one that a link told, or what a look tells.
+-- The place of a directory is the one found through a link, or what a stat reports.
 use Rattle.std.proofs.Common.{◌≡◌, ◌||◌, true, subst, sym, arith, Option, Ok, Err}
 use Rattle.walkdir.specs.Turns.Taken.{FindsPlace}
 use Rattle.walkdir.specs.declared.directory.Place.{Place}

@@ -1,4 +1,4 @@
--- The device and then the root are looked at, and the root is handled.
+-- The device and then the root are statted, and the root is handled.
 use Rattle.std.proofs.Common.{◌≡◌, false, Ok, Err, [], ap, length, refl, reverse, subst, sym, ◌∙◌}
 use Rattle.std.specs.Prelude.{IfSome}
 use Rattle.odb_nodes.specs.Tree.{tree_of}
@@ -78,7 +78,7 @@ returns-in_err-device-clause-answered g c =
           (lies_nowhere c.args.root stack empty) (tells.told first told.leads));
     }
 
--- ---- the root couldn't be looked at
+-- ---- the root couldn't be statted
 
 pub returns-in_err-meta-clause-begins : goal.returns-in_err-meta-clause-begins
 returns-in_err-meta-clause-begins g c =

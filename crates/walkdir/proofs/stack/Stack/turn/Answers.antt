@@ -1,4 +1,4 @@
--- The root is taken up, or a walk that has begun goes on: neither has a root that waits.
+-- The root is handled, or a walk that has begun goes on: neither leaves a root to begin at.
 use Rattle.std.proofs.Common.{◌≡◌, ◌+◌, ◌≤◌, [], ap, refl, length, reverse, subst, sym, ◌∙◌}
 use Rattle.std.specs.Prelude.{Option, true}
 use Rattle.walkdir.specs.Progress.{FailsByFault, GivesDirectory, GivesEntered, GivesNext, Progress, has_its_streams}

@@ -1,4 +1,4 @@
--- Turns that gave nothing, and then one that gives an item or comes to the end, are one step.
+-- Turns that gave nothing, and then one that gives an item or the end, are one step.
 use Rattle.std.proofs.Common.{Option, reverse, false, Some, None, refl, subst, sym, ◌∙◌}
 use Rattle.std.specs.Prelude.{Ok, Err}
 use Rattle.walkdir.specs.Failures.{failures_given}

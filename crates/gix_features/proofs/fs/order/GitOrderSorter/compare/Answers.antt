@@ -1,4 +1,4 @@
--- The bytes of a name and the slash behind it are compared one after the other.
+-- The bytes of a name and the slash after it are compared one after the other.
 use Rattle.std.proofs.Common.{◌≡◌, refl, ap, ◌∙◌}
 use Rattle.std.specs.Iterator.Adapters.{chain_first_done, chain_second_done}
 use Rattle.std.specs.Ordering.{nat_cmp}

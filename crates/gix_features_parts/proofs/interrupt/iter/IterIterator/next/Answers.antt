@@ -1,4 +1,4 @@
--- An item comes where the flag was asked and isn't set.
+-- An item comes if the flag was asked and isn't set.
 use Rattle.gix_features_parts.specs.Interrupt.{UntilSet}
 use Rattle.gix_features_parts.proofs.interrupt.iter.IterIterator.next.Goals as goal
 

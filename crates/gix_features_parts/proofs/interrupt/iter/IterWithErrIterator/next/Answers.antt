@@ -1,4 +1,4 @@
--- What makes the error is taken, and put back only beside an item.
+-- What makes the error is taken, and put back only with an item.
 use Rattle.std.proofs.Common.{sym}
 use Rattle.gix_features_parts.proofs.InterruptLemmas.{over, errs, gives, ends}
 use Rattle.gix_features_parts.proofs.interrupt.iter.IterWithErrIterator.next.Goals as goal

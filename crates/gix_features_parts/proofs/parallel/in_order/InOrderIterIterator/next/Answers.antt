@@ -1,4 +1,4 @@
--- An item that waits and has its turn leaves the map. Where there is none the inner iterator is asked.
+-- An item that waits and has its turn leaves the map. If there is none the inner iterator is asked.
 use Rattle.std.proofs.Common.{ap, sym, subst, None}
 use Rattle.std.specs.Ordering.{nat_cmp}
 use Rattle.std.specs.BTreeMap.{get}

@@ -1,4 +1,4 @@
--- The bytes at hand are those that were used and the rest.
+-- The buffered bytes are those that were used and the rest.
 use Rattle.std.proofs.Common.{◌≡◌, ◌∷◌, ◌++◌, [], List, ℕ, length, map, take, drop, min, refl, sym, ap, ◌∙◌}
 use Rattle.std.proofs.lemmas.List.{drop_min}
 use Rattle.gix_features_pipe.specs.declared.pipe.ends.Piece.{Piece}

@@ -1,4 +1,4 @@
--- The note of an earlier call goes, and then nothing is given but what the pieces that come have.
+-- The note of an earlier call is cleared, and then only what the pieces that come have is given.
 use Rattle.std.proofs.Common.{◌∷◌, [], sym, subst}
 use Rattle.gix_features_pipe.specs.declared.pipe.reader.Reader.{Reader}
 use Rattle.gix_features_pipe.specs.Pipe.{Failure, Reads}

@@ -1,4 +1,4 @@
--- The bytes at hand are those that are given and those that stay at hand.
+-- The buffered bytes are those that are given and those that stay.
 use Rattle.std.proofs.Common.{◌≡◌, ◌∷◌, ◌++◌, [], List, ℕ, length, map, take, drop, min, refl, sym, ap, ◌∙◌, arith}
 use Rattle.std.proofs.lemmas.List.{take_at, length-take}
 use Rattle.gix_features_pipe.specs.declared.pipe.ends.Piece.{Piece}

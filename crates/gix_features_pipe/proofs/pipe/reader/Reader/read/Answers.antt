@@ -1,4 +1,4 @@
--- What was given so far, what nothing adds to, and what is given next.
+-- What was given so far, with nothing added, and what is given next.
 use Rattle.std.proofs.Common.{◌≡◌, ◌≤◌, ◌+◌, ◌-◌, ◌∷◌, [], length, map, take, drop, refl, sym, ap, ◌∙◌, subst, arith, rules}
 use Rattle.gix_features_pipe.specs.Pipe.{Byte, Failure, Reads}
 use Rattle.gix_features_pipe.proofs.PipeLemmas.{Reads-then, Reads-idle, Reads-into, none_known, rest_into, noted_none, noted_ended}

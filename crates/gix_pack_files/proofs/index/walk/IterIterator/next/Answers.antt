@@ -17,7 +17,7 @@ returns-clause-steps c =
     let seen = c.args.self.now.index.now in
     entries_more seen.kind seen.bytes c.args.self.now.row c.oid_at_index.result c.pack_offset_at_index.result c.oid_at_index.ensures.id c.pack_offset_at_index.ensures.offset
 
--- one row less is left
+-- one fewer row is left
 pub returns-clause-goes : goal.returns-clause-goes
 returns-clause-goes c =
     let seen = c.args.self.now.index.now in
