@@ -1,5 +1,5 @@
 //! A list that grows while an older copy of it is kept, with which it shares blocks of 64 places.
-use odb_shared::{Shared, SharedList};
+use odb_base::{Shared, SharedList};
 use std::alloc::Global;
 use std::test::Fail;
 use test_words::Text;

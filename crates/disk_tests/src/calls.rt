@@ -1,6 +1,6 @@
 //! What calls of a small disk return, that they succeed, and which of them fail.
 use crate::memory::{check, check_anew};
-use odb_disk::MemDisk;
+use odb_mem_disk::MemDisk;
 use std::alloc::Global;
 use std::test::Fail;
 

@@ -1,6 +1,6 @@
-//! Tests of paths, lists, numbers and disks: what no contract says of them.
+//! Tests of paths, lists, numbers, disks and watched paths: what no contract says of them.
 //!
-//! Rows of words say what is done and what it should return, in the words of `words`, and of `memory` and `real`.
+//! A row of words says what is done, and after a bar what it returns.
 #![tactic(auto)]
 
 #[cfg(test)]
@@ -23,6 +23,10 @@ mod real_folders;
 mod real_links;
 #[cfg(test)]
 mod real_numbers;
+#[cfg(test)]
+mod rows;
+#[cfg(test)]
+mod shown_words;
 #[cfg(test)]
 mod sources;
 #[cfg(test)]

@@ -2,7 +2,7 @@
 use crate::words::{
     answer_shown, ask_of, change_shown, error_shown, file_shown, meta_shown, next_shown,
 };
-use odb_disk::{
+use odb_mem_disk::{
     ByteList, Change, DirId, Disk, DiskAnswer, DiskAsk, DiskError, MemDisk, Meta, Op, PathText,
     Tree,
 };

@@ -1,7 +1,7 @@
 //! A real disk in words: what its calls give in a folder, without what the system chooses.
 use crate::words::{answer_shown, ask_of, error_shown, kind_word, next_shown};
-use odb_disk::{DirId, Disk, DiskAnswer, DiskAsk, Entry, Meta, PathText};
 use odb_host::HostDisk;
+use odb_mem_disk::{DirId, Disk, DiskAnswer, DiskAsk, Entry, Meta, PathText};
 use std::alloc::{AllocError, Global};
 use std::test::Fail;
 use std::{env, fs, io};

@@ -1,7 +1,7 @@
 //! What a real disk reports of large and odd directories.
 use crate::real::{count, enter, listed_there, path_here};
-use odb_disk::{DirId, Disk, Entry, PathText};
 use odb_host::HostDisk;
+use odb_mem_disk::{DirId, Disk, Entry, PathText};
 use std::alloc::{AllocError, Global};
 use std::fs;
 use std::test::Fail;

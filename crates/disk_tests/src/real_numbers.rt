@@ -1,7 +1,7 @@
 //! The numbers and times that a real disk reports.
 use crate::real::{enter, here, path_here, path_of};
-use odb_disk::{Disk, DiskError, Entry, Meta, PathText};
 use odb_host::HostDisk;
+use odb_mem_disk::{Disk, DiskError, Entry, Meta, PathText};
 use std::alloc::{AllocError, Global};
 use std::fs::{self, Metadata, OpenOptions};
 use std::io;

@@ -2,7 +2,7 @@
 ghost use Rattle.std.specs.Prelude.{◌≤◌, IfOk};
 
 use crate::real::count;
-use odb_disk::{Failed, MemSink, MemSource, Sink, Source, StdSink, StdSource};
+use odb_mem_disk::{Failed, MemSink, MemSource, Sink, Source, StdSink, StdSource};
 use std::alloc::{AllocError, Global};
 use std::io::{self, ErrorKind, Read, Write};
 use std::test::Fail;

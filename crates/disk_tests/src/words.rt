@@ -1,5 +1,7 @@
 //! The rows of the tests, and calls, changes and answers of disks in words.
-use odb_disk::{ByteList, DiskAnswer, DiskAsk, DiskError, Entry, Impossible, Kind, Meta, PathText};
+use odb_mem_disk::{
+    ByteList, DiskAnswer, DiskAsk, DiskError, Entry, Impossible, Kind, Meta, PathText,
+};
 use std::alloc::{AllocError, Global};
 use std::test::Fail;
 use test_words::cut;

@@ -1,3 +1,4 @@
 mod NumbersLemmas
 mod OrdersLemmas
 mod TurnedLemmas
+mod SumsLemmas

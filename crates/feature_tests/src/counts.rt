@@ -1,7 +1,7 @@
 //! Counts of bytes that pass, numbers of bytes in words, and a cache's counts that aren't kept.
 use gix_features_parts::cache;
 use gix_features_parts::progress::{self, ByteSize, Count};
-use odb_disk::{MemSink, MemSource, Sink, Source};
+use odb_mem_disk::{MemSink, MemSource, Sink, Source};
 use std::test::Fail;
 use test_words::compare;
 

@@ -1,6 +1,6 @@
 //! What ends early where a flag is set.
 use gix_features_parts::interrupt::{self, AtomicFlag, Flag, Iter, IterWithErr, SetAfter};
-use odb_disk::{MemSink, MemSource};
+use odb_mem_disk::{MemSink, MemSource};
 use std::alloc::{AllocError, Global};
 use std::fmt::Debug;
 use std::sync::atomic::{AtomicBool, Ordering};

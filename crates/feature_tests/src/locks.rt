@@ -6,7 +6,7 @@ use gix_features_parts::threading::{
     Mutable, MutableOnDemand, OnceBox, OnceLock, OwnShared, downgrade_mut_to_ref, get_mut, get_ref,
     lock, make_mut, with_ref,
 };
-use odb_disk::NoMemory;
+use odb_mem_disk::NoMemory;
 use std::alloc::{AllocError, Global};
 use std::sync::Wait;
 use std::test::Fail;

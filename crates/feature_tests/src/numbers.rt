@@ -4,7 +4,7 @@ ghost use Rattle.std.specs.Prelude.{◌≡◌, IsSome, IsErrOf};
 use gix_features_parts::decode::{Error, leb64_from_read};
 use gix_features_parts::iter::Chunks;
 use gix_features_parts::parallel::{num_threads, optimize_chunk_size_and_thread_limit};
-use odb_disk::{MemSource, NoMemory, Source};
+use odb_mem_disk::{MemSource, NoMemory, Source};
 use std::alloc::{AllocError, Global};
 use std::test::Fail;
 use test_words::{add, compare, halves};

@@ -2,7 +2,7 @@
 use Rattle.std.proofs.Common.{◌≡◌, inl, inr, ℕ, ◌≤◌, List, [], ◌++◌, length, sym, ap, ◌∙◌, subst}
 use Rattle.std.specs.Prelude.{IfSome}
 use Rattle.std.proofs.lemmas.Bool.{cases_lt}
-use Rattle.odb_disk.specs.Source.{ReadsFile}
+use Rattle.odb_mem_disk.specs.Source.{ReadsFile}
 use Rattle.gix_odb_world.specs.Play.{IsPlayed}
 use Rattle.gitodb.specs.declared.command.Command.TheVariants.{World}
 use Rattle.gitodb.specs.declared.status.Status.{Status}
@@ -15,8 +15,8 @@ use Rattle.odb_script.specs.Script.{disk_of, lines_of, script_limit, reading_fro
 use Rattle.odb_script.proofs.LimitLemmas.{items_of-read, too-long-Whole}
 use Rattle.odb_program.specs.Session.{Delivers, Input}
 use Rattle.odb_program.proofs.SessionLaws.{ReadToEnd-short, ends_delivered, holds_of_source}
-use Rattle.script_reasons.proofs.ToldLaws.{told_of-read}
-use Rattle.script_reasons.specs.Told.{told_of}
+use Rattle.odb_script.proofs.ToldLaws.{told_of-read}
+use Rattle.odb_script.specs.Told.{told_of}
 use Rattle.gitodb.specs.Session.{Session, Answers, AnswersWith, Writes, WritesFor, Finishes, ReadsIts, Ends, status_by}
 
 -- ---- what was read and what is written

@@ -2,7 +2,7 @@
 use Rattle.std.specs.Prelude.{◌≡◌, ℕ, List, [], ◌∷◌, ◌++◌, codes, Option, IfSome, if◌then◌else◌}
 use Rattle.std.specs.Fmt.{decimal}
 use Rattle.odb_base.specs.Path.{same_name}
-use Rattle.odb_asks.specs.MemDisk.{Volume}
+use Rattle.odb_disk.specs.MemDisk.{Volume}
 use Rattle.odb_program.specs.Session.{FailedRead, FailedWrite, Finished, Input, Output, ReadToEnd, Wrote}
 use Rattle.gix_odb_world.specs.Play.{IsPlayed}
 use Rattle.gix_odb_calls.specs.declared.line.Line.{Line}
@@ -14,8 +14,8 @@ use Rattle.gitodb.specs.declared.status.Status.TheVariants as statuses
 use Rattle.odb_script.specs.declared.reader.Ending.{Ending}
 use Rattle.odb_script.specs.declared.reader.Ending.TheVariants.{Whole, RefusedAt, NotBuiltAt}
 use Rattle.odb_script.specs.Script.{reading_of, disk_of, lines_of}
-use Rattle.script_reasons.specs.Told.{told_of}
-use Rattle.odb_print.specs.Print.{printed_at}
+use Rattle.odb_script.specs.Told.{told_of}
+use Rattle.odb_script.specs.Print.{printed_at}
 
 -- the command of the words of the command line
 abbrev pub command_of : List (List ℕ) → Command

@@ -14,8 +14,8 @@ mod world_command;
 
 use crate::status::Status;
 use odb_base::NoMemory;
-use odb_disk::{StdSink, StdSource};
 use odb_host::HostDisk;
+use odb_mem_disk::{StdSink, StdSource};
 use odb_program::{command_words, finish};
 use std::io;
 use std::process::ExitCode;

@@ -8,9 +8,9 @@ ghost use Rattle.gitodb.specs.declared.command.Command.TheVariants.{World as wor
 use crate::command::{Command, command_of};
 use crate::status::Status;
 use crate::world_command::answer_script;
-use odb_asks::Disk;
 use odb_base::NoMemory;
-use odb_disk::{ReadError, Sink, Source, read_file};
+use odb_disk::Disk;
+use odb_mem_disk::{ReadError, Sink, Source, read_file};
 use odb_program::{NOT_UNDERSTOOD, answer};
 use odb_script::SCRIPT_LIMIT;
 use std::alloc::Global;

@@ -2,20 +2,18 @@
 ghost use Rattle.std.specs.Prelude.{◌≡◌, ◌++◌, ℕ, List, IfOk, OnOk};
 ghost use Rattle.std.specs.Option.{option_copied};
 ghost use Rattle.gix_odb_world.specs.Play.{IsPlayed};
-ghost use Rattle.odb_print.specs.Print.{printed_at, line_of};
+ghost use Rattle.odb_script.specs.Print.{printed_at, line_of};
 ghost use Rattle.odb_script.specs.Script.{reading_of};
-ghost use Rattle.script_reasons.specs.Told.{told_by};
+ghost use Rattle.odb_script.specs.Told.{told_by};
 ghost use Rattle.gitodb.specs.Session.{Answers, AnswersWith, Says, ending_text, status_by};
 
 use crate::status::Status;
-use gix_odb_runs::OutcomeList;
+use gix_odb_history::OutcomeList;
 use gix_odb_world::{Line, Outcome, Play, World};
 use odb_base::{ByteList, NoMemory, Sequence};
-use odb_disk::MemDisk;
-use odb_print::print_outcome;
+use odb_mem_disk::MemDisk;
 use odb_program::{labelled, text};
-use odb_script::{Ending, Reading, read};
-use script_reasons::told_of;
+use odb_script::{Ending, Reading, print_outcome, read, told_of};
 use std::alloc::Global;
 
 /// The output for a script, and the status. The script itself isn't kept while its lines are played.

@@ -1,2 +1,2 @@
 //! Bytes that go from one thread to another.
-pub use gix_features_pipe::pipe;
+pub use gix_features_channel::pipe;

@@ -6,9 +6,9 @@
 //! form NFC if that is asked for. The other modules are those of `gix_features_parts`: `interrupt` ends work when a
 //! flag is set, `progress` counts the bytes that pass, `decode` reads numbers of variable length, `iter` cuts items
 //! into chunks, `cache` takes a cache's counts, `threading` names what threads share, and `parallel` splits work and
-//! puts its results in order again. It also has `gix_features_workers`, `gix_features_rounds` and
-//! `gix_features_eager`: items consumed by several workers at once, and items that are drawn ahead. `io::pipe` is a
-//! pipe from one thread to another, that of `gix_features_pipe`.
+//! puts its results in order again. It also has the calls of
+//! `gix_features_workers` and `gix_features_channel`: items consumed by several workers at once, and items that are drawn
+//! ahead. `io::pipe` is a pipe from one thread to another, that of `gix_features_channel`.
 //! ```rust
 //! let root = PathText::parse(alloc, "/src")?;
 //! let walk = fs::walkdir_sorted_new(root, Parallelism::Serial, usize::MAX, true);

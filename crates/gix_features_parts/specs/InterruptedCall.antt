@@ -1,6 +1,6 @@
 -- Reads and writes under a flag: which answers report an interruption, and what the source or sink answered.
 use Rattle.std.specs.Prelude.{ℕ, Bool, true, false, Result, Ok, Err}
-use Rattle.odb_sources.specs.declared.source.Failed.{Failed as SourceFailed}
+use Rattle.odb_base.specs.declared.source.Failed.{Failed as SourceFailed}
 use Rattle.gix_features_parts.specs.declared.interrupt.streams.Error.{Error}
 use Rattle.gix_features_parts.specs.declared.interrupt.streams.Error.TheVariants.{Interrupted, Failed}
 

@@ -1,6 +1,6 @@
 -- Counts of what has been done: how one goes on, and what a read or a write adds to it.
 use Rattle.std.specs.Prelude.{◌≡◌, ℕ, ◌+◌, ◌-◌, ◌^◌, min, Result, Ok, Err}
-use Rattle.odb_sources.specs.declared.source.Failed.{Failed}
+use Rattle.odb_base.specs.declared.source.Failed.{Failed}
 
 -- a count after so many more steps; it saturates at the greatest value of 64 bits
 abbrev pub counted : ℕ → ℕ → ℕ

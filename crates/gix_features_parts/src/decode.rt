@@ -5,7 +5,7 @@ ghost use Rattle.odb_base.specs.Faults.{Rose};
 ghost use Rattle.gix_features_parts.specs.Leb64.{low_bits, goes_on};
 ghost use Rattle.gix_features_parts.specs.Leb64Reads.{TakesBytes, IsAtEnd, Decodes};
 
-use odb_disk::{Failed, Source};
+use odb_mem_disk::{Failed, Source};
 use thiserror::Error;
 
 /// Why a number couldn't be read.

@@ -3,7 +3,7 @@ ghost use Rattle.std.specs.Prelude.{◌≡◌, ◌<◌, ◌≤◌, true, false, 
 ghost use Rattle.std.specs.Iterator.{count_unless, Yields, YieldsThen};
 ghost use Rattle.gix_features_parts.specs.Chunks.{Cuts, Runs, LeavesAtMost};
 
-use odb_disk::NoMemory;
+use odb_mem_disk::NoMemory;
 use std::alloc::Global;
 
 /// The items of an inner iterator in vectors of one length, the last of which may be shorter.

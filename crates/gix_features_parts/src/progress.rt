@@ -1,10 +1,10 @@
 //! Counts of what has been done, and reads and writes whose bytes are counted.
 ghost use Rattle.std.specs.Prelude.{◌≡◌, ◌+◌, ◌≤◌, ℕ, min, length, IfOk, OnOk, OnErr};
 ghost use Rattle.odb_base.specs.Faults.{HasCause};
-ghost use Rattle.odb_disk.specs.Source.{Reads, Writes};
+ghost use Rattle.odb_mem_disk.specs.Source.{Reads, Writes};
 ghost use Rattle.gix_features_parts.specs.Progress.{counted, CountsBytes};
 
-use odb_disk::{Failed, Sink, Source};
+use odb_mem_disk::{Failed, Sink, Source};
 use std::fmt;
 
 /// A count of what has been done.

@@ -6,7 +6,7 @@ ghost use Rattle.std.specs.contracts.alloc.Global.{the_row};
 ghost use Rattle.std.specs.Fn.{FnOnceReturnsAt};
 ghost use Rattle.std.specs.Sync.RwLock.{read_guard_value};
 
-use odb_disk::NoMemory;
+use odb_mem_disk::NoMemory;
 pub use once_cell::race::OnceBox;
 use std::alloc::{Allocator, Global};
 pub use std::sync::OnceLock;

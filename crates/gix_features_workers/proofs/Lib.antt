@@ -2,3 +2,4 @@ mod DealtLemmas
 mod WorkersLemmas
 mod ReducedLemmas
 pub mod WorkersLaws
+mod RoundsLemmas

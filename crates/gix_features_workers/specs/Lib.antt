@@ -2,3 +2,4 @@
 pub mod Workers
 pub mod Reduced
 pub mod Dealt
+pub mod Rounds

@@ -1,7 +1,7 @@
 -- What an object puts into a sink.
 use Rattle.std.proofs.Common.{ℕ, List, take, Option, Some, None, Result, Ok, Err}
 use Rattle.std.specs.Result.{OnErr, OnOk}
-use Rattle.odb_sources.specs.Source.{Adds}
+use Rattle.odb_base.specs.Source.{Adds}
 use Rattle.gix_object.specs.Stream.{Puts}
 
 -- all of the bytes were added, or a prefix of them if a write failed

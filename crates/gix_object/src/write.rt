@@ -11,7 +11,7 @@ ghost use Rattle.gix_object.specs.Stream.{stream_of, IsDrawn, IsWhole, Puts, Str
 
 use crate::{Data, Kind};
 use gix_hash::ObjectId;
-use odb_sources::{Failed, Sink, Source, write_all};
+use odb_base::{Failed, Sink, Source, write_all};
 use std::alloc::Global;
 use std::sync::Wait;
 

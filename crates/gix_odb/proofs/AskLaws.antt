@@ -4,7 +4,7 @@ use Rattle.std.proofs.Common.{◌≡◌, ◌↔◌, ℕ, true, List, [], ◌∷�
 use Rattle.std.specs.Result.{result_ok}
 use Rattle.gix_hash.specs.declared.kind.Kind.{Kind as HashKind}
 use Rattle.gix_hash.specs.declared.object_id.ObjectId.{ObjectId}
-use Rattle.odb_asks.specs.declared.ask.DiskAsk.{DiskAsk}
+use Rattle.odb_disk.specs.declared.ask.DiskAsk.{DiskAsk}
 use Rattle.gix_odb_loose.specs.LooseOrder.{disk_ask_of, stage_ask}
 use Rattle.gix_odb_loose.specs.declared.call.LooseCall.{LooseCall}
 use Rattle.gix_odb_loose.specs.declared.call.LooseReply.TheVariants as loose_replies
@@ -17,16 +17,16 @@ use Rattle.gix_odb_events.specs.declared.answer.Answer.{Answer}
 use Rattle.gix_odb_events.specs.declared.answer.Ask.{Ask}
 use Rattle.gix_odb_events.specs.declared.answer.Ask.TheVariants as asks
 use Rattle.gix_odb_events.specs.declared.view.View.{View}
-use Rattle.gix_odb_looks.proofs.HandedLaws.{look_ups_have_no_core_made}
-use Rattle.gix_odb_looks.specs.Exchange.{Exchange}
-use Rattle.gix_odb_looks.specs.LookUpOrder as looks
-use Rattle.gix_odb_looks.specs.LookUpOrder.{Setting}
-use Rattle.gix_odb_looks.specs.declared.look_up.LookHead.{LookHead}
-use Rattle.gix_odb_looks.specs.declared.look_up.LookStage.{LookStage}
-use Rattle.gix_odb_looks.specs.declared.look_up.LookStage.TheVariants as look_stages
-use Rattle.gix_odb_refresh.proofs.RefreshLaws.{refreshes_have_no_core_made}
-use Rattle.gix_odb_refresh.specs.Asked as any
-use Rattle.gix_odb_refresh.specs.declared.refresh.RefreshStep.TheVariants as fronts
+use Rattle.gix_odb.proofs.HandedLaws.{look_ups_have_no_core_made}
+use Rattle.gix_odb.specs.LookExchanges.{Exchange}
+use Rattle.gix_odb.specs.LookUpOrder as looks
+use Rattle.gix_odb.specs.LookUpOrder.{Setting}
+use Rattle.gix_odb.specs.declared.look_up.LookHead.{LookHead}
+use Rattle.gix_odb.specs.declared.look_up.LookStage.{LookStage}
+use Rattle.gix_odb.specs.declared.look_up.LookStage.TheVariants as look_stages
+use Rattle.gix_odb.proofs.RefreshLaws.{refreshes_have_no_core_made}
+use Rattle.gix_odb.specs.Asked as any
+use Rattle.gix_odb.specs.declared.refresh.RefreshStep.TheVariants as fronts
 use Rattle.gix_odb.proofs.CallLemmas.{fed-writes, started-writes}
 use Rattle.gix_odb.specs.CallOrder.{Asks, ask_of, fed, is_for_writes, is_write_at, loose_ask, looking_result, replied_by, result_of, started, unlisted, writing_result, written_at, wrote_as}
 use Rattle.gix_odb.specs.declared.ask.Ask.TheVariants as own

@@ -1,8 +1,8 @@
 -- What a call writes with stays a call that writes, and replies what it wrote.
 use Rattle.std.proofs.Common.{◌≡◌, ℕ, Bool, true, false, List, Option, Some, None, Result, Ok, Err, refl, sym, ap, ◌∙◌, subst}
 use Rattle.std.specs.Result.{result_ok}
-use Rattle.odb_asks.specs.declared.ask.DiskAnswer.{DiskAnswer}
-use Rattle.odb_asks.specs.declared.ask.DiskAsk.{DiskAsk}
+use Rattle.odb_disk.specs.declared.ask.DiskAnswer.{DiskAnswer}
+use Rattle.odb_disk.specs.declared.ask.DiskAsk.{DiskAsk}
 use Rattle.gix_hash.specs.declared.kind.Kind.{Kind as HashKind}
 use Rattle.gix_hash.specs.declared.object_id.ObjectId.{ObjectId}
 use Rattle.gix_object.specs.declared.kind.Kind.{Kind}
@@ -26,10 +26,10 @@ use Rattle.gix_odb_calls.specs.declared.query.Query.{Query}
 use Rattle.gix_odb_events.specs.declared.answer.Answer.{Answer}
 use Rattle.gix_odb_events.specs.declared.answer.Answer.TheVariants as told
 use Rattle.gix_odb_events.specs.declared.view.View.{View}
-use Rattle.gix_odb_looks.specs.LookUpOrder.{Setting}
-use Rattle.gix_odb_refresh.specs.RefreshOrder as refreshes
-use Rattle.gix_odb_refresh.specs.declared.refresh.RefreshStep.{RefreshStep}
-use Rattle.gix_odb_refresh.specs.declared.refresh.RefreshStep.TheVariants as fronts
+use Rattle.gix_odb.specs.LookUpOrder.{Setting}
+use Rattle.gix_odb.specs.RefreshOrder as refreshes
+use Rattle.gix_odb.specs.declared.refresh.RefreshStep.{RefreshStep}
+use Rattle.gix_odb.specs.declared.refresh.RefreshStep.TheVariants as fronts
 use Rattle.gix_odb.specs.CallOrder.{fed, fronted, is_for_writes, is_write, is_write_at, is_written, looking, replied_by, result_of_write, started, writing, written_at, written_on, wrote_as}
 use Rattle.gix_odb.specs.declared.call_state.CallStage.{CallStage}
 use Rattle.gix_odb.specs.declared.call_state.CallStage.TheVariants.{Looking, Refreshing, Refused, Writing}

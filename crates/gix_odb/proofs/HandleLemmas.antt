@@ -6,7 +6,7 @@ use Rattle.gix_odb.specs.declared.call_state.CallStage.{CallStage}
 use Rattle.gix_odb.specs.declared.handle_state.HandleState.{HandleState}
 use Rattle.gix_odb_events.specs.declared.answer.Answer.{Answer}
 use Rattle.gix_odb_events.specs.declared.view.View.{View}
-use Rattle.gix_odb_looks.specs.LookUpOrder.{Setting, view_of}
+use Rattle.gix_odb.specs.LookUpOrder.{Setting, view_of}
 
 setting_told : (handle : HandleState) (view : Option View) → setting_at (seeing handle view) ≡ setting_at handle
 setting_told handle None = refl

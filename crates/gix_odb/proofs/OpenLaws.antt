@@ -5,12 +5,12 @@ use Rattle.std.proofs.Common.{◌≡◌, ◌⊎◌, inl, inr, ℕ, suc, ◌+◌,
 use Rattle.std.specs.List.{IsDistinct}
 use Rattle.std.proofs.lemmas.Option.{same_Some}
 use Rattle.odb_base.specs.Path.{Path}
-use Rattle.odb_asks.specs.Ask.{change_of_ask}
-use Rattle.odb_asks.specs.declared.ask.DiskAsk.{DiskAsk}
-use Rattle.odb_asks.specs.declared.ask.DiskAsk.TheVariants as disk_asks
-use Rattle.odb_nodes.specs.Tree.{Tree}
+use Rattle.odb_disk.specs.Ask.{change_of_ask}
+use Rattle.odb_disk.specs.declared.ask.DiskAsk.{DiskAsk}
+use Rattle.odb_disk.specs.declared.ask.DiskAsk.TheVariants as disk_asks
+use Rattle.odb_disk.specs.Tree.{Tree}
 use Rattle.gix_odb_events.specs.PackId.{most_slots}
-use Rattle.gix_odb_packs.specs.ListOrder as lists
+use Rattle.gix_odb_search.specs.ListOrder as lists
 use Rattle.gix_odb_events.specs.declared.answer.Answer.{Answer}
 use Rattle.gix_odb_events.specs.declared.answer.Answer.TheVariants as told
 use Rattle.gix_odb_events.specs.declared.answer.Ask.{Ask}
@@ -21,17 +21,17 @@ use Rattle.gix_odb_calls.specs.declared.call.Reply.{Reply}
 use Rattle.gix_odb_calls.specs.declared.call.Reply.TheVariants as replies
 use Rattle.gix_odb_calls.specs.declared.init.Error.{Error}
 use Rattle.gix_odb_calls.specs.declared.init.Slots.{Slots}
-use Rattle.gix_odb_looks.specs.Exchange.{AreAnswered, Exchange}
-use Rattle.gix_odb_looks.specs.Laps.{AreWithin, turns_of_lap}
-use Rattle.gix_odb_looks.specs.LookUpOrder.{Setting}
-use Rattle.gix_odb_looks.specs.Shown.{folders_of}
-use Rattle.gix_odb_looks.proofs.HandedLaws.{IsOwnStream, left_open}
-use Rattle.gix_odb_refresh.proofs.ListerLaws.Reads.{AsksOwn, ChangesNothing, lister_own, lister_reads}
-use Rattle.gix_odb_looks.proofs.HandedLaws.Reading.{path_is_looked_at}
-use Rattle.gix_odb_refresh.proofs.ListerLaws.Streams.{HasNone, IsOpen}
-use Rattle.gix_odb_refresh.proofs.ListerLaws.Folders.{IsFolderOfPacks, lister_opens_there}
-use Rattle.gix_odb_refresh.specs.Asked.{AreSuited}
-use Rattle.gix_odb_refresh.proofs.RefreshLaws.Known.{told_of}
+use Rattle.gix_odb.specs.LookExchanges.{AreAnswered, Exchange}
+use Rattle.gix_odb.specs.Laps.{AreWithin, turns_of_lap}
+use Rattle.gix_odb.specs.LookUpOrder.{Setting}
+use Rattle.gix_odb.specs.Shown.{folders_of}
+use Rattle.gix_odb.proofs.HandedLaws.{IsOwnStream, left_open}
+use Rattle.gix_odb.proofs.ListerLaws.Reads.{AsksOwn, ChangesNothing, lister_own, lister_reads}
+use Rattle.gix_odb.proofs.HandedLaws.Reading.{path_is_looked_at}
+use Rattle.gix_odb.proofs.ListerLaws.Streams.{HasNone, IsOpen}
+use Rattle.gix_odb.proofs.ListerLaws.Folders.{IsFolderOfPacks, lister_opens_there}
+use Rattle.gix_odb.specs.Asked.{AreSuited}
+use Rattle.gix_odb.proofs.RefreshLaws.Known.{told_of}
 use Rattle.gix_odb.specs.OpenOrder.{ask_of}
 use Rattle.gix_odb.specs.OpenExchanges.{AreAsked, IsCaused, IsNumber, asks_of, behind}
 use Rattle.gix_odb.specs.declared.open_state.OpenStage.{OpenStage}

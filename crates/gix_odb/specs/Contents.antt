@@ -3,19 +3,19 @@ use Rattle.std.specs.Prelude.{◌≡◌, ℕ, Bool, true, false, List, ◌∷◌
 use Rattle.std.specs.Map.{lookup}
 use Rattle.std.specs.Ordering.{eq_by_cmp}
 use Rattle.odb_base.specs.Path.{Name, Path}
-use Rattle.odb_nodes.specs.Tree.{Tree}
-use Rattle.odb_nodes.specs.Tree.Follow.{read_of}
+use Rattle.odb_disk.specs.Tree.{Tree}
+use Rattle.odb_disk.specs.Tree.Follow.{read_of}
 use Rattle.gix_hash.specs.declared.object_id.ObjectId.{ObjectId}
 use Rattle.gix_hash.specs.ObjectId.{id_cmp, kind_of}
 use Rattle.gix_hash.specs.declared.kind.Kind.{Kind as HashKind}
 use Rattle.gix_object.specs.declared.kind.Kind.{Kind}
 use Rattle.gix_object.specs.declared.want.Want.{Want}
 use Rattle.gix_object.specs.declared.want.Want.TheVariants as wants
-use Rattle.gix_pack_files.specs.Pack.{Entry, entry_at, header_at, is_pack}
-use Rattle.gix_pack_files.specs.declared.data.entry.Header as entry
+use Rattle.gix_pack_read.specs.Pack.{Entry, entry_at, header_at, is_pack}
+use Rattle.gix_pack_read.specs.declared.data.entry.Header as entry
 use Rattle.gix_odb_loose.specs.LooseFile as loose
 use Rattle.gix_odb_loose.specs.LooseOrder.{job_of}
-use Rattle.gix_odb_looks.specs.Found.{Gives}
+use Rattle.gix_odb.specs.Found.{Gives}
 use Rattle.gix_odb_calls.specs.declared.query.Query.{Query}
 use Rattle.gix_odb_calls.specs.declared.find.Header as headers
 use Rattle.gix_odb_calls.specs.declared.find.Header.TheVariants.{Loose, Packed}

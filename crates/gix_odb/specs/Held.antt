@@ -2,13 +2,13 @@
 -- `Contents` and its lines in `Holds`, `WasShown`, `Place` and `LiesAt`; what is said of all kinds names none.
 use Rattle.std.specs.Prelude.{◌≡◌, ℕ, true, false, List, [], ◌∷◌, ◌++◌, Contains, Ok}
 use Rattle.odb_base.specs.Path.{Name, Path}
-use Rattle.odb_nodes.specs.Tree.{Tree}
-use Rattle.odb_nodes.specs.Tree.Follow.{looked}
-use Rattle.odb_nodes.specs.declared.meta.Kind.TheVariants as kinds
-use Rattle.odb_nodes.specs.declared.meta.Meta.{Meta}
+use Rattle.odb_disk.specs.Tree.{Tree}
+use Rattle.odb_disk.specs.Tree.Follow.{looked}
+use Rattle.odb_disk.specs.declared.meta.Kind.TheVariants as kinds
+use Rattle.odb_disk.specs.declared.meta.Meta.{Meta}
 use Rattle.gix_hash.specs.declared.object_id.ObjectId.{ObjectId}
 use Rattle.gix_odb_loose.specs.LooseFile.{loose_path}
-use Rattle.gix_odb_packs.specs.PackFolder.{is_index_name, pack_folder}
+use Rattle.gix_odb_search.specs.PackFolder.{is_index_name, pack_folder}
 use Rattle.gix_odb_events.specs.PackPath.{pack_path}
 use Rattle.gix_object.specs.declared.want.Want.{Want}
 use Rattle.gix_object.specs.declared.want.Want.TheVariants.{Object, Header, Presence}

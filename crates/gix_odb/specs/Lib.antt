@@ -1,3 +1,25 @@
+-- What a look-up has as it starts, what it read last, one exchange after another, the listed files of a tree, the calls of a listing, an object
+-- that moves, and objects that hash to an id.
+pub mod LookUpOrder
+pub mod LookExchanges
+pub mod Found
+pub mod Caused
+pub mod Reply
+pub mod OpenStream
+pub mod Fair
+pub mod Laps
+pub mod True
+pub mod Store
+pub mod LoadIndex
+pub mod RefreshOrder
+pub mod Exchange
+pub mod Suited
+pub mod Asked
+pub mod Stream
+pub mod Shown
+pub mod ListingCaused
+pub mod Refreshed
+pub mod Lap
 pub mod Contents
 pub mod Moments
 pub mod Held
@@ -7,3 +29,10 @@ pub mod CallOrder
 pub mod OpenOrder
 pub mod OpenExchanges
 pub mod OpenState
+pub mod AtHand
+pub mod JustRead
+pub mod Following
+pub mod ListedFiles
+pub mod ListerCalls
+pub mod Moved
+pub mod Hashed

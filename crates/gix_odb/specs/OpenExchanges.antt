@@ -1,30 +1,30 @@
 -- What an opening asked and was answered, which number of slots that comes to, and why one is refused.
 use Rattle.std.specs.Prelude.{◌≡◌, ℕ, ◌<◌, true, List, [], ◌∷◌, length, Option}
 use Rattle.odb_base.specs.Path.{Path}
-use Rattle.odb_asks.specs.declared.ask.DiskAnswer.{DiskAnswer}
-use Rattle.odb_asks.specs.declared.ask.DiskAnswer.TheVariants as answers
-use Rattle.odb_asks.specs.declared.ask.DiskAsk.TheVariants as disk_asks
-use Rattle.odb_nodes.specs.declared.disk_error.DiskError.TheVariants as disk_errors
-use Rattle.odb_nodes.specs.declared.meta.Kind.{Kind}
-use Rattle.odb_nodes.specs.declared.meta.Kind.TheVariants as kinds
+use Rattle.odb_disk.specs.declared.ask.DiskAnswer.{DiskAnswer}
+use Rattle.odb_disk.specs.declared.ask.DiskAnswer.TheVariants as answers
+use Rattle.odb_disk.specs.declared.ask.DiskAsk.TheVariants as disk_asks
+use Rattle.odb_disk.specs.declared.disk_error.DiskError.TheVariants as disk_errors
+use Rattle.odb_disk.specs.declared.meta.Kind.{Kind}
+use Rattle.odb_disk.specs.declared.meta.Kind.TheVariants as kinds
 use Rattle.gix_odb_events.specs.PackId.{most_slots}
 use Rattle.gix_odb_events.specs.declared.listing.Listing.{Listing}
-use Rattle.gix_odb_packs.specs.ListOrder as lists
+use Rattle.gix_odb_search.specs.ListOrder as lists
 use Rattle.gix_odb_events.specs.declared.answer.Answer.{Answer}
 use Rattle.gix_odb_events.specs.declared.answer.Answer.TheVariants as told
 use Rattle.gix_odb_events.specs.declared.answer.Ask.{Ask}
 use Rattle.gix_odb_events.specs.declared.answer.Ask.TheVariants as asks
-use Rattle.gix_odb_packs.specs.declared.lister.ListStep.{ListStep}
-use Rattle.gix_odb_packs.specs.declared.lister.ListStep.TheVariants as listed
+use Rattle.gix_odb_search.specs.declared.lister.ListStep.{ListStep}
+use Rattle.gix_odb_search.specs.declared.lister.ListStep.TheVariants as listed
 use Rattle.gix_odb_calls.specs.declared.init.Error as opening
 use Rattle.gix_odb_calls.specs.declared.init.Error.TheVariants as opening_errors
 use Rattle.gix_odb_calls.specs.declared.init.Slots.{Slots}
 use Rattle.gix_odb_calls.specs.declared.init.Slots.TheVariants.{AsNeededByDiskState, Given}
 use Rattle.gix_odb_calls.specs.declared.load_index.Error.TheVariants as load_errors
-use Rattle.gix_odb_looks.specs.Exchange.{Exchange, HasFailed, WasTold}
-use Rattle.gix_odb_looks.specs.LookUpOrder.{Setting}
-use Rattle.gix_odb_refresh.specs.Asked as any
-use Rattle.gix_odb_refresh.specs.Refreshed.{HasBroken}
+use Rattle.gix_odb.specs.LookExchanges.{Exchange, HasFailed, WasTold}
+use Rattle.gix_odb.specs.LookUpOrder.{Setting}
+use Rattle.gix_odb.specs.Asked as any
+use Rattle.gix_odb.specs.Refreshed.{HasBroken}
 use Rattle.gix_odb.specs.OpenOrder.{ask_of, fed, slots_for}
 use Rattle.gix_odb.specs.declared.open_state.OpenStage.{OpenStage}
 

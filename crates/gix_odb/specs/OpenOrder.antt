@@ -2,20 +2,20 @@
 -- many slots as its indices need; and then a core for the store, at which the handle is registered.
 use Rattle.std.specs.Prelude.{◌≡◌, ℕ, ◌*◌, ◌/◌, max, true, nat_le, List, ◌∷◌, length, Option, Some, None, Result, Ok, Err, if◌then◌else◌}
 use Rattle.odb_base.specs.Path.{Path}
-use Rattle.odb_asks.specs.declared.ask.DiskAsk.TheVariants as disk_asks
-use Rattle.odb_asks.specs.declared.ask.DiskAnswer.{DiskAnswer}
-use Rattle.odb_asks.specs.declared.ask.DiskAnswer.TheVariants as answers
-use Rattle.odb_nodes.specs.declared.disk_error.DiskError.TheVariants as disk_errors
-use Rattle.odb_nodes.specs.declared.meta.Kind.{Kind}
-use Rattle.odb_nodes.specs.declared.meta.Kind.TheVariants as kinds
+use Rattle.odb_disk.specs.declared.ask.DiskAsk.TheVariants as disk_asks
+use Rattle.odb_disk.specs.declared.ask.DiskAnswer.{DiskAnswer}
+use Rattle.odb_disk.specs.declared.ask.DiskAnswer.TheVariants as answers
+use Rattle.odb_disk.specs.declared.disk_error.DiskError.TheVariants as disk_errors
+use Rattle.odb_disk.specs.declared.meta.Kind.{Kind}
+use Rattle.odb_disk.specs.declared.meta.Kind.TheVariants as kinds
 use Rattle.gix_odb_events.specs.PackId.{most_slots}
 use Rattle.gix_odb_events.specs.declared.answer.Answer.{Answer}
 use Rattle.gix_odb_events.specs.declared.answer.Answer.TheVariants as told
 use Rattle.gix_odb_events.specs.declared.answer.Ask.{Ask}
 use Rattle.gix_odb_events.specs.declared.answer.Ask.TheVariants as asks
-use Rattle.gix_odb_packs.specs.ListOrder as lists
-use Rattle.gix_odb_packs.specs.declared.lister.ListStep.{ListStep}
-use Rattle.gix_odb_packs.specs.declared.lister.ListStep.TheVariants as listed
+use Rattle.gix_odb_search.specs.ListOrder as lists
+use Rattle.gix_odb_search.specs.declared.lister.ListStep.{ListStep}
+use Rattle.gix_odb_search.specs.declared.lister.ListStep.TheVariants as listed
 use Rattle.gix_odb_calls.specs.declared.call.Reply.{Reply}
 use Rattle.gix_odb_calls.specs.declared.call.Reply.TheVariants as replies
 use Rattle.gix_odb_calls.specs.declared.call.CallError.TheVariants as call_errors

@@ -1,7 +1,7 @@
 //! What calls and openings ask for, and their replies.
 use gix_odb_calls::Reply;
 use gix_odb_events::Event;
-use odb_asks::DiskAsk;
+use odb_disk::DiskAsk;
 
 /// What a call on a handle does next.
 #[derive(Drop)]

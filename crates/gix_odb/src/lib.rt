@@ -1,15 +1,15 @@
 //! A store over several folders: what it holds, and the calls on a handle of it.
 //!
-//! A call is a machine: it names one call of the disk or one event of the store's core at a time, takes the answer, and
-//! ends with a reply. The order of work is in `specs/{OpenOrder,CallOrder}.antt`, of a query in `gix_odb_looks`, of the
-//! refresh before a write in `gix_odb_refresh`; what a store holds, and for how long, in
-//! `specs/{Contents,Moments,Held}.antt`. The crates above decide who drives the machines, and over which disk.
+//! A call is a machine: it names one call of the disk or one event of the store's core at a time, takes the answer, and ends with
+//! a reply. Openings, look-ups, refreshes and writes have their order of work in `specs/{OpenOrder,LookUpOrder,RefreshOrder,
+//! CallOrder}.antt`; what a store holds, and for how long, is in `specs/{Contents,Moments,Held}.antt`. The laws in
+//! `proofs/*Laws.antt` are for the crates that drive the machines over some disk.
 //! ```rust
 //! let mut state = CallState::start(alloc, &handle, Call::Find(id))?;
 //! let reply = loop {
 //!     match state.ask(alloc)? {
-//!         Ask::Disk(ask) => state.feed(alloc, Answer::Disk(..))?,    // the answer of the disk
-//!         Ask::Core(event) => state.feed(alloc, Answer::Core(..))?,  // or that of the core
+//!         Ask::Disk(ask) => state.feed(alloc, ..)?,    // with the answer of the disk
+//!         Ask::Core(event) => state.feed(alloc, ..)?,  // or with that of the core
 //!         Ask::Done(reply) => break reply,
 //!     }
 //! };
@@ -20,7 +20,10 @@
 mod ask;
 mod call_state;
 mod handle_state;
+mod look_up;
 mod open_state;
+mod refresh;
+mod refusals;
 mod see;
 
 pub use ask::{Ask, OpenAsk};
@@ -30,7 +33,8 @@ pub use gix_odb_calls::{
     copy_of_paths, find, init, load_index, write,
 };
 pub use gix_odb_events::Answer;
-pub use gix_odb_looks::LookUp;
-pub use gix_odb_refresh::Refresh;
 pub use handle_state::HandleState;
+pub use look_up::{LookHead, LookStage, LookUp, LooseRound, Part, Purpose, Setting};
 pub use open_state::{OpenStage, OpenState};
+pub use refresh::{Refresh, RefreshStep};
+pub use refusals::of_refusal;

@@ -1,7 +1,7 @@
 //! What a handle sees of an answer.
 ghost use Rattle.std.specs.Prelude.{◌≡◌, IfOk, Ok};
 ghost use Rattle.gix_odb_events.specs.Answers.{view_in};
-ghost use Rattle.gix_odb_looks.specs.LookUpOrder.{view_of};
+ghost use Rattle.gix_odb.specs.LookUpOrder.{view_of};
 ghost use Rattle.gix_odb.specs.HandleState.{told_by};
 
 use crate::handle_state::HandleState;

@@ -4,7 +4,7 @@ ghost use Rattle.std.specs.Prelude.{◌≡◌, IfOk};
 use crate::call::{Call, Reply};
 use crate::init::{IdPairs, Options, PathList, copy_of_pairs, copy_of_paths};
 use odb_base::{Boxed, NoMemory, PathText};
-use odb_nodes::Change;
+use odb_disk::Change;
 use std::alloc::Global;
 
 /// A step of a world.

@@ -9,8 +9,8 @@ use crate::find;
 use gix_hash::ObjectId;
 use gix_object::{Kind, Want};
 use gix_odb_loose::reply;
-use odb_asks::{DiskAnswer, DiskAsk};
 use odb_base::{ByteList, NoMemory, PathText};
+use odb_disk::{DiskAnswer, DiskAsk};
 use std::alloc::Global;
 
 /// The call of a folder that is asked for the object that a query seeks: one call of the disk, on the object's path.

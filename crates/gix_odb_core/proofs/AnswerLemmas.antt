@@ -5,7 +5,7 @@ use Rattle.gix_odb_core.specs.Replay.{answer_of, publish_answer, put_answer}
 use Rattle.gix_odb_events.specs.Answers.{Answer}
 use Rattle.gix_odb_core.specs.Steps.{Publishing, Outdated, TooFew, Overflows, Unchanged, Published, after, publishing, shape_published, shape_stored}
 use Rattle.gix_odb_events.specs.View.{last_state}
-use Rattle.gix_odb_slots.specs.Files.{slot_with_index, slot_with_pack}
+use Rattle.gix_odb_core.specs.Files.{slot_with_index, slot_with_pack}
 use Rattle.gix_odb_core.specs.Views.{view_of}
 use Rattle.gix_odb_events.specs.declared.event.Effect.TheVariants as effects
 use Rattle.gix_odb_events.specs.declared.event.Event.{Event}

@@ -3,7 +3,7 @@ use Rattle.std.proofs.Common.{◌≡◌, ℕ, ◌+◌, ◌-◌, Bool, true, fals
 use Rattle.std.proofs.lemmas.Bool.{eqb-true, ltb-true}
 use Rattle.gix_odb_core.proofs.PublishingRule.{free_count, listed_places, listed_slots, new_count, publishing_rule}
 use Rattle.gix_odb_core.specs.Causes.{HasTooFewSlots, ListingOverflows, PutOverflows, StandsAtLast, rows_overflow}
-use Rattle.gix_odb_slots.specs.Publish.{taken}
+use Rattle.gix_odb_core.specs.Publish.{taken}
 use Rattle.gix_odb_events.specs.Slots.{slot_at, Slot}
 use Rattle.gix_odb_core.specs.Replay.{answer_of, publish_answer, put_answer}
 use Rattle.gix_odb_events.specs.Answers.{Answer}
@@ -11,7 +11,7 @@ use Rattle.gix_odb_core.specs.Steps.{Publishing, Outdated, TooFew, Overflows, Un
 use Rattle.gix_odb_events.specs.View.{last_state}
 use Rattle.gix_odb_core.specs.Steps.{publishing, shape_published, shape_stored, takes_over, with_list, with_room}
 use Rattle.gix_odb_core.specs.Handles.{is_any_stable}
-use Rattle.gix_odb_slots.specs.Files.{slot_with_index, slot_with_pack}
+use Rattle.gix_odb_core.specs.Files.{slot_with_index, slot_with_pack}
 use Rattle.gix_odb_core.specs.Views.{view_of}
 use Rattle.gix_odb_events.specs.declared.event.Effect.TheVariants as effects
 use Rattle.gix_odb_events.specs.declared.event.Event.{Event}

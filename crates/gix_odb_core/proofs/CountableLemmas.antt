@@ -8,13 +8,13 @@ use Rattle.std.proofs.lemmas.List.{length-set}
 use Rattle.std.proofs.lemmas.List.Elements.{All-set}
 use Rattle.std.proofs.lemmas.List.Quantifiers.{position-Some}
 use Rattle.std.proofs.lemmas.Map.Steps.{length-le_from_distinct_below}
-use Rattle.gix_odb_slots.proofs.FewPacksLemmas.{each_few, few-index, few-pack, few-passed}
-use Rattle.gix_odb_slots.proofs.PublishLaws.{IsDistinct-list_after}
-use Rattle.gix_odb_slots.proofs.SlotsAfterLemmas.{length-slots_after}
+use Rattle.gix_odb_core.proofs.FewPacksLemmas.{each_few, few-index, few-pack, few-passed}
+use Rattle.gix_odb_core.proofs.PublishLaws.{IsDistinct-list_after}
+use Rattle.gix_odb_core.proofs.SlotsAfterLemmas.{length-slots_after}
 use Rattle.gix_odb_core.proofs.PublishingRule.{listed_slots, publishing_rule}
 use Rattle.gix_odb_core.proofs.RoomLemmas.{slots-stand}
-use Rattle.gix_odb_slots.specs.Files.{slot_passed, slot_with_index, slot_with_pack}
-use Rattle.gix_odb_slots.specs.Publish.{list_after}
+use Rattle.gix_odb_core.specs.Files.{slot_passed, slot_with_index, slot_with_pack}
+use Rattle.gix_odb_core.specs.Publish.{list_after}
 use Rattle.gix_odb_events.specs.Slots.{slot_at, Slot, holds, HasFewPacks}
 use Rattle.gix_odb_events.specs.PackFiles.{HasDifferentPaths}
 use Rattle.gix_odb_events.specs.declared.listing.Listing.{Listing}

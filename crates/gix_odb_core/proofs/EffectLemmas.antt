@@ -8,7 +8,7 @@ use Rattle.gix_odb_core.specs.Replay.{IsNext, answer_of, is_refresh, number_behi
 use Rattle.gix_odb_events.specs.Answers.{Answer}
 use Rattle.gix_odb_core.specs.Steps.{Publishing, Outdated, TooFew, Overflows, Unchanged, Published, after, publishing}
 use Rattle.gix_odb_events.specs.View.{last_state}
-use Rattle.gix_odb_slots.specs.Files.{slot_with_index, slot_with_pack}
+use Rattle.gix_odb_core.specs.Files.{slot_with_index, slot_with_pack}
 use Rattle.gix_odb_core.specs.Views.{view_of}
 use Rattle.gix_odb_events.specs.declared.event.Effect.TheVariants as effects
 use Rattle.gix_odb_events.specs.declared.event.Event.{Event}

@@ -3,7 +3,7 @@ use Rattle.std.proofs.Common.{Contains, ◌≡◌, ℕ, Bool, true, false, cond,
 use Rattle.std.specs.List.{list_any}
 use Rattle.std.proofs.lemmas.Bool.{or_from, or_parts}
 use Rattle.odb_base.specs.Path.{Path}
-use Rattle.gix_pack_files.specs.FileBytes.{FileBytes}
+use Rattle.gix_pack_read.specs.FileBytes.{FileBytes}
 use Rattle.gix_odb_core.specs.Handles.{is_any_stable}
 use Rattle.gix_odb_core.specs.Misses.{has_garbage, is_garbage, is_index_garbage}
 use Rattle.gix_odb_events.specs.OnDiskFile.{file_at, is_disposable, passed, stored, with_state}
@@ -12,7 +12,7 @@ use Rattle.gix_odb_events.specs.Slots.{slot_at, Slot, has_disposable, is_index_d
 use Rattle.gix_odb_core.specs.Replay.{after_entry, replay}
 use Rattle.gix_odb_events.specs.PackFiles.{PackFile, same_path}
 use Rattle.gix_odb_core.specs.Steps.{after, shape_published}
-use Rattle.gix_odb_slots.specs.Files.{index_passed, index_with, passed_at, slot_passed, slot_with_index, slot_with_pack, stored_at, takes, with_index}
+use Rattle.gix_odb_core.specs.Files.{index_passed, index_with, passed_at, slot_passed, slot_with_index, slot_with_pack, stored_at, takes, with_index}
 use Rattle.gix_odb_events.specs.Shown.{is_listed, shown_slot}
 use Rattle.gix_odb_core.specs.Views.{view_of}
 use Rattle.gix_odb_events.specs.declared.event.Event.{Event}
@@ -26,7 +26,7 @@ use Rattle.gix_odb_events.specs.declared.slot.Filled.{Filled}
 use Rattle.gix_odb_events.specs.declared.slot.IndexFile.{IndexFile}
 use Rattle.gix_odb_events.specs.declared.slot.IndexFile.TheVariants.{Single, Multi}
 use Rattle.gix_odb_events.specs.declared.loaded.SnapshotIndex.{SnapshotIndex}
-use Rattle.gix_odb_slots.proofs.DisposableLaws.{listed_slot_has_no_disposable}
+use Rattle.gix_odb_core.proofs.DisposableLaws.{listed_slot_has_no_disposable}
 use Rattle.gix_odb_core.proofs.ShownLemmas.{shown_unlisted}
 use Rattle.gix_odb_core.proofs.SlotTurnLemmas.{confirmed_list_is_the_same, entry_gives, list_by, publish_gives, set_turn, slots_by, stored_gives}
 

@@ -15,7 +15,7 @@ use Rattle.gix_odb_events.specs.declared.event.Event.{Event}
 use Rattle.gix_odb_events.specs.declared.event.Event.TheVariants as event
 use Rattle.gix_odb_core.specs.declared.journal.Entry.{Entry}
 use Rattle.gix_odb_core.specs.declared.shape.Shape.{Shape}
-use Rattle.gix_odb_slots.proofs.DistinctLemmas.{each_weaker}
+use Rattle.gix_odb_core.proofs.DistinctLemmas.{each_weaker}
 use Rattle.gix_odb_core.proofs.HandleLemmas.{handles-after, seat-other, seat-self, with_seat-other, with_seat-same, without_seat-other}
 use Rattle.gix_odb_core.proofs.SlotTurnLemmas.{entry_gives}
 

@@ -10,7 +10,7 @@ use Rattle.gix_odb_core.specs.Possible.{is_remove}
 use Rattle.gix_odb_events.specs.Slots.{slot_at}
 use Rattle.gix_odb_core.specs.Replay.{CanHappen}
 use Rattle.gix_odb_core.specs.Steps.{after, shape_published}
-use Rattle.gix_odb_slots.specs.Files.{slot_with_index, slot_with_pack}
+use Rattle.gix_odb_core.specs.Files.{slot_with_index, slot_with_pack}
 use Rattle.gix_odb_core.specs.Turn.{handles_after}
 use Rattle.gix_odb_events.specs.declared.event.Event.{Event}
 use Rattle.gix_odb_events.specs.declared.event.Event.TheVariants as event

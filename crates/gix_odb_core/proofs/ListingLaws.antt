@@ -6,7 +6,7 @@ use Rattle.gix_odb_core.specs.Handles.{is_any_stable}
 use Rattle.gix_odb_core.specs.Listed.{HasRowsInOrder}
 use Rattle.gix_odb_events.specs.Answers.{Refreshes}
 use Rattle.gix_odb_events.specs.View.{HasRow}
-use Rattle.gix_odb_slots.specs.Counts.{listed_in}
+use Rattle.gix_odb_core.specs.Counts.{listed_in}
 use Rattle.gix_odb_events.specs.Slots.{slot_at, has_disposable, holds, index_path, Slot}
 use Rattle.gix_odb_core.specs.Replay.{answer_of, publish_answer}
 use Rattle.gix_odb_core.specs.Steps.{Publishing, Outdated, TooFew, Overflows, Unchanged, Published, after, publishing, shape_published}
@@ -21,8 +21,8 @@ use Rattle.gix_odb_events.specs.declared.slot.Filled.{Filled}
 use Rattle.gix_odb_events.specs.declared.loaded.LoadedIndex.{LoadedIndex}
 use Rattle.gix_odb_events.specs.declared.loaded.SnapshotIndex.{SnapshotIndex}
 use Rattle.gix_odb_events.specs.declared.view.View.{View}
-use Rattle.gix_odb_slots.proofs.DisposableLaws.{listed_slot_has_no_disposable}
-use Rattle.gix_odb_slots.proofs.PublishLaws.{filled_from_holds, length-list_after, listed_slot_holds_its_row}
+use Rattle.gix_odb_core.proofs.DisposableLaws.{listed_slot_has_no_disposable}
+use Rattle.gix_odb_core.proofs.PublishLaws.{filled_from_holds, length-list_after, listed_slot_holds_its_row}
 use Rattle.gix_odb_core.proofs.ShownLemmas.{gives, shown_unlisted}
 use Rattle.gix_odb_core.proofs.SlotTurnLemmas.{HasRoom, confirmed_list_is_the_same, list_by, publish_gives, slots_by}
 

@@ -5,9 +5,9 @@ use Rattle.std.specs.Option.{is_none}
 use Rattle.gix_odb_core.specs.Metrics.{metrics_of}
 use Rattle.gix_odb_events.specs.declared.metrics.Metrics.{Metrics}
 use Rattle.gix_odb_core.specs.declared.shape.Shape.{Shape}
-use Rattle.gix_odb_slots.specs.Counts.{disposable_in, listed_in}
-use Rattle.gix_odb_slots.specs.Tally.{tally_of}
-use Rattle.gix_odb_slots.specs.declared.counts.Tally.{Tally}
+use Rattle.gix_odb_core.specs.Counts.{disposable_in, listed_in}
+use Rattle.gix_odb_core.specs.Tally.{tally_of}
+use Rattle.gix_odb_core.specs.declared.counts.Tally.{Tally}
 
 abbrev measured : Shape → (handles refreshes unused : ℕ) → (listed disposable : Tally) → Metrics
 measured shape handles refreshes unused listed disposable =

@@ -2,7 +2,7 @@
 use Rattle.std.proofs.Common.{◌≡◌, ℕ, List, [], ◌∷◌, ◌++◌, map, Option, Some, None, Err, ◌⊎◌, inl, inr, refl, sym, ap, subst, ◌∙◌, append_assoc, append-nil}
 use Rattle.std.specs.List.{AllZip}
 use Rattle.odb_base.specs.Path.{Path}
-use Rattle.gix_multi_index.specs.MultiIndex.{told}
+use Rattle.gix_pack_read.specs.MultiIndex.{told}
 use Rattle.gix_odb_core.specs.Misses.{IsIndexMissing, IsMissedSince, IsMissingAt, IsPackMissing, StaysMissing}
 use Rattle.gix_odb_core.specs.Origins.{PassesOver, PutsPack}
 use Rattle.gix_odb_core.specs.Possible.{IsOpened}

@@ -5,7 +5,7 @@ use Rattle.gix_odb_core.specs.Numbers.{NeverFalls, RisesByAList, SameNumbers}
 use Rattle.gix_odb_events.specs.Slots.{slot_at}
 use Rattle.gix_odb_core.specs.Replay.{after_entry, answer_of, replay}
 use Rattle.gix_odb_core.specs.Steps.{Publishing, Unchanged, Published, after, publishing, shape_published}
-use Rattle.gix_odb_slots.specs.Files.{slot_passed, slot_with_index, slot_with_pack}
+use Rattle.gix_odb_core.specs.Files.{slot_passed, slot_with_index, slot_with_pack}
 use Rattle.gix_odb_events.specs.declared.event.Effect.TheVariants as effects
 use Rattle.gix_odb_events.specs.declared.event.Event.{Event}
 use Rattle.gix_odb_events.specs.declared.event.Event.TheVariants as event
@@ -15,7 +15,7 @@ use Rattle.gix_odb_core.specs.declared.shape.Shape.{Shape}
 use Rattle.gix_odb_events.specs.declared.view.View.{View}
 use Rattle.gix_odb_core.proofs.AnswerLemmas.{confirmed_by, published_by, publish-unstored, published_in, stored_by, stored_in, unchanged_in}
 use Rattle.gix_odb_core.proofs.SlotTurnLemmas.{entry_gives, publish_gives, slots_by, stored_gives}
-use Rattle.gix_odb_slots.proofs.SlotsAfterLemmas.{length-slots_after}
+use Rattle.gix_odb_core.proofs.SlotsAfterLemmas.{length-slots_after}
 
 -- ---- none falls
 

@@ -5,7 +5,7 @@ use Rattle.std.proofs.lemmas.Bool.{cases_lt, eqb-false}
 use Rattle.gix_odb_core.specs.Steps.{IsShape}
 use Rattle.gix_odb_core.specs.Views.{view_of}
 use Rattle.gix_odb_core.specs.declared.shape.Shape.{Shape}
-use Rattle.gix_odb_slots.specs.Counts.{listed_in}
+use Rattle.gix_odb_core.specs.Counts.{listed_in}
 use Rattle.gix_odb_events.specs.Slots.{slot_at, Slot, index_path}
 use Rattle.gix_odb_events.specs.Shown.{loaded_index, shown_slot, todo_of, unloaded_slot}
 use Rattle.gix_odb_events.specs.declared.loaded.LoadedIndex.{LoadedIndex}
@@ -13,9 +13,9 @@ use Rattle.gix_odb_events.specs.declared.loaded.SnapshotIndex.{SnapshotIndex}
 use Rattle.gix_odb_events.specs.declared.loaded.Todo.{Todo}
 use Rattle.gix_odb_events.specs.declared.slot.Filled.{Filled}
 use Rattle.gix_odb_core.proofs.ShownLemmas.{shown_of_slot}
-use Rattle.gix_odb_slots.proofs.ApartLemmas.{apart_at}
-use Rattle.gix_odb_slots.proofs.FilterMapLemmas.{IsDistinct-filter_map}
-use Rattle.gix_odb_slots.proofs.SameIndexLemmas.{same_filled, same_filled_flip}
+use Rattle.gix_odb_core.proofs.ApartLemmas.{apart_at}
+use Rattle.gix_odb_core.proofs.FilterMapLemmas.{IsDistinct-filter_map}
+use Rattle.gix_odb_core.proofs.SameIndexLemmas.{same_filled, same_filled_flip}
 
 module _ (shape : Shape) (is : IsShape shape) where
   -- the listed slots hold different indices: so no index is counted twice, and none is reported twice

@@ -3,7 +3,7 @@ use Rattle.std.proofs.Common.{◌≡◌, ℕ, Bool, true, false, ◌&&◌, nat_e
 use Rattle.std.specs.List.{AllZip}
 use Rattle.std.proofs.lemmas.List.Elements.{Contains-append_left, Contains-push}
 use Rattle.odb_base.specs.Path.{Path}
-use Rattle.gix_pack_files.specs.FileBytes.{FileBytes}
+use Rattle.gix_pack_read.specs.FileBytes.{FileBytes}
 use Rattle.gix_odb_events.specs.OnDiskFile.{loaded}
 use Rattle.gix_odb_core.specs.Origins.{ArePacksTold, IsIndexTold, IsMultiOf, IsOfRow, IsTold, Lists, PassesOver, PutsIndex, PutsPack, Tells, TellsListing, TellsPut, is_stored}
 use Rattle.gix_odb_core.specs.Possible.{IsOpened}
@@ -24,7 +24,7 @@ use Rattle.gix_odb_core.proofs.EffectLemmas.{Succeeds, succeeds-entry}
 use Rattle.gix_odb_core.proofs.OrderLaws.{entry_without_effect_changes_nothing}
 use Rattle.gix_odb_core.proofs.ReplayLemmas.{next_first, next_rest, replay-push}
 use Rattle.gix_odb_core.proofs.ShapeLaws.{opened_slots_are_empty}
-use Rattle.gix_odb_slots.proofs.SlotLemmas.{holds-new}
+use Rattle.gix_odb_core.proofs.SlotLemmas.{holds-new}
 use Rattle.gix_odb_core.proofs.SlotTurnLemmas.{CameFrom, entry_gives, filled_came_from}
 use Rattle.gix_odb_core.proofs.FileStepLemmas.{FileStep, FilledStep, IndexStep}
 

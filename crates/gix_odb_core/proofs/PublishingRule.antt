@@ -1,7 +1,7 @@
 -- A property of each outcome of a publishing is a property of the publishing.
 use Rattle.std.proofs.Common.{◌≡◌, ℕ, ◌-◌, Bool, true, false, cond, not, ◌==◌, nat_lt, List, length, refl}
 use Rattle.gix_odb_core.specs.Handles.{is_any_stable}
-use Rattle.gix_odb_slots.specs.Publish.{free_places, list_after, new_rows, slots_after, taken}
+use Rattle.gix_odb_core.specs.Publish.{free_places, list_after, new_rows, slots_after, taken}
 use Rattle.gix_odb_events.specs.Slots.{Slot}
 use Rattle.gix_odb_core.specs.Steps.{Publishing, Outdated, TooFew, Overflows, Unchanged, Published, is_confirmed, publishing, takes_over, with_list, with_room, would_overflow}
 use Rattle.gix_odb_events.specs.declared.listing.Listing.{Listing}

@@ -3,14 +3,14 @@ use Rattle.std.proofs.Common.{Contains, ◌≡◌, ℕ, zero, ◌+◌, Bool, tru
 use Rattle.std.specs.List.{list_any}
 use Rattle.std.proofs.lemmas.Bool.{and_parts, not-true}
 use Rattle.odb_base.specs.Path.{Path}
-use Rattle.gix_pack_files.specs.FileBytes.{FileBytes}
+use Rattle.gix_pack_read.specs.FileBytes.{FileBytes}
 use Rattle.gix_odb_events.specs.View.{IsShown}
 use Rattle.gix_odb_events.specs.OnDiskFile.{file_at, is_loaded, stored, with_state}
 use Rattle.gix_odb_events.specs.Slots.{slot_at, Slot}
 use Rattle.gix_odb_core.specs.Replay.{answer_of}
 use Rattle.gix_odb_events.specs.PackFiles.{PackFile, same_path}
 use Rattle.gix_odb_core.specs.Steps.{after, shape_stored}
-use Rattle.gix_odb_slots.specs.Files.{index_with, slot_with_index, slot_with_pack, stored_at, takes, with_index}
+use Rattle.gix_odb_core.specs.Files.{index_with, slot_with_index, slot_with_pack, stored_at, takes, with_index}
 use Rattle.gix_odb_events.specs.Shown.{shown_slot}
 use Rattle.gix_odb_events.specs.declared.event.Effect.TheVariants as effects
 use Rattle.gix_odb_events.specs.declared.event.Event.TheVariants as event
@@ -27,7 +27,7 @@ use Rattle.gix_odb_events.specs.declared.view.View.{View}
 use Rattle.gix_odb_core.proofs.AnswerLemmas.{stored_by, stored_in}
 use Rattle.gix_odb_core.proofs.ShownLemmas.{contains_more, shown_by}
 use Rattle.gix_odb_events.proofs.SamePathLaws.{same_path-true}
-use Rattle.gix_odb_slots.proofs.SlotsAfterLemmas.{filled_within, slot_at-set_same}
+use Rattle.gix_odb_core.proofs.SlotsAfterLemmas.{filled_within, slot_at-set_same}
 
 -- ---- an index
 

@@ -3,10 +3,10 @@ use Rattle.std.proofs.Common.{◌≡◌, ◌≢◌, ℕ, ◌+◌, ◌-◌, ◌<�
 use Rattle.std.proofs.Common.{List, [], ◌∷◌, length, map, take, refl, sym, ap, ◌∙◌, is_some, arith, eq-eqb}
 use Rattle.std.specs.List.{list_any, zip}
 use Rattle.std.proofs.lemmas.Bool.{and_parts, eqb-true, le-ltb}
-use Rattle.gix_odb_slots.proofs.SlotsAfterLemmas.{length-slots_after}
-use Rattle.gix_odb_slots.proofs.StandsLemmas.{slots_after-changes, slots_after-same, taken-none}
+use Rattle.gix_odb_core.proofs.SlotsAfterLemmas.{length-slots_after}
+use Rattle.gix_odb_core.proofs.StandsLemmas.{slots_after-changes, slots_after-same, taken-none}
 use Rattle.gix_odb_core.specs.Handles.{is_any_stable}
-use Rattle.gix_odb_slots.specs.Publish.{free_places, is_unsettled, list_after, new_rows, settled, slots_after, taken, with_taken}
+use Rattle.gix_odb_core.specs.Publish.{free_places, is_unsettled, list_after, new_rows, settled, slots_after, taken, with_taken}
 use Rattle.gix_odb_events.specs.Slots.{slot_at, Slot}
 use Rattle.gix_odb_core.specs.Shelf.{shelf_of}
 use Rattle.gix_odb_core.specs.Steps.{Outdated, Overflows, Published, TooFew, Unchanged, is_confirmed}

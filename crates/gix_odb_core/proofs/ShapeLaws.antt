@@ -10,7 +10,7 @@ use Rattle.gix_odb_events.specs.Slots.{slot_at, IsApart, Slot, new_filled, new_i
 use Rattle.gix_odb_core.specs.Replay.{CanHappen, after_entry, replay}
 use Rattle.gix_odb_events.specs.PackFiles.{same_path, HasDifferentPaths}
 use Rattle.gix_odb_core.specs.Steps.{IsShape, after, is_read, opening_shape, shape_published}
-use Rattle.gix_odb_slots.specs.Files.{slot_passed, slot_with_index, slot_with_pack}
+use Rattle.gix_odb_core.specs.Files.{slot_passed, slot_with_index, slot_with_pack}
 use Rattle.gix_odb_events.specs.declared.event.Event.{Event}
 use Rattle.gix_odb_events.specs.declared.event.Event.TheVariants as event
 use Rattle.gix_odb_core.specs.declared.journal.Entry.{Entry}
@@ -22,12 +22,12 @@ use Rattle.gix_odb_core.specs.declared.shape.Shape.{Shape}
 use Rattle.gix_odb_events.specs.declared.slot.Filled.{Filled}
 use Rattle.gix_odb_events.specs.declared.slot.IndexFile.{IndexFile}
 use Rattle.gix_odb_events.specs.declared.slot.IndexFile.TheVariants.{Single, Multi}
-use Rattle.gix_odb_slots.proofs.ApartLaws.{publish_keeps_slots_apart}
-use Rattle.gix_odb_slots.proofs.ApartLemmas.{apart_at, apart_from, each_at, each_from}
-use Rattle.gix_odb_slots.proofs.PublishLaws.{IsDistinct-list_after, listed_slots_are_filled}
-use Rattle.gix_odb_slots.proofs.SameIndexLemmas.{same_filled, same_filled_flip}
+use Rattle.gix_odb_core.proofs.ApartLaws.{publish_keeps_slots_apart}
+use Rattle.gix_odb_core.proofs.ApartLemmas.{apart_at, apart_from, each_at, each_from}
+use Rattle.gix_odb_core.proofs.PublishLaws.{IsDistinct-list_after, listed_slots_are_filled}
+use Rattle.gix_odb_core.proofs.SameIndexLemmas.{same_filled, same_filled_flip}
 use Rattle.gix_odb_core.proofs.SlotTurnLemmas.{CameFrom, SlotTurn, came_from, confirmed_list_is_the_same, entry_gives, publish_gives, publish_turns, set_turn, slots_by, stored_gives}
-use Rattle.gix_odb_slots.proofs.SlotsAfterLemmas.{slot_at-get_or}
+use Rattle.gix_odb_core.proofs.SlotsAfterLemmas.{slot_at-get_or}
 use Rattle.gix_odb_core.proofs.FileStepLemmas.{FilledStep, IndexStep, SlotStep, slot-passed, slot-same, slot-with_index, slot-with_pack}
 
 -- ---- what a step keeps of a slot

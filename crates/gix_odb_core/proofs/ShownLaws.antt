@@ -1,6 +1,6 @@
 -- Laws of what a view shows: each shown index is of a row that the journal published, and its bytes and those of its packs were stored by entries.
 use Rattle.std.proofs.Common.{◌≡◌, ℕ, ◌<◌, true, List, length, Option, Some, None, option_map, refl, subst, arith}
-use Rattle.gix_pack_files.specs.FileBytes.{FileBytes}
+use Rattle.gix_pack_read.specs.FileBytes.{FileBytes}
 use Rattle.gix_odb_core.specs.Views.{view_of}
 use Rattle.gix_odb_events.specs.View.{IsShown}
 use Rattle.gix_odb_events.specs.OnDiskFile.{loaded}
@@ -21,8 +21,8 @@ use Rattle.gix_odb_events.specs.declared.loaded.SnapshotIndex.{SnapshotIndex}
 use Rattle.gix_odb_core.proofs.NumberLaws.{entries_lower_no_number}
 use Rattle.gix_odb_core.proofs.OriginLaws.{journal_tells_each_slot}
 use Rattle.gix_odb_core.proofs.ShownLemmas.{shown_from, shown_of_slot}
-use Rattle.gix_odb_slots.proofs.SlotLemmas.{holds_path}
-use Rattle.gix_odb_slots.proofs.SlotsAfterLemmas.{filled_within}
+use Rattle.gix_odb_core.proofs.SlotLemmas.{holds_path}
+use Rattle.gix_odb_core.proofs.SlotsAfterLemmas.{filled_within}
 
 module _ (entries : List Entry) (place : ℕ) (row : ListingRow) where
   loaded_told : (index : IndexFile) (time : ℕ) (l : LoadedIndex) → is_index_of row row.multi index time ≡ true → IsMultiOf row index → IsIndexTold entries place index → loaded_index index ≡ Some l

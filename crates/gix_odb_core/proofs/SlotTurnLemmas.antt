@@ -5,14 +5,14 @@ use Rattle.std.proofs.lemmas.Bool.{and_parts, cases_lt, eq-eqb, eqb-true, ltb-fa
 use Rattle.std.proofs.lemmas.Option.{slice_get_past}
 use lib.Pointwise.{pointwise_decides}
 use Rattle.gix_odb_core.specs.Handles.{is_any_stable}
-use Rattle.gix_odb_slots.specs.Publish.{free_places, is_free, is_kept, list_after, new_rows, settled, slots_after, taken}
+use Rattle.gix_odb_core.specs.Publish.{free_places, is_free, is_kept, list_after, new_rows, settled, slots_after, taken}
 use Rattle.gix_odb_events.specs.Slots.{slot_at, Slot, filled_put_back, filled_trashed, new_filled}
 use Rattle.gix_odb_core.specs.Replay.{after_answer, after_entry}
 use Rattle.gix_odb_events.specs.Answers.{Answer}
 use Rattle.gix_odb_core.specs.Steps.{Publishing, Outdated, TooFew, Overflows, Unchanged, Published, after, is_confirmed}
 use Rattle.gix_odb_events.specs.View.{last_state}
 use Rattle.gix_odb_core.specs.Steps.{publishing, shape_published, shape_stored, takes_over, with_list, with_room, would_overflow}
-use Rattle.gix_odb_slots.specs.Files.{slot_passed, slot_with_index, slot_with_pack}
+use Rattle.gix_odb_core.specs.Files.{slot_passed, slot_with_index, slot_with_pack}
 use Rattle.gix_odb_events.specs.declared.event.Event.{Event}
 use Rattle.gix_odb_events.specs.declared.event.Event.TheVariants as event
 use Rattle.gix_odb_events.specs.declared.event.Refusal.TheVariants as refusals
@@ -21,9 +21,9 @@ use Rattle.gix_odb_events.specs.declared.listing.Listing.{Listing}
 use Rattle.gix_odb_events.specs.declared.listing.ListingRow.{ListingRow}
 use Rattle.gix_odb_core.specs.declared.shape.Shape.{Shape}
 use Rattle.gix_odb_events.specs.declared.slot.Filled.{Filled}
-use Rattle.gix_odb_slots.proofs.SlotsAfterLemmas.{seated, slot_at-set_other, slot_at-set_same, slots_after-at, length-slots_after, taken_free, taken_listed}
+use Rattle.gix_odb_core.proofs.SlotsAfterLemmas.{seated, slot_at-set_other, slot_at-set_same, slots_after-at, length-slots_after, taken_free, taken_listed}
 use Rattle.gix_odb_core.proofs.FileStepLemmas.{FilledStep, SlotStep, filled-put_back, filled-trashed, slot-passed, slot-same, slot-with_index, slot-with_pack}
-use Rattle.gix_odb_slots.proofs.TakenLemmas.{taker}
+use Rattle.gix_odb_core.proofs.TakenLemmas.{taker}
 
 -- ---- the outcomes of publishing
 

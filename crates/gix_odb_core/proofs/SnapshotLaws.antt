@@ -8,7 +8,7 @@ use Rattle.std.proofs.Math.Seq.{get_or-append_seam, take-append_seam}
 use Rattle.gix_odb_core.specs.Handles.{registered}
 use Rattle.gix_odb_core.specs.Views.{view_of}
 use Rattle.gix_odb_events.specs.View.{IsShown, last_state}
-use Rattle.gix_odb_slots.specs.Kept.{ShowsAgain}
+use Rattle.gix_odb_core.specs.Kept.{ShowsAgain}
 use Rattle.gix_odb_core.specs.Possible.{IsNeverRemoved, IsPossible}
 use Rattle.gix_odb_events.specs.Slots.{slot_at}
 use Rattle.gix_odb_core.specs.Replay.{AreNext, IsLegal, IsNext, answer_of, number_behind, publish_answer, put_answer, replay, snapshot_of}
@@ -16,7 +16,7 @@ use Rattle.gix_odb_events.specs.Answers.{view_in}
 use Rattle.gix_odb_core.specs.Snapshots.{IsHandedLast, handed_to}
 use Rattle.gix_odb_core.specs.State.{newest}
 use Rattle.gix_odb_core.specs.Steps.{Publishing, Outdated, TooFew, Overflows, Unchanged, Published, after, publishing, shape_published}
-use Rattle.gix_odb_slots.specs.Files.{slot_with_index, slot_with_pack}
+use Rattle.gix_odb_core.specs.Files.{slot_with_index, slot_with_pack}
 use Rattle.gix_odb_events.specs.declared.event.Effect.TheVariants as effects
 use Rattle.gix_odb_events.specs.declared.event.Event.{Event}
 use Rattle.gix_odb_events.specs.declared.event.Event.TheVariants as event

@@ -4,14 +4,14 @@ use Rattle.std.specs.List.{AllZip}
 use Rattle.std.proofs.lemmas.Bool.{not-true}
 use Rattle.std.proofs.lemmas.List.Elements.{All-head, All-tail, AllZip-get_or, length_all_zip}
 use Rattle.odb_base.specs.Path.{Path}
-use Rattle.gix_pack_files.specs.FileBytes.{FileBytes}
+use Rattle.gix_pack_read.specs.FileBytes.{FileBytes}
 use Rattle.gix_odb_core.specs.Handles.{is_any_stable, registered}
 use Rattle.gix_odb_core.specs.Views.{view_of}
 use Rattle.gix_odb_events.specs.View.{IsShown}
-use Rattle.gix_odb_slots.specs.Kept.{KeepsRead, KeepsReadFiles, KeepsReadIndex, ShowsAgain}
+use Rattle.gix_odb_core.specs.Kept.{KeepsRead, KeepsReadFiles, KeepsReadIndex, ShowsAgain}
 use Rattle.gix_odb_events.specs.OnDiskFile.{loaded}
 use Rattle.gix_odb_core.specs.Possible.{IsNeverRemoved, IsPossible, is_remove}
-use Rattle.gix_odb_slots.specs.Publish.{is_kept}
+use Rattle.gix_odb_core.specs.Publish.{is_kept}
 use Rattle.gix_odb_events.specs.Slots.{slot_at, Slot, index_path}
 use Rattle.gix_odb_core.specs.Replay.{after_entry, replay}
 use Rattle.gix_odb_events.specs.PackFiles.{PackFile}

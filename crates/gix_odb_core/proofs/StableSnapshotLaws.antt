@@ -19,7 +19,7 @@ use Rattle.gix_odb_events.specs.declared.event.Refusal.TheVariants as refusals
 use Rattle.gix_odb_core.specs.declared.journal.Entry.{Entry}
 use Rattle.gix_odb_core.specs.declared.shape.Shape.{Shape}
 use Rattle.gix_odb_events.specs.declared.view.View.{View}
-use Rattle.gix_odb_slots.specs.Kept.{ShowsAgain}
+use Rattle.gix_odb_core.specs.Kept.{ShowsAgain}
 use Rattle.gix_odb_events.specs.Slots.{slot_at}
 use Rattle.gix_odb_events.specs.Shown.{shown_slot}
 use Rattle.gix_odb_events.specs.declared.loaded.SnapshotIndex.{SnapshotIndex}

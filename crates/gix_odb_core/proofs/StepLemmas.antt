@@ -2,12 +2,12 @@
 use Rattle.std.proofs.Common.{◌≡◌, ℕ, ◌+◌, ◌≤◌, Bool, true, false, cond, ◌==◌, length, set, Option, Some, None, refl, arith}
 use Rattle.std.proofs.lemmas.List.{length-set}
 use Rattle.gix_odb_core.proofs.PublishingRule.{publishing_rule}
-use Rattle.gix_odb_slots.proofs.SlotsAfterLemmas.{length-slots_after}
+use Rattle.gix_odb_core.proofs.SlotsAfterLemmas.{length-slots_after}
 use Rattle.gix_odb_core.specs.Handles.{is_any_stable}
 use Rattle.gix_odb_events.specs.Slots.{slot_at}
 use Rattle.gix_odb_core.specs.Steps.{Publishing, after, shape_published, shape_stored}
 use Rattle.gix_odb_events.specs.View.{last_state}
-use Rattle.gix_odb_slots.specs.Files.{slot_passed, slot_with_index, slot_with_pack}
+use Rattle.gix_odb_core.specs.Files.{slot_passed, slot_with_index, slot_with_pack}
 use Rattle.gix_odb_events.specs.declared.event.Event.{Event}
 use Rattle.gix_odb_events.specs.declared.event.Event.TheVariants as event
 use Rattle.gix_odb_core.specs.declared.shape.Shape.{Shape}

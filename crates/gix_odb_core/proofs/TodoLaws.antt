@@ -16,8 +16,8 @@ use Rattle.gix_odb_events.specs.declared.loaded.Todo.{Todo}
 use Rattle.gix_odb_core.proofs.NumberLaws.{entries_lower_no_number}
 use Rattle.gix_odb_core.proofs.OriginLaws.{journal_tells_each_slot}
 use Rattle.gix_odb_core.proofs.ShownLemmas.{given_by, shown_from, shown_of_slot}
-use Rattle.gix_odb_slots.proofs.SlotLemmas.{holds_path}
-use Rattle.gix_odb_slots.proofs.SlotsAfterLemmas.{filled_within}
+use Rattle.gix_odb_core.proofs.SlotLemmas.{holds_path}
+use Rattle.gix_odb_core.proofs.SlotsAfterLemmas.{filled_within}
 
 -- what a view has to be loaded is the index of a listed slot, and nothing of it was read
 pub what_is_to_be_loaded_is_unread : (shape : Shape) (number : ℕ) (todo : Todo) → Contains (view_of shape number).todo todo → IsUnread shape todo

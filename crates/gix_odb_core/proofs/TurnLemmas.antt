@@ -1,7 +1,7 @@
 -- The turn of an event is the change of the shape, and its answer.
 use Rattle.std.proofs.Common.{◌≡◌, ℕ, ◌+◌, Bool, true, false, cond, ◌==◌, List, Option, Some, None, Ok, Err, refl, sym, ap, ◌∙◌, set}
 use Rattle.odb_base.specs.Path.{Path}
-use Rattle.gix_odb_slots.proofs.PassLemmas.{slots-same}
+use Rattle.gix_odb_core.proofs.PassLemmas.{slots-same}
 use Rattle.gix_odb_core.proofs.PublishingRule.{listed_slots, publishing_rule}
 use Rattle.gix_odb_core.proofs.RoomLemmas.{slots-stand}
 use Rattle.gix_odb_events.specs.Slots.{slot_at, Slot}
@@ -11,7 +11,7 @@ use Rattle.gix_odb_core.specs.Shelf.{settled_by, shelf_of}
 use Rattle.gix_odb_core.specs.State.{view_behind}
 use Rattle.gix_odb_core.specs.Steps.{Publishing, Outdated, TooFew, Overflows, Unchanged, Published, after, publishing, shape_published, shape_stored}
 use Rattle.gix_odb_events.specs.View.{last_state}
-use Rattle.gix_odb_slots.specs.Files.{slot_passed, slot_turns_missing, slot_with_index, slot_with_pack}
+use Rattle.gix_odb_core.specs.Files.{slot_passed, slot_turns_missing, slot_with_index, slot_with_pack}
 use Rattle.gix_odb_core.specs.Turn.{answer_with, changes_to, handles_after, pass_turn, publish_turn, put_turn, quiet, stands, turn_of}
 use Rattle.gix_odb_core.specs.Views.{view_of}
 use Rattle.gix_odb_events.specs.declared.event.Effect.TheVariants as effects

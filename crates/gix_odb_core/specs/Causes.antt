@@ -1,8 +1,8 @@
 -- Why a core refuses an event.
 use Rattle.std.specs.Prelude.{◌≡◌, ℕ, ◌+◌, ◌<◌, Bool, true, List, length, Option, is_some}
 use Rattle.gix_odb_core.specs.Handles.{is_any_stable}
-use Rattle.gix_odb_slots.specs.Files.{slot_with_index, slot_with_pack}
-use Rattle.gix_odb_slots.specs.Publish.{free_places, list_after, new_rows, slots_after, taken}
+use Rattle.gix_odb_core.specs.Files.{slot_with_index, slot_with_pack}
+use Rattle.gix_odb_core.specs.Publish.{free_places, list_after, new_rows, slots_after, taken}
 use Rattle.gix_odb_events.specs.Slots.{slot_at}
 use Rattle.gix_odb_core.specs.Steps.{is_confirmed, takes_over, would_overflow}
 use Rattle.gix_odb_events.specs.View.{last_state}

@@ -1,6 +1,6 @@
 -- Counts over a core.
 use Rattle.std.specs.Prelude.{ℕ, length, count_by, sum_by, is_none}
-use Rattle.gix_odb_slots.specs.Counts.{disposable_in, listed_in, loaded_packs}
+use Rattle.gix_odb_core.specs.Counts.{disposable_in, listed_in, loaded_packs}
 use Rattle.gix_odb_events.specs.Slots.{is_index_loaded}
 use Rattle.gix_odb_events.specs.declared.metrics.Metrics.{Metrics}
 use Rattle.gix_odb_core.specs.declared.shape.Shape.{Shape}

@@ -3,13 +3,13 @@ use Rattle.std.specs.Prelude.{◌≡◌, ℕ, ◌+◌, ◌⊎◌, Bool, true, fa
 use Rattle.std.specs.List.{filter_map, last_or}
 use Rattle.gix_odb_events.specs.Answers.{Answer, view_in}
 use Rattle.gix_odb_core.specs.Handles.{IsRegistered, registered}
-use Rattle.gix_odb_slots.specs.Counts.{listed_in}
+use Rattle.gix_odb_core.specs.Counts.{listed_in}
 use Rattle.gix_odb_events.specs.Slots.{listed_of, slot_at}
 use Rattle.gix_odb_core.specs.Metrics.{metrics_of}
 use Rattle.gix_odb_events.specs.PackFiles.{HasDifferentPaths}
 use Rattle.gix_odb_core.specs.Steps.{Publishing, Outdated, TooFew, Overflows, Unchanged, Published, after, publishing}
 use Rattle.gix_odb_events.specs.View.{last_state}
-use Rattle.gix_odb_slots.specs.Files.{slot_with_index, slot_with_pack}
+use Rattle.gix_odb_core.specs.Files.{slot_with_index, slot_with_pack}
 use Rattle.gix_odb_core.specs.Views.{view_of}
 use Rattle.gix_odb_events.specs.declared.event.Effect.TheVariants as effects
 use Rattle.gix_odb_events.specs.declared.event.Event.{Event}

@@ -3,9 +3,9 @@ use Rattle.std.specs.Prelude.{ℕ, ◌+◌, ◌-◌, Bool, true, false, ◌&&◌
 use Rattle.std.specs.List.{AllPass, IsDistinct, filter_map, list_any}
 use Rattle.gix_odb_events.specs.View.{last_generation, last_state}
 use Rattle.gix_odb_core.specs.Handles.{is_any_stable, with_seat, without_seat}
-use Rattle.gix_odb_slots.specs.Files.{slot_passed, slot_with_index, slot_with_pack}
+use Rattle.gix_odb_core.specs.Files.{slot_passed, slot_with_index, slot_with_pack}
 use Rattle.gix_odb_events.specs.OnDiskFile.{is_loaded}
-use Rattle.gix_odb_slots.specs.Publish.{free_places, list_after, new_rows, same_list, slots_after, taken}
+use Rattle.gix_odb_core.specs.Publish.{free_places, list_after, new_rows, same_list, slots_after, taken}
 use Rattle.gix_odb_events.specs.Slots.{slot_at, IsApart, Slot}
 use Rattle.gix_odb_events.specs.declared.event.Event.{Event}
 use Rattle.gix_odb_events.specs.declared.event.Event.TheVariants as event

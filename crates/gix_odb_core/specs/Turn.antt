@@ -3,14 +3,14 @@ use Rattle.std.specs.Prelude.{ℕ, ◌+◌, Bool, ◌&&◌, ◌==◌, true, fals
 use Rattle.std.specs.List.{list_any}
 use Rattle.odb_base.specs.Path.{Path}
 use Rattle.gix_odb_core.specs.Handles.{Handles, is_any_stable, with_seat, without_seat}
-use Rattle.gix_odb_slots.specs.Publish.{is_unsettled, list_after}
+use Rattle.gix_odb_core.specs.Publish.{is_unsettled, list_after}
 use Rattle.gix_odb_events.specs.Slots.{slot_at}
 use Rattle.gix_odb_core.specs.Replay.{report_of}
 use Rattle.gix_odb_events.specs.Answers.{Answer}
 use Rattle.gix_odb_core.specs.Shelf.{shelf_of}
 use Rattle.gix_odb_core.specs.Steps.{Publishing, Outdated, TooFew, Overflows, Unchanged, Published, is_confirmed, publishing}
 use Rattle.gix_odb_events.specs.View.{last_state}
-use Rattle.gix_odb_slots.specs.Files.{slot_passed, slot_turns_missing, slot_with_index, slot_with_pack}
+use Rattle.gix_odb_core.specs.Files.{slot_passed, slot_turns_missing, slot_with_index, slot_with_pack}
 use Rattle.gix_odb_events.specs.declared.event.Effect.TheVariants as effects
 use Rattle.gix_odb_events.specs.declared.event.Event.{Event}
 use Rattle.gix_odb_events.specs.declared.event.Event.TheVariants as event

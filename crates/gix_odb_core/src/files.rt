@@ -1,18 +1,18 @@
 //! The turns of files that were read, or passed over.
 ghost use Rattle.std.specs.Prelude.{◌≡◌, ◌<◌, ◌+◌, IfOk, Some, slice_set};
-ghost use Rattle.gix_odb_slots.specs.Files.{slot_with_index, slot_with_pack};
+ghost use Rattle.gix_odb_core.specs.Files.{slot_with_index, slot_with_pack};
 ghost use Rattle.gix_odb_events.specs.Slots.{slot_at};
 ghost use Rattle.gix_odb_core.specs.Shelf.{shelf_of};
 ghost use Rattle.gix_odb_events.specs.View.{last_state};
 ghost use Rattle.gix_odb_core.specs.Turn.{pass_turn, put_turn};
 
 use crate::Shared;
+use crate::pass::{slot_passed, slot_turns_missing};
+use crate::put::{slot_with_index, slot_with_pack};
 use crate::shape::{Shape, Shelf};
 use crate::turn::{Told, Turn};
 use gix_odb_events::{Filled, Refusal};
-use gix_odb_slots::pass::{slot_passed, slot_turns_missing};
-use gix_odb_slots::put::{slot_with_index, slot_with_pack};
-use gix_pack_files::{data, index};
+use gix_pack_read::{data, index};
 use odb_base::{NoMemory, PathText};
 use std::alloc::Global;
 

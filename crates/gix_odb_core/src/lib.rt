@@ -1,10 +1,9 @@
-//! The core of a store: its slots, how listings change them, and the journal of what happened.
+//! The core of a store: its slots, what listings and files make of them, and the journal of what happened.
 //!
-//! A slot holds an index or a multi-pack index, and a file for each of its packs. Handles bring events to a core:
-//! files that were read or could not be, listings of the store's folders, and their own registration and removal.
-//! Each is answered and journalled, and the present state is what the journal replays to. Read `apply` first, then
-//! `shape`; events and views are those of `gix_odb_events`, and `gix_odb_slots` says how slots change: a caller
-//! imports the types of both from this crate.
+//! A slot holds an index or a multi-pack index, and a file for each of its packs. Handles bring events to a core: files that
+//! were read or could not be, listings of the store's folders, and their own opening and closing. Each is answered and
+//! journalled, and the present state is the replay of the journal. Read `apply` first, then `shape`, then `matched`, `publish`
+//! and `put`. Events and views are types of `gix_odb_events`, re-exported here.
 //! ```rust
 //! let mut core = Core::new(alloc, 32, 1)?;
 //! let answer = core.apply(alloc, 0, Event::Register { stable: false });
@@ -13,15 +12,23 @@
 #![tactic(auto)]
 
 mod apply;
+pub mod counts;
 mod files;
 mod handles;
+mod index_key;
 mod journal;
+mod matched;
 mod metrics;
+pub mod pass;
 mod plan;
+pub mod publish;
 mod publishing;
+pub mod put;
+pub mod report;
 mod shape;
 mod state;
 mod turn;
+pub mod unsettled;
 
 pub use apply::{Core, Remains};
 pub use gix_odb_events::{
@@ -31,4 +38,5 @@ pub use gix_odb_events::{
     Snapshot, SnapshotIndex, Todo, TodoList, TodoRest, View, pack_path, packs_beside,
 };
 pub use journal::{Entry, Journal};
+pub use matched::Matched;
 pub use shape::Shape;

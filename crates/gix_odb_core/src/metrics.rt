@@ -3,9 +3,9 @@ ghost use Rattle.std.specs.Prelude.{◌≡◌};
 ghost use Rattle.gix_odb_core.specs.Countable.{IsCountable};
 ghost use Rattle.gix_odb_core.specs.Metrics.{metrics_of};
 
+use crate::counts::{count_unused, disposable_tally, listed_tally};
 use crate::shape::Shape;
 use gix_odb_events::Metrics;
-use gix_odb_slots::counts::{count_unused, disposable_tally, listed_tally};
 
 impl Shape {
     /// The counts over a shape, where `refreshes` listings were published or confirmed the list.

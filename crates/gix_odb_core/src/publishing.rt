@@ -1,6 +1,6 @@
 //! The turn of a listing that is published.
 ghost use Rattle.std.specs.Prelude.{◌≡◌, ◌≤◌, ◌<◌, ◌&&◌, ◌==◌, true, false, All, IfOk, length, if◌then◌else◌};
-ghost use Rattle.gix_odb_slots.specs.Publish.{free_places, list_after, new_rows, same_list};
+ghost use Rattle.gix_odb_core.specs.Publish.{free_places, list_after, new_rows, same_list};
 ghost use Rattle.std.specs.Option.{IfSome};
 ghost use Rattle.gix_odb_events.specs.Slots.{HasFewPacks};
 ghost use Rattle.gix_odb_core.specs.Handles.{is_any_stable as any_stable};
@@ -9,14 +9,12 @@ ghost use Rattle.gix_odb_core.specs.Steps.{publishing, settled_as, with_list, wi
 ghost use Rattle.gix_odb_core.specs.Turn.{publish_turn, stands};
 ghost use Rattle.gix_odb_events.specs.PackId.{most_slots};
 
+use crate::Matched;
+use crate::publish::{count_new, free_places, list_after, list_as_is, slots_after, takes_over};
 use crate::shape::{Shape, Shelf};
 use crate::turn::{Told, Turn};
+use crate::unsettled::is_any_unsettled;
 use gix_odb_events::{Listing, ListingRow, PlaceList, Refusal, Slot, SlotList};
-use gix_odb_slots::Matched;
-use gix_odb_slots::publish::{
-    count_new, free_places, list_after, list_as_is, slots_after, takes_over,
-};
-use gix_odb_slots::unsettled::is_any_unsettled;
 use odb_base::{NoMemory, Sequence};
 use std::alloc::Global;
 

@@ -11,10 +11,10 @@ ghost use Rattle.gix_odb_events.specs.PackId.{most_slots};
 use crate::Shared;
 use crate::journal::{Entry, Journal};
 use crate::plan::{Plan, planned};
+use crate::report::report_listed;
 use crate::shape::{Shape, Shelf};
 use crate::turn::{Told, Turn};
 use gix_odb_events::{Effect, Event, PassWhy, Passed, PassedList, Refusal, Report, View};
-use gix_odb_slots::report::report_listed;
 use odb_base::{NoMemory, PathText, Sequence};
 use std::alloc::Global;
 

@@ -3,8 +3,8 @@ use Rattle.std.specs.Prelude.{ℕ, Bool, List, [], ◌∷◌, map, Option, Some,
 use Rattle.std.specs.List.{IsDistinct}
 use lib.Pointwise.{pointwise}
 use Rattle.odb_base.specs.Path.{Path, same_name}
-use Rattle.gix_multi_index.specs.MultiIndex.{told}
-use Rattle.gix_pack_files.specs.FileBytes.{FileBytes}
+use Rattle.gix_pack_read.specs.MultiIndex.{told}
+use Rattle.gix_pack_read.specs.FileBytes.{FileBytes}
 use Rattle.gix_odb_events.specs.OnDiskFile.{file_at}
 use Rattle.gix_odb_events.specs.PackPath.{folder_of, name_of, pack_in}
 use Rattle.gix_odb_events.specs.declared.listing.ListingRow.{ListingRow}

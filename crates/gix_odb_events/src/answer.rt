@@ -1,6 +1,6 @@
 //! What machines ask for, and the answers.
 use crate::event::{Effect, Event, Refusal};
-use odb_asks::{DiskAnswer, DiskAsk};
+use odb_disk::{DiskAnswer, DiskAsk};
 
 /// What a machine asks for.
 #[derive(Drop)]

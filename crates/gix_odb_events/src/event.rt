@@ -7,7 +7,7 @@ ghost use Rattle.gix_odb_events.specs.declared.event.Refusal.TheVariants.{NoMemo
 use crate::metrics::Report;
 use crate::view::View;
 use crate::{Listing, PackId, Shared};
-use gix_pack_files::{data, index};
+use gix_pack_read::{data, index};
 use odb_base::{NoMemory, PathText};
 use thiserror::Error;
 

@@ -34,7 +34,7 @@ pub use loaded::{
     TodoRest,
 };
 pub use metrics::{Metrics, Passed, PassedList, Report};
-pub use odb_shared::Shared;
+pub use odb_base::Shared;
 pub use on_disk_file::{FileState, OnDiskFile};
 pub use pack_file::{PackFile, PackFileList, new_packs, packs_beside};
 pub use pack_id::{IndexId, PackId};

@@ -2,7 +2,7 @@
 ghost use Rattle.std.specs.Prelude.{◌≡◌, IfOk};
 
 use crate::Shared;
-use gix_multi_index as multi_index;
+use gix_pack_read::multi_index;
 use odb_base::{NoMemory, PathText, Sequence};
 use std::alloc::Global;
 

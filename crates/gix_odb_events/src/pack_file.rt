@@ -1,13 +1,12 @@
 //! The packs of an index.
 ghost use Rattle.std.specs.Prelude.{◌≡◌, ◌≤◌, IfOk, length, map, [], ◌∷◌};
-ghost use Rattle.gix_multi_index.specs.MultiIndex.{told};
+ghost use Rattle.gix_pack_read.specs.MultiIndex.{told};
 ghost use Rattle.gix_odb_events.specs.PackFiles.{new_pack, new_packs};
 
 use crate::on_disk_file::FileState;
 use crate::pack_place::{folder_of, name_of, pack_in};
 use crate::{OnDiskFile, Shared};
-use gix_multi_index as multi_index;
-use gix_pack_files::data;
+use gix_pack_read::{data, multi_index};
 use odb_base::{NoMemory, PathText, Sequence};
 use std::alloc::Global;
 

@@ -9,10 +9,8 @@ use crate::listed::Listed;
 use crate::listing::ListingRow;
 use crate::pack_file::{PackFile, PackFileList, new_packs};
 use crate::{FileState, OnDiskFile, Shared};
-use gix_multi_index as multi_index;
-use gix_pack_files::index;
-use odb_base::{NoMemory, PathText};
-use odb_shared::SharedList;
+use gix_pack_read::{index, multi_index};
+use odb_base::{NoMemory, PathText, SharedList};
 use std::alloc::Global;
 
 /// The index of a slot.

@@ -2,8 +2,8 @@
 use Rattle.std.specs.Prelude.{◌≡◌, List, [], ◌∷◌, ◌++◌, Some, Result, refl}
 use Rattle.std.proofs.Common.{sym, ap, ◌∙◌, subst, append-nil, append_assoc}
 use Rattle.std.proofs.lemmas.List.{map-append}
-use Rattle.odb_asks.specs.declared.ask.DiskAsk.{DiskAsk}
-use Rattle.odb_asks.specs.declared.ask.DiskAnswer.{DiskAnswer}
+use Rattle.odb_disk.specs.declared.ask.DiskAsk.{DiskAsk}
+use Rattle.odb_disk.specs.declared.ask.DiskAnswer.{DiskAnswer}
 use Rattle.gix_hash.specs.declared.object_id.ObjectId.{ObjectId}
 use Rattle.gix_odb_loose.specs.Exchanges.{Exchange, exchanged}
 use Rattle.gix_odb_loose.specs.LooseOrder.{stage_ask, next_stage, written_to}

@@ -1,7 +1,7 @@
 -- One exchange more.
 use Rattle.std.specs.Prelude.{◌≡◌, List, [], ◌∷◌, ◌++◌, Option, refl}
-use Rattle.odb_asks.specs.Ask.{state_told_after}
-use Rattle.odb_nodes.specs.Tree.{State}
+use Rattle.odb_disk.specs.Ask.{state_told_after}
+use Rattle.odb_disk.specs.Tree.{State}
 use Rattle.gix_odb_loose.specs.Exchanges.{Exchange, left_by, IsGiven, AreGiven}
 
 pub left_by-push : (state : Option State) (xs : List Exchange) (x : Exchange) → left_by state (xs ++ x ∷ []) ≡ state_told_after (left_by state xs) x.ask x.answer

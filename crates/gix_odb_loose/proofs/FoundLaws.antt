@@ -2,15 +2,15 @@
 use Rattle.std.specs.Prelude.{◌≡◌, ℕ, ◌^◌, ◌<◌, List, [], ◌∷◌, ◌++◌, take, drop, length, Option, Some, Result, Ok}
 use Rattle.std.proofs.Common.{sym, ap, ◌∙◌, subst, append_assoc}
 use Rattle.odb_base.specs.Path.{Path}
-use Rattle.odb_nodes.specs.Tree.{State, Tree, tree_of}
-use Rattle.odb_nodes.specs.Tree.Follow.{read_of}
-use Rattle.odb_nodes.specs.Tree.Way.{crosses}
-use Rattle.odb_nodes.specs.Tree.Write.{spot, replaceable, written}
-use Rattle.odb_nodes.specs.declared.change.Change.TheVariants.{Rename}
+use Rattle.odb_disk.specs.Tree.{State, Tree, tree_of}
+use Rattle.odb_disk.specs.Tree.Follow.{read_of}
+use Rattle.odb_disk.specs.Tree.Way.{crosses}
+use Rattle.odb_disk.specs.Tree.Write.{spot, replaceable, written}
+use Rattle.odb_disk.specs.declared.change.Change.TheVariants.{Rename}
 use Rattle.gix_hash.specs.ObjectId.{hex_of}
 use Rattle.gix_odb_loose.specs.WriteOrder.{prefix_path, temp_path}
-use Rattle.odb_nodes.proofs.CrossesLaws.{StandsPlain, crosses_plain, replaceable_spot}
-use Rattle.odb_nodes.proofs.WayWriteLaws.{rename_change}
+use Rattle.odb_disk.proofs.CrossesLaws.{StandsPlain, crosses_plain, replaceable_spot}
+use Rattle.odb_disk.proofs.WayWriteLaws.{rename_change}
 use Rattle.gix_hash.specs.declared.object_id.ObjectId.{ObjectId}
 use Rattle.gix_object.specs.Loose.{header_of}
 use Rattle.gix_object.proofs.LooseLaws.{IsLoose-header_of}

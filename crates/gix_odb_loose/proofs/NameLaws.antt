@@ -2,9 +2,9 @@
 use Rattle.std.proofs.Common.{◌≡◌, ℕ, List, [], ◌∷◌, ◌++◌, get_or, drop, Ok, refl, sym, ap, ◌∙◌, append_assoc}
 use Rattle.std.specs.Prelude.{take}
 use Rattle.odb_base.specs.Path.{Name, Path}
-use Rattle.odb_nodes.specs.Tree.{Tree}
-use Rattle.odb_nodes.specs.Tree.Write.{spot}
-use Rattle.odb_nodes.proofs.OwnWayLaws.{spot_named}
+use Rattle.odb_disk.specs.Tree.{Tree}
+use Rattle.odb_disk.specs.Tree.Write.{spot}
+use Rattle.odb_disk.proofs.OwnWayLaws.{spot_named}
 use Rattle.gix_hash.specs.ObjectId.{hex_of}
 use Rattle.gix_hash.proofs.HexDigitLaws.{no_t}
 use Rattle.gix_hash.specs.declared.object_id.ObjectId.{ObjectId}

@@ -4,24 +4,24 @@ use Rattle.std.proofs.Common.{sym, ap, ◌∙◌, subst, append-nil, append_asso
 use Rattle.std.specs.List.{concat}
 use Rattle.std.specs.Result.{result_ok}
 use Rattle.odb_base.specs.Path.{Path}
-use Rattle.odb_asks.specs.Ask.{answer_of, change_of_ask, state_told_after, write_answer}
-use Rattle.odb_nodes.specs.Tree.{State, Tree, IsTree, tree_of}
-use Rattle.odb_nodes.specs.Tree.Change.{changed}
-use Rattle.odb_nodes.specs.Tree.Follow.{read_of}
-use Rattle.odb_nodes.specs.Tree.Write.{Refusal, written, change_of_make_dir, change_of_new_file, change_of_append, change_of_rename}
-use Rattle.odb_asks.specs.declared.ask.DiskAsk.{DiskAsk}
-use Rattle.odb_asks.specs.declared.ask.DiskAsk.TheVariants as asks
-use Rattle.odb_asks.specs.declared.ask.DiskAnswer.{DiskAnswer}
-use Rattle.odb_asks.specs.declared.ask.DiskAnswer.TheVariants as answers
-use Rattle.odb_nodes.specs.declared.disk_error.DiskError.TheVariants as disk_errors
-use Rattle.odb_nodes.specs.declared.change.Change.{Change}
-use Rattle.odb_nodes.specs.declared.change.Change.TheVariants.{MakeDir, Rename}
-use Rattle.odb_nodes.specs.OwnFile.{HasFile}
-use Rattle.odb_nodes.proofs.OwnFileLaws.{has_new_file, has_file_kept, has_more, moves_file, moved_reads, kept_by_make_dir}
-use Rattle.odb_nodes.proofs.TreeLemmas.Changed.{IsTree-changed}
-use Rattle.odb_nodes.proofs.TreeLemmas.Write.{new_file_possible, append_possible, make_dir_possible}
-use Rattle.odb_nodes.proofs.WayWriteLaws.{make_dir_change}
-use Rattle.odb_nodes.proofs.WriteLaws.{tree_of-written}
+use Rattle.odb_disk.specs.Ask.{answer_of, change_of_ask, state_told_after, write_answer}
+use Rattle.odb_disk.specs.Tree.{State, Tree, IsTree, tree_of}
+use Rattle.odb_disk.specs.Tree.Change.{changed}
+use Rattle.odb_disk.specs.Tree.Follow.{read_of}
+use Rattle.odb_disk.specs.Tree.Write.{Refusal, written, change_of_make_dir, change_of_new_file, change_of_append, change_of_rename}
+use Rattle.odb_disk.specs.declared.ask.DiskAsk.{DiskAsk}
+use Rattle.odb_disk.specs.declared.ask.DiskAsk.TheVariants as asks
+use Rattle.odb_disk.specs.declared.ask.DiskAnswer.{DiskAnswer}
+use Rattle.odb_disk.specs.declared.ask.DiskAnswer.TheVariants as answers
+use Rattle.odb_disk.specs.declared.disk_error.DiskError.TheVariants as disk_errors
+use Rattle.odb_disk.specs.declared.change.Change.{Change}
+use Rattle.odb_disk.specs.declared.change.Change.TheVariants.{MakeDir, Rename}
+use Rattle.odb_disk.specs.OwnFile.{HasFile}
+use Rattle.odb_disk.proofs.OwnFileLaws.{has_new_file, has_file_kept, has_more, moves_file, moved_reads, kept_by_make_dir}
+use Rattle.odb_disk.proofs.TreeLemmas.Changed.{IsTree-changed}
+use Rattle.odb_disk.proofs.TreeLemmas.Write.{new_file_possible, append_possible, make_dir_possible}
+use Rattle.odb_disk.proofs.WayWriteLaws.{make_dir_change}
+use Rattle.odb_disk.proofs.WriteLaws.{tree_of-written}
 use Rattle.gix_hash.specs.declared.object_id.ObjectId.{ObjectId}
 use Rattle.gix_object.specs.Loose.{header_of}
 use Rattle.gix_odb_loose.specs.Exchanges.{Exchange, exchanged, left_by, IsGiven, AreGiven}

@@ -2,22 +2,22 @@
 use Rattle.std.specs.Prelude.{◌≡◌, ◌≢◌, if◌then◌else◌, ℕ, Bool, true, false, List, Option, Some, None, Result, Ok, Err, refl}
 use Rattle.std.proofs.Common.{sym, ap, ◌∙◌, subst}
 use Rattle.odb_base.specs.Path.{Path}
-use Rattle.odb_asks.specs.Ask.{AnswersAsk, answer_of, answer_now, meta_answer, file_answer, write_answer}
-use Rattle.odb_asks.specs.MemDisk.{Volume, next_fails}
-use Rattle.odb_asks.specs.StreamAsks.{is_of_streams}
-use Rattle.odb_asks.proofs.StillAskLaws.{answer_now-still}
-use Rattle.odb_nodes.specs.Tree.{Tree, tree_of}
-use Rattle.odb_nodes.specs.Tree.Follow.{Refusal, Absent, WrongKind, LinkLoop, looked, read_of}
-use Rattle.odb_nodes.specs.Tree.Write as writing
-use Rattle.odb_nodes.specs.Tree.Write.{change_of_new_file}
-use Rattle.odb_nodes.specs.declared.change.Change.{Change}
-use Rattle.odb_nodes.specs.declared.meta.Meta.{Meta}
-use Rattle.odb_nodes.specs.declared.disk_error.DiskError.{DiskError}
-use Rattle.odb_asks.specs.declared.ask.DiskAsk.{DiskAsk}
-use Rattle.odb_asks.specs.declared.ask.DiskAsk.TheVariants as asks
-use Rattle.odb_asks.specs.declared.ask.DiskAnswer.{DiskAnswer}
-use Rattle.odb_asks.specs.declared.ask.DiskAnswer.TheVariants as answers
-use Rattle.odb_nodes.specs.declared.disk_error.DiskError.TheVariants as disk_errors
+use Rattle.odb_disk.specs.Ask.{AnswersAsk, answer_of, answer_now, meta_answer, file_answer, write_answer}
+use Rattle.odb_disk.specs.MemDisk.{Volume, next_fails}
+use Rattle.odb_disk.specs.StreamAsks.{is_of_streams}
+use Rattle.odb_disk.proofs.StillAskLaws.{answer_now-still}
+use Rattle.odb_disk.specs.Tree.{Tree, tree_of}
+use Rattle.odb_disk.specs.Tree.Follow.{Refusal, Absent, WrongKind, LinkLoop, looked, read_of}
+use Rattle.odb_disk.specs.Tree.Write as writing
+use Rattle.odb_disk.specs.Tree.Write.{change_of_new_file}
+use Rattle.odb_disk.specs.declared.change.Change.{Change}
+use Rattle.odb_disk.specs.declared.meta.Meta.{Meta}
+use Rattle.odb_disk.specs.declared.disk_error.DiskError.{DiskError}
+use Rattle.odb_disk.specs.declared.ask.DiskAsk.{DiskAsk}
+use Rattle.odb_disk.specs.declared.ask.DiskAsk.TheVariants as asks
+use Rattle.odb_disk.specs.declared.ask.DiskAnswer.{DiskAnswer}
+use Rattle.odb_disk.specs.declared.ask.DiskAnswer.TheVariants as answers
+use Rattle.odb_disk.specs.declared.disk_error.DiskError.TheVariants as disk_errors
 use Rattle.gix_hash.specs.declared.object_id.ObjectId.{ObjectId}
 use Rattle.gix_object.specs.declared.kind.Kind.{Kind}
 use Rattle.gix_odb_loose.specs.Store.{store_path, store_hash, store_limit}

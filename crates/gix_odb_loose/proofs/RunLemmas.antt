@@ -2,15 +2,15 @@
 use Rattle.std.specs.Prelude.{◌≡◌, ◌↔◌, ⊤, ℕ, Bool, IsTrue, true, false, List, Option, Some, None, Result, Ok, Err, IfOk, IfErr, IfSome, refl}
 use Rattle.std.proofs.Common.{sym, ap, ◌∙◌, subst}
 use Rattle.odb_base.specs.Path.{Path}
-use Rattle.odb_asks.specs.Ask.{AnswersAsk, answer_of, change_of_ask, meta_answer, file_answer, state_told_after}
-use Rattle.odb_asks.specs.StreamAsks.{is_of_streams}
-use Rattle.odb_nodes.specs.Tree.{State, tree_of}
-use Rattle.odb_nodes.specs.Tree.Follow.{looked, read_of}
-use Rattle.odb_asks.specs.declared.ask.DiskAsk.{DiskAsk}
-use Rattle.odb_asks.specs.declared.ask.DiskAsk.TheVariants as asks
-use Rattle.odb_asks.specs.declared.ask.DiskAnswer.{DiskAnswer}
-use Rattle.odb_asks.specs.declared.ask.DiskAnswer.TheVariants as answers
-use Rattle.odb_nodes.specs.declared.disk_error.DiskError.TheVariants as disk_errors
+use Rattle.odb_disk.specs.Ask.{AnswersAsk, answer_of, change_of_ask, meta_answer, file_answer, state_told_after}
+use Rattle.odb_disk.specs.StreamAsks.{is_of_streams}
+use Rattle.odb_disk.specs.Tree.{State, tree_of}
+use Rattle.odb_disk.specs.Tree.Follow.{looked, read_of}
+use Rattle.odb_disk.specs.declared.ask.DiskAsk.{DiskAsk}
+use Rattle.odb_disk.specs.declared.ask.DiskAsk.TheVariants as asks
+use Rattle.odb_disk.specs.declared.ask.DiskAnswer.{DiskAnswer}
+use Rattle.odb_disk.specs.declared.ask.DiskAnswer.TheVariants as answers
+use Rattle.odb_disk.specs.declared.disk_error.DiskError.TheVariants as disk_errors
 use Rattle.gix_hash.specs.declared.object_id.ObjectId.{ObjectId}
 use Rattle.gix_object.specs.Data.{Object}
 use Rattle.gix_object.specs.declared.kind.Kind.{Kind}

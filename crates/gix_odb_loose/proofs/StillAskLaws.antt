@@ -2,8 +2,8 @@
 use Rattle.std.specs.Prelude.{◌≡◌, true, false, List, Some, is_some, refl}
 use Rattle.std.proofs.Common.{◌∙◌, ℕ, sym, ap}
 use Rattle.odb_base.specs.Path.{Path}
-use Rattle.odb_asks.specs.StreamAsks.{is_of_streams}
-use Rattle.odb_asks.specs.declared.ask.DiskAsk.{DiskAsk}
+use Rattle.odb_disk.specs.StreamAsks.{is_of_streams}
+use Rattle.odb_disk.specs.declared.ask.DiskAsk.{DiskAsk}
 use Rattle.gix_object.specs.declared.want.Want.{Want}
 use Rattle.gix_object.specs.declared.want.Want.TheVariants.{Object, Header, Presence}
 use Rattle.gix_odb_loose.specs.LooseOrder.{disk_ask_of, stage_ask, want_ask}

@@ -1,9 +1,9 @@
 -- What an answer leads to, outcome by outcome, in place of the table of all answers: a property of what a write asks for next,
 -- and of the data that it has appended by then.
 use Rattle.std.specs.Prelude.{◌≡◌, ℕ, ◌+◌, Bool, true, false, nat_lt, nat_le, List, ◌++◌, Ok, Err, if◌then◌else◌, refl}
-use Rattle.odb_asks.specs.declared.ask.DiskAnswer.{DiskAnswer}
-use Rattle.odb_asks.specs.declared.ask.DiskAnswer.TheVariants as answers
-use Rattle.odb_nodes.specs.declared.disk_error.DiskError.TheVariants as disk_errors
+use Rattle.odb_disk.specs.declared.ask.DiskAnswer.{DiskAnswer}
+use Rattle.odb_disk.specs.declared.ask.DiskAnswer.TheVariants as answers
+use Rattle.odb_disk.specs.declared.disk_error.DiskError.TheVariants as disk_errors
 use Rattle.gix_hash.specs.declared.object_id.ObjectId.{ObjectId}
 use Rattle.gix_odb_loose.specs.WriteHistory.{data_after}
 use Rattle.gix_odb_loose.specs.WriteOrder.{temp_names, refused_by, made_by, headed_by, filled_by, foldered_by, moved_by, grown}

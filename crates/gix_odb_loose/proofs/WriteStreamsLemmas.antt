@@ -2,7 +2,7 @@
 use Rattle.std.specs.Prelude.{◌≡◌, ℕ, ◌+◌, ◌≤◌, List, [], ◌++◌, length, take, Option, Some, None, Result, Ok, Err, IfSome, OnErr, refl}
 use Rattle.std.proofs.Common.{sym, ap, ◌∙◌, arith, append-nil, append_assoc, take-append-drop}
 use Rattle.std.proofs.lemmas.List.{length-append, length-take}
-use Rattle.odb_sources.specs.Source.{Reads}
+use Rattle.odb_base.specs.Source.{Reads}
 use Rattle.gix_odb_loose.specs.StreamJobs.Reads.{Loses}
 use Rattle.gix_odb_loose.specs.WriteStreams.{Draws, IsAtEnd}
 

@@ -1,8 +1,8 @@
 -- What a call of a store returns, by what the tree shows where the disk reports it.
 use Rattle.std.specs.Prelude.{⊤, ◌≡◌, ℕ, List, Option, Some, None, Result, Ok, Err, IfSome}
 use Rattle.odb_base.specs.Path.{Path}
-use Rattle.odb_nodes.specs.Tree.{State, tree_of}
-use Rattle.odb_nodes.specs.Tree.Follow.{Absent, read_of}
+use Rattle.odb_disk.specs.Tree.{State, tree_of}
+use Rattle.odb_disk.specs.Tree.Follow.{Absent, read_of}
 use Rattle.gix_hash.specs.declared.object_id.ObjectId.{ObjectId}
 use Rattle.gix_object.specs.Data.{Object}
 use Rattle.gix_object.specs.declared.kind.Kind.{Kind}

@@ -7,8 +7,8 @@
 -- have their own.
 use Rattle.std.specs.Prelude.{◌≡◌, ◌≢◌, ◌⊎◌, ℕ, ◌<◌, false, List, [], length, All, Option, Ok, Err}
 use Rattle.std.specs.List.{concat}
-use Rattle.odb_asks.specs.declared.ask.DiskAsk.{DiskAsk}
-use Rattle.odb_asks.specs.declared.ask.DiskAsk.TheVariants as asks
+use Rattle.odb_disk.specs.declared.ask.DiskAsk.{DiskAsk}
+use Rattle.odb_disk.specs.declared.ask.DiskAsk.TheVariants as asks
 use Rattle.gix_hash.specs.declared.object_id.ObjectId.{ObjectId}
 use Rattle.gix_object.specs.Loose.{header_of}
 use Rattle.gix_odb_loose.specs.LooseFile.{loose_path}
@@ -20,7 +20,7 @@ use Rattle.gix_odb_loose.specs.declared.write.Error.TheVariants as write_errors
 use Rattle.gix_odb_loose.specs.declared.write.Message.{Message}
 use Rattle.gix_odb_loose.specs.declared.write.Message.TheVariants as messages
 use Rattle.odb_base.specs.Path.{Path}
-use Rattle.odb_nodes.specs.Tree.Follow.{WrongKind, LinkLoop}
+use Rattle.odb_disk.specs.Tree.Follow.{WrongKind, LinkLoop}
 use Rattle.gix_object.specs.Limit.{is_within}
 use Rattle.gix_object.specs.Loose.{IsLoose}
 use Rattle.gix_object.specs.declared.kind.Kind.{Kind}

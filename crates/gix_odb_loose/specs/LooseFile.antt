@@ -1,8 +1,8 @@
 -- Loose files: the path of an object's file, and what its bytes hold as answers of calls.
 use Rattle.std.specs.Prelude.{◌≡◌, ℕ, true, List, [], ◌∷◌, ◌++◌, length, take, drop, Option, Some, None, Result, Ok}
 use Rattle.odb_base.specs.Path.{Path}
-use Rattle.odb_nodes.specs.Tree.{Tree}
-use Rattle.odb_nodes.specs.Tree.Follow.{Refusal, read_of}
+use Rattle.odb_disk.specs.Tree.{Tree}
+use Rattle.odb_disk.specs.Tree.Follow.{Refusal, read_of}
 use Rattle.gix_hash.specs.ObjectId.{hex_of}
 use Rattle.gix_hash.specs.declared.object_id.ObjectId.{ObjectId}
 use Rattle.gix_hash.specs.declared.kind.Kind.{Kind as HashKind}

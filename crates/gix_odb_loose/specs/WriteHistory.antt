@@ -2,11 +2,11 @@
 pub mod WentWell
 pub mod Refused
 use Rattle.std.specs.Prelude.{◌≡◌, ◌⊎◌, ℕ, ◌<◌, List, [], ◌∷◌, ◌++◌, length, Option, Some, None, Result, Ok, Err}
-use Rattle.odb_asks.specs.declared.ask.DiskAsk.{DiskAsk}
-use Rattle.odb_asks.specs.declared.ask.DiskAsk.TheVariants as asks
-use Rattle.odb_asks.specs.declared.ask.DiskAnswer.{DiskAnswer}
-use Rattle.odb_asks.specs.declared.ask.DiskAnswer.TheVariants as answers
-use Rattle.odb_nodes.specs.declared.disk_error.DiskError.TheVariants as disk_errors
+use Rattle.odb_disk.specs.declared.ask.DiskAsk.{DiskAsk}
+use Rattle.odb_disk.specs.declared.ask.DiskAsk.TheVariants as asks
+use Rattle.odb_disk.specs.declared.ask.DiskAnswer.{DiskAnswer}
+use Rattle.odb_disk.specs.declared.ask.DiskAnswer.TheVariants as answers
+use Rattle.odb_disk.specs.declared.disk_error.DiskError.TheVariants as disk_errors
 use Rattle.gix_hash.specs.declared.object_id.ObjectId.{ObjectId}
 use Rattle.gix_odb_loose.specs.Exchanges.{Exchange, exchanged}
 use Rattle.gix_odb_loose.specs.WriteStreams.{CountsOther}

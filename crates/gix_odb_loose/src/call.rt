@@ -12,8 +12,8 @@ use crate::write_order::{WriteHead, WriteStage};
 use crate::{Store, find, reply, write};
 use gix_hash::ObjectId;
 use gix_object::{Kind, Want};
-use odb_asks::{DiskAnswer, DiskAsk};
 use odb_base::{ByteList, NoMemory, PathText};
+use odb_disk::{DiskAnswer, DiskAsk};
 use std::alloc::Global;
 
 /// What is to be done, and with which object.

@@ -2,8 +2,7 @@
 ghost use Rattle.std.specs.Prelude.{IfOk, OnErr};
 ghost use Rattle.gix_odb_loose.specs.StreamJobs.Reads.{Fetches, Loses};
 
-use odb_base::{ByteList, NoMemory};
-use odb_sources::Source;
+use odb_base::{ByteList, NoMemory, Source};
 use std::alloc::Global;
 
 /// The most bytes that one read asks for: the length of an array on the stack that they pass through.

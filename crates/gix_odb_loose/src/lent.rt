@@ -1,7 +1,7 @@
 //! Bytes in memory as a source.
 ghost use Rattle.std.specs.Prelude.{◌≡◌, Some};
 
-use odb_sources::{Failed, Source};
+use odb_base::{Failed, Source};
 
 /// Borrowed bytes. No read of them fails.
 #[derive(Drop)]

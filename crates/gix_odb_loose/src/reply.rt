@@ -6,9 +6,8 @@ ghost use Rattle.gix_odb_loose.specs.LooseOrder.Answered.{unreadable as unreadab
 
 use crate::find::{Action, Error};
 use gix_object::{Kind, decode, is_within};
-use odb_asks::DiskAnswer;
 use odb_base::{ByteList, NoMemory, PathText};
-use odb_nodes::DiskError;
+use odb_disk::{DiskAnswer, DiskError};
 use std::alloc::Global;
 
 /// What a file lacks.
@@ -28,7 +27,7 @@ pub fn tested(
     ensures answer { IfOk result (λ told. told ≡ tested_by path.now answer.now) }
 {
     match answer {
-        DiskAnswer::Meta(meta) => Ok(Ok(matches!(meta.kind, odb_nodes::Kind::File))),
+        DiskAnswer::Meta(meta) => Ok(Ok(matches!(meta.kind, odb_disk::Kind::File))),
         DiskAnswer::Refused(DiskError::Failed) => Ok(Err(unreadable(alloc, path)?)),
         DiskAnswer::Refused(DiskError::NoMemory) => Ok(Err(Error::NoMemory)),
         _ => Ok(Ok(false)),

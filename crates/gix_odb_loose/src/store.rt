@@ -1,23 +1,22 @@
 //! A folder of loose objects as a value, and its calls that find.
 ghost use Rattle.std.specs.Prelude.{◌≡◌, ◌≤◌, ◌↔◌, true, [], None, IfOk, IfErr, IfSome, OnErr, IsTrue};
 ghost use Rattle.odb_base.specs.Faults.{Rose};
-ghost use Rattle.odb_nodes.specs.Tree.{tree_of};
-ghost use Rattle.odb_nodes.specs.Tree.Follow.{looked, read_of};
-ghost use Rattle.odb_asks.specs.Ask.{AnswersAsk, meta_answer, file_answer};
+ghost use Rattle.odb_disk.specs.Tree.{tree_of};
+ghost use Rattle.odb_disk.specs.Tree.Follow.{looked, read_of};
+ghost use Rattle.odb_disk.specs.Ask.{AnswersAsk, meta_answer, file_answer};
 ghost use Rattle.gix_hash.specs.ObjectId.{kind_of};
 ghost use Rattle.gix_object.specs.Data.{found_of};
 ghost use Rattle.gix_odb_loose.specs.Store.{store_path, store_hash, store_limit};
 ghost use Rattle.gix_odb_loose.specs.LooseFile.{LeadsToFile};
-ghost use Rattle.odb_asks.specs.declared.ask.DiskAsk.TheVariants as asks;
+ghost use Rattle.odb_disk.specs.declared.ask.DiskAsk.TheVariants as asks;
 ghost use Rattle.gix_odb_loose.specs.Asked.{FindAsks, HeaderAsks, TestAsks};
 ghost use Rattle.gix_odb_loose.specs.Answers.{path_in, put_in, Finds, TellsHeader, FindRefused, HeaderRefused, TestRefused};
 
 use crate::{call, find, paths, reply};
 use gix_hash::ObjectId;
 use gix_object::{Data, Kind};
-use odb_asks::{Disk, DiskAnswer};
 use odb_base::{NoMemory, PathText};
-use odb_nodes::DiskError;
+use odb_disk::{Disk, DiskAnswer, DiskError};
 use std::alloc::Global;
 
 /// The options of a store. The default has no limit.

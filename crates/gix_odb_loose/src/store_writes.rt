@@ -17,9 +17,8 @@ use crate::write_streamed::StreamJob;
 use crate::{Store, write};
 use gix_hash::ObjectId;
 use gix_object::{Kind, WriteTo};
-use odb_asks::Disk;
-use odb_base::NoMemory;
-use odb_sources::{MemSink, Source};
+use odb_base::{MemSink, NoMemory, Source};
+use odb_disk::Disk;
 use std::alloc::Global;
 
 impl Store {

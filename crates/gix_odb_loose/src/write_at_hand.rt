@@ -8,8 +8,8 @@ use crate::naming::Naming;
 use crate::write_order::{Refusal, WriteAsk, WriteHead, WriteStage, ended};
 use crate::{paths, write};
 use gix_hash::ObjectId;
-use odb_asks::DiskAnswer;
 use odb_base::{ByteList, NoMemory, PathText};
+use odb_disk::DiskAnswer;
 use std::alloc::Global;
 
 /// A write in progress. It never waits for data: the next piece, or the end, is passed as soon as it is asked for.

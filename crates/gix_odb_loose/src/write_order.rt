@@ -14,9 +14,8 @@ use crate::paths;
 use crate::write::{Error, Message};
 use gix_hash::ObjectId;
 use gix_object::{Kind, encode};
-use odb_asks::{DiskAnswer, DiskAsk};
 use odb_base::{ByteList, NoMemory, PathText};
-use odb_nodes::DiskError;
+use odb_disk::{DiskAnswer, DiskAsk, DiskError};
 use std::alloc::Global;
 
 /// The most bytes of one append: `piece_size` of `specs/WritePieces.antt`. Each piece is held in memory whole, and

@@ -1,8 +1,8 @@
 //! A write whose data come from a source, a piece at a time. The source is read where the machine asks for data, so
 //! between two turns a write is at a stage that asks the disk.
 ghost use Rattle.std.specs.Prelude.{◌≡◌, ◌<◌, ◌≤◌, ◌++◌, ℕ, List, [], length, nat_lt, false, Option, IfOk, OnOk, Some, None};
-ghost use Rattle.odb_asks.specs.StreamAsks.{is_of_streams};
-ghost use Rattle.odb_nodes.specs.Tree.{State};
+ghost use Rattle.odb_disk.specs.StreamAsks.{is_of_streams};
+ghost use Rattle.odb_disk.specs.Tree.{State};
 ghost use Rattle.gix_odb_loose.specs.WriteOrder.{write_ask};
 ghost use Rattle.gix_odb_loose.specs.WriteOrder.{temp_path as temp_path_of};
 ghost use Rattle.gix_odb_loose.specs.declared.write_order.WriteHead.{WriteHead as head_of_write};
@@ -20,9 +20,8 @@ use crate::naming::Naming;
 use crate::paths;
 use crate::write_order::{Refusal, WriteAsk, WriteHead, WriteStage, ended, failed};
 use gix_hash::ObjectId;
-use odb_asks::{Disk, DiskAsk};
-use odb_base::{ByteList, NoMemory, PathText};
-use odb_sources::Source;
+use odb_base::{ByteList, NoMemory, PathText, Source};
+use odb_disk::{Disk, DiskAsk};
 use std::alloc::Global;
 use std::mem;
 

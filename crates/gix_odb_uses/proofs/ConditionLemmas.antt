@@ -1,6 +1,6 @@
 -- The condition of an object, by the answer of a find.
 use Rattle.std.proofs.Common.{ℕ, List, inr}
-use Rattle.odb_nodes.specs.Tree.{State}
+use Rattle.odb_disk.specs.Tree.{State}
 use Rattle.gix_hash.specs.declared.object_id.ObjectId.{ObjectId}
 use Rattle.gix_object.specs.declared.kind.Kind.{Kind}
 use Rattle.gix_odb_loose.specs.Store.{store_hash}

@@ -7,7 +7,7 @@ use Rattle.std.proofs.lemmas.List.{take_more}
 use Rattle.std.proofs.lemmas.Option.{same_Some}
 use Rattle.std.proofs.lemmas.Slice.Zip.{all_zipped_more}
 use Rattle.odb_base.specs.Faults.{Rose}
-use Rattle.odb_nodes.specs.Tree.{State}
+use Rattle.odb_disk.specs.Tree.{State}
 use Rattle.gix_hash.specs.declared.object_id.ObjectId.{ObjectId}
 use Rattle.gix_object.specs.Data.{Object}
 use Rattle.gix_object.specs.declared.kind.Kind.{Kind}

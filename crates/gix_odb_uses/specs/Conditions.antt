@@ -1,6 +1,6 @@
 -- What each condition says of the file of an object.
 use Rattle.std.specs.Prelude.{◌≡◌, ◌≢◌, ◌⊎◌, ℕ, List, Option, Some, None}
-use Rattle.odb_nodes.specs.Tree.{State}
+use Rattle.odb_disk.specs.Tree.{State}
 use Rattle.gix_hash.specs.declared.kind.Kind.{Kind as HashKind}
 use Rattle.gix_hash.specs.declared.object_id.ObjectId.{ObjectId}
 use Rattle.gix_object.specs.Id.{object_id}

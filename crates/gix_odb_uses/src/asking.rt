@@ -12,8 +12,8 @@ ghost use Rattle.gix_odb_uses.specs.Reads.{MayRead, MayReadEach};
 use gix_hash::ObjectId;
 use gix_object::{Kind, compute_hash};
 use gix_odb_loose::{Store, find};
-use odb_asks::Disk;
 use odb_base::NoMemory;
+use odb_disk::Disk;
 use std::alloc::Global;
 
 /// The kinds of objects, in the order of their ids. `None` is an object that isn't there.

@@ -13,8 +13,8 @@ use crate::Error;
 use gix_hash::ObjectId;
 use gix_object::Kind;
 use gix_odb_loose::{Store, write};
-use odb_asks::Disk;
-use odb_sources::Source;
+use odb_base::Source;
+use odb_disk::Disk;
 use std::alloc::Global;
 
 /// Keeps bytes as a blob, and checks that they are found again: the id of the blob.

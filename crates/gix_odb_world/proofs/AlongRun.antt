@@ -2,8 +2,8 @@
 use Rattle.std.proofs.Common.{◌≡◌, ℕ, zero, suc, ◌+◌, ◌≤◌, List, [], ◌∷◌, ◌++◌, length, take, Some, sym, subst, arith, inl, inr}
 use Rattle.std.specs.Prelude.{slice_get}
 use Rattle.std.proofs.Math.Seq.{take-length}
-use Rattle.odb_asks.specs.MemDisk.{Volume}
-use Rattle.gix_odb_runs.specs.Event.{Event}
+use Rattle.odb_disk.specs.MemDisk.{Volume}
+use Rattle.gix_odb_history.specs.Event.{Event}
 use Rattle.gix_odb_world.specs.Status.{Status, Free, status_after, status_of, statuses_from}
 use Rattle.gix_odb_world.specs.Headline.{IsLawful, Law}
 use Rattle.gix_odb_world.proofs.HistoryLemmas.{status_of-push}

@@ -1,26 +1,26 @@
 -- What is true of all answers to a handle that lists folders of packs: where its work begins, and after one more event.
 use Rattle.std.proofs.Common.{◌≡◌, ℕ, ◌+◌, ◌≤◌, List, [], ◌∷◌, ◌++◌, length, Contains, Some, None, inl, inr, refl, sym, ◌∙◌, ap, subst}
 use Rattle.std.proofs.lemmas.List.{length_push}
-use Rattle.odb_asks.specs.Ask.{answer_now}
-use Rattle.odb_asks.specs.MemDisk.{Volume}
-use Rattle.odb_asks.specs.declared.ask.DiskAnswer.{DiskAnswer}
-use Rattle.odb_asks.specs.declared.ask.DiskAsk.{DiskAsk}
-use Rattle.odb_asks.specs.declared.ask.DiskAsk.TheVariants as asks
+use Rattle.odb_disk.specs.Ask.{answer_now}
+use Rattle.odb_disk.specs.MemDisk.{Volume}
+use Rattle.odb_disk.specs.declared.ask.DiskAnswer.{DiskAnswer}
+use Rattle.odb_disk.specs.declared.ask.DiskAsk.{DiskAsk}
+use Rattle.odb_disk.specs.declared.ask.DiskAsk.TheVariants as asks
 use Rattle.gix_odb_core.specs.History.{History}
 use Rattle.gix_odb_events.specs.declared.answer.Answer.TheVariants as told
 use Rattle.gix_odb_events.specs.declared.answer.Ask.TheVariants as parts
-use Rattle.gix_odb_looks.specs.Exchange.{AreAnswered, Exchange, IsAnswerTo}
-use Rattle.gix_odb_looks.specs.Laps as laps
-use Rattle.gix_odb_looks.specs.Laps.{AreWithin}
-use Rattle.gix_odb_looks.specs.Stream.{stream_by, stream_in}
-use Rattle.gix_odb_look_laws.proofs.CoreLaws.{core_answers_suit_their_events}
-use Rattle.gix_odb_looks.proofs.HandedLaws.{IsOwnStream}
-use Rattle.gix_odb_refresh.specs.Asked.{AreSuited, IsSuited}
+use Rattle.gix_odb.specs.LookExchanges.{AreAnswered, Exchange, IsAnswerTo}
+use Rattle.gix_odb.specs.Laps as laps
+use Rattle.gix_odb.specs.Laps.{AreWithin}
+use Rattle.gix_odb.specs.Stream.{stream_by, stream_in}
+use Rattle.gix_odb_world.proofs.CoreLaws.{core_answers_suit_their_events}
+use Rattle.gix_odb.proofs.HandedLaws.{IsOwnStream}
+use Rattle.gix_odb.specs.Asked.{AreSuited, IsSuited}
 use Rattle.gix_odb_world.specs.AtWork.{Running, Store}
 use Rattle.gix_odb_world.specs.Bound.{HasAtMost}
-use Rattle.gix_odb_runs.specs.Cores.{answer_behind, cores_after, history_at}
-use Rattle.gix_odb_runs.specs.Event.{CoreAnswer, CoreEvent, Event, OfCore, OfDisk}
-use Rattle.gix_odb_runs.specs.Run.{disk_after, tree_at}
+use Rattle.gix_odb_history.specs.Cores.{answer_behind, cores_after, history_at}
+use Rattle.gix_odb_history.specs.Event.{CoreAnswer, CoreEvent, Event, OfCore, OfDisk}
+use Rattle.gix_odb_history.specs.Run.{disk_after, tree_at}
 use Rattle.gix_odb_world.specs.Running.Answered.{IsAnsweredWell}
 use Rattle.gix_odb_world.specs.Told.{told_since}
 use Rattle.gix_odb_world.proofs.DiskTold.{suits}

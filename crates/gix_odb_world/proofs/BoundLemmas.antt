@@ -1,7 +1,7 @@
 -- The bound on a call's turns is a number of 128 bits.
 use Rattle.std.proofs.Common.{ℕ, ◌+◌, ◌*◌, ◌^◌, ◌<◌, ◌≤◌, arith}
 use Rattle.std.proofs.Math.Nat.{mul-le-mul}
-use Rattle.gix_odb_looks.specs.Laps.{turns_of_lap}
+use Rattle.gix_odb.specs.Laps.{turns_of_lap}
 use Rattle.gix_odb_world.specs.Bound.{laps_without_change, most_changes}
 use Rattle.gix_odb_world.specs.Valid.{most_folders}
 

@@ -4,9 +4,9 @@ use Rattle.std.proofs.Common.{◌≡◌, ℕ, ◌<◌, ◌≤◌, List, [], leng
 use Rattle.std.specs.Prelude.{IfOk, IsSome, OnOk}
 use Rattle.odb_base.specs.Path.{Path}
 use Rattle.odb_base.specs.declared.no_memory.NoMemory.{NoMemory}
-use Rattle.odb_asks.specs.MemDisk.{Volume}
-use Rattle.odb_asks.specs.Ask.{after_ask, answer_now}
-use Rattle.odb_asks.specs.declared.ask.DiskAsk.{DiskAsk}
+use Rattle.odb_disk.specs.MemDisk.{Volume}
+use Rattle.odb_disk.specs.Ask.{after_ask, answer_now}
+use Rattle.odb_disk.specs.declared.ask.DiskAsk.{DiskAsk}
 use Rattle.gix_odb_calls.specs.declared.call.Reply.TheVariants as replies
 use Rattle.gix_odb.proofs.AskLaws.{calls_have_no_core_made}
 use Rattle.gix_odb.specs.declared.open_state.OpenStage.TheVariants as opens
@@ -17,13 +17,13 @@ use Rattle.gix_odb_events.specs.Answers.{view_in}
 use Rattle.gix_odb_events.specs.declared.answer.Answer.TheVariants as told
 use Rattle.gix_odb_events.specs.declared.answer.Ask.{Ask}
 use Rattle.gix_odb_events.specs.declared.answer.Ask.TheVariants as asks
-use Rattle.gix_odb_look_laws.proofs.CoreLaws.{core_answers_suit_their_events}
-use Rattle.gix_odb_runs.proofs.WriteAsk.Quiet.{after_ask-change}
-use Rattle.gix_odb_runs.specs.Cores.{answer_behind, cores_after_asked, history_at, or_before, registered_at}
-use Rattle.gix_odb_runs.specs.Event.{Asked, CoreAnswer, CoreEvent, OfCore, OfDisk, OfNewCore, OfNothing, answered}
-use Rattle.gix_odb_runs.specs.Made.{first_answer}
-use Rattle.gix_odb_runs.specs.Run.{Stand, stand, told_now}
-use Rattle.gix_odb_runs.specs.declared.record.Did.TheVariants as dids
+use Rattle.gix_odb_world.proofs.CoreLaws.{core_answers_suit_their_events}
+use Rattle.gix_odb_history.proofs.WriteAsk.Quiet.{after_ask-change}
+use Rattle.gix_odb_history.specs.Cores.{answer_behind, cores_after_asked, history_at, or_before, registered_at}
+use Rattle.gix_odb_history.specs.Event.{Asked, CoreAnswer, CoreEvent, OfCore, OfDisk, OfNewCore, OfNothing, answered}
+use Rattle.gix_odb_history.specs.Made.{first_answer}
+use Rattle.gix_odb_history.specs.Run.{Stand, stand, told_now}
+use Rattle.gix_odb_history.specs.declared.record.Did.TheVariants as dids
 use Rattle.gix_odb_world.specs.Handle.{HandleParts, seen, seen_at}
 use Rattle.gix_odb_world.specs.declared.handle.Handle.{Handle}
 use Rattle.gix_odb_world.specs.declared.handle.HandleAt.{HandleAt}

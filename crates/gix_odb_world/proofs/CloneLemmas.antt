@@ -1,6 +1,6 @@
 -- The clone of an idle handle.
 use Rattle.std.proofs.Common.{◌≡◌, ℕ, true, false, List, [], ◌∷◌, ◌++◌, Some, None, Option, Vec, Global, refl, sym, ◌∙◌, ap, subst}
-use Rattle.odb_asks.specs.MemDisk.{Volume}
+use Rattle.odb_disk.specs.MemDisk.{Volume}
 use Rattle.gix_odb_core.specs.History.{History}
 use Rattle.gix_odb_core.specs.Replay.{number_behind}
 use Rattle.gix_odb_events.specs.Answers.{view_in}
@@ -9,18 +9,18 @@ use Rattle.gix_odb_events.specs.declared.view.View.{View}
 use Rattle.gix_odb_calls.specs.declared.step.Step.TheVariants as steps
 use Rattle.gix_odb_calls.specs.declared.step.Outcome.TheVariants as outcomes
 use Rattle.gix_odb_calls.specs.declared.step.Why.{Why}
-use Rattle.gix_odb_runs.specs.declared.record.Did.{Did}
-use Rattle.gix_odb_runs.specs.declared.record.Did.TheVariants.{Core}
+use Rattle.gix_odb_history.specs.declared.record.Did.{Did}
+use Rattle.gix_odb_history.specs.declared.record.Did.TheVariants.{Core}
 use Rattle.gix_odb_world.specs.Handle.{Seen}
 use Rattle.gix_odb_world.specs.Work.{Work}
 use Rattle.gix_odb_world.specs.declared.course.Course.{Course}
-use Rattle.gix_odb_runs.specs.Cores.{cores_after, cores_after_asked, history_at, or_before}
-use Rattle.gix_odb_runs.specs.Event.{Asked, Event, OfCore}
+use Rattle.gix_odb_history.specs.Cores.{cores_after, cores_after_asked, history_at, or_before}
+use Rattle.gix_odb_history.specs.Event.{Asked, Event, OfCore}
 use Rattle.gix_odb_world.specs.Headline.{LeavesDisk, asked_applied, asked_by_clone}
-use Rattle.gix_odb_runs.specs.Run.{did_of_asked}
+use Rattle.gix_odb_history.specs.Run.{did_of_asked}
 use Rattle.gix_odb_world.specs.Running.{Runs}
 use Rattle.gix_odb_world.specs.Status.{Free, Resting, Status, Working, cloned, status_of}
-use Rattle.gix_odb_runs.specs.Made.{joined_answer}
+use Rattle.gix_odb_history.specs.Made.{joined_answer}
 use Rattle.gix_odb_world.specs.Valid.{Phase, NoneThere, Idle, Running, why_not_clone, why_not_idle, why_not_open}
 use Rattle.gix_odb_world.specs.World.{Continues, Explains, Matches, handle_at}
 use Rattle.gix_odb_world.specs.Table.{SetsHandle, Notes, phase_now, phase_of_handle, phase_of_work, shared_with, why_not_now}

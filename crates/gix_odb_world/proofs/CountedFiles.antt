@@ -7,49 +7,49 @@ use Rattle.std.specs.Prelude.{if◌then◌else◌}
 use Rattle.std.specs.List.{IsDistinct}
 use Rattle.std.proofs.lemmas.Option.{same_Some}
 use Rattle.odb_base.specs.Path.{Path}
-use Rattle.odb_asks.specs.Ask.{answer_now, answer_of, fails_now, meta_answer}
-use Rattle.odb_asks.specs.MemDisk.{Volume}
-use Rattle.odb_asks.specs.declared.ask.DiskAnswer.TheVariants as answers
-use Rattle.odb_asks.specs.declared.ask.DiskAsk.TheVariants as disk_asks
-use Rattle.odb_nodes.specs.Tree.{Tree, tree_of}
-use Rattle.odb_nodes.specs.Tree.Follow.{Place, Refusal, file_of, file_of_place, followed, looked, meta_of, meta_of_place, meta_with, read_of}
-use Rattle.odb_nodes.specs.declared.disk_error.DiskError.TheVariants as errors
-use Rattle.odb_nodes.specs.declared.entry.Entry.{Entry}
-use Rattle.odb_nodes.specs.declared.meta.Kind.TheVariants as kinds
-use Rattle.odb_nodes.specs.declared.meta.Meta.{Meta}
-use Rattle.odb_nodes.specs.declared.node.Content.{Content}
-use Rattle.odb_nodes.specs.declared.node.Content.TheVariants.{File, Dir, Link}
+use Rattle.odb_disk.specs.Ask.{answer_now, answer_of, fails_now, meta_answer}
+use Rattle.odb_disk.specs.MemDisk.{Volume}
+use Rattle.odb_disk.specs.declared.ask.DiskAnswer.TheVariants as answers
+use Rattle.odb_disk.specs.declared.ask.DiskAsk.TheVariants as disk_asks
+use Rattle.odb_disk.specs.Tree.{Tree, tree_of}
+use Rattle.odb_disk.specs.Tree.Follow.{Place, Refusal, file_of, file_of_place, followed, looked, meta_of, meta_of_place, meta_with, read_of}
+use Rattle.odb_disk.specs.declared.disk_error.DiskError.TheVariants as errors
+use Rattle.odb_disk.specs.declared.entry.Entry.{Entry}
+use Rattle.odb_disk.specs.declared.meta.Kind.TheVariants as kinds
+use Rattle.odb_disk.specs.declared.meta.Meta.{Meta}
+use Rattle.odb_disk.specs.declared.node.Content.{Content}
+use Rattle.odb_disk.specs.declared.node.Content.TheVariants.{File, Dir, Link}
 use Rattle.gix_odb_events.specs.PackPath.{pack_path}
 use Rattle.gix_odb_events.specs.PackFiles.{same_path}
 use Rattle.gix_odb_events.specs.declared.listing.Listing.{Listing}
 use Rattle.gix_odb_events.specs.declared.listing.ListingRow.{ListingRow}
-use Rattle.gix_odb_packs.specs.ListOrder as lists
+use Rattle.gix_odb_search.specs.ListOrder as lists
 use Rattle.gix_odb_events.specs.declared.answer.Answer.{Answer}
 use Rattle.gix_odb_events.specs.declared.answer.Answer.TheVariants as told
 use Rattle.gix_odb_events.specs.declared.answer.Ask.{Ask}
 use Rattle.gix_odb_events.specs.declared.answer.Ask.TheVariants as asks
-use Rattle.gix_odb_packs.specs.declared.lister.ListStep.{ListStep}
-use Rattle.gix_odb_packs.specs.declared.lister.ListStep.TheVariants as listed
+use Rattle.gix_odb_search.specs.declared.lister.ListStep.{ListStep}
+use Rattle.gix_odb_search.specs.declared.lister.ListStep.TheVariants as listed
 use Rattle.gix_odb_calls.specs.declared.init.Slots.{Slots}
 use Rattle.gix_odb_calls.specs.declared.init.Slots.TheVariants.{AsNeededByDiskState, Given}
-use Rattle.gix_odb_looks.specs.Exchange.{Exchange, WasTold}
-use Rattle.gix_odb_looks.specs.LookUpOrder.{Setting}
-use Rattle.gix_odb_looks.specs.Shown.{IsIndexRow}
-use Rattle.gix_odb_refresh.proofs.ListerLaws.Known.{KnowsListStep}
-use Rattle.gix_odb_refresh.proofs.ListerLaws.Lists.{has_first, has_later}
-use Rattle.gix_odb_refresh.proofs.ListerLaws.Known.{fed_known, started_known}
-use Rattle.gix_odb_refresh.specs.Asked.{AreSuited, IsSuited}
-use Rattle.gix_odb_look_laws.specs.ListedFiles.{AreOfTree}
-use Rattle.gix_odb_look_laws.specs.ListerCalls.{Call, IsRowSeen, WasCalled, behind_calls}
-use Rattle.gix_odb_look_laws.proofs.ListingLaws.{listed_rows_are_those_of_the_tree, listed_rows_have_different_paths, listed_rows_were_seen}
+use Rattle.gix_odb.specs.LookExchanges.{Exchange, WasTold}
+use Rattle.gix_odb.specs.LookUpOrder.{Setting}
+use Rattle.gix_odb.specs.Shown.{IsIndexRow}
+use Rattle.gix_odb.proofs.ListerLaws.Known.{KnowsListStep}
+use Rattle.gix_odb.proofs.ListerLaws.Lists.{has_first, has_later}
+use Rattle.gix_odb.proofs.ListerLaws.Known.{fed_known, started_known}
+use Rattle.gix_odb.specs.Asked.{AreSuited, IsSuited}
+use Rattle.gix_odb.specs.ListedFiles.{AreOfTree}
+use Rattle.gix_odb.specs.ListerCalls.{Call, IsRowSeen, WasCalled, behind_calls}
+use Rattle.gix_odb.proofs.ListingLaws.{listed_rows_are_those_of_the_tree, listed_rows_have_different_paths, listed_rows_were_seen}
 use Rattle.gix_odb.specs.Contents.{ShowsFile, folder_list}
 use Rattle.gix_odb.specs.Moments.{Sometime}
 use Rattle.gix_odb.specs.OpenExchanges.{AreAsked, HasListed, IsNumber, fed_by, list_behind, list_by}
 use Rattle.gix_odb.specs.declared.open_state.OpenStage.TheVariants as opens
 use Rattle.gix_odb_world.specs.AtWork.{Store, setting_in}
 use Rattle.gix_odb_world.specs.Counted.{AreCounted, IsCountedNumber, WasShownRow}
-use Rattle.gix_odb_runs.specs.Event.{Event}
-use Rattle.gix_odb_runs.specs.Run.{tree_at}
+use Rattle.gix_odb_history.specs.Event.{Event}
+use Rattle.gix_odb_history.specs.Run.{tree_at}
 use Rattle.gix_odb_world.specs.Running.Listed.{AreGiven}
 use Rattle.gix_odb_world.specs.Running.Query.{IsGiven}
 use Rattle.gix_odb_world.specs.Told.{told_since}

@@ -6,14 +6,14 @@ use Rattle.std.proofs.Common.{◌≡◌, ◌≢◌, inl, inr, ℕ, zero, suc, �
 use Rattle.std.specs.Prelude.{slice_get, ◌==◌}
 use Rattle.std.proofs.lemmas.Bool.{cases_lt, eqb-false, eqb-true}
 use Rattle.odb_base.specs.Path.{Path}
-use Rattle.odb_nodes.specs.Tree.{IsTree, Tree}
-use Rattle.odb_nodes.specs.Tree.Way.{SameOnWay}
-use Rattle.odb_nodes.specs.Tree.Write.{spot}
-use Rattle.odb_nodes.proofs.OwnWayLaws.{Stops, stop_below_root, stops_kept}
+use Rattle.odb_disk.specs.Tree.{IsTree, Tree}
+use Rattle.odb_disk.specs.Tree.Way.{SameOnWay}
+use Rattle.odb_disk.specs.Tree.Write.{spot}
+use Rattle.odb_disk.proofs.OwnWayLaws.{Stops, stop_below_root, stops_kept}
 use Rattle.gix_odb_loose.specs.WriteOrder.{temp_name}
 use Rattle.gix_odb_loose.proofs.NameLaws.{IsTemporary}
-use Rattle.gix_odb_runs.specs.Event.{Event}
-use Rattle.gix_odb_runs.specs.Run.{IsTurnOf, tree_at}
+use Rattle.gix_odb_history.specs.Event.{Event}
+use Rattle.gix_odb_history.specs.Run.{IsTurnOf, tree_at}
 use Rattle.gix_odb_world.specs.Undisturbed.{HasMade, IsUndisturbed, OthersLeave}
 use Rattle.gix_odb_world.proofs.LawfulRun.{LawfulRun}
 use Rattle.gix_odb_world.proofs.OwnFiles as along

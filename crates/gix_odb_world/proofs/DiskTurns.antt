@@ -1,18 +1,18 @@
 -- A turn calls the disk, or leaves it as it was.
 use Rattle.std.proofs.Common.{◌≡◌, ◌⊎◌, inl, inr, ℕ, List, Option, Some, None, refl, sym, ap, ◌∙◌, subst}
-use Rattle.odb_asks.specs.MemDisk.{Volume}
-use Rattle.odb_asks.specs.Ask.{answer_now, fails_now, op_of}
-use Rattle.odb_asks.specs.declared.ask.DiskAsk.{DiskAsk}
-use Rattle.gix_odb_runs.specs.declared.record.Did.TheVariants.{Disk}
-use Rattle.gix_odb_runs.specs.Event.{OfDisk, Event, answered}
+use Rattle.odb_disk.specs.MemDisk.{Volume}
+use Rattle.odb_disk.specs.Ask.{answer_now, fails_now, op_of}
+use Rattle.odb_disk.specs.declared.ask.DiskAsk.{DiskAsk}
+use Rattle.gix_odb_history.specs.declared.record.Did.TheVariants.{Disk}
+use Rattle.gix_odb_history.specs.Event.{OfDisk, Event, answered}
 use Rattle.gix_odb_events.specs.declared.answer.Ask.{Ask}
 use Rattle.gix_odb_events.specs.declared.answer.Ask.TheVariants as parts
 use Rattle.gix_odb_events.specs.declared.answer.Answer.TheVariants as given
 use Rattle.gix_odb_world.specs.Headline.{LeavesDisk, Works, outcome_of, stand_of}
 use Rattle.gix_odb_world.specs.Machines.{ask_in, fed_in}
 use Rattle.gix_odb_world.specs.Recorded.{opened_in}
-use Rattle.gix_odb_runs.specs.PathRecorded.{path_recorded}
-use Rattle.gix_odb_runs.specs.Run.{NoCall, change_asked, change_by, did_asked, disk_after, told_now}
+use Rattle.gix_odb_history.specs.PathRecorded.{path_recorded}
+use Rattle.gix_odb_history.specs.Run.{NoCall, change_asked, change_by, did_asked, disk_after, told_now}
 use Rattle.gix_odb_world.specs.Status.{Running}
 
 -- what a turn does that makes a call of the disk

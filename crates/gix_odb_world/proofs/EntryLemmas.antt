@@ -8,25 +8,25 @@ use Rattle.std.proofs.lemmas.List.Elements.{filter_map-append}
 use Rattle.std.proofs.lemmas.List.FromFn.{length-map-range_with_len, map-range_with_len_more}
 use Rattle.std.proofs.lemmas.Option.{slice_get_past}
 use Rattle.odb_base.specs.Path.{Path}
-use Rattle.odb_asks.specs.MemDisk.{Volume}
+use Rattle.odb_disk.specs.MemDisk.{Volume}
 use Rattle.gix_odb_core.specs.History.{History, opened}
 use Rattle.gix_odb_core.specs.Replay.{number_behind}
 use Rattle.gix_odb_events.specs.View.{last_state}
 use Rattle.gix_odb_events.specs.declared.event.Event.TheVariants as core_events
-use Rattle.gix_odb_runs.specs.declared.record.Did.{Did}
-use Rattle.gix_odb_runs.specs.declared.record.Record.{Record}
+use Rattle.gix_odb_history.specs.declared.record.Did.{Did}
+use Rattle.gix_odb_history.specs.declared.record.Record.{Record}
 use Rattle.gix_odb_calls.specs.declared.step.Outcome.{Outcome}
 use Rattle.gix_odb_calls.specs.declared.step.Outcome.TheVariants as outcomes
 use Rattle.gix_odb_calls.specs.declared.step.Step.{Step}
 use Rattle.gix_odb_calls.specs.declared.step.Step.TheVariants as steps
 use Rattle.gix_odb_world.specs.Asks.{AsksAsTask, MayAskCore}
-use Rattle.gix_odb_runs.specs.Cores.{cores_after, cores_after_asked, entered, history_at}
-use Rattle.gix_odb_runs.specs.Entries.{TellsEachEntry, entries_told, entry_told}
-use Rattle.gix_odb_runs.specs.Event.{Asked, CoreAnswer, CoreEvent, Event, OfCore, OfDisk, OfNewCore, OfNothing}
+use Rattle.gix_odb_history.specs.Cores.{cores_after, cores_after_asked, entered, history_at}
+use Rattle.gix_odb_history.specs.Entries.{TellsEachEntry, entries_told, entry_told}
+use Rattle.gix_odb_history.specs.Event.{Asked, CoreAnswer, CoreEvent, Event, OfCore, OfDisk, OfNewCore, OfNothing}
 use Rattle.gix_odb_events.specs.declared.answer.Ask.{Ask}
 use Rattle.gix_odb_events.specs.declared.answer.Ask.TheVariants as parts
 use Rattle.gix_odb_world.specs.Headline.{IsLawful, IsTurn, Law, Suits, asked_applied, asked_by_clone, asked_by_close, stand_of}
-use Rattle.gix_odb_runs.specs.Run.{did_of_asked, disk_after, told_now}
+use Rattle.gix_odb_history.specs.Run.{did_of_asked, disk_after, told_now}
 use Rattle.gix_odb_world.specs.Status.{Free, MakeCall, OpenStore, Resting, Running, Status, Task, Working, status_after, status_of}
 use Rattle.gix_odb_world.specs.Valid.{misuse_of}
 use Rattle.gix_odb_world.proofs.AlongRun.{along_run}

@@ -20,10 +20,10 @@ use Rattle.gix_odb_calls.specs.declared.step.Step.TheVariants as steps
 use Rattle.gix_odb_world.specs.Work.{Work, Opening, Calling}
 use Rattle.gix_odb.specs.declared.open_state.OpenStage.TheVariants as opens
 use Rattle.gix_odb_calls.specs.declared.call.Reply.{Reply}
-use Rattle.gix_odb_runs.specs.Cores.{cores_after, history_at, registered_at}
-use Rattle.gix_odb_runs.specs.Event.{CoreEvent, Event}
-use Rattle.gix_odb_runs.specs.Held.{IsHeld}
-use Rattle.gix_odb_runs.proofs.KeptCoreLemmas.{held_by}
+use Rattle.gix_odb_history.specs.Cores.{cores_after, history_at, registered_at}
+use Rattle.gix_odb_history.specs.Event.{CoreEvent, Event}
+use Rattle.gix_odb_history.specs.Held.{IsHeld}
+use Rattle.gix_odb_history.proofs.KeptCoreLemmas.{held_by}
 use Rattle.gix_odb_world.specs.Handle.{HandleParts, IsHandleOf, Seen}
 use Rattle.gix_odb_world.specs.Machines.{ask_in}
 use Rattle.gix_odb_world.specs.Running.{Knows, Runs}

@@ -1,7 +1,7 @@
 -- What the code of a turn does with a handle that is fed an answer.
 use Rattle.std.proofs.Common.{◌≡◌, true, Some, Result, Ok, Err, sym, ap, ◌∙◌, subst}
 use Rattle.std.specs.Prelude.{IfOk}
-use Rattle.odb_asks.specs.declared.ask.DiskAnswer.{DiskAnswer}
+use Rattle.odb_disk.specs.declared.ask.DiskAnswer.{DiskAnswer}
 use Rattle.odb_base.specs.declared.no_memory.NoMemory.{NoMemory}
 use Rattle.gix_odb.specs.OpenOrder as openings
 use Rattle.gix_odb.specs.OpenState.{at_stage}

@@ -3,21 +3,21 @@ pub mod AtWrite
 use Rattle.std.proofs.Common.{◌≡◌, ℕ, ◌+◌, List, [], take, Option, Some, None, Result, Ok, Err, sym, ap, ◌∙◌, subst}
 use Rattle.std.specs.Result.{result_ok}
 use Rattle.odb_base.specs.Path.{Path}
-use Rattle.odb_asks.specs.Ask.{change_of_ask, fails_now, op_of}
-use Rattle.odb_asks.specs.MemDisk.{Volume, next_fails}
-use Rattle.odb_nodes.specs.Tree.{IsTree, Tree, tree_of}
-use Rattle.odb_nodes.specs.Tree.Change.{changed}
-use Rattle.odb_nodes.specs.Tree.Write as writing
-use Rattle.odb_nodes.specs.Tree.Write.{change_of_append, change_of_make_dir, change_of_new_file, change_of_remove, change_of_rename, vacant}
-use Rattle.odb_asks.specs.declared.ask.DiskAnswer.TheVariants as answers
-use Rattle.odb_asks.specs.declared.ask.DiskAsk.{DiskAsk}
-use Rattle.odb_asks.specs.declared.ask.DiskAsk.TheVariants as asks
-use Rattle.odb_asks.specs.declared.ask.Op.TheVariants as ops
-use Rattle.odb_nodes.specs.declared.change.Change.{Change}
-use Rattle.odb_nodes.specs.declared.change.Change.TheVariants.{PutFile, MakeDir, Rename, Append, Remove}
-use Rattle.odb_nodes.proofs.OwnWayLaws.{Cut, IsOwnChange, OwnSpot, cut_no_append, cut_no_dir, cut_no_remove, cut_no_rename, own_append, own_dir_change, own_new, own_new_change, own_remove, own_rename}
-use Rattle.odb_nodes.proofs.TreeLemmas.Write.{replaceable_at}
-use Rattle.odb_nodes.proofs.WayWriteLaws.{append_change, make_dir_change, new_file_change, remove_change}
+use Rattle.odb_disk.specs.Ask.{change_of_ask, fails_now, op_of}
+use Rattle.odb_disk.specs.MemDisk.{Volume, next_fails}
+use Rattle.odb_disk.specs.Tree.{IsTree, Tree, tree_of}
+use Rattle.odb_disk.specs.Tree.Change.{changed}
+use Rattle.odb_disk.specs.Tree.Write as writing
+use Rattle.odb_disk.specs.Tree.Write.{change_of_append, change_of_make_dir, change_of_new_file, change_of_remove, change_of_rename, vacant}
+use Rattle.odb_disk.specs.declared.ask.DiskAnswer.TheVariants as answers
+use Rattle.odb_disk.specs.declared.ask.DiskAsk.{DiskAsk}
+use Rattle.odb_disk.specs.declared.ask.DiskAsk.TheVariants as asks
+use Rattle.odb_disk.specs.declared.ask.Op.TheVariants as ops
+use Rattle.odb_disk.specs.declared.change.Change.{Change}
+use Rattle.odb_disk.specs.declared.change.Change.TheVariants.{PutFile, MakeDir, Rename, Append, Remove}
+use Rattle.odb_disk.proofs.OwnWayLaws.{Cut, IsOwnChange, OwnSpot, cut_no_append, cut_no_dir, cut_no_remove, cut_no_rename, own_append, own_dir_change, own_new, own_new_change, own_remove, own_rename}
+use Rattle.odb_disk.proofs.TreeLemmas.Write.{replaceable_at}
+use Rattle.odb_disk.proofs.WayWriteLaws.{append_change, make_dir_change, new_file_change, remove_change}
 use Rattle.gix_hash.specs.declared.object_id.ObjectId.{ObjectId}
 use Rattle.gix_odb_loose.specs.LooseFile.{loose_path}
 use Rattle.gix_odb_loose.specs.WriteOrder.{number_made, prefix_path, temp_path}
@@ -25,14 +25,14 @@ use Rattle.gix_odb_loose.specs.declared.write_order.WriteStage.{WriteStage}
 use Rattle.gix_odb_loose.specs.declared.write_order.WriteStage.TheVariants as stages
 use Rattle.gix_odb_loose.proofs.NameLaws.{IsTemporary, object_spot, prefix_path-is, temp_path-is}
 use Rattle.gix_odb_world.specs.Recorded.{opened_in}
-use Rattle.gix_odb_runs.specs.PathRecorded.{path_recorded}
-use Rattle.gix_odb_runs.specs.declared.record.Did.TheVariants.{Disk}
-use Rattle.gix_odb_runs.specs.Event.{Event}
-use Rattle.gix_odb_runs.specs.Run.{change_by, disk_after, tree_at, NoCall}
-use Rattle.gix_odb_runs.specs.Writing.{AskedAt, ToWrite}
+use Rattle.gix_odb_history.specs.PathRecorded.{path_recorded}
+use Rattle.gix_odb_history.specs.declared.record.Did.TheVariants.{Disk}
+use Rattle.gix_odb_history.specs.Event.{Event}
+use Rattle.gix_odb_history.specs.Run.{change_by, disk_after, tree_at, NoCall}
+use Rattle.gix_odb_history.specs.Writing.{AskedAt, ToWrite}
 use Rattle.gix_odb_world.proofs.LawfulRun.{LawfulRun}
 use Rattle.gix_odb_world.proofs.RunSteps.{IsLeft, Made, Quiet, Turned, change_by_some, is_tree_at, kind_at, left_at}
-use Rattle.gix_odb_runs.proofs.WriteAsk.{Told, done_made, told_append, told_make_dir, told_new_file, told_remove, told_rename}
+use Rattle.gix_odb_history.proofs.WriteAsk.{Told, done_made, told_append, told_make_dir, told_new_file, told_remove, told_rename}
 use Rattle.gix_odb_world.proofs.WriteTurn.{ask_at_stage}
 
 abbrev pub NotTemporary : Path → Type 0

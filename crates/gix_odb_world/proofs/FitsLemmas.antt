@@ -6,10 +6,10 @@ use Rattle.std.specs.Coded.{Coded-set, coded_bool, coded_list, coded_option, cod
 use Rattle.std.proofs.lemmas.Grind.{not_there}
 use Rattle.odb_base.specs.Path.{Name, Path, parent_of}
 use Rattle.odb_base.specs.PathLaws.{parent_of-push, parent_of-some}
-use Rattle.odb_asks.specs.MemDisk.{Volume}
-use Rattle.odb_nodes.specs.Tree.{Tree, tree_of}
-use Rattle.gix_odb_shown.specs.Kept.{Fits, Folders, LiesInOne}
-use Rattle.gix_odb_shown.specs.Watched.{pack_directory}
+use Rattle.odb_disk.specs.MemDisk.{Volume}
+use Rattle.odb_disk.specs.Tree.{Tree, tree_of}
+use Rattle.gix_odb_watch.specs.Kept.{Fits, Folders, LiesInOne}
+use Rattle.gix_odb_watch.specs.Watched.{pack_directory}
 use Rattle.gix_odb_world.specs.declared.course.Course.{Course}
 use Rattle.gix_odb_world.specs.World.{HasHistory, IsExplained}
 use Rattle.gix_odb_world.proofs.HistoryLemmas.{tree_at-all}

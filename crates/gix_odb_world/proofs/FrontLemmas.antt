@@ -1,12 +1,12 @@
 -- Where what stands in front of a write stands after one event more, and how many turns it took.
 use Rattle.std.proofs.Common.{◌≡◌, ℕ, ◌≤◌, List, [], ◌∷◌, ◌++◌, length, None, ◌∙◌, ap}
-use Rattle.gix_odb_looks.specs.Exchange.{Exchange}
-use Rattle.gix_odb_looks.specs.LookUpOrder.{Setting}
-use Rattle.gix_odb_refresh.specs.RefreshOrder.{asked_of, started, step_fed}
-use Rattle.gix_odb_refresh.specs.Refreshed.{AreAsked, behind, turns_of}
-use Rattle.gix_odb_refresh.proofs.AskedLemmas.{behind-push, turns_of-asked, turns_of-ended}
+use Rattle.gix_odb.specs.LookExchanges.{Exchange}
+use Rattle.gix_odb.specs.LookUpOrder.{Setting}
+use Rattle.gix_odb.specs.RefreshOrder.{asked_of, started, step_fed}
+use Rattle.gix_odb.specs.Refreshed.{AreAsked, behind, turns_of}
+use Rattle.gix_odb.proofs.AskedLemmas.{behind-push, turns_of-asked, turns_of-ended}
 use Rattle.gix_odb_world.specs.AtWork.{Modes, Store, setting_in}
-use Rattle.gix_odb_runs.specs.Event.{Event}
+use Rattle.gix_odb_history.specs.Event.{Event}
 use Rattle.gix_odb_world.specs.Told.{refresh_begun, refresh_now, told_since, turns_in_front}
 use Rattle.gix_odb_world.proofs.ToldLemmas.{view_kept}
 

@@ -7,9 +7,9 @@ use Rattle.std.proofs.lemmas.Bool.{and_parts}
 use Rattle.std.proofs.lemmas.List.{length_push}
 use Rattle.std.proofs.lemmas.Map.Made.{update_all_none}
 use Rattle.odb_base.specs.Path.{Path}
-use Rattle.odb_asks.specs.MemDisk.{Volume}
-use Rattle.odb_nodes.specs.Tree.{tree_of}
-use Rattle.gix_odb_shown.specs.Kept.{Kept}
+use Rattle.odb_disk.specs.MemDisk.{Volume}
+use Rattle.odb_disk.specs.Tree.{tree_of}
+use Rattle.gix_odb_watch.specs.Kept.{Kept}
 use Rattle.gix_hash.specs.declared.kind.Kind.{Kind as HashKind}
 use Rattle.gix_hash.specs.declared.object_id.ObjectId.{ObjectId}
 use Rattle.gix_odb_calls.specs.Hashes.{is_pair_of}
@@ -20,8 +20,8 @@ use Rattle.gix_odb_calls.specs.declared.step.Why.TheVariants.{BadOpen}
 use Rattle.gix_odb_calls.specs.declared.init.Options.{Options}
 use Rattle.gix_odb.specs.declared.open_state.OpenStage.{OpenStage}
 use Rattle.gix_odb.specs.declared.open_state.OpenState.{OpenState}
-use Rattle.gix_odb_runs.specs.declared.record.Did.{Did}
-use Rattle.gix_odb_runs.specs.declared.record.Did.TheVariants.{Core, Nothing}
+use Rattle.gix_odb_history.specs.declared.record.Did.{Did}
+use Rattle.gix_odb_history.specs.declared.record.Did.TheVariants.{Core, Nothing}
 use Rattle.gix_odb_world.specs.Work.{Work}
 use Rattle.gix_odb_world.specs.Work.{Opening}
 use Rattle.gix_odb_world.specs.declared.course.Course.{Course}
@@ -30,13 +30,13 @@ use Rattle.gix_odb_core.specs.History.{History}
 use Rattle.gix_odb_core.specs.Replay.{number_behind}
 use Rattle.gix_odb_events.specs.declared.event.Event.TheVariants as core_events
 use Rattle.gix_odb_world.specs.Bound.{most_changes}
-use Rattle.gix_odb_runs.specs.Cores.{answer_behind, cores_after, cores_after_asked, history_at}
-use Rattle.gix_odb_runs.specs.Event.{Asked, Event, OfCore}
+use Rattle.gix_odb_history.specs.Cores.{answer_behind, cores_after, cores_after_asked, history_at}
+use Rattle.gix_odb_history.specs.Event.{Asked, Event, OfCore}
 use Rattle.gix_odb_world.specs.Headline.{LeavesDisk, asked_applied, asked_by_close}
 use Rattle.gix_odb_world.specs.Status.{OpenStore, Store, Status, Free, Resting, Working, store_at, opening_at, ignoring_from, modes_at_opening, status_of}
 use Rattle.gix_odb_world.specs.Handle.{Begins, IsHandleOf, Seen, opening_parts, seen_at}
 use Rattle.gix_odb_world.specs.declared.handle.HandleAt.TheVariants as stands
-use Rattle.gix_odb_runs.specs.Run.{IsTurnOf, did_of_asked}
+use Rattle.gix_odb_history.specs.Run.{IsTurnOf, did_of_asked}
 use Rattle.gix_odb_world.specs.Running.{Runs}
 use Rattle.gix_odb_world.specs.Valid.{Phase, NoneThere, Idle, Running, why_not_open, why_not_idle, are_distinct, are_good_folders, are_good_replacements}
 use Rattle.gix_odb_world.specs.World.{Continues, Explains, Matches, handle_at}

@@ -4,13 +4,13 @@ use Rattle.std.specs.Prelude.{slice_get}
 use Rattle.std.proofs.lemmas.List.{take-append-le, length_push}
 use Rattle.std.proofs.lemmas.List.Sums.{fold_push}
 use Rattle.std.proofs.Math.Seq.{take-append_seam, take-length}
-use Rattle.odb_nodes.specs.Tree.{tree_of}
-use Rattle.odb_asks.specs.MemDisk.{Volume}
+use Rattle.odb_disk.specs.Tree.{tree_of}
+use Rattle.odb_disk.specs.MemDisk.{Volume}
 use Rattle.std.proofs.lemmas.Option.{slice_get_within}
-use Rattle.gix_odb_runs.specs.Cores.{cores_after, cores_after_asked, cores_after_event}
-use Rattle.gix_odb_runs.specs.Event.{Event}
+use Rattle.gix_odb_history.specs.Cores.{cores_after, cores_after_asked, cores_after_event}
+use Rattle.gix_odb_history.specs.Event.{Event}
 use Rattle.gix_odb_world.specs.Status.{Status, Free, status_of, status_after, statuses_from}
-use Rattle.gix_odb_runs.specs.Run.{disk_after, disk_after_event, tree_at, IsTurnOf, Fails, FailedSince}
+use Rattle.gix_odb_history.specs.Run.{disk_after, disk_after_event, tree_at, IsTurnOf, Fails, FailedSince}
 use Rattle.gix_odb_world.specs.Headline.{Law, IsLawful}
 
 -- ---- lists with one more element at their end

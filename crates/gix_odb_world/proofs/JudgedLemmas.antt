@@ -1,15 +1,15 @@
 -- What is judged of a turn that may change what watched paths show, and what is kept after it.
 use Rattle.std.proofs.Common.{◌≡◌, true, Option, Some, None, Result, Ok, Err, OnOk, sym, subst}
-use Rattle.odb_asks.specs.Ask.{change_of_ask}
-use Rattle.odb_asks.specs.MemDisk.{Volume}
-use Rattle.odb_asks.specs.declared.ask.DiskAsk.{DiskAsk}
-use Rattle.odb_asks.proofs.AskedLaws.{asked_possible}
-use Rattle.odb_nodes.specs.Tree.{IsTree, Tree, tree_of}
-use Rattle.odb_nodes.specs.Tree.Change.{changed, is_possible_in}
-use Rattle.odb_nodes.specs.declared.change.Change.{Change}
-use Rattle.gix_odb_shown.specs.Kept.{Fits, IsSecond, Kept, Notes}
-use Rattle.gix_odb_shown.specs.Revealed.{IsRevealed}
-use Rattle.gix_odb_shown.specs.declared.revealed.Revealed.{Revealed}
+use Rattle.odb_disk.specs.Ask.{change_of_ask}
+use Rattle.odb_disk.specs.MemDisk.{Volume}
+use Rattle.odb_disk.specs.declared.ask.DiskAsk.{DiskAsk}
+use Rattle.odb_disk.proofs.AskedLaws.{asked_possible}
+use Rattle.odb_disk.specs.Tree.{IsTree, Tree, tree_of}
+use Rattle.odb_disk.specs.Tree.Change.{changed, is_possible_in}
+use Rattle.odb_disk.specs.declared.change.Change.{Change}
+use Rattle.gix_odb_watch.specs.Kept.{Fits, IsSecond, Kept, Notes}
+use Rattle.gix_odb_watch.specs.Revealed.{IsRevealed}
+use Rattle.gix_odb_watch.specs.declared.revealed.Revealed.{Revealed}
 use Rattle.gix_odb_world.specs.Watch.{NotesMade, ShowsSecondBy, TellsChange}
 
 -- the change of a call is possible in the tree of the disk

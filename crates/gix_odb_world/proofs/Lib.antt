@@ -62,3 +62,7 @@ mod ToldLists
 pub mod DiskTold
 pub mod Streams
 pub mod PackedStill
+mod CoreLaws
+mod HappenLaws
+mod RefreshHappenLaws
+mod ViewLaws

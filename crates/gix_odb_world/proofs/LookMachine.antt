@@ -3,17 +3,17 @@ pub mod Begun
 pub mod Turn
 use Rattle.std.proofs.Common.{◌≡◌, ℕ, ◌+◌, List, [], ◌∷◌, ◌++◌, length, Option, None, Some, Ok, Err, Result, refl, sym, ◌∙◌, ap, subst, arith}
 use Rattle.std.proofs.lemmas.List.{length_push}
-use Rattle.odb_asks.specs.MemDisk.{Volume}
+use Rattle.odb_disk.specs.MemDisk.{Volume}
 use Rattle.gix_hash.specs.declared.object_id.ObjectId.{ObjectId}
 use Rattle.gix_odb_calls.specs.declared.call.Reply.{Reply}
 use Rattle.gix_object.specs.declared.want.Want.{Want}
 use Rattle.gix_object.specs.declared.want.Want.TheVariants.{Object, Header, Presence}
 use Rattle.gix_odb_calls.specs.Query.{call_for}
 use Rattle.gix_odb_calls.specs.declared.query.Query.{Query}
-use Rattle.gix_odb_looks.specs.Exchange.{AreAsked, behind}
-use Rattle.gix_odb_looks.specs.LookUpOrder as looks
-use Rattle.gix_odb_looks.specs.LookUpOrder.{ask_of, fed, result_of}
-use Rattle.gix_odb_looks.specs.declared.look_up.LookUp.{LookUp}
+use Rattle.gix_odb.specs.LookExchanges.{AreAsked, behind}
+use Rattle.gix_odb.specs.LookUpOrder as looks
+use Rattle.gix_odb.specs.LookUpOrder.{ask_of, fed, result_of}
+use Rattle.gix_odb.specs.declared.look_up.LookUp.{LookUp}
 use Rattle.gix_odb.specs.CallOrder.{looking_result}
 use Rattle.gix_odb.specs.Contents.{sought}
 use Rattle.gix_odb.specs.declared.call_state.CallStage.TheVariants.{Looking}
@@ -21,10 +21,10 @@ use Rattle.gix_odb_world.specs.Handle.{HandleParts, IsHandleOf}
 use Rattle.gix_odb_world.specs.Work.{Calling}
 use Rattle.gix_odb_world.specs.AtWork.{Modes, setting_in}
 use Rattle.gix_odb_world.specs.Bound.{bound_of_call, bound_of_task, bytes_to_write}
-use Rattle.gix_odb_runs.specs.Event.{Event}
+use Rattle.gix_odb_history.specs.Event.{Event}
 use Rattle.gix_odb_events.specs.declared.answer.Answer.{Answer}
 use Rattle.gix_odb_world.specs.Machine.{placed}
-use Rattle.gix_odb_runs.specs.Run.{IsTurnOf}
+use Rattle.gix_odb_history.specs.Run.{IsTurnOf}
 use Rattle.gix_odb_world.specs.Running.Query.{IsLooking, call_of, looking}
 use Rattle.gix_odb_world.specs.Status.{MakeCall, Running, Store, Task}
 use Rattle.gix_odb_world.specs.Told.{look_begun, told_since}

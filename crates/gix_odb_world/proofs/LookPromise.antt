@@ -1,9 +1,9 @@
 -- The reply of a query keeps its promise, where all answers to its handle are true of the run.
 use Rattle.std.proofs.Common.{◌≡◌, ℕ, ◌≤◌, true, false, List, length, Contains, Some, Ok, inl, inr, refl, sym, ◌∙◌, ap, subst, arith}
 use Rattle.odb_base.specs.Path.{Name, Path}
-use Rattle.odb_nodes.specs.Tree.{Tree}
-use Rattle.odb_asks.specs.Ask.{answer_now}
-use Rattle.odb_asks.specs.MemDisk.{Volume, next_fails}
+use Rattle.odb_disk.specs.Tree.{Tree}
+use Rattle.odb_disk.specs.Ask.{answer_now}
+use Rattle.odb_disk.specs.MemDisk.{Volume, next_fails}
 use Rattle.gix_hash.specs.ObjectId.{kind_of}
 use Rattle.gix_hash.specs.declared.object_id.ObjectId.{ObjectId}
 use Rattle.gix_odb_events.specs.declared.event.Refusal.{Refusal}
@@ -28,31 +28,31 @@ use Rattle.gix_odb_calls.specs.declared.verdict.FolderCall.{FolderCall}
 use Rattle.gix_odb_calls.specs.declared.verdict.Verdict.{Verdict}
 use Rattle.gix_odb_calls.specs.declared.verdict.Verdict.TheVariants as verdicts
 use Rattle.gix_odb_events.specs.PackPath.{pack_path}
-use Rattle.gix_pack_files.specs.Pack.{entry_at, header_at, is_pack}
-use Rattle.gix_odb_looks.specs.Caused.{IsCaused}
-use Rattle.gix_odb_looks.specs.Exchange.{AreAsked, Exchange, HasVerdict}
-use Rattle.gix_odb_looks.specs.Fair.{PackedPlace}
-use Rattle.gix_odb_looks.specs.Found.{Gives, IsEntryReply, IsFound, IsHeaderReply, IsInIndex, IsInPack}
-use Rattle.gix_odb_looks.specs.LookUpOrder.{Setting, not_found, result_of}
-use Rattle.gix_odb_looks.specs.Reply.{IsAnswer, IsReplyTo}
-use Rattle.gix_odb_looks.specs.declared.look_up.LookUp.{LookUp}
-use Rattle.gix_odb_looks.proofs.CauseLaws.{each_refusal_has_its_cause, replies_are_of_the_query}
-use Rattle.gix_odb_looks.proofs.FoundLaws.{what_is_found_was_shown}
-use Rattle.gix_odb_looks.proofs.MissLaws.{not_found_had_no_failure, not_found_missed_in_each_folder, nothing_still_in_packs_is_missed}
+use Rattle.gix_pack_read.specs.Pack.{entry_at, header_at, is_pack}
+use Rattle.gix_odb.specs.Caused.{IsCaused}
+use Rattle.gix_odb.specs.LookExchanges.{AreAsked, Exchange, HasVerdict}
+use Rattle.gix_odb.specs.Fair.{PackedPlace}
+use Rattle.gix_odb.specs.Found.{Gives, IsEntryReply, IsFound, IsHeaderReply, IsInIndex, IsInPack}
+use Rattle.gix_odb.specs.LookUpOrder.{Setting, not_found, result_of}
+use Rattle.gix_odb.specs.Reply.{IsAnswer, IsReplyTo}
+use Rattle.gix_odb.specs.declared.look_up.LookUp.{LookUp}
+use Rattle.gix_odb.proofs.CauseLaws.{each_refusal_has_its_cause, replies_are_of_the_query}
+use Rattle.gix_odb.proofs.FoundLaws.{what_is_found_was_shown}
+use Rattle.gix_odb.proofs.MissLaws.{not_found_had_no_failure, not_found_missed_in_each_folder, nothing_still_in_packs_is_missed}
 use Rattle.gix_odb.specs.Contents.{Answer, Contents, HeaderOf, Holds, HoldsEntry, InIndex, InPack, LooseFile, Object, Presence, folder_list, sought}
 use Rattle.gix_odb.specs.Held.{Held, InLooseFile, InPackFile, LiesAt, Place, Still, WasShown, WasShownAt}
 use Rattle.gix_odb.specs.Moments.{Throughout}
 use Rattle.gix_odb_world.specs.AtWork.{Modes, Store, setting_in}
 use Rattle.gix_odb_world.specs.Causes.{FindCause, GaveSometime, LooseCause, Sometime}
-use Rattle.gix_odb_runs.specs.Event.{Event}
+use Rattle.gix_odb_history.specs.Event.{Event}
 use Rattle.gix_odb_world.specs.Promise.{Claim, Keeps, QueryPromise, claim_of}
-use Rattle.gix_odb_runs.specs.Run.{FailedSince, tree_at}
+use Rattle.gix_odb_history.specs.Run.{FailedSince, tree_at}
 use Rattle.gix_odb_world.specs.Refused.{RefusedSince}
 use Rattle.gix_odb_world.specs.Running.PackedStill.{IndicesShowOne, IsPackedStill}
 use Rattle.gix_odb_world.specs.Running.Refused.{AreRefused}
 use Rattle.gix_odb_world.specs.Running.Query.{IsFit, IsGiven, IsToldWell}
 use Rattle.gix_odb_world.specs.Told.{look_begun, look_now, told_since, view_then}
-use Rattle.gix_odb_runs.proofs.FailedLemmas.{fails_now-still}
+use Rattle.gix_odb_history.proofs.FailedLemmas.{fails_now-still}
 use Rattle.gix_odb_world.proofs.FolderLemmas.{VerdictSays, folder_asks_still, folder_says}
 use Rattle.gix_odb_world.proofs.PackedStill.Contents.{lies_indexed}
 use Rattle.gix_odb_world.proofs.RefusedLemmas.{never_for_memory, since_told}

@@ -1,10 +1,10 @@
 -- What a machine has to show, so that a handle may be at it. The laws are no fields of the machine: they speak of statuses and promises,
 -- which are folded by the machines and so are defined above them.
 use Rattle.std.proofs.Common.{◌≡◌, ◌⊎◌, ℕ, ◌+◌, ◌<◌, ◌≤◌, List, [], ◌∷◌, ◌++◌, length, Option, Some, None, Result, Ok, Err, refl, sym, ◌∙◌, subst}
-use Rattle.odb_asks.specs.MemDisk.{Volume}
-use Rattle.odb_nodes.specs.Tree.{IsTree, tree_of}
-use Rattle.odb_asks.specs.declared.ask.DiskAsk.{DiskAsk}
-use Rattle.odb_asks.specs.declared.ask.DiskAnswer.{DiskAnswer}
+use Rattle.odb_disk.specs.MemDisk.{Volume}
+use Rattle.odb_disk.specs.Tree.{IsTree, tree_of}
+use Rattle.odb_disk.specs.declared.ask.DiskAsk.{DiskAsk}
+use Rattle.odb_disk.specs.declared.ask.DiskAnswer.{DiskAnswer}
 use Rattle.gix_odb.specs.CallOrder.{HasSize, IsOfHash, result_of_write}
 use Rattle.gix_odb.specs.Contents.{folder_list, replacement_in}
 use Rattle.gix_odb_calls.specs.declared.call.Call.{Call}
@@ -23,10 +23,10 @@ use Rattle.gix_odb_loose.specs.declared.write_order.WriteStage.TheVariants.{Maki
 use Rattle.gix_odb_world.specs.Work.{Work}
 use Rattle.gix_odb_world.specs.Asks.{AsksInOrder, MayAskCore, MayAskNewCore, MayEndUnasked}
 use Rattle.gix_odb_world.specs.Bound.{HasAtMost, bound_of_task}
-use Rattle.gix_odb_runs.specs.Cores.{cores_after}
+use Rattle.gix_odb_history.specs.Cores.{cores_after}
 use Rattle.gix_odb_world.specs.Seats.{IsSeated}
 use Rattle.gix_odb_world.specs.Changes.{ChangesInTask}
-use Rattle.gix_odb_runs.specs.Event.{Asked, CoreEvent, Event, answered}
+use Rattle.gix_odb_history.specs.Event.{Asked, CoreEvent, Event, answered}
 use Rattle.gix_odb_events.specs.declared.answer.Answer.{Answer}
 use Rattle.gix_odb_events.specs.declared.answer.Ask.{Ask}
 use Rattle.gix_odb_events.specs.declared.answer.Ask.TheVariants as work_asks
@@ -36,10 +36,10 @@ use Rattle.gix_odb_world.specs.Headline.{IsLawful, stand_of}
 use Rattle.gix_odb_world.specs.Machine.{At, Machine, placed}
 use Rattle.gix_odb_world.specs.Machines.{at}
 use Rattle.gix_odb_world.specs.Promise.{Promise}
-use Rattle.gix_odb_runs.specs.Run.{IsTurnOf, NoCall, change_by, disk_after, told_now, tree_at}
+use Rattle.gix_odb_history.specs.Run.{IsTurnOf, NoCall, change_by, disk_after, told_now, tree_at}
 use Rattle.gix_odb_world.specs.Running.{Knows, KnowsAt, RunsThroughout}
 use Rattle.gix_odb_world.specs.Running.Write.{IsWriting, write_at}
-use Rattle.gix_odb_runs.specs.Writing.{ToWrite}
+use Rattle.gix_odb_history.specs.Writing.{ToWrite}
 use Rattle.gix_odb_world.specs.Status.{MakeCall, OpenStore, Running, Store, Task, Working, begun_with, gone_on, running_from, status_of, Modes}
 use Rattle.gix_odb_world.specs.WorkOrder.{ask_on, fed_after, result_in}
 use Rattle.gix_odb_world.proofs.Stock.OneCore.{IsStocked}

@@ -4,15 +4,15 @@ use Rattle.std.proofs.Common.{◌≡◌, ◌⊎◌, inl, inr, ℕ, zero, suc, �
 use Rattle.std.specs.Prelude.{◌==◌}
 use Rattle.std.proofs.lemmas.Bool.{eqb-false, eqb-true}
 use Rattle.odb_base.specs.Path.{Path}
-use Rattle.odb_nodes.specs.Tree.{Tree}
-use Rattle.odb_nodes.specs.Tree.Way.{crosses}
-use Rattle.odb_nodes.specs.Tree.Write.{spot}
-use Rattle.odb_nodes.proofs.OwnWayLaws.{OwnSpot, own_kept}
-use Rattle.odb_nodes.proofs.WayLaws.{read_kept}
-use Rattle.gix_odb_runs.specs.Run.{tree_at}
+use Rattle.odb_disk.specs.Tree.{Tree}
+use Rattle.odb_disk.specs.Tree.Way.{crosses}
+use Rattle.odb_disk.specs.Tree.Write.{spot}
+use Rattle.odb_disk.proofs.OwnWayLaws.{OwnSpot, own_kept}
+use Rattle.odb_disk.proofs.WayLaws.{read_kept}
+use Rattle.gix_odb_history.specs.Run.{tree_at}
 use Rattle.gix_odb_world.specs.Undisturbed.{IsUndisturbed}
 use Rattle.gix_odb_world.specs.WholeNames.{GivesAgain, GivesName, HoldsWhole, LeavesAlone, NamesStayWhole, name_path}
-use Rattle.gix_odb_runs.specs.Writing.{ToWrite}
+use Rattle.gix_odb_history.specs.Writing.{ToWrite}
 use Rattle.gix_odb_world.proofs.LawfulRun.{LawfulRun}
 use Rattle.gix_odb_world.proofs.NameSteps.Given.{target_is, whole_after, full, spot_after, whole_again, spot_again}
 

@@ -9,21 +9,21 @@ use Rattle.std.proofs.lemmas.List.{length_push}
 use Rattle.std.proofs.Math.Seq.{take-length}
 use Rattle.odb_base.specs.Path.{Name, Path, parent_of, path_cmp, same_name}
 use Rattle.odb_base.specs.PathLaws.{parent_of-push}
-use Rattle.odb_asks.specs.MemDisk.{Volume}
-use Rattle.odb_nodes.specs.Tree.{Tree, tree_of}
-use Rattle.odb_nodes.specs.Tree.Change.{changed}
-use Rattle.odb_nodes.specs.Tree.Follow.{Refusal, read_of}
-use Rattle.odb_nodes.specs.declared.change.Change.{Change}
-use Rattle.gix_odb_shown.specs.HasShown.{HasShown, Since, with_since}
-use Rattle.gix_odb_shown.specs.Watched.{Shows, pack_directory}
+use Rattle.odb_disk.specs.MemDisk.{Volume}
+use Rattle.odb_disk.specs.Tree.{Tree, tree_of}
+use Rattle.odb_disk.specs.Tree.Change.{changed}
+use Rattle.odb_disk.specs.Tree.Follow.{Refusal, read_of}
+use Rattle.odb_disk.specs.declared.change.Change.{Change}
+use Rattle.gix_odb_watch.specs.HasShown.{HasShown, Since, with_since}
+use Rattle.gix_odb_watch.specs.Watched.{Shows, pack_directory}
 use Rattle.gix_odb_calls.specs.declared.step.Outcome.{Outcome}
 use Rattle.gix_odb_calls.specs.declared.step.Outcome.TheVariants as outcomes
 use Rattle.gix_odb_calls.specs.declared.step.Step.{Step}
 use Rattle.gix_odb_calls.specs.declared.step.Step.TheVariants as steps
 use Rattle.gix_odb_world.specs.Changes.{ChangesAs, change_applied}
-use Rattle.gix_odb_runs.specs.Event.{Event}
+use Rattle.gix_odb_history.specs.Event.{Event}
 use Rattle.gix_odb_world.specs.Headline.{Law}
-use Rattle.gix_odb_runs.specs.Run.{change_asked, disk_after, disk_after_event, tree_at}
+use Rattle.gix_odb_history.specs.Run.{change_asked, disk_after, disk_after_event, tree_at}
 use Rattle.gix_odb_world.specs.TwoContents.{BreaksRule, ShowOneContent, watched_after, watched_by, watched_from, watched_too, would_change, would_change_in}
 use Rattle.gix_odb_world.specs.Valid.{misuse_of}
 use Rattle.gix_odb_world.proofs.HistoryLemmas.{tree_at-all, tree_at-before, tree_at-now}

@@ -10,7 +10,7 @@ use Rattle.std.proofs.lemmas.Cmp.{eq_by_cmp_equiv}
 use Rattle.std.proofs.lemmas.Option.{slice_get_within}
 use Rattle.odb_base.specs.Path.{Path, path_cmp}
 use Rattle.odb_base.specs.PathLaws.{path_order}
-use Rattle.odb_asks.specs.MemDisk.{Volume}
+use Rattle.odb_disk.specs.MemDisk.{Volume}
 use Rattle.gix_hash.specs.ObjectId.{id_cmp, kind_of}
 use Rattle.gix_hash.specs.declared.kind.Kind.{Kind as HashKind}
 use Rattle.gix_hash.specs.declared.kind.Kind.TheVariants.{Sha1, Sha256}
@@ -22,7 +22,7 @@ use Rattle.gix_odb.specs.Contents.{StoreData, folder_list, replacement_in}
 use Rattle.gix_odb_world.specs.AtWork.{Modes, Store}
 use Rattle.gix_odb_world.specs.Begun.{FromClone, FromOpen, Holds, OpenedBy}
 use Rattle.gix_odb_world.specs.Bound.{most_changes}
-use Rattle.gix_odb_runs.specs.Event.{Event}
+use Rattle.gix_odb_history.specs.Event.{Event}
 use Rattle.gix_odb_world.specs.Headline.{IsLawful, Law}
 use Rattle.gix_odb_world.specs.Valid.{Phase, NoneThere, Idle, Running, are_distinct, are_good_folders, are_good_replacements, is_openable, misuse_of, most_folders, phase_after}
 use Rattle.gix_odb_world.specs.Valid.{why_not_after, why_not_open}

@@ -3,10 +3,10 @@ pub mod Look
 pub mod Turn
 use Rattle.std.proofs.Common.{◌≡◌, ℕ, ◌+◌, true, List, [], ◌∷◌, ◌++◌, length, Option, Some, None, refl, sym, ◌∙◌, ap, subst, arith, Ok, Err, Result}
 use Rattle.std.proofs.lemmas.List.{length_push}
-use Rattle.odb_asks.specs.MemDisk.{Volume}
-use Rattle.odb_asks.specs.declared.ask.DiskAsk.{DiskAsk}
-use Rattle.odb_asks.specs.declared.ask.DiskAsk.TheVariants as asks
-use Rattle.gix_odb_packs.specs.ListOrder as lists
+use Rattle.odb_disk.specs.MemDisk.{Volume}
+use Rattle.odb_disk.specs.declared.ask.DiskAsk.{DiskAsk}
+use Rattle.odb_disk.specs.declared.ask.DiskAsk.TheVariants as asks
+use Rattle.gix_odb_search.specs.ListOrder as lists
 use Rattle.gix_odb_calls.specs.declared.call.Reply.{Reply}
 use Rattle.gix_odb.specs.Contents.{folder_list}
 use Rattle.gix_odb.specs.OpenExchanges.{AreAsked, behind}
@@ -17,11 +17,11 @@ use Rattle.gix_odb.specs.declared.open_state.OpenStage.{OpenStage}
 use Rattle.gix_odb.specs.declared.open_state.OpenStage.TheVariants as opens
 use Rattle.gix_odb_world.specs.Work.{Opening}
 use Rattle.gix_odb_world.specs.Bound.{bound_of_task, turn_bound}
-use Rattle.gix_odb_runs.specs.Event.{Event, answered}
+use Rattle.gix_odb_history.specs.Event.{Event, answered}
 use Rattle.gix_odb_events.specs.declared.answer.Answer.{Answer}
 use Rattle.gix_odb_events.specs.declared.answer.Ask.TheVariants as work_asks
 use Rattle.gix_odb_world.specs.Machine.{placed}
-use Rattle.gix_odb_runs.specs.Run.{IsTurnOf, change_by, disk_after}
+use Rattle.gix_odb_history.specs.Run.{IsTurnOf, change_by, disk_after}
 use Rattle.gix_odb_world.specs.Running.Opening.{HasSeen, IsOpening, opening}
 use Rattle.gix_odb_world.specs.Status.{MakeCall, Modes, OpenStore, Running, Store, Task, begun_with, running_from, setting_in}
 use Rattle.gix_odb_world.specs.Told.{told_since}

@@ -7,28 +7,28 @@ pub mod Rule
 use Rattle.std.proofs.Common.{◌≡◌, ℕ, ◌≤◌, false, List, [], ◌∷◌, ◌++◌, length, Ok, sym, ap, ◌∙◌, subst, append-nil, append_assoc, arith}
 use Rattle.std.proofs.lemmas.Bool.{false_from_ne_true}
 use Rattle.odb_base.specs.Path.{Path}
-use Rattle.odb_nodes.specs.Entries.{opened}
-use Rattle.odb_nodes.specs.Tree.{tree_of}
-use Rattle.odb_nodes.specs.Tree.Follow.{looked}
-use Rattle.odb_nodes.specs.declared.entry.Entry.{Entry}
-use Rattle.odb_asks.specs.Ask.{answer_now, fails_now}
-use Rattle.odb_asks.specs.MemDisk.{Volume}
-use Rattle.odb_asks.specs.declared.ask.DiskAsk.{DiskAsk}
-use Rattle.odb_asks.specs.declared.ask.DiskAsk.TheVariants as asks
+use Rattle.odb_disk.specs.Entries.{opened}
+use Rattle.odb_disk.specs.Tree.{tree_of}
+use Rattle.odb_disk.specs.Tree.Follow.{looked}
+use Rattle.odb_disk.specs.declared.entry.Entry.{Entry}
+use Rattle.odb_disk.specs.Ask.{answer_now, fails_now}
+use Rattle.odb_disk.specs.MemDisk.{Volume}
+use Rattle.odb_disk.specs.declared.ask.DiskAsk.{DiskAsk}
+use Rattle.odb_disk.specs.declared.ask.DiskAsk.TheVariants as asks
 use Rattle.gix_hash.specs.declared.kind.Kind.{Kind}
 use Rattle.gix_hash.specs.declared.object_id.ObjectId.{ObjectId}
-use Rattle.gix_odb_packs.specs.PackFolder.{pack_folder}
+use Rattle.gix_odb_search.specs.PackFolder.{pack_folder}
 use Rattle.gix_odb_events.specs.declared.answer.Answer.TheVariants as told
 use Rattle.gix_odb_events.specs.declared.answer.Ask.TheVariants as parts
-use Rattle.gix_odb_looks.specs.Exchange.{Exchange}
-use Rattle.gix_odb_looks.specs.Fair.{AreFair, IsDiskFair, IsFair, PackedPlace}
-use Rattle.gix_odb_looks.specs.OpenStream.{ListsFile}
-use Rattle.gix_odb_looks.proofs.HandedLaws.{IsOwnStream}
-use Rattle.gix_odb_looks.proofs.StreamLaws.Directories.{looked_file_is_listed}
-use Rattle.gix_odb_looks.proofs.StreamLaws.Exchanges.{next_answer_is_fair}
+use Rattle.gix_odb.specs.LookExchanges.{Exchange}
+use Rattle.gix_odb.specs.Fair.{AreFair, IsDiskFair, IsFair, PackedPlace}
+use Rattle.gix_odb.specs.OpenStream.{ListsFile}
+use Rattle.gix_odb.proofs.HandedLaws.{IsOwnStream}
+use Rattle.gix_odb.proofs.StreamLaws.Directories.{looked_file_is_listed}
+use Rattle.gix_odb.proofs.StreamLaws.Exchanges.{next_answer_is_fair}
 use Rattle.gix_odb_world.specs.AtWork.{Running}
-use Rattle.gix_odb_runs.specs.Event.{Event}
-use Rattle.gix_odb_runs.specs.Run.{FailedSince, disk_after, tree_at}
+use Rattle.gix_odb_history.specs.Event.{Event}
+use Rattle.gix_odb_history.specs.Run.{FailedSince, disk_after, tree_at}
 use Rattle.gix_odb_world.specs.Running.PackedStill.{IsPackedStill, LiesIndexed}
 use Rattle.gix_odb_world.specs.Told.{told_since}
 use Rattle.gix_odb_world.proofs.MachineLaws.{IsRunning}

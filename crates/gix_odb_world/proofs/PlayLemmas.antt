@@ -2,7 +2,7 @@
 use Rattle.std.proofs.Common.{◌≡◌, ◌≢◌, ℕ, ◌+◌, ◌-◌, ◌<◌, List, [], ◌∷◌, ◌++◌, length, map, take, get_or, refl, sym, ◌∙◌, ap, subst, arith}
 use Rattle.std.specs.List.{AllByRecursion}
 use Rattle.std.proofs.lemmas.List.{append-nil, append_assoc, length-append, length-map, map-append, take_more}
-use Rattle.odb_asks.specs.MemDisk.{Volume}
+use Rattle.odb_disk.specs.MemDisk.{Volume}
 use Rattle.gix_odb_calls.specs.declared.step.Step.{Step}
 use Rattle.gix_odb_calls.specs.declared.step.Step.TheVariants.{Turn}
 use Rattle.gix_odb_calls.specs.declared.step.Outcome.{Outcome}
@@ -10,7 +10,7 @@ use Rattle.gix_odb_calls.specs.declared.step.Outcome.TheVariants.{Pending}
 use Rattle.gix_odb_calls.specs.declared.line.Line.{Line}
 use Rattle.gix_odb_calls.specs.declared.line.Line.TheVariants.{One, Finish}
 use Rattle.gix_odb_world.specs.declared.course.Course.{Course}
-use Rattle.gix_odb_runs.specs.Event.{Event}
+use Rattle.gix_odb_history.specs.Event.{Event}
 use Rattle.gix_odb_world.specs.Play.{Made, StandsFor, Plays, made_of}
 use Rattle.gix_odb_world.specs.Played.{Makes, MakesOne, PlaysTurns, PlaysLine, HasPlayed}
 use Rattle.gix_odb_world.specs.Table.{HasOneMore}

@@ -1,13 +1,13 @@
 -- What the moment after a turn shows, where the turn's call of the disk makes no change.
 use Rattle.std.proofs.Common.{◌≡◌, ℕ, ◌+◌, ◌≤◌, true, false, List, [], ◌∷◌, ◌++◌, length, None, sym, ◌∙◌, ap, subst}
-use Rattle.odb_nodes.specs.Tree.{tree_of}
-use Rattle.odb_nodes.specs.Tree.Write.{written}
-use Rattle.odb_asks.specs.Ask.{fails_now}
-use Rattle.odb_asks.specs.MemDisk.{Volume}
-use Rattle.odb_asks.specs.declared.ask.DiskAsk.{DiskAsk}
-use Rattle.gix_odb_runs.specs.Event.{Event}
+use Rattle.odb_disk.specs.Tree.{tree_of}
+use Rattle.odb_disk.specs.Tree.Write.{written}
+use Rattle.odb_disk.specs.Ask.{fails_now}
+use Rattle.odb_disk.specs.MemDisk.{Volume}
+use Rattle.odb_disk.specs.declared.ask.DiskAsk.{DiskAsk}
+use Rattle.gix_odb_history.specs.Event.{Event}
 use Rattle.gix_odb_world.specs.Status.{Running}
-use Rattle.gix_odb_runs.specs.Run.{Fails, FailedSince, change_by, disk_after, disk_after_asked, tree_at}
+use Rattle.gix_odb_history.specs.Run.{Fails, FailedSince, change_by, disk_after, disk_after_asked, tree_at}
 use Rattle.gix_odb_world.proofs.HistoryLemmas.{failed_before, failed_last, tree_at-now}
 use Rattle.gix_odb_world.proofs.WriteTurn.Common.{IsTurnWith}
 

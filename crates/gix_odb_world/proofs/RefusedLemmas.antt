@@ -4,8 +4,8 @@ use Rattle.std.specs.Prelude.{slice_set}
 use Rattle.std.proofs.lemmas.List.{length_push, take-append-le}
 use Rattle.std.proofs.lemmas.Option.{slice_get_within}
 use Rattle.std.proofs.Math.Seq.{take-append_seam}
-use Rattle.odb_asks.specs.declared.ask.DiskAnswer.{DiskAnswer}
-use Rattle.odb_asks.specs.declared.ask.DiskAsk.{DiskAsk}
+use Rattle.odb_disk.specs.declared.ask.DiskAnswer.{DiskAnswer}
+use Rattle.odb_disk.specs.declared.ask.DiskAsk.{DiskAsk}
 use Rattle.gix_odb_core.specs.Causes.{RefusalCause}
 use Rattle.gix_odb_core.specs.History.{History, present}
 use Rattle.gix_odb_core.specs.Replay.{number_behind}
@@ -15,11 +15,11 @@ use Rattle.gix_odb_events.specs.declared.answer.Answer.TheVariants as told
 use Rattle.gix_odb_events.specs.declared.answer.Ask.TheVariants as parts
 use Rattle.gix_odb_events.specs.declared.event.Refusal.{Refusal}
 use Rattle.gix_odb_events.specs.declared.event.Refusal.TheVariants as refusals
-use Rattle.gix_odb_looks.specs.Caused.{IsRefused}
-use Rattle.gix_odb_looks.specs.Exchange.{Exchange, WasTold}
-use Rattle.gix_odb_runs.specs.Cores.{answer_behind, cores_after, cores_after_asked, entered, entry_of, history_at}
-use Rattle.gix_odb_runs.specs.Event.{CoreAnswer, CoreEvent, Event, OfCore}
-use Rattle.gix_odb_runs.specs.Run.{IsTurnOf}
+use Rattle.gix_odb.specs.Caused.{IsRefused}
+use Rattle.gix_odb.specs.LookExchanges.{Exchange, WasTold}
+use Rattle.gix_odb_history.specs.Cores.{answer_behind, cores_after, cores_after_asked, entered, entry_of, history_at}
+use Rattle.gix_odb_history.specs.Event.{CoreAnswer, CoreEvent, Event, OfCore}
+use Rattle.gix_odb_history.specs.Run.{IsTurnOf}
 use Rattle.gix_odb_world.specs.Refused.{RefusedAt, RefusedSince, shape_at}
 use Rattle.gix_odb_world.specs.Running.Refused.{AreRefused}
 use Rattle.gix_odb_world.specs.Told.{told_since}

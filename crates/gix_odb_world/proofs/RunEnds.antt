@@ -5,13 +5,13 @@ use Rattle.gix_odb_core.specs.History.{History}
 use Rattle.gix_odb_core.specs.Journal.{entries_of}
 use Rattle.gix_odb_events.specs.View.{last_state}
 use Rattle.gix_odb_core.specs.declared.journal.Journal.{Journal}
-use Rattle.odb_asks.specs.MemDisk.{Volume}
+use Rattle.odb_disk.specs.MemDisk.{Volume}
 use Rattle.gix_odb_world.specs.declared.course.Course.{Course}
-use Rattle.gix_odb_runs.specs.Cores.{cores_after}
-use Rattle.gix_odb_runs.specs.Event.{Event}
+use Rattle.gix_odb_history.specs.Cores.{cores_after}
+use Rattle.gix_odb_history.specs.Event.{Event}
 use Rattle.gix_odb_world.specs.Headline.{Headline, IsRun}
-use Rattle.gix_odb_runs.specs.JournalKept.{IsJournal}
-use Rattle.gix_odb_runs.specs.declared.record.Run.{Run}
+use Rattle.gix_odb_history.specs.JournalKept.{IsJournal}
+use Rattle.gix_odb_history.specs.declared.record.Run.{Run}
 use Rattle.gix_odb_calls.specs.declared.line.Line.{Line}
 use Rattle.gix_odb_calls.specs.declared.step.Step.{Step}
 use Rattle.gix_odb_world.specs.Play.{IsPlayed, Plays, made_of}

@@ -20,8 +20,8 @@ pub mod FinishLaws
 mod OwnAnswerLaws
 mod MemoryLaws
 use Rattle.std.specs.Prelude.{List}
-use Rattle.odb_asks.specs.MemDisk.{Volume}
-use Rattle.gix_odb_runs.specs.Event.{Event}
+use Rattle.odb_disk.specs.MemDisk.{Volume}
+use Rattle.gix_odb_history.specs.Event.{Event}
 use Rattle.gix_odb_world.specs.RunLaws.{KeepsRunLaws}
 use Rattle.gix_odb_world.proofs.RunLaws.FinishLaws.{pending_turns_are_fewer_than_the_bound}
 use Rattle.gix_odb_world.proofs.RunLaws.HashLaws.{found_data_hash_to_the_sought_id}

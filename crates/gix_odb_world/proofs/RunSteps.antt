@@ -3,33 +3,33 @@ pub mod Fronts
 use Rattle.std.proofs.Common.{◌≡◌, inl, inr, ℕ, zero, suc, ◌+◌, Bool, true, false, List, take, Option, Some, None, refl, sym, ap, ◌∙◌, subst, arith}
 use Rattle.std.specs.Prelude.{slice_get, if◌then◌else◌}
 use Rattle.odb_base.specs.Path.{Path}
-use Rattle.odb_asks.specs.Ask.{change_of_ask, fails_now}
-use Rattle.odb_asks.specs.MemDisk.{Volume, after_outside_change}
-use Rattle.odb_nodes.specs.Tree.{IsTree, Tree, tree_of}
-use Rattle.odb_nodes.specs.Tree.Change.{changed, is_possible}
-use Rattle.odb_nodes.specs.Tree.Write.{written}
-use Rattle.odb_asks.specs.declared.ask.DiskAsk.{DiskAsk}
-use Rattle.odb_nodes.specs.declared.change.Change.{Change}
-use Rattle.odb_nodes.proofs.TreeLemmas.Changed.{IsTree-changed, after_change-tree, is_possible-tree_of}
-use Rattle.odb_nodes.proofs.WriteLaws.{tree_of-written}
-use Rattle.odb_asks.proofs.AskedLaws.{IsTree-asked}
+use Rattle.odb_disk.specs.Ask.{change_of_ask, fails_now}
+use Rattle.odb_disk.specs.MemDisk.{Volume, after_outside_change}
+use Rattle.odb_disk.specs.Tree.{IsTree, Tree, tree_of}
+use Rattle.odb_disk.specs.Tree.Change.{changed, is_possible}
+use Rattle.odb_disk.specs.Tree.Write.{written}
+use Rattle.odb_disk.specs.declared.ask.DiskAsk.{DiskAsk}
+use Rattle.odb_disk.specs.declared.change.Change.{Change}
+use Rattle.odb_disk.proofs.TreeLemmas.Changed.{IsTree-changed, after_change-tree, is_possible-tree_of}
+use Rattle.odb_disk.proofs.WriteLaws.{tree_of-written}
+use Rattle.odb_disk.proofs.AskedLaws.{IsTree-asked}
 use Rattle.gix_odb_core.specs.History.{History}
-use Rattle.gix_odb_runs.specs.Cores.{cores_after}
+use Rattle.gix_odb_history.specs.Cores.{cores_after}
 use Rattle.gix_odb_calls.specs.declared.step.Outcome.{Outcome}
 use Rattle.gix_odb_calls.specs.declared.step.Outcome.TheVariants as outcomes
 use Rattle.gix_odb_calls.specs.declared.step.Step.{Step}
 use Rattle.gix_odb_calls.specs.declared.step.Step.TheVariants as steps
 use Rattle.gix_odb_calls.specs.declared.step.Why.{Why}
-use Rattle.gix_odb_runs.specs.Event.{Asked, OfNothing, OfDisk, OfCore, OfNewCore, Event}
+use Rattle.gix_odb_history.specs.Event.{Asked, OfNothing, OfDisk, OfCore, OfNewCore, Event}
 use Rattle.gix_odb_world.specs.Status.{Running, Status, Free, Resting, Working, status_of, status_after}
 use Rattle.gix_odb_world.specs.Headline.{IsTurn, Law, LeavesDisk, Suits, Turns}
 use Rattle.gix_odb_world.specs.Changes.{ChangesAs, change_applied}
-use Rattle.gix_odb_runs.specs.Run.{NoCall, change_by, did_of_asked, disk_after, disk_after_change, disk_after_event, disk_after_asked, tree_at}
+use Rattle.gix_odb_history.specs.Run.{NoCall, change_by, did_of_asked, disk_after, disk_after_change, disk_after_event, disk_after_asked, tree_at}
 use Rattle.gix_odb_world.specs.Undisturbed.{IsOutside}
 use Rattle.gix_odb_world.specs.Valid.{misuse_of, phase_of, why_not_after, why_not_running}
 use Rattle.gix_odb_world.proofs.LawfulRun.{LawfulRun}
 use Rattle.gix_odb_world.proofs.DiskTurns.{CallsDisk, IsQuiet, called_or_quiet}
-use Rattle.gix_odb_runs.specs.Turned.{is_done}
+use Rattle.gix_odb_history.specs.Turned.{is_done}
 use Rattle.gix_odb_world.proofs.HistoryLemmas.{disk_after-push, status_of-push}
 use Rattle.gix_odb_world.proofs.ValidLaws.{valid_if_sound}
 pub use Rattle.gix_odb_world.proofs.RunSteps.Fronts.{event_or_end, front_of_front, length_take, none_beyond, take_next, take_none, there_in_front, there_in_whole}

@@ -10,13 +10,13 @@ pub mod Looked
 use Rattle.std.proofs.Common.{◌≡◌, ◌≢◌, ℕ, ◌+◌, Bool, true, false, List, [], ◌∷◌, ◌++◌, length, take, Option, Some, None, Ok, Err, Result, refl, sym, ◌∙◌, ap, subst}
 use Rattle.std.specs.Prelude.{◌==◌, ◌↔◌, IsSome, if◌then◌else◌, unwrap_or}
 use Rattle.std.proofs.lemmas.Bool.{eqb-true, eqb-false}
-use Rattle.odb_asks.specs.MemDisk.{Volume}
-use Rattle.odb_asks.specs.Ask.{answer_now}
-use Rattle.odb_asks.specs.declared.ask.DiskAsk.{DiskAsk}
-use Rattle.odb_asks.specs.declared.ask.DiskAsk.TheVariants as asks
+use Rattle.odb_disk.specs.MemDisk.{Volume}
+use Rattle.odb_disk.specs.Ask.{answer_now}
+use Rattle.odb_disk.specs.declared.ask.DiskAsk.{DiskAsk}
+use Rattle.odb_disk.specs.declared.ask.DiskAsk.TheVariants as asks
 use Rattle.gix_odb.specs.Contents.{folder_list}
 use Rattle.gix_odb.specs.OpenOrder as openings
-use Rattle.gix_odb_packs.specs.ListOrder as lists
+use Rattle.gix_odb_search.specs.ListOrder as lists
 use Rattle.gix_odb_calls.proofs.QueryLaws.{by_call-all}
 use Rattle.gix_odb_calls.specs.declared.call.Call.{Call}
 use Rattle.gix_odb_calls.specs.declared.call.CallError.TheVariants as call_errors
@@ -39,15 +39,15 @@ use Rattle.gix_odb_calls.specs.declared.step.Outcome.TheVariants as outcomes
 use Rattle.gix_odb_world.specs.Work.{Work}
 use Rattle.gix_odb_world.specs.Work.{Opening}
 use Rattle.gix_odb_world.specs.Asks.{AsksAsTask}
-use Rattle.gix_odb_runs.specs.Cores.{answer_behind, cores_after, history_at, registered_at}
-use Rattle.gix_odb_runs.specs.Event.{Asked, Event, answered}
+use Rattle.gix_odb_history.specs.Cores.{answer_behind, cores_after, history_at, registered_at}
+use Rattle.gix_odb_history.specs.Event.{Asked, Event, answered}
 use Rattle.gix_odb_events.specs.declared.answer.Ask.{Ask}
 use Rattle.gix_odb_events.specs.declared.answer.Answer.TheVariants as work_answers
 use Rattle.gix_odb_events.specs.declared.answer.Ask.TheVariants as work_asks
 use Rattle.gix_odb_world.specs.Headline.{IsLawful, IsTurn, Law, Suits, Turns, Works, stand_of}
 use Rattle.gix_odb_world.specs.Machines.{ask_in, fed_in}
-use Rattle.gix_odb_runs.specs.Run.{FailedSince, disk_after, told_now, tree_at}
-use Rattle.gix_odb_runs.specs.Writing.{to_write}
+use Rattle.gix_odb_history.specs.Run.{FailedSince, disk_after, told_now, tree_at}
+use Rattle.gix_odb_history.specs.Writing.{to_write}
 use Rattle.gix_odb_world.specs.Promise.{Promise, QueryPromise}
 use Rattle.gix_odb_world.specs.Refused.{RefusedSince}
 use Rattle.gix_odb_world.specs.Seats.{HasSeat, HasSeatAt, HasSeatThroughout, IsNowhere, IsOpenAt, IsOpenAtTask, IsSeated, RegistersOwn, RegistersOwnThroughout}

@@ -2,14 +2,14 @@
 use Rattle.std.proofs.Common.{◌≡◌, ◌≢◌, ◌⊎◌, inl, inr, ℕ, ◌+◌, take, Some, Ok, sym, ap, ◌∙◌, subst}
 use Rattle.std.specs.Prelude.{slice_get, true}
 use Rattle.odb_base.specs.Path.{Path}
-use Rattle.odb_nodes.specs.Tree.{Tree}
-use Rattle.odb_nodes.specs.Tree.Way.{SameOnWay}
-use Rattle.odb_nodes.specs.Tree.Write.{file_spot}
+use Rattle.odb_disk.specs.Tree.{Tree}
+use Rattle.odb_disk.specs.Tree.Way.{SameOnWay}
+use Rattle.odb_disk.specs.Tree.Write.{file_spot}
 use Rattle.gix_odb_calls.specs.declared.step.Step.TheVariants as steps
-use Rattle.gix_odb_runs.specs.Event.{Event}
-use Rattle.gix_odb_runs.specs.Run.{IsTurnOf, tree_at}
+use Rattle.gix_odb_history.specs.Event.{Event}
+use Rattle.gix_odb_history.specs.Run.{IsTurnOf, tree_at}
 use Rattle.gix_odb_world.specs.Undisturbed.{AreApart, CutsOff, HasMade, IsAloneAtRename, IsCutOff, IsKept, IsSpared, IsUndisturbed, StandsAlone, WritesStandAlone}
-use Rattle.gix_odb_runs.specs.Writing.{IsRename}
+use Rattle.gix_odb_history.specs.Writing.{IsRename}
 use Rattle.gix_odb_world.proofs.LawfulRun.{LawfulRun}
 use Rattle.gix_odb_world.proofs.CutFiles as cuts
 use Rattle.gix_odb_world.proofs.CutFiles.WasCut as records

@@ -2,11 +2,11 @@
 use Rattle.std.proofs.Common.{◌≡◌, ℕ, ◌+◌, Bool, true, false, List, [], ◌∷◌, ◌++◌, length, Some, None, Option, refl, sym, ◌∙◌, ap, subst, arith}
 use mathlib.Core.Path.{fun_ext}
 use Rattle.std.proofs.lemmas.List.{length_push}
-use Rattle.odb_asks.specs.MemDisk.{Volume}
+use Rattle.odb_disk.specs.MemDisk.{Volume}
 use Rattle.gix_odb_calls.specs.declared.step.Step.TheVariants as steps
 use Rattle.gix_odb_calls.specs.declared.step.Outcome.TheVariants as outcomes
 use Rattle.gix_odb_calls.specs.declared.call.Call.{Call}
-use Rattle.gix_odb_runs.specs.declared.record.Did.TheVariants.{Nothing}
+use Rattle.gix_odb_history.specs.declared.record.Did.TheVariants.{Nothing}
 use Rattle.gix_odb_world.specs.Work.{Work}
 use Rattle.gix_odb_world.specs.Work.{Calling}
 use Rattle.gix_odb_world.specs.declared.course.Course.{Course}
@@ -18,20 +18,20 @@ use Rattle.gix_odb_world.specs.declared.handle.HandleAt.TheVariants as stands
 use Rattle.gix_odb.specs.declared.call_state.CallState.{CallState}
 use Rattle.gix_odb.specs.declared.handle_state.HandleState.{HandleState}
 use Rattle.gix_odb.specs.Contents.{sought, sought_with}
-use Rattle.gix_odb_runs.specs.Event.{Event, OfNothing}
+use Rattle.gix_odb_history.specs.Event.{Event, OfNothing}
 use Rattle.gix_odb_world.specs.Status.{MakeCall, Store, Status, Free, Resting, Working, begun_with, setting_in, started, status_of, view_in_modes, Modes}
 use Rattle.gix_odb_world.specs.Handle.{HandleParts, IsHandleOf, Seen, replacement_of, seen, setting_at, sought_by, view_at}
 use Rattle.gix_odb.specs.HandleState.{IsAlike, unseen}
-use Rattle.gix_odb_runs.specs.Run.{IsTurnOf}
+use Rattle.gix_odb_history.specs.Run.{IsTurnOf}
 use Rattle.gix_odb_world.specs.Running.{Runs, RunsThroughout}
 use Rattle.gix_odb_world.specs.Valid.{phase_of, why_not_of_hash, why_not_start}
 use Rattle.gix_odb_world.specs.World.{Continues, Explains, Matches, handle_at}
 use Rattle.gix_odb_world.specs.Table.{SetsHandle, Notes, phase_of_handle, phase_of_work, why_not_now, with_call, with_work}
 use Rattle.std.specs.Prelude.{slice_get, unwrap_or}
-use Rattle.odb_nodes.specs.Tree.{IsTree, tree_of}
+use Rattle.odb_disk.specs.Tree.{IsTree, tree_of}
 use Rattle.gix_odb_calls.specs.Hashes.{is_of_hash}
 use Rattle.gix_odb_world.specs.Begun.{HoldsStore}
-use Rattle.gix_odb_runs.specs.Cores.{cores_after, cores_after_asked}
+use Rattle.gix_odb_history.specs.Cores.{cores_after, cores_after_asked}
 use Rattle.gix_odb_world.specs.Headline.{IsLawful}
 use Rattle.gix_odb_world.specs.Seats.{HasSeat, IsSeated}
 use Rattle.gix_odb_world.proofs.BegunLemmas.{stems_now}

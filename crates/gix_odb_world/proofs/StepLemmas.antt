@@ -4,28 +4,28 @@ use Rattle.std.proofs.Common.{◌≡◌, ◌≢◌, ℕ, ◌+◌, ◌<◌, Bool,
 use Rattle.std.specs.Prelude.{if◌then◌else◌, ◌==◌}
 use Rattle.std.proofs.lemmas.Bool.{false≢true}
 use Rattle.std.proofs.lemmas.List.{map-append, take_more}
-use Rattle.odb_asks.specs.MemDisk.{Volume, after_outside_change}
-use Rattle.odb_nodes.specs.Tree.{Tree, tree_of}
-use Rattle.odb_nodes.specs.Tree.Change.{changed, is_possible, is_possible_in}
-use Rattle.odb_nodes.proofs.TreeLemmas.Changed.{after_change-tree, is_possible-tree_of}
-use Rattle.gix_odb_shown.specs.HasShown.{AreBegun, Keeps, ShowsSecond, Since}
-use Rattle.gix_odb_shown.specs.Kept.{IsSecond, Kept}
-use Rattle.gix_odb_shown.proofs.KeepsLaws.{second_shown, shown_second}
-use Rattle.odb_nodes.specs.declared.change.Change.{Change}
+use Rattle.odb_disk.specs.MemDisk.{Volume, after_outside_change}
+use Rattle.odb_disk.specs.Tree.{Tree, tree_of}
+use Rattle.odb_disk.specs.Tree.Change.{changed, is_possible, is_possible_in}
+use Rattle.odb_disk.proofs.TreeLemmas.Changed.{after_change-tree, is_possible-tree_of}
+use Rattle.gix_odb_watch.specs.HasShown.{AreBegun, Keeps, ShowsSecond, Since}
+use Rattle.gix_odb_watch.specs.Kept.{IsSecond, Kept}
+use Rattle.gix_odb_watch.proofs.KeepsLaws.{second_shown, shown_second}
+use Rattle.odb_disk.specs.declared.change.Change.{Change}
 use Rattle.gix_odb_calls.specs.declared.step.Step.{Step}
 use Rattle.gix_odb_calls.specs.declared.step.Step.TheVariants as steps
 use Rattle.gix_odb_calls.specs.declared.step.Outcome.{Outcome}
 use Rattle.gix_odb_calls.specs.declared.step.Outcome.TheVariants as outcomes
 use Rattle.gix_odb_calls.specs.declared.step.Why.{Why}
-use Rattle.gix_odb_runs.specs.declared.record.Did.{Did}
-use Rattle.gix_odb_runs.specs.declared.record.Did.TheVariants.{Nothing}
+use Rattle.gix_odb_history.specs.declared.record.Did.{Did}
+use Rattle.gix_odb_history.specs.declared.record.Did.TheVariants.{Nothing}
 use Rattle.gix_odb_world.specs.Handle.{Seen}
 use Rattle.gix_odb_world.specs.declared.course.Course.{Course}
 use Rattle.gix_odb_core.specs.History.{History}
-use Rattle.gix_odb_runs.specs.Cores.{cores_after, cores_after_asked}
-use Rattle.gix_odb_runs.specs.Event.{Asked, OfNothing, Event}
+use Rattle.gix_odb_history.specs.Cores.{cores_after, cores_after_asked}
+use Rattle.gix_odb_history.specs.Event.{Asked, OfNothing, Event}
 use Rattle.gix_odb_world.specs.Status.{Status, Free, Resting, Working, status_of, status_after, with_status}
-use Rattle.gix_odb_runs.specs.Run.{change_asked, did_of_asked, disk_after, disk_after_event, IsTurnOf, tree_at}
+use Rattle.gix_odb_history.specs.Run.{change_asked, did_of_asked, disk_after, disk_after_event, IsTurnOf, tree_at}
 use Rattle.gix_odb_world.specs.TwoContents.{BreaksRule, watched_after, watched_by, would_change, would_change_in}
 use Rattle.gix_odb_world.specs.Running.{Runs}
 use Rattle.gix_odb_world.specs.Valid.{Idle, IsReason, is_openable, phase_after, phase_of, why_not_after, why_not_change, why_not_idle, why_not_open, why_not_running, why_not_clone, why_not_start}

@@ -10,15 +10,15 @@ use Rattle.std.proofs.lemmas.Option.{slice_get_within}
 use Rattle.std.proofs.Math.Seq.{take-length}
 use Rattle.odb_base.specs.Path.{Name, Path, path_cmp}
 use Rattle.odb_base.specs.PathLaws.{path_order}
-use Rattle.odb_nodes.specs.Tree.Follow.{read_of}
-use Rattle.gix_odb_shown.specs.HasShown.{HasShown, Since, with_since}
-use Rattle.gix_odb_shown.specs.Watched.{pack_directory}
-use Rattle.gix_odb_shown.proofs.ReadLaws.{shows_read}
+use Rattle.odb_disk.specs.Tree.Follow.{read_of}
+use Rattle.gix_odb_watch.specs.HasShown.{HasShown, Since, with_since}
+use Rattle.gix_odb_watch.specs.Watched.{pack_directory}
+use Rattle.gix_odb_watch.proofs.ReadLaws.{shows_read}
 use Rattle.gix_odb_calls.specs.declared.step.Step.TheVariants as steps
 use Rattle.gix_odb.specs.Contents.{StoreData, folder_list}
 use Rattle.gix_odb_world.specs.Begun.{IsOpenStore}
-use Rattle.gix_odb_runs.specs.Event.{Event}
-use Rattle.gix_odb_runs.specs.Run.{tree_at}
+use Rattle.gix_odb_history.specs.Event.{Event}
+use Rattle.gix_odb_history.specs.Run.{tree_at}
 use Rattle.gix_odb_world.specs.Status.{Store}
 use Rattle.gix_odb_world.specs.TwoContents.{watched_after, watched_by, watched_too}
 use Rattle.gix_odb_world.proofs.LawfulRun.{LawfulRun}

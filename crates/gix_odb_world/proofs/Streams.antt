@@ -6,31 +6,31 @@ use Rattle.std.proofs.Common.{◌≡◌, ℕ, zero, suc, ◌+◌, ◌≤◌, Lis
 use Rattle.std.proofs.lemmas.List.{length-append, length-map, length_push}
 use Rattle.std.proofs.Math.Seq.{take-length}
 use Rattle.odb_base.specs.Path.{Name, Path}
-use Rattle.odb_nodes.specs.Tree.{Tree}
-use Rattle.odb_nodes.specs.Tree.Follow.{listed}
-use Rattle.odb_nodes.specs.declared.disk_error.DiskError.TheVariants as errors
-use Rattle.odb_nodes.specs.declared.entry.Entry.{Entry}
-use Rattle.odb_asks.specs.Ask.{answer_now}
-use Rattle.odb_asks.specs.MemDisk.{Volume}
-use Rattle.odb_asks.specs.declared.ask.DiskAnswer.{DiskAnswer}
-use Rattle.odb_asks.specs.declared.ask.DiskAnswer.TheVariants as answers
-use Rattle.odb_asks.specs.declared.ask.DiskAsk.{DiskAsk}
-use Rattle.odb_asks.specs.declared.ask.DiskAsk.TheVariants as asks
-use Rattle.gix_odb_packs.specs.PackFolder.{pack_folder}
+use Rattle.odb_disk.specs.Tree.{Tree}
+use Rattle.odb_disk.specs.Tree.Follow.{listed}
+use Rattle.odb_disk.specs.declared.disk_error.DiskError.TheVariants as errors
+use Rattle.odb_disk.specs.declared.entry.Entry.{Entry}
+use Rattle.odb_disk.specs.Ask.{answer_now}
+use Rattle.odb_disk.specs.MemDisk.{Volume}
+use Rattle.odb_disk.specs.declared.ask.DiskAnswer.{DiskAnswer}
+use Rattle.odb_disk.specs.declared.ask.DiskAnswer.TheVariants as answers
+use Rattle.odb_disk.specs.declared.ask.DiskAsk.{DiskAsk}
+use Rattle.odb_disk.specs.declared.ask.DiskAsk.TheVariants as asks
+use Rattle.gix_odb_search.specs.PackFolder.{pack_folder}
 use Rattle.gix_odb_events.specs.declared.answer.Answer.TheVariants as told
 use Rattle.gix_odb_events.specs.declared.answer.Ask.TheVariants as parts
-use Rattle.gix_odb_looks.specs.Laps as laps
-use Rattle.gix_odb_looks.specs.OpenStream.{GivesNext}
-use Rattle.gix_odb_looks.specs.Stream.{Stream, reads, stream_by, stream_in}
-use Rattle.gix_odb_looks.specs.True.{Suits}
-use Rattle.gix_odb_looks.proofs.HandedLaws.{IsOwnStream}
-use Rattle.gix_odb_looks.proofs.StreamLaws.Calls.{stream_gives_what_is_coming}
-use Rattle.gix_odb_looks.proofs.StreamLaws.Directories.{entries_are_of_the_names}
+use Rattle.gix_odb.specs.Laps as laps
+use Rattle.gix_odb.specs.OpenStream.{GivesNext}
+use Rattle.gix_odb.specs.Stream.{Stream, reads, stream_by, stream_in}
+use Rattle.gix_odb.specs.True.{Suits}
+use Rattle.gix_odb.proofs.HandedLaws.{IsOwnStream}
+use Rattle.gix_odb.proofs.StreamLaws.Calls.{stream_gives_what_is_coming}
+use Rattle.gix_odb.proofs.StreamLaws.Directories.{entries_are_of_the_names}
 use Rattle.gix_odb_world.specs.AtWork.{Running}
 use Rattle.gix_odb_world.specs.Bound.{HasAtMost, Pack}
-use Rattle.gix_odb_runs.specs.Event.{Event}
+use Rattle.gix_odb_history.specs.Event.{Event}
 use Rattle.gix_odb_world.specs.Headline.{IsLawful}
-use Rattle.gix_odb_runs.specs.Run.{disk_after, tree_at}
+use Rattle.gix_odb_history.specs.Run.{disk_after, tree_at}
 use Rattle.gix_odb_world.specs.Running.{RunsThroughout}
 use Rattle.gix_odb_world.specs.Status.{Free, Working, status_of, statuses_from}
 use Rattle.gix_odb_world.specs.Told.{told_since}

@@ -10,17 +10,17 @@ use Rattle.gix_odb_core.specs.History.{History, opened}
 use Rattle.gix_odb_core.specs.Replay.{snapshot_of}
 use Rattle.gix_odb_calls.specs.declared.step.Step.{Step}
 use Rattle.gix_odb_calls.specs.declared.step.Step.TheVariants as steps
-use Rattle.gix_odb_looks.specs.Exchange.{AreAsked, Exchange, behind}
-use Rattle.gix_odb_looks.specs.LookUpOrder.{Setting, ask_of, fed}
-use Rattle.gix_odb_looks.specs.declared.look_up.LookUp.{LookUp}
+use Rattle.gix_odb.specs.LookExchanges.{AreAsked, Exchange, behind}
+use Rattle.gix_odb.specs.LookUpOrder.{Setting, ask_of, fed}
+use Rattle.gix_odb.specs.declared.look_up.LookUp.{LookUp}
 use Rattle.gix_odb.specs.HandleState.{unseen}
 use Rattle.gix_odb_world.specs.AtWork.{Modes, view_in_modes}
-use Rattle.gix_odb_runs.specs.Cores.{cores_after, history_at}
-use Rattle.gix_odb_runs.specs.Event.{Asked, Event}
-use Rattle.gix_odb_runs.specs.Run.{IsTurnOf}
+use Rattle.gix_odb_history.specs.Cores.{cores_after, history_at}
+use Rattle.gix_odb_history.specs.Event.{Asked, Event}
+use Rattle.gix_odb_history.specs.Run.{IsTurnOf}
 use Rattle.gix_odb_world.specs.Seats.{IsSeated}
 use Rattle.gix_odb_world.specs.Told.{exchange_in, exchange_of, told_since, view_then}
-use Rattle.gix_odb_runs.specs.Turned.{is_done, is_turn_of, turns_handle}
+use Rattle.gix_odb_history.specs.Turned.{is_done, is_turn_of, turns_handle}
 
 -- ---- a look-up after one more exchange
 

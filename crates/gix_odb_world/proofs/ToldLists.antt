@@ -1,10 +1,10 @@
 -- Lists of exchanges with one more at their end.
 use Rattle.std.proofs.Common.{◌≡◌, ◌⊎◌, ℕ, zero, suc, List, [], ◌∷◌, ◌++◌, length, Contains, Option, inl, inr, refl, sym, ap, arith}
 use Rattle.std.specs.Prelude.{slice_set}
-use Rattle.gix_odb_looks.specs.Exchange.{AreAnswered, Exchange, IsAnswerTo}
-use Rattle.gix_odb_looks.specs.Laps as laps
-use Rattle.gix_odb_looks.specs.Laps.{AreNumbered, AreWithin, IsNumbered, number_by}
-use Rattle.gix_odb_looks.specs.Stream.{Stream, stream_by, stream_from}
+use Rattle.gix_odb.specs.LookExchanges.{AreAnswered, Exchange, IsAnswerTo}
+use Rattle.gix_odb.specs.Laps as laps
+use Rattle.gix_odb.specs.Laps.{AreNumbered, AreWithin, IsNumbered, number_by}
+use Rattle.gix_odb.specs.Stream.{Stream, stream_by, stream_from}
 use Rattle.gix_odb_world.specs.Running.Query.{number_after}
 
 -- ---- what is among them

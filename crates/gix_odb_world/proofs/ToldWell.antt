@@ -5,15 +5,15 @@ use Rattle.std.specs.Prelude.{unwrap_or}
 use Rattle.std.proofs.lemmas.List.{length_push}
 use Rattle.std.proofs.Math.Seq.{take-length}
 use Rattle.std.proofs.lemmas.Option.{slice_get_within}
-use Rattle.odb_nodes.specs.Tree.{tree_of}
-use Rattle.odb_nodes.specs.Tree.Follow.{listed, read_of}
-use Rattle.odb_nodes.specs.declared.disk_error.DiskError.TheVariants as errors
-use Rattle.odb_asks.specs.Ask.{answer_now, fails_now}
-use Rattle.odb_asks.specs.MemDisk.{Volume}
-use Rattle.odb_asks.specs.declared.ask.DiskAnswer.{DiskAnswer}
-use Rattle.odb_asks.specs.declared.ask.DiskAnswer.TheVariants as answers
-use Rattle.odb_asks.specs.declared.ask.DiskAsk.{DiskAsk}
-use Rattle.odb_asks.specs.declared.ask.DiskAsk.TheVariants as asks
+use Rattle.odb_disk.specs.Tree.{tree_of}
+use Rattle.odb_disk.specs.Tree.Follow.{listed, read_of}
+use Rattle.odb_disk.specs.declared.disk_error.DiskError.TheVariants as errors
+use Rattle.odb_disk.specs.Ask.{answer_now, fails_now}
+use Rattle.odb_disk.specs.MemDisk.{Volume}
+use Rattle.odb_disk.specs.declared.ask.DiskAnswer.{DiskAnswer}
+use Rattle.odb_disk.specs.declared.ask.DiskAnswer.TheVariants as answers
+use Rattle.odb_disk.specs.declared.ask.DiskAsk.{DiskAsk}
+use Rattle.odb_disk.specs.declared.ask.DiskAsk.TheVariants as asks
 use Rattle.gix_odb_core.specs.History.{History, opened, present}
 use Rattle.gix_odb_core.specs.Replay.{CanHappen, replay, snapshot_of}
 use Rattle.gix_odb_events.specs.View.{last_state}
@@ -24,29 +24,29 @@ use Rattle.gix_hash.specs.declared.object_id.ObjectId.{ObjectId}
 use Rattle.gix_odb_events.specs.declared.answer.Answer.TheVariants as told
 use Rattle.gix_odb_events.specs.declared.answer.Ask.TheVariants as parts
 use Rattle.gix_odb_calls.specs.declared.call.Call.{Call}
-use Rattle.gix_odb_looks.specs.Exchange.{AreAnswered, Exchange, HasFailed, IsAnswerTo, WasTold}
-use Rattle.gix_odb_looks.specs.Fair.{AreFair, IsFair, PackedPlace}
-use Rattle.gix_odb_looks.specs.Laps as streams
-use Rattle.gix_odb_looks.specs.Laps.{AreNumbered, AreWithin, IsNumbered, number_by}
-use Rattle.gix_odb_looks.specs.LookUpOrder.{Setting, ask_of}
-use Rattle.gix_odb_looks.specs.Shown.{IsHanded, IsShownView}
-use Rattle.gix_odb_looks.specs.Stream.{stream_by, stream_in}
-use Rattle.gix_odb_looks.specs.True.{AreTrue, IsTrue}
-use Rattle.gix_odb_looks.specs.declared.look_up.LookUp.{LookUp}
-use Rattle.gix_odb_look_laws.proofs.CoreLaws.{core_answers_are_fair, core_answers_are_numbered, core_answers_are_true, core_answers_suit_their_events, core_answers_tell_no_later_number}
-use Rattle.gix_odb_look_laws.proofs.CoreLaws.Wider.{AreTrue-wider, IsHanded-wider, IsShownView-wider}
-use Rattle.gix_odb_looks.proofs.FoundLaws.{what_is_handed_was_shown}
-use Rattle.gix_odb_looks.proofs.HandedLaws.{IsOwnStream, streams_of_look_ups_are_their_own}
-use Rattle.gix_odb_look_laws.proofs.HappenLaws.{what_is_handed_can_happen}
+use Rattle.gix_odb.specs.LookExchanges.{AreAnswered, Exchange, HasFailed, IsAnswerTo, WasTold}
+use Rattle.gix_odb.specs.Fair.{AreFair, IsFair, PackedPlace}
+use Rattle.gix_odb.specs.Laps as streams
+use Rattle.gix_odb.specs.Laps.{AreNumbered, AreWithin, IsNumbered, number_by}
+use Rattle.gix_odb.specs.LookUpOrder.{Setting, ask_of}
+use Rattle.gix_odb.specs.Shown.{IsHanded, IsShownView}
+use Rattle.gix_odb.specs.Stream.{stream_by, stream_in}
+use Rattle.gix_odb.specs.True.{AreTrue, IsTrue}
+use Rattle.gix_odb.specs.declared.look_up.LookUp.{LookUp}
+use Rattle.gix_odb_world.proofs.CoreLaws.{core_answers_are_fair, core_answers_are_numbered, core_answers_are_true, core_answers_suit_their_events, core_answers_tell_no_later_number}
+use Rattle.gix_odb_world.proofs.CoreLaws.Wider.{AreTrue-wider, IsHanded-wider, IsShownView-wider}
+use Rattle.gix_odb.proofs.FoundLaws.{what_is_handed_was_shown}
+use Rattle.gix_odb.proofs.HandedLaws.{IsOwnStream, streams_of_look_ups_are_their_own}
+use Rattle.gix_odb_world.proofs.HappenLaws.{what_is_handed_can_happen}
 use Rattle.gix_odb.specs.Contents.{sought}
 use Rattle.gix_odb.specs.HandleState.{unseen}
-use Rattle.gix_odb_runs.specs.declared.record.Did.{Did}
-use Rattle.gix_odb_runs.specs.declared.record.Did.TheVariants.{Nothing, Disk, Core}
+use Rattle.gix_odb_history.specs.declared.record.Did.{Did}
+use Rattle.gix_odb_history.specs.declared.record.Did.TheVariants.{Nothing, Disk, Core}
 use Rattle.gix_odb_world.specs.AtWork.{Modes, Running, Store, setting_in}
 use Rattle.gix_odb_world.specs.Bound.{HasAtMost}
-use Rattle.gix_odb_runs.specs.Cores.{answer_behind, cores_after, cores_after_asked, entered, entry_of, history_at}
-use Rattle.gix_odb_runs.specs.Event.{Asked, CoreAnswer, CoreEvent, Event, OfCore, OfDisk}
-use Rattle.gix_odb_runs.specs.Run.{Fails, FailedSince, NoCall, disk_after, tree_at}
+use Rattle.gix_odb_history.specs.Cores.{answer_behind, cores_after, cores_after_asked, entered, entry_of, history_at}
+use Rattle.gix_odb_history.specs.Event.{Asked, CoreAnswer, CoreEvent, Event, OfCore, OfDisk}
+use Rattle.gix_odb_history.specs.Run.{Fails, FailedSince, NoCall, disk_after, tree_at}
 use Rattle.gix_odb_world.specs.Seats.{HasSeat, HasSeatAt, IsSeated}
 use Rattle.gix_odb_world.specs.Running.PackedStill.{IsPackedStill}
 use Rattle.gix_odb_world.specs.Running.Query.{IsGiven, IsLooking, IsToldWell, number_after}

@@ -5,9 +5,9 @@ use Rattle.std.proofs.Common.{◌≡◌, ℕ, ◌+◌, ◌<◌, ◌≤◌, Bool,
 use Rattle.std.specs.Prelude.{if◌then◌else◌}
 use Rattle.std.proofs.lemmas.List.{length_push}
 use Rattle.odb_base.specs.Path.{Path}
-use Rattle.odb_nodes.specs.Tree.{IsTree, tree_of}
-use Rattle.odb_nodes.specs.declared.change.Change.{Change}
-use Rattle.odb_asks.specs.MemDisk.{Volume}
+use Rattle.odb_disk.specs.Tree.{IsTree, tree_of}
+use Rattle.odb_disk.specs.declared.change.Change.{Change}
+use Rattle.odb_disk.specs.MemDisk.{Volume}
 use Rattle.gix_odb_calls.specs.declared.step.Step.TheVariants as steps
 use Rattle.gix_odb_calls.specs.declared.step.Outcome.TheVariants as outcomes
 use Rattle.gix_odb_calls.specs.declared.call.Reply.{Reply}
@@ -15,14 +15,14 @@ use Rattle.gix_odb_world.specs.Handle.{HandleParts, IsHandleOf}
 use Rattle.gix_odb_world.specs.Work.{Work}
 use Rattle.gix_odb_world.specs.declared.course.Course.{Course}
 use Rattle.gix_odb_world.specs.Bound.{HasAtMost, bound_of_task}
-use Rattle.gix_odb_runs.specs.Event.{Asked, OfNothing, Event, answered}
+use Rattle.gix_odb_history.specs.Event.{Asked, OfNothing, Event, answered}
 use Rattle.gix_odb_events.specs.declared.answer.Ask.{Ask}
 use Rattle.gix_odb_world.specs.Status.{Free, Resting, Running, Status, Task, Working, come_to, modes_after, refuses_opening, replied, status_of, turned}
-use Rattle.gix_odb_runs.specs.Run.{Stand, change_asked, did_asked, did_of_asked, disk_after, disk_after_asked, told_now, tree_at}
+use Rattle.gix_odb_history.specs.Run.{Stand, change_asked, did_asked, did_of_asked, disk_after, disk_after_asked, told_now, tree_at}
 use Rattle.gix_odb_world.specs.Begun.{BegunAs}
 use Rattle.gix_odb_world.specs.Recorded.{opened_in}
 use Rattle.gix_odb_world.specs.Running.{Runs}
-use Rattle.gix_odb_runs.specs.Turned.{is_done}
+use Rattle.gix_odb_history.specs.Turned.{is_done}
 use Rattle.gix_odb_world.specs.Valid.{IsReason, misuse_of}
 use Rattle.gix_odb_world.specs.Headline.{FailsAsListed, Law, Turns, Works, outcome_of, stand_of}
 use Rattle.gix_odb_world.specs.Changes.{ChangesAs, ChangesAsAsked}

@@ -1,13 +1,13 @@
 -- A turn adds one event to the history of its world.
 use Rattle.std.proofs.Common.{◌≡◌, ℕ, ◌+◌, Bool, true, false, List, [], ◌∷◌, ◌++◌, length, Some, None, Ok, Err, Option, Result, refl, sym, ◌∙◌, ap, subst, Vec, Global}
 use Rattle.std.specs.Prelude.{if◌then◌else◌, ◌==◌}
-use Rattle.odb_asks.specs.MemDisk.{Volume}
+use Rattle.odb_disk.specs.MemDisk.{Volume}
 use Rattle.odb_base.specs.Path.{Path}
-use Rattle.odb_nodes.specs.Tree.{IsTree, Tree, tree_of}
-use Rattle.gix_odb_shown.specs.HasShown.{Keeps}
-use Rattle.gix_odb_shown.specs.Kept.{Fits, Kept}
-use Rattle.gix_odb_shown.specs.declared.revealed.Revealed.{Revealed}
-use Rattle.odb_nodes.specs.declared.change.Change.{Change}
+use Rattle.odb_disk.specs.Tree.{IsTree, Tree, tree_of}
+use Rattle.gix_odb_watch.specs.HasShown.{Keeps}
+use Rattle.gix_odb_watch.specs.Kept.{Fits, Kept}
+use Rattle.gix_odb_watch.specs.declared.revealed.Revealed.{Revealed}
+use Rattle.odb_disk.specs.declared.change.Change.{Change}
 use Rattle.gix_odb_calls.specs.declared.step.Step.TheVariants as steps
 use Rattle.gix_odb_calls.specs.declared.step.Outcome.{Outcome}
 use Rattle.gix_odb_calls.specs.declared.call.Reply.{Reply}
@@ -16,8 +16,8 @@ use Rattle.gix_odb_world.specs.Work.{Work}
 use Rattle.gix_odb_world.specs.declared.course.Course.{Course}
 use Rattle.gix_odb_core.specs.History.{History}
 use Rattle.gix_odb_events.specs.Answers.{view_in}
-use Rattle.gix_odb_runs.specs.Cores.{cores_after, cores_after_asked, or_before}
-use Rattle.gix_odb_runs.specs.Event.{Asked, OfCore, OfDisk, OfNewCore, OfNothing, Event, answered}
+use Rattle.gix_odb_history.specs.Cores.{cores_after, cores_after_asked, or_before}
+use Rattle.gix_odb_history.specs.Event.{Asked, OfCore, OfDisk, OfNewCore, OfNothing, Event, answered}
 use Rattle.gix_odb_events.specs.declared.answer.Ask.{Ask}
 use Rattle.gix_odb_world.specs.Machines.{ask_in, fed_in}
 use Rattle.gix_odb_world.specs.Status.{Modes, Running, Store, Status, Free, Resting, Working, modes_after, replied, status_of, turned}
@@ -26,7 +26,7 @@ use Rattle.gix_odb_world.specs.Running.{Runs}
 use Rattle.gix_odb_world.specs.Headline.{outcome_of, stand_of}
 use Rattle.gix_odb_world.specs.WorkOrder.{ask_on, fed_after, result_in}
 use Rattle.gix_odb_world.specs.declared.turn.Carried.{Carried as Done}
-use Rattle.gix_odb_runs.specs.declared.record.Did.{Did}
+use Rattle.gix_odb_history.specs.declared.record.Did.{Did}
 use Rattle.gix_odb_world.proofs.CarriedLemmas.{told_state, told_work}
 use Rattle.std.specs.Option.{option_map}
 use Rattle.gix_odb_world.specs.World.{Explains, Continues, GoesOn, Matches, handle_at}
@@ -37,7 +37,7 @@ use Rattle.gix_odb_world.specs.Watch.{NotesMade, ShowsSecondBy, TellsChange}
 use Rattle.gix_odb_world.proofs.RunSteps.{IsLeft}
 use Rattle.gix_odb_world.proofs.StepLemmas.{goes_on, reason_of_history, table_noted}
 use Rattle.gix_odb_world.specs.Recorded.{opened_in}
-use Rattle.gix_odb_runs.specs.Run.{Stand, change_asked, did_of_asked, disk_after_asked, stand, told_now, tree_at}
+use Rattle.gix_odb_history.specs.Run.{Stand, change_asked, did_of_asked, disk_after_asked, stand, told_now, tree_at}
 use Rattle.gix_odb_world.proofs.WorkLaws.{code_asks, code_feeds}
 use Rattle.gix_odb_world.proofs.ValidLaws.{breaks_not}
 use Rattle.gix_odb_world.specs.Valid.{why_not_running}

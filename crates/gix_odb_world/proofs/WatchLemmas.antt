@@ -7,25 +7,25 @@ use Rattle.std.specs.Ordering.{eq_by_cmp}
 use Rattle.std.proofs.lemmas.List.{length_push, take_more}
 use Rattle.std.proofs.lemmas.List.Sums.{fold_push}
 use Rattle.odb_base.specs.Path.{Path, path_cmp}
-use Rattle.odb_asks.specs.MemDisk.{Volume}
-use Rattle.odb_nodes.specs.Tree.{IsTree, Tree, tree_of}
-use Rattle.odb_nodes.specs.Tree.Change.{changed}
-use Rattle.odb_nodes.specs.Tree.Write.{written}
-use Rattle.odb_nodes.specs.declared.change.Change.{Change}
-use Rattle.odb_nodes.proofs.WriteLaws.{tree_of-written}
-use Rattle.gix_odb_shown.specs.HasShown.{AreBegun, HasShown, Keeps, Since, with_since}
-use Rattle.gix_odb_shown.specs.Kept.{Fits, Kept, Notes, nothing_kept}
-use Rattle.gix_odb_shown.specs.Watched.{Shows}
-use Rattle.gix_odb_shown.proofs.KeepsLaws.{keeps_nothing, keeps_on, keeps_still, keeps_watched}
+use Rattle.odb_disk.specs.MemDisk.{Volume}
+use Rattle.odb_disk.specs.Tree.{IsTree, Tree, tree_of}
+use Rattle.odb_disk.specs.Tree.Change.{changed}
+use Rattle.odb_disk.specs.Tree.Write.{written}
+use Rattle.odb_disk.specs.declared.change.Change.{Change}
+use Rattle.odb_disk.proofs.WriteLaws.{tree_of-written}
+use Rattle.gix_odb_watch.specs.HasShown.{AreBegun, HasShown, Keeps, Since, with_since}
+use Rattle.gix_odb_watch.specs.Kept.{Fits, Kept, Notes, nothing_kept}
+use Rattle.gix_odb_watch.specs.Watched.{Shows}
+use Rattle.gix_odb_watch.proofs.KeepsLaws.{keeps_nothing, keeps_on, keeps_still, keeps_watched}
 use Rattle.gix_odb_calls.specs.declared.step.Outcome.{Outcome}
 use Rattle.gix_odb_calls.specs.declared.step.Outcome.TheVariants as outcomes
 use Rattle.gix_odb_calls.specs.declared.step.Step.{Step}
 use Rattle.gix_odb_calls.specs.declared.step.Step.TheVariants as steps
 use Rattle.gix_odb_calls.specs.declared.step.Why.{Why}
-use Rattle.gix_odb_runs.specs.Event.{Event}
+use Rattle.gix_odb_history.specs.Event.{Event}
 use Rattle.gix_odb_events.specs.declared.answer.Ask.{Ask}
 use Rattle.gix_odb_events.specs.declared.answer.Ask.TheVariants as asks
-use Rattle.gix_odb_runs.specs.Run.{Stand, change_asked, change_by, disk_after, disk_after_asked, disk_after_event, told_now, tree_at}
+use Rattle.gix_odb_history.specs.Run.{Stand, change_asked, change_by, disk_after, disk_after_asked, disk_after_event, told_now, tree_at}
 use Rattle.gix_odb_world.specs.TwoContents.{watched_after, watched_by, watched_from, watched_too}
 use Rattle.gix_odb_world.specs.Watch.{NotesChange, NotesMade, Watches}
 use Rattle.gix_odb_world.proofs.HistoryLemmas.{tree_at-all, tree_at-before, tree_at-now}

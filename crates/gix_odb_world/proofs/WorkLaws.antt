@@ -1,8 +1,8 @@
 -- What holds of any work, since its machine keeps its laws.
 use Rattle.std.proofs.Common.{◌≡◌, ◌⊎◌, ℕ, List, Option, Some, None, Ok, Err, Result, refl, sym, ◌∙◌, ap}
-use Rattle.odb_asks.specs.MemDisk.{Volume}
-use Rattle.odb_asks.specs.declared.ask.DiskAsk.{DiskAsk}
-use Rattle.odb_asks.specs.declared.ask.DiskAnswer.{DiskAnswer}
+use Rattle.odb_disk.specs.MemDisk.{Volume}
+use Rattle.odb_disk.specs.declared.ask.DiskAsk.{DiskAsk}
+use Rattle.odb_disk.specs.declared.ask.DiskAnswer.{DiskAnswer}
 use Rattle.gix_odb.specs.CallOrder.{result_of_write}
 use Rattle.gix_odb_calls.specs.declared.call.Reply.{Reply}
 use Rattle.gix_odb_world.specs.Handle.{HandleParts, IsHandleOf}
@@ -10,14 +10,14 @@ use Rattle.gix_odb_loose.specs.LooseOrder.{disk_ask_of}
 use Rattle.gix_odb_loose.specs.LooseOrder as loose_order
 use Rattle.gix_odb_loose.specs.declared.call.LooseCall.{LooseCall}
 use Rattle.gix_odb_world.specs.Work.{Work}
-use Rattle.gix_odb_runs.specs.Event.{Event}
+use Rattle.gix_odb_history.specs.Event.{Event}
 use Rattle.gix_odb_events.specs.declared.answer.Answer.{Answer}
 use Rattle.gix_odb_events.specs.declared.answer.Ask.TheVariants as parts
 use Rattle.gix_odb_events.specs.declared.answer.Answer.TheVariants as told
 use Rattle.gix_odb.specs.CallOrder.{loose_ask}
 use Rattle.gix_odb_world.specs.Machine.{At, Machine, placed}
 use Rattle.gix_odb_world.specs.Machines.{at, ask_in, fed_in, write_in}
-use Rattle.gix_odb_runs.specs.Run.{change_by, disk_after}
+use Rattle.gix_odb_history.specs.Run.{change_by, disk_after}
 use Rattle.gix_odb_world.specs.Running.{Knows}
 use Rattle.gix_odb_world.specs.Running.Write.{IsWriting}
 use Rattle.gix_odb_world.specs.Status.{Running, Store, Modes}

@@ -2,14 +2,14 @@
 use Rattle.std.proofs.Common.{◌≡◌, ◌⊎◌, ℕ, ◌<◌, ◌≤◌, ◌^◌, List, length, drop, Option, Some, None, refl, sym, subst, arith, inl, inr}
 use Rattle.std.proofs.lemmas.List.{length-take}
 use Rattle.odb_base.specs.Path.{Path}
-use Rattle.odb_asks.specs.MemDisk.{Volume}
-use Rattle.odb_nodes.specs.Tree.{Tree, tree_of}
-use Rattle.odb_nodes.specs.Tree.Write.{change_of_append, change_of_make_dir, change_of_new_file, change_of_remove, change_of_rename}
-use Rattle.odb_asks.specs.declared.ask.DiskAnswer.TheVariants as answers
-use Rattle.odb_asks.specs.declared.ask.DiskAsk.TheVariants as asks
-use Rattle.odb_nodes.specs.declared.change.Change.{Change}
-use Rattle.odb_nodes.proofs.TreeLemmas.Write.{movable_at, removable_at, replaceable_at, vacant_at}
-use Rattle.odb_nodes.proofs.WayWriteLaws.{append_change, make_dir_change, new_file_change, remove_change, rename_change}
+use Rattle.odb_disk.specs.MemDisk.{Volume}
+use Rattle.odb_disk.specs.Tree.{Tree, tree_of}
+use Rattle.odb_disk.specs.Tree.Write.{change_of_append, change_of_make_dir, change_of_new_file, change_of_remove, change_of_rename}
+use Rattle.odb_disk.specs.declared.ask.DiskAnswer.TheVariants as answers
+use Rattle.odb_disk.specs.declared.ask.DiskAsk.TheVariants as asks
+use Rattle.odb_disk.specs.declared.change.Change.{Change}
+use Rattle.odb_disk.proofs.TreeLemmas.Write.{movable_at, removable_at, replaceable_at, vacant_at}
+use Rattle.odb_disk.proofs.WayWriteLaws.{append_change, make_dir_change, new_file_change, remove_change, rename_change}
 use Rattle.gix_hash.specs.declared.object_id.ObjectId.{ObjectId}
 use Rattle.gix_object.specs.Loose.{header_of}
 use Rattle.gix_object.proofs.LooseLaws.{length-header_of-fits}
@@ -24,13 +24,13 @@ use Rattle.gix_odb_loose.specs.declared.write_order.WriteStage.{WriteStage}
 use Rattle.gix_odb_loose.specs.declared.write_order.WriteStage.TheVariants as stages
 use Rattle.gix_odb_loose.proofs.RoomLemmas.{room_few}
 use Rattle.gix_odb_loose.proofs.WriteMadeLaws.{history_below, history_makes}
-use Rattle.gix_odb_runs.specs.Event.{Event}
+use Rattle.gix_odb_history.specs.Event.{Event}
 use Rattle.gix_odb_world.specs.Status.{MakeCall, Running}
 use Rattle.gix_odb_world.specs.Changes.{ChangesInTask, ChangesInWrite, IsOneOfFive}
-use Rattle.gix_odb_runs.specs.Run.{change_by, disk_after}
+use Rattle.gix_odb_history.specs.Run.{change_by, disk_after}
 use Rattle.gix_odb_world.specs.Running.Write.{IsWriting, StandsAt, job_to_write}
-use Rattle.gix_odb_runs.specs.Writing.{DoneSince, ToWrite, call_to_write, head_to_write, name_to_write, to_write}
-use Rattle.gix_odb_runs.proofs.WriteAsk.{change_by-all, told_append, told_make_dir, told_new_file, told_remove, told_rename}
+use Rattle.gix_odb_history.specs.Writing.{DoneSince, ToWrite, call_to_write, head_to_write, name_to_write, to_write}
+use Rattle.gix_odb_history.proofs.WriteAsk.{change_by-all, told_append, told_make_dir, told_new_file, told_remove, told_rename}
 use Rattle.gix_odb_world.proofs.WriteTurn.{ask_at_stage, done_at}
 
 -- ---- its change

@@ -1,16 +1,16 @@
 -- A turn of a running write leads it on, or to its reply, whatever comes before it.
 use Rattle.std.proofs.Common.{◌≡◌, ℕ, ◌+◌, ◌*◌, ◌<◌, ◌≤◌, List, [], ◌∷◌, ◌++◌, length, Result, Ok, Err, refl, sym, ap, ◌∙◌, subst, arith}
-use Rattle.odb_asks.specs.Ask.{answer_now}
-use Rattle.odb_asks.specs.MemDisk.{Volume}
+use Rattle.odb_disk.specs.Ask.{answer_now}
+use Rattle.odb_disk.specs.MemDisk.{Volume}
 use Rattle.std.proofs.Math.Nat.{mul-le-mul}
 use Rattle.std.proofs.lemmas.List.{length_push}
-use Rattle.odb_asks.specs.declared.ask.DiskAnswer.{DiskAnswer}
-use Rattle.odb_asks.specs.declared.ask.DiskAsk.{DiskAsk}
+use Rattle.odb_disk.specs.declared.ask.DiskAnswer.{DiskAnswer}
+use Rattle.odb_disk.specs.declared.ask.DiskAsk.{DiskAsk}
 use Rattle.gix_odb_events.specs.declared.answer.Answer.TheVariants as answers
 use Rattle.gix_odb_events.specs.declared.answer.Ask.TheVariants as parts
-use Rattle.gix_odb_looks.specs.Exchange.{Exchange}
-use Rattle.gix_odb_refresh.specs.RefreshOrder.{IsReady}
-use Rattle.gix_odb_refresh.proofs.RefreshLaws.{a_ready_refresh_asks_nothing, a_ready_step_stays}
+use Rattle.gix_odb.specs.LookExchanges.{Exchange}
+use Rattle.gix_odb.specs.RefreshOrder.{IsReady}
+use Rattle.gix_odb.proofs.RefreshLaws.{a_ready_refresh_asks_nothing, a_ready_step_stays}
 use Rattle.gix_odb_loose.specs.LooseOrder as loose_order
 use Rattle.gix_odb_loose.specs.LooseOrder.{written_to}
 use Rattle.gix_odb_loose.specs.WriteJobs.{advance_to, next_in, pieces_of, writes_left}
@@ -25,17 +25,17 @@ use Rattle.gix_odb_loose.proofs.WriteDoneLaws.{IsAlong-left}
 use Rattle.gix_odb_calls.specs.declared.call.Reply.{Reply}
 use Rattle.gix_odb.specs.declared.call_state.CallStage.TheVariants.{Writing}
 use Rattle.gix_odb_world.specs.Work.{Calling}
-use Rattle.gix_odb_looks.specs.Laps.{turns_of_lap}
+use Rattle.gix_odb.specs.Laps.{turns_of_lap}
 use Rattle.gix_odb_world.specs.Bound.{HasAtMost, bound_of_task, laps_without_change, turns_beside_pieces}
 use Rattle.gix_odb.specs.CallOrder.{result_of_write}
 use Rattle.gix_odb.specs.Contents.{folder_list}
-use Rattle.gix_odb_runs.specs.Event.{Event, OfDisk}
+use Rattle.gix_odb_history.specs.Event.{Event, OfDisk}
 use Rattle.gix_odb_world.specs.Status.{MakeCall, Running, gone_on}
 use Rattle.gix_odb_world.specs.Promise.{Promise}
-use Rattle.gix_odb_runs.specs.Run.{disk_after, tree_at}
+use Rattle.gix_odb_history.specs.Run.{disk_after, tree_at}
 use Rattle.gix_odb_world.specs.Running.Write.{IsAtOwnWrite, IsWriting, KnowsOfWrite, own_result, writing}
 use Rattle.gix_odb_world.specs.Told.{refresh_now, told_since, turns_in_front}
-use Rattle.gix_odb_runs.specs.Writing.{ToWrite, call_to_write, head_to_write, to_write}
+use Rattle.gix_odb_history.specs.Writing.{ToWrite, call_to_write, head_to_write, to_write}
 use Rattle.gix_odb_world.specs.Written.{PromiseOfWrite}
 use Rattle.gix_odb_world.proofs.FrontLemmas.{front_ended, now_more}
 use Rattle.gix_odb_world.proofs.MachineLaws as laws

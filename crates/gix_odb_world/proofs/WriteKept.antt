@@ -5,25 +5,25 @@ use Rattle.std.proofs.lemmas.List.{take-append-le, length_push}
 use Rattle.std.proofs.lemmas.Option.{slice_get_within}
 use Rattle.std.proofs.Math.Seq.{take-append_seam}
 use Rattle.odb_base.specs.Path.{Path}
-use Rattle.odb_asks.specs.Ask.{answer_now}
-use Rattle.odb_asks.specs.MemDisk.{Volume}
-use Rattle.odb_nodes.specs.Tree.{Tree}
-use Rattle.odb_nodes.specs.Tree.Way.{SameOnWay}
-use Rattle.odb_nodes.specs.declared.change.Change.{Change}
-use Rattle.odb_asks.specs.declared.ask.DiskAnswer.{DiskAnswer}
-use Rattle.odb_asks.specs.declared.ask.DiskAsk.{DiskAsk}
-use Rattle.odb_nodes.specs.OwnFile.{HasFile}
-use Rattle.odb_nodes.proofs.OwnFileLaws.{has_file_kept}
+use Rattle.odb_disk.specs.Ask.{answer_now}
+use Rattle.odb_disk.specs.MemDisk.{Volume}
+use Rattle.odb_disk.specs.Tree.{Tree}
+use Rattle.odb_disk.specs.Tree.Way.{SameOnWay}
+use Rattle.odb_disk.specs.declared.change.Change.{Change}
+use Rattle.odb_disk.specs.declared.ask.DiskAnswer.{DiskAnswer}
+use Rattle.odb_disk.specs.declared.ask.DiskAsk.{DiskAsk}
+use Rattle.odb_disk.specs.OwnFile.{HasFile}
+use Rattle.odb_disk.proofs.OwnFileLaws.{has_file_kept}
 use Rattle.gix_odb_loose.specs.Exchanges.{Exchange}
 use Rattle.gix_odb_loose.specs.WriteAsks.{write_of}
 use Rattle.gix_odb_loose.specs.WriteOrder.{temp_path, number_made}
 use Rattle.gix_odb_loose.proofs.AskLaws.{IsAlong-start}
 use Rattle.gix_odb_loose.specs.declared.write_order.WriteStage.{WriteStage}
 use Rattle.gix_odb_loose.specs.declared.write_order.WriteStage.TheVariants as write_stages
-use Rattle.gix_odb_runs.specs.Event.{OfDisk, Event}
-use Rattle.gix_odb_runs.specs.Run.{IsTurnOf, TellsCall, disk_after, tree_at}
+use Rattle.gix_odb_history.specs.Event.{OfDisk, Event}
+use Rattle.gix_odb_history.specs.Run.{IsTurnOf, TellsCall, disk_after, tree_at}
 use Rattle.gix_odb_world.specs.Running.Write.{HoldsFile, Holds, IsUntouched, StandsAt, content_at}
-use Rattle.gix_odb_runs.specs.Writing.{AskedAt, AskedSince, ChangedNothing, EachTurn, IsNewFile, IsRename, LeftAlone, ToWrite, head_to_write}
+use Rattle.gix_odb_history.specs.Writing.{AskedAt, AskedSince, ChangedNothing, EachTurn, IsNewFile, IsRename, LeftAlone, ToWrite, head_to_write}
 use Rattle.gix_odb_world.proofs.HistoryLemmas.{slice_get-push, slice_get-last, slice_get-kept, tree_at-before}
 
 -- ---- one more event

@@ -4,9 +4,9 @@ pub mod Begun
 pub mod Front
 use Rattle.std.proofs.Common.{◌≡◌, ◌⊎◌, inl, inr, ℕ, ◌+◌, ◌≤◌, List, [], ◌∷◌, ◌++◌, length, Result, Ok, Err, Option, Some, None, refl, sym, ◌∙◌, ap, subst, arith}
 use Rattle.std.proofs.lemmas.List.{length_push}
-use Rattle.odb_asks.specs.MemDisk.{Volume}
-use Rattle.odb_asks.specs.declared.ask.DiskAnswer.{DiskAnswer}
-use Rattle.odb_asks.specs.declared.ask.DiskAsk.{DiskAsk}
+use Rattle.odb_disk.specs.MemDisk.{Volume}
+use Rattle.odb_disk.specs.declared.ask.DiskAnswer.{DiskAnswer}
+use Rattle.odb_disk.specs.declared.ask.DiskAsk.{DiskAsk}
 use Rattle.gix_odb_core.specs.Replay.{CanHappen}
 use Rattle.gix_odb_core.specs.declared.shape.Shape.{Shape}
 use Rattle.gix_odb_loose.specs.LooseOrder as loose_order
@@ -17,32 +17,32 @@ use Rattle.gix_odb_events.specs.declared.answer.Answer.TheVariants as told
 use Rattle.gix_odb_events.specs.declared.answer.Ask.{Ask}
 use Rattle.gix_odb_events.specs.declared.answer.Ask.TheVariants as parts
 use Rattle.gix_odb_calls.specs.declared.call.Reply.{Reply}
-use Rattle.gix_odb_looks.specs.LookUpOrder.{Setting}
-use Rattle.gix_odb_refresh.proofs.RefreshLaws.{refreshes_have_no_core_made}
-use Rattle.gix_odb_refresh.specs.RefreshOrder.{IsReady}
-use Rattle.gix_odb_refresh.specs.RefreshOrder as refreshes
-use Rattle.gix_odb_refresh.specs.Refreshed.{AreAsked}
-use Rattle.gix_odb_refresh.specs.declared.refresh.Refresh.{Refresh}
-use Rattle.gix_odb_refresh.specs.declared.refresh.RefreshStep.{RefreshStep}
-use Rattle.gix_odb_refresh.specs.declared.refresh.RefreshStep.TheVariants as fronts
+use Rattle.gix_odb.specs.LookUpOrder.{Setting}
+use Rattle.gix_odb.proofs.RefreshLaws.{refreshes_have_no_core_made}
+use Rattle.gix_odb.specs.RefreshOrder.{IsReady}
+use Rattle.gix_odb.specs.RefreshOrder as refreshes
+use Rattle.gix_odb.specs.Refreshed.{AreAsked}
+use Rattle.gix_odb.specs.declared.refresh.Refresh.{Refresh}
+use Rattle.gix_odb.specs.declared.refresh.RefreshStep.{RefreshStep}
+use Rattle.gix_odb.specs.declared.refresh.RefreshStep.TheVariants as fronts
 use Rattle.gix_odb.specs.CallOrder as calls
 use Rattle.gix_odb.specs.Contents.{folder_list}
 use Rattle.gix_odb.specs.CallOrder.{fronted, loose_ask, result_of_write, writing_result, written_on}
 use Rattle.gix_odb.specs.declared.call_state.CallStage.TheVariants.{Refused}
 use Rattle.gix_odb_world.specs.Handle.{HandleParts, IsHandleOf}
 use Rattle.gix_odb_world.specs.AtWork.{Modes, setting_in}
-use Rattle.gix_odb_looks.specs.Laps.{turns_of_lap}
-use Rattle.gix_odb_runs.specs.Event.{CoreEvent, Event, answered}
+use Rattle.gix_odb.specs.Laps.{turns_of_lap}
+use Rattle.gix_odb_history.specs.Event.{CoreEvent, Event, answered}
 use Rattle.gix_odb_events.specs.declared.answer.Answer.{Answer}
 use Rattle.gix_odb_world.specs.Machine.{placed}
 use Rattle.gix_odb_world.specs.Machines.{at}
-use Rattle.gix_odb_runs.specs.Run.{IsTurnOf, change_by, disk_after}
+use Rattle.gix_odb_history.specs.Run.{IsTurnOf, change_by, disk_after}
 use Rattle.gix_odb_world.specs.Running.{Knows}
 use Rattle.gix_odb_world.specs.Running.Write.{InFront, IsAtOwnWrite, IsInFront, IsWriting, KnowsOfWrite, Own, Unlisted, WriteState, front_result, own_result, work_of}
 use Rattle.gix_odb_world.specs.Running.Write.{write_asks, write_at, write_fed, writes_by, writing}
 use Rattle.gix_odb_world.specs.Status.{MakeCall, Running, Store}
 use Rattle.gix_odb_world.specs.Told.{refresh_begun, told_since}
-use Rattle.gix_odb_runs.specs.Writing.{ToWrite, call_to_write}
+use Rattle.gix_odb_history.specs.Writing.{ToWrite, call_to_write}
 use Rattle.gix_odb_world.specs.WorkOrder.{ask_on, calling_result, fed_after, result_in}
 use Rattle.gix_odb_world.proofs.AnsweredLemmas.{answered_later}
 use Rattle.gix_odb_world.proofs.FrontLemmas.{begun_same, front_same, now_same}

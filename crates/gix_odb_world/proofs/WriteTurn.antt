@@ -5,10 +5,10 @@ pub mod Making
 pub mod Filling
 pub mod Naming
 use Rattle.std.proofs.Common.{◌≡◌, ℕ, List, length}
-use Rattle.odb_asks.specs.Ask.{answer_now}
-use Rattle.odb_asks.specs.MemDisk.{Volume}
-use Rattle.odb_asks.specs.declared.ask.DiskAnswer.{DiskAnswer}
-use Rattle.odb_asks.specs.declared.ask.DiskAsk.{DiskAsk}
+use Rattle.odb_disk.specs.Ask.{answer_now}
+use Rattle.odb_disk.specs.MemDisk.{Volume}
+use Rattle.odb_disk.specs.declared.ask.DiskAnswer.{DiskAnswer}
+use Rattle.odb_disk.specs.declared.ask.DiskAsk.{DiskAsk}
 use Rattle.gix_odb_loose.proofs.AskLaws.{IsAlong-next}
 use Rattle.gix_odb_loose.proofs.WriteDoneLaws.{IsAlong-done}
 use Rattle.gix_odb_loose.specs.WriteDone.{HasDone}
@@ -17,10 +17,10 @@ use Rattle.gix_odb_loose.specs.WriteOrder.{next_write, write_ask, written_in}
 use Rattle.gix_odb_loose.specs.declared.write_at_hand.Onward.TheVariants.{Stage}
 use Rattle.gix_odb_loose.specs.declared.write_order.WriteStage.{WriteStage}
 use Rattle.gix_odb_loose.specs.declared.write_order.WriteStage.TheVariants as stages
-use Rattle.gix_odb_runs.specs.Event.{Event}
-use Rattle.gix_odb_runs.specs.Run.{disk_after}
+use Rattle.gix_odb_history.specs.Event.{Event}
+use Rattle.gix_odb_history.specs.Run.{disk_after}
 use Rattle.gix_odb_world.specs.Running.Write.{StandsAt, job_to_write}
-use Rattle.gix_odb_runs.specs.Writing.{ToWrite, head_to_write}
+use Rattle.gix_odb_history.specs.Writing.{ToWrite, head_to_write}
 use Rattle.gix_odb_world.proofs.WriteTurn.Common.{Makes, Stands, TurnOfWrite, call_at}
 use Rattle.gix_odb_world.proofs.WriteTurn.Comes.{Goes, PartsTo, goes, supplied_parts}
 use Rattle.gix_odb_world.proofs.WriteTurn.Making.{making}

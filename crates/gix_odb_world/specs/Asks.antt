@@ -1,8 +1,8 @@
 -- Which call of the disk or event of a core a turn makes, by the task of its handle and the number of turns that its work has had before.
 use Rattle.std.specs.Prelude.{◌≡◌, ◌⊎◌, ℕ, ◌+◌, ◌*◌, ◌<◌, ◌≤◌, List, length, Option, Some, None}
-use Rattle.odb_asks.specs.MemDisk.{Volume}
-use Rattle.odb_asks.specs.declared.ask.DiskAsk.{DiskAsk}
-use Rattle.odb_asks.specs.declared.ask.DiskAsk.TheVariants as asks
+use Rattle.odb_disk.specs.MemDisk.{Volume}
+use Rattle.odb_disk.specs.declared.ask.DiskAsk.{DiskAsk}
+use Rattle.odb_disk.specs.declared.ask.DiskAsk.TheVariants as asks
 use Rattle.gix_object.specs.Loose.{header_of}
 use Rattle.gix_odb_loose.specs.LooseFile.{loose_path}
 use Rattle.gix_odb_loose.specs.WriteJobs.{piece_at, pieces_of}
@@ -10,19 +10,19 @@ use Rattle.gix_odb_loose.specs.WriteOrder.{prefix_path, temp_names, temp_path}
 use Rattle.gix_odb_loose.specs.WritePieces.{piece_size}
 use Rattle.gix_odb_calls.specs.Query.{by_call}
 use Rattle.gix_odb_calls.specs.declared.query.Query.{Query}
-use Rattle.gix_odb_looks.specs.LookUpOrder.{ask_of}
+use Rattle.gix_odb.specs.LookUpOrder.{ask_of}
 use Rattle.gix_odb_events.specs.declared.answer.Ask.{Ask}
 use Rattle.gix_odb_events.specs.declared.answer.Ask.TheVariants as parts
 use Rattle.gix_odb.specs.Contents.{folder_list}
 use Rattle.gix_odb.specs.OpenOrder as openings
-use Rattle.gix_odb_refresh.specs.RefreshOrder.{IsReady}
-use Rattle.gix_odb_refresh.specs.RefreshOrder as refreshes
+use Rattle.gix_odb.specs.RefreshOrder.{IsReady}
+use Rattle.gix_odb.specs.RefreshOrder as refreshes
 use Rattle.gix_odb_events.specs.PackId.{most_slots}
 use Rattle.gix_odb_world.specs.AtWork.{Modes}
-use Rattle.gix_odb_runs.specs.Event.{CoreEvent, Event}
+use Rattle.gix_odb_history.specs.Event.{CoreEvent, Event}
 use Rattle.gix_odb_world.specs.Status.{Store, MakeCall, OpenStore, Task}
 use Rattle.gix_odb_world.specs.Told.{look_now, opening_now, refresh_now, turns_in_front}
-use Rattle.gix_odb_runs.specs.Writing.{DoneSince, ToWrite, name_to_write, to_write}
+use Rattle.gix_odb_history.specs.Writing.{DoneSince, ToWrite, name_to_write, to_write}
 
 -- After `front` turns of other work, a task asks as `Asks` says by the number of its own turns, which are counted from 0.
 pub record AsksBehind (front turns : ℕ) (Asks : (own : ℕ) → Type 0) : Type 0 where

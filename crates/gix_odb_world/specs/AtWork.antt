@@ -4,12 +4,12 @@ use Rattle.gix_hash.specs.declared.kind.Kind.{Kind as HashKind}
 use Rattle.gix_odb_events.specs.declared.view.View.{View}
 use Rattle.gix_odb.specs.Contents.{StoreData}
 use Rattle.gix_odb.specs.HandleState.{unseen}
-use Rattle.gix_odb_looks.specs.LookUpOrder.{Setting}
+use Rattle.gix_odb.specs.LookUpOrder.{Setting}
 use Rattle.gix_odb_calls.specs.declared.call.Call.{Call}
 use Rattle.gix_odb_calls.specs.declared.init.Slots.{Slots}
 use Rattle.gix_odb_events.specs.Answers.{view_in}
-use Rattle.gix_odb_runs.specs.Cores.{or_before}
-use Rattle.gix_odb_runs.specs.Event.{Asked, OfCore, OfDisk, OfNewCore, OfNothing}
+use Rattle.gix_odb_history.specs.Cores.{or_before}
+use Rattle.gix_odb_history.specs.Event.{Asked, OfCore, OfDisk, OfNewCore, OfNothing}
 use Rattle.gix_odb_world.specs.Work.{Work}
 
 -- a store that was opened, or whose opening runs: the number of its open step, how many slots it was to have, the hash of its ids, the number of

@@ -8,8 +8,8 @@ use Rattle.gix_odb_calls.specs.declared.init.Options.{Options}
 use Rattle.gix_odb_calls.specs.declared.step.Step.{Step}
 use Rattle.gix_odb_calls.specs.declared.step.Step.TheVariants as steps
 use Rattle.gix_odb_calls.specs.declared.step.Outcome.TheVariants as outcomes
-use Rattle.gix_odb_runs.specs.Event.{Event}
-pub use Rattle.gix_odb_runs.specs.Turned.{is_turn_of}
+use Rattle.gix_odb_history.specs.Event.{Event}
+pub use Rattle.gix_odb_history.specs.Turned.{is_turn_of}
 use Rattle.gix_odb_world.specs.Status.{MakeCall, OpenStore, Store, Task, Modes}
 
 -- the event that has the number `begun` was applied, and started a call on a handle

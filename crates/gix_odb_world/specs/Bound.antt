@@ -2,12 +2,12 @@
 use Rattle.std.specs.Prelude.{◌≡◌, ℕ, ◌+◌, ◌*◌, ◌≤◌, ◌&&◌, ◌==◌, Bool, true, [], ◌∷◌, ◌++◌, length, codes, Contains, Option, Some, None, Ok, List}
 use Rattle.std.specs.List.{list_all, list_any}
 use Rattle.odb_base.specs.Path.{Path, Name}
-use Rattle.odb_nodes.specs.Tree.{Tree}
-use Rattle.odb_nodes.specs.Tree.Follow.{listed}
+use Rattle.odb_disk.specs.Tree.{Tree}
+use Rattle.odb_disk.specs.Tree.Follow.{listed}
 use Rattle.gix_odb_calls.specs.declared.call.Call.{Call}
 use Rattle.gix_odb_calls.specs.declared.call.Call.TheVariants.{Write}
 use Rattle.gix_odb_loose.specs.WriteJobs.{pieces_of}
-use Rattle.gix_odb_looks.specs.Laps.{turns_of_lap}
+use Rattle.gix_odb.specs.Laps.{turns_of_lap}
 use Rattle.gix_odb.specs.Contents.{StoreData, folder_list}
 use Rattle.gix_odb_world.specs.AtWork.{Modes, Store, Task, OpenStore, MakeCall}
 

@@ -1,10 +1,10 @@
 -- Why an opening or a call is refused: each error, and what the run shows where it is given.
 use Rattle.std.specs.Prelude.{◌≡◌, ℕ, ◌<◌, true, List, Contains, Result, Ok, Err}
 use Rattle.odb_base.specs.Path.{Path}
-use Rattle.odb_nodes.specs.Tree.{Tree}
-use Rattle.odb_nodes.specs.Tree.Follow.{Refusal, looked, read_of}
-use Rattle.odb_nodes.specs.declared.meta.Meta.{Meta}
-use Rattle.odb_nodes.specs.declared.meta.Kind.TheVariants as kinds
+use Rattle.odb_disk.specs.Tree.{Tree}
+use Rattle.odb_disk.specs.Tree.Follow.{Refusal, looked, read_of}
+use Rattle.odb_disk.specs.declared.meta.Meta.{Meta}
+use Rattle.odb_disk.specs.declared.meta.Kind.TheVariants as kinds
 use Rattle.gix_hash.specs.declared.object_id.ObjectId.{ObjectId}
 use Rattle.gix_odb_loose.specs.Causes.{Cause}
 use Rattle.gix_odb_loose.specs.LooseFile.{Reading, loose_path}
@@ -18,10 +18,10 @@ use Rattle.gix_odb_calls.specs.declared.find.Error.TheVariants as find_errors
 pub use Rattle.gix_odb.specs.Moments.{Sometime}
 use Rattle.gix_odb.specs.Contents.{folder_list}
 use Rattle.gix_odb.specs.Held.{WasShownAt}
-use Rattle.gix_odb_looks.specs.Caused.{IsCaused}
+use Rattle.gix_odb.specs.Caused.{IsCaused}
 use Rattle.gix_odb.specs.OpenExchanges as openings
 use Rattle.gix_odb.specs.OpenExchanges.{IsNumber}
-use Rattle.gix_odb_looks.specs.Exchange.{Exchange}
+use Rattle.gix_odb.specs.LookExchanges.{Exchange}
 use Rattle.gix_odb_events.specs.declared.event.Refusal.{Refusal as CoreRefusal}
 use Rattle.gix_odb_world.specs.Refused.{LoadCause}
 use Rattle.gix_odb_world.specs.AtWork.{Store, setting_in}

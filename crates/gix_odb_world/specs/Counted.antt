@@ -1,18 +1,18 @@
 -- How many slots an open store has: where none were given, what its opening promises of the files that it counted.
 use Rattle.std.specs.Prelude.{◌≡◌, ℕ, List, length, All}
-use Rattle.odb_nodes.specs.Tree.{Tree}
+use Rattle.odb_disk.specs.Tree.{Tree}
 use Rattle.gix_odb_events.specs.PackPath.{pack_path}
 use Rattle.gix_odb_events.specs.PackFiles.{HasDifferentPaths}
 use Rattle.gix_odb_events.specs.declared.listing.Listing.{Listing}
 use Rattle.gix_odb_events.specs.declared.listing.ListingRow.{ListingRow}
-use Rattle.gix_odb_packs.specs.LongestFirst.{longest_first}
-use Rattle.gix_odb_packs.specs.declared.lister.ListStep.TheVariants as listed
+use Rattle.gix_odb_search.specs.LongestFirst.{longest_first}
+use Rattle.gix_odb_search.specs.declared.lister.ListStep.TheVariants as listed
 use Rattle.gix_odb_calls.specs.declared.init.Slots.{Slots}
 use Rattle.gix_odb_calls.specs.declared.init.Slots.TheVariants.{AsNeededByDiskState, Given}
-use Rattle.gix_odb_looks.specs.Exchange.{Exchange}
-use Rattle.gix_odb_looks.specs.LookUpOrder.{Setting}
-use Rattle.gix_odb_looks.specs.Shown.{IsIndexPath, folders_of}
-use Rattle.gix_odb_look_laws.specs.ListedFiles.{listed_in}
+use Rattle.gix_odb.specs.LookExchanges.{Exchange}
+use Rattle.gix_odb.specs.LookUpOrder.{Setting}
+use Rattle.gix_odb.specs.Shown.{IsIndexPath, folders_of}
+use Rattle.gix_odb.specs.ListedFiles.{listed_in}
 use Rattle.gix_odb.specs.Contents.{ShowsFile}
 use Rattle.gix_odb.specs.Held.{IsItselfFile}
 use Rattle.gix_odb.specs.Moments.{Sometime, Throughout}

@@ -15,7 +15,7 @@ use Rattle.gix_odb_calls.specs.declared.init.Options.{Options}
 use Rattle.gix_odb_calls.specs.declared.query.Query.{Query}
 use Rattle.gix_odb_calls.specs.declared.store_parts.StoreParts.{StoreParts}
 use Rattle.gix_odb_events.specs.declared.view.View.{View}
-use Rattle.gix_odb_looks.specs.LookUpOrder.{Setting}
+use Rattle.gix_odb.specs.LookUpOrder.{Setting}
 use Rattle.gix_odb_world.specs.Status.{Store, Modes}
 use Rattle.gix_odb_world.specs.Valid.{is_openable}
 use Rattle.gix_odb_world.specs.Work.{Work, Opening, Calling}

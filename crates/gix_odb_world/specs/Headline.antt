@@ -4,9 +4,9 @@
 -- error has its cause.
 use Rattle.std.specs.Prelude.{◌≡◌, false, ℕ, All, ◌+◌, ◌<◌, List, [], ◌∷◌, ◌++◌, map, length, take, slice_get, Option, Some, Result, Ok, Err}
 use Rattle.odb_base.specs.Path.{Path}
-use Rattle.odb_asks.specs.Ask.{fails_now}
-use Rattle.odb_asks.specs.MemDisk.{Volume}
-use Rattle.gix_odb_runs.specs.JournalKept.{IsJournal}
+use Rattle.odb_disk.specs.Ask.{fails_now}
+use Rattle.odb_disk.specs.MemDisk.{Volume}
+use Rattle.gix_odb_history.specs.JournalKept.{IsJournal}
 use Rattle.gix_odb_core.specs.History.{History}
 use Rattle.gix_odb_core.specs.Journal.{entries_of}
 use Rattle.gix_odb_events.specs.declared.event.Event.TheVariants as core_events
@@ -15,19 +15,19 @@ use Rattle.gix_odb_calls.specs.declared.step.Step.{Step}
 use Rattle.gix_odb_calls.specs.declared.step.Step.TheVariants as steps
 use Rattle.gix_odb_calls.specs.declared.step.Outcome.{Outcome}
 use Rattle.gix_odb_calls.specs.declared.step.Outcome.TheVariants as outcomes
-use Rattle.gix_odb_runs.specs.declared.record.Did.{Did}
-use Rattle.gix_odb_runs.specs.declared.record.Run.{Run}
+use Rattle.gix_odb_history.specs.declared.record.Did.{Did}
+use Rattle.gix_odb_history.specs.declared.record.Run.{Run}
 use Rattle.gix_odb_world.specs.Work.{Work}
-use Rattle.gix_odb_runs.specs.Event.{Asked, OfNothing, OfDisk, OfCore, OfNewCore, Event, answered}
+use Rattle.gix_odb_history.specs.Event.{Asked, OfNothing, OfDisk, OfCore, OfNewCore, Event, answered}
 use Rattle.gix_odb_events.specs.declared.answer.Ask.{Ask}
-use Rattle.gix_odb_runs.specs.Cores.{answer_behind, cores_after, history_at}
-use Rattle.gix_odb_runs.specs.Entries.{TellsEachEntry}
+use Rattle.gix_odb_history.specs.Cores.{answer_behind, cores_after, history_at}
+use Rattle.gix_odb_history.specs.Entries.{TellsEachEntry}
 use Rattle.gix_odb_world.specs.Recorded.{opened_in}
 use Rattle.gix_odb_world.specs.RunLaws.{KeepsRunLaws}
 use Rattle.gix_odb_world.specs.Seats.{HasSeatThroughout, RegistersOwnThroughout, SnapshotsNeverFall}
 use Rattle.gix_odb_world.specs.Status.{Resting, Running, Status, Task, status_of}
 pub use Rattle.gix_odb_world.specs.Status.{Turns}
-use Rattle.gix_odb_runs.specs.Run.{Stand, change_asked, did_asked, did_of_asked, disk_after, has_failed, stand, told_now, tree_at}
+use Rattle.gix_odb_history.specs.Run.{Stand, change_asked, did_asked, did_of_asked, disk_after, has_failed, stand, told_now, tree_at}
 use Rattle.gix_odb_world.specs.Begun.{BegunAs, HoldsStore, IsTaskOf, NoneSince, turns_since}
 use Rattle.gix_odb_world.specs.Changes.{ChangesAs, ChangesAsAsked}
 use Rattle.gix_odb_world.specs.Undisturbed.{WritesStandAlone}

@@ -1,7 +1,7 @@
 -- What the reply to an opening or a call promises of the moments from its start to the reply.
 use Rattle.std.specs.Prelude.{◌≡◌, ℕ, ◌≤◌, true, false, List, [], ◌∷◌, ◌++◌, length}
-use Rattle.odb_nodes.specs.Tree.{Tree}
-use Rattle.odb_asks.specs.MemDisk.{Volume}
+use Rattle.odb_disk.specs.Tree.{Tree}
+use Rattle.odb_disk.specs.MemDisk.{Volume}
 use Rattle.gix_hash.specs.declared.object_id.ObjectId.{ObjectId}
 use Rattle.gix_odb_calls.specs.declared.query.Query.{Query}
 use Rattle.gix_object.specs.declared.want.Want.{Want}
@@ -13,14 +13,14 @@ use Rattle.gix_odb_calls.specs.declared.find.Error as finding
 use Rattle.gix_odb_calls.specs.Query.{by_call}
 use Rattle.gix_odb.specs.Contents.{Answer, Object, HeaderOf, Presence, folder_list, sought}
 use Rattle.gix_odb.specs.Held.{Held, Still}
-use Rattle.gix_odb_looks.specs.Exchange.{Exchange}
-use Rattle.gix_odb_runs.specs.Event.{CoreAnswer, Event, OfNewCore}
+use Rattle.gix_odb.specs.LookExchanges.{Exchange}
+use Rattle.gix_odb_history.specs.Event.{CoreAnswer, Event, OfNewCore}
 use Rattle.gix_odb_events.specs.declared.event.Refusal.{Refusal}
 use Rattle.gix_odb_world.specs.Refused.{RefusedSince}
 use Rattle.gix_odb_world.specs.Told.{told_since}
 use Rattle.gix_odb_world.specs.Status.{Store, Task, OpenStore, MakeCall, Modes, setting_in}
-use Rattle.gix_odb_runs.specs.Run.{tree_at, FailedSince}
-use Rattle.gix_odb_runs.specs.Writing.{to_write}
+use Rattle.gix_odb_history.specs.Run.{tree_at, FailedSince}
+use Rattle.gix_odb_history.specs.Writing.{to_write}
 use Rattle.gix_odb_world.specs.Written.{PromiseOfWrite}
 use Rattle.gix_odb_world.specs.Counted.{IsCountedNumber}
 use Rattle.gix_odb_world.specs.Causes.{Sometime, ShowsDirectory, OpeningCause, FindCause}

@@ -7,9 +7,9 @@ use Rattle.gix_odb_events.specs.declared.event.Refusal.{Refusal}
 use Rattle.gix_odb_events.specs.declared.event.Refusal.TheVariants as refusals
 use Rattle.gix_odb_calls.specs.declared.load_index.Error as load
 use Rattle.gix_odb_calls.specs.declared.load_index.Error.TheVariants as load_errors
-use Rattle.gix_odb_runs.specs.Cores.{cores_after, history_at}
-use Rattle.gix_odb_runs.specs.Event.{CoreEvent, Event, OfCore}
-use Rattle.gix_odb_runs.specs.Run.{IsTurnOf}
+use Rattle.gix_odb_history.specs.Cores.{cores_after, history_at}
+use Rattle.gix_odb_history.specs.Event.{CoreEvent, Event, OfCore}
+use Rattle.gix_odb_history.specs.Run.{IsTurnOf}
 
 -- the shape of a core after the first so many events
 abbrev pub shape_at : List Event → (core number : ℕ) → Shape

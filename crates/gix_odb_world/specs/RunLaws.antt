@@ -12,30 +12,30 @@ pub mod OwnAnswer
 pub mod Memory
 use Rattle.std.specs.Prelude.{◌≡◌, ℕ, ◌+◌, ◌<◌, true, List, length, take, slice_get, Some}
 use Rattle.odb_base.specs.Path.{Path}
-use Rattle.odb_asks.specs.MemDisk.{Volume}
-use Rattle.odb_asks.specs.declared.ask.DiskAnswer.TheVariants as answers
+use Rattle.odb_disk.specs.MemDisk.{Volume}
+use Rattle.odb_disk.specs.declared.ask.DiskAnswer.TheVariants as answers
 use Rattle.gix_hash.specs.declared.object_id.ObjectId.{ObjectId}
 use Rattle.gix_object.specs.Id.{object_id}
 use Rattle.gix_object.specs.declared.kind.Kind.{Kind}
-use Rattle.gix_pack_files.specs.Index.{is_index}
-use Rattle.gix_pack_files.specs.Pack.{is_pack}
+use Rattle.gix_pack_read.specs.Index.{is_index}
+use Rattle.gix_pack_read.specs.Pack.{is_pack}
 use Rattle.gix_odb_events.specs.declared.event.Event.TheVariants as core_events
 use Rattle.gix_odb_events.specs.declared.listing.Listing.{Listing}
 use Rattle.gix_odb_events.specs.declared.pack_id.PackId.{PackId}
-use Rattle.gix_odb_packs.specs.LongestFirst.{longest_first}
+use Rattle.gix_odb_search.specs.LongestFirst.{longest_first}
 use Rattle.gix_odb_calls.specs.declared.call.CallError.{CallError}
 use Rattle.gix_odb_calls.specs.declared.call.Reply.{Reply}
 use Rattle.gix_odb_calls.specs.declared.call.Reply.TheVariants as replies
 use Rattle.gix_odb_calls.specs.declared.query.Query.{Query}
 use Rattle.gix_odb_calls.specs.declared.step.Outcome.TheVariants as outcomes
-use Rattle.gix_odb_looks.specs.LookUpOrder.{not_found}
-use Rattle.gix_odb_looks.specs.Shown.{IsIndexPath}
-use Rattle.gix_odb_look_laws.specs.AtHand.{IsAtHand}
-use Rattle.gix_odb_look_laws.specs.JustRead.{IsPackPath}
-use Rattle.gix_odb_look_laws.specs.ListedFiles.{listed_in}
+use Rattle.gix_odb.specs.LookUpOrder.{not_found}
+use Rattle.gix_odb.specs.Shown.{IsIndexPath}
+use Rattle.gix_odb.specs.AtHand.{IsAtHand}
+use Rattle.gix_odb.specs.JustRead.{IsPackPath}
+use Rattle.gix_odb.specs.ListedFiles.{listed_in}
 use Rattle.gix_odb.specs.Contents.{folder_list, sought}
-use Rattle.gix_odb_runs.specs.Event.{CoreEvent, Event}
-use Rattle.gix_odb_runs.specs.Run.{tree_at}
+use Rattle.gix_odb_history.specs.Event.{CoreEvent, Event}
+use Rattle.gix_odb_history.specs.Run.{tree_at}
 use Rattle.gix_odb_world.specs.AtWork.{Running, setting_in}
 use Rattle.gix_odb_world.specs.Told.{told_since, view_then}
 use Rattle.gix_odb_world.specs.RunLaws.Turn.{AsksCore, IsQueryTurn, IsTurnAt, IsTurnBefore, Reads}

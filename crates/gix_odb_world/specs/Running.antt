@@ -7,11 +7,11 @@ pub mod Query
 pub mod Refused
 pub mod Write
 use Rattle.std.specs.Prelude.{ℕ, ◌≤◌, List, take, length}
-use Rattle.odb_asks.specs.MemDisk.{Volume}
+use Rattle.odb_disk.specs.MemDisk.{Volume}
 use Rattle.gix_odb.specs.declared.call_state.CallStage.TheVariants as calls
 use Rattle.gix_odb_world.specs.Work.{Work}
 use Rattle.gix_odb_world.specs.Work as works
-use Rattle.gix_odb_runs.specs.Event.{Event}
+use Rattle.gix_odb_history.specs.Event.{Event}
 use Rattle.gix_odb_world.specs.Machine.{Machine}
 use Rattle.gix_odb_world.specs.Machines.{at}
 use Rattle.gix_odb_world.specs.Running.Opening.{IsOpening}

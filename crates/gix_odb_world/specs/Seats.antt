@@ -4,8 +4,8 @@ use Rattle.gix_odb_core.specs.Handles.{IsRegistered}
 use Rattle.gix_odb_core.specs.History.{History, present}
 use Rattle.gix_odb_core.specs.Replay.{snapshot_of}
 use Rattle.gix_odb_events.specs.declared.view.View.{View}
-use Rattle.gix_odb_runs.specs.Cores.{cores_after, registered_at}
-use Rattle.gix_odb_runs.specs.Event.{Event}
+use Rattle.gix_odb_history.specs.Cores.{cores_after, registered_at}
+use Rattle.gix_odb_history.specs.Event.{Event}
 use Rattle.gix_odb_world.specs.Status.{Free, MakeCall, Modes, OpenStore, Resting, Status, Task, Working, status_of}
 
 -- A handle is registered at the core of its store, under its number, and at no other one; the core was made with as many slots as the handle says; and

@@ -20,8 +20,8 @@ use Rattle.gix_odb_calls.specs.declared.step.Outcome.{Outcome}
 use Rattle.gix_odb_calls.specs.declared.step.Outcome.TheVariants as outcomes
 use Rattle.gix_odb_world.specs.Work.{Work}
 use Rattle.gix_odb_world.specs.Work.{Opening, Calling}
-use Rattle.gix_odb_runs.specs.Event.{Asked, Event, answered}
-use Rattle.gix_odb_runs.specs.Run.{IsTurnOf}
+use Rattle.gix_odb_history.specs.Event.{Asked, Event, answered}
+use Rattle.gix_odb_history.specs.Run.{IsTurnOf}
 
 -- what a handle does: nothing, since no handle has the number; rest; or work
 pub data Status : Type 0 where

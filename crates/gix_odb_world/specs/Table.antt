@@ -3,18 +3,18 @@ use Rattle.std.specs.Prelude.{◌≡◌, ℕ, ◌<◌, ◌≤◌, ◌==◌, leng
 use Rattle.std.specs.Option.{option_map}
 use Rattle.std.specs.declared.alloc.Global.{Global}
 use Rattle.odb_base.specs.Path.{Path}
-use Rattle.odb_asks.specs.Ask.{answer_now}
-use Rattle.odb_nodes.specs.Tree.{IsTree, Tree, tree_of}
-use Rattle.odb_asks.specs.MemDisk.{Volume}
-use Rattle.odb_asks.specs.declared.ask.DiskAsk.{DiskAsk}
-use Rattle.odb_nodes.specs.declared.change.Change.{Change}
+use Rattle.odb_disk.specs.Ask.{answer_now}
+use Rattle.odb_disk.specs.Tree.{IsTree, Tree, tree_of}
+use Rattle.odb_disk.specs.MemDisk.{Volume}
+use Rattle.odb_disk.specs.declared.ask.DiskAsk.{DiskAsk}
+use Rattle.odb_disk.specs.declared.change.Change.{Change}
 use Rattle.gix_hash.specs.declared.kind.Kind.{Kind as HashKind}
 use Rattle.gix_odb_calls.specs.declared.call.Reply.{Reply}
 use Rattle.gix_odb_calls.specs.declared.step.Step.{Step}
 use Rattle.gix_odb_calls.specs.declared.step.Step.TheVariants as steps
 use Rattle.gix_odb_calls.specs.declared.step.Outcome.{Outcome}
 use Rattle.gix_odb_calls.specs.declared.step.Why.{Why}
-use Rattle.gix_odb_runs.specs.declared.record.Did.{Did}
+use Rattle.gix_odb_history.specs.declared.record.Did.{Did}
 use Rattle.gix_odb_world.specs.Handle.{HandleParts, Seen, seen}
 use Rattle.gix_odb_world.specs.declared.handle.Handle.{Handle}
 use Rattle.gix_odb_world.specs.declared.handle.HandleAt.{HandleAt}
@@ -28,23 +28,23 @@ use Rattle.gix_odb_events.specs.Answers.{view_in}
 use Rattle.gix_odb_events.specs.declared.answer.Answer.TheVariants as told
 use Rattle.gix_odb_events.specs.declared.answer.Ask.{Ask}
 use Rattle.gix_odb_events.specs.declared.answer.Ask.TheVariants as asks
-use Rattle.gix_odb_looks.specs.Exchange.{IsAnswerTo}
-use Rattle.gix_odb_looks.specs.LookUpOrder.{view_of}
+use Rattle.gix_odb.specs.LookExchanges.{IsAnswerTo}
+use Rattle.gix_odb.specs.LookUpOrder.{view_of}
 use Rattle.gix_odb.specs.declared.open_state.OpenStage.TheVariants as opens
 use Rattle.gix_odb_world.specs.Work.{Opening}
 use Rattle.gix_odb_world.specs.declared.turn.Carried.{Carried as Done}
 use Rattle.gix_odb_world.specs.declared.turn.Told.{Told}
 use Rattle.gix_odb_world.specs.declared.turn.Turned.{Turned}
 use Rattle.gix_odb_world.specs.declared.turn.Told.TheVariants as tells
-use Rattle.gix_odb_shown.specs.Kept.{Fits, Kept}
-use Rattle.gix_odb_shown.specs.declared.revealed.Revealed.{Revealed}
-use Rattle.gix_odb_runs.specs.Cores.{answer_behind, cores_after_asked, history_at, or_before, registered_at}
-use Rattle.gix_odb_runs.specs.Event.{Asked, CoreAnswer, CoreEvent, OfCore, OfDisk, OfNewCore, OfNothing, answered}
+use Rattle.gix_odb_watch.specs.Kept.{Fits, Kept}
+use Rattle.gix_odb_watch.specs.declared.revealed.Revealed.{Revealed}
+use Rattle.gix_odb_history.specs.Cores.{answer_behind, cores_after_asked, history_at, or_before, registered_at}
+use Rattle.gix_odb_history.specs.Event.{Asked, CoreAnswer, CoreEvent, OfCore, OfDisk, OfNewCore, OfNothing, answered}
 use Rattle.gix_odb_events.specs.PackId.{most_slots}
 use Rattle.gix_odb_events.specs.declared.view.View.{View}
-use Rattle.gix_odb_runs.specs.Made.{first_answer}
+use Rattle.gix_odb_history.specs.Made.{first_answer}
 use Rattle.gix_odb_world.specs.Recorded.{opened_in}
-use Rattle.gix_odb_runs.specs.Run.{change_asked, did_of, did_of_asked, disk_after_asked, stand, told_now}
+use Rattle.gix_odb_history.specs.Run.{change_asked, did_of, did_of_asked, disk_after_asked, stand, told_now}
 use Rattle.gix_odb_world.specs.Status.{after_reply}
 use Rattle.gix_odb_world.specs.WorkOrder.{ask_on, fed_after, fed_on, result_in}
 use Rattle.gix_odb_world.specs.declared.course.Course.{Course}

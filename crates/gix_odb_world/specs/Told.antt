@@ -8,21 +8,21 @@ use Rattle.gix_odb_events.specs.declared.answer.Answer.TheVariants as told
 use Rattle.gix_odb_events.specs.declared.answer.Ask.TheVariants as asks
 use Rattle.gix_odb_calls.specs.declared.query.Query.{Query}
 pub use Rattle.gix_odb_calls.specs.Query.{call_of}
-use Rattle.gix_odb_looks.specs.Exchange.{Exchange, behind}
-use Rattle.gix_odb_looks.specs.LookUpOrder.{started}
-use Rattle.gix_odb_looks.specs.declared.look_up.LookUp.{LookUp}
-use Rattle.gix_odb_refresh.specs.RefreshOrder as refreshes
-use Rattle.gix_odb_refresh.specs.Refreshed as refreshed
-use Rattle.gix_odb_refresh.specs.declared.refresh.RefreshStep.{RefreshStep}
+use Rattle.gix_odb.specs.LookExchanges.{Exchange, behind}
+use Rattle.gix_odb.specs.LookUpOrder.{started}
+use Rattle.gix_odb.specs.declared.look_up.LookUp.{LookUp}
+use Rattle.gix_odb.specs.RefreshOrder as refreshes
+use Rattle.gix_odb.specs.Refreshed as refreshed
+use Rattle.gix_odb.specs.declared.refresh.RefreshStep.{RefreshStep}
 use Rattle.gix_odb.specs.Contents.{sought}
 use Rattle.gix_odb.specs.HandleState.{unseen}
 use Rattle.gix_odb.specs.OpenExchanges as openings
 use Rattle.gix_odb.specs.declared.open_state.OpenStage.{OpenStage}
 use Rattle.gix_odb.specs.declared.open_state.OpenStage.TheVariants as opens
 use Rattle.gix_odb_world.specs.AtWork.{Modes, Store, setting_in}
-use Rattle.gix_odb_runs.specs.Cores.{cores_after, history_at}
-use Rattle.gix_odb_runs.specs.Event.{Asked, Event, OfCore, OfDisk, OfNewCore, OfNothing}
-use Rattle.gix_odb_runs.specs.Turned.{is_turn_of}
+use Rattle.gix_odb_history.specs.Cores.{cores_after, history_at}
+use Rattle.gix_odb_history.specs.Event.{Asked, Event, OfCore, OfDisk, OfNewCore, OfNothing}
+use Rattle.gix_odb_history.specs.Turned.{is_turn_of}
 
 -- what was asked and answered, where it was a call of the disk or an event of a core that was there
 abbrev pub exchange_of : Asked → Option Exchange

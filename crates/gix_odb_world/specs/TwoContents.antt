@@ -2,18 +2,18 @@
 -- two contents, and its multi-pack index shows no two at one time. Links are followed.
 use Rattle.std.specs.Prelude.{◌≡◌, ℕ, ◌+◌, List, [], ◌∷◌, fold, length, Option, Some, None}
 use Rattle.odb_base.specs.Path.{Path}
-use Rattle.odb_asks.specs.MemDisk.{Volume}
-use Rattle.odb_nodes.specs.Tree.{tree_of}
-use Rattle.odb_nodes.specs.Tree.Change.{changed}
-use Rattle.odb_nodes.specs.declared.change.Change.{Change}
-use Rattle.gix_odb_shown.specs.HasShown.{HasShown, Since, ShowsSecond, with_since}
+use Rattle.odb_disk.specs.MemDisk.{Volume}
+use Rattle.odb_disk.specs.Tree.{tree_of}
+use Rattle.odb_disk.specs.Tree.Change.{changed}
+use Rattle.odb_disk.specs.declared.change.Change.{Change}
+use Rattle.gix_odb_watch.specs.HasShown.{HasShown, Since, ShowsSecond, with_since}
 use Rattle.gix_odb_calls.specs.declared.step.Step.{Step}
 use Rattle.gix_odb_calls.specs.declared.step.Step.TheVariants as steps
 use Rattle.gix_odb_calls.specs.declared.step.Outcome.{Outcome}
 use Rattle.gix_odb_calls.specs.declared.step.Outcome.TheVariants as outcomes
-use Rattle.gix_odb_runs.specs.Event.{Event}
+use Rattle.gix_odb_history.specs.Event.{Event}
 use Rattle.gix_odb_world.specs.Machines.{ask_in}
-use Rattle.gix_odb_runs.specs.Run.{change_asked, disk_after, tree_at}
+use Rattle.gix_odb_history.specs.Run.{change_asked, disk_after, tree_at}
 use Rattle.gix_odb_world.specs.Status.{Status, Working, status_of}
 
 -- ---- since when folders are watched

@@ -1,22 +1,22 @@
 -- Runs in which other programs leave the temporary files of writes alone, and what writes leave alone of one another there.
 use Rattle.std.specs.Prelude.{◌≡◌, ◌≢◌, ◌⊎◌, ℕ, ◌+◌, ◌<◌, ◌≤◌, true, List, [], take, slice_get, Some, Ok}
 use Rattle.odb_base.specs.Path.{Path}
-use Rattle.odb_asks.specs.MemDisk.{Volume}
-use Rattle.odb_nodes.specs.Tree.{Tree}
-use Rattle.odb_nodes.specs.Tree.Way.{SameOnWay, crosses}
-use Rattle.odb_nodes.specs.Tree.Write.{file_spot}
-use Rattle.odb_asks.specs.declared.ask.DiskAnswer.TheVariants as answers
-use Rattle.odb_asks.specs.declared.ask.DiskAsk.TheVariants as asks
-use Rattle.odb_nodes.specs.declared.change.Change.{Change}
-use Rattle.odb_nodes.specs.declared.change.Change.TheVariants.{PutFile, Rename}
+use Rattle.odb_disk.specs.MemDisk.{Volume}
+use Rattle.odb_disk.specs.Tree.{Tree}
+use Rattle.odb_disk.specs.Tree.Way.{SameOnWay, crosses}
+use Rattle.odb_disk.specs.Tree.Write.{file_spot}
+use Rattle.odb_disk.specs.declared.ask.DiskAnswer.TheVariants as answers
+use Rattle.odb_disk.specs.declared.ask.DiskAsk.TheVariants as asks
+use Rattle.odb_disk.specs.declared.change.Change.{Change}
+use Rattle.odb_disk.specs.declared.change.Change.TheVariants.{PutFile, Rename}
 use Rattle.gix_odb_loose.specs.WriteOrder.{temp_path}
 use Rattle.gix_odb_loose.specs.declared.call.LooseCall.{LooseCall}
 use Rattle.gix_odb_calls.specs.declared.step.Step.TheVariants as steps
 use Rattle.gix_odb_calls.specs.declared.step.Outcome.TheVariants as outcomes
-use Rattle.gix_odb_runs.specs.Event.{Event}
+use Rattle.gix_odb_history.specs.Event.{Event}
 use Rattle.gix_odb_world.specs.Status.{IsAtWrite, Running, status_of}
-use Rattle.gix_odb_runs.specs.Run.{IsTurnOf, tree_at}
-use Rattle.gix_odb_runs.specs.Writing.{AskedAt, IsRename, LeavesAlone, LeftAlone}
+use Rattle.gix_odb_history.specs.Run.{IsTurnOf, tree_at}
+use Rattle.gix_odb_history.specs.Writing.{AskedAt, IsRename, LeavesAlone, LeftAlone}
 
 -- ---- undisturbed runs
 

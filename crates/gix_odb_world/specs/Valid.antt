@@ -9,9 +9,9 @@ use Rattle.odb_base.specs.Path.{Path, path_cmp}
 use Rattle.gix_hash.specs.declared.kind.Kind.{Kind as HashKind}
 use Rattle.gix_hash.specs.declared.object_id.ObjectId.{ObjectId}
 use Rattle.gix_hash.specs.ObjectId.{id_cmp}
-use Rattle.odb_asks.specs.MemDisk.{Volume}
-use Rattle.odb_nodes.specs.Tree.Change.{is_possible}
-use Rattle.odb_nodes.specs.declared.change.Change.{Change}
+use Rattle.odb_disk.specs.MemDisk.{Volume}
+use Rattle.odb_disk.specs.Tree.Change.{is_possible}
+use Rattle.odb_disk.specs.declared.change.Change.{Change}
 use Rattle.gix_odb_calls.specs.Hashes.{is_of_hash, is_pair_of}
 use Rattle.gix_odb_calls.specs.declared.call.Call.{Call}
 use Rattle.gix_odb_calls.specs.declared.step.Step.{Step}
@@ -21,9 +21,9 @@ use Rattle.gix_odb_calls.specs.declared.step.Outcome.TheVariants as outcomes
 use Rattle.gix_odb_calls.specs.declared.step.Why.{Why}
 use Rattle.gix_odb_calls.specs.declared.step.Why.TheVariants.{HandleTaken, BadOpen, NoHandle, NotRunning, Busy, WrongHash, ImpossibleChange, TwoContents}
 use Rattle.gix_odb_world.specs.Bound.{most_changes}
-use Rattle.gix_odb_runs.specs.Event.{Event}
+use Rattle.gix_odb_history.specs.Event.{Event}
 use Rattle.gix_odb_world.specs.Status.{Status, Free, Resting, Working, status_of}
-use Rattle.gix_odb_runs.specs.Run.{disk_after}
+use Rattle.gix_odb_history.specs.Run.{disk_after}
 use Rattle.gix_odb_world.specs.TwoContents.{BreaksRule, would_change}
 
 -- what matters of a handle for validity; for an idle one the hash of its store too

@@ -1,13 +1,13 @@
 -- What the code of a world does with what it keeps of watched paths. No public clause cites this.
 use Rattle.std.specs.Prelude.{◌≡◌, ℕ, List, Option, Some, None}
 use Rattle.odb_base.specs.Path.{Path}
-use Rattle.odb_nodes.specs.Tree.{Tree}
-use Rattle.odb_nodes.specs.Tree.Change.{changed}
-use Rattle.odb_nodes.specs.declared.change.Change.{Change}
-use Rattle.gix_odb_shown.specs.Kept.{Fits, Folders, IsSecond, Kept, Notes}
-use Rattle.gix_odb_shown.specs.HasShown.{AreBegun, Keeps, Since}
-use Rattle.gix_odb_shown.specs.Revealed.{IsRevealed}
-use Rattle.gix_odb_shown.specs.declared.revealed.Revealed.{Revealed}
+use Rattle.odb_disk.specs.Tree.{Tree}
+use Rattle.odb_disk.specs.Tree.Change.{changed}
+use Rattle.odb_disk.specs.declared.change.Change.{Change}
+use Rattle.gix_odb_watch.specs.Kept.{Fits, Folders, IsSecond, Kept, Notes}
+use Rattle.gix_odb_watch.specs.HasShown.{AreBegun, Keeps, Since}
+use Rattle.gix_odb_watch.specs.Revealed.{IsRevealed}
+use Rattle.gix_odb_watch.specs.declared.revealed.Revealed.{Revealed}
 use Rattle.gix_odb_world.specs.TwoContents.{watched_too}
 
 -- these folders are watched too from now on, by this tree

@@ -1,21 +1,21 @@
 -- How long the name of an object that a write made holds a whole encoding.
 use Rattle.std.specs.Prelude.{◌≡◌, ◌⊎◌, ℕ, ◌<◌, ◌≤◌, false, List, ◌++◌, length, take, slice_get, Some, Ok}
 use Rattle.odb_base.specs.Path.{Path}
-use Rattle.odb_asks.specs.MemDisk.{Volume}
-use Rattle.odb_nodes.specs.Tree.Follow.{read_of}
-use Rattle.odb_nodes.specs.Tree.Way.{crosses}
-use Rattle.odb_nodes.specs.Tree.Write.{spot}
-use Rattle.odb_nodes.specs.declared.change.Change.TheVariants.{Rename}
+use Rattle.odb_disk.specs.MemDisk.{Volume}
+use Rattle.odb_disk.specs.Tree.Follow.{read_of}
+use Rattle.odb_disk.specs.Tree.Way.{crosses}
+use Rattle.odb_disk.specs.Tree.Write.{spot}
+use Rattle.odb_disk.specs.declared.change.Change.TheVariants.{Rename}
 use Rattle.gix_object.specs.Loose.{header_of}
 use Rattle.gix_odb_loose.specs.LooseFile.{loose_path}
 use Rattle.gix_odb_loose.specs.declared.call.LooseCall.{LooseCall}
-use Rattle.gix_odb_runs.specs.Event.{Event}
+use Rattle.gix_odb_history.specs.Event.{Event}
 use Rattle.gix_odb_world.specs.Status.{IsAtWrite, Running, status_of}
-use Rattle.gix_odb_runs.specs.Run.{IsTurnOf, tree_at}
+use Rattle.gix_odb_history.specs.Run.{IsTurnOf, tree_at}
 use Rattle.gix_odb_world.specs.Begun.{BegunBy}
 use Rattle.gix_odb_world.specs.Undisturbed.{IsUndisturbed}
-use Rattle.gix_odb_runs.specs.Writing.{ToWrite, call_to_write, name_to_write}
-pub use Rattle.gix_odb_runs.specs.Writing.{LeavesAlone}
+use Rattle.gix_odb_history.specs.Writing.{ToWrite, call_to_write, name_to_write}
+pub use Rattle.gix_odb_history.specs.Writing.{LeavesAlone}
 
 -- the path of the object of a write
 abbrev pub name_path : ToWrite → Path

@@ -1,7 +1,7 @@
 //! The state of a world: its disk, its handles and cores, and the outcomes of its steps; and what each step does to it.
 ghost use Rattle.std.specs.Prelude.{◌≡◌, ◌≢◌, ◌<◌, ◌^◌, ◌↔◌, ℕ, IsTrue, ◌++◌, ◌∷◌, [], List, IfOk, OnOk, length, None, Some};
-ghost use Rattle.odb_asks.specs.MemDisk.{Volume};
-ghost use Rattle.gix_odb_runs.specs.Event.{Event};
+ghost use Rattle.odb_disk.specs.MemDisk.{Volume};
+ghost use Rattle.gix_odb_history.specs.Event.{Event};
 ghost use Rattle.gix_odb_world.specs.Valid.{IsReason, why_not_idle};
 ghost use Rattle.gix_odb_world.specs.Headline.{IsRun};
 ghost use Rattle.gix_odb_world.specs.World.{Continues, Explains, IsExplained, handle_at};
@@ -13,11 +13,11 @@ use crate::watch::watch_store;
 use gix_odb::CallState;
 use gix_odb_calls::{Call, IdPairs, Options, Outcome, PathList, Step, Why};
 use gix_odb_events::View;
-use gix_odb_runs::cores::{joined, journals_of, removed};
-use gix_odb_runs::{ChangeMade, Did, KeptCore, OutcomeList, Record, RecordList, Run};
-use gix_odb_shown::Shown;
+use gix_odb_history::cores::{joined, journals_of, removed};
+use gix_odb_history::{ChangeMade, Did, KeptCore, OutcomeList, Record, RecordList, Run};
+use gix_odb_watch::Shown;
 use odb_base::NoMemory;
-use odb_disk::{MemDisk, PathText};
+use odb_mem_disk::{MemDisk, PathText};
 use std::alloc::Global;
 use std::collections::BTreeMap;
 

@@ -7,7 +7,7 @@ ghost use Rattle.gix_odb_world.specs.Table.{ask_by_handle, ignoring_handle, open
 use gix_odb::{CallState, HandleState, OpenState};
 use gix_odb_events::Ask;
 use odb_base::NoMemory;
-use odb_disk::PathText;
+use odb_mem_disk::PathText;
 use std::alloc::Global;
 
 /// A handle of a world.

@@ -25,6 +25,6 @@ pub use gix_odb_calls::{
     Call, CallError, IdPairs, Line, Options, Outcome, PathList, Reply, Slots, Step, Why, find,
     init, load_index, write,
 };
-pub use gix_odb_runs::{Did, JournalList, OutcomeList, Record, RecordList, Run};
+pub use gix_odb_history::{Did, JournalList, OutcomeList, Record, RecordList, Run};
 pub use play::Play;
 pub use world::{World, is_valid};

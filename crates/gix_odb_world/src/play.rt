@@ -5,9 +5,9 @@ ghost use Rattle.gix_odb_world.specs.Played.{MakesOne, PlaysLine, PlaysTurns};
 
 use crate::world::World;
 use gix_odb_calls::{Line, Step};
-use gix_odb_runs::Run;
+use gix_odb_history::Run;
 use odb_base::{NoMemory, Sequence};
-use odb_disk::MemDisk;
+use odb_mem_disk::MemDisk;
 use std::alloc::Global;
 
 /// The result of lines: the run of the steps that they stand for, these steps, and for each line the place of its last step.

@@ -2,7 +2,7 @@
 //! the answer; where the work is done, the handle rests or is gone.
 ghost use Rattle.std.specs.Prelude.{◌≡◌, ◌<◌, ◌≤◌, [], length, IfOk, IsSome, OnOk, None, Some, true};
 ghost use Rattle.std.specs.Option.{option_map};
-ghost use Rattle.odb_asks.specs.Ask.{after_ask, answer_now};
+ghost use Rattle.odb_disk.specs.Ask.{after_ask, answer_now};
 ghost use Rattle.gix_odb.specs.CallOrder as calls;
 ghost use Rattle.gix_odb.specs.OpenOrder as openings;
 ghost use Rattle.gix_odb.specs.OpenState.{opened_handle};
@@ -11,10 +11,10 @@ ghost use Rattle.gix_odb_core.specs.History.{present};
 ghost use Rattle.gix_odb_core.specs.Replay.{CanHappen, number_behind};
 ghost use Rattle.gix_odb_events.specs.PackId.{most_slots};
 ghost use Rattle.gix_odb_events.specs.declared.answer.Answer.TheVariants as told;
-ghost use Rattle.gix_odb_runs.specs.Cores.{answer_behind, cores_after_asked, history_at, registered_at};
-ghost use Rattle.gix_odb_runs.specs.Event.{OfCore};
-ghost use Rattle.gix_odb_runs.specs.Made.{first_answer};
-ghost use Rattle.gix_odb_runs.specs.Run.{stand, told_now};
+ghost use Rattle.gix_odb_history.specs.Cores.{answer_behind, cores_after_asked, history_at, registered_at};
+ghost use Rattle.gix_odb_history.specs.Event.{OfCore};
+ghost use Rattle.gix_odb_history.specs.Made.{first_answer};
+ghost use Rattle.gix_odb_history.specs.Run.{stand, told_now};
 ghost use Rattle.gix_odb_world.specs.Handle.{opening_parts, parts_of, seen};
 ghost use Rattle.gix_odb_world.specs.Headline.{outcome_of};
 ghost use Rattle.gix_odb_world.specs.Status.{after_reply, refuses_opening};
@@ -27,11 +27,11 @@ use crate::handle::{Handle, HandleAt};
 use gix_odb::{CallState, HandleState, OpenState};
 use gix_odb_calls::{CallError, Outcome, Reply};
 use gix_odb_events::{Answer, Ask, Event, View};
-use gix_odb_runs::cores::{EventDone, added, applied};
-use gix_odb_runs::{Did, KeptCore};
-use odb_asks::{DiskAnswer, DiskAsk};
+use gix_odb_history::cores::{EventDone, added, applied};
+use gix_odb_history::{Did, KeptCore};
 use odb_base::{Boxed, NoMemory};
-use odb_disk::{MemDisk, PathText};
+use odb_disk::{DiskAnswer, DiskAsk};
+use odb_mem_disk::{MemDisk, PathText};
 use std::alloc::Global;
 
 /// What a turn did, and what its handle is fed for it.

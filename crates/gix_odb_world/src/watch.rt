@@ -2,11 +2,11 @@
 ghost use Rattle.std.specs.Prelude.{◌≡◌, ◌∷◌, IfOk, None, OnOk, Some, true};
 ghost use Rattle.std.specs.Option.{option_map};
 ghost use Rattle.std.specs.Result.{result_err};
-ghost use Rattle.odb_asks.specs.Ask.{change_of_ask};
-ghost use Rattle.odb_nodes.specs.Tree.{Tree as TreeValue, tree_of};
-ghost use Rattle.odb_nodes.specs.Tree.Change.{is_possible_in};
-ghost use Rattle.gix_odb_shown.specs.Kept.{Fits};
-ghost use Rattle.gix_odb_runs.specs.Run.{change_asked, change_by};
+ghost use Rattle.odb_disk.specs.Ask.{change_of_ask};
+ghost use Rattle.odb_disk.specs.Tree.{Tree as TreeValue, tree_of};
+ghost use Rattle.odb_disk.specs.Tree.Change.{is_possible_in};
+ghost use Rattle.gix_odb_watch.specs.Kept.{Fits};
+ghost use Rattle.gix_odb_history.specs.Run.{change_asked, change_by};
 ghost use Rattle.gix_odb_world.specs.Valid.{IsFirstReason};
 ghost use Rattle.gix_odb_world.specs.Watch.{NotesMade, ShowsSecondBy, TellsChange, Watches};
 ghost use Rattle.gix_odb_world.specs.Handle.{seen};
@@ -15,11 +15,11 @@ ghost use Rattle.gix_odb_world.specs.Table.{ask_by_handle};
 use crate::handle::Handle;
 use gix_odb_calls::{PathList, Why};
 use gix_odb_events::Ask;
-use gix_odb_runs::{ChangeMade, boxed_change};
-use gix_odb_shown::{Revealed, Shown};
-use odb_asks::DiskAsk;
+use gix_odb_history::{ChangeMade, boxed_change};
+use gix_odb_watch::{Revealed, Shown};
 use odb_base::{Boxed, NoMemory};
-use odb_disk::{Change, MemDisk, PathText, Tree};
+use odb_disk::DiskAsk;
+use odb_mem_disk::{Change, MemDisk, PathText, Tree};
 use std::alloc::Global;
 
 /// What was judged of a valid turn: what its work asks for, the change that this makes, and what watched paths show by it.

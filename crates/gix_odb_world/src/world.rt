@@ -1,7 +1,7 @@
 //! A world: its steps, one after another, and their run.
 ghost use Rattle.std.specs.Prelude.{◌↔◌, ◌∷◌, ◌++◌, ◌<◌, ◌^◌, ◌≡◌, [], IfOk, IsTrue, List, OnErr, OnOk, length};
-ghost use Rattle.odb_asks.specs.MemDisk.{Volume};
-ghost use Rattle.gix_odb_runs.specs.Event.{Event};
+ghost use Rattle.odb_disk.specs.MemDisk.{Volume};
+ghost use Rattle.gix_odb_history.specs.Event.{Event};
 ghost use Rattle.gix_odb_world.specs.Headline.{Headline, IsRun};
 ghost use Rattle.gix_odb_world.specs.Table.{HasOneMore};
 ghost use Rattle.gix_odb_world.specs.Valid.{IsReason};
@@ -9,9 +9,9 @@ ghost use Rattle.gix_odb_world.specs.World.{Continues, Explains, GoesOn};
 
 use crate::course::Course;
 use gix_odb_calls::{Outcome, Step, Why};
-use gix_odb_runs::Run;
+use gix_odb_history::Run;
 use odb_base::NoMemory;
-use odb_disk::MemDisk;
+use odb_mem_disk::MemDisk;
 use std::alloc::Global;
 use std::marker::Model;
 

@@ -3,7 +3,7 @@ use Rattle.std.specs.Prelude.{◌≡◌, ℕ, List, Vec, Option, Some, None, Res
 use Rattle.gix_hash.specs.declared.object_id.ObjectId.{ObjectId}
 use Rattle.gix_object.specs.Data.{Object, object_of}
 use Rattle.gix_object.specs.declared.data.Data.{Data}
-use Rattle.gix_pack_files.specs.declared.data.entry.Location.{Location}
+use Rattle.gix_pack_read.specs.declared.data.entry.Location.{Location}
 
 -- an object that was found, and its location in a pack, if it has one
 pub record Found : Type 0 where

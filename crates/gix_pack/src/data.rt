@@ -1,3 +1,3 @@
 //! Reading and writing packs.
-pub use gix_pack_files::data::{Entry, Error, File, Header, entry};
-pub use gix_pack_written::data::encode;
+pub use gix_pack_read::data::{Entry, Error, File, Header, entry};
+pub use gix_pack_write::data::encode;

@@ -4,14 +4,14 @@ ghost use Rattle.gix_hash.specs.declared.kind.Kind.{Kind as hash_kind};
 ghost use Rattle.gix_hash.specs.declared.object_id.ObjectId.{ObjectId as object_id};
 ghost use Rattle.gix_hash.specs.ObjectId.{kind_of};
 ghost use Rattle.gix_pack.specs.PackFind.{found_at, rows_listed, Found, IsPackOfGiven, KeepsGiven};
-ghost use Rattle.gix_pack_files.specs.declared.data.entry.Location.{Location as location_data};
+ghost use Rattle.gix_pack_read.specs.declared.data.entry.Location.{Location as location_data};
 ghost use Rattle.gix_pack.specs.declared.find.Entry.{Entry as entry_data};
 ghost use Rattle.odb_base.specs.declared.no_memory.NoMemory.{NoMemory as no_memory};
 
 use crate::cache::DecodeEntry;
 use gix_hash::ObjectId;
 use gix_object::Data;
-use gix_pack_files::data::entry::Location;
+use gix_pack_read::data::entry::Location;
 use odb_base::{ByteList, NoMemory};
 use std::alloc::Global;
 use std::sync::Wait;

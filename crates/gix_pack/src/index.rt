@@ -1,3 +1,3 @@
 //! Reading and writing pack indices.
-pub use gix_pack_files::index::{BadIndex, Entry, File, Iter};
-pub use gix_pack_written::index::encode;
+pub use gix_pack_read::index::{BadIndex, Entry, File, Iter};
+pub use gix_pack_write::index::encode;

@@ -4,7 +4,7 @@ use Rattle.std.specs.Prelude.{Result}
 use Rattle.std.specs.FinMap as finite
 use Rattle.std.specs.Result.{IsErrOf}
 use Rattle.odb_base.specs.Faults.{Rose}
-use Rattle.odb_asks.specs.Streams.{Streams, open_count}
+use Rattle.odb_disk.specs.Streams.{Streams, open_count}
 use Rattle.odb_program.specs.Session.{Delivers, Wrote}
 use Rattle.walkdir.specs.OwnStreams.{AreBack}
 use Rattle.list_walk.specs.Session.{AllListed, Ends, Session, StreamsBack, TextOf, first_of, hinted, last_of, status_by}

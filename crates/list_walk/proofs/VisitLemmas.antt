@@ -5,9 +5,9 @@ use Rattle.std.specs.Prelude.{Result, IfSome}
 use Rattle.std.specs.List.{list_any}
 use Rattle.std.specs.Option.{option_map}
 use Rattle.odb_base.specs.Path.{Path}
-use Rattle.odb_asks.specs.Streams.{Streams}
+use Rattle.odb_disk.specs.Streams.{Streams}
 use Rattle.odb_program.proofs.AddsLaws.{adds_nothing}
-use Rattle.odb_nodes.specs.Tree.{State, tree_of}
+use Rattle.odb_disk.specs.Tree.{State, tree_of}
 use Rattle.walkdir.proofs.WholeWalks.{NoneLost, if_told, whole_walk}
 use Rattle.walkdir.specs.BuiltWalk.{walking}
 use Rattle.walkdir.specs.Failures.{failures_among}

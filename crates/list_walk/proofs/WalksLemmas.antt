@@ -5,7 +5,7 @@ use Rattle.std.specs.Prelude.{Option}
 use Rattle.std.specs.List.{list_any}
 use Rattle.std.proofs.lemmas.List.{take_all}
 use Rattle.odb_base.specs.Path.{Path}
-use Rattle.odb_nodes.specs.Tree.{State}
+use Rattle.odb_disk.specs.Tree.{State}
 use Rattle.list_walk.specs.Lines.{is_error}
 use Rattle.list_walk.specs.Visits.{CutOff, Listed, Moment, Visits, VisitsCut, worse}
 use Rattle.list_walk.specs.Visits.Visits.{none, more}

@@ -5,9 +5,9 @@ use Rattle.std.specs.Prelude.{Result}
 use Rattle.std.specs.List.{list_any}
 use Rattle.std.specs.Result.{IfOk, IsErr, OnErr}
 use Rattle.std.proofs.lemmas.Result.{IfOk-from_err}
-use Rattle.odb_disk.specs.Source.{Adds}
-use Rattle.odb_nodes.specs.Tree.{State}
-use Rattle.odb_asks.specs.Streams.{Streams}
+use Rattle.odb_mem_disk.specs.Source.{Adds}
+use Rattle.odb_disk.specs.Tree.{State}
+use Rattle.odb_disk.specs.Streams.{Streams}
 use Rattle.walkdir.proofs.WholeWalks.{begun_keeps}
 use Rattle.walkdir.specs.Failures.{failures_among, failures_given}
 use Rattle.walkdir.specs.Options.{Built}

@@ -1,8 +1,8 @@
 -- The walk of a folder that is asked for.
 use Rattle.std.specs.Prelude.{ℕ, Bool, true, false, max, min, [], Option, Some, None}
 use Rattle.odb_base.specs.Path.{Path, name_cmp}
-use Rattle.odb_asks.specs.Streams.{Streams}
-use Rattle.odb_nodes.specs.Tree.{Tree}
+use Rattle.odb_disk.specs.Streams.{Streams}
+use Rattle.odb_disk.specs.Tree.{Tree}
 use Rattle.walkdir.specs.Entry.{file_name_of}
 use Rattle.walkdir.specs.Options.{default_options}
 use Rattle.walkdir.specs.Progress.{Progress}

@@ -3,11 +3,11 @@ use Rattle.std.specs.Prelude.{◌≡◌, ℕ, Bool, true, false, List, [], ◌�
 use Rattle.std.specs.Iterator.{Yields}
 use Rattle.std.specs.List.{flat_map, list_any}
 use Rattle.odb_base.specs.Path.{text_of}
-use Rattle.odb_disk.specs.Source.{Adds}
-use Rattle.odb_asks.specs.Streams.{Streams}
-use Rattle.odb_nodes.specs.Tree.{State}
-use Rattle.odb_nodes.specs.declared.disk_error.DiskError.{DiskError}
-use Rattle.odb_nodes.specs.declared.disk_error.DiskError.TheVariants as refusals
+use Rattle.odb_mem_disk.specs.Source.{Adds}
+use Rattle.odb_disk.specs.Streams.{Streams}
+use Rattle.odb_disk.specs.Tree.{State}
+use Rattle.odb_disk.specs.declared.disk_error.DiskError.{DiskError}
+use Rattle.odb_disk.specs.declared.disk_error.DiskError.TheVariants as refusals
 use Rattle.walkdir.specs.Error.{disk_error_of, text_of_error}
 use Rattle.walkdir.specs.Failures.{failures_among}
 use Rattle.walkdir.specs.Progress.{FailsByFault, Keeps, Progress, Steps, is_lost}

@@ -1,9 +1,9 @@
 -- What the program promises of each status, by its words, its disk and its two sinks.
 use Rattle.std.specs.Prelude.{◌≡◌, ◌⊎◌, ℕ, Bool, true, false, List, [], Option, Result, Ok, Err, if◌then◌else◌}
 use Rattle.odb_base.specs.Faults.{Rose}
-use Rattle.odb_asks.specs.Streams.{Streams}
+use Rattle.odb_disk.specs.Streams.{Streams}
 use Rattle.odb_program.specs.Session.{Output, Wrote, WroteFront}
-use Rattle.odb_nodes.specs.Tree.{State}
+use Rattle.odb_disk.specs.Tree.{State}
 use Rattle.walkdir.specs.OwnStreams.{AreBack}
 use Rattle.list_walk.specs.Asked.{options_of}
 use Rattle.list_walk.specs.Visits.{Moment, Visits, VisitsCut}

@@ -1,8 +1,8 @@
 -- What is promised of walks from folders, one after the other.
 use Rattle.std.specs.Prelude.{◌≡◌, ℕ, List, [], ◌∷◌, ◌++◌, Option, Result, Ok, Err, IfSome}
 use Rattle.odb_base.specs.Path.{Path}
-use Rattle.odb_asks.specs.Streams.{Streams}
-use Rattle.odb_nodes.specs.Tree.{State, tree_of}
+use Rattle.odb_disk.specs.Streams.{Streams}
+use Rattle.odb_disk.specs.Tree.{State, tree_of}
 use Rattle.walkdir.specs.Failures.{Costs, failures_among}
 use Rattle.walkdir.specs.Progress.{Progress}
 use Rattle.walkdir.specs.Walk.{IsWalk}

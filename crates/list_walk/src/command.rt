@@ -5,7 +5,7 @@ ghost use Rattle.list_walk.specs.Command.{about, command_of, command_with, decid
 use crate::misread::{Misread, told_of};
 use crate::words::{Asked, asked_of};
 use odb_base::{ByteList, NoMemory};
-use odb_disk::PathText;
+use odb_mem_disk::PathText;
 use std::alloc::Global;
 
 /// The command that the words of the command line give.

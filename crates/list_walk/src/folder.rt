@@ -5,7 +5,7 @@ ghost use Rattle.list_walk.specs.Folder.{above, along, folder_of, is_absolute, l
 
 use crate::misread::Misread;
 use odb_base::NoMemory;
-use odb_disk::{BadPath, PathText};
+use odb_mem_disk::{BadPath, PathText};
 use std::alloc::{AllocError, Global};
 
 /// The path so far, as the parts of a name lead.

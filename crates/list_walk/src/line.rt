@@ -2,9 +2,9 @@
 ghost use Rattle.std.specs.Prelude.{◌≡◌, ◌≤◌, ℕ, Ok, Err, take, string_bytes, IfOk, OnOk, OnErr, IsErrOf};
 ghost use Rattle.list_walk.specs.Lines.{error_of, line_of, system_words};
 ghost use Rattle.odb_base.specs.Faults.{Rose};
-ghost use Rattle.odb_disk.specs.Source.{Adds};
+ghost use Rattle.odb_mem_disk.specs.Source.{Adds};
 
-use odb_disk::{DiskError, Failed, Sink, write_all};
+use odb_mem_disk::{DiskError, Failed, Sink, write_all};
 use std::alloc::{AllocError, Global};
 use walkdir::DirEntry;
 
@@ -55,7 +55,7 @@ impl From<Failed> for LineError {
 impl Lines {
     ghost use Rattle.std.specs.Prelude.{◌≡◌, ◌++◌, ◌≤◌, [], ℕ, Ok, take, string_bytes, OnOk, OnErr, IsErrOf};
     ghost use Rattle.odb_base.specs.Faults.{HasCause, Rose};
-    ghost use Rattle.odb_disk.specs.Source.{Adds};
+    ghost use Rattle.odb_mem_disk.specs.Source.{Adds};
     ghost use Rattle.list_walk.specs.Lines.{error_of, line_of, TakesFront};
 
     /// No lines. It allocates no memory.

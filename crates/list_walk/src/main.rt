@@ -15,8 +15,8 @@ mod words;
 
 use crate::status::Status;
 use odb_base::NoMemory;
-use odb_disk::StdSink;
 use odb_host::HostDisk;
+use odb_mem_disk::StdSink;
 use odb_program::{command_words, finish, working_folder};
 use std::io;
 use std::process::ExitCode;

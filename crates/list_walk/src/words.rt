@@ -9,7 +9,7 @@ ghost use Rattle.odb_base.specs.Decimal.{number_of};
 use crate::folder::folder_of;
 use crate::misread::{Misread, told_of};
 use odb_base::{ByteList, NoMemory, Sequence, parse_decimal};
-use odb_disk::PathText;
+use odb_mem_disk::PathText;
 use std::alloc::Global;
 
 /// What is listed: folders, at least one, in their order, and how each of them is walked.

@@ -2,7 +2,7 @@
 use Rattle.std.proofs.Common.{◌≡◌, ℕ, ◌<◌, List, [], ◌++◌, length, take, drop, refl, sym, ap, ◌∙◌, subst, Option, Some, None, IfSome, Ok, append_assoc}
 use Rattle.std.proofs.lemmas.List.{append-nil, take-append-drop}
 use Rattle.std.proofs.Math.Seq.{drop-append_seam}
-use Rattle.odb_disk.specs.Source.{Reads, Takes as takes_once}
+use Rattle.odb_mem_disk.specs.Source.{Reads, Takes as takes_once}
 use Rattle.gix_object.specs.Stream.{Takes}
 
 -- what was left is what was read so far, and what is left now

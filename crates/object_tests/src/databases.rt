@@ -6,7 +6,7 @@ use crate::front::Front;
 use crate::shelf::Shelf;
 use gix_hash::ObjectId;
 use gix_object::{Data, Exists, Find, FindHeader, Header, Kind, Write, WriteTo};
-use odb_disk::{MemSink, MemSource};
+use odb_mem_disk::{MemSink, MemSource};
 use std::alloc::{AllocError, Global};
 use std::sync::Wait;
 use std::test::Fail;

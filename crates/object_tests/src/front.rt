@@ -3,7 +3,7 @@ ghost use Rattle.std.specs.Prelude.{◌≡◌};
 
 use gix_hash::ObjectId;
 use gix_object::{Data, Exists, Find, FindHeader, Header, Kind, Write, WriteTo};
-use odb_disk::Source;
+use odb_mem_disk::Source;
 use std::alloc::Global;
 use std::sync::Wait;
 

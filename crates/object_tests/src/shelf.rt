@@ -5,7 +5,7 @@ ghost use Rattle.gix_object.specs.Stream.{stream_of, IsDrawn, IsWhole};
 use gix_hash::ObjectId;
 use gix_object::{Data, Exists, Find, FindHeader, Header, Kind, Write, WriteTo, compute_hash};
 use odb_base::{ByteList, NoMemory};
-use odb_disk::{Failed, MemSink, Source};
+use odb_mem_disk::{Failed, MemSink, Source};
 use std::alloc::{AllocError, Global};
 use std::sync::Wait;
 

@@ -1,25 +1,26 @@
-//! A disk in memory.
+//! What a disk is: its tree, how a path is followed, what a change makes of the tree, what a directory lists, the calls of a
+//! disk as values, and the trait of a disk.
 //!
-//! It answers by its tree, and fails exactly at the listed calls. Read `mem_disk` first. `odb_asks` has the trait of
-//! disks and calls as values, `odb_nodes` trees, `odb_tree` a tree in memory, `odb_sources` sources and sinks; this
-//! crate re-exports the names of all.
+//! Each call of a disk answers by its tree, where the disk shows it, and fails only where the disk's count of faults rose.
+//! Read `specs/Tree.antt` first, then `disk` and `ask`. A disk in memory is in `odb_mem_disk`, a real one in `odb_host`.
 //! ```rust
-//! let mut disk = MemDisk::new(alloc)?;
-//! let path = PathText::parse(alloc, "/o")?;
-//! disk.change(alloc, &Change::MakeDir { path, dev: 0 })?;
+//! let ask = DiskAsk::Read { path: PathText::parse(alloc, "/o/a")? };
+//! let answer = ask.carry_out(alloc, &mut disk);
 //! ```
 #![tactic(auto)]
 
-mod dir_streams;
-mod mem_ask;
-mod mem_disk;
+mod ask;
+mod change;
+mod disk;
+mod disk_error;
+mod entry;
+mod meta;
+mod node;
 
-pub use dir_streams::DirStreams;
-pub use mem_disk::MemDisk;
-pub use odb_asks::{DirId, Disk, DiskAnswer, DiskAsk, Op};
-pub use odb_base::{BadPath, ByteList, NoMemory, PathName, PathText};
-pub use odb_nodes::{Change, DiskError, Entry, EntryQueue, Impossible, Kind, Meta};
-pub use odb_sources::{
-    Failed, MemSink, MemSource, ReadError, Sink, Source, StdSink, StdSource, read_file, write_all,
-};
-pub use odb_tree::Tree;
+pub use ask::{DiskAnswer, DiskAsk, Op};
+pub use change::{Change, Impossible};
+pub use disk::{DirId, Disk};
+pub use disk_error::DiskError;
+pub use entry::{Entry, EntryQueue};
+pub use meta::{Kind, Meta};
+pub use node::{Content, Node};

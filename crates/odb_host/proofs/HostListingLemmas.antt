@@ -8,9 +8,9 @@ use Rattle.std.specs.declared.io.Error.{Error}
 use Rattle.std.proofs.iter.Next.{Yields-more}
 use Rattle.std.proofs.lemmas.List.Elements.{All-nil, All-push}
 use Rattle.std.proofs.lemmas.Slice.Zip.{all_zipped_more}
-use Rattle.odb_nodes.specs.declared.disk_error.DiskError.{DiskError}
-use Rattle.odb_nodes.specs.declared.disk_error.DiskError.TheVariants as errors
-use Rattle.odb_nodes.specs.declared.entry.Entry.{Entry}
+use Rattle.odb_disk.specs.declared.disk_error.DiskError.{DiskError}
+use Rattle.odb_disk.specs.declared.disk_error.DiskError.TheVariants as errors
+use Rattle.odb_disk.specs.declared.entry.Entry.{Entry}
 use Rattle.odb_host.specs.HostListing.{GivesAll, IsFoundIn, IsListing, IsUnlisted, ListsAll, ListsNone, Takes, bare_listing, listed, with_found}
 use Rattle.odb_host.specs.declared.host_listing.Found.{Found}
 use Rattle.odb_host.specs.declared.host_listing.Unnamed.{Unnamed}

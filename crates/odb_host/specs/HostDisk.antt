@@ -8,14 +8,14 @@ use Rattle.std.specs.declared.fs.Metadata.{Metadata}
 use Rattle.std.specs.declared.fs.OpenOptions.{OpenOptions}
 use Rattle.std.specs.Fs.{file_type, metadata_len, new_options, with_append}
 use Rattle.odb_base.specs.Path.{Name, is_name}
-use Rattle.odb_nodes.specs.declared.entry.Entry.{Entry}
-use Rattle.odb_nodes.specs.declared.meta.Kind.{Kind}
-use Rattle.odb_nodes.specs.declared.meta.Kind.TheVariants.{File, Dir, Link}
-use Rattle.odb_nodes.specs.declared.meta.Meta.{Meta}
-use Rattle.odb_nodes.specs.declared.disk_error.DiskError.{DiskError}
-use Rattle.odb_nodes.specs.declared.disk_error.DiskError.TheVariants as errors
-use Rattle.odb_sources.specs.declared.source.ReadError.{ReadError}
-use Rattle.odb_sources.specs.declared.source.ReadError.TheVariants as read_errors
+use Rattle.odb_disk.specs.declared.entry.Entry.{Entry}
+use Rattle.odb_disk.specs.declared.meta.Kind.{Kind}
+use Rattle.odb_disk.specs.declared.meta.Kind.TheVariants.{File, Dir, Link}
+use Rattle.odb_disk.specs.declared.meta.Meta.{Meta}
+use Rattle.odb_disk.specs.declared.disk_error.DiskError.{DiskError}
+use Rattle.odb_disk.specs.declared.disk_error.DiskError.TheVariants as errors
+use Rattle.odb_base.specs.declared.source.ReadError.{ReadError}
+use Rattle.odb_base.specs.declared.source.ReadError.TheVariants as read_errors
 
 -- The most bytes that are read of one file, and the most entries of one directory. Both are held in memory whole, so
 -- what is larger is a fault: 4 GiB, and 2 ^ 24 names.

@@ -6,9 +6,9 @@ use Rattle.std.specs.Fs.{dir_entry_name}
 use Rattle.std.specs.declared.fs.DirEntry.{DirEntry}
 use Rattle.std.specs.declared.io.Error.{Error}
 use Rattle.odb_host.specs.HostDisk.{found_entry, is_odd}
-use Rattle.odb_nodes.specs.declared.entry.Entry.{Entry}
-use Rattle.odb_nodes.specs.declared.disk_error.DiskError.{DiskError}
-use Rattle.odb_nodes.specs.declared.disk_error.DiskError.TheVariants as errors
+use Rattle.odb_disk.specs.declared.entry.Entry.{Entry}
+use Rattle.odb_disk.specs.declared.disk_error.DiskError.{DiskError}
+use Rattle.odb_disk.specs.declared.disk_error.DiskError.TheVariants as errors
 use Rattle.odb_host.specs.declared.host_listing.Found.{Found}
 use Rattle.odb_host.specs.declared.host_listing.Unnamed.{Unnamed}
 use Rattle.odb_host.specs.declared.host_listing.Unnamed.TheVariants.{NoMemory, Unreadable}

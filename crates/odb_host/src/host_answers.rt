@@ -4,7 +4,7 @@ ghost use Rattle.std.specs.Result.{result_map_both};
 ghost use Rattle.std.specs.IoError.{error_kind};
 ghost use Rattle.odb_host.specs.HostDisk.{MetaOf, refusal_of, read_refusal, no_directory, only_file, replaceable, kind_of, meta_from, time_of};
 
-use odb_disk::{ByteList, DiskError, Kind, Meta, ReadError};
+use odb_mem_disk::{ByteList, DiskError, Kind, Meta, ReadError};
 use std::fs::{FileType, Metadata};
 use std::io::{self, ErrorKind};
 use std::os::unix::fs::MetadataExt;

@@ -7,7 +7,7 @@ ghost use Rattle.odb_host.specs.HostDisk.{append_options};
 use crate::host_answers::{
     answered, appended, created, no_directory, only_file, replaceable, told_of, within,
 };
-use odb_disk::{ByteList, DiskError, Kind, Meta, StdSource, read_file};
+use odb_mem_disk::{ByteList, DiskError, Kind, Meta, StdSource, read_file};
 use std::alloc::Global;
 use std::fs::{self, File, OpenFile, OpenOptions};
 use std::io::Write;

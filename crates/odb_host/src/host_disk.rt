@@ -1,9 +1,9 @@
 //! A real disk: its runtime, its open streams, and how often a call failed.
 ghost use Rattle.std.specs.Prelude.{◌≡◌, ◌≢◌, Err};
-ghost use Rattle.odb_asks.specs.Disk.{FailsOnlyByFault};
-ghost use Rattle.odb_asks.specs.Streams.{no_streams};
+ghost use Rattle.odb_disk.specs.Disk.{FailsOnlyByFault};
+ghost use Rattle.odb_disk.specs.Streams.{no_streams};
 
-use odb_disk::{DirStreams, DiskError};
+use odb_mem_disk::{DirStreams, DiskError};
 use std::alloc::Global;
 use std::rt::Files;
 

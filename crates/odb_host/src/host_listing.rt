@@ -7,7 +7,7 @@ ghost use Rattle.odb_host.specs.HostDisk.{refusal_of, found_entry, is_odd};
 ghost use Rattle.odb_host.specs.HostListing.{IsFoundIn, ListsAll, ListsNone, Takes, bare_listing, with_found};
 
 use crate::host_answers::{refusal_of, told_of};
-use odb_disk::{DiskError, Entry, EntryQueue, Meta, NoMemory, PathName};
+use odb_mem_disk::{DiskError, Entry, EntryQueue, Meta, NoMemory, PathName};
 use std::alloc::{Allocator, Global};
 use std::fs::DirEntry;
 use std::io;

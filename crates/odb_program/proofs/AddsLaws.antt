@@ -1,7 +1,7 @@
 -- Laws of what a sink gets piece by piece.
 use Rattle.std.proofs.Common.{ℕ, ◌+◌, List, [], ◌++◌, length, take, Option, Some, None, refl, sym, ap, subst, ◌∙◌, append_assoc, append-nil}
 use Rattle.std.proofs.Math.Seq.{take-append-add}
-use Rattle.odb_disk.specs.Source.{Adds}
+use Rattle.odb_mem_disk.specs.Source.{Adds}
 
 pub adds_nothing : (held : Option (List ℕ)) → Adds held held []
 adds_nothing None = refl

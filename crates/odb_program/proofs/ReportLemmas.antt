@@ -1,6 +1,6 @@
 -- The pieces of a line that is written to standard error.
 use Rattle.std.proofs.Common.{ℕ, List, ◌++◌, codes, Option}
-use Rattle.odb_disk.specs.Source.{Adds}
+use Rattle.odb_mem_disk.specs.Source.{Adds}
 use Rattle.odb_program.specs.Report.{line_of}
 use Rattle.odb_program.proofs.AddsLaws.{adds_both}
 

@@ -1,7 +1,7 @@
 -- Laws of sessions, for programs: what was read from a source, and what a delivery says of a status.
 use Rattle.std.proofs.Common.{◌≡◌, inl, inr, ℕ, ◌≤◌, List, [], ◌++◌, length, sym, ap, ◌∙◌, subst, Option, Some, None}
 use Rattle.std.specs.Prelude.{IfSome}
-use Rattle.odb_disk.specs.Source.{ReadsFile}
+use Rattle.odb_mem_disk.specs.Source.{ReadsFile}
 use Rattle.odb_program.specs.Session.{Delivers, FailedWrite, Finished, Output, ReadToEnd}
 
 -- ---- what was read

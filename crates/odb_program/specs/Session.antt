@@ -2,7 +2,7 @@
 -- `T`, and says by a relation `Writes` which bytes are a whole output with which status.
 use Rattle.std.specs.Prelude.{◌≡◌, ◌⊎◌, ℕ, List, [], take, Option, Some, None}
 use Rattle.odb_base.specs.Faults.{Rose}
-use Rattle.odb_disk.specs.Source.{Adds}
+use Rattle.odb_mem_disk.specs.Source.{Adds}
 
 -- the bytes left in a source, if it reports them, and its count of faults, before and after a session
 pub record Input : Type 0 where

@@ -2,7 +2,7 @@
 ghost use Rattle.odb_program.specs.Session.{Delivers, output_of};
 
 use crate::status::SessionStatus;
-use odb_disk::{Failed, Sink, write_all};
+use odb_mem_disk::{Failed, Sink, write_all};
 
 /// Writes an output, and returns its status; that of a failed write if the sink fails.
 pub fn answer<K: Sink, T: SessionStatus>(sink: &mut K, output: &[u8], status: T) -> T

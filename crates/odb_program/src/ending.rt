@@ -6,7 +6,7 @@ ghost use Rattle.odb_program.specs.Session.{output_of};
 
 use crate::standard_error::report;
 use crate::status::{SessionStatus, exit_code};
-use odb_disk::Sink;
+use odb_mem_disk::Sink;
 use std::process::ExitCode;
 
 /// Writes the note of a status to standard error, after the program's name, and returns the exit code.

@@ -1,10 +1,10 @@
 //! What a program writes to standard error.
 ghost use Rattle.std.specs.Prelude.{OnOk};
 ghost use Rattle.odb_base.specs.Faults.{HasCause};
-ghost use Rattle.odb_disk.specs.Source.{Adds};
+ghost use Rattle.odb_mem_disk.specs.Source.{Adds};
 ghost use Rattle.odb_program.specs.Report.{line_of, report_of};
 
-use odb_disk::{Failed, Sink, write_all};
+use odb_mem_disk::{Failed, Sink, write_all};
 
 /// Writes a note as a line after the program's name; nothing if the note is empty. It allocates no memory.
 #[tactic(auto, using(crate::proofs::AddsLaws::adds_nothing), unfolding(crate::specs::Report::report_of))]

@@ -5,7 +5,7 @@ use Rattle.std.specs.List.{list_all}
 use Rattle.odb_base.proofs.DecimalLemmas.{number_of-decimal}
 use Rattle.odb_base.specs.Path.{Path, is_name, text_of}
 use Rattle.odb_base.specs.PathLaws.{path_of-text_of}
-use Rattle.odb_nodes.specs.declared.change.Change.TheVariants as changes
+use Rattle.odb_disk.specs.declared.change.Change.TheVariants as changes
 use Rattle.gix_odb_calls.specs.declared.step.Step.TheVariants as steps
 use Rattle.gix_odb_calls.specs.declared.line.Line.TheVariants.{One}
 use Rattle.odb_script.specs.declared.item.Item.TheVariants as items

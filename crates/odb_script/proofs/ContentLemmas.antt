@@ -9,11 +9,11 @@ use Rattle.gix_object.specs.declared.kind.Kind.{Kind}
 use Rattle.gix_object.specs.declared.kind.Kind.TheVariants.{Commit, Tree, Blob, Tag}
 use Rattle.gix_object.specs.Kind.{kind_word, kind_of_word}
 use Rattle.gix_object.specs.Loose.{header_of}
-use Rattle.gix_pack_written.specs.declared.object.Object.{Object}
-use Rattle.gix_multi_index_written.specs.declared.named_pack.NamedPack.{NamedPack}
-use Rattle.gix_pack_written.specs.WrittenPack.{object_seen, pack_of}
-use Rattle.gix_pack_written.specs.WrittenIndex.{index_of}
-use Rattle.gix_multi_index_written.specs.WrittenMultiIndex.{CanBeWritten, named_seen, multi_index_of_packs}
+use Rattle.gix_pack_write.specs.declared.object.Object.{Object}
+use Rattle.gix_pack_write.specs.declared.multi_index.named_pack.NamedPack.{NamedPack}
+use Rattle.gix_pack_write.specs.WrittenPack.{object_seen, pack_of}
+use Rattle.gix_pack_write.specs.WrittenIndex.{index_of}
+use Rattle.gix_pack_write.specs.WrittenMultiIndex.{CanBeWritten, named_seen, multi_index_of_packs}
 use Rattle.odb_script.specs.Content.{are_few, content_of, data_of, is_encoded, items_of, named_pack_of, object_of, objects_of, pack_by, packs_of, with_item}
 use Rattle.odb_script.proofs.PackLemmas.{can_be_written-true}
 use Rattle.odb_script.proofs.SplitLemmas.{after_first-followed, before_first-followed, lacks, slice_split-join}

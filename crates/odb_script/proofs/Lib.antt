@@ -1,3 +1,4 @@
+-- Laws of these lines, for callers.
 pub mod LineLemmas
 pub mod ChangeLemmas
 pub mod OptionLemmas
@@ -8,3 +9,10 @@ pub mod SplitLemmas
 pub mod TextLemmas
 mod PackLemmas
 mod OpeningLemmas
+mod PartLemmas
+mod ToldLemmas
+mod SpelledLemmas
+mod ReasonOpeningLemmas
+pub mod ToldLaws
+pub mod RefusedLaws
+pub mod PrintLemmas

@@ -1,8 +1,8 @@
 -- The test of packs that can be in a multi-index, and what the encoder asks of them.
 use Rattle.std.proofs.Common.{◌≡◌, ℕ, ◌^◌, ◌&&◌, ◌↔◌, Bool, true, false, nat_lt, List, length, sum_by, refl, sym}
 use Rattle.std.proofs.lemmas.Bool.{and_parts, ltb-true, lt-ltb}
-use Rattle.gix_multi_index.specs.MultiIndex.{are_names}
-use Rattle.gix_multi_index_written.specs.WrittenMultiIndex.{CanBeWritten, Named, names_of}
+use Rattle.gix_pack_read.specs.MultiIndex.{are_names}
+use Rattle.gix_pack_write.specs.WrittenMultiIndex.{CanBeWritten, Named, names_of}
 use Rattle.odb_script.specs.Content.{can_be_written}
 
 objects_in : List Named → ℕ

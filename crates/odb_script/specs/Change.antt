@@ -3,8 +3,8 @@ use Rattle.std.specs.Prelude.{ℕ, List, [], ◌∷◌, Option, Some, None}
 use Rattle.std.specs.Option.{option_map}
 use Rattle.odb_base.specs.Decimal.{number_of}
 use Rattle.odb_base.specs.Path.{Path, path_of}
-use Rattle.odb_nodes.specs.declared.change.Change.{Change}
-use Rattle.odb_nodes.specs.declared.change.Change.TheVariants as changes
+use Rattle.odb_disk.specs.declared.change.Change.{Change}
+use Rattle.odb_disk.specs.declared.change.Change.TheVariants as changes
 use Rattle.odb_script.specs.declared.word.ChangeWord.{ChangeWord}
 use Rattle.odb_script.specs.declared.word.ChangeWord.TheVariants as words
 use Rattle.odb_script.specs.Content.{content_of}

@@ -8,12 +8,12 @@ use Rattle.gix_hash.specs.declared.kind.Kind.TheVariants.{Sha1}
 use Rattle.gix_object.specs.declared.kind.Kind.{Kind}
 use Rattle.gix_object.specs.Kind.{kind_of_word}
 use Rattle.gix_object.specs.Loose.{header_of}
-use Rattle.gix_pack_written.specs.declared.object.Object.{Object}
-use Rattle.gix_multi_index_written.specs.declared.named_pack.NamedPack.{NamedPack}
-use Rattle.gix_multi_index.specs.MultiIndex.{are_names}
-use Rattle.gix_pack_written.specs.WrittenPack.{object_seen, pack_of}
-use Rattle.gix_pack_written.specs.WrittenIndex.{index_of}
-use Rattle.gix_multi_index_written.specs.WrittenMultiIndex.{Named, names_of, named_seen, multi_index_of_packs}
+use Rattle.gix_pack_write.specs.declared.object.Object.{Object}
+use Rattle.gix_pack_write.specs.declared.multi_index.named_pack.NamedPack.{NamedPack}
+use Rattle.gix_pack_read.specs.MultiIndex.{are_names}
+use Rattle.gix_pack_write.specs.WrittenPack.{object_seen, pack_of}
+use Rattle.gix_pack_write.specs.WrittenIndex.{index_of}
+use Rattle.gix_pack_write.specs.WrittenMultiIndex.{Named, names_of, named_seen, multi_index_of_packs}
 use Rattle.odb_script.specs.Split.{before_colon, after_colon, before_equals, after_equals, at_commas, at_semicolons}
 
 -- the bytes of hex digits of either case

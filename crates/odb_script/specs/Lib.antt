@@ -1,3 +1,4 @@
+-- The lines that are written for outcomes.
 pub mod Split
 pub mod Word
 pub mod Content
@@ -5,3 +6,9 @@ pub mod Change
 pub mod Opening
 pub mod Line
 pub mod Script
+pub mod Expected
+pub mod Fault
+pub mod Reason
+pub mod Unbuilt
+pub mod Told
+pub mod Print

@@ -2,7 +2,7 @@
 use Rattle.std.specs.Prelude.{ℕ, ◌==◌, Bool, true, List, [], ◌∷◌, length, Option, Some, None, if◌then◌else◌}
 use Rattle.std.specs.Str.{is_utf8}
 use Rattle.odb_base.specs.Decimal.{number_of}
-use Rattle.odb_nodes.specs.declared.change.Change.{Change}
+use Rattle.odb_disk.specs.declared.change.Change.{Change}
 use Rattle.gix_hash.specs.ObjectId.{id_of}
 use Rattle.gix_hash.specs.declared.object_id.ObjectId.{ObjectId}
 use Rattle.gix_object.specs.Kind.{kind_of_word}

@@ -1,9 +1,9 @@
 -- A script: its lines, the disk after its setup, the lines to play, and where it ends.
 use Rattle.std.specs.Prelude.{ℕ, ◌+◌, List, [], ◌∷◌, ◌++◌, length, map, take, nat_le, if◌then◌else◌, Bool, true, false}
 use Rattle.std.specs.FinSet as set
-use Rattle.odb_nodes.specs.Tree.Change.{is_possible}
-use Rattle.odb_asks.specs.MemDisk.{Volume, new_volume, after_outside_change}
-use Rattle.odb_nodes.specs.declared.change.Change.{Change}
+use Rattle.odb_disk.specs.Tree.Change.{is_possible}
+use Rattle.odb_disk.specs.MemDisk.{Volume, new_volume, after_outside_change}
+use Rattle.odb_disk.specs.declared.change.Change.{Change}
 use Rattle.gix_odb_calls.specs.declared.line.Line.{Line}
 use Rattle.odb_script.specs.declared.item.Item.{Item}
 use Rattle.odb_script.specs.declared.item.Item.TheVariants as items

@@ -7,7 +7,7 @@ use crate::content::content_of;
 use crate::field::path_of;
 use crate::word::ChangeWord;
 use odb_base::{ByteList, NoMemory, parse_decimal};
-use odb_disk::{Change, PathText};
+use odb_mem_disk::{Change, PathText};
 use std::alloc::Global;
 
 /// The device of all directories that a script makes: it has no word for devices.

@@ -10,7 +10,7 @@ use crate::split::at_colon;
 use gix_hash::{Kind, ObjectId};
 use gix_odb_calls::{IdPairs, PathList};
 use odb_base::{NoMemory, parse_decimal};
-use odb_disk::PathText;
+use odb_mem_disk::PathText;
 use std::alloc::Global;
 
 /// What one option chooses.

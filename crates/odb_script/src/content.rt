@@ -6,10 +6,9 @@ use crate::field::data_of;
 use crate::objects::{are_few, can_be_written, object_of, objects_of, packs_of};
 use crate::split::at_colon;
 use gix_hash::Kind;
-use gix_multi_index_written as multi_index;
-use gix_multi_index_written::NamedPack;
 use gix_object::encode;
-use gix_pack_written::{Object, data, index};
+use gix_pack_write::multi_index::NamedPack;
+use gix_pack_write::{Object, data, index, multi_index};
 use odb_base::{ByteList, NoMemory};
 use std::alloc::Global;
 

@@ -9,7 +9,7 @@ ghost use Rattle.odb_script.specs.Opening.{handle_of};
 use gix_hash::ObjectId;
 use gix_object::Kind;
 use odb_base::{ByteList, NoMemory, parse_decimal};
-use odb_disk::{BadPath, PathText};
+use odb_mem_disk::{BadPath, PathText};
 use std::alloc::Global;
 
 /// The path that a text spells.

@@ -14,7 +14,7 @@ use gix_hash::ObjectId;
 use gix_object::Want;
 use gix_odb_calls::{Line, Query, Step};
 use odb_base::{NoMemory, parse_decimal};
-use odb_disk::Change;
+use odb_mem_disk::Change;
 use std::alloc::Global;
 
 /// What a line of a script says.

@@ -1,14 +1,13 @@
 //! Objects and packs as fields of a line spell them.
 ghost use Rattle.std.specs.Prelude.{◌≡◌, ◌++◌, IfOk, IsTrue, codes, map};
-ghost use Rattle.gix_multi_index_written.specs.WrittenMultiIndex.{named_seen, CanBeWritten};
+ghost use Rattle.gix_pack_write.specs.WrittenMultiIndex.{named_seen, CanBeWritten};
 ghost use Rattle.odb_script.specs.Content.{are_few, can_be_written, named_pack_of, object_by, object_of, objects_of, packs_of};
 
 use crate::field::{data_of, kind_of};
 use crate::split::{at_colon, at_equals, parts_of};
-use gix_multi_index_written as multi_index;
-use gix_multi_index_written::NamedPack;
 use gix_object::Kind;
-use gix_pack_written::Object;
+use gix_pack_write::multi_index::NamedPack;
+use gix_pack_write::{Object, multi_index};
 use odb_base::{ByteList, NoMemory, PathName, Sequence};
 use std::alloc::Global;
 

@@ -9,7 +9,7 @@ use crate::field::{handle_of, path_of};
 use crate::item::Item;
 use gix_odb_calls::{Line, Options, Slots, Step};
 use odb_base::NoMemory;
-use odb_disk::PathText;
+use odb_mem_disk::PathText;
 use std::alloc::Global;
 
 /// The opening of a store by its fields. One with an option that isn't built yet is checked by its options alone.

@@ -1,7 +1,7 @@
 //! Scripts, read line by line.
 ghost use Rattle.std.specs.Prelude.{◌≡◌, ◌+◌, ◌≤◌, ◌<◌, ◌∷◌, [], length, IfOk, IfSome, IsNone, if◌then◌else◌};
-ghost use Rattle.odb_nodes.specs.Tree.Change.{is_possible};
-ghost use Rattle.odb_asks.specs.MemDisk.{after_outside_change};
+ghost use Rattle.odb_disk.specs.Tree.Change.{is_possible};
+ghost use Rattle.odb_disk.specs.MemDisk.{after_outside_change};
 ghost use Rattle.odb_script.specs.Line.{item_of};
 ghost use Rattle.odb_script.specs.Script.{taken, disk_of, lines_of, items_in, last_item, reading_at, reading_from, reading_of};
 ghost use Rattle.odb_script.specs.Split.{lines_in};
@@ -10,7 +10,7 @@ use crate::item::{Item, item_of};
 use crate::split::first_part;
 use gix_odb_calls::Line;
 use odb_base::{NoMemory, Sequence};
-use odb_disk::{Change, Impossible, MemDisk};
+use odb_mem_disk::{Change, Impossible, MemDisk};
 use std::alloc::Global;
 
 /// The most bytes of a script, 64 MiB: a source that never ends is refused.

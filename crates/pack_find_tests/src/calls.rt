@@ -7,7 +7,7 @@ use gix_hash::Kind;
 use gix_odb::{Answer, Ask, Call, CallState, HandleState, PathList, Slots, StoreParts};
 use gix_odb_core::Core;
 use odb_base::{NoMemory, PathText};
-use odb_disk::{DiskAnswer, DiskAsk, MemDisk};
+use odb_mem_disk::{DiskAnswer, DiskAsk, MemDisk};
 use std::alloc::Global;
 use std::collections::BTreeMap;
 use std::sync::Arc;

@@ -1,7 +1,7 @@
 //! Changes of a disk in words: `make PATH`, `link PATH TARGET`, `take PATH`, and a file as `VERB PATH WORD ..`.
 use crate::files::contents_of;
 use odb_base::PathText;
-use odb_disk::{Change, MemDisk};
+use odb_mem_disk::{Change, MemDisk};
 use std::alloc::Global;
 use std::test::Fail;
 use test_words::{change_of, cut};

@@ -1,5 +1,5 @@
 //! The texts of errors.
-use gix_odb_packs::Error;
+use gix_odb_search::Error;
 use std::test::Fail;
 use test_words::Text;
 

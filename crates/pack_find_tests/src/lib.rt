@@ -1,4 +1,4 @@
-//! What no clause of `gix_odb_packs` says: that packs are found, by which calls and events, and what ends a search;
+//! What no clause of `gix_odb_search` says: that packs are found, by which calls and events, and what ends a search;
 //! and openings and calls of `gix_odb`, driven to their replies.
 //!
 //! Each test is a table of rows in words, played on a disk in memory and on a core. A row changes the disk, or asks a

@@ -2,9 +2,9 @@
 use crate::happening::happen;
 use crate::shown::{put_ask, put_refusal, put_rows, put_todo};
 use gix_odb_core::{Core, Effect, Event, Listing, Refusal};
-use gix_odb_packs::{ListStep, Lister};
+use gix_odb_search::{ListStep, Lister};
 use odb_base::{NoMemory, PathText};
-use odb_disk::{DiskAnswer, MemDisk};
+use odb_mem_disk::{DiskAnswer, MemDisk};
 use std::alloc::Global;
 use std::test::Fail;
 use test_words::Text;

@@ -5,7 +5,7 @@ use gix_hash::Kind;
 use gix_odb::{OpenAsk, OpenState, Options, Reply, Slots};
 use gix_odb_core::{Core, Event, View};
 use odb_base::{NoMemory, PathText};
-use odb_disk::{DiskAnswer, DiskAsk, MemDisk};
+use odb_mem_disk::{DiskAnswer, DiskAsk, MemDisk};
 use std::alloc::Global;
 use std::test::Fail;
 use test_words::{Text, cut};

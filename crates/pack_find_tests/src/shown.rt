@@ -2,9 +2,9 @@
 use gix_odb::Reply;
 use gix_odb::find::Header;
 use gix_odb_core::{Event, ListingRow, PassWhy, Refusal, Todo, TodoRest};
-use gix_odb_packs::{Error, Found, Notes, Tried};
+use gix_odb_search::{Error, Found, Notes, Tried};
 use odb_base::{NoMemory, PathText};
-use odb_disk::DiskAsk;
+use odb_mem_disk::DiskAsk;
 use std::alloc::Global;
 use std::str;
 use test_words::Text;

@@ -14,7 +14,7 @@ use crate::listing::{publish, put_list, put_order};
 use crate::openings::put_opening;
 use crate::trying::put_tried;
 use gix_odb_core::{Core, Event};
-use odb_disk::MemDisk;
+use odb_mem_disk::MemDisk;
 use std::alloc::Global;
 use std::test::Fail;
 use test_words::{Text, cut, wide_halves};

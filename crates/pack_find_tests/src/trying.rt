@@ -4,9 +4,9 @@ use crate::happening::happen;
 use crate::shown::{put_ask, put_end, put_event};
 use gix_object::Want;
 use gix_odb_core::{Core, Refusal, View};
-use gix_odb_packs::{Answer, Ask, Goal, Notes, Tried, Trier};
+use gix_odb_search::{Answer, Ask, Goal, Notes, Tried, Trier};
 use odb_base::NoMemory;
-use odb_disk::MemDisk;
+use odb_mem_disk::MemDisk;
 use std::alloc::Global;
 use test_words::{Text, cut};
 

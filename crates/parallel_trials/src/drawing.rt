@@ -1,9 +1,9 @@
 //! Numbers that a worker draws ahead for a slow consumer, which stops half way.
 ghost use Rattle.std.specs.Prelude.{◌<◌, ⊤};
-ghost use Rattle.gix_features_eager.specs.Eager.{IsReady};
+ghost use Rattle.gix_features_channel.specs.Eager.{IsReady};
 
 use crate::stopping::linger;
-use gix_features_eager::EagerIter;
+use gix_features_channel::EagerIter;
 use odb_base::NoMemory;
 use std::alloc::Global;
 use std::ops::Range;

@@ -1,8 +1,8 @@
 //! Bytes that go through a pipe.
 ghost use Rattle.std.specs.Prelude.{◌<◌, ◌≤◌};
 
-use gix_features_pipe::pipe;
-use gix_features_pipe::pipe::{Reader, Writer};
+use gix_features_channel::pipe;
+use gix_features_channel::pipe::{Reader, Writer};
 use gix_features_workers::join;
 use odb_base::NoMemory;
 use std::alloc::Global;

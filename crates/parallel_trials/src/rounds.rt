@@ -1,8 +1,7 @@
 //! Numbers of a slice that workers double in rounds.
 ghost use Rattle.std.specs.Prelude.{◌<◌, ◌≤◌};
 
-use gix_features_rounds::in_parallel_with_slice;
-use gix_features_workers::ParallelError;
+use gix_features_workers::{ParallelError, in_parallel_with_slice};
 use odb_base::NoMemory;
 use std::alloc::Global;
 use std::thread::Threads;

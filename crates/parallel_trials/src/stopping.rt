@@ -2,9 +2,9 @@
 ghost use Rattle.std.specs.Prelude.{◌<◌, ◌≤◌};
 ghost use Rattle.std.specs.Thread.{IsSync};
 
+use gix_features_channel::pipe;
+use gix_features_channel::pipe::{Gone, Reader, Writer};
 use gix_features_parts::parallel::Reduce;
-use gix_features_pipe::pipe;
-use gix_features_pipe::pipe::{Gone, Reader, Writer};
 use gix_features_workers::{ParallelError, in_parallel, join};
 use odb_base::NoMemory;
 use sha1::Sha1;

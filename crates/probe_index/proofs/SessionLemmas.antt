@@ -4,7 +4,7 @@ use Rattle.std.specs.Prelude.{IfSome}
 use Rattle.std.proofs.lemmas.Bool.{cases_lt}
 use Rattle.std.proofs.lemmas.Bool.Decides.{nat_tests}
 use Rattle.std.proofs.lemmas.List.{append-nil, length-append}
-use Rattle.odb_disk.specs.Source.{ReadsFile}
+use Rattle.odb_mem_disk.specs.Source.{ReadsFile}
 use Rattle.gix_hash.specs.declared.kind.Kind.{Kind}
 use Rattle.probe_index.specs.declared.asked.Asked.{Asked}
 use Rattle.probe_index.specs.declared.command.Command.{Command}

@@ -11,7 +11,7 @@ use crate::command::{Command, command_of};
 use crate::probe::{FILE_LIMIT, answer_file};
 use crate::status::Status;
 use odb_base::NoMemory;
-use odb_disk::{ReadError, Sink, Source, read_file};
+use odb_mem_disk::{ReadError, Sink, Source, read_file};
 use odb_program::{answer, text};
 use std::alloc::Global;
 

@@ -3,7 +3,7 @@ mod files;
 
 use crate::run::{ABOUT, USAGE, run};
 use files::file_of;
-use odb_disk::{MemSink, MemSource};
+use odb_mem_disk::{MemSink, MemSource};
 use odb_program::SessionStatus;
 use std::alloc::{AllocError, Global};
 use std::str;

@@ -10,7 +10,7 @@ use crate::words::{
 use gix_object::{Data, Kind};
 use gix_odb_loose::{Options, Store};
 use odb_base::PathText;
-use odb_disk::{Disk, MemSource};
+use odb_mem_disk::{Disk, MemSource};
 use std::alloc::Global;
 use std::test::Fail;
 use test_words::cut;

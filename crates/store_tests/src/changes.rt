@@ -2,7 +2,7 @@
 use crate::calls::{called, store_at};
 use crate::words::{FILE, word_of};
 use gix_odb_loose::Store;
-use odb_disk::{Change, MemDisk};
+use odb_mem_disk::{Change, MemDisk};
 use std::alloc::Global;
 use std::test::Fail;
 use test_words::{change_of, compare, cut, halves};

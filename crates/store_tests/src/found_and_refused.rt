@@ -3,7 +3,7 @@ use crate::changes::{check, check_on};
 use gix_hash::Kind::{Sha1, Sha256};
 use gix_odb_loose::{Options, Store};
 use odb_base::PathText;
-use odb_disk::MemDisk;
+use odb_mem_disk::MemDisk;
 use std::alloc::Global;
 use std::test::Fail;
 

@@ -6,7 +6,7 @@ use crate::words::{
 use gix_object::Kind;
 use gix_odb_loose::{LooseCall, LooseJob, LooseReply, Store};
 use odb_base::{ByteList, NoMemory};
-use odb_disk::Disk;
+use odb_mem_disk::Disk;
 use std::alloc::Global;
 use std::test::Fail;
 use test_words::cut;

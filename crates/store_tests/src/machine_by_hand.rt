@@ -5,7 +5,7 @@ use crate::words::{HELLO, id_of, word_of};
 use gix_hash::Kind::Sha1;
 use gix_odb_loose::{LooseAsk, LooseCall, LooseJob, Store};
 use odb_base::{ByteList, NoMemory};
-use odb_disk::{DiskAnswer, DiskAsk, DiskError};
+use odb_mem_disk::{DiskAnswer, DiskAsk, DiskError};
 use std::alloc::Global;
 use std::test::Fail;
 use test_words::{compare, cut, halves};

@@ -1,7 +1,7 @@
 //! Changes of a disk in words.
 use crate::row::cut;
 use odb_base::{ByteList, PathText};
-use odb_nodes::Change;
+use odb_disk::Change;
 use std::alloc::Global;
 use std::test::Fail;
 

@@ -7,7 +7,7 @@ use gix_features::fs::read_dir::Item;
 use gix_features::fs::{
     DirEntry, DirEntryApi, GitOrder, Parallelism, WalkDir, walkdir_new, walkdir_sorted_new,
 };
-use odb_disk::{Disk, Kind, MemDisk, NoMemory, PathText};
+use odb_mem_disk::{Disk, Kind, MemDisk, NoMemory, PathText};
 use std::alloc::{AllocError, Global};
 use std::fmt::Write;
 use std::test::Fail;

@@ -4,7 +4,7 @@ ghost use Rattle.std.specs.Iterator.{IsFinite};
 ghost use Rattle.walkdir.specs.Entry.{is_dir};
 
 use super::words::{Question, built, check};
-use odb_disk::{DiskError, Kind, MemDisk, PathText};
+use odb_mem_disk::{DiskError, Kind, MemDisk, PathText};
 use std::alloc::{AllocError, Global};
 use std::fmt::Write;
 use std::test::Fail;

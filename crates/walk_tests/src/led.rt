@@ -3,7 +3,7 @@ ghost use Rattle.std.specs.Iterator.{IsFinite};
 ghost use Rattle.std.specs.Prelude.{◌≡◌, IfOk, true};
 
 use super::words::{Question, built, tell};
-use odb_disk::{MemDisk, NoMemory, PathText};
+use odb_mem_disk::{MemDisk, NoMemory, PathText};
 use std::alloc::{AllocError, Global};
 use std::test::Fail;
 use walkdir::{DirEntry, NoSort, Sorter, Walk, WalkDir};

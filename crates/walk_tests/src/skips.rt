@@ -1,7 +1,7 @@
 //! Walks whose directories are skipped or filtered.
 use super::led::Led;
 use super::words::{Question, check, tell_next};
-use odb_disk::{MemDisk, PathText};
+use odb_mem_disk::{MemDisk, PathText};
 use std::alloc::{AllocError, Global};
 use std::test::Fail;
 use walkdir::{DirEntry, IntoIter, NoSort, WalkDir};

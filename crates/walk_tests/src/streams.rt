@@ -5,7 +5,7 @@ ghost use Rattle.walkdir.specs.Sorted.{all_equal};
 ghost use Rattle.walkdir.specs.StackProgress.{progress};
 
 use super::words::{Question, built, check};
-use odb_disk::{Disk, DiskError, MemDisk, NoMemory, PathText};
+use odb_mem_disk::{Disk, DiskError, MemDisk, NoMemory, PathText};
 use std::alloc::Global;
 use std::fmt::Write;
 use std::test::Fail;

@@ -1,6 +1,6 @@
 //! What callers of walks find on a disk in memory.
 use super::words::{Question, check, check_call, tell_error};
-use odb_disk::{MemDisk, PathText};
+use odb_mem_disk::{MemDisk, PathText};
 use std::alloc::{AllocError, Global};
 use std::fmt::Write;
 use std::test::Fail;

@@ -1,5 +1,5 @@
 //! Disks, walks and items in words.
-use odb_disk::MemDisk;
+use odb_mem_disk::MemDisk;
 use std::alloc::{AllocError, Global};
 use std::fmt::Write;
 use std::test::Fail;

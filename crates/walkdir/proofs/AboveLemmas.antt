@@ -2,9 +2,9 @@
 use Rattle.std.proofs.Common.{◌≡◌, ◌≢◌, ℕ, suc, ◌+◌, true, false, List, [], ◌∷◌, length, Option, Some, None, Result, Ok, Err, refl, sym, ap, subst, ◌∙◌, arith}
 use Rattle.std.specs.Prelude.{IfErr, IfSome, OnOk}
 use Rattle.odb_base.specs.Path.{Path}
-use Rattle.odb_nodes.specs.Tree.{State, tree_of}
-use Rattle.odb_nodes.specs.Tree.Follow.{looked}
-use Rattle.odb_nodes.specs.declared.meta.Meta.{Meta}
+use Rattle.odb_disk.specs.Tree.{State, tree_of}
+use Rattle.odb_disk.specs.Tree.Follow.{looked}
+use Rattle.odb_disk.specs.declared.meta.Meta.{Meta}
 use Rattle.walkdir.proofs.HandlesLemmas.{told_is}
 use Rattle.walkdir.proofs.ProgressLemmas.{item_turn}
 use Rattle.walkdir.proofs.RootLemmas.{in_begun, looked_root}

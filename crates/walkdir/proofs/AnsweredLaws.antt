@@ -1,11 +1,11 @@
 -- What the calls of a walk on a disk were answered since it began, for callers that take its items.
 use Rattle.std.proofs.Common.{◌≡◌, ℕ, Bool, true, List, [], ◌∷◌, ◌++◌, map, Option, Some, Ok, Err, sym, subst}
 use Rattle.std.specs.Iterator.{Yields}
-use Rattle.odb_asks.specs.CallsMade.{Leads}
-use Rattle.odb_asks.specs.declared.ask.DiskAsk.{DiskAsk}
-use Rattle.odb_asks.specs.declared.ask.DiskAnswer.{DiskAnswer}
-use Rattle.odb_asks.specs.Streams.{Streams}
-use Rattle.odb_nodes.specs.Tree.{State}
+use Rattle.odb_disk.specs.CallsMade.{Leads}
+use Rattle.odb_disk.specs.declared.ask.DiskAsk.{DiskAsk}
+use Rattle.odb_disk.specs.declared.ask.DiskAnswer.{DiskAnswer}
+use Rattle.odb_disk.specs.Streams.{Streams}
+use Rattle.odb_disk.specs.Tree.{State}
 use Rattle.odb_base.specs.Path.{Path}
 use Rattle.walkdir.proofs.AnsweredLemmas.{error_seen, error_wider, item_later, leads_still, leads_then}
 use Rattle.walkdir.proofs.AnsweredLemmas.Calls.{look_refused, no_memory_told}

@@ -5,12 +5,12 @@ pub mod Loops
 pub mod Steps
 use Rattle.std.proofs.Common.{◌≡◌, ℕ, inl, inr, true, List, [], ◌∷◌, ◌++◌, reverse, Option, Some, None, Ok, Err, sym, ap, subst, ◌∙◌}
 use Rattle.odb_base.specs.Path.{Path}
-use Rattle.odb_asks.specs.CallsMade.{Leads}
-use Rattle.odb_asks.specs.declared.ask.DiskAsk.{DiskAsk}
-use Rattle.odb_asks.specs.declared.ask.DiskAsk.TheVariants as asks
-use Rattle.odb_asks.specs.declared.ask.DiskAnswer.{DiskAnswer}
-use Rattle.odb_asks.specs.declared.ask.DiskAnswer.TheVariants as answers
-use Rattle.odb_asks.proofs.CallsMadeLaws.{answered_wider, leads_by_one, leads_nowhere, leads_on}
+use Rattle.odb_disk.specs.CallsMade.{Leads}
+use Rattle.odb_disk.specs.declared.ask.DiskAsk.{DiskAsk}
+use Rattle.odb_disk.specs.declared.ask.DiskAsk.TheVariants as asks
+use Rattle.odb_disk.specs.declared.ask.DiskAnswer.{DiskAnswer}
+use Rattle.odb_disk.specs.declared.ask.DiskAnswer.TheVariants as answers
+use Rattle.odb_disk.proofs.CallsMadeLaws.{answered_wider, leads_by_one, leads_nowhere, leads_on}
 use Rattle.walkdir.specs.Answered.{AreHeld, AreListsTold, IsHeld, IsHeldIn, IsItemTold, IsPlaceTold, IsStackTold, IsTold, IsToldIn}
 use Rattle.walkdir.specs.AnsweredTurns.{IsItemHeld, IsKnown, IsSeenIn}
 use Rattle.walkdir.specs.Directory.{TakesHeld, held}

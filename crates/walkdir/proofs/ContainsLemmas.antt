@@ -4,14 +4,14 @@ use Rattle.std.proofs.Common.{◌≡◌, ◌≢◌, ℕ, ◌+◌, ◌<◌, ◌�
 use Rattle.std.specs.FinMap as finite
 use Rattle.std.proofs.lemmas.Bool.Decides.{nat_tests}
 use Rattle.odb_base.specs.Path.{Path}
-use Rattle.odb_nodes.specs.Answers.{Answers}
-use Rattle.odb_asks.specs.Streams.{Streams, AnswersOpen, Opens, still_gives}
-use Rattle.odb_nodes.specs.Entries.{opened}
-use Rattle.odb_nodes.specs.Tree.{State, tree_of}
-use Rattle.odb_nodes.specs.Tree.Follow.{Refusal}
-use Rattle.odb_nodes.specs.declared.disk_error.DiskError.{DiskError}
-use Rattle.odb_nodes.specs.declared.disk_error.DiskError.TheVariants as refusals
-use Rattle.odb_nodes.specs.declared.entry.Entry.{Entry}
+use Rattle.odb_disk.specs.Answers.{Answers}
+use Rattle.odb_disk.specs.Streams.{Streams, AnswersOpen, Opens, still_gives}
+use Rattle.odb_disk.specs.Entries.{opened}
+use Rattle.odb_disk.specs.Tree.{State, tree_of}
+use Rattle.odb_disk.specs.Tree.Follow.{Refusal}
+use Rattle.odb_disk.specs.declared.disk_error.DiskError.{DiskError}
+use Rattle.odb_disk.specs.declared.disk_error.DiskError.TheVariants as refusals
+use Rattle.odb_disk.specs.declared.entry.Entry.{Entry}
 use Rattle.walkdir.specs.Error.{io_error}
 use Rattle.walkdir.specs.Progress.{Progress, Keeps}
 use Rattle.walkdir.specs.Directory.{HasNothing, held, stream_in}

@@ -3,7 +3,7 @@ use Rattle.std.proofs.Common.{◌≡◌, true, false, ℕ, ◌+◌, ◌*◌, ◌
 use lib.Seq.{get_or-append_seam}
 use lib.ListN.{length-reverse}
 use native.Mathlib.Nat.{mul-le-mul_right}
-use Rattle.odb_asks.specs.Streams.{Streams, with_closed}
+use Rattle.odb_disk.specs.Streams.{Streams, with_closed}
 use Rattle.walkdir.specs.Failures.{Costs, failures_among, failures_left}
 use Rattle.walkdir.specs.Progress.{Progress, Keeps}
 use Rattle.walkdir.specs.Directory.{held, is_skipped, left_in, stream_in}

@@ -6,9 +6,9 @@ use Rattle.std.specs.List.{cons_option}
 use Rattle.std.specs.FinMap as finite
 use lib.Seq.{append_snoc}
 use Rattle.odb_base.specs.Path.{Path}
-use Rattle.odb_asks.specs.Streams.{Streams, still_gives, with_closed}
-use Rattle.odb_nodes.specs.declared.entry.Entry.{Entry}
-use Rattle.odb_nodes.specs.declared.disk_error.DiskError.TheVariants as refusals
+use Rattle.odb_disk.specs.Streams.{Streams, still_gives, with_closed}
+use Rattle.odb_disk.specs.declared.entry.Entry.{Entry}
+use Rattle.odb_disk.specs.declared.disk_error.DiskError.TheVariants as refusals
 use Rattle.walkdir.specs.Error.{is_no_memory, stream_error}
 use Rattle.walkdir.specs.OwnStreams.{OpenDirs, AreBeside}
 use Rattle.walkdir.specs.Progress.{Progress, Keeps}

@@ -1,9 +1,9 @@
 -- A failure inside a directory doesn't remove the directory's entry, if nothing stats it before.
 use Rattle.std.proofs.Common.{◌≡◌, ◌&&◌, ◌||◌, Bool, true, false, cond, List, None, Ok, refl, ap, ◌∙◌}
 use Rattle.std.specs.Prelude.{◌==◌}
-use Rattle.odb_nodes.specs.Tree.Follow.{looked}
-use Rattle.odb_nodes.specs.declared.meta.Kind.{Kind}
-use Rattle.odb_nodes.specs.declared.meta.Kind.TheVariants.{File, Dir, Link}
+use Rattle.odb_disk.specs.Tree.Follow.{looked}
+use Rattle.odb_disk.specs.declared.meta.Kind.{Kind}
+use Rattle.odb_disk.specs.declared.meta.Kind.TheVariants.{File, Dir, Link}
 use Rattle.walkdir.specs.Entry.{is_dir, is_dir_kind, is_link, is_link_kind}
 use Rattle.walkdir.specs.Walk.{Ancestor, Item, WalkOf, Walking}
 use Rattle.walkdir.specs.Walk.Entries.{entering, enters_at, taken_for}

@@ -2,7 +2,7 @@
 use Rattle.std.proofs.Common.{◌≡◌, Bool, Option, Some, None, Result, Ok, Err, refl}
 use Rattle.std.specs.Fn.{Mut}
 use denote.Ref.{Bor}
-use Rattle.odb_nodes.specs.Tree.{State}
+use Rattle.odb_disk.specs.Tree.{State}
 use Rattle.walkdir.specs.Filter.{Filters, StaysEnded, Ends, Errs, Accepts, Rejects}
 use Rattle.walkdir.specs.Progress.{Progress, Steps}
 use Rattle.walkdir.specs.declared.dent.DirEntry.{DirEntry}

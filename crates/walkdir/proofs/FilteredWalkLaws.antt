@@ -3,10 +3,10 @@ use Rattle.std.proofs.Common.{◌≡◌, append-nil, ℕ, Bool, true, false, Lis
 use Rattle.std.specs.Fn.{Mut, CalledAt}
 use Rattle.std.specs.Iterator.{Yields}
 use denote.Ref.{Bor}
-use Rattle.odb_asks.specs.declared.ask.DiskAsk.{DiskAsk}
-use Rattle.odb_asks.specs.declared.ask.DiskAnswer.{DiskAnswer}
-use Rattle.odb_asks.specs.Streams.{Streams}
-use Rattle.odb_nodes.specs.Tree.{State, tree_of}
+use Rattle.odb_disk.specs.declared.ask.DiskAsk.{DiskAsk}
+use Rattle.odb_disk.specs.declared.ask.DiskAnswer.{DiskAnswer}
+use Rattle.odb_disk.specs.Streams.{Streams}
+use Rattle.odb_disk.specs.Tree.{State, tree_of}
 use Rattle.walkdir.proofs.FilteredWalkLemmas.{StillLeaves, unbegun_gives, unbegun_keeps, unbegun_of}
 use Rattle.walkdir.proofs.StillGivesLemmas.{something_left}
 use Rattle.walkdir.specs.Above.{AreEntered}

@@ -4,7 +4,7 @@ use Rattle.std.proofs.Common.{◌≡◌, ℕ, ◌+◌, inl, inr, append_assoc, a
 use Rattle.std.specs.Prelude.{◌==◌, IfSome, MatchBool, if◌then◌else◌, length}
 use Rattle.std.proofs.lemmas.Bool.Decides.{nat_tests}
 use Rattle.odb_base.specs.Path.{Path}
-use Rattle.odb_asks.specs.Streams.{Streams}
+use Rattle.odb_disk.specs.Streams.{Streams}
 use Rattle.walkdir.proofs.AboveLemmas.{above_long}
 use Rattle.walkdir.proofs.ProgressLemmas.{both}
 use Rattle.walkdir.proofs.SkipLaws.{skip_drops}

@@ -6,11 +6,11 @@ use Rattle.std.specs.List.{All}
 use Rattle.std.specs.Prelude.{MatchBool}
 use Rattle.std.proofs.lemmas.List.Elements.{All-cons, All-nil}
 use denote.Ref.{Bor}
-use Rattle.odb_asks.specs.declared.ask.DiskAsk.{DiskAsk}
-use Rattle.odb_asks.specs.declared.ask.DiskAnswer.{DiskAnswer}
-use Rattle.odb_asks.specs.Streams.{Streams}
-use Rattle.odb_nodes.specs.Tree.{State}
-use Rattle.odb_asks.specs.CallsMade.{Leads}
+use Rattle.odb_disk.specs.declared.ask.DiskAsk.{DiskAsk}
+use Rattle.odb_disk.specs.declared.ask.DiskAnswer.{DiskAnswer}
+use Rattle.odb_disk.specs.Streams.{Streams}
+use Rattle.odb_disk.specs.Tree.{State}
+use Rattle.odb_disk.specs.CallsMade.{Leads}
 use Rattle.walkdir.proofs.AnsweredLemmas.{item_later, leads_still, leads_then}
 use Rattle.walkdir.proofs.AnsweredLemmas.Steps.{tells_still, tells_then}
 use Rattle.walkdir.proofs.WholeWalks.{begun_keeps}

@@ -7,7 +7,7 @@ use Rattle.walkdir.specs.Entry.{is_dir}
 use Rattle.std.proofs.lemmas.Bool.Decides.{nat_tests}
 use Rattle.std.specs.FinMap as finite
 use native.Mathlib.Nat.{pow-suc}
-use Rattle.odb_asks.specs.Streams.{Streams}
+use Rattle.odb_disk.specs.Streams.{Streams}
 use Rattle.walkdir.specs.OwnStreams.{OpenDirs, AreBeside, are_apart}
 use Rattle.walkdir.specs.Progress.{Progress, Keeps, has_its_streams, is_innermost, work_left, work_of}
 use Rattle.walkdir.specs.Directory.{many}

@@ -4,17 +4,17 @@ use Rattle.std.proofs.Common.{Some, None, Result, Ok, Err, IfSome, is_some, unwr
 use Rattle.std.specs.Option.{option_map}
 use Rattle.std.specs.FinMap as finite
 use Rattle.odb_base.specs.Path.{Path}
-use Rattle.odb_asks.specs.Disk.{FailsOnlyByFault}
-use Rattle.odb_nodes.specs.Answers.{Answers}
+use Rattle.odb_disk.specs.Disk.{FailsOnlyByFault}
+use Rattle.odb_disk.specs.Answers.{Answers}
 use Rattle.std.specs.FinMap.{len-insert}
 use Rattle.std.specs.Cmp.{nat_cmp_total}
-use Rattle.odb_asks.specs.Streams.{Streams, Opens, open_count, Gives, GivesFirst, is_open, with_stream}
-use Rattle.odb_nodes.specs.Tree.{State, tree_of}
-use Rattle.odb_nodes.specs.Tree.Follow.{Refusal, looked}
-use Rattle.odb_nodes.specs.declared.meta.Meta.{Meta}
-use Rattle.odb_nodes.specs.declared.disk_error.DiskError.{DiskError}
-use Rattle.odb_nodes.specs.declared.disk_error.DiskError.TheVariants as refusals
-use Rattle.odb_nodes.specs.declared.entry.Entry.{Entry}
+use Rattle.odb_disk.specs.Streams.{Streams, Opens, open_count, Gives, GivesFirst, is_open, with_stream}
+use Rattle.odb_disk.specs.Tree.{State, tree_of}
+use Rattle.odb_disk.specs.Tree.Follow.{Refusal, looked}
+use Rattle.odb_disk.specs.declared.meta.Meta.{Meta}
+use Rattle.odb_disk.specs.declared.disk_error.DiskError.{DiskError}
+use Rattle.odb_disk.specs.declared.disk_error.DiskError.TheVariants as refusals
+use Rattle.odb_disk.specs.declared.entry.Entry.{Entry}
 use Rattle.walkdir.specs.Error.{IsFromPath, IsOnPath, failures, io_error, no_memory, stream_failed}
 use Rattle.walkdir.specs.Failures.{Costs, failures_among, failures_of}
 use Rattle.walkdir.specs.OwnStreams.{OpenDirs}

@@ -2,8 +2,8 @@
 use Rattle.std.proofs.Common.{◌≡◌, ℕ, ◌+◌, inl, inr, true, List, [], ◌∷◌, length, Option, Some, None, Result, Ok, Err, sym, arith}
 use Rattle.std.specs.Prelude.{IfErr, IfSome}
 use Rattle.odb_base.specs.Path.{Path}
-use Rattle.odb_asks.specs.declared.ask.DiskAsk.{DiskAsk}
-use Rattle.odb_asks.specs.declared.ask.DiskAnswer.{DiskAnswer}
+use Rattle.odb_disk.specs.declared.ask.DiskAsk.{DiskAsk}
+use Rattle.odb_disk.specs.declared.ask.DiskAnswer.{DiskAnswer}
 use Rattle.walkdir.specs.Answered.{IsHeldIn, IsRefusedAt, IsRefusedIn}
 use Rattle.walkdir.specs.AnsweredTurns.{IsItemHeld, IsSeenIn}
 use Rattle.walkdir.specs.Error.{IsOfEntry, IsOfEntryIn, is_no_memory, is_no_memory_inner}

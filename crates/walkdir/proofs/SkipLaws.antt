@@ -3,7 +3,7 @@ use Rattle.std.proofs.Common.{◌≡◌, ℕ, ◌+◌, Bool, true, false, List, 
 use Rattle.std.specs.Prelude.{MatchBool, if◌then◌else◌}
 use Rattle.std.specs.List.{cons_option}
 use Rattle.odb_base.specs.Path.{Path}
-use Rattle.odb_asks.specs.Streams.{Streams, still_gives}
+use Rattle.odb_disk.specs.Streams.{Streams, still_gives}
 use Rattle.walkdir.specs.OwnStreams.{OpenDirs, AreBeside}
 use Rattle.walkdir.specs.Progress.{Progress, Keeps}
 use Rattle.walkdir.specs.Skips.{Skips, skipped, skipped_stream}

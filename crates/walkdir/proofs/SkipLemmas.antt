@@ -4,7 +4,7 @@ use Rattle.std.specs.Prelude.{if◌then◌else◌}
 use lib.Seq.{get_or-append_seam}
 use mathlib.Core.List.{reverse-cons}
 use Rattle.odb_base.specs.Path.{Path}
-use Rattle.odb_asks.specs.Streams.{Streams}
+use Rattle.odb_disk.specs.Streams.{Streams}
 use Rattle.walkdir.specs.Progress.{Progress, Keeps, work_left, work_of}
 use Rattle.walkdir.specs.Skips.{Skips, skipped, skipped_stream}
 use Rattle.walkdir.specs.Directory.{is_skipped, stream_in, without_stream}

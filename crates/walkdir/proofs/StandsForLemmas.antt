@@ -3,8 +3,8 @@ use Rattle.std.proofs.Common.{◌≡◌, ℕ, ◌+◌, true, false, List, [], �
 use Rattle.std.specs.List.{cons_option}
 use Rattle.std.specs.FinMap as finite
 use Rattle.odb_base.specs.Path.{Path}
-use Rattle.odb_asks.specs.Streams.{Streams, is_open, still_gives, with_closed, with_stream}
-use Rattle.odb_nodes.specs.declared.entry.Entry.{Entry}
+use Rattle.odb_disk.specs.Streams.{Streams, is_open, still_gives, with_closed, with_stream}
+use Rattle.odb_disk.specs.declared.entry.Entry.{Entry}
 use Rattle.walkdir.specs.OwnStreams.{OpenDirs, AreBeside}
 use Rattle.walkdir.specs.Progress.{Progress, Keeps}
 use Rattle.walkdir.specs.Turns.Drawn.{HasOpened}

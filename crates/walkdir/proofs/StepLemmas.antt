@@ -1,7 +1,7 @@
 -- Laws of the steps of a walk: what a step keeps, how often it fails, and how much it leaves to do.
 pub mod Pushed
 use Rattle.std.proofs.Common.{◌≡◌, ℕ, ◌+◌, ◌≤◌, inl, inr, true, List, [], ◌∷◌, ◌++◌, length, Some, None, refl, sym, ap, subst, ◌∙◌, arith, length-append}
-use Rattle.odb_asks.specs.Streams.{Streams, with_closed}
+use Rattle.odb_disk.specs.Streams.{Streams, with_closed}
 use Rattle.walkdir.specs.Failures.{Costs, RoseBy, failures_left, waiting}
 use Rattle.walkdir.specs.OwnStreams.{Owns}
 use Rattle.walkdir.specs.Progress.{Progress, Keeps, FailsByFault}

@@ -4,14 +4,14 @@ use Rattle.std.specs.List.{cons_option}
 use Rattle.std.specs.Prelude.{IfSome, is_some}
 use Rattle.std.specs.FinMap as finite
 use Rattle.odb_base.specs.Path.{Path}
-use Rattle.odb_asks.specs.Streams.{Streams, still_gives}
-use Rattle.odb_nodes.specs.declared.disk_error.DiskError.TheVariants as refusals
+use Rattle.odb_disk.specs.Streams.{Streams, still_gives}
+use Rattle.odb_disk.specs.declared.disk_error.DiskError.TheVariants as refusals
 use Rattle.walkdir.specs.Error.{io_error, stream_error}
 use Rattle.walkdir.specs.OwnStreams.{OpenDirs}
 use Rattle.walkdir.specs.Progress.{Keeps, Progress, StillGives, still_to_come}
 use Rattle.walkdir.specs.Directory.{HasLeft, stream_in}
 use Rattle.walkdir.specs.Stack.{StandsFor, ancestors, own_entry, own_streams, Nothing, Within}
-use Rattle.odb_nodes.specs.Tree.Follow.{looked}
+use Rattle.odb_disk.specs.Tree.Follow.{looked}
 use Rattle.walkdir.specs.Entry.{is_dir, is_link}
 use Rattle.walkdir.specs.declared.dent.DirEntry.{DirEntry}
 use Rattle.walkdir.specs.declared.directory.Entering.TheVariants.{Stays, Enters}

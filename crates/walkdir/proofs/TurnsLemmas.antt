@@ -5,8 +5,8 @@ use Rattle.std.proofs.Common.{◌≡◌, List, ◌++◌, Option, Some, None, ref
 use Rattle.std.specs.Prelude.{IfSome}
 use Rattle.std.specs.Option.{option_to_list}
 use Rattle.odb_base.specs.Path.{Path}
-use Rattle.odb_asks.specs.Streams.{Streams}
-use Rattle.odb_nodes.specs.Tree.{State}
+use Rattle.odb_disk.specs.Streams.{Streams}
+use Rattle.odb_disk.specs.Tree.{State}
 use Rattle.walkdir.specs.Progress.{Progress, GivesNext, Keeps, StillGives, still_to_come}
 use Rattle.walkdir.specs.Stack.{StandsFor}
 use Rattle.walkdir.specs.Walk.{Walking, Item}

@@ -3,10 +3,10 @@ use Rattle.std.proofs.Common.{◌≡◌, ℕ, ◌+◌, ◌≤◌, zero, suc, tru
 use Rattle.std.specs.Prelude.{IfSome}
 use Rattle.std.specs.Iterator.{Yields}
 use Rattle.odb_base.specs.Faults.{Rose}
-use Rattle.odb_asks.specs.declared.ask.DiskAsk.{DiskAsk}
-use Rattle.odb_asks.specs.declared.ask.DiskAnswer.{DiskAnswer}
-use Rattle.odb_asks.specs.Streams.{Streams}
-use Rattle.odb_nodes.specs.Tree.{State, Tree, tree_of}
+use Rattle.odb_disk.specs.declared.ask.DiskAsk.{DiskAsk}
+use Rattle.odb_disk.specs.declared.ask.DiskAnswer.{DiskAnswer}
+use Rattle.odb_disk.specs.Streams.{Streams}
+use Rattle.odb_disk.specs.Tree.{State, Tree, tree_of}
 use Rattle.walkdir.proofs.FailuresLaws.{costs_begun, costs_later, fails_none, fails_then}
 use Rattle.walkdir.proofs.ProgressLemmas.{has_streams}
 use Rattle.walkdir.proofs.StillGivesLemmas.{something_left}

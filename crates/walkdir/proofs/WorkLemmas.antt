@@ -6,8 +6,8 @@ use Rattle.std.specs.List.{cons_option}
 use Rattle.std.specs.FinMap as finite
 use native.Mathlib.Nat.{mul-le-mul_right}
 use lib.Seq.{append_snoc}
-use Rattle.odb_nodes.specs.declared.entry.Entry.{Entry}
-use Rattle.odb_asks.specs.Streams.{Streams, is_open, with_closed, with_stream}
+use Rattle.odb_disk.specs.declared.entry.Entry.{Entry}
+use Rattle.odb_disk.specs.Streams.{Streams, is_open, with_closed, with_stream}
 use Rattle.walkdir.specs.OwnStreams.{OpenDirs, AreBeside}
 use Rattle.walkdir.specs.Directory.{left_in, stream_in, without_stream}
 use Rattle.walkdir.specs.Stack.{own_streams, weight, work_in}

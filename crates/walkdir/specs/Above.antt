@@ -1,8 +1,8 @@
 -- The directories that a walk entered above a place, which follow from the tree, the root and the place.
 use Rattle.std.specs.Prelude.{◌≡◌, ℕ, ◌+◌, false, List, [], ◌∷◌, length, Option, Ok}
 use Rattle.odb_base.specs.Path.{Path}
-use Rattle.odb_nodes.specs.Tree.Follow.{looked}
-use Rattle.odb_nodes.specs.declared.meta.Meta.{Meta}
+use Rattle.odb_disk.specs.Tree.Follow.{looked}
+use Rattle.odb_disk.specs.declared.meta.Meta.{Meta}
 use Rattle.walkdir.specs.Walk.{Walking, Ancestor}
 use Rattle.walkdir.specs.Walk.Entries.{enter, entering, entry_by, taken_for}
 use Rattle.walkdir.specs.Within.{IsChild}

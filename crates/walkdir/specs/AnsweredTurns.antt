@@ -1,9 +1,9 @@
 -- What the parts of a turn were answered. No public clause cites this module.
 use Rattle.std.specs.Prelude.{List, Option, Some, None, Result, Ok, Err, IfErr, IfOk, IfSome}
 use Rattle.odb_base.specs.Path.{Path}
-use Rattle.odb_asks.specs.CallsMade.{Leads}
-use Rattle.odb_asks.specs.declared.ask.DiskAsk.{DiskAsk}
-use Rattle.odb_asks.specs.declared.ask.DiskAnswer.{DiskAnswer}
+use Rattle.odb_disk.specs.CallsMade.{Leads}
+use Rattle.odb_disk.specs.declared.ask.DiskAsk.{DiskAsk}
+use Rattle.odb_disk.specs.declared.ask.DiskAnswer.{DiskAnswer}
 use Rattle.walkdir.specs.Answered.{AreHeld, IsHeld, IsLookRefused, IsLoopTold, IsPlaceTold, IsStackTold}
 use Rattle.walkdir.specs.Directory.{held}
 use Rattle.walkdir.specs.Walk.{Item}

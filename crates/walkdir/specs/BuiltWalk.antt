@@ -1,6 +1,6 @@
 -- The walk of a tree that was built.
 use Rattle.std.specs.Option.{option_map}
-use Rattle.odb_nodes.specs.Tree.{Tree}
+use Rattle.odb_disk.specs.Tree.{Tree}
 use Rattle.walkdir.specs.Options.{Built}
 use Rattle.walkdir.specs.Walk.{Order, Walking}
 

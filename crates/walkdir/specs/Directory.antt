@@ -1,8 +1,8 @@
 -- What one directory of a walk still has: its stream, or what was already read of it.
 use Rattle.std.specs.Prelude.{◌≡◌, ℕ, ◌+◌, ◌^◌, Bool, true, false, List, [], ◌∷◌, length, map, Option, Some, None, Ok, Err, unwrap_or}
 use Rattle.odb_base.specs.Path.{Path}
-use Rattle.odb_asks.specs.Streams.{Streams, still_gives, left, with_closed}
-use Rattle.odb_nodes.specs.declared.entry.Entry.{Entry}
+use Rattle.odb_disk.specs.Streams.{Streams, still_gives, left, with_closed}
+use Rattle.odb_disk.specs.declared.entry.Entry.{Entry}
 use Rattle.walkdir.specs.Error.{is_stream_refusal}
 use Rattle.walkdir.specs.Walk.{Item}
 use Rattle.walkdir.specs.Walk.Children.{IsStreamed, child_of}

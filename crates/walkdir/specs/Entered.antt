@@ -1,7 +1,7 @@
 -- What is known of a directory that a walk gives before its contents: whether it was entered, and what it contains then.
 use Rattle.std.specs.Prelude.{◌≡◌, ◌+◌, true, false, List, [], ◌∷◌, length, Option, None, Ok}
 use Rattle.odb_base.specs.Path.{Path}
-use Rattle.odb_asks.specs.Streams.{Streams}
+use Rattle.odb_disk.specs.Streams.{Streams}
 use Rattle.walkdir.specs.Entry.{is_dir}
 use Rattle.walkdir.specs.Directory.{HasLeft, is_skipped}
 use Rattle.walkdir.specs.Stack.{ancestors}

@@ -1,9 +1,9 @@
 -- What the parts of a turn say of a directory that is given before its contents. No public clause cites this module.
 use Rattle.std.specs.Prelude.{◌≡◌, ℕ, false, [], Option, Ok}
 use Rattle.odb_base.specs.Path.{Path}
-use Rattle.odb_nodes.specs.Tree.{State}
-use Rattle.odb_nodes.specs.Tree.Follow.{looked}
-use Rattle.odb_nodes.specs.declared.meta.Meta.{Meta}
+use Rattle.odb_disk.specs.Tree.{State}
+use Rattle.odb_disk.specs.Tree.Follow.{looked}
+use Rattle.odb_disk.specs.declared.meta.Meta.{Meta}
 use Rattle.walkdir.specs.Above.{AreEntered}
 use Rattle.walkdir.specs.Entered.{HoldsContents}
 use Rattle.walkdir.specs.Progress.{Progress, TellsEntered, is_lost}

@@ -1,8 +1,8 @@
 -- The entries of a walk, and what their calls return.
 use Rattle.std.specs.Prelude.{ℕ, Bool, true, false, ◌||◌, codes, unwrap_or}
 use Rattle.odb_base.specs.Path.{Path, Name, last_name}
-use Rattle.odb_nodes.specs.declared.meta.Kind.{Kind}
-use Rattle.odb_nodes.specs.declared.meta.Kind.TheVariants.{File, Dir, Link}
+use Rattle.odb_disk.specs.declared.meta.Kind.{Kind}
+use Rattle.odb_disk.specs.declared.meta.Kind.TheVariants.{File, Dir, Link}
 use Rattle.walkdir.specs.declared.dent.DirEntry.{DirEntry}
 
 abbrev pub entry_at : Path → Kind → Bool → ℕ → ℕ → DirEntry

@@ -4,10 +4,10 @@ use Rattle.std.specs.Prelude.{◌≡◌, ℕ, Bool, true, false, List, [], ◌�
 use Rattle.std.specs.Fn.{Mut, CalledAt}
 use Rattle.std.specs.Iterator.{Yields}
 use denote.Ref.{Bor}
-use Rattle.odb_asks.specs.declared.ask.DiskAsk.{DiskAsk}
-use Rattle.odb_asks.specs.declared.ask.DiskAnswer.{DiskAnswer}
-use Rattle.odb_asks.specs.Streams.{Streams}
-use Rattle.odb_nodes.specs.Tree.{State, tree_of}
+use Rattle.odb_disk.specs.declared.ask.DiskAsk.{DiskAsk}
+use Rattle.odb_disk.specs.declared.ask.DiskAnswer.{DiskAnswer}
+use Rattle.odb_disk.specs.Streams.{Streams}
+use Rattle.odb_disk.specs.Tree.{State, tree_of}
 use Rattle.walkdir.specs.Above.{AreAbove}
 use Rattle.walkdir.specs.Answered.{AreTold, IsStackTold}
 use Rattle.walkdir.specs.Entered.{StaysOut}

@@ -1,9 +1,9 @@
 -- A walk on the disk that it borrows, by the meanings of the disk and of the walk's own state.
 use Rattle.std.specs.Prelude.{◌≡◌, ℕ, true, Option, None}
-use Rattle.odb_asks.specs.Streams.{Streams}
-use Rattle.odb_nodes.specs.Tree.{State}
-use Rattle.odb_asks.specs.declared.ask.DiskAsk.{DiskAsk}
-use Rattle.odb_asks.specs.declared.ask.DiskAnswer.{DiskAnswer}
+use Rattle.odb_disk.specs.Streams.{Streams}
+use Rattle.odb_disk.specs.Tree.{State}
+use Rattle.odb_disk.specs.declared.ask.DiskAsk.{DiskAsk}
+use Rattle.odb_disk.specs.declared.ask.DiskAnswer.{DiskAnswer}
 use Rattle.walkdir.specs.Answered.{TellsOn}
 use Rattle.walkdir.specs.Failures.{failures_given}
 use Rattle.walkdir.specs.Progress.{Progress, FailsByFault, Steps, has_its_streams}

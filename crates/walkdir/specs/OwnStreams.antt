@@ -2,8 +2,8 @@
 use Rattle.std.specs.Prelude.{◌≡◌, ℕ, ◌+◌, ◌≤◌, ◌&&◌, Bool, true, max, List, [], ◌∷◌, length}
 use Rattle.std.specs.Ordering.{nat_cmp}
 use Rattle.std.specs.FinMap as finite
-use Rattle.odb_asks.specs.Streams.{Streams, open_count}
-use Rattle.odb_nodes.specs.declared.entry.Entry.{Entry}
+use Rattle.odb_disk.specs.Streams.{Streams, open_count}
+use Rattle.odb_disk.specs.declared.entry.Entry.{Entry}
 
 -- open streams by their numbers
 abbrev pub OpenDirs : Type 0

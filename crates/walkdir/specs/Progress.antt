@@ -2,8 +2,8 @@
 use Rattle.std.specs.Prelude.{◌≡◌, ◌≢◌, ℕ, ◌+◌, ◌*◌, ◌<◌, ◌==◌, ◌&&◌, ◌≤◌, Bool, true, false, List, [], ◌++◌, length, Option, Some, None, Ok, Err, IfSome, MatchBool, nat_le}
 use Rattle.std.specs.Option.{option_map, option_to_list}
 use Rattle.odb_base.specs.Path.{Path}
-use Rattle.odb_nodes.specs.Tree.{State, tree_of}
-use Rattle.odb_asks.specs.Streams.{Streams}
+use Rattle.odb_disk.specs.Tree.{State, tree_of}
+use Rattle.odb_disk.specs.Streams.{Streams}
 use Rattle.walkdir.specs.Above.{AreEntered}
 use Rattle.walkdir.specs.Entered.{IsEntered, StaysOut}
 use Rattle.walkdir.specs.Entry.{is_dir}

@@ -1,6 +1,6 @@
 -- What a skip drops of what was still to come.
 use Rattle.std.specs.Prelude.{◌≡◌, ◌+◌, MatchBool, List, [], ◌∷◌, ◌++◌, length, if◌then◌else◌}
-use Rattle.odb_asks.specs.Streams.{Streams}
+use Rattle.odb_disk.specs.Streams.{Streams}
 use Rattle.walkdir.specs.Progress.{Progress}
 use Rattle.walkdir.specs.Directory.{HasLeft, is_skipped}
 use Rattle.walkdir.specs.Stack.{StandsFor, ancestors, own_entry}

@@ -2,7 +2,7 @@
 -- it is left.
 use Rattle.std.specs.Prelude.{◌≡◌, ℕ, ◌+◌, ◌-◌, ◌*◌, ◌^◌, List, [], ◌∷◌, ◌++◌, length, map, Option, Some, None}
 use Rattle.std.specs.List.{filter_map}
-use Rattle.odb_asks.specs.Streams.{Streams}
+use Rattle.odb_disk.specs.Streams.{Streams}
 use Rattle.walkdir.specs.Walk.{Walking, Item, Ancestor, WalksOf}
 use Rattle.walkdir.specs.Walk.Entries.{shown}
 use Rattle.walkdir.specs.declared.builder.Options.{Options}

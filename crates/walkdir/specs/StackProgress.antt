@@ -1,7 +1,7 @@
 -- How far the walk of a stack is.
 use Rattle.std.specs.Prelude.{◌≡◌, reverse, length}
 use Rattle.std.specs.Option.{option_map}
-use Rattle.odb_asks.specs.Streams.{Streams}
+use Rattle.odb_disk.specs.Streams.{Streams}
 use Rattle.walkdir.specs.Progress.{Progress}
 use Rattle.walkdir.specs.Stack.{ancestors}
 use Rattle.walkdir.specs.Walk.{Order}

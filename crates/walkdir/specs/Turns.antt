@@ -4,7 +4,7 @@ pub mod AtIndex
 pub mod Taken
 pub mod Stands
 use Rattle.std.specs.Prelude.{◌≡◌, ℕ, ◌+◌, ◌*◌, ◌<◌, ◌≤◌, Bool, true, false, [], Option, Some, None, Result, Ok, Err}
-use Rattle.odb_asks.specs.Streams.{Streams}
+use Rattle.odb_disk.specs.Streams.{Streams}
 use Rattle.walkdir.specs.Innermost.{IsAfter, SkipsNone}
 use Rattle.walkdir.specs.Directory.{most_entries}
 use Rattle.walkdir.specs.Progress.{work_at, Progress, Keeps, FailsByFault, CausedWithin, is_innermost, work_left}

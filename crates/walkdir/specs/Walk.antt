@@ -7,12 +7,12 @@ pub mod Children
 pub use Rattle.walkdir.specs.Walk.Given.{Order, Walking, Item, Ancestor}
 pub use Rattle.walkdir.specs.Walk.Answers.{Tells, told_at}
 use Rattle.std.specs.Prelude.{◌≡◌, true, false, List, [], ◌∷◌, ◌++◌, Option, Ok, Err}
-use Rattle.odb_nodes.specs.Tree.Follow.{looked}
-use Rattle.odb_nodes.specs.Entries.{opened}
-use Rattle.odb_nodes.specs.declared.meta.Meta.{Meta}
-use Rattle.odb_nodes.specs.declared.entry.Entry.{Entry}
-use Rattle.odb_nodes.specs.declared.disk_error.DiskError.{DiskError}
-use Rattle.odb_nodes.specs.declared.disk_error.DiskError.TheVariants as refusals
+use Rattle.odb_disk.specs.Tree.Follow.{looked}
+use Rattle.odb_disk.specs.Entries.{opened}
+use Rattle.odb_disk.specs.declared.meta.Meta.{Meta}
+use Rattle.odb_disk.specs.declared.entry.Entry.{Entry}
+use Rattle.odb_disk.specs.declared.disk_error.DiskError.{DiskError}
+use Rattle.odb_disk.specs.declared.disk_error.DiskError.TheVariants as refusals
 use Rattle.walkdir.specs.Error.{io_error}
 use Rattle.walkdir.specs.declared.dent.DirEntry.{DirEntry}
 use Rattle.walkdir.specs.declared.error.Error.{Error}

@@ -5,8 +5,8 @@ ghost use Rattle.walkdir.specs.Options.{default_options, with_options};
 use crate::iter::{IntoIter, OnDisk};
 use crate::sort::{ByKey, ByName, KeyOf, NoSort, Sorter};
 use crate::stack::Stack;
-use odb_asks::Disk;
-use odb_disk::{NoMemory, PathText};
+use odb_disk::Disk;
+use odb_mem_disk::{NoMemory, PathText};
 use std::alloc::Global;
 use std::marker::Model;
 
@@ -82,8 +82,8 @@ impl WalkDir<NoSort> {
 }
 
 impl<S: Drop> WalkDir<S> {
-    ghost use Rattle.odb_asks.specs.Streams.{Streams};
-    ghost use Rattle.odb_nodes.specs.Tree.{Tree};
+    ghost use Rattle.odb_disk.specs.Streams.{Streams};
+    ghost use Rattle.odb_disk.specs.Tree.{Tree};
     ghost use Rattle.walkdir.specs.BuiltWalk.{walking};
     ghost use Rattle.walkdir.specs.Progress.{begun, has_its_streams};
     ghost use Rattle.walkdir.specs.StackProgress.{progress};

@@ -3,8 +3,8 @@ ghost use Rattle.std.specs.Prelude.{◌≡◌, ℕ};
 
 use crate::Result;
 use crate::read::look;
-use odb_asks::Disk;
-use odb_disk::{Kind, Meta, NoMemory, PathText};
+use odb_disk::Disk;
+use odb_mem_disk::{Kind, Meta, NoMemory, PathText};
 use std::alloc::Global;
 
 /// What is at one place of a walk.
@@ -20,8 +20,8 @@ pub struct DirEntry {
 
 impl DirEntry {
     ghost use Rattle.std.specs.Prelude.{IfOk, IfSome};
-    ghost use Rattle.odb_nodes.specs.Tree.{tree_of};
-    ghost use Rattle.odb_nodes.specs.Tree.Follow.{looked};
+    ghost use Rattle.odb_disk.specs.Tree.{tree_of};
+    ghost use Rattle.odb_disk.specs.Tree.Follow.{looked};
     ghost use Rattle.walkdir.specs.Answered.{LooksBy};
     ghost use Rattle.walkdir.specs.Entry.{file_name_of, is_behind_link, is_dir, is_link, entry_at};
     ghost use Rattle.walkdir.specs.Failures.{Costs, failures_of};

@@ -1,13 +1,13 @@
 //! The directories that a walk is in.
 ghost use Rattle.std.specs.Prelude.{◌≡◌, None};
-ghost use Rattle.odb_asks.specs.CallsMade.{Leads};
+ghost use Rattle.odb_disk.specs.CallsMade.{Leads};
 ghost use Rattle.walkdir.specs.Error.{no_memory};
 ghost use Rattle.walkdir.specs.Directory.{stream_in, is_skipped, without_stream, TakesHeld};
 ghost use Rattle.walkdir.specs.Walk.Entries.{same_place};
 
 use crate::{DirEntry, Error, Result};
-use odb_asks::{DirId, Disk};
-use odb_disk::PathText;
+use odb_disk::{DirId, Disk};
+use odb_mem_disk::PathText;
 use std::collections::VecDeque;
 
 /// The device and the inode number of a directory.

@@ -3,7 +3,7 @@ ghost use Rattle.std.specs.Prelude.{◌≡◌, ℕ, Option};
 ghost use Rattle.std.specs.Option.{option_copied};
 ghost use Rattle.walkdir.specs.Error.{refusal_name};
 
-use odb_disk::{DiskError, NoMemory, PathText};
+use odb_mem_disk::{DiskError, NoMemory, PathText};
 use std::alloc::{AllocError, AllocFailed, Global};
 use std::fmt;
 

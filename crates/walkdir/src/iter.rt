@@ -1,7 +1,7 @@
 //! Walks on a disk.
 ghost use Rattle.std.specs.Prelude.{◌≡◌, Bool, true, false, [], None};
-ghost use Rattle.odb_asks.specs.Streams.{Streams};
-ghost use Rattle.odb_asks.specs.CallsMade.{Leads};
+ghost use Rattle.odb_disk.specs.Streams.{Streams};
+ghost use Rattle.odb_disk.specs.CallsMade.{Leads};
 ghost use Rattle.walkdir.specs.Answered.{TellsOn};
 ghost use Rattle.walkdir.specs.Filter.{LeavesNoMore};
 ghost use Rattle.walkdir.specs.Failures.{failures_given};
@@ -16,7 +16,7 @@ ghost use Rattle.walkdir.specs.Skips.{Skips};
 use crate::filter::FilterEntry;
 use crate::stack::Stack;
 use crate::{DirEntry, Result};
-use odb_asks::Disk;
+use odb_disk::Disk;
 
 /// A walk whose innermost directory can be skipped.
 pub trait Walk: Iterator<Item = Result<DirEntry>> {

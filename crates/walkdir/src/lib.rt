@@ -26,8 +26,8 @@ pub use dent::{DirEntry, DirEntryExt};
 pub use error::Error;
 pub use filter::FilterEntry;
 pub use iter::{IntoIter, OnDisk, Steps, Walk};
-pub use odb_asks::Disk;
-pub use odb_disk::{DiskError, Kind, Meta, PathText};
+pub use odb_disk::Disk;
+pub use odb_mem_disk::{DiskError, Kind, Meta, PathText};
 pub use sort::{ByKey, ByName, KeyOf, NoSort, Sorter};
 pub use stack::Stack;
 

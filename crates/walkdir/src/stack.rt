@@ -9,8 +9,8 @@ use crate::iter::Steps;
 use crate::read::{entry_by, look};
 use crate::sort::Sorter;
 use crate::{DirEntry, Error, Result};
-use odb_asks::Disk;
-use odb_disk::PathText;
+use odb_disk::Disk;
+use odb_mem_disk::PathText;
 use std::alloc::Global;
 
 mod draw;
@@ -50,7 +50,7 @@ pub enum Turn {
 
 impl<S: Sorter + Drop> Stack<S> {
     ghost use Rattle.std.specs.Prelude.{false, [], None, reverse, IfErr};
-    ghost use Rattle.odb_asks.specs.Streams.{Streams};
+    ghost use Rattle.odb_disk.specs.Streams.{Streams};
     ghost use Rattle.walkdir.specs.Error.{IsOnPath};
     ghost use Rattle.walkdir.specs.AnsweredTurns.{TellsLook};
     ghost use Rattle.walkdir.specs.Turns.Taken.{FindsDevice};

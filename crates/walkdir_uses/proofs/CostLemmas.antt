@@ -5,10 +5,10 @@ use Rattle.std.specs.Iterator.{Yields, YieldsThen}
 use Rattle.std.specs.Prelude.{MatchBool}
 use Rattle.std.specs.Result.{IfErr, IfOk}
 use denote.Ref.{Bor}
-use Rattle.odb_asks.specs.declared.ask.DiskAsk.{DiskAsk}
-use Rattle.odb_asks.specs.declared.ask.DiskAnswer.{DiskAnswer}
-use Rattle.odb_asks.specs.Streams.{Streams}
-use Rattle.odb_nodes.specs.Tree.{State}
+use Rattle.odb_disk.specs.declared.ask.DiskAsk.{DiskAsk}
+use Rattle.odb_disk.specs.declared.ask.DiskAnswer.{DiskAnswer}
+use Rattle.odb_disk.specs.Streams.{Streams}
+use Rattle.odb_disk.specs.Tree.{State}
 use Rattle.walkdir.proofs.FilteredWalks.{FiltersOn, Kept, kept_along, kept_filters, kept_then}
 use Rattle.walkdir.proofs.FailuresLaws.{costs_begun, costs_fewer, fails_fewer, fails_next, fails_none, fails_skipped, fails_then, failures-last, memory_is_no_failure}
 use Rattle.walkdir.proofs.WholeWalks.{failures_along}

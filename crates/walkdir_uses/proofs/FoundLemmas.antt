@@ -9,9 +9,9 @@ use Rattle.std.proofs.lemmas.List.{map-append}
 use Rattle.std.proofs.lemmas.List.Elements.{Contains-append_right, filter-append}
 use Rattle.std.proofs.lemmas.List.Sums.{sum_by_push}
 use Rattle.odb_base.specs.Path.{Name, Path, name_cmp}
-use Rattle.odb_nodes.specs.Tree.{Tree}
-use Rattle.odb_nodes.specs.Tree.Follow.{Refusal, looked}
-use Rattle.odb_nodes.specs.declared.meta.Meta.{Meta}
+use Rattle.odb_disk.specs.Tree.{Tree}
+use Rattle.odb_disk.specs.Tree.Follow.{Refusal, looked}
+use Rattle.odb_disk.specs.declared.meta.Meta.{Meta}
 use Rattle.walkdir.specs.Entry.{file_name_of}
 use Rattle.walkdir.specs.BuiltWalk.{walking}
 use Rattle.walkdir.specs.Options.{Built, default_options}
@@ -22,7 +22,7 @@ use Rattle.walkdir.specs.FilteredWalk.{BeginsFiltered, HasNotBegun, NoneLost}
 use Rattle.walkdir.specs.Progress.{Progress, begun}
 use Rattle.walkdir.specs.Walk.{Item, Order, Walking, told_at}
 use Rattle.walkdir.specs.declared.error.Error.{Error}
-use Rattle.odb_asks.specs.Streams.{Streams}
+use Rattle.odb_disk.specs.Streams.{Streams}
 use Rattle.walkdir.specs.declared.builder.Options.{Options}
 use Rattle.walkdir.specs.declared.dent.DirEntry.{DirEntry}
 use Rattle.walkdir_uses.specs.Found.{ComesFirst, EndsWith, IsStoppedIn, below, inside, is_file, is_hidden, length_of, size_at, total_size, visible_names}

@@ -2,11 +2,11 @@
 use Rattle.std.specs.Prelude.{◌≡◌, ◌⊎◌, ℕ, ◌-◌, ◌^◌, ◌==◌, Bool, true, false, not, min, List, [], ◌∷◌, ◌++◌, Contains, map, filter, sum_by, Option, Some, None, Ok, Err}
 use Rattle.std.specs.Result.{result_ok}
 use Rattle.odb_base.specs.Path.{Path, Name, name_cmp}
-use Rattle.odb_nodes.specs.Tree.{Tree}
-use Rattle.odb_nodes.specs.Tree.Follow.{looked}
-use Rattle.odb_nodes.specs.declared.meta.Kind.{Kind}
-use Rattle.odb_nodes.specs.declared.meta.Kind.TheVariants.{File, Dir, Link}
-use Rattle.odb_nodes.specs.declared.meta.Meta.{Meta}
+use Rattle.odb_disk.specs.Tree.{Tree}
+use Rattle.odb_disk.specs.Tree.Follow.{looked}
+use Rattle.odb_disk.specs.declared.meta.Kind.{Kind}
+use Rattle.odb_disk.specs.declared.meta.Kind.TheVariants.{File, Dir, Link}
+use Rattle.odb_disk.specs.declared.meta.Meta.{Meta}
 use Rattle.walkdir.specs.Entry.{file_name_of}
 use Rattle.walkdir.specs.Error.{is_no_memory}
 use Rattle.walkdir.specs.FilteredWalk.{BeginsFiltered}

@@ -5,8 +5,8 @@
 
 ghost use Rattle.std.specs.Prelude.{◌≡◌, ◌⊎◌, IfOk, IfErr, IfSome, map, All, Ok, None, List, true};
 ghost use Rattle.std.specs.Iterator.{IsFinite, Yields, YieldsThen};
-ghost use Rattle.odb_asks.specs.Streams.{Streams};
-ghost use Rattle.odb_nodes.specs.Tree.{tree_of};
+ghost use Rattle.odb_disk.specs.Streams.{Streams};
+ghost use Rattle.odb_disk.specs.Tree.{tree_of};
 ghost use Rattle.walkdir.specs.Answered.{IsToldIn};
 ghost use Rattle.walkdir.specs.BuiltWalk.{walking};
 ghost use Rattle.walkdir.specs.Error.{is_no_memory};

@@ -1,6 +1,6 @@
 //! The bytes of the files that a script puts.
 use gix_hash::{Hasher, Kind};
-use odb_disk::Change;
+use odb_mem_disk::Change;
 use odb_script::{Item, item_of};
 use std::alloc::{AllocError, Global};
 use std::test::Fail;

@@ -2,7 +2,7 @@
 use crate::played::outcome_shown;
 use crate::steps::line_of;
 use gix_odb_world::{Line, OutcomeList, Play, World};
-use odb_disk::MemDisk;
+use odb_mem_disk::MemDisk;
 use std::alloc::Global;
 use std::test::Fail;
 use test_words::compare;

@@ -1,7 +1,7 @@
 //! Rows of steps that are made in a world, and their outcomes.
 use crate::steps::step_of;
 use gix_odb_world::{Did, Outcome, Record, Reply, Run, Step, World, is_valid};
-use odb_disk::MemDisk;
+use odb_mem_disk::MemDisk;
 use std::alloc::{AllocError, Global};
 use std::test::Fail;
 use test_words::{compare, halves};

@@ -3,7 +3,7 @@ use crate::played::{joined, record_shown};
 use crate::steps::step_of;
 use gix_odb_core::{Effect, Entry, Event, Journal, PackId, Refusal};
 use gix_odb_world::{Run, Step, World};
-use odb_disk::{MemDisk, PathText};
+use odb_mem_disk::{MemDisk, PathText};
 use std::alloc::{AllocError, Global};
 use std::test::Fail;
 use test_words::{compare, halves};

@@ -1,7 +1,7 @@
 //! A write that finds all temporary names taken, and what it leaves on the disk.
 use crate::played::{check_row, told, tree_shown};
 use gix_odb_world::World;
-use odb_disk::MemDisk;
+use odb_mem_disk::MemDisk;
 use std::alloc::Global;
 use std::test::Fail;
 use test_words::compare;

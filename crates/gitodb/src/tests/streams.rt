@@ -1,6 +1,6 @@
 //! Sources and sinks that fail.
 use crate::run::run;
-use odb_disk::{MemDisk, MemSink, MemSource};
+use odb_mem_disk::{MemDisk, MemSink, MemSource};
 use odb_program::SessionStatus;
 use std::alloc::Global;
 use std::test::Fail;

@@ -2,9 +2,9 @@
 ghost use Rattle.std.specs.Prelude.{◌≡◌, IfOk, string_bytes};
 ghost use Rattle.odb_base.specs.Path.{Path, Name};
 ghost use Rattle.walkdir.specs.Entry.{file_name_of};
-ghost use Rattle.odb_nodes.specs.declared.meta.Kind.{Kind as KindValue};
+ghost use Rattle.odb_disk.specs.declared.meta.Kind.{Kind as KindValue};
 
-use odb_disk::{Kind, NoMemory, PathText};
+use odb_mem_disk::{Kind, NoMemory, PathText};
 use std::alloc::Global;
 
 /// An entry of a directory.

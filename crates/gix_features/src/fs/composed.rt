@@ -4,7 +4,7 @@ ghost use Rattle.std.specs.List.{list_all};
 ghost use Rattle.odb_base.specs.Path.{is_name};
 ghost use Rattle.gix_features.specs.Composed.{composed_path, composed_part, composed_name};
 
-use odb_disk::{BadPath, NoMemory, PathText};
+use odb_mem_disk::{BadPath, NoMemory, PathText};
 use std::alloc::Global;
 use unicode_normalization::to_nfc;
 

@@ -4,7 +4,7 @@ ghost use Rattle.gix_features.specs.Composed.{name_if, path_if};
 
 use super::api::DirEntryApi;
 use super::composed::{composed_name, composed_path};
-use odb_disk::{Kind, NoMemory, PathText};
+use odb_mem_disk::{Kind, NoMemory, PathText};
 use std::alloc::Global;
 
 /// An entry, with its names in Unicode's form NFC if that is asked for.

@@ -2,7 +2,7 @@
 ghost use Rattle.std.specs.Prelude.{◌≡◌};
 ghost use Rattle.gix_features.specs.GitOrder.{git_order, git_order_total, slash_behind};
 
-use odb_disk::Kind;
+use odb_mem_disk::Kind;
 use std::cmp::Ordering;
 use walkdir::{DirEntry, Sorter};
 

@@ -3,7 +3,7 @@ ghost use Rattle.std.specs.Prelude.{◌++◌, ◌∷◌, [], ◌≡◌, true};
 ghost use Rattle.odb_base.specs.Path.{is_name};
 
 use super::api::DirEntryApi;
-use odb_disk::{BadPath, Entry, Kind, NoMemory, PathText};
+use odb_mem_disk::{BadPath, Entry, Kind, NoMemory, PathText};
 use std::alloc::Global;
 
 /// An entry that a stream gave, and the directory that contains it.

@@ -4,8 +4,8 @@ ghost use Rattle.walkdir.specs.Options.{default_options, with_options};
 
 use super::entry::DirEntry;
 use super::order::GitOrder;
-use odb_asks::Disk;
-use odb_disk::{NoMemory, PathText};
+use odb_disk::Disk;
+use odb_mem_disk::{NoMemory, PathText};
 use std::alloc::Global;
 use walkdir::{Error, NoSort, Sorter, Stack, Steps};
 
@@ -163,8 +163,8 @@ impl<'d, D: Disk, W: Steps> Iterator for WalkDirIter<'d, D, W> {
 }
 
 impl<'d, D: Disk, W: Steps> Drop for WalkDirIter<'d, D, W> {
-    ghost use Rattle.odb_asks.specs.CallsMade.{Leads};
-    ghost use Rattle.odb_asks.specs.Streams.{Streams};
+    ghost use Rattle.odb_disk.specs.CallsMade.{Leads};
+    ghost use Rattle.odb_disk.specs.Streams.{Streams};
     ghost use Rattle.walkdir.specs.OwnStreams.{AreBack};
     ghost use Rattle.walkdir.specs.Progress.{Keeps};
 

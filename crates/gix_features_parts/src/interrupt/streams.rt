@@ -1,12 +1,12 @@
 //! Reads and writes that fail when a flag is set.
 ghost use Rattle.std.specs.Prelude.{◌≡◌, ◌≤◌, true, false, length, IfOk, OnOk};
 ghost use Rattle.odb_base.specs.Faults.{HasCause};
-ghost use Rattle.odb_disk.specs.Source.{Reads, Writes};
+ghost use Rattle.odb_mem_disk.specs.Source.{Reads, Writes};
 ghost use Rattle.gix_features_parts.specs.Interrupt.{Asked};
 ghost use Rattle.gix_features_parts.specs.InterruptedCall.{is_interrupted, inner_answer};
 
 use super::Flag;
-use odb_disk::{Failed, Sink, Source};
+use odb_mem_disk::{Failed, Sink, Source};
 use thiserror::Error;
 
 /// Why a read or a write under a flag failed.

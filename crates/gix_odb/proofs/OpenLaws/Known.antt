@@ -3,39 +3,39 @@ use Rattle.std.proofs.Common.{◌≡◌, ℕ, ◌≤◌, Bool, true, false, nat_
 use Rattle.std.specs.Prelude.{if◌then◌else◌}
 use Rattle.std.proofs.lemmas.List.Elements.{Contains-push}
 use Rattle.std.proofs.lemmas.Option.{same_Some}
-use Rattle.odb_asks.specs.declared.ask.DiskAnswer.{DiskAnswer}
-use Rattle.odb_asks.specs.declared.ask.DiskAnswer.TheVariants as answers
-use Rattle.odb_asks.specs.declared.ask.DiskAsk.TheVariants as disk_asks
-use Rattle.odb_nodes.specs.declared.disk_error.DiskError.TheVariants as disk_errors
-use Rattle.odb_nodes.specs.declared.meta.Kind.{Kind}
-use Rattle.odb_nodes.specs.declared.meta.Kind.TheVariants as kinds
+use Rattle.odb_disk.specs.declared.ask.DiskAnswer.{DiskAnswer}
+use Rattle.odb_disk.specs.declared.ask.DiskAnswer.TheVariants as answers
+use Rattle.odb_disk.specs.declared.ask.DiskAsk.TheVariants as disk_asks
+use Rattle.odb_disk.specs.declared.disk_error.DiskError.TheVariants as disk_errors
+use Rattle.odb_disk.specs.declared.meta.Kind.{Kind}
+use Rattle.odb_disk.specs.declared.meta.Kind.TheVariants as kinds
 use Rattle.gix_odb_events.specs.PackId.{most_slots}
-use Rattle.gix_odb_packs.specs.ListOrder as lists
+use Rattle.gix_odb_search.specs.ListOrder as lists
 use Rattle.gix_odb_events.specs.Answers.{Answer as CoreAnswer}
 use Rattle.gix_odb_events.specs.declared.listing.Listing.{Listing}
 use Rattle.gix_odb_events.specs.declared.answer.Answer.{Answer}
 use Rattle.gix_odb_events.specs.declared.answer.Answer.TheVariants as told
 use Rattle.gix_odb_events.specs.declared.answer.Ask.{Ask}
 use Rattle.gix_odb_events.specs.declared.answer.Ask.TheVariants as asks
-use Rattle.gix_odb_packs.specs.declared.lister.ListStep.{ListStep}
-use Rattle.gix_odb_packs.specs.declared.lister.ListStep.TheVariants as listed
-use Rattle.gix_odb_packs.specs.declared.lister.Lister.{Lister}
+use Rattle.gix_odb_search.specs.declared.lister.ListStep.{ListStep}
+use Rattle.gix_odb_search.specs.declared.lister.ListStep.TheVariants as listed
+use Rattle.gix_odb_search.specs.declared.lister.Lister.{Lister}
 use Rattle.gix_odb_calls.specs.declared.call.CallError.TheVariants as call_errors
 use Rattle.gix_odb_calls.specs.declared.call.Reply.{Reply}
 use Rattle.gix_odb_calls.specs.declared.call.Reply.TheVariants as replies
 use Rattle.gix_odb_calls.specs.declared.init.Error.TheVariants as opening_errors
 use Rattle.gix_odb_calls.specs.declared.init.Slots.{Slots}
 use Rattle.gix_odb_calls.specs.declared.init.Slots.TheVariants.{AsNeededByDiskState, Given}
-use Rattle.gix_odb_looks.specs.Exchange.{Exchange, WasTold}
-use Rattle.gix_odb_looks.specs.LookUpOrder.{Setting}
-use Rattle.gix_odb_looks.specs.Shown.{folders_of}
-use Rattle.gix_odb_refresh.proofs.ListerLaws.Folders.{GoesToFolder, IsAtFolder, fed-goes, first_folder}
-use Rattle.gix_odb_refresh.proofs.ListerLaws.Tells.{Breaks, ListedTells, fed-tells}
-use Rattle.gix_odb_refresh.proofs.ListerLaws.Streams.{HasNone, StreamBehind, StreamOf, Told, listing_streams, told_by}
-use Rattle.gix_odb_refresh.specs.Asked.{AreSuited, IsSuited}
-use Rattle.gix_odb_refresh.proofs.AskedLemmas.{holds_behind}
-use Rattle.gix_odb_refresh.proofs.RefreshLaws.Causes.{Breaks-more}
-use Rattle.gix_odb_refresh.proofs.RefreshLaws.Known.{told_of, told_of-push}
+use Rattle.gix_odb.specs.LookExchanges.{Exchange, WasTold}
+use Rattle.gix_odb.specs.LookUpOrder.{Setting}
+use Rattle.gix_odb.specs.Shown.{folders_of}
+use Rattle.gix_odb.proofs.ListerLaws.Folders.{GoesToFolder, IsAtFolder, fed-goes, first_folder}
+use Rattle.gix_odb.proofs.ListerLaws.Tells.{Breaks, ListedTells, fed-tells}
+use Rattle.gix_odb.proofs.ListerLaws.Streams.{HasNone, StreamBehind, StreamOf, Told, listing_streams, told_by}
+use Rattle.gix_odb.specs.Asked.{AreSuited, IsSuited}
+use Rattle.gix_odb.proofs.AskedLemmas.{holds_behind}
+use Rattle.gix_odb.proofs.RefreshLaws.Causes.{Breaks-more}
+use Rattle.gix_odb.proofs.RefreshLaws.Known.{told_of, told_of-push}
 use Rattle.gix_odb.specs.OpenOrder.{begun, listed_on, looked, numbered, refused, shown, slots_for}
 use Rattle.gix_odb.specs.OpenExchanges.{AreAsked, HasListed, IsCaused, IsNoDir, IsNumber, ShowsNoDirectory, asks_of, behind, fed_by, list_behind, list_by}
 use Rattle.gix_odb.specs.declared.open_state.OpenStage.{OpenStage}

@@ -2,16 +2,16 @@
 use Rattle.std.specs.Prelude.{◌≡◌, ◌≢◌, ◌↔◌, Bool, true, false, IsTrue, Result, Ok, Err, refl}
 use Rattle.std.proofs.Common.{subst}
 use Rattle.odb_base.specs.Path.{Path}
-use Rattle.odb_asks.specs.Ask.{AnswersAsk, meta_answer}
-use Rattle.odb_nodes.specs.Tree.{Tree}
-use Rattle.odb_nodes.specs.Tree.Follow.{Refusal, looked}
-use Rattle.odb_asks.specs.declared.ask.DiskAnswer.{DiskAnswer}
-use Rattle.odb_asks.specs.declared.ask.DiskAnswer.TheVariants as answers
-use Rattle.odb_nodes.specs.declared.disk_error.DiskError.TheVariants as disk_errors
-use Rattle.odb_nodes.specs.declared.meta.Kind.{Kind as NodeKind}
-use Rattle.odb_nodes.specs.declared.meta.Kind.TheVariants as nodes
-use Rattle.odb_nodes.specs.declared.meta.Meta.{Meta}
-use Rattle.odb_nodes.proofs.TreeLemmas.Look.{read_of-file, read_of-other, read_of-refused}
+use Rattle.odb_disk.specs.Ask.{AnswersAsk, meta_answer}
+use Rattle.odb_disk.specs.Tree.{Tree}
+use Rattle.odb_disk.specs.Tree.Follow.{Refusal, looked}
+use Rattle.odb_disk.specs.declared.ask.DiskAnswer.{DiskAnswer}
+use Rattle.odb_disk.specs.declared.ask.DiskAnswer.TheVariants as answers
+use Rattle.odb_disk.specs.declared.disk_error.DiskError.TheVariants as disk_errors
+use Rattle.odb_disk.specs.declared.meta.Kind.{Kind as NodeKind}
+use Rattle.odb_disk.specs.declared.meta.Kind.TheVariants as nodes
+use Rattle.odb_disk.specs.declared.meta.Meta.{Meta}
+use Rattle.odb_disk.proofs.TreeLemmas.Look.{read_of-file, read_of-other, read_of-refused}
 use Rattle.gix_odb_loose.specs.LooseFile.{LeadsToFile}
 use Rattle.gix_odb_loose.specs.Causes.{TestCause}
 use Rattle.gix_odb_loose.specs.LooseOrder.Answered.{unreadable, is_file, tested_by}

@@ -2,11 +2,11 @@
 use Rattle.std.specs.Prelude.{◌≡◌, ◌≢◌, ◌⊎◌, ℕ, List, Option, Some, None, Result, Ok, Err, refl}
 use Rattle.std.proofs.Common.{inl, inr, sym, ap, ◌∙◌, subst}
 use Rattle.odb_base.specs.Path.{Path}
-use Rattle.odb_asks.specs.Ask.{AnswersAsk, file_answer}
-use Rattle.odb_nodes.specs.Tree.Follow.{Absent, WrongKind, LinkLoop}
-use Rattle.odb_asks.specs.declared.ask.DiskAnswer.{DiskAnswer}
-use Rattle.odb_asks.specs.declared.ask.DiskAnswer.TheVariants as answers
-use Rattle.odb_nodes.specs.declared.disk_error.DiskError.TheVariants as disk_errors
+use Rattle.odb_disk.specs.Ask.{AnswersAsk, file_answer}
+use Rattle.odb_disk.specs.Tree.Follow.{Absent, WrongKind, LinkLoop}
+use Rattle.odb_disk.specs.declared.ask.DiskAnswer.{DiskAnswer}
+use Rattle.odb_disk.specs.declared.ask.DiskAnswer.TheVariants as answers
+use Rattle.odb_disk.specs.declared.disk_error.DiskError.TheVariants as disk_errors
 use Rattle.gix_odb_loose.specs.LooseFile.{Reading, HoldsObject, HoldsHeader}
 use Rattle.gix_odb_loose.specs.Causes.{Seen, IsUnreadable, FindCause, HeaderCause}
 use Rattle.gix_odb_loose.specs.Answers.{ComesTo, AnswersRead}

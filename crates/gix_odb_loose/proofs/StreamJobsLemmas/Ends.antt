@@ -3,13 +3,13 @@ use Rattle.std.specs.Result.{IsErr}
 use Rattle.std.specs.Prelude.{is_some, ◌≡◌, ◌⊎◌, ℕ, ◌≤◌, true, false, List, [], ◌∷◌, ◌++◌, Option, Some, None, Result, Ok, Err, IfSome, refl}
 use Rattle.std.proofs.Common.{inl, inr, sym, ap, ◌∙◌, subst, arith}
 use Rattle.odb_base.specs.Faults.{Rose}
-use Rattle.odb_asks.specs.Ask.{AnswersAsk, answer_of, state_told_after}
-use Rattle.odb_nodes.specs.Tree.{State, IsTree, tree_of}
-use Rattle.odb_asks.specs.declared.ask.DiskAsk.{DiskAsk}
-use Rattle.odb_asks.specs.declared.ask.DiskAsk.TheVariants as asks
-use Rattle.odb_asks.specs.declared.ask.DiskAnswer.{DiskAnswer}
-use Rattle.odb_asks.specs.declared.ask.DiskAnswer.TheVariants as answers
-use Rattle.odb_nodes.specs.declared.disk_error.DiskError.TheVariants as disk_errors
+use Rattle.odb_disk.specs.Ask.{AnswersAsk, answer_of, state_told_after}
+use Rattle.odb_disk.specs.Tree.{State, IsTree, tree_of}
+use Rattle.odb_disk.specs.declared.ask.DiskAsk.{DiskAsk}
+use Rattle.odb_disk.specs.declared.ask.DiskAsk.TheVariants as asks
+use Rattle.odb_disk.specs.declared.ask.DiskAnswer.{DiskAnswer}
+use Rattle.odb_disk.specs.declared.ask.DiskAnswer.TheVariants as answers
+use Rattle.odb_disk.specs.declared.disk_error.DiskError.TheVariants as disk_errors
 use Rattle.gix_hash.specs.declared.object_id.ObjectId.{ObjectId}
 use Rattle.gix_odb_loose.specs.Exchanges.{Exchange, exchanged, left_by, AreGiven}
 use Rattle.gix_odb_loose.specs.WriteHistory.Refused.{IsFailedRead}

@@ -3,12 +3,12 @@ use Rattle.std.specs.Prelude.{◌≡◌, ◌⊎◌, ℕ, ◌≤◌, List, [], �
 use Rattle.std.proofs.Common.{inl, inr, sym, ap, ◌∙◌, subst, arith}
 use Rattle.std.proofs.lemmas.List.Elements.{All-append, All-cons, All-nil}
 use Rattle.odb_base.specs.Faults.{Rose}
-use Rattle.odb_asks.specs.Ask.{AnswersAsk, answer_of, state_told_after}
-use Rattle.odb_nodes.specs.Tree.{State, IsTree, tree_of}
-use Rattle.odb_asks.specs.declared.ask.DiskAsk.{DiskAsk}
-use Rattle.odb_asks.specs.declared.ask.DiskAnswer.{DiskAnswer}
-use Rattle.odb_asks.specs.declared.ask.DiskAnswer.TheVariants as answers
-use Rattle.odb_nodes.specs.declared.disk_error.DiskError.TheVariants as disk_errors
+use Rattle.odb_disk.specs.Ask.{AnswersAsk, answer_of, state_told_after}
+use Rattle.odb_disk.specs.Tree.{State, IsTree, tree_of}
+use Rattle.odb_disk.specs.declared.ask.DiskAsk.{DiskAsk}
+use Rattle.odb_disk.specs.declared.ask.DiskAnswer.{DiskAnswer}
+use Rattle.odb_disk.specs.declared.ask.DiskAnswer.TheVariants as answers
+use Rattle.odb_disk.specs.declared.disk_error.DiskError.TheVariants as disk_errors
 use Rattle.gix_odb_loose.specs.Exchanges.{Exchange, exchanged, left_by, FailByFaults}
 use Rattle.gix_odb_loose.proofs.ExchangeLaws.{left_by-push, AreGiven-push}
 use Rattle.gix_odb_loose.specs.WriteHistory.Refused.{IsFailedRead}

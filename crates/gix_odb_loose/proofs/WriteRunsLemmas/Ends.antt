@@ -3,9 +3,9 @@ use Rattle.std.specs.Result.{IsErrAnd}
 use Rattle.std.specs.Prelude.{◌≡◌, ◌⊎◌, ⊤, ℕ, List, [], ◌∷◌, length, Option, Some, None, Result, Ok, Err, IfOk, IfSome, refl}
 use Rattle.std.proofs.Common.{inl, inr, sym, ap, ◌∙◌, subst, arith}
 use Rattle.odb_base.specs.Faults.{Rose}
-use Rattle.odb_nodes.specs.Tree.{State, IsTree, tree_of}
-use Rattle.odb_asks.specs.declared.ask.DiskAsk.TheVariants as asks
-use Rattle.odb_asks.specs.declared.ask.DiskAnswer.TheVariants as answers
+use Rattle.odb_disk.specs.Tree.{State, IsTree, tree_of}
+use Rattle.odb_disk.specs.declared.ask.DiskAsk.TheVariants as asks
+use Rattle.odb_disk.specs.declared.ask.DiskAnswer.TheVariants as answers
 use Rattle.gix_hash.specs.declared.object_id.ObjectId.{ObjectId}
 use Rattle.gix_odb_loose.specs.Causes.{WriteCause}
 use Rattle.gix_odb_loose.proofs.CauseLaws.Write.{WriteCause-wider}

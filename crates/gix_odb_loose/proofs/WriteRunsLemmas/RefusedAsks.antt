@@ -2,18 +2,18 @@
 use Rattle.std.specs.Prelude.{◌≡◌, ◌⊎◌, ℕ, zero, suc, ◌<◌, List, [], ◌∷◌, length, slice_index_or, Contains, Option, Some, None, Result, Ok, Err, IfSome, refl}
 use Rattle.std.proofs.Common.{inl, inr, ap, ◌∙◌, subst, arith}
 use Rattle.odb_base.specs.Faults.{Rose}
-use Rattle.odb_asks.specs.Ask.{AnswersAsk, answer_of, state_told_after, write_answer, error_of_write}
-use Rattle.odb_nodes.specs.Tree.{State, Tree, tree_of}
-use Rattle.odb_nodes.specs.Tree.Write as writing
-use Rattle.odb_nodes.specs.Tree.Write.{change_of_make_dir, change_of_new_file, change_of_append, change_of_rename}
-use Rattle.odb_nodes.specs.declared.change.Change.{Change}
-use Rattle.odb_asks.specs.declared.ask.DiskAsk.{DiskAsk}
-use Rattle.odb_asks.specs.declared.ask.DiskAsk.TheVariants as asks
-use Rattle.odb_asks.specs.declared.ask.DiskAnswer.{DiskAnswer}
-use Rattle.odb_asks.specs.declared.ask.DiskAnswer.TheVariants as answers
-use Rattle.odb_nodes.specs.declared.disk_error.DiskError.{DiskError}
-use Rattle.odb_nodes.specs.declared.disk_error.DiskError.TheVariants as disk_errors
-use Rattle.odb_nodes.proofs.RefusalLaws.{Never, there, full, new_file-never, make_dir-never, append-never, rename-never}
+use Rattle.odb_disk.specs.Ask.{AnswersAsk, answer_of, state_told_after, write_answer, error_of_write}
+use Rattle.odb_disk.specs.Tree.{State, Tree, tree_of}
+use Rattle.odb_disk.specs.Tree.Write as writing
+use Rattle.odb_disk.specs.Tree.Write.{change_of_make_dir, change_of_new_file, change_of_append, change_of_rename}
+use Rattle.odb_disk.specs.declared.change.Change.{Change}
+use Rattle.odb_disk.specs.declared.ask.DiskAsk.{DiskAsk}
+use Rattle.odb_disk.specs.declared.ask.DiskAsk.TheVariants as asks
+use Rattle.odb_disk.specs.declared.ask.DiskAnswer.{DiskAnswer}
+use Rattle.odb_disk.specs.declared.ask.DiskAnswer.TheVariants as answers
+use Rattle.odb_disk.specs.declared.disk_error.DiskError.{DiskError}
+use Rattle.odb_disk.specs.declared.disk_error.DiskError.TheVariants as disk_errors
+use Rattle.odb_disk.proofs.RefusalLaws.{Never, there, full, new_file-never, make_dir-never, append-never, rename-never}
 use Rattle.gix_odb_loose.proofs.CauseLaws.Write.{IsMaking}
 use Rattle.gix_odb_loose.specs.Exchanges.{Exchange, exchanged, AreGiven, FailByFaults}
 use Rattle.gix_odb_loose.specs.WriteHistory.Refused.{IsRefused, RefusedIn}

@@ -3,11 +3,11 @@ use Rattle.std.specs.Prelude.{◌≡◌, ℕ, false, List, [], ◌∷◌, All, O
 use Rattle.std.proofs.Common.{inl, inr, ap, ◌∙◌}
 use Rattle.std.proofs.lemmas.List.Elements.{All-head, All-tail}
 use Rattle.odb_base.specs.Path.{Path}
-use Rattle.odb_asks.specs.Ask.{state_told_after}
-use Rattle.odb_nodes.specs.Tree.{State}
-use Rattle.odb_asks.specs.declared.ask.DiskAsk.{DiskAsk}
-use Rattle.odb_asks.specs.declared.ask.DiskAnswer.{DiskAnswer}
-use Rattle.odb_asks.specs.declared.ask.DiskAnswer.TheVariants as answers
+use Rattle.odb_disk.specs.Ask.{state_told_after}
+use Rattle.odb_disk.specs.Tree.{State}
+use Rattle.odb_disk.specs.declared.ask.DiskAsk.{DiskAsk}
+use Rattle.odb_disk.specs.declared.ask.DiskAnswer.{DiskAnswer}
+use Rattle.odb_disk.specs.declared.ask.DiskAnswer.TheVariants as answers
 use Rattle.gix_hash.specs.declared.object_id.ObjectId.{ObjectId}
 use Rattle.gix_odb_loose.specs.Exchanges.{Exchange, left_by, is_done}
 use Rattle.gix_odb_loose.specs.WriteOrder.{error_from}

@@ -1,7 +1,7 @@
 -- What a write from a source began with, and what it did to the disk and took from the source since. No public clause cites this.
 use Rattle.std.specs.Prelude.{Result, ◌≡◌, ◌⊎◌, ℕ, ◌+◌, ◌≤◌, List, [], length, Option, Some, IfSome}
 use Rattle.odb_base.specs.Faults.{Rose}
-use Rattle.odb_nodes.specs.Tree.{State, IsTree, tree_of}
+use Rattle.odb_disk.specs.Tree.{State, IsTree, tree_of}
 use Rattle.gix_hash.specs.declared.kind.Kind.{Kind as HashKind}
 use Rattle.gix_hash.specs.declared.object_id.ObjectId.{ObjectId}
 use Rattle.gix_object.specs.declared.kind.Kind.{Kind}

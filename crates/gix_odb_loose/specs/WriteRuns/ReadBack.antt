@@ -1,11 +1,11 @@
 -- What a write leaves where the disk reports its states: the object's path reads as the header and the data.
 use Rattle.std.specs.Prelude.{◌≡◌, ℕ, false, List, ◌++◌, Option, Some, Ok}
 use Rattle.odb_base.specs.Path.{Path}
-use Rattle.odb_nodes.specs.Tree.{State, tree_of}
-use Rattle.odb_nodes.specs.Tree.Follow.{read_of}
-use Rattle.odb_nodes.specs.Tree.Way.{crosses}
-use Rattle.odb_nodes.specs.Tree.Write.{written, change_of_rename}
-use Rattle.odb_nodes.specs.declared.change.Change.TheVariants.{Rename}
+use Rattle.odb_disk.specs.Tree.{State, tree_of}
+use Rattle.odb_disk.specs.Tree.Follow.{read_of}
+use Rattle.odb_disk.specs.Tree.Way.{crosses}
+use Rattle.odb_disk.specs.Tree.Write.{written, change_of_rename}
+use Rattle.odb_disk.specs.declared.change.Change.TheVariants.{Rename}
 use Rattle.gix_hash.specs.declared.object_id.ObjectId.{ObjectId}
 use Rattle.gix_object.specs.Loose.{header_of}
 use Rattle.gix_odb_loose.specs.LooseFile.{loose_path}

@@ -4,7 +4,7 @@ use Rattle.std.specs.Prelude.{◌&&◌, ◌==◌, if◌then◌else◌, count_by}
 use Rattle.std.proofs.lemmas.Bool.{eqb-true}
 use Rattle.std.proofs.lemmas.List.{drop-append-le, drop_all, length_push}
 use Rattle.std.proofs.lemmas.List.Sums.{sum_by_push}
-use Rattle.odb_asks.specs.MemDisk.{Volume}
+use Rattle.odb_disk.specs.MemDisk.{Volume}
 use Rattle.odb_base.specs.Path.{Path}
 use Rattle.gix_hash.specs.declared.kind.Kind.{Kind as HashKind}
 use Rattle.gix_hash.specs.declared.object_id.ObjectId.{ObjectId}
@@ -16,13 +16,13 @@ use Rattle.gix_odb_calls.specs.declared.step.Step.TheVariants as steps
 use Rattle.gix_odb_calls.specs.declared.step.Outcome.{Outcome}
 use Rattle.gix_odb_calls.specs.declared.step.Outcome.TheVariants as outcomes
 use Rattle.gix_odb_world.specs.Work.{Work}
-use Rattle.gix_odb_runs.specs.Event.{Asked, Event, answered}
+use Rattle.gix_odb_history.specs.Event.{Asked, Event, answered}
 use Rattle.gix_odb_world.specs.Status.{MakeCall, OpenStore, Running, Status, Store, Task, Free, Resting, Working, Modes, modes_at_opening}
 use Rattle.gix_odb_world.specs.Status.{cloned, come_to, gone_on, ignoring_from, modes_after}
 use Rattle.gix_odb_world.specs.Status.{opening_at, refuses_opening, replied, running_from, started, status_after, status_of, store_at, turned, with_status}
 use Rattle.gix_odb_world.specs.Begun.{is_turn_of, turns_since}
 use Rattle.gix_odb_world.specs.Machines.{fed_in}
-use Rattle.gix_odb_runs.specs.Turned.{is_done, turns_handle}
+use Rattle.gix_odb_history.specs.Turned.{is_done, turns_handle}
 use Rattle.gix_odb_world.specs.Headline.{IsLawful, IsTurn, Law, Suits}
 use Rattle.gix_odb_world.proofs.AlongRun.{along_run}
 use Rattle.gix_odb_world.proofs.ToldLemmas.{turned_by}

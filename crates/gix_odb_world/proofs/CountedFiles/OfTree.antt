@@ -1,22 +1,22 @@
 -- While one tree answers exchanges, the open stream has given, and is to give, what its folder's directory lists.
 use Rattle.std.proofs.Common.{◌≡◌, List, [], ◌∷◌, ◌++◌, Option, Some, None, Ok, refl, sym, ap, ◌∙◌, subst, append_assoc}
 use Rattle.odb_base.specs.Path.{Path}
-use Rattle.odb_asks.specs.declared.ask.DiskAnswer.{DiskAnswer}
-use Rattle.odb_asks.specs.declared.ask.DiskAnswer.TheVariants as answers
-use Rattle.odb_asks.specs.declared.ask.DiskAsk.TheVariants as disk_asks
-use Rattle.odb_nodes.specs.Entries.{opened}
-use Rattle.odb_nodes.specs.Tree.{Tree}
-use Rattle.odb_nodes.specs.declared.disk_error.DiskError.TheVariants as errors
-use Rattle.odb_nodes.specs.declared.entry.Entry.{Entry}
+use Rattle.odb_disk.specs.declared.ask.DiskAnswer.{DiskAnswer}
+use Rattle.odb_disk.specs.declared.ask.DiskAnswer.TheVariants as answers
+use Rattle.odb_disk.specs.declared.ask.DiskAsk.TheVariants as disk_asks
+use Rattle.odb_disk.specs.Entries.{opened}
+use Rattle.odb_disk.specs.Tree.{Tree}
+use Rattle.odb_disk.specs.declared.disk_error.DiskError.TheVariants as errors
+use Rattle.odb_disk.specs.declared.entry.Entry.{Entry}
 use Rattle.gix_odb_events.specs.declared.answer.Answer.{Answer}
 use Rattle.gix_odb_events.specs.declared.answer.Answer.TheVariants as told
 use Rattle.gix_odb_events.specs.declared.answer.Ask.{Ask}
 use Rattle.gix_odb_events.specs.declared.answer.Ask.TheVariants as asks
-use Rattle.gix_odb_looks.specs.Exchange.{Exchange}
-use Rattle.gix_odb_looks.specs.OpenStream.{GivesNext}
-use Rattle.gix_odb_looks.specs.Stream.{Stream, reads, stream_by, stream_from}
-use Rattle.gix_odb_looks.specs.Stream as streams
-use Rattle.gix_odb_look_laws.specs.ListedFiles.{AreOfTree, IsToldOfTree, Opens}
+use Rattle.gix_odb.specs.LookExchanges.{Exchange}
+use Rattle.gix_odb.specs.OpenStream.{GivesNext}
+use Rattle.gix_odb.specs.Stream.{Stream, reads, stream_by, stream_from}
+use Rattle.gix_odb.specs.Stream as streams
+use Rattle.gix_odb.specs.ListedFiles.{AreOfTree, IsToldOfTree, Opens}
 use Rattle.gix_odb_world.specs.Running.Listed.{AreOfTreeTo}
 
 module _ (tree : Tree) where

@@ -3,20 +3,20 @@ use Rattle.std.proofs.Common.{◌≡◌, ◌≢◌, inl, inr, true, [], ◌∷�
 use Rattle.std.specs.Prelude.{if◌then◌else◌}
 use Rattle.odb_base.specs.Path.{Name, Path}
 use Rattle.odb_base.specs.PathLaws.{parent_of-push}
-use Rattle.odb_nodes.specs.Tree.{IsTree, Tree, is_directory_content, node_at}
-use Rattle.odb_nodes.specs.Tree.Change.{changed}
-use Rattle.odb_nodes.specs.Tree.Follow.{followed, most_links}
-use Rattle.odb_nodes.specs.Tree.Way.{SameOnWay}
-use Rattle.odb_nodes.specs.Tree.Write.{WrongKind, and_then, from_followed, in_directory, spot, spot_below, vacant}
-use Rattle.odb_nodes.specs.declared.node.Content.TheVariants.{Dir, Link}
-use Rattle.odb_nodes.specs.declared.node.Node.{Node}
-use Rattle.odb_nodes.specs.declared.change.Change.{Change}
-use Rattle.odb_nodes.specs.declared.change.Change.TheVariants.{Rename}
-use Rattle.odb_nodes.proofs.OwnWayLaws.{IsOwnChange, OwnSpot, Stops, own_after, own_stops, stop_below_root}
-use Rattle.odb_nodes.proofs.TreeLemmas.Follow.{IsDir-from, followed_reached, pass_to_other}
-use Rattle.odb_nodes.proofs.TreeLemmas.Moved.{begins-own, behind-append}
-use Rattle.odb_nodes.proofs.TreeLemmas.Write.{vacant_at}
-use Rattle.odb_nodes.proofs.WayLaws.{file_here, own_on_way}
+use Rattle.odb_disk.specs.Tree.{IsTree, Tree, is_directory_content, node_at}
+use Rattle.odb_disk.specs.Tree.Change.{changed}
+use Rattle.odb_disk.specs.Tree.Follow.{followed, most_links}
+use Rattle.odb_disk.specs.Tree.Way.{SameOnWay}
+use Rattle.odb_disk.specs.Tree.Write.{WrongKind, and_then, from_followed, in_directory, spot, spot_below, vacant}
+use Rattle.odb_disk.specs.declared.node.Content.TheVariants.{Dir, Link}
+use Rattle.odb_disk.specs.declared.node.Node.{Node}
+use Rattle.odb_disk.specs.declared.change.Change.{Change}
+use Rattle.odb_disk.specs.declared.change.Change.TheVariants.{Rename}
+use Rattle.odb_disk.proofs.OwnWayLaws.{IsOwnChange, OwnSpot, Stops, own_after, own_stops, stop_below_root}
+use Rattle.odb_disk.proofs.TreeLemmas.Follow.{IsDir-from, followed_reached, pass_to_other}
+use Rattle.odb_disk.proofs.TreeLemmas.Moved.{begins-own, behind-append}
+use Rattle.odb_disk.proofs.TreeLemmas.Write.{vacant_at}
+use Rattle.odb_disk.proofs.WayLaws.{file_here, own_on_way}
 
 -- what lies in a directory is at its own path
 stands_at_itself : (t : Tree) → IsTree t → (front : Path) (name : Name) (n : Node) → node_at t (front ++ name ∷ []) ≡ Some n

@@ -2,10 +2,10 @@
 use Rattle.std.proofs.Common.{◌≡◌, ℕ, ◌+◌, ◌<◌, List, [], ◌∷◌, ◌++◌, length, Option, None, Some, Ok, Err, Result, refl, sym, ◌∙◌, ap, subst, arith}
 use Rattle.std.proofs.lemmas.List.{length_push}
 use Rattle.std.proofs.Math.Seq.{take-length}
-use Rattle.odb_nodes.specs.Tree.{tree_of}
-use Rattle.odb_asks.specs.MemDisk.{Volume}
-use Rattle.odb_asks.specs.Ask.{answer_now}
-use Rattle.odb_asks.specs.declared.ask.DiskAsk.{DiskAsk}
+use Rattle.odb_disk.specs.Tree.{tree_of}
+use Rattle.odb_disk.specs.MemDisk.{Volume}
+use Rattle.odb_disk.specs.Ask.{answer_now}
+use Rattle.odb_disk.specs.declared.ask.DiskAsk.{DiskAsk}
 use Rattle.gix_hash.specs.declared.object_id.ObjectId.{ObjectId}
 use Rattle.gix_odb_core.specs.Replay.{CanHappen}
 use Rattle.gix_odb_events.specs.Answers.{view_in}
@@ -16,29 +16,29 @@ use Rattle.gix_odb_events.specs.declared.answer.Ask.{Ask}
 use Rattle.gix_odb_events.specs.declared.answer.Ask.TheVariants as parts
 use Rattle.gix_odb_calls.specs.declared.call.Reply.{Reply}
 use Rattle.gix_odb_calls.specs.declared.query.Query.{Query}
-use Rattle.gix_odb_looks.specs.Exchange.{AreAsked, Exchange, behind}
-use Rattle.gix_odb_looks.specs.LookUpOrder as looks
-use Rattle.gix_odb_looks.specs.LookUpOrder.{Setting, ask_of, fed, result_at, result_of}
-use Rattle.gix_odb_looks.specs.declared.look_up.LookHead.{LookHead}
-use Rattle.gix_odb_looks.specs.declared.look_up.LookStage.{LookStage}
-use Rattle.gix_odb_looks.specs.declared.look_up.LookStage.TheVariants as stages
-use Rattle.gix_odb_looks.specs.declared.look_up.LookUp.{LookUp}
-use Rattle.gix_odb_looks.proofs.CauseLaws.{a_done_look_up_asks_nothing}
-use Rattle.gix_odb_looks.proofs.HandedLaws.{look_ups_change_no_file, look_ups_have_no_core_made}
-use Rattle.gix_odb_look_laws.proofs.HappenLaws.{what_is_handed_can_happen}
-use Rattle.gix_odb_looks.proofs.TurnLaws.{a_look_up_ends_in_time}
+use Rattle.gix_odb.specs.LookExchanges.{AreAsked, Exchange, behind}
+use Rattle.gix_odb.specs.LookUpOrder as looks
+use Rattle.gix_odb.specs.LookUpOrder.{Setting, ask_of, fed, result_at, result_of}
+use Rattle.gix_odb.specs.declared.look_up.LookHead.{LookHead}
+use Rattle.gix_odb.specs.declared.look_up.LookStage.{LookStage}
+use Rattle.gix_odb.specs.declared.look_up.LookStage.TheVariants as stages
+use Rattle.gix_odb.specs.declared.look_up.LookUp.{LookUp}
+use Rattle.gix_odb.proofs.CauseLaws.{a_done_look_up_asks_nothing}
+use Rattle.gix_odb.proofs.HandedLaws.{look_ups_change_no_file, look_ups_have_no_core_made}
+use Rattle.gix_odb_world.proofs.HappenLaws.{what_is_handed_can_happen}
+use Rattle.gix_odb.proofs.TurnLaws.{a_look_up_ends_in_time}
 use Rattle.gix_odb.specs.Contents.{sought}
 use Rattle.gix_odb.specs.declared.call_state.CallStage.TheVariants.{Looking}
 use Rattle.gix_odb_world.specs.Work.{Calling}
 use Rattle.gix_odb_world.specs.Asks.{AsksAsLook, AsksAsRefresh, AsksAsWrite, AsksInOrder}
 use Rattle.gix_odb_world.specs.AtWork.{setting_in}
 use Rattle.gix_odb_world.specs.Bound.{HasAtMost, bound_of_call}
-use Rattle.gix_odb_runs.specs.Cores.{answer_behind, history_at, or_before}
-use Rattle.gix_odb_runs.specs.Event.{CoreEvent, Event, OfCore, OfDisk, OfNothing, answered}
+use Rattle.gix_odb_history.specs.Cores.{answer_behind, history_at, or_before}
+use Rattle.gix_odb_history.specs.Event.{CoreEvent, Event, OfCore, OfDisk, OfNothing, answered}
 use Rattle.gix_odb_world.specs.Headline.{LeavesDisk, stand_of}
 use Rattle.gix_odb_world.specs.Promise.{Promise, QueryPromise}
-use Rattle.gix_odb_runs.specs.Run.{FailedSince, change_by, disk_after, tree_at}
-use Rattle.gix_odb_runs.specs.Writing.{to_write}
+use Rattle.gix_odb_history.specs.Run.{FailedSince, change_by, disk_after, tree_at}
+use Rattle.gix_odb_history.specs.Writing.{to_write}
 use Rattle.gix_odb_world.specs.Written.{PromiseOfWrite}
 use Rattle.gix_odb_world.specs.Refused.{RefusedSince}
 use Rattle.gix_odb_world.specs.Running.PackedStill.{IndicesShowOne}
@@ -56,7 +56,7 @@ use Rattle.gix_odb_world.proofs.QuietTurn.{shown_now}
 use Rattle.gix_odb_world.proofs.RefusedLemmas.{refused_later, refused_on_core, refused_on_disk}
 use Rattle.gix_odb_world.proofs.ToldLemmas.{asked-push, behind-push, told_none, told_turn, view_kept}
 use Rattle.gix_odb_world.proofs.ToldWell.{no_failure, told_well_later, told_well_on_core, told_well_on_disk}
-use Rattle.gix_odb_runs.proofs.WriteAsk.Quiet.{change_by-quiet}
+use Rattle.gix_odb_history.proofs.WriteAsk.Quiet.{change_by-quiet}
 
 -- what is left of a look-up that isn't done is the look-up
 left_is : (head : LookHead) (stage : LookStage) (next : LookUp) → result_at head stage ≡ Err next → next ≡ record { head = head; stage = stage }

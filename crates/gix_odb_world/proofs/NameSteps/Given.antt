@@ -5,27 +5,27 @@ use Rattle.std.proofs.lemmas.Bool.{cases_lt}
 use Rattle.std.proofs.lemmas.List.{length_push}
 use Rattle.std.proofs.lemmas.Option.{slice_get_within}
 use Rattle.odb_base.specs.Path.{Path}
-use Rattle.odb_nodes.specs.Tree.{IsTree, Tree, tree_of}
-use Rattle.odb_nodes.specs.Tree.Change.{changed}
-use Rattle.odb_nodes.specs.Tree.Follow.{read_of}
-use Rattle.odb_nodes.specs.Tree.Way.{SameOnWay, crosses}
-use Rattle.odb_nodes.specs.Tree.Write.{change_of_rename, file_spot, spot}
-use Rattle.odb_asks.specs.declared.ask.DiskAnswer.TheVariants as answers
-use Rattle.odb_asks.specs.declared.ask.DiskAsk.TheVariants as asks
-use Rattle.odb_nodes.specs.declared.change.Change.TheVariants.{PutFile, Rename}
-use Rattle.odb_nodes.proofs.OwnWayLaws.{OwnSpot, moved_onto, moved_onto_crosses, moved_onto_reads, own_rename}
-use Rattle.odb_nodes.proofs.TreeLemmas.Write.{replaceable_at}
-use Rattle.odb_nodes.proofs.WayWriteLaws.{rename_file_spot, rename_spot}
+use Rattle.odb_disk.specs.Tree.{IsTree, Tree, tree_of}
+use Rattle.odb_disk.specs.Tree.Change.{changed}
+use Rattle.odb_disk.specs.Tree.Follow.{read_of}
+use Rattle.odb_disk.specs.Tree.Way.{SameOnWay, crosses}
+use Rattle.odb_disk.specs.Tree.Write.{change_of_rename, file_spot, spot}
+use Rattle.odb_disk.specs.declared.ask.DiskAnswer.TheVariants as answers
+use Rattle.odb_disk.specs.declared.ask.DiskAsk.TheVariants as asks
+use Rattle.odb_disk.specs.declared.change.Change.TheVariants.{PutFile, Rename}
+use Rattle.odb_disk.proofs.OwnWayLaws.{OwnSpot, moved_onto, moved_onto_crosses, moved_onto_reads, own_rename}
+use Rattle.odb_disk.proofs.TreeLemmas.Write.{replaceable_at}
+use Rattle.odb_disk.proofs.WayWriteLaws.{rename_file_spot, rename_spot}
 use Rattle.gix_hash.specs.declared.object_id.ObjectId.{ObjectId}
 use Rattle.gix_odb_loose.specs.WriteOrder.{temp_path}
 use Rattle.gix_odb_calls.specs.declared.call.Reply.TheVariants as replies
 use Rattle.gix_odb_calls.specs.declared.step.Outcome.TheVariants as outcomes
-use Rattle.gix_odb_runs.specs.Event.{Event}
-use Rattle.gix_odb_runs.specs.Run.{disk_after, tree_at}
+use Rattle.gix_odb_history.specs.Event.{Event}
+use Rattle.gix_odb_history.specs.Run.{disk_after, tree_at}
 use Rattle.gix_odb_world.specs.Status.{MakeCall}
 use Rattle.gix_odb_world.specs.Undisturbed.{HasMade, IsUndisturbed}
 use Rattle.gix_odb_world.specs.WholeNames.{GivesName, ReadsWhole, name_path}
-use Rattle.gix_odb_runs.specs.Writing.{AskedAt, IsRename, LeftAlone, ToWrite, call_to_write, name_to_write, to_write}
+use Rattle.gix_odb_history.specs.Writing.{AskedAt, IsRename, LeftAlone, ToWrite, call_to_write, name_to_write, to_write}
 use Rattle.gix_odb_world.specs.Written.{HasWritten}
 use Rattle.gix_odb_world.proofs.LawfulRun.{LawfulRun}
 use Rattle.gix_odb_world.proofs.FileSteps.{new_at}

@@ -3,32 +3,32 @@ use Rattle.std.proofs.Common.{◌≡◌, inl, ℕ, ◌+◌, ◌*◌, ◌<◌, �
 use Rattle.std.specs.List.{IsDistinct}
 use Rattle.std.proofs.lemmas.List.{length_push}
 use Rattle.odb_base.specs.Path.{Path}
-use Rattle.odb_nodes.specs.Tree.{tree_of}
-use Rattle.odb_nodes.specs.declared.disk_error.DiskError.TheVariants as disk_errors
-use Rattle.odb_asks.specs.Ask.{answer_now, answer_of, fails_now}
-use Rattle.odb_asks.specs.MemDisk.{Volume}
-use Rattle.odb_asks.specs.declared.ask.DiskAnswer.{DiskAnswer}
-use Rattle.odb_asks.specs.declared.ask.DiskAnswer.TheVariants as answers
-use Rattle.odb_asks.specs.declared.ask.DiskAsk.{DiskAsk}
-use Rattle.odb_asks.specs.declared.ask.DiskAsk.TheVariants as asks
+use Rattle.odb_disk.specs.Tree.{tree_of}
+use Rattle.odb_disk.specs.declared.disk_error.DiskError.TheVariants as disk_errors
+use Rattle.odb_disk.specs.Ask.{answer_now, answer_of, fails_now}
+use Rattle.odb_disk.specs.MemDisk.{Volume}
+use Rattle.odb_disk.specs.declared.ask.DiskAnswer.{DiskAnswer}
+use Rattle.odb_disk.specs.declared.ask.DiskAnswer.TheVariants as answers
+use Rattle.odb_disk.specs.declared.ask.DiskAsk.{DiskAsk}
+use Rattle.odb_disk.specs.declared.ask.DiskAsk.TheVariants as asks
 use Rattle.gix_odb_core.specs.History.{opened}
 use Rattle.gix_odb_events.specs.declared.event.Event.TheVariants as core_events
 use Rattle.gix_odb_events.specs.PackFiles.{same_path}
-use Rattle.gix_odb_packs.specs.ListOrder as lists
+use Rattle.gix_odb_search.specs.ListOrder as lists
 use Rattle.gix_odb_events.specs.declared.answer.Answer.TheVariants as told
 use Rattle.gix_odb_events.specs.declared.answer.Ask.TheVariants as parts
-use Rattle.gix_odb_packs.specs.declared.lister.Lister.{Lister}
+use Rattle.gix_odb_search.specs.declared.lister.Lister.{Lister}
 use Rattle.gix_odb_calls.specs.declared.call.CallError.TheVariants as call_errors
 use Rattle.gix_odb_calls.specs.declared.call.Reply.{Reply}
 use Rattle.gix_odb_calls.specs.declared.call.Reply.TheVariants as replies
 use Rattle.gix_odb_calls.specs.declared.init.Error as opening_error
 use Rattle.gix_odb_calls.specs.declared.init.Error.TheVariants as opening_errors
 use Rattle.gix_odb_calls.specs.declared.init.Slots.{Slots}
-use Rattle.gix_odb_looks.specs.Exchange.{Exchange}
-use Rattle.gix_odb_looks.specs.LookUpOrder.{Setting}
-use Rattle.gix_odb_looks.proofs.HandedLaws.{IsOwnStream}
-use Rattle.gix_odb_refresh.specs.Asked.{AreSuited}
-use Rattle.gix_odb_refresh.proofs.AskedLemmas.{asked-push, behind-push}
+use Rattle.gix_odb.specs.LookExchanges.{Exchange}
+use Rattle.gix_odb.specs.LookUpOrder.{Setting}
+use Rattle.gix_odb.proofs.HandedLaws.{IsOwnStream}
+use Rattle.gix_odb.specs.Asked.{AreSuited}
+use Rattle.gix_odb.proofs.AskedLemmas.{asked-push, behind-push}
 use Rattle.gix_odb.specs.Contents.{folder_list}
 use Rattle.gix_odb.specs.OpenExchanges.{AreAsked, IsCaused, IsNumber, asks_of, behind, fed_by}
 use Rattle.gix_odb.specs.OpenOrder as openings
@@ -37,13 +37,13 @@ use Rattle.gix_odb.specs.declared.open_state.OpenStage.TheVariants as opens
 use Rattle.gix_odb.proofs.OpenLaws.{an_opening_takes_at_most_a_lap, openings_change_no_file, openings_register_few_slots, openings_register_their_number}
 use Rattle.gix_odb.proofs.OpenLaws.{refused_openings_have_causes, streams_of_openings_are_their_own}
 use Rattle.gix_odb_world.specs.AtWork.{OpenStore, Running, Store, setting_in}
-use Rattle.gix_odb_looks.specs.Laps.{turns_of_lap}
+use Rattle.gix_odb.specs.Laps.{turns_of_lap}
 use Rattle.gix_odb_world.specs.Bound.{HasAtMost, laps_without_change}
 use Rattle.gix_odb_world.specs.Causes.{Sometime, ShowsDirectory}
-use Rattle.gix_odb_runs.specs.Cores.{answer_behind, cores_after}
-use Rattle.gix_odb_runs.specs.Event.{Event, OfDisk}
+use Rattle.gix_odb_history.specs.Cores.{answer_behind, cores_after}
+use Rattle.gix_odb_history.specs.Event.{Event, OfDisk}
 use Rattle.gix_odb_world.specs.Promise.{MadeCore, OpeningPromise, Promise}
-use Rattle.gix_odb_runs.specs.Run.{FailedSince, change_by, disk_after, tree_at}
+use Rattle.gix_odb_history.specs.Run.{FailedSince, change_by, disk_after, tree_at}
 use Rattle.gix_odb_world.specs.Running.Answered.{IsAnsweredWell}
 use Rattle.gix_odb_world.specs.Running.Listed.{AreGiven}
 use Rattle.gix_odb_world.specs.Running.Opening.{IsOpening, opening}
@@ -59,7 +59,7 @@ use Rattle.gix_odb_world.proofs.OpenFacts.{openable}
 use Rattle.gix_odb_world.proofs.OpeningMachine.Look.{Looks, listing_keeps, look_keeps}
 use Rattle.gix_odb_world.proofs.QuietTurn.{failed_now, shown_now}
 use Rattle.gix_odb_world.proofs.ToldLemmas.{told_none}
-use Rattle.gix_odb_runs.proofs.WriteAsk.Quiet.{change_by-quiet}
+use Rattle.gix_odb_history.proofs.WriteAsk.Quiet.{change_by-quiet}
 
 -- what held at some moment before an event held before and with it
 pub shown_before : (first : Volume) (events : List Event) (e : Event) (begun : ℕ) (objects : Path)

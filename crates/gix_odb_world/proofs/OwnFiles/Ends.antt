@@ -1,8 +1,8 @@
 -- The turns with which a write ends.
 use Rattle.std.proofs.Common.{◌≡◌, ℕ, Ok, refl, subst, eq-eqb}
 use Rattle.std.specs.Prelude.{if◌then◌else◌}
-use Rattle.odb_asks.specs.declared.ask.DiskAnswer.{DiskAnswer}
-use Rattle.odb_asks.specs.declared.ask.DiskAnswer.TheVariants as answers
+use Rattle.odb_disk.specs.declared.ask.DiskAnswer.{DiskAnswer}
+use Rattle.odb_disk.specs.declared.ask.DiskAnswer.TheVariants as answers
 use Rattle.gix_hash.specs.declared.object_id.ObjectId.{ObjectId}
 use Rattle.gix_odb_loose.specs.LooseOrder as loose_order
 use Rattle.gix_odb_loose.specs.declared.write_order.Refusal.{Refusal}
@@ -14,10 +14,10 @@ use Rattle.gix_odb_calls.specs.declared.step.Outcome.{Outcome}
 use Rattle.gix_odb_calls.specs.declared.step.Outcome.TheVariants as outcomes
 use Rattle.gix_odb_calls.specs.declared.step.Step.{Step}
 use Rattle.gix_odb_calls.specs.declared.step.Step.TheVariants as steps
-use Rattle.gix_odb_runs.specs.Event.{Asked}
+use Rattle.gix_odb_history.specs.Event.{Asked}
 use Rattle.gix_odb_world.specs.Status.{Store, Status, replied, status_after}
 use Rattle.gix_odb_world.specs.Running.Write.{write_at}
-use Rattle.gix_odb_runs.specs.Writing.{ToWrite}
+use Rattle.gix_odb_history.specs.Writing.{ToWrite}
 use Rattle.gix_odb_world.proofs.FileSteps.AtWrite.{AtWrite, ended}
 
 -- a write that removes its file ends with the turn

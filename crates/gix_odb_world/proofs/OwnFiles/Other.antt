@@ -2,16 +2,16 @@
 use Rattle.std.proofs.Common.{◌≡◌, ◌≢◌, ◌⊎◌, inl, inr, ℕ, ◌+◌, true, [], ◌∷◌, ◌++◌, Some, Ok, sym, ap, ◌∙◌, subst}
 use Rattle.std.specs.Prelude.{slice_get}
 use Rattle.odb_base.specs.Path.{Name, Path}
-use Rattle.odb_nodes.specs.Tree.{Tree}
-use Rattle.odb_nodes.specs.Tree.Change.{changed}
-use Rattle.odb_nodes.specs.Tree.Way.{SameOnWay, crosses}
-use Rattle.odb_nodes.specs.Tree.Write.{file_spot}
-use Rattle.odb_nodes.proofs.OwnWayLaws as ways
-use Rattle.odb_nodes.proofs.OwnWayLaws.{Cut, OwnSpot, cut_after, cut_no_file, own_after, own_stops, stop_below_root}
+use Rattle.odb_disk.specs.Tree.{Tree}
+use Rattle.odb_disk.specs.Tree.Change.{changed}
+use Rattle.odb_disk.specs.Tree.Way.{SameOnWay, crosses}
+use Rattle.odb_disk.specs.Tree.Write.{file_spot}
+use Rattle.odb_disk.proofs.OwnWayLaws as ways
+use Rattle.odb_disk.proofs.OwnWayLaws.{Cut, OwnSpot, cut_after, cut_no_file, own_after, own_stops, stop_below_root}
 use Rattle.gix_odb_loose.specs.WriteOrder.{temp_name}
 use Rattle.gix_odb_loose.proofs.NameLaws.{IsTemporary, temp_path-is}
-use Rattle.gix_odb_runs.specs.Event.{Event}
-use Rattle.gix_odb_runs.specs.Run.{tree_at}
+use Rattle.gix_odb_history.specs.Event.{Event}
+use Rattle.gix_odb_history.specs.Run.{tree_at}
 use Rattle.gix_odb_world.specs.Undisturbed.{HasMade}
 use Rattle.gix_odb_world.proofs.LawfulRun.{LawfulRun}
 use Rattle.gix_odb_world.proofs.FileSteps.{NotTemporary}

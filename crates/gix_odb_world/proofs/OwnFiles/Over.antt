@@ -3,10 +3,10 @@ use Rattle.std.proofs.Common.{◌≡◌, ℕ, suc, None, refl, sym, ap, ◌∙�
 use Rattle.std.specs.Prelude.{slice_get}
 use Rattle.std.proofs.lemmas.Option.{slice_get_within}
 use Rattle.odb_base.specs.Path.{Path}
-use Rattle.odb_nodes.specs.Tree.{Tree, tree_of}
-use Rattle.odb_nodes.proofs.OwnWayLaws.{Cut, OwnSpot}
+use Rattle.odb_disk.specs.Tree.{Tree, tree_of}
+use Rattle.odb_disk.proofs.OwnWayLaws.{Cut, OwnSpot}
 use Rattle.gix_odb_world.specs.Status.{status_of}
-use Rattle.gix_odb_runs.specs.Run.{disk_after, tree_at}
+use Rattle.gix_odb_history.specs.Run.{disk_after, tree_at}
 use Rattle.gix_odb_world.specs.Undisturbed.{HasMade}
 use Rattle.gix_odb_world.proofs.LawfulRun.{LawfulRun}
 use Rattle.gix_odb_world.proofs.FileSteps.{NotTemporary}

@@ -5,13 +5,13 @@ use Rattle.std.proofs.lemmas.Bool.{eqb-false, eqb-true}
 use Rattle.std.proofs.lemmas.Option.{slice_get_within}
 use Rattle.odb_base.specs.Path.{Path, parent_of}
 use Rattle.odb_base.specs.PathLaws.{parent_of-push, parent_of-some}
-use Rattle.odb_nodes.specs.Tree.{Tree}
-use Rattle.odb_nodes.specs.Tree.Change.{changed}
-use Rattle.odb_nodes.specs.Tree.Way.{SameOnWay}
-use Rattle.odb_nodes.specs.Tree.Write.{file_spot, spot}
-use Rattle.odb_nodes.specs.declared.change.Change.{Change}
-use Rattle.odb_nodes.specs.declared.change.Change.TheVariants.{PutFile}
-use Rattle.odb_nodes.proofs.OwnWayLaws.{Cut, OwnSpot, cut_kept, cut_no_file, own_kept}
+use Rattle.odb_disk.specs.Tree.{Tree}
+use Rattle.odb_disk.specs.Tree.Change.{changed}
+use Rattle.odb_disk.specs.Tree.Way.{SameOnWay}
+use Rattle.odb_disk.specs.Tree.Write.{file_spot, spot}
+use Rattle.odb_disk.specs.declared.change.Change.{Change}
+use Rattle.odb_disk.specs.declared.change.Change.TheVariants.{PutFile}
+use Rattle.odb_disk.proofs.OwnWayLaws.{Cut, OwnSpot, cut_kept, cut_no_file, own_kept}
 use Rattle.gix_odb_loose.specs.WriteOrder.{number_made, temp_name, temp_path}
 use Rattle.gix_odb_loose.specs.declared.call.LooseCall.{LooseCall}
 use Rattle.gix_odb_loose.specs.declared.call.Stage.TheVariants.{Writing}
@@ -19,12 +19,12 @@ use Rattle.gix_odb_loose.specs.declared.write_at_hand.WriteJob.{WriteJob}
 use Rattle.gix_odb_loose.specs.declared.write_order.WriteStage.{WriteStage}
 use Rattle.gix_odb_loose.specs.declared.write_order.WriteStage.TheVariants.{Making}
 use Rattle.gix_odb_loose.proofs.NameLaws.{IsTemporary, temp_path-is, temporary_spot}
-use Rattle.gix_odb_runs.specs.Event.{Event}
+use Rattle.gix_odb_history.specs.Event.{Event}
 use Rattle.gix_odb_world.specs.Status.{IsAtWrite, Running, Store, Status, status_after, status_of}
-use Rattle.gix_odb_runs.specs.Run.{IsTurnOf, tree_at}
+use Rattle.gix_odb_history.specs.Run.{IsTurnOf, tree_at}
 use Rattle.gix_odb_world.specs.Running.Write.{IsWriting, write_at}
 use Rattle.gix_odb_world.specs.Undisturbed.{CutsOff, HasMade}
-use Rattle.gix_odb_runs.specs.Writing.{LeftAlone, ToWrite, head_to_write}
+use Rattle.gix_odb_history.specs.Writing.{LeftAlone, ToWrite, head_to_write}
 use Rattle.gix_odb_world.proofs.LawfulRun.{LawfulRun}
 use Rattle.gix_odb_world.proofs.FileSteps.{Does, NotTemporary, does, does_first, does_nothing}
 use Rattle.gix_odb_world.proofs.FileSteps.AtWrite.{AtWrite, write_before}

@@ -3,13 +3,13 @@ use Rattle.std.proofs.Common.{◌≡◌, ℕ, ◌+◌, List, take, Option, Some,
 use Rattle.std.specs.Prelude.{slice_get}
 use Rattle.std.proofs.lemmas.Option.{slice_get_within}
 use Rattle.odb_base.specs.Path.{Path}
-use Rattle.odb_asks.specs.Ask.{answer_now}
-use Rattle.odb_nodes.specs.Tree.{Tree}
-use Rattle.odb_nodes.specs.Tree.Change.{changed}
-use Rattle.odb_nodes.specs.Tree.Write.{change_of_append}
-use Rattle.odb_nodes.specs.declared.change.Change.{Change}
-use Rattle.odb_nodes.proofs.OwnWayLaws.{OwnSpot, own_appended, own_foldered, own_kept}
-use Rattle.odb_nodes.proofs.WayWriteLaws.{rename_change}
+use Rattle.odb_disk.specs.Ask.{answer_now}
+use Rattle.odb_disk.specs.Tree.{Tree}
+use Rattle.odb_disk.specs.Tree.Change.{changed}
+use Rattle.odb_disk.specs.Tree.Write.{change_of_append}
+use Rattle.odb_disk.specs.declared.change.Change.{Change}
+use Rattle.odb_disk.proofs.OwnWayLaws.{OwnSpot, own_appended, own_foldered, own_kept}
+use Rattle.odb_disk.proofs.WayWriteLaws.{rename_change}
 use Rattle.gix_odb_loose.specs.LooseFile.{loose_path}
 use Rattle.gix_odb_loose.specs.LooseOrder as loose_order
 use Rattle.gix_odb_loose.specs.WriteOrder.{number_made, temp_path}
@@ -18,13 +18,13 @@ use Rattle.gix_odb_loose.specs.declared.write_order.WriteStage.{WriteStage}
 use Rattle.gix_odb_loose.specs.declared.write_order.WriteStage.TheVariants as stages
 use Rattle.gix_odb.specs.CallOrder.{result_of_write}
 use Rattle.gix_odb_calls.specs.declared.step.Outcome.TheVariants as outcomes
-use Rattle.gix_odb_runs.specs.Event.{Event}
+use Rattle.gix_odb_history.specs.Event.{Event}
 use Rattle.gix_odb_world.specs.Status.{status_of}
 use Rattle.gix_odb_world.specs.Headline.{outcome_of}
-use Rattle.gix_odb_runs.specs.Run.{IsTurnOf, disk_after, tree_at}
+use Rattle.gix_odb_history.specs.Run.{IsTurnOf, disk_after, tree_at}
 use Rattle.gix_odb_world.specs.Running.Write.{IsWriting, write_at}
 use Rattle.gix_odb_world.specs.Undisturbed.{HasMade}
-use Rattle.gix_odb_runs.specs.Writing.{IsRename}
+use Rattle.gix_odb_history.specs.Writing.{IsRename}
 use Rattle.gix_odb_world.proofs.LawfulRun.{LawfulRun}
 use Rattle.gix_odb_world.proofs.DiskTurns.{CallsDisk}
 use Rattle.gix_odb_world.proofs.WriteCalls.{write_calls}

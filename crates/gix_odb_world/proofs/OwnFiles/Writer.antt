@@ -3,15 +3,15 @@ use Rattle.std.proofs.Common.{◌≡◌, ◌⊎◌, inl, inr, ℕ, ◌<◌, ◌�
 use Rattle.std.specs.Prelude.{slice_get}
 use Rattle.std.proofs.lemmas.Option.{slice_get_within}
 use Rattle.odb_base.specs.Path.{Path}
-use Rattle.odb_asks.specs.Ask.{answer_now, op_of}
-use Rattle.odb_asks.specs.MemDisk.{next_fails}
-use Rattle.odb_nodes.specs.Tree.{IsTree, Tree}
-use Rattle.odb_nodes.specs.Tree.Way.{SameOnWay}
-use Rattle.odb_asks.specs.declared.ask.DiskAnswer.TheVariants as answers
-use Rattle.odb_asks.specs.declared.ask.DiskAsk.TheVariants as asks
-use Rattle.odb_nodes.specs.declared.change.Change.{Change}
-use Rattle.odb_nodes.specs.declared.change.Change.TheVariants.{PutFile, MakeDir, Rename, Append, Remove}
-use Rattle.odb_nodes.proofs.WayWriteLaws.{append_change, make_dir_change, new_file_change, remove_change}
+use Rattle.odb_disk.specs.Ask.{answer_now, op_of}
+use Rattle.odb_disk.specs.MemDisk.{next_fails}
+use Rattle.odb_disk.specs.Tree.{IsTree, Tree}
+use Rattle.odb_disk.specs.Tree.Way.{SameOnWay}
+use Rattle.odb_disk.specs.declared.ask.DiskAnswer.TheVariants as answers
+use Rattle.odb_disk.specs.declared.ask.DiskAsk.TheVariants as asks
+use Rattle.odb_disk.specs.declared.change.Change.{Change}
+use Rattle.odb_disk.specs.declared.change.Change.TheVariants.{PutFile, MakeDir, Rename, Append, Remove}
+use Rattle.odb_disk.proofs.WayWriteLaws.{append_change, make_dir_change, new_file_change, remove_change}
 use Rattle.gix_hash.specs.declared.object_id.ObjectId.{ObjectId}
 use Rattle.gix_odb_loose.specs.Exchanges.{exchanged}
 use Rattle.gix_odb_loose.specs.LooseOrder.{disk_ask_of}
@@ -24,26 +24,26 @@ use Rattle.gix_odb_loose.specs.declared.write_order.WriteStage.TheVariants as st
 use Rattle.gix_odb_loose.proofs.WriteMadeLaws.{history_makes}
 use Rattle.gix_odb.specs.CallOrder.{result_of_write}
 use Rattle.gix_odb_calls.specs.declared.call.Reply.TheVariants as replies
-use Rattle.gix_odb_runs.specs.declared.record.Did.TheVariants.{Disk}
+use Rattle.gix_odb_history.specs.declared.record.Did.TheVariants.{Disk}
 use Rattle.gix_odb_calls.specs.declared.step.Outcome.TheVariants as outcomes
-use Rattle.gix_odb_runs.specs.Event.{Event}
+use Rattle.gix_odb_history.specs.Event.{Event}
 use Rattle.gix_odb_events.specs.declared.answer.Ask.TheVariants as work_asks
 use Rattle.gix_odb.specs.CallOrder.{loose_ask}
 use Rattle.gix_odb_world.specs.Machines.{write_in}
 use Rattle.gix_odb_world.specs.Status.{IsAtWrite, Running, Working, status_of}
 use Rattle.gix_odb_world.specs.Headline.{outcome_of}
-use Rattle.gix_odb_runs.specs.Run.{IsTurnOf, TellsCall, change_by, disk_after, tree_at}
+use Rattle.gix_odb_history.specs.Run.{IsTurnOf, TellsCall, change_by, disk_after, tree_at}
 use Rattle.gix_odb_world.specs.Running.{Knows, Runs}
 use Rattle.gix_odb_world.specs.Running.Write.{IsWriting, write_at, job_to_write}
 use Rattle.gix_odb_world.specs.Undisturbed.{HasMade}
-use Rattle.gix_odb_runs.specs.Writing.{AskedAt, IsMaking, IsNewFile, head_to_write}
+use Rattle.gix_odb_history.specs.Writing.{AskedAt, IsMaking, IsNewFile, head_to_write}
 use Rattle.gix_odb_world.proofs.LawfulRun.{LawfulRun}
 use Rattle.gix_odb_world.proofs.DiskTurns.{CallsDisk}
 use Rattle.gix_odb_world.proofs.WriteCalls.{write_calls}
 use Rattle.gix_odb_world.proofs.FileSteps.{IsNewAt, WriterMoves, new_at, writer_moves}
 use Rattle.gix_odb_world.proofs.OwnFiles.Ends.{moving_ends}
 use Rattle.gix_odb_world.proofs.RunSteps.{IsTurned, front_of_front, is_tree_at, there_in_front, there_in_whole}
-use Rattle.gix_odb_runs.proofs.WriteAsk.{made_done}
+use Rattle.gix_odb_history.proofs.WriteAsk.{made_done}
 use Rattle.gix_odb_world.proofs.WriteTurn.{ask_at_stage, done_at}
 use Rattle.gix_odb_world.proofs.WorkLaws.{asks_as_write, ends_as_write, knows_write, quiet_unless_writing}
 

@@ -2,23 +2,23 @@
 use Rattle.std.proofs.Common.{◌≡◌, ℕ, Bool, true, false, List, Result, Ok, refl, sym, ap, ◌∙◌, subst}
 use Rattle.std.specs.Prelude.{if◌then◌else◌}
 use Rattle.odb_base.specs.Path.{Path}
-use Rattle.odb_nodes.specs.Entries.{opened}
-use Rattle.odb_nodes.specs.Tree.{Tree, tree_of}
-use Rattle.odb_nodes.specs.Tree.Follow.{Refusal, looked, read_of}
-use Rattle.odb_nodes.specs.declared.disk_error.DiskError.TheVariants as errors
-use Rattle.odb_nodes.specs.declared.entry.Entry.{Entry}
-use Rattle.odb_nodes.specs.declared.meta.Meta.{Meta}
-use Rattle.odb_asks.specs.Ask.{answer_in, answer_now, answer_of, dir_answer, fails_now, file_answer, meta_answer}
-use Rattle.odb_asks.specs.MemDisk.{Volume}
-use Rattle.odb_asks.specs.StreamAsks.{least_closed}
-use Rattle.odb_asks.specs.declared.ask.DiskAsk.{DiskAsk}
-use Rattle.odb_asks.specs.declared.ask.DiskAsk.TheVariants as asks
-use Rattle.odb_asks.specs.declared.ask.DiskAnswer.TheVariants as answers
+use Rattle.odb_disk.specs.Entries.{opened}
+use Rattle.odb_disk.specs.Tree.{Tree, tree_of}
+use Rattle.odb_disk.specs.Tree.Follow.{Refusal, looked, read_of}
+use Rattle.odb_disk.specs.declared.disk_error.DiskError.TheVariants as errors
+use Rattle.odb_disk.specs.declared.entry.Entry.{Entry}
+use Rattle.odb_disk.specs.declared.meta.Meta.{Meta}
+use Rattle.odb_disk.specs.Ask.{answer_in, answer_now, answer_of, dir_answer, fails_now, file_answer, meta_answer}
+use Rattle.odb_disk.specs.MemDisk.{Volume}
+use Rattle.odb_disk.specs.StreamAsks.{least_closed}
+use Rattle.odb_disk.specs.declared.ask.DiskAsk.{DiskAsk}
+use Rattle.odb_disk.specs.declared.ask.DiskAsk.TheVariants as asks
+use Rattle.odb_disk.specs.declared.ask.DiskAnswer.TheVariants as answers
 use Rattle.gix_hash.specs.declared.kind.Kind.{Kind}
 use Rattle.gix_hash.specs.declared.object_id.ObjectId.{ObjectId}
-use Rattle.gix_odb_packs.specs.PackFolder.{pack_folder}
-use Rattle.gix_odb_looks.specs.Exchange.{Exchange}
-use Rattle.gix_odb_looks.specs.Fair.{IsDir, IsDiskFair, IsFile, IsFileMeta, IsSoundFile, PackedPlace, index_at, pack_at}
+use Rattle.gix_odb_search.specs.PackFolder.{pack_folder}
+use Rattle.gix_odb.specs.LookExchanges.{Exchange}
+use Rattle.gix_odb.specs.Fair.{IsDir, IsDiskFair, IsFile, IsFileMeta, IsSoundFile, PackedPlace, index_at, pack_at}
 use Rattle.gix_odb_world.specs.Running.PackedStill.{LiesIndexed}
 use Rattle.gix_odb_world.proofs.PackedStill.Directory.{folder_of_a_name_opens, read_file_is_looked_at}
 

@@ -1,14 +1,14 @@
 -- What lies in a pack for a call lies there for its look-up: the index gives the id the offset.
 use Rattle.std.proofs.Common.{◌≡◌, ℕ, List, subst}
 use Rattle.odb_base.specs.Path.{Name}
-use Rattle.odb_nodes.specs.Tree.{Tree}
+use Rattle.odb_disk.specs.Tree.{Tree}
 use Rattle.gix_hash.specs.ObjectId.{kind_of}
 use Rattle.gix_hash.specs.declared.kind.Kind.{Kind}
 use Rattle.gix_hash.specs.declared.object_id.ObjectId.{ObjectId}
 use Rattle.gix_object.specs.declared.want.Want.{Want}
 use Rattle.gix_object.specs.declared.want.Want.TheVariants.{Object, Header, Presence}
-use Rattle.gix_odb_looks.specs.Fair.{PackedPlace}
-use Rattle.gix_odb_looks.specs.Found.{Gives}
+use Rattle.gix_odb.specs.Fair.{PackedPlace}
+use Rattle.gix_odb.specs.Found.{Gives}
 use Rattle.gix_odb.specs.Contents.{StoreData}
 use Rattle.gix_odb.specs.Held.{IsSoundPair, LiesInPack}
 use Rattle.gix_odb_world.specs.Running.PackedStill.{LiesIndexed}

@@ -2,17 +2,17 @@
 use Rattle.std.proofs.Common.{◌≡◌, ◌⊎◌, inl, inr, ℕ, zero, suc, true, false, List, [], ◌∷◌, ◌++◌, Option, Some, None, Result, Ok, Err}
 use Rattle.std.proofs.Common.{refl, sym, ap, ◌∙◌, append_assoc}
 use Rattle.odb_base.specs.Path.{Name, Path}
-use Rattle.odb_nodes.specs.Entries.{entries_at, entries_at_place, entries_in, opened}
-use Rattle.odb_nodes.specs.Tree.{Tree, node_at}
-use Rattle.odb_nodes.specs.Tree.Follow.{Absent, Blocked, LinkLoop, Missing, Onward, Pass, Place, Reached, Refusal, WrongKind}
-use Rattle.odb_nodes.specs.Tree.Follow.{arrives, at_last, beyond, ending, file_of, file_of_place, followed, followed_within, looked}
-use Rattle.odb_nodes.specs.Tree.Follow.{meta_of, meta_of_place, meta_with, most_links, pass, past, read_of}
-use Rattle.odb_nodes.specs.declared.entry.Entry.{Entry}
-use Rattle.odb_nodes.specs.declared.meta.Kind.TheVariants as kinds
-use Rattle.odb_nodes.specs.declared.meta.Meta.{Meta}
-use Rattle.odb_nodes.specs.declared.node.Content.{Content}
-use Rattle.odb_nodes.specs.declared.node.Content.TheVariants.{File, Dir, Link}
-use Rattle.odb_nodes.specs.declared.node.Node.{Node}
+use Rattle.odb_disk.specs.Entries.{entries_at, entries_at_place, entries_in, opened}
+use Rattle.odb_disk.specs.Tree.{Tree, node_at}
+use Rattle.odb_disk.specs.Tree.Follow.{Absent, Blocked, LinkLoop, Missing, Onward, Pass, Place, Reached, Refusal, WrongKind}
+use Rattle.odb_disk.specs.Tree.Follow.{arrives, at_last, beyond, ending, file_of, file_of_place, followed, followed_within, looked}
+use Rattle.odb_disk.specs.Tree.Follow.{meta_of, meta_of_place, meta_with, most_links, pass, past, read_of}
+use Rattle.odb_disk.specs.declared.entry.Entry.{Entry}
+use Rattle.odb_disk.specs.declared.meta.Kind.TheVariants as kinds
+use Rattle.odb_disk.specs.declared.meta.Meta.{Meta}
+use Rattle.odb_disk.specs.declared.node.Content.{Content}
+use Rattle.odb_disk.specs.declared.node.Content.TheVariants.{File, Dir, Link}
+use Rattle.odb_disk.specs.declared.node.Node.{Node}
 
 -- ---- the folder of a name that leads somewhere
 

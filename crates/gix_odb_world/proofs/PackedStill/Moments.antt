@@ -3,18 +3,18 @@ use Rattle.std.proofs.Common.{◌≡◌, ◌⊎◌, inl, inr, ℕ, ◌+◌, ◌<
 use Rattle.std.proofs.lemmas.Bool.{cases_lt}
 use Rattle.std.proofs.lemmas.List.{length_push}
 use Rattle.odb_base.specs.Path.{Path}
-use Rattle.odb_asks.specs.MemDisk.{Volume}
-use Rattle.odb_nodes.specs.Tree.{Tree, tree_of}
-use Rattle.odb_nodes.specs.Tree.Follow.{read_of}
-use Rattle.odb_nodes.specs.declared.change.Change.{Change}
+use Rattle.odb_disk.specs.MemDisk.{Volume}
+use Rattle.odb_disk.specs.Tree.{Tree, tree_of}
+use Rattle.odb_disk.specs.Tree.Follow.{read_of}
+use Rattle.odb_disk.specs.declared.change.Change.{Change}
 use Rattle.gix_hash.specs.declared.object_id.ObjectId.{ObjectId}
-use Rattle.gix_odb_looks.specs.Fair.{IsIndexSound, PackedPlace, index_at}
-use Rattle.gix_odb_looks.specs.Found.{Gives}
+use Rattle.gix_odb.specs.Fair.{IsIndexSound, PackedPlace, index_at}
+use Rattle.gix_odb.specs.Found.{Gives}
 use Rattle.gix_odb.specs.Held.{ShowsOne, WasShownAt, index_path}
 use Rattle.gix_odb_world.specs.AtWork.{Store}
-use Rattle.gix_odb_runs.specs.Event.{Asked, Event, OfCore, OfDisk, OfNewCore, OfNothing}
+use Rattle.gix_odb_history.specs.Event.{Asked, Event, OfCore, OfDisk, OfNewCore, OfNothing}
 use Rattle.gix_odb_world.specs.Headline.{LeavesDisk}
-use Rattle.gix_odb_runs.specs.Run.{disk_after, disk_after_asked, disk_after_change, tree_at}
+use Rattle.gix_odb_history.specs.Run.{disk_after, disk_after_asked, disk_after_change, tree_at}
 use Rattle.gix_odb_world.specs.Running.PackedStill.{IndicesShowOne, IsPackedStill, LiesIndexed}
 use Rattle.gix_odb_world.proofs.HistoryLemmas.{tree_at-before, tree_at-now}
 use Rattle.gix_odb_world.proofs.Stock.OneCore.{shown_later}

@@ -4,12 +4,12 @@ use Rattle.std.specs.Prelude.{◌&&◌, ◌||◌, codes, nat_eq, nat_lt}
 use Rattle.std.specs.List.{ends_with}
 use Rattle.std.proofs.lemmas.Bool.{false≢true}
 use Rattle.odb_base.specs.Path.{Name, is_name}
-use Rattle.odb_asks.specs.MemDisk.{Volume}
-use Rattle.gix_odb_packs.specs.PackFolder.{is_index_name}
+use Rattle.odb_disk.specs.MemDisk.{Volume}
+use Rattle.gix_odb_search.specs.PackFolder.{is_index_name}
 use Rattle.gix_odb_world.specs.AtWork.{Modes, Running, Store}
 use Rattle.gix_odb_world.specs.Begun.{FromClone, FromOpen, Holds, IsOpenStore, OpenedBy}
-use Rattle.gix_odb_runs.specs.Event.{Event}
-use Rattle.gix_odb_runs.specs.Run.{tree_at}
+use Rattle.gix_odb_history.specs.Event.{Event}
+use Rattle.gix_odb_history.specs.Run.{tree_at}
 use Rattle.gix_odb_world.specs.Running.PackedStill.{IndicesShowOne}
 use Rattle.gix_odb_world.proofs.BegunLemmas.{stems_now}
 use Rattle.gix_odb_world.proofs.BegunLemmas.OneEvent.{Stems}

@@ -2,40 +2,40 @@
 use Rattle.std.proofs.Common.{◌≡◌, ℕ, List, [], take, Option, Some, None, sym, ap, ◌∙◌, subst, arith}
 use Rattle.std.specs.List.{All}
 use Rattle.std.proofs.lemmas.Option.{slice_get_within}
-use Rattle.odb_asks.specs.MemDisk.{Volume}
-use Rattle.odb_asks.specs.declared.ask.DiskAsk.{DiskAsk}
-use Rattle.odb_nodes.specs.Tree.{Tree}
+use Rattle.odb_disk.specs.MemDisk.{Volume}
+use Rattle.odb_disk.specs.declared.ask.DiskAsk.{DiskAsk}
+use Rattle.odb_disk.specs.Tree.{Tree}
 use Rattle.gix_odb_events.specs.PackFiles.{HasDifferentPaths}
 use Rattle.gix_odb_events.specs.declared.listing.Listing.{Listing}
 use Rattle.gix_odb_events.specs.declared.event.Event.TheVariants as events_of
 use Rattle.gix_odb_events.specs.declared.view.View.{View}
 use Rattle.gix_odb_core.specs.History.{opened, present}
 use Rattle.gix_odb_loose.specs.LooseOrder.{disk_ask_of}
-use Rattle.gix_odb_packs.specs.LongestFirst.{longest_first}
+use Rattle.gix_odb_search.specs.LongestFirst.{longest_first}
 use Rattle.gix_odb_events.specs.declared.answer.Answer.TheVariants as told_by
 use Rattle.gix_odb_events.specs.declared.answer.Ask.TheVariants as parts
-use Rattle.gix_odb_looks.specs.Exchange.{Exchange, WasTold}
-use Rattle.gix_odb_looks.specs.LookUpOrder as looks
-use Rattle.gix_odb_looks.specs.Shown.{IsIndexRow}
-use Rattle.gix_odb_looks.proofs.FoundLaws.{what_is_handed_was_shown}
-use Rattle.gix_odb_looks.proofs.HandedLaws.{rows_of_a_listing_have_different_paths}
-use Rattle.gix_odb_look_laws.specs.ListedFiles.{AreOfTree, listed_in}
-use Rattle.gix_odb_look_laws.specs.ListerCalls.{IsRowSeen}
-use Rattle.gix_odb_look_laws.proofs.ListingLaws.{rows_of_a_listing_are_those_of_the_tree, rows_of_a_listing_were_seen}
-use Rattle.gix_odb_refresh.specs.RefreshOrder as refreshes
-use Rattle.gix_odb_refresh.proofs.RefreshLaws.{rows_are_of_the_folders}
-use Rattle.gix_odb_look_laws.proofs.RefreshHappenLaws.{what_a_refresh_hands_on_can_happen}
+use Rattle.gix_odb.specs.LookExchanges.{Exchange, WasTold}
+use Rattle.gix_odb.specs.LookUpOrder as looks
+use Rattle.gix_odb.specs.Shown.{IsIndexRow}
+use Rattle.gix_odb.proofs.FoundLaws.{what_is_handed_was_shown}
+use Rattle.gix_odb.proofs.HandedLaws.{rows_of_a_listing_have_different_paths}
+use Rattle.gix_odb.specs.ListedFiles.{AreOfTree, listed_in}
+use Rattle.gix_odb.specs.ListerCalls.{IsRowSeen}
+use Rattle.gix_odb.proofs.ListingLaws.{rows_of_a_listing_are_those_of_the_tree, rows_of_a_listing_were_seen}
+use Rattle.gix_odb.specs.RefreshOrder as refreshes
+use Rattle.gix_odb.proofs.RefreshLaws.{rows_are_of_the_folders}
+use Rattle.gix_odb_world.proofs.RefreshHappenLaws.{what_a_refresh_hands_on_can_happen}
 use Rattle.gix_odb.specs.Contents.{folder_list, sought}
 use Rattle.gix_odb.proofs.OpenLaws.{openings_ask_no_event}
 use Rattle.gix_odb.specs.declared.call_state.CallStage.TheVariants.{Looking, Refreshing, Refused, Writing}
 use Rattle.gix_odb_world.specs.Work.{Work}
 use Rattle.gix_odb_world.specs.Work.{Calling, Opening}
 use Rattle.gix_odb_world.specs.AtWork.{Running, Store, setting_in}
-use Rattle.gix_odb_runs.specs.Event.{CoreEvent, Event}
+use Rattle.gix_odb_history.specs.Event.{CoreEvent, Event}
 use Rattle.gix_odb.specs.CallOrder.{loose_ask}
 use Rattle.gix_odb_world.specs.Headline.{Works, stand_of}
 use Rattle.gix_odb_world.specs.Machines.{ask_in}
-use Rattle.gix_odb_runs.specs.Run.{disk_after}
+use Rattle.gix_odb_history.specs.Run.{disk_after}
 use Rattle.gix_odb_world.specs.Running.{Knows, Runs}
 use Rattle.gix_odb_world.specs.Status.{Working}
 use Rattle.gix_odb_world.specs.Told.{look_now, refresh_now, told_since, view_then}

@@ -2,9 +2,9 @@
 use Rattle.std.proofs.Common.{◌≡◌, ℕ, ◌+◌, ◌≤◌, List, [], ◌∷◌, ◌++◌, length, take, Ok, sym, ap, ◌∙◌, subst, arith}
 use Rattle.std.proofs.lemmas.List.{length_push}
 use Rattle.odb_base.specs.Path.{Path}
-use Rattle.odb_asks.specs.MemDisk.{Volume}
-use Rattle.odb_nodes.specs.Tree.{Tree}
-use Rattle.odb_nodes.specs.Tree.Follow.{read_of}
+use Rattle.odb_disk.specs.MemDisk.{Volume}
+use Rattle.odb_disk.specs.Tree.{Tree}
+use Rattle.odb_disk.specs.Tree.Follow.{read_of}
 use Rattle.gix_hash.specs.declared.kind.Kind.{Kind as HashKind}
 use Rattle.gix_hash.specs.declared.object_id.ObjectId.{ObjectId}
 use Rattle.gix_object.specs.Id.{object_id}
@@ -16,8 +16,8 @@ use Rattle.gix_odb.specs.Contents.{Contents, InIndex, InPack, LooseFile, Object,
 use Rattle.gix_odb.specs.Held.{Held, WasShown, WasShownAt}
 use Rattle.gix_odb_world.specs.AtWork.{MakeCall, Running}
 use Rattle.gix_odb_world.specs.Begun.{BegunAs}
-use Rattle.gix_odb_runs.specs.Event.{Event}
-use Rattle.gix_odb_runs.specs.Run.{tree_at}
+use Rattle.gix_odb_history.specs.Event.{Event}
+use Rattle.gix_odb_history.specs.Run.{tree_at}
 use Rattle.gix_odb_world.specs.Told.{call_of}
 use Rattle.gix_odb_world.proofs.RunSteps.Fronts.{take_next}
 use Rattle.gix_odb_world.specs.RunLaws.Hashed.{ObjectsHash, find_of}

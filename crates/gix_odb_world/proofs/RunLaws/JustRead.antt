@@ -4,22 +4,22 @@ use Rattle.std.specs.Prelude.{slice_get}
 use Rattle.std.proofs.lemmas.Bool.{cases_lt, false≢true}
 use Rattle.std.proofs.lemmas.Option.{same_Some}
 use Rattle.odb_base.specs.Path.{Path}
-use Rattle.odb_asks.specs.Ask.{answer_now}
-use Rattle.odb_asks.specs.MemDisk.{Volume}
-use Rattle.odb_asks.specs.declared.ask.DiskAnswer.{DiskAnswer}
-use Rattle.odb_asks.specs.declared.ask.DiskAsk.{DiskAsk}
-use Rattle.odb_asks.specs.declared.ask.DiskAsk.TheVariants as asks
+use Rattle.odb_disk.specs.Ask.{answer_now}
+use Rattle.odb_disk.specs.MemDisk.{Volume}
+use Rattle.odb_disk.specs.declared.ask.DiskAnswer.{DiskAnswer}
+use Rattle.odb_disk.specs.declared.ask.DiskAsk.{DiskAsk}
+use Rattle.odb_disk.specs.declared.ask.DiskAsk.TheVariants as asks
 use Rattle.gix_odb_events.specs.declared.answer.Answer.TheVariants as told
 use Rattle.gix_odb_events.specs.declared.answer.Ask.TheVariants as parts
 use Rattle.gix_odb_calls.specs.declared.query.Query.{Query}
-use Rattle.gix_odb_looks.specs.Exchange.{Exchange, IsLast}
-use Rattle.gix_odb_look_laws.specs.JustRead.{read_of}
+use Rattle.gix_odb.specs.LookExchanges.{Exchange, IsLast}
+use Rattle.gix_odb.specs.JustRead.{read_of}
 use Rattle.gix_odb_world.specs.AtWork.{Running}
-use Rattle.gix_odb_runs.specs.Event.{Asked, CoreEvent, Event, OfCore, OfDisk, OfNewCore, OfNothing}
+use Rattle.gix_odb_history.specs.Event.{Asked, CoreEvent, Event, OfCore, OfDisk, OfNewCore, OfNothing}
 use Rattle.gix_odb_world.specs.Headline.{LeavesDisk}
-use Rattle.gix_odb_runs.specs.Run.{IsTurnOf, disk_after}
+use Rattle.gix_odb_history.specs.Run.{IsTurnOf, disk_after}
 use Rattle.gix_odb_world.specs.Told.{exchange_of, told_since}
-use Rattle.gix_odb_runs.specs.Turned.{is_turn_of}
+use Rattle.gix_odb_history.specs.Turned.{is_turn_of}
 use Rattle.gix_odb_world.proofs.RunSteps.{Kind, Made, Quiet, Turned, kind_of}
 use Rattle.gix_odb_world.proofs.RunSteps.Fronts.{event_or_end, length_take, none_beyond, take_suc, there_in_front, there_in_whole}
 use Rattle.gix_odb_world.proofs.ToldLemmas.{not_turned, told_kept, told_turn, turn_or_not, turned_by}

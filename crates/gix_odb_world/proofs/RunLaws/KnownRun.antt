@@ -1,8 +1,8 @@
 -- What the laws of runs rest on: a lawful run that begins with a tree, and in which each handle knew after each event what its work knows.
 use Rattle.std.specs.Prelude.{List}
-use Rattle.odb_asks.specs.MemDisk.{Volume}
-use Rattle.odb_nodes.specs.Tree.{IsTree, tree_of}
-use Rattle.gix_odb_runs.specs.Event.{Event}
+use Rattle.odb_disk.specs.MemDisk.{Volume}
+use Rattle.odb_disk.specs.Tree.{IsTree, tree_of}
+use Rattle.gix_odb_history.specs.Event.{Event}
 use Rattle.gix_odb_world.specs.Headline.{IsLawful}
 use Rattle.gix_odb_world.specs.Running.{RunsThroughout}
 

@@ -3,10 +3,10 @@ use Rattle.std.proofs.Common.{◌≡◌, ℕ, zero, suc, ◌+◌, ◌<◌, ◌�
 use Rattle.std.specs.Prelude.{slice_get, count_by, if◌then◌else◌}
 use Rattle.std.specs.List.{cons_option, filter_map}
 use Rattle.std.proofs.lemmas.List.Sums.{sum_by-cons}
-use Rattle.gix_odb_looks.specs.Exchange.{Exchange}
-use Rattle.gix_odb_runs.specs.Event.{Event}
+use Rattle.gix_odb.specs.LookExchanges.{Exchange}
+use Rattle.gix_odb_history.specs.Event.{Event}
 use Rattle.gix_odb_world.specs.Told.{exchange_in, exchange_of}
-use Rattle.gix_odb_runs.specs.Turned.{is_turn_of}
+use Rattle.gix_odb_history.specs.Turned.{is_turn_of}
 
 not_empty : (earlier : List Exchange) (x : Exchange) → ¬ ([] ≡ earlier ++ x ∷ [])
 not_empty [] x is = cc is

@@ -4,7 +4,7 @@ use Rattle.std.specs.Prelude.{◌==◌}
 use Rattle.std.proofs.lemmas.Bool.{eqb-true}
 use Rattle.std.proofs.lemmas.Option.{same_Some}
 use Rattle.odb_base.specs.Path.{Path}
-use Rattle.odb_asks.specs.declared.ask.DiskAsk.{DiskAsk}
+use Rattle.odb_disk.specs.declared.ask.DiskAsk.{DiskAsk}
 use Rattle.gix_hash.specs.declared.object_id.ObjectId.{ObjectId}
 use Rattle.gix_odb_events.specs.Answers.{view_in}
 use Rattle.gix_odb_events.specs.declared.event.Effect.{Effect}
@@ -12,16 +12,16 @@ use Rattle.gix_odb_events.specs.declared.event.Effect.TheVariants as effects
 use Rattle.gix_odb_events.specs.declared.event.Event.TheVariants as events
 use Rattle.gix_odb_events.specs.declared.listing.Listing.{Listing}
 use Rattle.gix_odb_events.specs.declared.view.View.{View}
-use Rattle.gix_odb_packs.specs.TryOrder as tries
-use Rattle.gix_odb_packs.specs.TryOrder.{seek}
-use Rattle.gix_odb_packs.specs.declared.index_loader.IndexLoader.TheVariants as loaders
-use Rattle.gix_odb_packs.specs.declared.lister.ListStep.{ListStep}
-use Rattle.gix_odb_packs.specs.declared.lister.ListStep.TheVariants as listed
-use Rattle.gix_odb_packs.specs.declared.search.Notes.{Notes}
-use Rattle.gix_odb_packs.specs.declared.trier.Stage.{Stage}
-use Rattle.gix_odb_packs.specs.declared.trier.Stage.TheVariants as tries_stages
-use Rattle.gix_odb_packs.specs.declared.trier.Tried.{Tried}
-use Rattle.gix_odb_packs.specs.declared.trier.Tried.TheVariants as tried
+use Rattle.gix_odb_search.specs.TryOrder as tries
+use Rattle.gix_odb_search.specs.TryOrder.{seek}
+use Rattle.gix_odb_search.specs.declared.index_loader.IndexLoader.TheVariants as loaders
+use Rattle.gix_odb_search.specs.declared.lister.ListStep.{ListStep}
+use Rattle.gix_odb_search.specs.declared.lister.ListStep.TheVariants as listed
+use Rattle.gix_odb_search.specs.declared.search.Notes.{Notes}
+use Rattle.gix_odb_search.specs.declared.trier.Stage.{Stage}
+use Rattle.gix_odb_search.specs.declared.trier.Stage.TheVariants as tries_stages
+use Rattle.gix_odb_search.specs.declared.trier.Tried.{Tried}
+use Rattle.gix_odb_search.specs.declared.trier.Tried.TheVariants as tried
 use Rattle.gix_odb_events.specs.declared.answer.Answer.{Answer}
 use Rattle.gix_odb_events.specs.declared.answer.Answer.TheVariants as told
 use Rattle.gix_odb_events.specs.declared.answer.Ask.{Ask}
@@ -34,29 +34,29 @@ use Rattle.gix_odb_calls.specs.declared.load_index.Error.{Error}
 use Rattle.gix_object.specs.declared.want.Want.{Want}
 use Rattle.gix_odb_calls.specs.declared.verdict.Verdict.{Verdict}
 use Rattle.gix_odb_calls.specs.declared.verdict.Verdict.TheVariants as verdicts
-use Rattle.gix_odb_looks.specs.Exchange.{AreAsked, Exchange, behind}
-use Rattle.gix_odb_refresh.specs.LoadIndex.{of_refusal}
-use Rattle.gix_odb_refresh.specs.RefreshOrder.{by_listed, by_look, by_published}
-use Rattle.gix_odb_refresh.specs.RefreshOrder as refreshes
-use Rattle.gix_odb_packs.specs.ListOrder as lists
-use Rattle.gix_odb_refresh.specs.declared.refresh.Refresh.{Refresh}
-use Rattle.gix_odb_refresh.specs.declared.refresh.Refresh.TheVariants as fronts
-use Rattle.gix_odb_refresh.specs.declared.refresh.RefreshStep.{RefreshStep}
-use Rattle.gix_odb_refresh.specs.declared.refresh.RefreshStep.TheVariants as steps
-use Rattle.gix_odb_looks.specs.LookUpOrder.{Setting, after_list, after_loose, ask_at, ask_of, at_folder, by_checked, by_read, by_refresh, by_tried}
-use Rattle.gix_odb_looks.specs.LookUpOrder.{by_verdict, counted, ended, fed, fed_at, find_error, goal_of, is_unsettled, listing_from, load_refused}
-use Rattle.gix_odb_looks.specs.LookUpOrder.{new_head, not_found, result_at, result_of, seen, started, trier_fed, try_view, unsettled, view_shown}
-use Rattle.gix_odb_looks.specs.LookUpOrder.{with_own, without_absent, without_notes}
-use Rattle.gix_odb_looks.specs.declared.look_up.LookHead.{LookHead}
-use Rattle.gix_odb_looks.specs.declared.look_up.LookStage.{LookStage}
-use Rattle.gix_odb_looks.specs.declared.look_up.LookStage.TheVariants as stages
-use Rattle.gix_odb_looks.specs.declared.look_up.LookUp.{LookUp}
-use Rattle.gix_odb_looks.specs.declared.look_up.LooseRound.{LooseRound}
-use Rattle.gix_odb_looks.specs.declared.look_up.Part.{Part}
-use Rattle.gix_odb_looks.specs.declared.look_up.Part.TheVariants as parts
-use Rattle.gix_odb_looks.specs.declared.look_up.Purpose.{Purpose}
-use Rattle.gix_odb_looks.specs.declared.look_up.Purpose.TheVariants as purposes
-use Rattle.gix_odb_looks.proofs.MissLaws.Replies.{EndsNoMiss, IsMiss, found_is_no_miss, refused_is_no_miss, verdict_is_no_miss}
+use Rattle.gix_odb.specs.LookExchanges.{AreAsked, Exchange, behind}
+use Rattle.gix_odb.specs.LoadIndex.{of_refusal}
+use Rattle.gix_odb.specs.RefreshOrder.{by_listed, by_look, by_published}
+use Rattle.gix_odb.specs.RefreshOrder as refreshes
+use Rattle.gix_odb_search.specs.ListOrder as lists
+use Rattle.gix_odb.specs.declared.refresh.Refresh.{Refresh}
+use Rattle.gix_odb.specs.declared.refresh.Refresh.TheVariants as fronts
+use Rattle.gix_odb.specs.declared.refresh.RefreshStep.{RefreshStep}
+use Rattle.gix_odb.specs.declared.refresh.RefreshStep.TheVariants as steps
+use Rattle.gix_odb.specs.LookUpOrder.{Setting, after_list, after_loose, ask_at, ask_of, at_folder, by_checked, by_read, by_refresh, by_tried}
+use Rattle.gix_odb.specs.LookUpOrder.{by_verdict, counted, ended, fed, fed_at, find_error, goal_of, is_unsettled, listing_from, load_refused}
+use Rattle.gix_odb.specs.LookUpOrder.{new_head, not_found, result_at, result_of, seen, started, trier_fed, try_view, unsettled, view_shown}
+use Rattle.gix_odb.specs.LookUpOrder.{with_own, without_absent, without_notes}
+use Rattle.gix_odb.specs.declared.look_up.LookHead.{LookHead}
+use Rattle.gix_odb.specs.declared.look_up.LookStage.{LookStage}
+use Rattle.gix_odb.specs.declared.look_up.LookStage.TheVariants as stages
+use Rattle.gix_odb.specs.declared.look_up.LookUp.{LookUp}
+use Rattle.gix_odb.specs.declared.look_up.LooseRound.{LooseRound}
+use Rattle.gix_odb.specs.declared.look_up.Part.{Part}
+use Rattle.gix_odb.specs.declared.look_up.Part.TheVariants as parts
+use Rattle.gix_odb.specs.declared.look_up.Purpose.{Purpose}
+use Rattle.gix_odb.specs.declared.look_up.Purpose.TheVariants as purposes
+use Rattle.gix_odb.proofs.MissLaws.Replies.{EndsNoMiss, IsMiss, found_is_no_miss, refused_is_no_miss, verdict_is_no_miss}
 use Rattle.gix_odb_world.specs.RunLaws.Missed.{EndAtLastList, last_list, list_by}
 
 -- ---- what passes on no listing

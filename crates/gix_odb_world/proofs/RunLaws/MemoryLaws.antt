@@ -1,7 +1,7 @@
 -- Laws of runs about want of memory: no event is answered by it, and no reply tells it.
 use Rattle.std.proofs.Common.{◌≡◌, ℕ, true, false, List, [], ◌∷◌, ◌++◌, length, take, Option, Some, None, Err, refl, sym, ap, subst}
 use Rattle.std.specs.Prelude.{slice_get}
-use Rattle.odb_asks.specs.MemDisk.{Volume}
+use Rattle.odb_disk.specs.MemDisk.{Volume}
 use Rattle.gix_odb_calls.specs.declared.call.CallError.{CallError}
 use Rattle.gix_odb_calls.specs.declared.call.CallError.TheVariants as call_errors
 use Rattle.gix_odb_calls.specs.declared.call.Reply.TheVariants as replies
@@ -25,13 +25,13 @@ use Rattle.gix_odb_events.specs.declared.event.Event.TheVariants as core_events
 use Rattle.gix_odb_events.specs.declared.event.Refusal.TheVariants as refusals
 use Rattle.gix_odb_loose.specs.declared.find.Error.TheVariants as loose_errors
 use Rattle.gix_odb_loose.specs.declared.write.Error.TheVariants as loose_write_errors
-use Rattle.gix_odb_runs.specs.Cores.{answer_behind, cores_after, history_at}
-use Rattle.gix_odb_runs.specs.Event.{Asked, CoreEvent, Event}
+use Rattle.gix_odb_history.specs.Cores.{answer_behind, cores_after, history_at}
+use Rattle.gix_odb_history.specs.Event.{Asked, CoreEvent, Event}
 use Rattle.gix_odb_events.specs.declared.answer.Ask.{Ask}
-use Rattle.gix_odb_runs.specs.Run.{FailedSince, Stand, disk_after, told_now, tree_at}
-use Rattle.gix_odb_runs.specs.Turned.{is_done}
-use Rattle.gix_odb_runs.specs.Writing.{ToWrite, to_write}
-use Rattle.gix_odb_runs.proofs.WriteAsk.Quiet.{never_wants}
+use Rattle.gix_odb_history.specs.Run.{FailedSince, Stand, disk_after, told_now, tree_at}
+use Rattle.gix_odb_history.specs.Turned.{is_done}
+use Rattle.gix_odb_history.specs.Writing.{ToWrite, to_write}
+use Rattle.gix_odb_history.proofs.WriteAsk.Quiet.{never_wants}
 use Rattle.gix_odb_world.specs.AtWork.{MakeCall, Modes, OpenStore, Running, Store, Task}
 use Rattle.gix_odb_world.specs.Headline.{IsTurn, Law, Suits, Turns, asked_applied, asked_by_clone, asked_by_close, stand_of}
 use Rattle.gix_odb.specs.Contents.{sought}

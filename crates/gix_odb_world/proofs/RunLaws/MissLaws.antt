@@ -1,11 +1,11 @@
 -- Laws of runs about queries that end with "not found".
 use Rattle.std.proofs.Common.{◌≡◌, ℕ, ◌+◌, List, take, sym, subst}
-use Rattle.odb_asks.specs.MemDisk.{Volume}
+use Rattle.odb_disk.specs.MemDisk.{Volume}
 use Rattle.gix_odb_calls.specs.declared.query.Query.{Query}
 use Rattle.gix_odb_calls.specs.declared.step.Outcome.TheVariants as outcomes
-use Rattle.gix_odb_looks.specs.LookUpOrder.{not_found}
+use Rattle.gix_odb.specs.LookUpOrder.{not_found}
 use Rattle.gix_odb.specs.Contents.{sought}
-use Rattle.gix_odb_runs.specs.Event.{Event}
+use Rattle.gix_odb_history.specs.Event.{Event}
 use Rattle.gix_odb_world.specs.AtWork.{Running, setting_in}
 use Rattle.gix_odb_world.specs.Told.{told_since, view_then}
 use Rattle.gix_odb_world.proofs.RunSteps.Fronts.{take_next}

@@ -10,15 +10,15 @@ use Rattle.std.specs.Prelude.{slice_get}
 use Rattle.std.proofs.lemmas.Bool.{cases_lt, false_from_ne_true}
 use Rattle.std.proofs.lemmas.Option.{same_Some}
 use Rattle.odb_base.specs.Path.{Name, Path}
-use Rattle.odb_asks.specs.Ask.{answer_now, fails_now}
-use Rattle.odb_asks.specs.MemDisk.{Volume}
-use Rattle.odb_asks.specs.declared.ask.DiskAnswer.{DiskAnswer}
-use Rattle.odb_asks.specs.declared.ask.DiskAsk.{DiskAsk}
+use Rattle.odb_disk.specs.Ask.{answer_now, fails_now}
+use Rattle.odb_disk.specs.MemDisk.{Volume}
+use Rattle.odb_disk.specs.declared.ask.DiskAnswer.{DiskAnswer}
+use Rattle.odb_disk.specs.declared.ask.DiskAsk.{DiskAsk}
 use Rattle.gix_hash.specs.declared.object_id.ObjectId.{ObjectId}
 use Rattle.gix_odb_core.specs.History.{History, present}
 use Rattle.gix_odb_events.specs.Answers.{view_in}
 use Rattle.gix_odb_events.specs.declared.view.View.{View}
-use Rattle.gix_odb_packs.specs.PackFolder.{is_index_name}
+use Rattle.gix_odb_search.specs.PackFolder.{is_index_name}
 use Rattle.gix_odb_events.specs.declared.answer.Answer.TheVariants as told
 use Rattle.gix_odb_events.specs.declared.answer.Ask.{Ask}
 use Rattle.gix_odb_events.specs.declared.answer.Ask.TheVariants as parts
@@ -27,32 +27,32 @@ use Rattle.gix_odb_calls.specs.declared.query.Query.{Query}
 use Rattle.gix_object.specs.declared.want.Want.{Want}
 use Rattle.gix_object.specs.declared.want.Want.TheVariants as wants
 use Rattle.gix_odb_calls.specs.declared.step.Outcome.TheVariants as outcomes
-use Rattle.gix_odb_looks.specs.Exchange.{AreAsked, Exchange, IsAnswerTo, behind}
-use Rattle.gix_odb_looks.specs.Fair.{AreFair, PackedPlace}
-use Rattle.gix_odb_looks.specs.LookUpOrder.{Setting, ask_of, fed, not_found, result_of, view_of}
-use Rattle.gix_odb_looks.specs.Stream.{stream_in}
-use Rattle.gix_odb_looks.specs.declared.look_up.LookUp.{LookUp}
-use Rattle.gix_odb_looks.proofs.HandedLaws.{look_ups_have_no_core_made}
-use Rattle.gix_odb_look_laws.proofs.CoreLaws.{core_answers_suit_their_events}
+use Rattle.gix_odb.specs.LookExchanges.{AreAsked, Exchange, IsAnswerTo, behind}
+use Rattle.gix_odb.specs.Fair.{AreFair, PackedPlace}
+use Rattle.gix_odb.specs.LookUpOrder.{Setting, ask_of, fed, not_found, result_of, view_of}
+use Rattle.gix_odb.specs.Stream.{stream_in}
+use Rattle.gix_odb.specs.declared.look_up.LookUp.{LookUp}
+use Rattle.gix_odb.proofs.HandedLaws.{look_ups_have_no_core_made}
+use Rattle.gix_odb_world.proofs.CoreLaws.{core_answers_suit_their_events}
 use Rattle.gix_odb.specs.Contents.{folder_list, sought}
 use Rattle.gix_odb.specs.Held.{InLooseFile, InPackFile, LiesAt}
 use Rattle.gix_odb.specs.declared.call_state.CallStage.TheVariants.{Looking}
-use Rattle.gix_odb_look_laws.specs.Moved.{AreLooseFair, ArePublished, HasLoose, IsLooseFair}
-use Rattle.gix_odb_look_laws.proofs.MovedLaws.{no_stream_is_open_before_the_loose_folder_is_asked, objects_that_move_into_packs_are_not_missed}
+use Rattle.gix_odb.specs.Moved.{AreLooseFair, ArePublished, HasLoose, IsLooseFair}
+use Rattle.gix_odb.proofs.MovedLaws.{no_stream_is_open_before_the_loose_folder_is_asked, objects_that_move_into_packs_are_not_missed}
 use Rattle.gix_odb_world.specs.Work.{Work}
 use Rattle.gix_odb_world.specs.Work.{Calling}
 use Rattle.gix_odb_world.specs.AtWork.{MakeCall, Modes, Running, Store, setting_in}
 use Rattle.gix_odb_world.specs.Begun.{BegunAs}
-use Rattle.gix_odb_runs.specs.Cores.{answer_behind, cores_after, history_at}
-use Rattle.gix_odb_runs.specs.Event.{Asked, CoreAnswer, CoreEvent, Event, OfCore, OfDisk, OfNewCore, OfNothing, answered}
+use Rattle.gix_odb_history.specs.Cores.{answer_behind, cores_after, history_at}
+use Rattle.gix_odb_history.specs.Event.{Asked, CoreAnswer, CoreEvent, Event, OfCore, OfDisk, OfNewCore, OfNothing, answered}
 use Rattle.gix_odb_world.specs.Headline.{FailsAsListed, Law, Works, outcome_of, stand_of}
 use Rattle.gix_odb_world.specs.Machine.{placed}
 use Rattle.gix_odb_world.specs.Machines.{fed_in}
 use Rattle.gix_odb_world.specs.Promise.{Keeps, Promise, QueryPromise, claim_of}
 use Rattle.gix_odb_world.specs.Refused.{RefusedSince}
 use Rattle.gix_odb_world.specs.Written.{PromiseOfWrite}
-use Rattle.gix_odb_runs.specs.Writing.{to_write}
-use Rattle.gix_odb_runs.specs.Run.{Fails, FailedSince, Stand, did_of_asked, disk_after, told_now, tree_at}
+use Rattle.gix_odb_history.specs.Writing.{to_write}
+use Rattle.gix_odb_history.specs.Run.{Fails, FailedSince, Stand, did_of_asked, disk_after, told_now, tree_at}
 use Rattle.gix_odb_world.specs.Running.PackedStill.{LiesIndexed}
 use Rattle.gix_odb_world.specs.Running.Query.{looking}
 use Rattle.gix_odb_world.specs.Status.{Working, status_of}

@@ -1,23 +1,23 @@
 -- Laws of runs about queries whose object is in their snapshot: they end in their first turn, which does nothing.
 use Rattle.std.proofs.Common.{◌≡◌, ℕ, List, [], ◌∷◌, length, take, Option, None, Result, refl, sym, ap, ◌∙◌, subst, arith}
-use Rattle.odb_asks.specs.MemDisk.{Volume}
+use Rattle.odb_disk.specs.MemDisk.{Volume}
 use Rattle.gix_odb_events.specs.declared.answer.Ask.{Ask}
 use Rattle.gix_odb_calls.specs.declared.call.Reply.{Reply}
 use Rattle.gix_odb_calls.specs.declared.query.Query.{Query}
-use Rattle.gix_odb_looks.specs.Exchange.{Exchange, behind}
-use Rattle.gix_odb_looks.specs.LookUpOrder.{ask_of, result_of}
-use Rattle.gix_odb_looks.specs.declared.look_up.LookUp.{LookUp}
+use Rattle.gix_odb.specs.LookExchanges.{Exchange, behind}
+use Rattle.gix_odb.specs.LookUpOrder.{ask_of, result_of}
+use Rattle.gix_odb.specs.declared.look_up.LookUp.{LookUp}
 use Rattle.gix_odb.specs.Contents.{sought}
-use Rattle.gix_odb_look_laws.specs.AtHand.{IsAtHand, IsDone}
-use Rattle.gix_odb_look_laws.proofs.OnceLaws.{object_at_hand_is_found_at_once}
+use Rattle.gix_odb.specs.AtHand.{IsAtHand, IsDone}
+use Rattle.gix_odb.proofs.OnceLaws.{object_at_hand_is_found_at_once}
 use Rattle.gix_odb_world.specs.Work.{Work}
 use Rattle.gix_odb_world.specs.AtWork.{Running, setting_in}
-use Rattle.gix_odb_runs.specs.Event.{Asked, Event, OfNothing, answered}
+use Rattle.gix_odb_history.specs.Event.{Asked, Event, OfNothing, answered}
 use Rattle.gix_odb_world.specs.Headline.{outcome_of, stand_of}
 use Rattle.gix_odb_world.specs.Machine.{placed}
 use Rattle.gix_odb_world.specs.Machines.{ask_in, fed_in}
 use Rattle.gix_odb_world.specs.Recorded.{opened_in}
-use Rattle.gix_odb_runs.specs.Run.{did_asked, disk_after, told_now}
+use Rattle.gix_odb_history.specs.Run.{did_asked, disk_after, told_now}
 use Rattle.gix_odb_world.specs.Running.Query.{looking}
 use Rattle.gix_odb_world.specs.Told.{look_begun, told_since, view_then}
 use Rattle.gix_odb_world.specs.RunLaws.Ends.{EndsUnasked}

@@ -4,34 +4,34 @@ use Rattle.std.specs.Prelude.{slice_get, if◌then◌else◌}
 use Rattle.std.proofs.lemmas.List.{length_push}
 use Rattle.std.proofs.lemmas.Option.{same_Some, slice_get_within}
 use Rattle.odb_base.specs.Path.{Path}
-use Rattle.odb_asks.specs.Ask.{answer_now, answer_of, dir_answer, fails_now}
-use Rattle.odb_asks.specs.MemDisk.{Volume}
-use Rattle.odb_asks.specs.StreamAsks.{least_closed}
-use Rattle.odb_asks.specs.declared.ask.DiskAnswer.{DiskAnswer}
-use Rattle.odb_asks.specs.declared.ask.DiskAnswer.TheVariants as answers
-use Rattle.odb_asks.specs.declared.ask.DiskAsk.{DiskAsk}
-use Rattle.odb_asks.specs.declared.ask.DiskAsk.TheVariants as asks
-use Rattle.odb_nodes.specs.Entries.{opened}
-use Rattle.odb_nodes.specs.Tree.{Tree, tree_of}
-use Rattle.odb_nodes.specs.Tree.Follow.{Absent, LinkLoop, Refusal, WrongKind}
-use Rattle.odb_nodes.specs.declared.disk_error.DiskError.TheVariants as errors
-use Rattle.odb_nodes.specs.declared.entry.Entry.{Entry}
+use Rattle.odb_disk.specs.Ask.{answer_now, answer_of, dir_answer, fails_now}
+use Rattle.odb_disk.specs.MemDisk.{Volume}
+use Rattle.odb_disk.specs.StreamAsks.{least_closed}
+use Rattle.odb_disk.specs.declared.ask.DiskAnswer.{DiskAnswer}
+use Rattle.odb_disk.specs.declared.ask.DiskAnswer.TheVariants as answers
+use Rattle.odb_disk.specs.declared.ask.DiskAsk.{DiskAsk}
+use Rattle.odb_disk.specs.declared.ask.DiskAsk.TheVariants as asks
+use Rattle.odb_disk.specs.Entries.{opened}
+use Rattle.odb_disk.specs.Tree.{Tree, tree_of}
+use Rattle.odb_disk.specs.Tree.Follow.{Absent, LinkLoop, Refusal, WrongKind}
+use Rattle.odb_disk.specs.declared.disk_error.DiskError.TheVariants as errors
+use Rattle.odb_disk.specs.declared.entry.Entry.{Entry}
 use Rattle.gix_odb_events.specs.declared.answer.Answer.TheVariants as told
 use Rattle.gix_odb_events.specs.declared.answer.Ask.TheVariants as parts
-use Rattle.gix_odb_looks.specs.Exchange.{Exchange}
-use Rattle.gix_odb_looks.specs.OpenStream.{IsOnStream, IsStreamOf, given_by}
-use Rattle.gix_odb_looks.specs.Stream.{Stream, opens, reads, stream_by, stream_in}
-use Rattle.gix_odb_looks.proofs.StreamLaws.Directories.{stream_of_a_directory_goes_on}
-use Rattle.gix_odb_looks.proofs.StreamLaws.Exchanges.{reads-given}
-use Rattle.gix_odb_refresh.proofs.ListerLaws.Streams.{stream_in-push}
-use Rattle.gix_odb_look_laws.specs.ListedFiles.{AreOfTree, IsOrFails, IsToldOfTree, Opens}
+use Rattle.gix_odb.specs.LookExchanges.{Exchange}
+use Rattle.gix_odb.specs.OpenStream.{IsOnStream, IsStreamOf, given_by}
+use Rattle.gix_odb.specs.Stream.{Stream, opens, reads, stream_by, stream_in}
+use Rattle.gix_odb.proofs.StreamLaws.Directories.{stream_of_a_directory_goes_on}
+use Rattle.gix_odb.proofs.StreamLaws.Exchanges.{reads-given}
+use Rattle.gix_odb.proofs.ListerLaws.Streams.{stream_in-push}
+use Rattle.gix_odb.specs.ListedFiles.{AreOfTree, IsOrFails, IsToldOfTree, Opens}
 use Rattle.gix_odb_world.specs.AtWork.{Running}
-use Rattle.gix_odb_runs.specs.Cores.{answer_behind, history_at}
-use Rattle.gix_odb_runs.specs.Event.{CoreAnswer, Event, OfCore, OfDisk}
+use Rattle.gix_odb_history.specs.Cores.{answer_behind, history_at}
+use Rattle.gix_odb_history.specs.Event.{CoreAnswer, Event, OfCore, OfDisk}
 use Rattle.gix_odb_events.specs.declared.answer.Ask.{Ask}
 use Rattle.gix_odb_world.specs.Headline.{Works, stand_of}
 use Rattle.gix_odb_world.specs.Machines.{ask_in}
-use Rattle.gix_odb_runs.specs.Run.{IsTurnOf, Stand, disk_after, told_now, tree_at}
+use Rattle.gix_odb_history.specs.Run.{IsTurnOf, Stand, disk_after, told_now, tree_at}
 use Rattle.gix_odb_world.specs.Running.{Runs}
 use Rattle.gix_odb_world.specs.Status.{Free, Working, status_of, statuses_from}
 use Rattle.gix_odb_world.specs.Told.{exchange_of, told_since}

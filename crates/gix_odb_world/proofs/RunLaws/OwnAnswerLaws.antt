@@ -1,7 +1,7 @@
 -- Laws of runs in which no error has its cause: openings and calls are answered by an answer of their own.
 use Rattle.std.proofs.Common.{◌≡◌, ℕ, ◌+◌, List, [], ◌∷◌, ◌++◌, take, subst}
 use Rattle.std.specs.Prelude.{Option, length}
-use Rattle.odb_asks.specs.MemDisk.{Volume}
+use Rattle.odb_disk.specs.MemDisk.{Volume}
 use Rattle.gix_hash.specs.declared.object_id.ObjectId.{ObjectId}
 use Rattle.gix_object.specs.declared.kind.Kind.{Kind}
 use Rattle.gix_object.specs.declared.want.Want.{Want}
@@ -15,9 +15,9 @@ use Rattle.gix_odb_calls.specs.declared.find.Error.{Error}
 use Rattle.gix_odb_calls.specs.declared.query.Query.{Query}
 use Rattle.gix_odb_calls.specs.declared.step.Outcome.TheVariants as outcomes
 use Rattle.gix_odb_calls.specs.declared.write.Error.TheVariants as write_errors
-use Rattle.gix_odb_runs.specs.Event.{Event}
-use Rattle.gix_odb_runs.specs.Run.{FailedSince, tree_at}
-use Rattle.gix_odb_runs.specs.Writing.{ToWrite, to_write}
+use Rattle.gix_odb_history.specs.Event.{Event}
+use Rattle.gix_odb_history.specs.Run.{FailedSince, tree_at}
+use Rattle.gix_odb_history.specs.Writing.{ToWrite, to_write}
 use Rattle.gix_odb_world.specs.AtWork.{MakeCall, Modes, OpenStore, Running, Store, Task}
 use Rattle.gix_odb_world.specs.Headline.{Law}
 use Rattle.gix_odb.specs.Contents.{sought}

@@ -1,16 +1,16 @@
 -- Pending turns of a handle, one after another: they leave it at its task, each with one more turn, and are fewer than the task's bound.
 use Rattle.std.proofs.Common.{◌≡◌, ℕ, zero, suc, ◌+◌, ◌<◌, ◌≤◌, List, [], ◌∷◌, ◌++◌, length, take, Option, Some, None, refl, sym, ap, ◌∙◌, subst, arith}
 use Rattle.std.specs.Prelude.{slice_get}
-use Rattle.odb_asks.specs.MemDisk.{Volume}
-use Rattle.odb_nodes.specs.Tree.{Tree, tree_of}
-use Rattle.odb_nodes.specs.Tree.Follow.{listed}
+use Rattle.odb_disk.specs.MemDisk.{Volume}
+use Rattle.odb_disk.specs.Tree.{Tree, tree_of}
+use Rattle.odb_disk.specs.Tree.Follow.{listed}
 use Rattle.gix_odb_calls.specs.declared.call.Call.{Call}
 use Rattle.gix_odb.specs.Contents.{StoreData, folder_list}
-use Rattle.gix_odb_runs.specs.Event.{Asked, Event}
+use Rattle.gix_odb_history.specs.Event.{Asked, Event}
 use Rattle.gix_odb_events.specs.declared.answer.Ask.{Ask}
 use Rattle.gix_odb_events.specs.declared.answer.Ask.TheVariants as work_asks
-use Rattle.gix_odb_runs.specs.Run.{Stand, disk_after, told_now, tree_at}
-use Rattle.gix_odb_runs.specs.Turned.{is_done}
+use Rattle.gix_odb_history.specs.Run.{Stand, disk_after, told_now, tree_at}
+use Rattle.gix_odb_history.specs.Turned.{is_done}
 use Rattle.gix_odb_world.specs.Asks.{AsksAsTask}
 use Rattle.gix_odb_world.specs.AtWork.{MakeCall, Modes, OpenStore, Running, Store, Task, modes_after}
 use Rattle.gix_odb_world.specs.Bound.{HasAtMost, bound_of_task, bytes_to_write, turn_bound}

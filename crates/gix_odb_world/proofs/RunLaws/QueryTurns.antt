@@ -2,32 +2,32 @@
 use Rattle.std.proofs.Common.{◌≡◌, ℕ, zero, suc, ◌<◌, ◌≤◌, List, [], ◌∷◌, length, take, Option, Some, None, refl, sym, ap, ◌∙◌, subst, arith}
 use Rattle.std.specs.Prelude.{unwrap_or}
 use Rattle.std.proofs.lemmas.Option.{same_Some, slice_get_within}
-use Rattle.odb_asks.specs.MemDisk.{Volume}
-use Rattle.odb_nodes.specs.Tree.{tree_of}
+use Rattle.odb_disk.specs.MemDisk.{Volume}
+use Rattle.odb_disk.specs.Tree.{tree_of}
 use Rattle.gix_odb_core.specs.Replay.{snapshot_of}
 use Rattle.gix_odb_events.specs.declared.answer.Ask.{Ask}
 use Rattle.gix_odb_events.specs.declared.answer.Ask.TheVariants as parts
 use Rattle.gix_odb_calls.specs.declared.query.Query.{Query}
 use Rattle.gix_odb_calls.proofs.QueryLaws.{query_of-call_of}
 use Rattle.gix_odb_calls.specs.Query.{query_of}
-use Rattle.gix_odb_looks.specs.Exchange.{AreAsked}
-use Rattle.gix_odb_looks.specs.LookUpOrder.{ask_of}
-use Rattle.gix_odb_looks.specs.declared.look_up.LookUp.{LookUp}
+use Rattle.gix_odb.specs.LookExchanges.{AreAsked}
+use Rattle.gix_odb.specs.LookUpOrder.{ask_of}
+use Rattle.gix_odb.specs.declared.look_up.LookUp.{LookUp}
 use Rattle.gix_odb.specs.HandleState.{unseen}
 use Rattle.gix_odb.specs.declared.call_state.CallStage.TheVariants.{Looking, Refreshing, Refused, Writing}
 use Rattle.gix_odb_world.specs.Work.{Work}
 use Rattle.gix_odb_world.specs.Work.{Calling, Opening}
 use Rattle.gix_odb_world.specs.AtWork.{MakeCall, OpenStore, Running, Task, setting_in}
-use Rattle.gix_odb_runs.specs.Cores.{answer_behind, cores_after, history_at}
-use Rattle.gix_odb_runs.specs.Event.{CoreAnswer, CoreEvent, Event, OfCore}
+use Rattle.gix_odb_history.specs.Cores.{answer_behind, cores_after, history_at}
+use Rattle.gix_odb_history.specs.Event.{CoreAnswer, CoreEvent, Event, OfCore}
 use Rattle.gix_odb_world.specs.Headline.{IsLawful, Law, Works, stand_of}
 use Rattle.gix_odb_world.specs.Machines.{ask_in}
-use Rattle.gix_odb_runs.specs.Run.{Stand, disk_after, told_now, tree_at}
+use Rattle.gix_odb_history.specs.Run.{Stand, disk_after, told_now, tree_at}
 use Rattle.gix_odb_world.specs.Running.{Knows, Runs, RunsThroughout}
 use Rattle.gix_odb_world.specs.Running.Query.{IsFit, IsToldWell}
 use Rattle.gix_odb_world.specs.Status.{Working, status_of}
 use Rattle.gix_odb_world.specs.Told.{call_of, look_begun, look_now, told_since, view_then}
-use Rattle.gix_odb_runs.specs.Writing.{ToWrite, call_to_write}
+use Rattle.gix_odb_history.specs.Writing.{ToWrite, call_to_write}
 use Rattle.gix_odb_world.proofs.RunSteps.Fronts.{front_of_front, length_take, there_in_whole}
 use Rattle.gix_odb_world.specs.RunLaws.Turn.{AsksCore, IsQueryTurn}
 use Rattle.gix_odb_world.proofs.RunLaws.KnownRun.{IsKnownRun}

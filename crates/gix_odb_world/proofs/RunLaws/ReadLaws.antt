@@ -2,28 +2,28 @@
 use Rattle.std.proofs.Common.{◌≡◌, ℕ, true, List, length, take, Some, sym, ap, ◌∙◌, arith}
 use Rattle.std.specs.Prelude.{slice_get}
 use Rattle.odb_base.specs.Path.{Path}
-use Rattle.odb_asks.specs.MemDisk.{Volume}
-use Rattle.odb_asks.specs.declared.ask.DiskAnswer.TheVariants as answers
-use Rattle.odb_asks.specs.declared.ask.DiskAsk.TheVariants as asks
-use Rattle.odb_nodes.specs.Tree.{Tree}
+use Rattle.odb_disk.specs.MemDisk.{Volume}
+use Rattle.odb_disk.specs.declared.ask.DiskAnswer.TheVariants as answers
+use Rattle.odb_disk.specs.declared.ask.DiskAsk.TheVariants as asks
+use Rattle.odb_disk.specs.Tree.{Tree}
 use Rattle.gix_hash.specs.declared.object_id.ObjectId.{ObjectId}
-use Rattle.gix_pack_files.specs.Index.{is_index}
-use Rattle.gix_pack_files.specs.Pack.{is_pack}
+use Rattle.gix_pack_read.specs.Index.{is_index}
+use Rattle.gix_pack_read.specs.Pack.{is_pack}
 use Rattle.gix_odb_events.specs.declared.pack_id.PackId.{PackId}
 use Rattle.gix_odb_events.specs.declared.event.Event.TheVariants as events_of
 use Rattle.gix_odb_events.specs.declared.event.PassWhy.{PassWhy}
 use Rattle.gix_odb_events.specs.declared.view.View.{View}
 use Rattle.gix_odb_calls.specs.declared.query.Query.{Query}
-use Rattle.gix_odb_looks.specs.Exchange.{Exchange}
-use Rattle.gix_odb_looks.specs.LookUpOrder.{Setting, ask_of}
-use Rattle.gix_odb_looks.specs.Shown.{IsIndexPath}
+use Rattle.gix_odb.specs.LookExchanges.{Exchange}
+use Rattle.gix_odb.specs.LookUpOrder.{Setting, ask_of}
+use Rattle.gix_odb.specs.Shown.{IsIndexPath}
 use Rattle.gix_odb.specs.Contents.{ShowsFile, sought}
 use Rattle.gix_odb.specs.Held.{WasShownAt}
-use Rattle.gix_odb_look_laws.specs.JustRead.{GotLast, IsOfLastRead, IsPackPath, MissedLast, read_of}
-use Rattle.gix_odb_look_laws.proofs.ReadLaws.{index_that_was_read_is_stored_next, pack_that_was_read_is_stored_next, what_is_stored_or_passed_over_was_just_read}
+use Rattle.gix_odb.specs.JustRead.{GotLast, IsOfLastRead, IsPackPath, MissedLast, read_of}
+use Rattle.gix_odb.proofs.ReadLaws.{index_that_was_read_is_stored_next, pack_that_was_read_is_stored_next, what_is_stored_or_passed_over_was_just_read}
 use Rattle.gix_odb_world.specs.AtWork.{Running, setting_in}
-use Rattle.gix_odb_runs.specs.Event.{CoreEvent, Event}
-use Rattle.gix_odb_runs.specs.Run.{disk_after, tree_at}
+use Rattle.gix_odb_history.specs.Event.{CoreEvent, Event}
+use Rattle.gix_odb_history.specs.Run.{disk_after, tree_at}
 use Rattle.gix_odb_world.specs.Told.{exchange_of, told_since, view_then}
 use Rattle.gix_odb_world.proofs.DiskTold.{read_is}
 use Rattle.gix_odb_world.specs.RunLaws.Stored.{IsAsRead, IsBacked, IsMissing}

@@ -2,37 +2,37 @@
 use Rattle.std.proofs.Common.{◌≡◌, ℕ, Bool, true, false, cond, List, [], ◌∷◌, Contains, Option, Some, None, Ok, Err, sym, ap, subst}
 use Rattle.std.specs.List.{All}
 use Rattle.std.proofs.lemmas.Option.{same_Some}
-use Rattle.odb_asks.specs.declared.ask.DiskAnswer.{DiskAnswer}
-use Rattle.odb_asks.specs.declared.ask.DiskAsk.{DiskAsk}
-use Rattle.odb_nodes.specs.Tree.{Tree}
-use Rattle.odb_nodes.specs.declared.entry.Entry.{Entry}
+use Rattle.odb_disk.specs.declared.ask.DiskAnswer.{DiskAnswer}
+use Rattle.odb_disk.specs.declared.ask.DiskAsk.{DiskAsk}
+use Rattle.odb_disk.specs.Tree.{Tree}
+use Rattle.odb_disk.specs.declared.entry.Entry.{Entry}
 use Rattle.gix_odb_events.specs.declared.listing.Listing.{Listing}
 use Rattle.gix_odb_events.specs.declared.listing.ListingRow.{ListingRow}
 use Rattle.gix_odb_events.specs.declared.event.Effect.{Effect}
 use Rattle.gix_odb_events.specs.declared.event.Effect.TheVariants as effects
 use Rattle.gix_odb_events.specs.declared.event.Event.TheVariants as events_of
 use Rattle.gix_odb_events.specs.declared.view.View.{View}
-use Rattle.gix_odb_packs.specs.ListOrder as lists
-use Rattle.gix_odb_packs.specs.LongestFirst.{longest_first}
+use Rattle.gix_odb_search.specs.ListOrder as lists
+use Rattle.gix_odb_search.specs.LongestFirst.{longest_first}
 use Rattle.gix_odb_events.specs.declared.answer.Answer.{Answer}
 use Rattle.gix_odb_events.specs.declared.answer.Answer.TheVariants as told
 use Rattle.gix_odb_events.specs.declared.answer.Ask.{Ask}
 use Rattle.gix_odb_events.specs.declared.answer.Ask.TheVariants as parts
-use Rattle.gix_odb_packs.specs.declared.lister.ListStep.{ListStep}
-use Rattle.gix_odb_packs.specs.declared.lister.ListStep.TheVariants as steps
-use Rattle.gix_odb_looks.specs.Exchange.{Exchange, WasTold}
-use Rattle.gix_odb_looks.specs.LookUpOrder.{Setting}
-use Rattle.gix_odb_looks.specs.Shown.{folders_of}
-use Rattle.gix_odb_refresh.proofs.ListerLaws.Lists.{has_first, has_later}
-use Rattle.gix_odb_look_laws.specs.ListedFiles.{AreOfTree, IsToldOfTree, listed_in}
-use Rattle.gix_odb_look_laws.specs.ListerCalls.{IsRowSeen}
-use Rattle.gix_odb_look_laws.proofs.ListingLaws.OfTree.{ListsStage, ListsStep, listing_lists, starts_listing}
-use Rattle.gix_odb_look_laws.proofs.ListingLaws.Seen.{SeesLister, SeesStep, listing_sees, starts_seeing}
-use Rattle.gix_odb_refresh.specs.RefreshOrder.{asked_of, by_listed, by_look, by_published, listing_from, started, step_fed, view_shown}
-use Rattle.gix_odb_refresh.specs.Refreshed.{AreAsked, behind}
-use Rattle.gix_odb_refresh.specs.declared.refresh.RefreshStep.{RefreshStep}
-use Rattle.gix_odb_refresh.specs.declared.refresh.RefreshStep.TheVariants as ends
-use Rattle.gix_odb_refresh.specs.declared.refresh.Refresh.TheVariants as stages
+use Rattle.gix_odb_search.specs.declared.lister.ListStep.{ListStep}
+use Rattle.gix_odb_search.specs.declared.lister.ListStep.TheVariants as steps
+use Rattle.gix_odb.specs.LookExchanges.{Exchange, WasTold}
+use Rattle.gix_odb.specs.LookUpOrder.{Setting}
+use Rattle.gix_odb.specs.Shown.{folders_of}
+use Rattle.gix_odb.proofs.ListerLaws.Lists.{has_first, has_later}
+use Rattle.gix_odb.specs.ListedFiles.{AreOfTree, IsToldOfTree, listed_in}
+use Rattle.gix_odb.specs.ListerCalls.{IsRowSeen}
+use Rattle.gix_odb.proofs.ListingLaws.OfTree.{ListsStage, ListsStep, listing_lists, starts_listing}
+use Rattle.gix_odb.proofs.ListingLaws.Seen.{SeesLister, SeesStep, listing_sees, starts_seeing}
+use Rattle.gix_odb.specs.RefreshOrder.{asked_of, by_listed, by_look, by_published, listing_from, started, step_fed, view_shown}
+use Rattle.gix_odb.specs.Refreshed.{AreAsked, behind}
+use Rattle.gix_odb.specs.declared.refresh.RefreshStep.{RefreshStep}
+use Rattle.gix_odb.specs.declared.refresh.RefreshStep.TheVariants as ends
+use Rattle.gix_odb.specs.declared.refresh.Refresh.TheVariants as stages
 
 same_part : (one other : Ask) → ◌≡◌ {A = Option Ask} (Some one) (Some other) → one ≡ other
 same_part one other is = same_Some one other is

@@ -2,18 +2,18 @@
 use Rattle.std.proofs.Common.{◌≡◌, inl, inr, ℕ, suc, ◌+◌, ◌<◌, ◌≤◌, Bool, true, false, List, [], ◌∷◌, take, drop, Contains, Option, Some, None, refl, sym, ap, ◌∙◌, arith}
 use Rattle.std.specs.Prelude.{slice_get, if◌then◌else◌}
 use Rattle.std.specs.List.{cons_option, filter_map}
-use Rattle.odb_asks.specs.Ask.{answer_now}
-use Rattle.odb_asks.specs.MemDisk.{Volume}
-use Rattle.odb_asks.specs.declared.ask.DiskAnswer.{DiskAnswer}
-use Rattle.odb_asks.specs.declared.ask.DiskAsk.{DiskAsk}
+use Rattle.odb_disk.specs.Ask.{answer_now}
+use Rattle.odb_disk.specs.MemDisk.{Volume}
+use Rattle.odb_disk.specs.declared.ask.DiskAnswer.{DiskAnswer}
+use Rattle.odb_disk.specs.declared.ask.DiskAsk.{DiskAsk}
 use Rattle.gix_odb_events.specs.declared.answer.Answer.TheVariants as told
 use Rattle.gix_odb_events.specs.declared.answer.Ask.TheVariants as parts
-use Rattle.gix_odb_packs.proofs.ReachLemmas.{first_or_later, none_in}
-use Rattle.gix_odb_looks.specs.Exchange.{Exchange, WasTold}
-use Rattle.gix_odb_runs.specs.Event.{Event}
-use Rattle.gix_odb_runs.specs.Run.{IsTurnOf, disk_after}
+use Rattle.gix_odb_search.proofs.ReachLemmas.{first_or_later, none_in}
+use Rattle.gix_odb.specs.LookExchanges.{Exchange, WasTold}
+use Rattle.gix_odb_history.specs.Event.{Event}
+use Rattle.gix_odb_history.specs.Run.{IsTurnOf, disk_after}
 use Rattle.gix_odb_world.specs.Told.{exchange_in, exchange_of, told_since}
-use Rattle.gix_odb_runs.specs.Turned.{is_turn_of}
+use Rattle.gix_odb_history.specs.Turned.{is_turn_of}
 use Rattle.gix_odb_world.proofs.RunSteps.Fronts.{there_in_whole}
 use Rattle.gix_odb_world.proofs.RunLaws.JustRead.{answered_then, asked_of, is_turn, nth_drop}
 use Rattle.gix_odb_world.proofs.RunLaws.KnownRun.{IsKnownRun}

@@ -2,12 +2,12 @@
 use Rattle.std.proofs.Common.{◌≡◌, ◌≢◌, ℕ, ◌+◌, Bool, true, false, List, [], ◌∷◌, ◌++◌, length, None, Some, Ok, refl, sym, ◌∙◌, ap, subst}
 use Rattle.std.specs.Prelude.{◌==◌, if◌then◌else◌}
 use Rattle.std.proofs.lemmas.Bool.{eqb-true, eqb-false}
-use Rattle.odb_asks.specs.MemDisk.{Volume}
+use Rattle.odb_disk.specs.MemDisk.{Volume}
 use Rattle.gix_odb_calls.proofs.QueryLaws.{by_call-all}
 use Rattle.gix_odb_calls.specs.declared.call.Call.{Call}
 use Rattle.gix_odb_events.specs.declared.answer.Ask.TheVariants as parts
-use Rattle.gix_odb_looks.proofs.HandedLaws.{IsOfLooks, look_ups_ask_these_events_alone}
-use Rattle.gix_odb_refresh.proofs.RefreshLaws.{refreshes_ask_events_of_looks_alone}
+use Rattle.gix_odb.proofs.HandedLaws.{IsOfLooks, look_ups_ask_these_events_alone}
+use Rattle.gix_odb.proofs.RefreshLaws.{refreshes_ask_events_of_looks_alone}
 use Rattle.gix_odb_world.specs.Told.{look_now, refresh_now}
 use Rattle.gix_odb.specs.declared.open_state.OpenStage.{OpenStage}
 use Rattle.gix_odb.specs.declared.open_state.OpenStage.TheVariants as opens
@@ -25,8 +25,8 @@ use Rattle.gix_odb_calls.specs.declared.step.Outcome.TheVariants as outcomes
 use Rattle.gix_odb_world.specs.Work.{Work}
 use Rattle.gix_odb_world.specs.Work.{Opening}
 use Rattle.gix_odb_world.specs.Asks.{AsksAsLook, AsksAsRefresh, MayAskCore}
-use Rattle.gix_odb_runs.specs.Cores.{cores_after, cores_after_asked, history_at}
-use Rattle.gix_odb_runs.specs.Event.{Asked, CoreEvent, Event, OfCore, OfNothing}
+use Rattle.gix_odb_history.specs.Cores.{cores_after, cores_after_asked, history_at}
+use Rattle.gix_odb_history.specs.Event.{Asked, CoreEvent, Event, OfCore, OfNothing}
 use Rattle.gix_odb_world.specs.Headline.{IsTurn, asked_applied, asked_by_clone, asked_by_close}
 use Rattle.gix_odb_world.specs.Seats.{IsNowhere, IsSeated}
 use Rattle.gix_odb_world.specs.Status.{Free, MakeCall, Modes, OpenStore, Resting, Status, Store, Task, Working, cloned, ignoring_from, modes_after}

@@ -13,8 +13,8 @@ use Rattle.gix_odb_core.specs.declared.shape.Shape.{Shape}
 use Rattle.gix_odb_core.proofs.HandleLaws.{other_seat, own_seat, seats_of_a_journal_are_in_order}
 use Rattle.gix_odb_core.proofs.HandleLemmas.{handles-after}
 use Rattle.gix_odb_core.proofs.OrderLaws.{replay_of_joined_journals}
-use Rattle.gix_odb_runs.specs.Cores.{cores_after, cores_after_asked, cores_after_event, entered, entry_of, history_at, registered_at}
-use Rattle.gix_odb_runs.specs.Event.{Asked, CoreEvent, Event, OfCore, OfDisk, OfNewCore, OfNothing}
+use Rattle.gix_odb_history.specs.Cores.{cores_after, cores_after_asked, cores_after_event, entered, entry_of, history_at, registered_at}
+use Rattle.gix_odb_history.specs.Event.{Asked, CoreEvent, Event, OfCore, OfDisk, OfNewCore, OfNothing}
 
 -- ---- an event that isn't refused, at one core
 

@@ -17,8 +17,8 @@ use Rattle.gix_odb_events.specs.declared.view.View.{View}
 use Rattle.gix_odb_core.proofs.HandleLemmas.{with_seat-same}
 use Rattle.gix_odb_core.proofs.SnapshotLaws.{handed-append}
 use Rattle.gix_odb_world.specs.AtWork.{Modes}
-use Rattle.gix_odb_runs.specs.Cores.{cores_after_asked, entered, entry_of, history_at, or_before, registered_at}
-use Rattle.gix_odb_runs.specs.Event.{CoreAnswer, CoreEvent, OfCore}
+use Rattle.gix_odb_history.specs.Cores.{cores_after_asked, entered, entry_of, history_at, or_before, registered_at}
+use Rattle.gix_odb_history.specs.Event.{CoreAnswer, CoreEvent, OfCore}
 use Rattle.gix_odb_world.specs.Seats.{IsNowhere, IsSeated}
 use Rattle.gix_odb_world.proofs.HistoryLemmas.{slice_get-kept, slice_get-last}
 use Rattle.gix_odb_world.proofs.SeatLemmas.Elsewhere.{handles-entered, kept_other, out_before, out_new, out_other, out_own, slice_get-set_other, slice_get-set_same}

@@ -7,8 +7,8 @@ use Rattle.std.proofs.lemmas.List.Sums.{fold-append}
 use Rattle.gix_odb_core.specs.History.{History, opened}
 use Rattle.gix_odb_events.specs.declared.event.Event.TheVariants as core_events
 use Rattle.gix_odb_core.specs.declared.journal.Entry.{Entry}
-use Rattle.gix_odb_runs.specs.Cores.{cores_after, cores_after_asked, cores_after_event, entered, entry_of, history_at}
-use Rattle.gix_odb_runs.specs.Event.{Asked, CoreAnswer, CoreEvent, Event, OfCore, OfDisk, OfNewCore, OfNothing}
+use Rattle.gix_odb_history.specs.Cores.{cores_after, cores_after_asked, cores_after_event, entered, entry_of, history_at}
+use Rattle.gix_odb_history.specs.Event.{Asked, CoreAnswer, CoreEvent, Event, OfCore, OfDisk, OfNewCore, OfNothing}
 use Rattle.gix_odb_world.proofs.HistoryLemmas.{slice_get-kept}
 use Rattle.gix_odb_world.proofs.RunSteps.Fronts.{front_of_front}
 use Rattle.gix_odb_world.proofs.SeatLemmas.Elsewhere.{slice_get-set_other, slice_get-set_same}

@@ -12,10 +12,10 @@ use Rattle.gix_odb_events.specs.declared.event.Refusal.TheVariants as refusals
 use Rattle.gix_odb_core.specs.declared.shape.Shape.{Shape}
 use Rattle.gix_odb_core.proofs.HandleLemmas.{handles-after}
 use Rattle.gix_odb_core.proofs.OrderLaws.{replay_of_joined_journals}
-use Rattle.gix_odb_looks.proofs.HandedLaws.{IsOfLooks}
+use Rattle.gix_odb.proofs.HandedLaws.{IsOfLooks}
 use Rattle.gix_odb_world.specs.AtWork.{Modes, modes_after}
-use Rattle.gix_odb_runs.specs.Cores.{cores_after_asked, entered, entry_of, history_at, or_before, registered_at}
-use Rattle.gix_odb_runs.specs.Event.{CoreAnswer, CoreEvent, OfCore}
+use Rattle.gix_odb_history.specs.Cores.{cores_after_asked, entered, entry_of, history_at, or_before, registered_at}
+use Rattle.gix_odb_history.specs.Event.{CoreAnswer, CoreEvent, OfCore}
 use Rattle.gix_odb_world.specs.Seats.{IsSeated}
 use Rattle.gix_odb_world.proofs.SeatLemmas.Elsewhere.{StaysOut, history_at-set, slice_get-set_other, slice_get-set_same}
 use Rattle.gix_odb_world.proofs.SeatLemmas.Entered.{snapshot_other, snapshot_own}

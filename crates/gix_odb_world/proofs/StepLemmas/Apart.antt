@@ -1,19 +1,19 @@
 -- The law of an event that is no turn, or is misused: it makes no call of the disk.
 use Rattle.std.proofs.Common.{◌≡◌, ◌≢◌, ℕ, true, List, None, Option, refl, sym, ◌∙◌, ap, subst}
 use Rattle.std.proofs.lemmas.Bool.{false≢true}
-use Rattle.odb_asks.specs.MemDisk.{Volume}
-use Rattle.odb_nodes.specs.declared.change.Change.{Change}
+use Rattle.odb_disk.specs.MemDisk.{Volume}
+use Rattle.odb_disk.specs.declared.change.Change.{Change}
 use Rattle.gix_odb_calls.specs.declared.step.Step.{Step}
 use Rattle.gix_odb_calls.specs.declared.step.Step.TheVariants as steps
 use Rattle.gix_odb_calls.specs.declared.step.Outcome.{Outcome}
 use Rattle.gix_odb_calls.specs.declared.step.Outcome.TheVariants as outcomes
 use Rattle.gix_odb_calls.specs.declared.call.Reply.{Reply}
-use Rattle.gix_odb_runs.specs.declared.record.Did.{Did}
-use Rattle.gix_odb_runs.specs.declared.record.Did.TheVariants.{Nothing}
-use Rattle.gix_odb_runs.specs.Cores.{cores_after}
-use Rattle.gix_odb_runs.specs.Event.{Asked, OfCore, OfDisk, OfNewCore, OfNothing, Event}
-use Rattle.gix_odb_runs.specs.Run.{did_of_asked, disk_after, disk_after_asked, disk_after_change}
-use Rattle.gix_odb_runs.specs.Turned.{is_done}
+use Rattle.gix_odb_history.specs.declared.record.Did.{Did}
+use Rattle.gix_odb_history.specs.declared.record.Did.TheVariants.{Nothing}
+use Rattle.gix_odb_history.specs.Cores.{cores_after}
+use Rattle.gix_odb_history.specs.Event.{Asked, OfCore, OfDisk, OfNewCore, OfNothing, Event}
+use Rattle.gix_odb_history.specs.Run.{did_of_asked, disk_after, disk_after_asked, disk_after_change}
+use Rattle.gix_odb_history.specs.Turned.{is_done}
 use Rattle.gix_odb_world.specs.Valid.{IsReason, misuse_of}
 use Rattle.gix_odb_world.specs.Headline.{FailsAsListed, Law, LeavesDisk, Suits, asked_applied}
 use Rattle.gix_odb_world.specs.Changes.{ChangesAs}

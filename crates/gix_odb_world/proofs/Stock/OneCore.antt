@@ -3,22 +3,22 @@ use Rattle.std.proofs.Common.{◌≡◌, ℕ, List, [], ◌∷◌, ◌++◌, len
 use Rattle.std.specs.Prelude.{slice_get}
 use Rattle.std.proofs.lemmas.List.{length_push}
 use Rattle.odb_base.specs.Path.{Path}
-use Rattle.odb_asks.specs.MemDisk.{Volume}
-use Rattle.odb_nodes.specs.Tree.Follow.{read_of}
+use Rattle.odb_disk.specs.MemDisk.{Volume}
+use Rattle.odb_disk.specs.Tree.Follow.{read_of}
 use Rattle.gix_odb_core.specs.History.{History, opened, present}
 use Rattle.gix_odb_core.specs.Possible.{IsPossible}
 use Rattle.gix_odb_core.specs.Replay.{CanHappen, IsLegal}
 use Rattle.gix_odb_core.specs.declared.journal.Entry.{Entry}
 use Rattle.gix_odb_core.proofs.ShapeLaws.{possible_journal_grows}
-use Rattle.gix_odb_looks.specs.Shown.{IsHanded}
-use Rattle.gix_odb_look_laws.proofs.CoreLaws.Journals.{each_of_grown, legal_journal_grows}
-use Rattle.gix_odb_look_laws.proofs.CoreLaws.Wider.{IsHanded-wider}
+use Rattle.gix_odb.specs.Shown.{IsHanded}
+use Rattle.gix_odb_world.proofs.CoreLaws.Journals.{each_of_grown, legal_journal_grows}
+use Rattle.gix_odb_world.proofs.CoreLaws.Wider.{IsHanded-wider}
 use Rattle.gix_odb.specs.Contents.{folder_list}
 use Rattle.gix_odb.specs.Held.{WasShownAt}
 use Rattle.gix_odb_world.specs.AtWork.{Store, setting_in}
-use Rattle.gix_odb_runs.specs.Cores.{answer_behind, cores_after, entered, entry_of}
-use Rattle.gix_odb_runs.specs.Event.{CoreAnswer, CoreEvent, Event}
-use Rattle.gix_odb_runs.specs.Run.{tree_at}
+use Rattle.gix_odb_history.specs.Cores.{answer_behind, cores_after, entered, entry_of}
+use Rattle.gix_odb_history.specs.Event.{CoreAnswer, CoreEvent, Event}
+use Rattle.gix_odb_history.specs.Run.{tree_at}
 use Rattle.gix_odb_world.proofs.HistoryLemmas.{tree_at-before}
 
 -- a file with these bytes was shown at a path since a store was opened

@@ -1,10 +1,10 @@
 -- Which store a handle's core is of, after each event.
 use Rattle.std.proofs.Common.{◌≡◌, ℕ, List, length, Some}
-use Rattle.odb_asks.specs.MemDisk.{Volume}
+use Rattle.odb_disk.specs.MemDisk.{Volume}
 use Rattle.std.specs.Prelude.{slice_get}
 use Rattle.gix_odb_world.specs.AtWork.{Modes, Store, Task, OpenStore, MakeCall}
-use Rattle.gix_odb_runs.specs.Cores.{cores_after}
-use Rattle.gix_odb_runs.specs.Event.{Event}
+use Rattle.gix_odb_history.specs.Cores.{cores_after}
+use Rattle.gix_odb_history.specs.Event.{Event}
 use Rattle.gix_odb_world.specs.Status.{Free, Resting, Status, Working, status_of}
 use Rattle.gix_odb_world.proofs.Stock.OneCore.{IsStocked}
 

@@ -3,13 +3,13 @@ pub mod Grown
 use Rattle.std.proofs.Common.{◌≡◌, ℕ, ◌+◌, Bool, true, false, List, [], ◌∷◌, ◌++◌, length, Option, Some, None, refl, sym, ◌∙◌, ap, subst}
 use Rattle.std.specs.Prelude.{◌==◌, slice_get, unwrap_or, if◌then◌else◌}
 use Rattle.std.specs.List.{last_or}
-use Rattle.odb_asks.specs.MemDisk.{Volume}
+use Rattle.odb_disk.specs.MemDisk.{Volume}
 use Rattle.gix_odb_core.specs.History.{History, opened, present}
 use Rattle.gix_odb_core.specs.Replay.{CanHappen}
 use Rattle.gix_odb_events.specs.declared.event.Event.TheVariants as core_events
 use Rattle.gix_odb_events.specs.declared.answer.Ask.{Ask}
 use Rattle.gix_odb_events.specs.declared.answer.Ask.TheVariants as parts
-use Rattle.odb_asks.specs.declared.ask.DiskAsk.{DiskAsk}
+use Rattle.odb_disk.specs.declared.ask.DiskAsk.{DiskAsk}
 use Rattle.gix_odb_calls.specs.declared.call.Reply.{Reply}
 use Rattle.gix_odb_calls.specs.declared.call.Reply.TheVariants as replies
 use Rattle.gix_odb_calls.specs.declared.call.CallError.TheVariants as call_errors
@@ -17,13 +17,13 @@ use Rattle.gix_odb_calls.specs.declared.step.Step.{Step}
 use Rattle.gix_odb_calls.specs.declared.step.Step.TheVariants as steps
 use Rattle.gix_odb_calls.specs.declared.step.Outcome.{Outcome}
 use Rattle.gix_odb_calls.specs.declared.step.Outcome.TheVariants as outcomes
-use Rattle.gix_odb_looks.specs.LookUpOrder as looks
-use Rattle.gix_odb_looks.specs.Shown.{IsHanded}
-use Rattle.gix_odb_looks.proofs.FoundLaws.{what_is_handed_was_shown}
-use Rattle.gix_odb_look_laws.proofs.HappenLaws.{what_is_handed_can_happen}
-use Rattle.gix_odb_refresh.specs.RefreshOrder as refreshes
-use Rattle.gix_odb_refresh.proofs.RefreshLaws.{what_a_refresh_hands_on_is_of_the_folders}
-use Rattle.gix_odb_look_laws.proofs.RefreshHappenLaws.{what_a_refresh_hands_on_can_happen}
+use Rattle.gix_odb.specs.LookUpOrder as looks
+use Rattle.gix_odb.specs.Shown.{IsHanded}
+use Rattle.gix_odb.proofs.FoundLaws.{what_is_handed_was_shown}
+use Rattle.gix_odb_world.proofs.HappenLaws.{what_is_handed_can_happen}
+use Rattle.gix_odb.specs.RefreshOrder as refreshes
+use Rattle.gix_odb.proofs.RefreshLaws.{what_a_refresh_hands_on_is_of_the_folders}
+use Rattle.gix_odb_world.proofs.RefreshHappenLaws.{what_a_refresh_hands_on_can_happen}
 use Rattle.gix_odb.specs.Contents.{sought}
 use Rattle.gix_odb.specs.declared.call_state.CallStage.TheVariants.{Looking, Refreshing, Refused, Writing}
 use Rattle.gix_odb.specs.declared.open_state.OpenStage.TheVariants as opens
@@ -32,18 +32,18 @@ use Rattle.gix_odb_world.specs.Work.{Work}
 use Rattle.gix_odb_world.specs.Work.{Opening, Calling}
 use Rattle.gix_odb_world.specs.Asks.{AsksAsTask, MayAskCore, MayAskNewCore}
 use Rattle.gix_odb_world.specs.AtWork.{MakeCall, OpenStore, Running, Store, Task, modes_after, setting_in}
-use Rattle.gix_odb_runs.specs.Cores.{cores_after, history_at}
-use Rattle.gix_odb_runs.specs.Event.{Asked, CoreAnswer, CoreEvent, Event, OfNewCore, OfNothing, answered}
+use Rattle.gix_odb_history.specs.Cores.{cores_after, history_at}
+use Rattle.gix_odb_history.specs.Event.{Asked, CoreAnswer, CoreEvent, Event, OfNewCore, OfNothing, answered}
 use Rattle.gix_odb.specs.CallOrder.{loose_ask}
 use Rattle.gix_odb_world.specs.Headline.{IsLawful, IsTurn, Law, Suits, Works, asked_applied, asked_by_clone, asked_by_close, stand_of}
 use Rattle.gix_odb_world.specs.Machines.{ask_in, fed_in}
 use Rattle.gix_odb_world.specs.Promise.{Promise}
-use Rattle.gix_odb_runs.specs.Run.{disk_after, told_now}
+use Rattle.gix_odb_history.specs.Run.{disk_after, told_now}
 use Rattle.gix_odb_world.specs.Running.{Knows, Runs}
 use Rattle.gix_odb_world.specs.Seats.{HasSeat, IsNowhere}
 use Rattle.gix_odb_world.specs.Status.{Free, Resting, Status, Working, cloned, come_to, ignoring_from, refuses_opening, replied, started, status_after, status_of, turned, with_status}
 use Rattle.gix_odb_world.specs.Told.{told_since, view_then}
-use Rattle.gix_odb_runs.specs.Turned.{is_done}
+use Rattle.gix_odb_history.specs.Turned.{is_done}
 use Rattle.gix_odb_world.specs.Valid.{misuse_of, why_not_after}
 use Rattle.gix_odb_world.proofs.HistoryLemmas.{slice_get-last, status_of-push}
 use Rattle.gix_odb_world.proofs.SeatLemmas.{seats_now}

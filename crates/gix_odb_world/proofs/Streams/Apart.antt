@@ -1,23 +1,23 @@
 -- Along a run the streams of handles at work are open, and no two handles read one.
 use Rattle.std.proofs.Common.{◌≡◌, ◌≢◌, ◌⊎◌, ℕ, true, false, List, Contains, Option, Some, None, inl, inr, sym, ◌∙◌, ap}
 use Rattle.odb_base.specs.Path.{Path}
-use Rattle.odb_asks.specs.MemDisk.{Volume}
-use Rattle.odb_asks.specs.StreamAsks.{is_of_streams}
-use Rattle.odb_asks.specs.declared.ask.DiskAsk.{DiskAsk}
-use Rattle.odb_asks.specs.declared.ask.DiskAsk.TheVariants as asks
+use Rattle.odb_disk.specs.MemDisk.{Volume}
+use Rattle.odb_disk.specs.StreamAsks.{is_of_streams}
+use Rattle.odb_disk.specs.declared.ask.DiskAsk.{DiskAsk}
+use Rattle.odb_disk.specs.declared.ask.DiskAsk.TheVariants as asks
 use Rattle.gix_odb_loose.specs.LooseOrder.{disk_ask_of}
 use Rattle.gix_odb_loose.proofs.StillAskLaws.{call_asks_still}
-use Rattle.gix_odb_packs.specs.ListOrder as lists
-use Rattle.gix_odb_packs.specs.PackFolder.{pack_folder}
+use Rattle.gix_odb_search.specs.ListOrder as lists
+use Rattle.gix_odb_search.specs.PackFolder.{pack_folder}
 use Rattle.gix_odb_events.specs.declared.answer.Ask.{Ask}
 use Rattle.gix_odb_events.specs.declared.answer.Ask.TheVariants as parts
-use Rattle.gix_odb_looks.specs.LookUpOrder as looks
-use Rattle.gix_odb_looks.specs.OpenStream.{IsOnStream}
-use Rattle.gix_odb_looks.specs.Stream.{Stream, stream_in}
-use Rattle.gix_odb_looks.proofs.HandedLaws.{streams_of_look_ups_are_their_own}
-use Rattle.gix_odb_looks.proofs.OpenLaws.{look_ups_open_folders_of_packs}
-use Rattle.gix_odb_refresh.specs.RefreshOrder as refreshes
-use Rattle.gix_odb_refresh.proofs.RefreshLaws.{refreshes_open_folders_of_packs, streams_of_refreshes_are_their_own}
+use Rattle.gix_odb.specs.LookUpOrder as looks
+use Rattle.gix_odb.specs.OpenStream.{IsOnStream}
+use Rattle.gix_odb.specs.Stream.{Stream, stream_in}
+use Rattle.gix_odb.proofs.HandedLaws.{streams_of_look_ups_are_their_own}
+use Rattle.gix_odb.proofs.OpenedLaws.{look_ups_open_folders_of_packs}
+use Rattle.gix_odb.specs.RefreshOrder as refreshes
+use Rattle.gix_odb.proofs.RefreshLaws.{refreshes_open_folders_of_packs, streams_of_refreshes_are_their_own}
 use Rattle.gix_odb.specs.Contents.{folder_list, sought}
 use Rattle.gix_odb.specs.OpenExchanges.{asks_of as opening_asks}
 use Rattle.gix_odb.proofs.OpenLaws.{openings_open_folders_of_packs, streams_of_openings_are_their_own}
@@ -26,7 +26,7 @@ use Rattle.gix_odb.specs.declared.open_state.OpenStage.TheVariants as opens
 use Rattle.gix_odb_world.specs.Work.{Work}
 use Rattle.gix_odb_world.specs.Work.{Opening, Calling}
 use Rattle.gix_odb_world.specs.AtWork.{Running, setting_in}
-use Rattle.gix_odb_runs.specs.Event.{Event}
+use Rattle.gix_odb_history.specs.Event.{Event}
 use Rattle.gix_odb.specs.CallOrder.{loose_ask}
 use Rattle.gix_odb_world.specs.Machines.{ask_in}
 use Rattle.gix_odb_world.specs.Running.{Knows}

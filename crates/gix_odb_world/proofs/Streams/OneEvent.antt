@@ -4,26 +4,26 @@ use Rattle.std.specs.Prelude.{◌==◌, if◌then◌else◌}
 use Rattle.std.proofs.lemmas.Bool.{eqb-true}
 use Rattle.std.proofs.lemmas.List.{length_push}
 use Rattle.odb_base.specs.Path.{Path}
-use Rattle.odb_nodes.specs.Tree.{Tree}
-use Rattle.odb_nodes.specs.declared.change.Change.{Change}
-use Rattle.odb_nodes.specs.declared.entry.Entry.{Entry}
-use Rattle.odb_asks.specs.MemDisk.{Volume}
+use Rattle.odb_disk.specs.Tree.{Tree}
+use Rattle.odb_disk.specs.declared.change.Change.{Change}
+use Rattle.odb_disk.specs.declared.entry.Entry.{Entry}
+use Rattle.odb_disk.specs.MemDisk.{Volume}
 use Rattle.gix_odb_calls.specs.declared.call.Call.{Call}
 use Rattle.gix_odb_calls.specs.declared.call.Reply.{Reply}
 use Rattle.gix_odb_calls.specs.declared.step.Step.{Step}
 use Rattle.gix_odb_calls.specs.declared.step.Step.TheVariants as steps
 use Rattle.gix_odb_calls.specs.declared.step.Outcome.{Outcome}
 use Rattle.gix_odb_calls.specs.declared.step.Outcome.TheVariants as outcomes
-use Rattle.gix_odb_packs.specs.PackFolder.{pack_folder}
-use Rattle.gix_odb_looks.specs.OpenStream.{IsOnStream, IsStreamOf}
-use Rattle.gix_odb_looks.specs.Stream.{Stream}
-use Rattle.gix_odb_looks.proofs.StreamLaws.Directories.{stream_of_a_directory_is_kept_by_another_state, stream_of_a_directory_is_kept_by_other_calls, stream_of_a_directory_is_kept_by_outside_changes}
+use Rattle.gix_odb_search.specs.PackFolder.{pack_folder}
+use Rattle.gix_odb.specs.OpenStream.{IsOnStream, IsStreamOf}
+use Rattle.gix_odb.specs.Stream.{Stream}
+use Rattle.gix_odb.proofs.StreamLaws.Directories.{stream_of_a_directory_is_kept_by_another_state, stream_of_a_directory_is_kept_by_other_calls, stream_of_a_directory_is_kept_by_outside_changes}
 use Rattle.gix_odb.specs.Contents.{folder_list}
 use Rattle.gix_odb_world.specs.Work.{Work}
 use Rattle.gix_odb_world.specs.AtWork.{Running, Store}
-use Rattle.gix_odb_runs.specs.Event.{Asked, Event, OfCore, OfDisk, OfNewCore, OfNothing, answered}
+use Rattle.gix_odb_history.specs.Event.{Asked, Event, OfCore, OfDisk, OfNewCore, OfNothing, answered}
 use Rattle.gix_odb_world.specs.Machines.{fed_in}
-use Rattle.gix_odb_runs.specs.Run.{disk_after, disk_after_asked, disk_after_change, tree_at}
+use Rattle.gix_odb_history.specs.Run.{disk_after, disk_after_asked, disk_after_change, tree_at}
 use Rattle.gix_odb_world.specs.Status.{Free, Resting, Status, Working, after_reply, cloned, come_to, ignoring_from, refuses_opening, replied, started, status_after, status_of, turned, with_status}
 use Rattle.gix_odb_world.proofs.HistoryLemmas.{disk_after-push, status_of-push, tree_at-before}
 

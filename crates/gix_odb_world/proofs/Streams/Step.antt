@@ -5,34 +5,34 @@ use Rattle.std.specs.List.{cons_option}
 use Rattle.std.proofs.lemmas.List.{append-nil, length_push}
 use Rattle.std.proofs.Math.Seq.{take-length}
 use Rattle.odb_base.specs.Path.{Path}
-use Rattle.odb_nodes.specs.Tree.{tree_of}
-use Rattle.odb_nodes.specs.Tree.Write.{written}
-use Rattle.odb_nodes.specs.declared.entry.Entry.{Entry}
-use Rattle.odb_asks.specs.Ask.{after_ask, answer_now}
-use Rattle.odb_asks.specs.MemDisk.{Volume}
-use Rattle.odb_asks.specs.declared.ask.DiskAnswer.{DiskAnswer}
-use Rattle.odb_asks.specs.declared.ask.DiskAnswer.TheVariants as answers
-use Rattle.odb_asks.specs.declared.ask.DiskAsk.{DiskAsk}
-use Rattle.odb_asks.specs.declared.ask.DiskAsk.TheVariants as asks
+use Rattle.odb_disk.specs.Tree.{tree_of}
+use Rattle.odb_disk.specs.Tree.Write.{written}
+use Rattle.odb_disk.specs.declared.entry.Entry.{Entry}
+use Rattle.odb_disk.specs.Ask.{after_ask, answer_now}
+use Rattle.odb_disk.specs.MemDisk.{Volume}
+use Rattle.odb_disk.specs.declared.ask.DiskAnswer.{DiskAnswer}
+use Rattle.odb_disk.specs.declared.ask.DiskAnswer.TheVariants as answers
+use Rattle.odb_disk.specs.declared.ask.DiskAsk.{DiskAsk}
+use Rattle.odb_disk.specs.declared.ask.DiskAsk.TheVariants as asks
 use Rattle.gix_odb_calls.specs.declared.step.Step.TheVariants as steps
 use Rattle.gix_odb_events.specs.declared.answer.Answer.TheVariants as told
 use Rattle.gix_odb_events.specs.declared.answer.Ask.TheVariants as parts
-use Rattle.gix_odb_looks.specs.Exchange.{Exchange}
-use Rattle.gix_odb_looks.specs.OpenStream.{IsOnStream, IsStreamOf, given_by}
-use Rattle.gix_odb_looks.specs.Stream.{Stream, opens, reads, stream_by, stream_in}
-use Rattle.gix_odb_looks.proofs.StreamLaws.Calls.{new_stream_is_another}
-use Rattle.gix_odb_looks.proofs.StreamLaws.Exchanges.{reads-given}
-use Rattle.gix_odb_refresh.proofs.ListerLaws.Streams.{stream_in-push}
-use Rattle.gix_odb_looks.proofs.StreamLaws.Directories.{stream_of_a_directory_begins, stream_of_a_directory_goes_on, stream_of_a_directory_is_kept_by_another_state}
+use Rattle.gix_odb.specs.LookExchanges.{Exchange}
+use Rattle.gix_odb.specs.OpenStream.{IsOnStream, IsStreamOf, given_by}
+use Rattle.gix_odb.specs.Stream.{Stream, opens, reads, stream_by, stream_in}
+use Rattle.gix_odb.proofs.StreamLaws.Calls.{new_stream_is_another}
+use Rattle.gix_odb.proofs.StreamLaws.Exchanges.{reads-given}
+use Rattle.gix_odb.proofs.ListerLaws.Streams.{stream_in-push}
+use Rattle.gix_odb.proofs.StreamLaws.Directories.{stream_of_a_directory_begins, stream_of_a_directory_goes_on, stream_of_a_directory_is_kept_by_another_state}
 use Rattle.gix_odb.specs.Contents.{folder_list}
 use Rattle.gix_odb_world.specs.AtWork.{Running, Store}
-use Rattle.gix_odb_runs.specs.Event.{Asked, Event, OfCore, OfDisk, OfNewCore, OfNothing}
+use Rattle.gix_odb_history.specs.Event.{Asked, Event, OfCore, OfDisk, OfNewCore, OfNothing}
 use Rattle.gix_odb_world.specs.Headline.{Law, LeavesDisk}
-use Rattle.gix_odb_runs.specs.Run.{IsTurnOf, disk_after, disk_after_asked, tree_at}
+use Rattle.gix_odb_history.specs.Run.{IsTurnOf, disk_after, disk_after_asked, tree_at}
 use Rattle.gix_odb_world.specs.Running.{Runs}
 use Rattle.gix_odb_world.specs.Status.{Working, status_of}
 use Rattle.gix_odb_world.specs.Told.{exchange_in, exchange_of, told_since}
-use Rattle.gix_odb_runs.specs.Turned.{is_turn_of}
+use Rattle.gix_odb_history.specs.Turned.{is_turn_of}
 use Rattle.gix_odb_world.proofs.DiskTurns.{CallsDisk, called_or_quiet}
 use Rattle.gix_odb_world.proofs.HistoryLemmas.{disk_after-push, tree_at-before}
 use Rattle.gix_odb_world.proofs.RunSteps.{IsTurned, Kind, Made, Quiet, Turned, kind_of}

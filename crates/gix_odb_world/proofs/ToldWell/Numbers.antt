@@ -6,8 +6,8 @@ use Rattle.gix_odb_events.specs.declared.event.Event.TheVariants as core_events
 use Rattle.gix_odb_core.specs.declared.shape.Shape.{Shape}
 use Rattle.gix_odb_core.proofs.NumberLaws.{entries_lower_no_number}
 use Rattle.gix_odb_core.proofs.OrderLaws.{replay_of_joined_journals}
-use Rattle.gix_odb_runs.specs.Cores.{cores_after_asked, entered, entry_of, history_at}
-use Rattle.gix_odb_runs.specs.Event.{Asked, CoreAnswer, CoreEvent, OfCore, OfDisk, OfNewCore, OfNothing}
+use Rattle.gix_odb_history.specs.Cores.{cores_after_asked, entered, entry_of, history_at}
+use Rattle.gix_odb_history.specs.Event.{Asked, CoreAnswer, CoreEvent, OfCore, OfDisk, OfNewCore, OfNothing}
 use Rattle.gix_odb_world.proofs.SeatLemmas.Elsewhere.{history_at-push, history_at-set}
 use Rattle.gix_odb_world.proofs.ToldLists.{length-slice_set}
 

@@ -1,24 +1,24 @@
 -- What a turn does that asks this: what its record says, what it changes, and what the code of it does.
 use Rattle.std.proofs.Common.{◌≡◌, ℕ, List, Option, Some, None, Ok, Err, Result, refl, ap, subst, sym}
 use Rattle.odb_base.specs.Path.{Path}
-use Rattle.odb_nodes.specs.Tree.{IsTree, tree_of}
-use Rattle.odb_asks.specs.MemDisk.{Volume}
-use Rattle.odb_asks.specs.Ask.{op_of}
+use Rattle.odb_disk.specs.Tree.{IsTree, tree_of}
+use Rattle.odb_disk.specs.MemDisk.{Volume}
+use Rattle.odb_disk.specs.Ask.{op_of}
 use Rattle.gix_odb_calls.specs.declared.call.Reply.{Reply}
-use Rattle.gix_odb_runs.specs.declared.record.Did.{Did}
-use Rattle.gix_odb_runs.specs.declared.record.Did.TheVariants.{Disk}
+use Rattle.gix_odb_history.specs.declared.record.Did.{Did}
+use Rattle.gix_odb_history.specs.declared.record.Did.TheVariants.{Disk}
 use Rattle.gix_odb_calls.specs.declared.step.Step.TheVariants as steps
 use Rattle.gix_odb_world.specs.Work.{Work}
 use Rattle.gix_odb_world.specs.Asks.{AsksAsTask}
 use Rattle.gix_odb_world.specs.Changes.{ChangesAsAsked}
-use Rattle.gix_odb_runs.specs.Event.{Asked, OfCore, OfDisk, OfNewCore, OfNothing, Event}
+use Rattle.gix_odb_history.specs.Event.{Asked, OfCore, OfDisk, OfNewCore, OfNothing, Event}
 use Rattle.gix_odb_events.specs.declared.answer.Ask.{Ask}
 use Rattle.gix_odb_events.specs.declared.answer.Ask.TheVariants as parts
 use Rattle.gix_odb_world.specs.Headline.{FailsAsListed, Suits, outcome_of, stand_of}
-use Rattle.gix_odb_runs.specs.PathRecorded.{path_recorded}
-use Rattle.gix_odb_runs.specs.Run.{IsTurnOf, NoCall, Stand, change_asked, did_asked, did_of_asked, disk_after, told_now}
+use Rattle.gix_odb_history.specs.PathRecorded.{path_recorded}
+use Rattle.gix_odb_history.specs.Run.{IsTurnOf, NoCall, Stand, change_asked, did_asked, did_of_asked, disk_after, told_now}
 use Rattle.gix_odb_world.specs.Status.{Running, Task}
-use Rattle.gix_odb_runs.proofs.FailedLemmas.{has_failed-now}
+use Rattle.gix_odb_history.proofs.FailedLemmas.{has_failed-now}
 use Rattle.gix_odb_world.proofs.MachineLaws.{IsTurnAsking, TakesTurn}
 
 -- a turn whose work goes on asked for something

@@ -1,12 +1,12 @@
 -- How a turn of any work ends: its reply keeps its promise, or the work goes on and knows as much. All of this follows from the laws of
 -- its machine.
 use Rattle.std.proofs.Common.{◌≡◌, ℕ, ◌+◌, ◌<◌, ◌≤◌, List, [], ◌∷◌, ◌++◌, length, None, Some, Ok, Err, Result, ap, subst}
-use Rattle.odb_asks.specs.MemDisk.{Volume}
+use Rattle.odb_disk.specs.MemDisk.{Volume}
 use Rattle.gix_odb_calls.specs.declared.call.Reply.{Reply}
 use Rattle.gix_odb_core.specs.Replay.{CanHappen}
 use Rattle.gix_odb_core.specs.declared.shape.Shape.{Shape}
 use Rattle.gix_odb_world.specs.Work.{Work}
-use Rattle.gix_odb_runs.specs.Event.{Asked, CoreEvent, Event, answered}
+use Rattle.gix_odb_history.specs.Event.{Asked, CoreEvent, Event, answered}
 use Rattle.gix_odb_events.specs.declared.answer.Ask.TheVariants as parts
 use Rattle.gix_odb_world.specs.Machine.{Machine, placed}
 use Rattle.gix_odb_world.specs.Machines.{at, ask_in, fed_in}

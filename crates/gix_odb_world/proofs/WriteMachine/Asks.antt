@@ -1,8 +1,8 @@
 -- A write asks in its turn what its stage asks.
 use Rattle.std.proofs.Common.{◌≡◌, inr, ℕ, ◌+◌, ◌*◌, ◌<◌, List, length, Some, refl, sym, ap, ◌∙◌, subst, arith}
-use Rattle.odb_asks.specs.MemDisk.{Volume}
-use Rattle.odb_asks.specs.declared.ask.DiskAsk.{DiskAsk}
-use Rattle.odb_asks.specs.declared.ask.DiskAsk.TheVariants as asks
+use Rattle.odb_disk.specs.MemDisk.{Volume}
+use Rattle.odb_disk.specs.declared.ask.DiskAsk.{DiskAsk}
+use Rattle.odb_disk.specs.declared.ask.DiskAsk.TheVariants as asks
 use Rattle.gix_odb_loose.specs.LooseFile.{loose_path}
 use Rattle.gix_odb_loose.specs.WriteJobs.{piece_at, pieces_of}
 use Rattle.gix_odb_loose.proofs.WriteDoneLaws.{HasDone-asked}
@@ -13,10 +13,10 @@ use Rattle.gix_odb_loose.specs.declared.call.LooseCall.{LooseCall}
 use Rattle.gix_odb_loose.specs.declared.write_order.WriteStage.{WriteStage}
 use Rattle.gix_odb_loose.specs.declared.write_order.WriteStage.TheVariants as stages
 use Rattle.gix_odb_world.specs.Asks.{AppendsHeader, AppendsPiece, AsksInOrder, AsksToWrite, MakesDirectory, MakesFile, Removes, Renames}
-use Rattle.gix_odb_runs.specs.Event.{Event}
+use Rattle.gix_odb_history.specs.Event.{Event}
 use Rattle.gix_odb_world.specs.Status.{Running, MakeCall}
 use Rattle.gix_odb_world.specs.Running.Write.{IsAtOwnWrite, IsWriting, StandsAt, job_to_write}
-use Rattle.gix_odb_runs.specs.Writing.{DoneSince, ToWrite, call_to_write, to_write}
+use Rattle.gix_odb_history.specs.Writing.{DoneSince, ToWrite, call_to_write, to_write}
 use Rattle.gix_odb_world.proofs.WriteFive.{below, made_before}
 use Rattle.gix_odb_world.proofs.WriteTurn.{ask_at_stage, done_at}
 

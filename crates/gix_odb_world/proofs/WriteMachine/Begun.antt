@@ -2,7 +2,7 @@
 use Rattle.std.proofs.Common.{◌≡◌, ℕ, ◌+◌, ◌≤◌, Bool, true, false, List, [], ◌∷◌, ◌++◌, length, None, Option, refl, sym, ◌∙◌, ap, subst, arith}
 use Rattle.std.specs.Prelude.{if◌then◌else◌}
 use Rattle.std.proofs.lemmas.List.{length_push}
-use Rattle.odb_asks.specs.MemDisk.{Volume}
+use Rattle.odb_disk.specs.MemDisk.{Volume}
 use Rattle.gix_hash.specs.declared.object_id.ObjectId.{ObjectId}
 use Rattle.gix_object.specs.declared.kind.Kind.{Kind}
 use Rattle.gix_odb_loose.specs.declared.call.LooseCall.{LooseCall}
@@ -12,15 +12,15 @@ use Rattle.gix_odb_calls.specs.Query.{call_of}
 use Rattle.gix_odb_calls.specs.declared.call.Call.{Call}
 use Rattle.gix_odb_calls.specs.declared.call.Call.TheVariants as call_kinds
 use Rattle.gix_odb_calls.specs.declared.query.Query.{Query}
-use Rattle.gix_odb_looks.specs.LookUpOrder as looks
-use Rattle.gix_odb_looks.specs.declared.look_up.LookUp.{LookUp}
-use Rattle.gix_odb_looks.specs.LookUpOrder.{Setting}
-use Rattle.gix_odb_refresh.specs.RefreshOrder.{IsReady, started}
-use Rattle.gix_odb_refresh.specs.Refreshed.{AreAsked, behind, turns_of}
-use Rattle.gix_odb_refresh.specs.declared.refresh.Refresh.{Refresh}
-use Rattle.gix_odb_refresh.specs.declared.refresh.Refresh.TheVariants.{Reading}
-use Rattle.gix_odb_refresh.specs.declared.refresh.RefreshStep.TheVariants as fronts
-use Rattle.gix_odb_refresh.proofs.RefreshLaws.{a_read_snapshot_is_ready}
+use Rattle.gix_odb.specs.LookUpOrder as looks
+use Rattle.gix_odb.specs.declared.look_up.LookUp.{LookUp}
+use Rattle.gix_odb.specs.LookUpOrder.{Setting}
+use Rattle.gix_odb.specs.RefreshOrder.{IsReady, started}
+use Rattle.gix_odb.specs.Refreshed.{AreAsked, behind, turns_of}
+use Rattle.gix_odb.specs.declared.refresh.Refresh.{Refresh}
+use Rattle.gix_odb.specs.declared.refresh.Refresh.TheVariants.{Reading}
+use Rattle.gix_odb.specs.declared.refresh.RefreshStep.TheVariants as fronts
+use Rattle.gix_odb.proofs.RefreshLaws.{a_read_snapshot_is_ready}
 use Rattle.gix_odb.specs.CallOrder as calls
 use Rattle.gix_odb.specs.CallOrder.{fronted}
 use Rattle.gix_odb.specs.Contents.{folder_list, sought}
@@ -28,12 +28,12 @@ use Rattle.gix_odb.specs.declared.call_state.CallStage.{CallStage}
 use Rattle.gix_odb.specs.declared.call_state.CallStage.TheVariants.{Looking}
 use Rattle.gix_odb_world.specs.Work.{Calling}
 use Rattle.gix_odb_world.specs.AtWork.{Modes, setting_in, view_in_modes}
-use Rattle.gix_odb_looks.specs.Laps.{turns_of_lap}
-use Rattle.gix_odb_runs.specs.Event.{Event}
+use Rattle.gix_odb.specs.Laps.{turns_of_lap}
+use Rattle.gix_odb_history.specs.Event.{Event}
 use Rattle.gix_odb_world.specs.Running.Write.{InFront, IsAtOwnWrite, IsInFront, KnowsOfWrite, Own, Unlisted, WriteState, work_of}
 use Rattle.gix_odb_world.specs.Status.{MakeCall, OpenStore, Running, Store, Task, begun_with, running_from}
 use Rattle.gix_odb_world.specs.Told.{refresh_begun, refresh_now, told_since, turns_in_front}
-use Rattle.gix_odb_runs.specs.Writing.{ChangedNothing, ToWrite, to_write}
+use Rattle.gix_odb_history.specs.Writing.{ChangedNothing, ToWrite, to_write}
 use Rattle.gix_odb_world.proofs.AnsweredLemmas.{answered_at_first, none_told}
 use Rattle.gix_odb_world.proofs.MachineLaws.{BeginsAs, IsStarted}
 use Rattle.gix_odb_world.proofs.RefusedLemmas.{refused_at_first}

@@ -1,11 +1,11 @@
 -- A turn of the refresh before a write: what it asks for, and how it ends.
 use Rattle.std.proofs.Common.{◌≡◌, inl, ℕ, ◌+◌, ◌*◌, ◌<◌, ◌≤◌, List, [], ◌∷◌, ◌++◌, length, Option, Some, None, Err, refl, sym, ◌∙◌, ap, subst, arith}
 use Rattle.std.proofs.lemmas.List.{length_push}
-use Rattle.odb_asks.specs.MemDisk.{Volume}
-use Rattle.odb_asks.specs.Ask.{answer_now}
-use Rattle.odb_asks.specs.declared.ask.DiskAsk.{DiskAsk}
-use Rattle.odb_asks.specs.declared.ask.DiskAsk.TheVariants as asks
-use Rattle.odb_nodes.specs.Tree.{tree_of}
+use Rattle.odb_disk.specs.MemDisk.{Volume}
+use Rattle.odb_disk.specs.Ask.{answer_now}
+use Rattle.odb_disk.specs.declared.ask.DiskAsk.{DiskAsk}
+use Rattle.odb_disk.specs.declared.ask.DiskAsk.TheVariants as asks
+use Rattle.odb_disk.specs.Tree.{tree_of}
 use Rattle.gix_odb_core.specs.Replay.{CanHappen}
 use Rattle.gix_odb_core.specs.declared.shape.Shape.{Shape}
 use Rattle.gix_odb_events.specs.declared.view.View.{View}
@@ -17,41 +17,41 @@ use Rattle.gix_odb_events.specs.declared.answer.Ask.TheVariants as parts
 use Rattle.gix_odb_calls.specs.declared.load_index.Error as load
 use Rattle.gix_odb_calls.specs.declared.load_index.Error.TheVariants as load_errors
 use Rattle.gix_odb_events.specs.declared.event.Refusal.TheVariants as refusals
-use Rattle.gix_odb_looks.specs.Exchange.{Exchange}
-use Rattle.gix_odb_looks.specs.LookUpOrder.{Setting}
-use Rattle.gix_odb_looks.proofs.HandedLaws.{IsOwnStream}
-use Rattle.gix_odb_refresh.specs.RefreshOrder.{IsReady}
-use Rattle.gix_odb_refresh.specs.RefreshOrder as refreshes
-use Rattle.gix_odb_refresh.specs.Refreshed.{AreAsked, IsCaused}
-use Rattle.gix_odb_refresh.specs.declared.refresh.Refresh.{Refresh}
-use Rattle.gix_odb_refresh.specs.declared.refresh.RefreshStep.{RefreshStep}
-use Rattle.gix_odb_refresh.specs.declared.refresh.RefreshStep.TheVariants as fronts
-use Rattle.gix_odb_refresh.proofs.AskedLemmas.{asked-push}
-use Rattle.gix_odb_refresh.proofs.RefreshLaws.{a_refresh_takes_at_most_a_lap, only_unread_stores_are_refused, refreshes_change_no_file, refused_refreshes_have_causes}
-use Rattle.gix_odb_refresh.proofs.RefreshLaws.{streams_of_refreshes_are_their_own}
-use Rattle.gix_odb_look_laws.proofs.RefreshHappenLaws.{what_a_refresh_hands_on_can_happen}
+use Rattle.gix_odb.specs.LookExchanges.{Exchange}
+use Rattle.gix_odb.specs.LookUpOrder.{Setting}
+use Rattle.gix_odb.proofs.HandedLaws.{IsOwnStream}
+use Rattle.gix_odb.specs.RefreshOrder.{IsReady}
+use Rattle.gix_odb.specs.RefreshOrder as refreshes
+use Rattle.gix_odb.specs.Refreshed.{AreAsked, IsCaused}
+use Rattle.gix_odb.specs.declared.refresh.Refresh.{Refresh}
+use Rattle.gix_odb.specs.declared.refresh.RefreshStep.{RefreshStep}
+use Rattle.gix_odb.specs.declared.refresh.RefreshStep.TheVariants as fronts
+use Rattle.gix_odb.proofs.AskedLemmas.{asked-push}
+use Rattle.gix_odb.proofs.RefreshLaws.{a_refresh_takes_at_most_a_lap, only_unread_stores_are_refused, refreshes_change_no_file, refused_refreshes_have_causes}
+use Rattle.gix_odb.proofs.RefreshLaws.{streams_of_refreshes_are_their_own}
+use Rattle.gix_odb_world.proofs.RefreshHappenLaws.{what_a_refresh_hands_on_can_happen}
 use Rattle.gix_odb.specs.CallOrder.{result_of_write, unlisted}
 use Rattle.gix_odb.specs.Contents.{folder_list}
 use Rattle.gix_odb_world.specs.AtWork.{MakeCall, Running, Store, setting_in}
-use Rattle.gix_odb_looks.specs.Laps.{turns_of_lap}
+use Rattle.gix_odb.specs.Laps.{turns_of_lap}
 use Rattle.gix_odb_world.specs.Bound.{HasAtMost, bound_of_task, laps_without_change, turns_beside_pieces}
-use Rattle.gix_odb_runs.specs.Cores.{answer_behind, cores_after, history_at}
-use Rattle.gix_odb_runs.specs.Event.{Asked, CoreAnswer, CoreEvent, Event, OfCore, OfDisk}
+use Rattle.gix_odb_history.specs.Cores.{answer_behind, cores_after, history_at}
+use Rattle.gix_odb_history.specs.Event.{Asked, CoreAnswer, CoreEvent, Event, OfCore, OfDisk}
 use Rattle.gix_odb_world.specs.Promise.{Promise}
-use Rattle.gix_odb_runs.specs.Run.{IsTurnOf, change_by, disk_after, tree_at}
+use Rattle.gix_odb_history.specs.Run.{IsTurnOf, change_by, disk_after, tree_at}
 use Rattle.gix_odb_world.specs.Refused.{LoadCause, RefusedSince}
 use Rattle.gix_odb_world.specs.Running.Answered.{IsAnsweredWell}
 use Rattle.gix_odb_world.specs.Running.Refused.{AreRefused}
 use Rattle.gix_odb_world.specs.Running.Write.{InFront, IsInFront, KnowsOfWrite, Own, front_result, own_result, write_at, writing}
 use Rattle.gix_odb_world.specs.Status.{modes_after}
 use Rattle.gix_odb_world.specs.Told.{refresh_begun, refresh_now, told_since, turns_in_front, view_then}
-use Rattle.gix_odb_runs.specs.Writing.{ChangedNothing, call_to_write}
+use Rattle.gix_odb_history.specs.Writing.{ChangedNothing, call_to_write}
 use Rattle.gix_odb_loose.specs.WriteJobs.{pieces_of}
 use Rattle.gix_odb_world.proofs.AnsweredLemmas.{answered_on_core, answered_on_disk, told_call, told_event}
 use Rattle.gix_odb_world.proofs.FrontLemmas.{begun_same, front_asked, now_more}
 use Rattle.gix_odb_world.proofs.MachineLaws.{HasTurn, IsRunning, IsTurnAsking, MachineComes, quiet_turn}
 use Rattle.gix_odb_world.proofs.RefusedLemmas.{never_for_memory, refused_on_core, refused_on_disk, since_told}
-use Rattle.gix_odb_runs.proofs.WriteAsk.Quiet.{change_by-quiet}
+use Rattle.gix_odb_history.proofs.WriteAsk.Quiet.{change_by-quiet}
 use Rattle.gix_odb_world.proofs.WriteGoes.{more_laps}
 use Rattle.gix_odb_world.proofs.WriteKept.{stands_at_first, unchanged_push}
 

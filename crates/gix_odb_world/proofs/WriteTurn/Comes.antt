@@ -5,11 +5,11 @@ use Rattle.std.proofs.lemmas.Grind.{common_steps}
 use Rattle.std.proofs.lemmas.List.{take_all, length_push}
 use Rattle.std.proofs.lemmas.List.Elements.{Contains-append_cases}
 use Rattle.odb_base.specs.Path.{Path}
-use Rattle.odb_nodes.specs.Tree.Write.{written}
-use Rattle.odb_asks.specs.declared.ask.DiskAnswer.{DiskAnswer}
-use Rattle.odb_asks.specs.declared.ask.DiskAnswer.TheVariants as answers
-use Rattle.odb_asks.specs.declared.ask.DiskAsk.TheVariants as asks
-use Rattle.odb_nodes.specs.declared.disk_error.DiskError.TheVariants as disk_errors
+use Rattle.odb_disk.specs.Tree.Write.{written}
+use Rattle.odb_disk.specs.declared.ask.DiskAnswer.{DiskAnswer}
+use Rattle.odb_disk.specs.declared.ask.DiskAnswer.TheVariants as answers
+use Rattle.odb_disk.specs.declared.ask.DiskAsk.TheVariants as asks
+use Rattle.odb_disk.specs.declared.disk_error.DiskError.TheVariants as disk_errors
 use Rattle.gix_object.specs.Loose.{header_of}
 use Rattle.gix_odb_loose.proofs.CauseLaws.Write.{WriteCause-wider}
 use Rattle.gix_odb_loose.specs.Exchanges.{Exchange, exchanged}
@@ -29,14 +29,14 @@ use Rattle.gix_odb_loose.specs.declared.write_order.Refusal.TheVariants as refus
 use Rattle.gix_odb_loose.specs.declared.write_order.WriteAsk.{WriteAsk}
 use Rattle.gix_odb_loose.specs.declared.write_order.WriteAsk.TheVariants as wants
 use Rattle.gix_odb_loose.specs.declared.write_order.WriteStage.TheVariants as stages
-use Rattle.gix_odb_runs.specs.Event.{Event}
-use Rattle.gix_odb_runs.specs.Run.{disk_after}
+use Rattle.gix_odb_history.specs.Event.{Event}
+use Rattle.gix_odb_history.specs.Run.{disk_after}
 use Rattle.gix_odb_world.specs.Running.Write.{Holds, HoldsFile, IsUntouched, StandsAt, content_at, job_to_write}
-use Rattle.gix_odb_runs.specs.Writing.{AskedAt, AskedSince, CauseOfWrite, ChangedNothing, DoneSince, IsNewFile, IsRename, TurnsMadeOnly}
-use Rattle.gix_odb_runs.specs.Writing.{RefusedSince, NoTurnRenamed, TakenSince, head_to_write, name_to_write}
+use Rattle.gix_odb_history.specs.Writing.{AskedAt, AskedSince, CauseOfWrite, ChangedNothing, DoneSince, IsNewFile, IsRename, TurnsMadeOnly}
+use Rattle.gix_odb_history.specs.Writing.{RefusedSince, NoTurnRenamed, TakenSince, head_to_write, name_to_write}
 use Rattle.gix_odb_world.specs.Written.{HasWritten, WasRefused}
-use Rattle.gix_odb_runs.proofs.RefusedLemmas.{refused_on_way}
-use Rattle.gix_odb_runs.proofs.WriteAsk.Quiet.{never_wants}
+use Rattle.gix_odb_history.proofs.RefusedLemmas.{refused_on_way}
+use Rattle.gix_odb_history.proofs.WriteAsk.Quiet.{never_wants}
 use Rattle.gix_odb_world.proofs.WriteKept.{asked_kept, each_turn_push}
 use Rattle.gix_odb_world.proofs.WriteTurn.Common.{CallOfTurn, TurnOfWrite, made_same, own}
 

@@ -3,21 +3,21 @@ use Rattle.std.proofs.Common.{Contains, ◌≡◌, ℕ, ◌+◌, ◌≤◌, List
 use Rattle.std.proofs.lemmas.List.{length_push}
 use Rattle.std.proofs.Math.Seq.{take-length}
 use Rattle.odb_base.specs.Path.{Path}
-use Rattle.odb_asks.specs.Ask.{answer_now}
-use Rattle.odb_asks.specs.MemDisk.{Volume}
-use Rattle.odb_nodes.specs.Tree.{IsTree, Tree, tree_of}
-use Rattle.odb_nodes.specs.Tree.Change.{changed}
-use Rattle.odb_nodes.specs.Tree.Write.{change_of_append, change_of_make_dir, change_of_new_file, written}
-use Rattle.odb_asks.specs.declared.ask.DiskAnswer.{DiskAnswer}
-use Rattle.odb_asks.specs.declared.ask.DiskAnswer.TheVariants as answers
-use Rattle.odb_asks.specs.declared.ask.DiskAsk.{DiskAsk}
-use Rattle.odb_asks.specs.declared.ask.DiskAsk.TheVariants as asks
-use Rattle.odb_nodes.specs.declared.change.Change.{Change}
-use Rattle.odb_nodes.specs.declared.change.Change.TheVariants.{MakeDir}
-use Rattle.odb_nodes.specs.OwnFile.{HasFile}
-use Rattle.odb_nodes.proofs.OwnFileLaws.{has_file_kept, has_more, has_new_file, kept_by_make_dir}
-use Rattle.odb_nodes.proofs.WayWriteLaws.{make_dir_change}
-use Rattle.odb_nodes.proofs.WriteLaws.{tree_of-written}
+use Rattle.odb_disk.specs.Ask.{answer_now}
+use Rattle.odb_disk.specs.MemDisk.{Volume}
+use Rattle.odb_disk.specs.Tree.{IsTree, Tree, tree_of}
+use Rattle.odb_disk.specs.Tree.Change.{changed}
+use Rattle.odb_disk.specs.Tree.Write.{change_of_append, change_of_make_dir, change_of_new_file, written}
+use Rattle.odb_disk.specs.declared.ask.DiskAnswer.{DiskAnswer}
+use Rattle.odb_disk.specs.declared.ask.DiskAnswer.TheVariants as answers
+use Rattle.odb_disk.specs.declared.ask.DiskAsk.{DiskAsk}
+use Rattle.odb_disk.specs.declared.ask.DiskAsk.TheVariants as asks
+use Rattle.odb_disk.specs.declared.change.Change.{Change}
+use Rattle.odb_disk.specs.declared.change.Change.TheVariants.{MakeDir}
+use Rattle.odb_disk.specs.OwnFile.{HasFile}
+use Rattle.odb_disk.proofs.OwnFileLaws.{has_file_kept, has_more, has_new_file, kept_by_make_dir}
+use Rattle.odb_disk.proofs.WayWriteLaws.{make_dir_change}
+use Rattle.odb_disk.proofs.WriteLaws.{tree_of-written}
 use Rattle.gix_hash.specs.declared.object_id.ObjectId.{ObjectId}
 use Rattle.gix_odb_loose.specs.Exchanges.{Exchange}
 use Rattle.gix_odb_loose.specs.WriteHistory.{IsStopped}
@@ -28,12 +28,12 @@ use Rattle.gix_odb_loose.specs.declared.write_order.Refusal.{Refusal}
 use Rattle.gix_odb_loose.specs.declared.write_order.Refusal.TheVariants as refusals
 use Rattle.gix_odb_loose.specs.declared.write_order.WriteHead.{WriteHead}
 use Rattle.gix_odb_loose.specs.declared.write_order.WriteStage.{WriteStage}
-use Rattle.gix_odb_runs.specs.Event.{OfDisk, Event}
-use Rattle.gix_odb_runs.specs.Run.{IsTurnOf, TellsCall, change_by, disk_after, disk_after_asked, tree_at}
+use Rattle.gix_odb_history.specs.Event.{OfDisk, Event}
+use Rattle.gix_odb_history.specs.Run.{IsTurnOf, TellsCall, change_by, disk_after, disk_after_asked, tree_at}
 use Rattle.gix_odb_world.specs.Running.Write.{HoldsFile, StandsAt}
-use Rattle.gix_odb_runs.specs.Writing.{AskedAt, AskedSince, IsNewFile, IsRename, TurnsMadeOnly, ToWrite}
+use Rattle.gix_odb_history.specs.Writing.{AskedAt, AskedSince, IsNewFile, IsRename, TurnsMadeOnly, ToWrite}
 use Rattle.gix_odb_world.proofs.HistoryLemmas.{tree_at-now}
-use Rattle.gix_odb_runs.proofs.WriteAsk.{Made}
+use Rattle.gix_odb_history.proofs.WriteAsk.{Made}
 use Rattle.gix_odb_world.proofs.WriteKept.{alone_before, asked_at_kept, asked_now, each_turn_push}
 
 -- a write that is to remove its file was not refused its making

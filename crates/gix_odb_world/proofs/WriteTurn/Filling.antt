@@ -2,15 +2,15 @@
 use Rattle.std.proofs.Common.{◌≡◌, ◌≢◌, ℕ, ◌+◌, Bool, true, false, nat_le, List, [], ◌∷◌, ◌++◌, length, take, Some, sym, ap, ◌∙◌, subst, arith, append-nil, append_assoc}
 use Rattle.std.specs.Prelude.{if◌then◌else◌}
 use Rattle.odb_base.specs.Path.{Path}
-use Rattle.odb_asks.specs.Ask.{answer_now}
-use Rattle.odb_asks.specs.MemDisk.{Volume}
-use Rattle.odb_nodes.specs.Tree.{tree_of}
-use Rattle.odb_nodes.specs.Tree.Write.{change_of_append}
-use Rattle.odb_asks.specs.declared.ask.DiskAnswer.{DiskAnswer}
-use Rattle.odb_asks.specs.declared.ask.DiskAnswer.TheVariants as answers
-use Rattle.odb_asks.specs.declared.ask.DiskAsk.TheVariants as asks
-use Rattle.odb_nodes.specs.declared.change.Change.TheVariants.{Append}
-use Rattle.odb_nodes.proofs.WayWriteLaws.{append_change}
+use Rattle.odb_disk.specs.Ask.{answer_now}
+use Rattle.odb_disk.specs.MemDisk.{Volume}
+use Rattle.odb_disk.specs.Tree.{tree_of}
+use Rattle.odb_disk.specs.Tree.Write.{change_of_append}
+use Rattle.odb_disk.specs.declared.ask.DiskAnswer.{DiskAnswer}
+use Rattle.odb_disk.specs.declared.ask.DiskAnswer.TheVariants as answers
+use Rattle.odb_disk.specs.declared.ask.DiskAsk.TheVariants as asks
+use Rattle.odb_disk.specs.declared.change.Change.TheVariants.{Append}
+use Rattle.odb_disk.proofs.WayWriteLaws.{append_change}
 use Rattle.gix_object.specs.Loose.{header_of}
 use Rattle.gix_odb_loose.specs.WriteDone.{HasNext}
 use Rattle.gix_odb_loose.specs.WriteJobs.{piece_at}
@@ -25,11 +25,11 @@ use Rattle.gix_odb_loose.specs.declared.write_order.WriteAsk.TheVariants as want
 use Rattle.gix_odb_loose.specs.declared.write_order.WriteStage.{WriteStage}
 use Rattle.gix_odb_loose.specs.declared.write_order.WriteStage.TheVariants as stages
 use Rattle.gix_odb_loose.proofs.WriteDoneLaws.Data.{data_grown}
-use Rattle.gix_odb_runs.specs.Event.{Event}
-use Rattle.gix_odb_runs.specs.Run.{disk_after}
+use Rattle.gix_odb_history.specs.Event.{Event}
+use Rattle.gix_odb_history.specs.Run.{disk_after}
 use Rattle.gix_odb_world.specs.Running.Write.{HoldsFile}
-use Rattle.gix_odb_runs.specs.Writing.{IsNewFile, IsRename, TurnsMadeOnly}
-use Rattle.gix_odb_runs.proofs.WriteAsk.{Made, done_made, told_append, undone_made}
+use Rattle.gix_odb_history.specs.Writing.{IsNewFile, IsRename, TurnsMadeOnly}
+use Rattle.gix_odb_history.proofs.WriteAsk.{Made, done_made, told_append, undone_made}
 use Rattle.gix_odb_world.proofs.WriteTurn.Common.{CallOfTurn, Makes, Stands, TurnOfWrite, appended_holds, call_at, made_same, no_file, no_rename}
 use Rattle.gix_odb_world.proofs.WriteTurn.Comes.{Parts, PartsTo, cleared}
 

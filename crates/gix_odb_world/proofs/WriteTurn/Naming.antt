@@ -2,22 +2,22 @@
 use Rattle.std.proofs.Common.{◌≡◌, ◌≢◌, ℕ, ◌+◌, false, List, [], ◌∷◌, ◌++◌, length, Option, Some, None, Ok, Err, refl, sym, ap, ◌∙◌, subst, arith, inr}
 use Rattle.std.proofs.lemmas.List.{length_push}
 use Rattle.odb_base.specs.Path.{Path}
-use Rattle.odb_asks.specs.Ask.{answer_now}
-use Rattle.odb_asks.specs.MemDisk.{Volume}
-use Rattle.odb_nodes.specs.Tree.{Tree, tree_of}
-use Rattle.odb_nodes.specs.Tree.Change.{changed}
-use Rattle.odb_nodes.specs.Tree.Follow.{read_of}
-use Rattle.odb_nodes.specs.Tree.Way.{crosses}
-use Rattle.odb_nodes.specs.Tree.Write.{change_of_make_dir, change_of_remove, change_of_rename}
-use Rattle.odb_asks.specs.declared.ask.DiskAnswer.{DiskAnswer}
-use Rattle.odb_asks.specs.declared.ask.DiskAnswer.TheVariants as answers
-use Rattle.odb_asks.specs.declared.ask.DiskAsk.{DiskAsk}
-use Rattle.odb_asks.specs.declared.ask.DiskAsk.TheVariants as asks
-use Rattle.odb_nodes.specs.declared.change.Change.{Change}
-use Rattle.odb_nodes.specs.declared.change.Change.TheVariants.{MakeDir, Rename, Remove}
-use Rattle.odb_nodes.specs.declared.disk_error.DiskError.TheVariants as disk_errors
-use Rattle.odb_nodes.proofs.OwnFileLaws.{moved_reads, moves_file}
-use Rattle.odb_nodes.proofs.WayWriteLaws.{make_dir_change, remove_change, rename_change}
+use Rattle.odb_disk.specs.Ask.{answer_now}
+use Rattle.odb_disk.specs.MemDisk.{Volume}
+use Rattle.odb_disk.specs.Tree.{Tree, tree_of}
+use Rattle.odb_disk.specs.Tree.Change.{changed}
+use Rattle.odb_disk.specs.Tree.Follow.{read_of}
+use Rattle.odb_disk.specs.Tree.Way.{crosses}
+use Rattle.odb_disk.specs.Tree.Write.{change_of_make_dir, change_of_remove, change_of_rename}
+use Rattle.odb_disk.specs.declared.ask.DiskAnswer.{DiskAnswer}
+use Rattle.odb_disk.specs.declared.ask.DiskAnswer.TheVariants as answers
+use Rattle.odb_disk.specs.declared.ask.DiskAsk.{DiskAsk}
+use Rattle.odb_disk.specs.declared.ask.DiskAsk.TheVariants as asks
+use Rattle.odb_disk.specs.declared.change.Change.{Change}
+use Rattle.odb_disk.specs.declared.change.Change.TheVariants.{MakeDir, Rename, Remove}
+use Rattle.odb_disk.specs.declared.disk_error.DiskError.TheVariants as disk_errors
+use Rattle.odb_disk.proofs.OwnFileLaws.{moved_reads, moves_file}
+use Rattle.odb_disk.proofs.WayWriteLaws.{make_dir_change, remove_change, rename_change}
 use Rattle.gix_hash.specs.declared.object_id.ObjectId.{ObjectId}
 use Rattle.gix_object.specs.Loose.{header_of}
 use Rattle.gix_odb_loose.proofs.WriteDoneLaws.{IsAlong-done}
@@ -30,13 +30,13 @@ use Rattle.gix_odb_loose.specs.declared.write_order.Refusal.TheVariants as refus
 use Rattle.gix_odb_loose.specs.declared.write_order.WriteAsk.{WriteAsk}
 use Rattle.gix_odb_loose.specs.declared.write_order.WriteAsk.TheVariants as wants
 use Rattle.gix_odb_loose.specs.declared.write_order.WriteStage.TheVariants as stages
-use Rattle.gix_odb_runs.specs.Event.{Event}
-use Rattle.gix_odb_runs.specs.Run.{change_by, disk_after, tree_at}
+use Rattle.gix_odb_history.specs.Event.{Event}
+use Rattle.gix_odb_history.specs.Run.{change_by, disk_after, tree_at}
 use Rattle.gix_odb_world.specs.Running.Write.{job_to_write}
-use Rattle.gix_odb_runs.specs.Writing.{ChangedNothing, IsNewFile, IsRename, head_to_write}
+use Rattle.gix_odb_history.specs.Writing.{ChangedNothing, IsNewFile, IsRename, head_to_write}
 use Rattle.gix_odb_world.specs.Written.{HasWritten}
 use Rattle.gix_odb_world.proofs.HistoryLemmas.{tree_at-before}
-use Rattle.gix_odb_runs.proofs.WriteAsk.{change_by-all, done_made, told_make_dir, told_remove, told_rename, undone_made}
+use Rattle.gix_odb_history.proofs.WriteAsk.{change_by-all, done_made, told_make_dir, told_remove, told_rename, undone_made}
 use Rattle.gix_odb_world.proofs.WriteKept.{alone_before, asked_at_kept}
 use Rattle.gix_odb_world.proofs.WriteTurn.Common.{CallOfTurn, Makes, Stands, TurnOfWrite, before_is, call_at, foldered_holds, is_tree}
 use Rattle.gix_odb_world.proofs.WriteTurn.Common.{made_before_removal, made_same, no_file, no_rename, now_changed, own, same_holds}

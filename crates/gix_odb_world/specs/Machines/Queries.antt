@@ -3,8 +3,8 @@ use Rattle.std.specs.Prelude.{◌≡◌, Option, Some, None, Result}
 use Rattle.gix_odb_calls.specs.declared.call.Reply.{Reply}
 use Rattle.gix_odb_calls.specs.declared.query.Query.{Query}
 use Rattle.gix_odb_events.specs.declared.answer.Answer.{Answer}
-use Rattle.gix_odb_looks.specs.LookUpOrder as looks
-use Rattle.gix_odb_looks.specs.declared.look_up.LookUp.{LookUp}
+use Rattle.gix_odb.specs.LookUpOrder as looks
+use Rattle.gix_odb.specs.declared.look_up.LookUp.{LookUp}
 use Rattle.gix_odb.specs.declared.call_state.CallStage.TheVariants.{Looking}
 use Rattle.gix_odb_world.specs.Work.{Calling}
 use Rattle.gix_odb_world.specs.AtWork.{MakeCall, Store, setting_in}

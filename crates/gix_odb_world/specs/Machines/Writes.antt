@@ -7,17 +7,17 @@ use Rattle.gix_odb_calls.specs.declared.load_index.Error as load
 use Rattle.gix_odb_events.specs.declared.answer.Answer.{Answer}
 use Rattle.gix_odb_events.specs.declared.answer.Ask.{Ask}
 use Rattle.gix_odb.specs.CallOrder.{loose_ask}
-use Rattle.gix_odb_refresh.specs.RefreshOrder as refreshes
-use Rattle.gix_odb_refresh.specs.declared.refresh.Refresh.{Refresh}
-use Rattle.gix_odb_refresh.specs.declared.refresh.RefreshStep.{RefreshStep}
-use Rattle.gix_odb_refresh.specs.declared.refresh.RefreshStep.TheVariants as fronts
+use Rattle.gix_odb.specs.RefreshOrder as refreshes
+use Rattle.gix_odb.specs.declared.refresh.Refresh.{Refresh}
+use Rattle.gix_odb.specs.declared.refresh.RefreshStep.{RefreshStep}
+use Rattle.gix_odb.specs.declared.refresh.RefreshStep.TheVariants as fronts
 use Rattle.gix_odb.specs.CallOrder.{result_of_write, unlisted, written_on}
 use Rattle.gix_odb.specs.declared.call_state.CallStage.TheVariants.{Refreshing, Refused, Writing}
 use Rattle.gix_odb_world.specs.Work.{Work}
 use Rattle.gix_odb_world.specs.Work.{Calling}
 use Rattle.gix_odb_world.specs.AtWork.{MakeCall, Store}
 use Rattle.gix_odb_world.specs.Bound.{bound_of_task}
-use Rattle.gix_odb_runs.specs.Writing.{ToWrite, call_to_write}
+use Rattle.gix_odb_history.specs.Writing.{ToWrite, call_to_write}
 use Rattle.gix_odb_world.specs.Machine.{Machine}
 
 -- a write under way: in the refresh before it, at its own turns, or not to be made, since its store could not be listed

@@ -3,10 +3,10 @@ use Rattle.std.specs.Prelude.{◌≡◌}
 use Rattle.gix_odb_calls.specs.declared.call.Reply.{Reply}
 use Rattle.gix_odb_calls.specs.declared.query.Query.{Query}
 use Rattle.gix_odb_calls.specs.declared.step.Outcome.TheVariants as outcomes
-use Rattle.gix_odb_looks.specs.LookUpOrder.{not_found}
-use Rattle.gix_odb_look_laws.specs.AtHand.{SaysYes}
-use Rattle.gix_odb_runs.specs.Event.{Event, OfNothing}
-use Rattle.gix_odb_runs.specs.declared.record.Did.TheVariants.{Nothing}
+use Rattle.gix_odb.specs.LookUpOrder.{not_found}
+use Rattle.gix_odb.specs.AtHand.{SaysYes}
+use Rattle.gix_odb_history.specs.Event.{Event, OfNothing}
+use Rattle.gix_odb_history.specs.declared.record.Did.TheVariants.{Nothing}
 
 -- In an event a query ended: it asked for nothing and did nothing, and its reply isn't "not found". A test is answered with yes.
 pub record EndsUnasked (query : Query) (e : Event) : Type 0 where

@@ -1,7 +1,7 @@
 -- Answers and errors that report that memory ran out.
 use Rattle.std.specs.Prelude.{◌≡◌, Err}
-use Rattle.odb_asks.specs.declared.ask.DiskAnswer.TheVariants as answers
-use Rattle.odb_nodes.specs.declared.disk_error.DiskError.TheVariants as disk_errors
+use Rattle.odb_disk.specs.declared.ask.DiskAnswer.TheVariants as answers
+use Rattle.odb_disk.specs.declared.disk_error.DiskError.TheVariants as disk_errors
 use Rattle.gix_odb_calls.specs.declared.call.CallError.{CallError}
 use Rattle.gix_odb_calls.specs.declared.call.CallError.TheVariants as call_errors
 use Rattle.gix_odb_calls.specs.declared.find.Error.TheVariants as find_errors
@@ -11,7 +11,7 @@ use Rattle.gix_odb_calls.specs.declared.write.Error.TheVariants as write_errors
 use Rattle.gix_odb_events.specs.declared.event.Refusal.TheVariants as refusals
 use Rattle.gix_odb_loose.specs.declared.find.Error.TheVariants as loose_errors
 use Rattle.gix_odb_loose.specs.declared.write.Error.TheVariants as loose_write_errors
-use Rattle.gix_odb_runs.specs.Event.{Asked, OfCore, OfDisk, OfNewCore, OfNothing}
+use Rattle.gix_odb_history.specs.Event.{Asked, OfCore, OfDisk, OfNewCore, OfNothing}
 
 -- what was asked in an event was answered with `out of memory`: by the disk, or by a core
 abbrev pub RanOut : Asked → Type 0

@@ -9,7 +9,7 @@ use Rattle.gix_odb_events.specs.declared.answer.Answer.{Answer}
 use Rattle.gix_odb_events.specs.declared.answer.Answer.TheVariants as told
 use Rattle.gix_odb_events.specs.declared.answer.Ask.{Ask}
 use Rattle.gix_odb_events.specs.declared.answer.Ask.TheVariants as asks
-use Rattle.gix_odb_looks.specs.Exchange.{Exchange}
+use Rattle.gix_odb.specs.LookExchanges.{Exchange}
 
 -- the number of the list that the core answered last to a listing that it got, by publishing it or by confirming it
 abbrev pub list_by : (before : Option ℕ) → Ask → Answer → Option ℕ

@@ -1,15 +1,15 @@
 -- An object that moves from a loose file into a pack while a query works, and a store whose list was read.
 use Rattle.std.specs.Prelude.{◌≡◌, ℕ, ◌≤◌, true, List, Contains, take}
 use Rattle.odb_base.specs.Path.{Name, Path}
-use Rattle.odb_nodes.specs.Tree.{Tree}
+use Rattle.odb_disk.specs.Tree.{Tree}
 use Rattle.gix_hash.specs.declared.object_id.ObjectId.{ObjectId}
 use Rattle.gix_object.specs.declared.want.Want.{Want}
 use Rattle.gix_odb_core.specs.History.{present}
 use Rattle.gix_odb.specs.Contents.{StoreData, folder_list}
 use Rattle.gix_odb.specs.Held.{InLooseFile, InPackFile, LiesAt}
 use Rattle.gix_odb.specs.Moments.{Throughout}
-use Rattle.gix_odb_runs.specs.Cores.{cores_after, history_at}
-use Rattle.gix_odb_runs.specs.Event.{Event}
+use Rattle.gix_odb_history.specs.Cores.{cores_after, history_at}
+use Rattle.gix_odb_history.specs.Event.{Event}
 
 -- In one folder of a store, at each moment from `begun` to some moment the object of an id is in its loose file, and at each from that one to `now`
 -- it is in a pack by the index of one name, at one offset, each time in contents that are sound for what is wanted.

@@ -1,6 +1,6 @@
 -- The answers that are an opening's or a call's own, and when a run shows no cause for an error.
 use Rattle.std.specs.Prelude.{ℕ, List, length}
-use Rattle.odb_asks.specs.MemDisk.{Volume}
+use Rattle.odb_disk.specs.MemDisk.{Volume}
 use Rattle.gix_object.specs.declared.want.Want.{Want}
 use Rattle.gix_object.specs.declared.want.Want.TheVariants as wants
 use Rattle.gix_odb_calls.specs.Query.{by_call}
@@ -13,10 +13,10 @@ use Rattle.gix_odb_calls.specs.declared.load_index.Error as load
 use Rattle.gix_odb_calls.specs.declared.query.Query.{Query}
 use Rattle.gix_odb_loose.specs.declared.write.Error as loose_write
 use Rattle.gix_odb.specs.Contents.{sought}
-use Rattle.gix_odb_refresh.specs.Refreshed.{IsCaused}
-use Rattle.gix_odb_runs.specs.Event.{Event}
-use Rattle.gix_odb_runs.specs.Run.{FailedSince, tree_at}
-use Rattle.gix_odb_runs.specs.Writing.{CauseOfWrite, ToWrite, to_write}
+use Rattle.gix_odb.specs.Refreshed.{IsCaused}
+use Rattle.gix_odb_history.specs.Event.{Event}
+use Rattle.gix_odb_history.specs.Run.{FailedSince, tree_at}
+use Rattle.gix_odb_history.specs.Writing.{CauseOfWrite, ToWrite, to_write}
 use Rattle.gix_odb_world.specs.AtWork.{MakeCall, Modes, OpenStore, Store, Task, setting_in}
 use Rattle.gix_odb_world.specs.Causes.{FindCause, OpeningCause}
 use Rattle.gix_odb_world.specs.Refused.{LoadCause, RefusedSince}

@@ -1,16 +1,16 @@
 -- What a call stores or passes over of what it read.
 use Rattle.std.specs.Prelude.{ℕ, List}
 use Rattle.odb_base.specs.Path.{Path}
-use Rattle.odb_asks.specs.declared.ask.DiskAnswer.{DiskAnswer}
-use Rattle.odb_asks.specs.declared.ask.DiskAnswer.TheVariants as answers
-use Rattle.odb_nodes.specs.Tree.{Tree}
+use Rattle.odb_disk.specs.declared.ask.DiskAnswer.{DiskAnswer}
+use Rattle.odb_disk.specs.declared.ask.DiskAnswer.TheVariants as answers
+use Rattle.odb_disk.specs.Tree.{Tree}
 use Rattle.gix_hash.specs.declared.kind.Kind.{Kind}
 use Rattle.gix_odb_events.specs.declared.event.Event.{Event as CoreEvent}
 use Rattle.gix_odb_events.specs.declared.event.Event.TheVariants as events
 use Rattle.gix_odb_events.specs.declared.event.PassWhy.{PassWhy}
 use Rattle.gix_odb.specs.Contents.{ShowsFile}
-use Rattle.gix_odb_look_laws.specs.JustRead.{IsWhy}
-use Rattle.gix_odb_runs.specs.Event.{Event}
+use Rattle.gix_odb.specs.JustRead.{IsWhy}
+use Rattle.gix_odb_history.specs.Event.{Event}
 use Rattle.gix_odb_world.specs.RunLaws.Turn.{IsTurnBefore, Reads}
 
 -- In the turn before a place a call read a path, and got this answer.

@@ -1,12 +1,12 @@
 -- A turn of a query in a run, what it asks, and the turn of its handle before another one.
 use Rattle.std.specs.Prelude.{◌≡◌, ℕ, ◌<◌, ◌≤◌, List, take, slice_get, Some}
 use Rattle.odb_base.specs.Path.{Path}
-use Rattle.odb_asks.specs.declared.ask.DiskAnswer.{DiskAnswer}
-use Rattle.odb_asks.specs.declared.ask.DiskAsk.TheVariants as asks
+use Rattle.odb_disk.specs.declared.ask.DiskAnswer.{DiskAnswer}
+use Rattle.odb_disk.specs.declared.ask.DiskAsk.TheVariants as asks
 use Rattle.gix_odb_calls.specs.declared.query.Query.{Query}
 use Rattle.gix_odb_world.specs.AtWork.{MakeCall, Running}
-use Rattle.gix_odb_runs.specs.Event.{CoreAnswer, CoreEvent, Event, OfCore, OfDisk}
-use Rattle.gix_odb_runs.specs.Run.{IsTurnOf}
+use Rattle.gix_odb_history.specs.Event.{CoreAnswer, CoreEvent, Event, OfCore, OfDisk}
+use Rattle.gix_odb_history.specs.Run.{IsTurnOf}
 use Rattle.gix_odb_world.specs.Status.{Turns}
 use Rattle.gix_odb_world.specs.Told.{call_of}
 

@@ -1,13 +1,13 @@
 -- What is true of all answers to a handle since it began to list folders of packs. No public clause needs more of it than its name.
 use Rattle.std.specs.Prelude.{ℕ, List, length, None}
-use Rattle.odb_asks.specs.MemDisk.{Volume}
-use Rattle.gix_odb_looks.specs.Exchange.{AreAnswered}
-use Rattle.gix_odb_looks.specs.Laps.{AreWithin}
-use Rattle.gix_odb_refresh.specs.Asked.{AreSuited}
+use Rattle.odb_disk.specs.MemDisk.{Volume}
+use Rattle.gix_odb.specs.LookExchanges.{AreAnswered}
+use Rattle.gix_odb.specs.Laps.{AreWithin}
+use Rattle.gix_odb.specs.Asked.{AreSuited}
 use Rattle.gix_odb_world.specs.AtWork.{Store}
 use Rattle.gix_odb_world.specs.Bound.{HasAtMost}
-use Rattle.gix_odb_runs.specs.Event.{Event}
-use Rattle.gix_odb_runs.specs.Run.{tree_at}
+use Rattle.gix_odb_history.specs.Event.{Event}
+use Rattle.gix_odb_history.specs.Run.{tree_at}
 use Rattle.gix_odb_world.specs.Told.{told_since}
 
 -- Each answer is one that its ask has, and no stream gave more entries than the folders of the store had.

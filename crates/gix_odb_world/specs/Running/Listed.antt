@@ -1,18 +1,18 @@
 -- What the disk answered a handle since it began to list folders of packs: each answer at some moment, and while the tree stayed the same, all by
 -- that tree. No public clause needs more of it than its name.
 use Rattle.std.specs.Prelude.{◌≡◌, ℕ, List, [], ◌∷◌, length}
-use Rattle.odb_asks.specs.MemDisk.{Volume}
-use Rattle.odb_asks.specs.declared.ask.DiskAnswer.{DiskAnswer}
-use Rattle.odb_asks.specs.declared.ask.DiskAsk.{DiskAsk}
-use Rattle.odb_nodes.specs.Tree.{Tree}
-use Rattle.odb_nodes.specs.declared.entry.Entry.{Entry}
+use Rattle.odb_disk.specs.MemDisk.{Volume}
+use Rattle.odb_disk.specs.declared.ask.DiskAnswer.{DiskAnswer}
+use Rattle.odb_disk.specs.declared.ask.DiskAsk.{DiskAsk}
+use Rattle.odb_disk.specs.Tree.{Tree}
+use Rattle.odb_disk.specs.declared.entry.Entry.{Entry}
 use Rattle.gix_odb_events.specs.declared.answer.Answer.TheVariants as told
 use Rattle.gix_odb_events.specs.declared.answer.Ask.TheVariants as asks
-use Rattle.gix_odb_looks.specs.Exchange.{Exchange, WasTold}
-use Rattle.gix_odb_look_laws.specs.ListedFiles.{IsToldOfTree}
+use Rattle.gix_odb.specs.LookExchanges.{Exchange, WasTold}
+use Rattle.gix_odb.specs.ListedFiles.{IsToldOfTree}
 use Rattle.gix_odb.specs.Moments.{Throughout}
-use Rattle.gix_odb_runs.specs.Event.{Event}
-use Rattle.gix_odb_runs.specs.Run.{tree_at}
+use Rattle.gix_odb_history.specs.Event.{Event}
+use Rattle.gix_odb_history.specs.Run.{tree_at}
 use Rattle.gix_odb_world.specs.Running.Query.{IsGiven}
 use Rattle.gix_odb_world.specs.Told.{told_since}
 

@@ -1,12 +1,12 @@
 -- An object that stays unchanged in a pack while a query works, as far as its look-ups may see it. No public clause cites this.
 use Rattle.std.specs.Prelude.{◌≡◌, ℕ, true, List, Contains}
 use Rattle.odb_base.specs.Path.{Name, Path}
-use Rattle.odb_nodes.specs.Tree.{Tree}
+use Rattle.odb_disk.specs.Tree.{Tree}
 use Rattle.gix_hash.specs.declared.kind.Kind.{Kind}
 use Rattle.gix_hash.specs.declared.object_id.ObjectId.{ObjectId}
-use Rattle.gix_odb_packs.specs.PackFolder.{is_index_name}
-use Rattle.gix_odb_looks.specs.Fair.{PackedPlace, index_at, pack_at}
-use Rattle.gix_odb_looks.specs.Found.{Gives}
+use Rattle.gix_odb_search.specs.PackFolder.{is_index_name}
+use Rattle.gix_odb.specs.Fair.{PackedPlace, index_at, pack_at}
+use Rattle.gix_odb.specs.Found.{Gives}
 use Rattle.gix_odb.specs.Contents.{ShowsFile, folder_list}
 use Rattle.gix_odb.specs.Held.{IsItselfFile, ShowsOne, index_path}
 use Rattle.gix_odb.specs.Moments.{Throughout}

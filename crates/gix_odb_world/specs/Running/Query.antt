@@ -1,11 +1,11 @@
 -- What a query knows since it began. No public clause cites this.
 use Rattle.std.specs.Prelude.{◌≡◌, ℕ, ◌<◌, ◌≤◌, true, List, [], ◌∷◌, length, None}
 use Rattle.std.specs.List.{IsDistinct}
-use Rattle.odb_asks.specs.Ask.{answer_now, fails_now}
-use Rattle.odb_asks.specs.MemDisk.{Volume}
-use Rattle.odb_asks.specs.declared.ask.DiskAnswer.{DiskAnswer}
-use Rattle.odb_asks.specs.declared.ask.DiskAsk.{DiskAsk}
-use Rattle.odb_nodes.specs.Tree.{tree_of}
+use Rattle.odb_disk.specs.Ask.{answer_now, fails_now}
+use Rattle.odb_disk.specs.MemDisk.{Volume}
+use Rattle.odb_disk.specs.declared.ask.DiskAnswer.{DiskAnswer}
+use Rattle.odb_disk.specs.declared.ask.DiskAsk.{DiskAsk}
+use Rattle.odb_disk.specs.Tree.{tree_of}
 use Rattle.gix_hash.specs.ObjectId.{kind_of}
 use Rattle.gix_hash.specs.declared.object_id.ObjectId.{ObjectId}
 use Rattle.gix_odb_calls.specs.declared.query.Query.{Query}
@@ -13,20 +13,20 @@ use Rattle.gix_odb_core.specs.History.{present}
 use Rattle.gix_odb_events.specs.declared.answer.Answer.TheVariants as told
 use Rattle.gix_odb_events.specs.declared.answer.Ask.TheVariants as asks
 use Rattle.gix_odb_events.specs.PackFiles.{same_path}
-use Rattle.gix_odb_looks.specs.Exchange.{AreAnswered, AreAsked, Exchange, HasFailed, WasTold}
-use Rattle.gix_odb_looks.specs.Fair.{AreFair, PackedPlace}
-use Rattle.gix_odb_looks.specs.Laps.{AreNumbered, AreWithin, number_by}
-use Rattle.gix_odb_looks.specs.Shown.{IsShownView}
-use Rattle.gix_odb_looks.specs.True.{AreTrue}
-use Rattle.gix_odb_looks.specs.declared.look_up.LookUp.{LookUp}
+use Rattle.gix_odb.specs.LookExchanges.{AreAnswered, AreAsked, Exchange, HasFailed, WasTold}
+use Rattle.gix_odb.specs.Fair.{AreFair, PackedPlace}
+use Rattle.gix_odb.specs.Laps.{AreNumbered, AreWithin, number_by}
+use Rattle.gix_odb.specs.Shown.{IsShownView}
+use Rattle.gix_odb.specs.True.{AreTrue}
+use Rattle.gix_odb.specs.declared.look_up.LookUp.{LookUp}
 use Rattle.gix_odb.specs.Contents.{folder_list, sought}
 use Rattle.gix_odb.specs.Held.{WasShownAt}
 use Rattle.gix_odb_world.specs.AtWork.{MakeCall, Modes, Running, Store, setting_in}
 use Rattle.gix_odb_world.specs.Bound.{HasAtMost}
-use Rattle.gix_odb_runs.specs.Cores.{cores_after, history_at}
-use Rattle.gix_odb_runs.specs.Event.{Event}
+use Rattle.gix_odb_history.specs.Cores.{cores_after, history_at}
+use Rattle.gix_odb_history.specs.Event.{Event}
 pub use Rattle.gix_odb_world.specs.Machines.Queries.{looking}
-use Rattle.gix_odb_runs.specs.Run.{FailedSince, tree_at}
+use Rattle.gix_odb_history.specs.Run.{FailedSince, tree_at}
 use Rattle.gix_odb_world.specs.Running.PackedStill.{IsPackedStill}
 use Rattle.gix_odb_world.specs.Running.Refused.{AreRefused}
 pub use Rattle.gix_odb_world.specs.Told.{call_of}

@@ -3,8 +3,8 @@ use Rattle.std.specs.Prelude.{ℕ, List, Err}
 use Rattle.gix_odb_events.specs.declared.answer.Answer.TheVariants as told
 use Rattle.gix_odb_events.specs.declared.answer.Ask.TheVariants as asks
 use Rattle.gix_odb_events.specs.declared.event.Refusal.{Refusal}
-use Rattle.gix_odb_looks.specs.Exchange.{WasTold}
-use Rattle.gix_odb_runs.specs.Event.{CoreEvent, Event}
+use Rattle.gix_odb.specs.LookExchanges.{WasTold}
+use Rattle.gix_odb_history.specs.Event.{CoreEvent, Event}
 use Rattle.gix_odb_world.specs.Refused.{RefusedSince}
 use Rattle.gix_odb_world.specs.Told.{told_since}
 

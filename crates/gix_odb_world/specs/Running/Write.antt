@@ -2,10 +2,10 @@
 use Rattle.std.specs.Prelude.{◌+◌, ◌<◌, ◌^◌, [], ◌++◌, ◌≡◌, ℕ, ◌≤◌, List, length, take, Contains, Option, Some, None}
 use Rattle.std.specs.List.{IsDistinct}
 use Rattle.odb_base.specs.Path.{Path}
-use Rattle.odb_asks.specs.MemDisk.{Volume}
-use Rattle.odb_asks.specs.declared.ask.DiskAnswer.TheVariants as answers
-use Rattle.odb_asks.specs.declared.ask.DiskAsk.TheVariants as asks
-use Rattle.odb_nodes.specs.OwnFile.{HasFile}
+use Rattle.odb_disk.specs.MemDisk.{Volume}
+use Rattle.odb_disk.specs.declared.ask.DiskAnswer.TheVariants as answers
+use Rattle.odb_disk.specs.declared.ask.DiskAsk.TheVariants as asks
+use Rattle.odb_disk.specs.OwnFile.{HasFile}
 use Rattle.gix_object.specs.Loose.{header_of}
 use Rattle.gix_odb_loose.specs.Exchanges.{Exchange}
 use Rattle.gix_odb_loose.specs.WriteAsks.{IsAlong, write_of}
@@ -17,21 +17,21 @@ use Rattle.gix_odb_loose.specs.declared.write_at_hand.WriteJob.{WriteJob}
 use Rattle.gix_odb_loose.specs.declared.write_order.WriteStage.{WriteStage}
 use Rattle.gix_odb_loose.specs.declared.write_order.WriteStage.TheVariants as write_stages
 use Rattle.gix_odb_events.specs.PackFiles.{same_path}
-use Rattle.gix_odb_refresh.specs.RefreshOrder.{IsReady}
-use Rattle.gix_odb_refresh.specs.Refreshed.{AreAsked}
-use Rattle.gix_odb_refresh.specs.declared.refresh.Refresh.{Refresh}
-use Rattle.gix_odb_refresh.specs.declared.refresh.RefreshStep.TheVariants.{More}
+use Rattle.gix_odb.specs.RefreshOrder.{IsReady}
+use Rattle.gix_odb.specs.Refreshed.{AreAsked}
+use Rattle.gix_odb.specs.declared.refresh.Refresh.{Refresh}
+use Rattle.gix_odb.specs.declared.refresh.RefreshStep.TheVariants.{More}
 use Rattle.gix_odb.specs.Contents.{folder_list}
-use Rattle.gix_odb_runs.specs.Event.{Event}
+use Rattle.gix_odb_history.specs.Event.{Event}
 pub use Rattle.gix_odb_world.specs.Machines.Writes.{InFront, Own, Unlisted, WriteState, front_result, own_result, work_of, write_asks, write_fed, writes_by, writing}
 use Rattle.gix_odb_world.specs.AtWork.{MakeCall, Running, setting_in}
-use Rattle.gix_odb_looks.specs.Laps.{turns_of_lap}
+use Rattle.gix_odb.specs.Laps.{turns_of_lap}
 use Rattle.gix_odb_world.specs.Bound.{HasAtMost}
-use Rattle.gix_odb_runs.specs.Run.{tree_at}
+use Rattle.gix_odb_history.specs.Run.{tree_at}
 use Rattle.gix_odb_world.specs.Running.Answered.{IsAnsweredWell}
 use Rattle.gix_odb_world.specs.Running.Refused.{AreRefused}
 use Rattle.gix_odb_world.specs.Told.{refresh_begun, refresh_now, told_since, turns_in_front}
-use Rattle.gix_odb_runs.specs.Writing.{AskedAt, AskedSince, ChangedNothing, LeftAlone, TurnsMadeOnly, NoTurnRenamed, ToWrite, call_to_write, head_to_write}
+use Rattle.gix_odb_history.specs.Writing.{AskedAt, AskedSince, ChangedNothing, LeftAlone, TurnsMadeOnly, NoTurnRenamed, ToWrite, call_to_write, head_to_write}
 
 -- a write that has asked nothing
 abbrev pub job_to_write : ToWrite → WriteJob

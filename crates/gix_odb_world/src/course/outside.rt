@@ -1,17 +1,17 @@
 //! Changes of the disk that other programs make.
 ghost use Rattle.std.specs.Prelude.{OnOk, None};
-ghost use Rattle.odb_nodes.specs.Tree.{tree_of};
-ghost use Rattle.odb_nodes.specs.Tree.Change.{changed};
-ghost use Rattle.gix_odb_shown.specs.Revealed.{IsRevealed};
+ghost use Rattle.odb_disk.specs.Tree.{tree_of};
+ghost use Rattle.odb_disk.specs.Tree.Change.{changed};
+ghost use Rattle.gix_odb_watch.specs.Revealed.{IsRevealed};
 ghost use Rattle.gix_odb_world.specs.World.{Continues, IsExplained};
 ghost use Rattle.gix_odb_world.specs.Table.{HasOneMore, IsReasonNow};
 
 use super::Course;
 use gix_odb_calls::{Outcome, Step};
-use gix_odb_runs::{Did, copy_of_change};
-use gix_odb_shown::Revealed;
+use gix_odb_history::{Did, copy_of_change};
+use gix_odb_watch::Revealed;
 use odb_base::NoMemory;
-use odb_disk::{Change, Impossible};
+use odb_mem_disk::{Change, Impossible};
 use std::alloc::Global;
 
 impl Course {

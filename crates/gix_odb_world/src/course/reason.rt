@@ -1,11 +1,11 @@
 //! The first reason why a step isn't valid.
 ghost use Rattle.std.specs.Prelude.{◌≡◌, IfOk};
 ghost use Rattle.std.specs.Result.{result_err};
-ghost use Rattle.odb_nodes.specs.Tree.{tree_of};
-ghost use Rattle.odb_nodes.specs.Tree.Change.{changed};
-ghost use Rattle.gix_odb_shown.specs.Kept.{Fits};
-ghost use Rattle.gix_odb_shown.specs.Revealed.{IsRevealed};
-ghost use Rattle.gix_odb_runs.specs.Run.{change_asked};
+ghost use Rattle.odb_disk.specs.Tree.{tree_of};
+ghost use Rattle.odb_disk.specs.Tree.Change.{changed};
+ghost use Rattle.gix_odb_watch.specs.Kept.{Fits};
+ghost use Rattle.gix_odb_watch.specs.Revealed.{IsRevealed};
+ghost use Rattle.gix_odb_history.specs.Run.{change_asked};
 ghost use Rattle.gix_odb_world.specs.Table.{IsReasonNow, ask_by_handle, phase_of_handle, would_change_now};
 ghost use Rattle.gix_odb_world.specs.Valid as valid;
 ghost use Rattle.gix_odb_world.specs.Valid.{is_openable};
@@ -17,9 +17,9 @@ use crate::handle::HandleAt;
 use crate::opening;
 use crate::watch::{Judged, judged_work};
 use gix_odb_calls::{IdPairs, Options, PathList, Step, Why};
-use gix_odb_shown::Revealed;
+use gix_odb_watch::Revealed;
 use odb_base::NoMemory;
-use odb_disk::{Change, PathText};
+use odb_mem_disk::{Change, PathText};
 use std::alloc::Global;
 
 impl Course {

@@ -1,8 +1,8 @@
 //! The turn of a handle: it is checked, carried out, fed, finished and recorded.
 ghost use Rattle.std.specs.Prelude.{◌≡◌, OnOk, None, Some};
 ghost use Rattle.std.specs.Option.{option_map};
-ghost use Rattle.odb_nodes.specs.Tree.{tree_of};
-ghost use Rattle.gix_odb_runs.specs.Run.{change_asked};
+ghost use Rattle.odb_disk.specs.Tree.{tree_of};
+ghost use Rattle.gix_odb_history.specs.Run.{change_asked};
 ghost use Rattle.gix_odb_world.specs.Handle.{seen};
 ghost use Rattle.gix_odb_world.specs.Watch.{TellsChange};
 ghost use Rattle.gix_odb_world.specs.World.{Continues, IsExplained, handle_at, stored_at};
@@ -13,8 +13,8 @@ use crate::handle::Handle;
 use crate::turn::{Carried, Turned, carried_out, fed};
 use crate::watch::{Judged, keep};
 use gix_odb_calls::Step;
-use gix_odb_runs::{ChangeMade, Did};
-use gix_odb_shown::Revealed;
+use gix_odb_history::{ChangeMade, Did};
+use gix_odb_watch::Revealed;
 use odb_base::NoMemory;
 use std::alloc::Global;
 

@@ -1,14 +1,14 @@
 //! The calls of a real disk.
 ghost use Rattle.std.specs.Prelude.{◌≡◌, ◌≢◌, ◌≤◌, [], false, true, length, None, Some, Ok, Err, IfSome, OnOk, OnErr, IfOk, IsErrOf};
-ghost use Rattle.odb_asks.specs.Disk.{FailsOnlyByFault};
-ghost use Rattle.odb_asks.specs.Streams.{still_gives, left, Opens, Gives, with_closed};
+ghost use Rattle.odb_disk.specs.Disk.{FailsOnlyByFault};
+ghost use Rattle.odb_disk.specs.Streams.{still_gives, left, Opens, Gives, with_closed};
 ghost use Rattle.odb_host.specs.HostDisk.{longest_file, most_entries, owes_failure, OthersOwe};
 
 use super::{HostDisk, counted};
 use crate::host_answers::answered;
 use crate::host_calls::{append_at, look_at, new_file_at, read_at, remove_at, rename_at};
-use odb_asks::{DirId, Disk};
-use odb_disk::{ByteList, DiskError, Entry, Kind, Meta, PathText};
+use odb_disk::{DirId, Disk};
+use odb_mem_disk::{ByteList, DiskError, Entry, Kind, Meta, PathText};
 use std::alloc::Global;
 use std::fs;
 use std::rt::Files;

@@ -3,15 +3,15 @@ ghost use Rattle.std.specs.Prelude.{◌≡◌, ◌≢◌, ◌≤◌, ◌+◌, tr
 ghost use Rattle.std.specs.Iterator.{IsFinite};
 ghost use Rattle.std.specs.IoError.{error_kind};
 ghost use Rattle.odb_base.specs.Path.{Path};
-ghost use Rattle.odb_asks.specs.Disk.{FailsOnlyByFault};
-ghost use Rattle.odb_asks.specs.Streams.{still_gives, left, Opens};
+ghost use Rattle.odb_disk.specs.Disk.{FailsOnlyByFault};
+ghost use Rattle.odb_disk.specs.Streams.{still_gives, left, Opens};
 ghost use Rattle.odb_host.specs.HostDisk.{most_entries, owes_failure, refusal_of, OthersOwe};
 ghost use Rattle.odb_host.specs.HostListing.{GivesAll, ListsNone};
 
 use super::{HostDisk, counted};
 use crate::host_listing::{Listing, list_opened};
-use odb_asks::DirId;
-use odb_disk::{DiskError, NoMemory};
+use odb_disk::DirId;
+use odb_mem_disk::{DiskError, NoMemory};
 use std::alloc::{Allocator, Global};
 use std::fs::DirEntry;
 use std::io;

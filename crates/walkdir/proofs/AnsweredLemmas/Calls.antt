@@ -3,15 +3,15 @@ use Rattle.std.proofs.Common.{◌≡◌, ℕ, inl, inr, Bool, true, List, [], �
 use Rattle.std.specs.Prelude.{IfErr, IfOk}
 use Rattle.std.specs.List.{filter_map}
 use Rattle.odb_base.specs.Path.{Path}
-use Rattle.odb_asks.specs.CallsMade.{Leads}
-use Rattle.odb_asks.specs.declared.ask.DiskAsk.{DiskAsk}
-use Rattle.odb_asks.specs.declared.ask.DiskAsk.TheVariants as asks
-use Rattle.odb_asks.specs.declared.ask.DiskAnswer.{DiskAnswer}
-use Rattle.odb_asks.specs.declared.ask.DiskAnswer.TheVariants as answers
-use Rattle.odb_nodes.specs.declared.disk_error.DiskError.{DiskError}
-use Rattle.odb_nodes.specs.declared.disk_error.DiskError.TheVariants as refusals
-use Rattle.odb_nodes.specs.declared.meta.Meta.{Meta}
-use Rattle.odb_asks.proofs.CallsMadeLaws.{answered_here, leads_by_one, leads_nowhere}
+use Rattle.odb_disk.specs.CallsMade.{Leads}
+use Rattle.odb_disk.specs.declared.ask.DiskAsk.{DiskAsk}
+use Rattle.odb_disk.specs.declared.ask.DiskAsk.TheVariants as asks
+use Rattle.odb_disk.specs.declared.ask.DiskAnswer.{DiskAnswer}
+use Rattle.odb_disk.specs.declared.ask.DiskAnswer.TheVariants as answers
+use Rattle.odb_disk.specs.declared.disk_error.DiskError.{DiskError}
+use Rattle.odb_disk.specs.declared.disk_error.DiskError.TheVariants as refusals
+use Rattle.odb_disk.specs.declared.meta.Meta.{Meta}
+use Rattle.odb_disk.proofs.CallsMadeLaws.{answered_here, leads_by_one, leads_nowhere}
 use Rattle.walkdir.specs.Answered.{AreHeld, IsHeld, IsHeldIn, IsLookRefused, IsPlaceTold, IsToldIn, LooksBy}
 use Rattle.walkdir.specs.AnsweredTurns.{IsSeenIn, TellsContents}
 use Rattle.walkdir.specs.Error.{IsFromPath, is_no_memory, is_no_memory_inner, no_memory, stream_failed}

@@ -2,9 +2,9 @@
 use Rattle.std.proofs.Common.{◌≡◌, ℕ, true, List, length, Option, Result, Ok, Err, sym, subst}
 use Rattle.std.specs.Prelude.{IfErr}
 use Rattle.odb_base.specs.Path.{Path}
-use Rattle.odb_asks.specs.CallsMade.{Leads}
-use Rattle.odb_asks.specs.declared.ask.DiskAsk.{DiskAsk}
-use Rattle.odb_asks.specs.declared.ask.DiskAnswer.{DiskAnswer}
+use Rattle.odb_disk.specs.CallsMade.{Leads}
+use Rattle.odb_disk.specs.declared.ask.DiskAsk.{DiskAsk}
+use Rattle.odb_disk.specs.declared.ask.DiskAnswer.{DiskAnswer}
 use Rattle.walkdir.specs.Answered.{IsStackTold, TellsOn}
 use Rattle.walkdir.specs.AnsweredTurns.{IsKnown, IsSeenIn, TellsPushed}
 use Rattle.walkdir.specs.Error.{IsOfEntry, is_no_memory}

@@ -1,9 +1,9 @@
 -- What a step of a walk was answered.
 use Rattle.std.proofs.Common.{◌≡◌, ℕ, true, List, [], reverse, Option, Some, None, Result, Ok, Err, sym, subst}
 use Rattle.std.specs.Prelude.{IfErr}
-use Rattle.odb_asks.specs.CallsMade.{Leads}
-use Rattle.odb_asks.specs.declared.ask.DiskAsk.{DiskAsk}
-use Rattle.odb_asks.specs.declared.ask.DiskAnswer.{DiskAnswer}
+use Rattle.odb_disk.specs.CallsMade.{Leads}
+use Rattle.odb_disk.specs.declared.ask.DiskAsk.{DiskAsk}
+use Rattle.odb_disk.specs.declared.ask.DiskAnswer.{DiskAnswer}
 use Rattle.walkdir.specs.Answered.{IsItemTold, IsStackTold, TellsOn}
 use Rattle.walkdir.specs.Error.{is_no_memory}
 use Rattle.walkdir.specs.Directory.{held}

@@ -2,7 +2,7 @@
 use Rattle.std.proofs.Common.{◌≡◌, ℕ, ◌+◌, Bool, true, false, List, [], ◌∷◌, ◌++◌, length, map, Option, Some, None, Ok, Err, refl, sym, ap, subst, ◌∙◌, append_assoc}
 use Rattle.std.specs.Prelude.{if◌then◌else◌}
 use Rattle.std.specs.Option.{option_to_list}
-use Rattle.odb_asks.specs.Streams.{Streams, still_gives, with_closed}
+use Rattle.odb_disk.specs.Streams.{Streams, still_gives, with_closed}
 use Rattle.walkdir.specs.Error.{is_no_memory}
 use Rattle.walkdir.specs.Options.{is_given}
 use Rattle.walkdir.specs.OwnStreams.{AreBeside}

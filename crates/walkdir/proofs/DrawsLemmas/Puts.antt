@@ -3,7 +3,7 @@ use Rattle.std.proofs.Common.{◌≡◌, ℕ, ◌+◌, List, [], ◌∷◌, ◌+
 use Rattle.std.specs.FinMap as finite
 use lib.Seq.{get_or-append_seam}
 use lib.ListN.{length-reverse}
-use Rattle.odb_asks.specs.Streams.{Streams, with_closed}
+use Rattle.odb_disk.specs.Streams.{Streams, with_closed}
 use Rattle.walkdir.specs.Progress.{Progress}
 use Rattle.walkdir.specs.Stack.{StandsFor, ancestors, own_streams}
 use Rattle.walkdir.specs.Directory.{held, stream_in}

@@ -4,10 +4,10 @@ use Rattle.std.specs.Fn.{Mut, CalledAt}
 use Rattle.std.specs.Option.{option_to_list}
 use Rattle.std.specs.Prelude.{MatchBool}
 use denote.Ref.{Bor}
-use Rattle.odb_asks.specs.declared.ask.DiskAsk.{DiskAsk}
-use Rattle.odb_asks.specs.declared.ask.DiskAnswer.{DiskAnswer}
-use Rattle.odb_asks.specs.Streams.{Streams}
-use Rattle.odb_nodes.specs.Tree.{State, tree_of}
+use Rattle.odb_disk.specs.declared.ask.DiskAsk.{DiskAsk}
+use Rattle.odb_disk.specs.declared.ask.DiskAnswer.{DiskAnswer}
+use Rattle.odb_disk.specs.Streams.{Streams}
+use Rattle.odb_disk.specs.Tree.{State, tree_of}
 use Rattle.walkdir.proofs.FilteredWalkLemmas.{StillLeaves, gives_begun, innermost_dir, innermost_head, left_alone, left_below, skip_above, skip_is_of}
 use Rattle.walkdir.proofs.FilteredWalks.{FiltersOn}
 use Rattle.walkdir.specs.Entered.{IsEntered, StaysOut}

@@ -1,10 +1,10 @@
 -- Whether an entry is entered, and at which place it is.
 use Rattle.std.proofs.Common.{◌≡◌, ℕ, true, false, ◌&&◌, ◌||◌, cond, Option, Some, None, Result, Ok, Err, IfSome, sym, ap, subst, ◌∙◌}
 use Rattle.odb_base.specs.Path.{Path}
-use Rattle.odb_asks.specs.Ask.{error_of}
-use Rattle.odb_nodes.specs.Tree.{State, tree_of}
-use Rattle.odb_nodes.specs.Tree.Follow.{Refusal, looked}
-use Rattle.odb_nodes.specs.declared.meta.Meta.{Meta}
+use Rattle.odb_disk.specs.Ask.{error_of}
+use Rattle.odb_disk.specs.Tree.{State, tree_of}
+use Rattle.odb_disk.specs.Tree.Follow.{Refusal, looked}
+use Rattle.odb_disk.specs.declared.meta.Meta.{Meta}
 use Rattle.walkdir.specs.Entry.{is_dir, is_dir_kind}
 use Rattle.walkdir.specs.Error.{io_error}
 use Rattle.walkdir.specs.Turns.Taken.{EntersBy, FindsPlace, told_place, wanted_place}

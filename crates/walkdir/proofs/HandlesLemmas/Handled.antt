@@ -2,9 +2,9 @@
 use Rattle.std.proofs.Common.{◌≡◌, inl, inr, Bool, true, false, ◌&&◌, ◌||◌, cond, List, [], ◌∷◌, ◌++◌, Option, Some, None, Result, Ok, Err, refl, sym, ap, subst, ◌∙◌}
 use Rattle.std.specs.Prelude.{◌==◌}
 use Rattle.std.specs.Option.{option_to_list}
-use Rattle.odb_nodes.specs.Tree.{State}
-use Rattle.odb_nodes.specs.Tree.Follow.{looked}
-use Rattle.odb_nodes.specs.declared.disk_error.DiskError.TheVariants as refusals
+use Rattle.odb_disk.specs.Tree.{State}
+use Rattle.odb_disk.specs.Tree.Follow.{looked}
+use Rattle.odb_disk.specs.declared.disk_error.DiskError.TheVariants as refusals
 use Rattle.walkdir.specs.Entry.{is_dir, is_link}
 use Rattle.walkdir.specs.Error.{io_error, is_no_memory}
 use Rattle.walkdir.specs.Options.{is_given}

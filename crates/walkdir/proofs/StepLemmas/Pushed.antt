@@ -3,7 +3,7 @@ use Rattle.std.proofs.Common.{◌≡◌, ℕ, ◌+◌, ◌-◌, ◌*◌, ◌^◌
 use Rattle.std.specs.List.{cons_option}
 use Rattle.std.specs.FinMap as finite
 use native.Mathlib.Nat.{mul-le-mul_right, one-le-pow}
-use Rattle.odb_asks.specs.Streams.{Streams, open_count}
+use Rattle.odb_disk.specs.Streams.{Streams, open_count}
 use Rattle.walkdir.specs.Failures.{Costs, failures_left, waiting}
 use Rattle.walkdir.specs.OwnStreams.{OpenDirs, Owns}
 use Rattle.walkdir.specs.Progress.{Progress, Keeps}

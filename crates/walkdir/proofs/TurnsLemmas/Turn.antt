@@ -3,8 +3,8 @@ use Rattle.std.proofs.Common.{◌≡◌, [], ◌∷◌, ◌++◌, map, Option, S
 use Rattle.std.specs.Prelude.{◌≢◌, IfSome, IfErr}
 use Rattle.std.specs.Option.{option_to_list, option_map}
 use Rattle.odb_base.specs.Path.{Path}
-use Rattle.odb_asks.specs.Streams.{Streams}
-use Rattle.odb_nodes.specs.Tree.{State}
+use Rattle.odb_disk.specs.Streams.{Streams}
+use Rattle.odb_disk.specs.Tree.{State}
 use Rattle.walkdir.specs.Failures.{failures_given, failures_of}
 use Rattle.walkdir.specs.Progress.{Progress, GivesNext, IsOf, Keeps, is_lost, still_to_come, is_innermost, work_left}
 use Rattle.walkdir.specs.Stack.{StandsFor, ancestors}

@@ -2,11 +2,11 @@
 use Rattle.std.specs.Prelude.{◌≡◌, ◌⊎◌, ℕ, ◌+◌, ◌<◌, ◌≤◌, true, max, List, [], ◌∷◌, length, map, Option, Some, None, Result, Ok, Err, IfOk, IfSome, unwrap_or}
 use Rattle.std.specs.FinMap as finite
 use Rattle.odb_base.specs.Path.{Path}
-use Rattle.odb_asks.specs.Streams.{Streams, left, still_gives, is_open, open_count, with_stream}
-use Rattle.odb_nodes.specs.Tree.{State, tree_of}
-use Rattle.odb_nodes.specs.declared.entry.Entry.{Entry}
-use Rattle.odb_nodes.specs.declared.disk_error.DiskError.{DiskError}
-use Rattle.odb_nodes.specs.declared.disk_error.DiskError.TheVariants as refusals
+use Rattle.odb_disk.specs.Streams.{Streams, left, still_gives, is_open, open_count, with_stream}
+use Rattle.odb_disk.specs.Tree.{State, tree_of}
+use Rattle.odb_disk.specs.declared.entry.Entry.{Entry}
+use Rattle.odb_disk.specs.declared.disk_error.DiskError.{DiskError}
+use Rattle.odb_disk.specs.declared.disk_error.DiskError.TheVariants as refusals
 use Rattle.walkdir.specs.Error.{failures, io_error, no_memory, stream_error}
 use Rattle.walkdir.specs.Failures.{failures_left}
 use Rattle.walkdir.specs.OwnStreams.{OpenDirs}

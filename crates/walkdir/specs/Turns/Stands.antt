@@ -2,8 +2,8 @@
 use Rattle.std.specs.Prelude.{◌≡◌, ◌≢◌, ℕ, ◌+◌, ◌||◌, true, false, List, [], ◌∷◌, ◌++◌, length, map, Option, Some, None, Ok, Err, IfSome}
 use Rattle.std.specs.Option.{option_to_list}
 use Rattle.odb_base.specs.Path.{Path}
-use Rattle.odb_asks.specs.Streams.{Streams}
-use Rattle.odb_nodes.specs.Tree.{State, tree_of}
+use Rattle.odb_disk.specs.Streams.{Streams}
+use Rattle.odb_disk.specs.Tree.{State, tree_of}
 use Rattle.walkdir.specs.Entry.{is_dir, is_link}
 use Rattle.walkdir.specs.Progress.{Progress, Keeps, is_lost}
 use Rattle.walkdir.specs.Directory.{HasLeft}

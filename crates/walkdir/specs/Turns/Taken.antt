@@ -1,10 +1,10 @@
 -- How an entry is handled: what it is taken for, and whether it is entered. No public clause cites this module.
 use Rattle.std.specs.Prelude.{◌≡◌, ℕ, ◌==◌, ◌&&◌, ◌||◌, Bool, true, false, not, List, find, Option, Some, None, Result, Ok, Err, IfSome, if◌then◌else◌}
 use Rattle.odb_base.specs.Path.{Path}
-use Rattle.odb_nodes.specs.Tree.{State, tree_of}
-use Rattle.odb_nodes.specs.Tree.Follow.{Refusal, looked}
-use Rattle.odb_asks.specs.Ask.{error_of}
-use Rattle.odb_nodes.specs.declared.meta.Meta.{Meta}
+use Rattle.odb_disk.specs.Tree.{State, tree_of}
+use Rattle.odb_disk.specs.Tree.Follow.{Refusal, looked}
+use Rattle.odb_disk.specs.Ask.{error_of}
+use Rattle.odb_disk.specs.declared.meta.Meta.{Meta}
 use Rattle.walkdir.specs.Entry.{is_dir}
 use Rattle.walkdir.specs.Error.{io_error, IsFromLoop}
 use Rattle.walkdir.specs.Walk.{Walking, Ancestor, Tells, told_at}

@@ -1,10 +1,10 @@
 -- What a call answers at a place, by what the tree says.
 use Rattle.std.specs.Prelude.{◌≡◌, ◌⊎◌, ℕ, Result, Ok, Err}
 use Rattle.odb_base.specs.Path.{Path}
-use Rattle.odb_nodes.specs.Tree.Follow.{Refusal}
-use Rattle.odb_asks.specs.Ask.{error_of}
-use Rattle.odb_nodes.specs.declared.disk_error.DiskError.{DiskError}
-use Rattle.odb_nodes.specs.declared.disk_error.DiskError.TheVariants as refusals
+use Rattle.odb_disk.specs.Tree.Follow.{Refusal}
+use Rattle.odb_disk.specs.Ask.{error_of}
+use Rattle.odb_disk.specs.declared.disk_error.DiskError.{DiskError}
+use Rattle.odb_disk.specs.declared.disk_error.DiskError.TheVariants as refusals
 use Rattle.walkdir.specs.Error.{io_error, no_memory}
 use Rattle.walkdir.specs.declared.error.Error.{Error}
 

@@ -3,9 +3,9 @@ use Rattle.std.specs.Prelude.{ℕ, ◌==◌, ◌&&◌, ◌||◌, Bool, true, fal
 use Rattle.std.specs.Option.{option_map}
 use Rattle.std.specs.Result.{result_ok}
 use Rattle.odb_base.specs.Path.{Path}
-use Rattle.odb_nodes.specs.Tree.Follow.{Refusal, looked}
-use Rattle.odb_asks.specs.Ask.{error_of}
-use Rattle.odb_nodes.specs.declared.meta.Meta.{Meta}
+use Rattle.odb_disk.specs.Tree.Follow.{Refusal, looked}
+use Rattle.odb_disk.specs.Ask.{error_of}
+use Rattle.odb_disk.specs.declared.meta.Meta.{Meta}
 use Rattle.walkdir.specs.Entry.{entry_at, is_dir, is_dir_kind, is_link}
 use Rattle.walkdir.specs.Error.{io_error, loop_error}
 use Rattle.walkdir.specs.Options.{is_given}

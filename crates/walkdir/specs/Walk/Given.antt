@@ -2,7 +2,7 @@
 use Rattle.std.specs.Prelude.{Option, Result}
 use Rattle.std.specs.declared.cmp.Ordering.{Ordering}
 use Rattle.odb_base.specs.Path.{Path}
-use Rattle.odb_nodes.specs.Tree.{Tree}
+use Rattle.odb_disk.specs.Tree.{Tree}
 use Rattle.walkdir.specs.declared.builder.Options.{Options}
 use Rattle.walkdir.specs.declared.dent.DirEntry.{DirEntry}
 use Rattle.walkdir.specs.declared.error.Error.{Error}

@@ -4,12 +4,12 @@ use crate::directory::Items;
 use crate::read::next_of;
 use crate::sort::Sorter;
 use crate::{DirEntry, Result};
-use odb_asks::{DirId, Disk};
+use odb_disk::{DirId, Disk};
 use std::collections::VecDeque;
 
 impl<S: Sorter + Drop> Stack<S> {
     ghost use Rattle.std.specs.Prelude.{◌≡◌, ◌+◌, ◌<◌, true, ◌∷◌, None, reverse, length, IfSome};
-    ghost use Rattle.odb_asks.specs.Streams.{Streams};
+    ghost use Rattle.odb_disk.specs.Streams.{Streams};
     ghost use Rattle.walkdir.specs.Failures.{failures_given};
     ghost use Rattle.walkdir.specs.Within.{LiesIn};
     ghost use Rattle.walkdir.specs.Progress.{Keeps};

@@ -4,8 +4,8 @@ use crate::directory::{DirList, Items, Place};
 use crate::read::{open, rest_of};
 use crate::sort::Sorter;
 use crate::{DirEntry, Result};
-use odb_asks::Disk;
-use odb_disk::PathText;
+use odb_disk::Disk;
+use odb_mem_disk::PathText;
 use std::collections::VecDeque;
 
 impl<S: Sorter + Drop> Stack<S> {

@@ -4,8 +4,8 @@ use crate::directory::{Entering, Place};
 use crate::read::{entry_by, look, place_in};
 use crate::sort::Sorter;
 use crate::{DirEntry, Error, Result};
-use odb_asks::Disk;
-use odb_disk::{Kind, PathText};
+use odb_disk::Disk;
+use odb_mem_disk::{Kind, PathText};
 
 /// An entry, and its place if that is known.
 #[derive(Drop)]

@@ -1,6 +1,6 @@
 use Rattle.std.proofs.Common.{◌∷◌, ◌++◌, Some, Err, refl, Ok, map, sym, subst, ap, ◌∙◌, rules}
 use Rattle.std.specs.Prelude.{IfSome}
-use Rattle.odb_nodes.specs.Tree.{tree_of}
+use Rattle.odb_disk.specs.Tree.{tree_of}
 use Rattle.walkdir.specs.Answered.{IsToldIn}
 use Rattle.walkdir.specs.BuiltWalk.{walking}
 use Rattle.walkdir.specs.Error.{failures, is_no_memory, no_memory}

@@ -1,10 +1,10 @@
 use Rattle.std.proofs.Common.{rules, arith, ◌≡◌, ◌++◌, ◌∷◌, [], append-nil, Ok, Err, Global, sym, ap, subst, ◌∙◌}
 use Rattle.std.specs.List.{Contains, filter}
 use Rattle.std.specs.Prelude.{IfSome}
-use Rattle.odb_nodes.specs.Tree.{tree_of}
+use Rattle.odb_disk.specs.Tree.{tree_of}
 use Rattle.std.specs.declared.vec.IntoIter.{IntoIter}
-use Rattle.odb_nodes.specs.Tree.Follow.{looked}
-use Rattle.odb_nodes.specs.declared.meta.Meta.{Meta}
+use Rattle.odb_disk.specs.Tree.Follow.{looked}
+use Rattle.odb_disk.specs.declared.meta.Meta.{Meta}
 use Rattle.walkdir.specs.Error.{failures}
 use Rattle.walkdir.specs.declared.dent.DirEntry.{DirEntry}
 use Rattle.walkdir.proofs.WholeWalks.{if_told}

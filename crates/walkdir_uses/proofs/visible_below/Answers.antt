@@ -1,6 +1,6 @@
 use Rattle.std.proofs.Common.{map, Ok, ap, subst, ◌∙◌, rules}
 use Rattle.std.specs.Prelude.{IfErr, IfOk, IfSome}
-use Rattle.odb_nodes.specs.Tree.{tree_of}
+use Rattle.odb_disk.specs.Tree.{tree_of}
 use Rattle.walkdir.proofs.FilteredWalks.{Kept, filtered_back}
 use Rattle.walkdir.proofs.WholeWalks.{if_told}
 use Rattle.walkdir.specs.BuiltWalk.{walking}

@@ -1,6 +1,6 @@
 use Rattle.std.proofs.Common.{◌≡◌, map, Ok, subst}
 use Rattle.std.specs.Prelude.{IfSome}
-use Rattle.odb_nodes.specs.Tree.{tree_of}
+use Rattle.odb_disk.specs.Tree.{tree_of}
 use Rattle.walkdir.specs.BuiltWalk.{walking}
 use Rattle.walkdir.specs.Walk.{IsWalk}
 use Rattle.walkdir.proofs.WholeWalks.{if_told}

@@ -1,7 +1,7 @@
 use Rattle.std.proofs.Common.{◌≡◌, true, map, Ok, refl, sym, ap, subst, ◌∙◌, rules}
 use Rattle.walkdir.proofs.FilteredWalks.{all_accepted}
 use Rattle.walkdir.proofs.WholeWalks.{entries_kept, if_told}
-use Rattle.odb_nodes.specs.Tree.{tree_of}
+use Rattle.odb_disk.specs.Tree.{tree_of}
 use Rattle.walkdir.specs.BuiltWalk.{walking}
 use Rattle.walkdir.specs.Error.{is_no_memory}
 use Rattle.walkdir.specs.Failures.{failures_of}

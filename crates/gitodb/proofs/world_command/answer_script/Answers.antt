@@ -2,7 +2,7 @@
 use Rattle.std.proofs.Common.{ap, ◌∙◌}
 use Rattle.odb_script.specs.declared.reader.Reading.{Reading}
 use Rattle.odb_script.specs.Script.{disk_of, lines_of}
-use Rattle.script_reasons.proofs.ToldLaws.{told_of-is}
+use Rattle.odb_script.proofs.ToldLaws.{told_of-is}
 use Rattle.gitodb.specs.Session.{status_by}
 use Rattle.gitodb.proofs.world_command.answer_script.Goals as goal
 

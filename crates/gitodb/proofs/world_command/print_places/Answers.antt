@@ -1,7 +1,7 @@
 -- No places have no lines; one more place adds its line.
 use Rattle.std.proofs.Common.{ap, ◌++◌, ◌∙◌}
-use Rattle.odb_print.specs.Print.{line_of}
-use Rattle.odb_print.proofs.PrintLemmas.{printed_at-nothing, printed_at-more}
+use Rattle.odb_script.specs.Print.{line_of}
+use Rattle.odb_script.proofs.PrintLemmas.{printed_at-nothing, printed_at-more}
 use Rattle.gitodb.proofs.world_command.print_places.Goals as goal
 
 pub loop-place-init : goal.loop-place-init

@@ -1,5 +1,5 @@
 use Rattle.std.proofs.Common.{◌≡◌, ◌++◌, take}
-use Rattle.odb_print.specs.Print.{printed_at}
+use Rattle.odb_script.specs.Print.{printed_at}
 use Rattle.gitodb.proofs.world_command.print_places.Given as goal
 
 -- the lines of the places so far are there

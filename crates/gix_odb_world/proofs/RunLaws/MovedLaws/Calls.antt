@@ -2,7 +2,7 @@
 use Rattle.std.proofs.Common.{◌≡◌, ◌⊎◌, inl, inr, ℕ, ◌+◌, ◌≤◌, Bool, true, false, List, [], ◌∷◌, ◌++◌, length, Option, Some, None, Result, Ok, Err, refl, sym, ap, ◌∙◌, subst, arith}
 use Rattle.std.specs.Prelude.{◌==◌, if◌then◌else◌}
 use Rattle.std.proofs.lemmas.Bool.{eqb-true}
-use Rattle.odb_asks.specs.MemDisk.{Volume}
+use Rattle.odb_disk.specs.MemDisk.{Volume}
 use Rattle.gix_odb_calls.specs.declared.call.Call.{Call}
 use Rattle.gix_odb_calls.specs.declared.call.Reply.{Reply}
 use Rattle.gix_odb_calls.specs.declared.step.Step.{Step}
@@ -12,14 +12,14 @@ use Rattle.gix_odb_calls.specs.declared.step.Outcome.TheVariants as outcomes
 use Rattle.gix_odb_world.specs.Work.{Work}
 use Rattle.gix_odb_world.specs.AtWork.{MakeCall, Modes, Running, Task, modes_after}
 use Rattle.gix_odb_world.specs.Asks.{AsksAsTask}
-use Rattle.gix_odb_runs.specs.Event.{Event, answered}
+use Rattle.gix_odb_history.specs.Event.{Event, answered}
 use Rattle.gix_odb_events.specs.declared.answer.Ask.{Ask}
 use Rattle.gix_odb_events.specs.declared.answer.Ask.TheVariants as asks
 use Rattle.gix_odb_world.specs.Headline.{Law, Works, stand_of}
 use Rattle.gix_odb_world.specs.Machines.{fed_in}
-use Rattle.gix_odb_runs.specs.Run.{IsTurnOf, disk_after, told_now}
+use Rattle.gix_odb_history.specs.Run.{IsTurnOf, disk_after, told_now}
 use Rattle.gix_odb_world.specs.Status.{Free, Resting, Status, Working, after_reply, cloned, come_to, ignoring_from, refuses_opening, replied, started, status_after, status_of, turned, with_status}
-use Rattle.gix_odb_runs.specs.Turned.{is_done}
+use Rattle.gix_odb_history.specs.Turned.{is_done}
 use Rattle.gix_odb_world.proofs.HistoryLemmas.{status_of-push}
 
 module _ (past : List Event) (e : Event) where

@@ -2,32 +2,32 @@
 use Rattle.std.proofs.Common.{◌≡◌, inl, inr, ℕ, zero, suc, ◌<◌, ◌≤◌, false, List, [], ◌∷◌, ◌++◌, length, take, Contains, Option, Some, None, Ok, refl, sym, ap, ◌∙◌, subst, append-nil, append_assoc, arith}
 use Rattle.std.specs.Prelude.{slice_get, unwrap_or}
 use Rattle.std.proofs.lemmas.Bool.{cases_lt, false_from_ne_true}
-use Rattle.odb_nodes.specs.Tree.{Tree, tree_of}
-use Rattle.odb_nodes.specs.Tree.Follow.{looked, read_of}
-use Rattle.odb_asks.specs.Ask.{answer_now, fails_now}
-use Rattle.odb_asks.specs.MemDisk.{Volume}
-use Rattle.odb_asks.specs.declared.ask.DiskAsk.{DiskAsk}
-use Rattle.odb_asks.specs.declared.ask.DiskAsk.TheVariants as asks
+use Rattle.odb_disk.specs.Tree.{Tree, tree_of}
+use Rattle.odb_disk.specs.Tree.Follow.{looked, read_of}
+use Rattle.odb_disk.specs.Ask.{answer_now, fails_now}
+use Rattle.odb_disk.specs.MemDisk.{Volume}
+use Rattle.odb_disk.specs.declared.ask.DiskAsk.{DiskAsk}
+use Rattle.odb_disk.specs.declared.ask.DiskAsk.TheVariants as asks
 use Rattle.gix_hash.specs.declared.object_id.ObjectId.{ObjectId}
 use Rattle.gix_odb_core.specs.History.{History, opened}
 use Rattle.gix_odb_loose.specs.LooseOrder.{disk_ask_of}
-use Rattle.gix_odb_packs.specs.PackFolder.{pack_folder}
+use Rattle.gix_odb_search.specs.PackFolder.{pack_folder}
 use Rattle.gix_odb_events.specs.declared.answer.Answer.TheVariants as told
 use Rattle.gix_odb_events.specs.declared.answer.Ask.TheVariants as parts
-use Rattle.gix_odb_looks.specs.Exchange.{Exchange}
-use Rattle.gix_odb_looks.specs.Fair.{AreFair, IsDiskFair, IsFair, IsIndexSound, PackedPlace, index_at}
-use Rattle.gix_odb_looks.specs.Found.{Gives}
-use Rattle.gix_odb_looks.specs.LookUpOrder as looks
-use Rattle.gix_odb_looks.specs.OpenStream.{IsOnStream, ListsFile}
-use Rattle.gix_odb_looks.specs.Shown.{IsHanded}
-use Rattle.gix_odb_looks.specs.Stream.{Stream, stream_by, stream_in}
-use Rattle.gix_odb_look_laws.proofs.CoreLaws.{core_answers_are_fair}
-use Rattle.gix_odb_looks.proofs.FoundLaws.{what_is_handed_was_shown}
-use Rattle.gix_odb_looks.proofs.StreamLaws.Directories.{looked_file_is_listed}
-use Rattle.gix_odb_looks.proofs.StreamLaws.Exchanges.{next_answer_is_fair}
-use Rattle.gix_odb_refresh.proofs.ListerLaws.Streams.{stream_in-push}
-use Rattle.gix_odb_refresh.specs.RefreshOrder as refreshes
-use Rattle.gix_odb_refresh.proofs.RefreshLaws.{what_a_refresh_hands_on_is_of_the_folders}
+use Rattle.gix_odb.specs.LookExchanges.{Exchange}
+use Rattle.gix_odb.specs.Fair.{AreFair, IsDiskFair, IsFair, IsIndexSound, PackedPlace, index_at}
+use Rattle.gix_odb.specs.Found.{Gives}
+use Rattle.gix_odb.specs.LookUpOrder as looks
+use Rattle.gix_odb.specs.OpenStream.{IsOnStream, ListsFile}
+use Rattle.gix_odb.specs.Shown.{IsHanded}
+use Rattle.gix_odb.specs.Stream.{Stream, stream_by, stream_in}
+use Rattle.gix_odb_world.proofs.CoreLaws.{core_answers_are_fair}
+use Rattle.gix_odb.proofs.FoundLaws.{what_is_handed_was_shown}
+use Rattle.gix_odb.proofs.StreamLaws.Directories.{looked_file_is_listed}
+use Rattle.gix_odb.proofs.StreamLaws.Exchanges.{next_answer_is_fair}
+use Rattle.gix_odb.proofs.ListerLaws.Streams.{stream_in-push}
+use Rattle.gix_odb.specs.RefreshOrder as refreshes
+use Rattle.gix_odb.proofs.RefreshLaws.{what_a_refresh_hands_on_is_of_the_folders}
 use Rattle.gix_odb.specs.Contents.{folder_list, sought}
 use Rattle.gix_odb.specs.Held.{WasShownAt}
 use Rattle.gix_odb.proofs.OpenLaws.{openings_ask_no_event}
@@ -35,18 +35,18 @@ use Rattle.gix_odb.specs.declared.call_state.CallStage.TheVariants.{Looking, Ref
 use Rattle.gix_odb_world.specs.Work.{Work}
 use Rattle.gix_odb_world.specs.Work.{Calling, Opening}
 use Rattle.gix_odb_world.specs.AtWork.{MakeCall, Running, Store, Task, setting_in}
-use Rattle.gix_odb_runs.specs.Cores.{answer_behind, cores_after, history_at}
-use Rattle.gix_odb_runs.specs.Event.{CoreAnswer, CoreEvent, Event, OfCore, OfDisk, OfNothing}
+use Rattle.gix_odb_history.specs.Cores.{answer_behind, cores_after, history_at}
+use Rattle.gix_odb_history.specs.Event.{CoreAnswer, CoreEvent, Event, OfCore, OfDisk, OfNothing}
 use Rattle.gix_odb_events.specs.declared.answer.Ask.{Ask}
 use Rattle.gix_odb_world.specs.Headline.{Works, stand_of}
 use Rattle.gix_odb_world.specs.Machines.{ask_in}
 use Rattle.gix_odb_world.specs.Recorded.{opened_in}
-use Rattle.gix_odb_runs.specs.Run.{Fails, FailedSince, IsTurnOf, Stand, did_asked, disk_after, told_now, tree_at}
+use Rattle.gix_odb_history.specs.Run.{Fails, FailedSince, IsTurnOf, Stand, did_asked, disk_after, told_now, tree_at}
 use Rattle.gix_odb_world.specs.Running.{Knows, Runs}
 use Rattle.gix_odb_world.specs.Running.PackedStill.{LiesIndexed}
 use Rattle.gix_odb_world.specs.Status.{Working, status_of}
 use Rattle.gix_odb_world.specs.Told.{call_of, exchange_of, told_since, view_then}
-use Rattle.gix_odb_runs.specs.Writing.{call_to_write}
+use Rattle.gix_odb_history.specs.Writing.{call_to_write}
 use Rattle.gix_odb_world.proofs.MachineLaws.{IsRunning}
 use Rattle.gix_odb_world.proofs.PackedStill.{AreFair-push}
 use Rattle.gix_odb_world.proofs.PackedStill.Answers.{calls_are_fair}

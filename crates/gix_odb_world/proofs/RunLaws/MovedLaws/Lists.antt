@@ -3,10 +3,10 @@ use Rattle.std.proofs.Common.{◌≡◌, ℕ, zero, suc, ◌≤◌, List, [], �
 use Rattle.std.specs.List.{filter_map}
 use Rattle.std.proofs.lemmas.List.{drop-append-le}
 use Rattle.std.proofs.lemmas.List.Elements.{filter_map-append}
-use Rattle.gix_odb_looks.specs.Exchange.{AreAsked, Exchange}
-use Rattle.gix_odb_looks.specs.LookUpOrder.{Setting, fed}
-use Rattle.gix_odb_looks.specs.declared.look_up.LookUp.{LookUp}
-use Rattle.gix_odb_runs.specs.Event.{Event}
+use Rattle.gix_odb.specs.LookExchanges.{AreAsked, Exchange}
+use Rattle.gix_odb.specs.LookUpOrder.{Setting, fed}
+use Rattle.gix_odb.specs.declared.look_up.LookUp.{LookUp}
+use Rattle.gix_odb_history.specs.Event.{Event}
 use Rattle.gix_odb_world.specs.Told.{exchange_in, told_since}
 use Rattle.gix_odb_world.proofs.RunSteps.Fronts.{front_of_front}
 

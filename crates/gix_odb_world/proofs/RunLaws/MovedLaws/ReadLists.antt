@@ -1,7 +1,7 @@
 -- A core's list that was read stays read, and each view that it passes on then says so.
 use Rattle.std.proofs.Common.{◌≡◌, inl, inr, ℕ, zero, suc, ◌+◌, Bool, true, false, cond, ◌==◌, List, [], ◌∷◌, ◌++◌, length, slice_set, arith, Option, Some, None, Ok, Err, refl, sym, ap, ◌∙◌, subst}
 use Rattle.std.proofs.lemmas.Bool.{false≢true}
-use Rattle.gix_odb_slots.specs.Files.{slot_with_index, slot_with_pack}
+use Rattle.gix_odb_core.specs.Files.{slot_with_index, slot_with_pack}
 use Rattle.gix_odb_events.specs.Slots.{slot_at}
 use Rattle.gix_odb_events.specs.declared.slot.Filled.{Filled}
 use Rattle.gix_odb_core.specs.History.{History, opened, present}
@@ -19,10 +19,10 @@ use Rattle.gix_odb_core.specs.declared.shape.Shape.{Shape}
 use Rattle.gix_odb_events.specs.declared.view.View.{View}
 use Rattle.gix_odb_core.proofs.OrderLaws.{replay_of_joined_journals}
 use Rattle.gix_odb_core.proofs.SnapshotLaws.{entry_hands_the_view_behind_it}
-use Rattle.gix_odb_look_laws.proofs.CoreLaws.Shapes.{publishing_comes_to}
-use Rattle.gix_odb_runs.specs.Cores.{answer_behind, cores_after_asked, entered, history_at}
-use Rattle.gix_odb_runs.specs.Cores as cores_of
-use Rattle.gix_odb_runs.specs.Event.{Asked, CoreAnswer, OfCore, OfDisk, OfNewCore, OfNothing}
+use Rattle.gix_odb_world.proofs.CoreLaws.Shapes.{publishing_comes_to}
+use Rattle.gix_odb_history.specs.Cores.{answer_behind, cores_after_asked, entered, history_at}
+use Rattle.gix_odb_history.specs.Cores as cores_of
+use Rattle.gix_odb_history.specs.Event.{Asked, CoreAnswer, OfCore, OfDisk, OfNewCore, OfNothing}
 use Rattle.gix_odb_world.proofs.SeatLemmas.Elsewhere.{history_at-push, history_at-set}
 
 abbrev IsRead : Shape → Type 0

@@ -3,15 +3,15 @@ use Rattle.std.proofs.Common.{◌≡◌, ℕ, Bool, true, false, List, [], ◌�
 use Rattle.std.specs.Prelude.{◌==◌, slice_get, unwrap_or}
 use Rattle.std.proofs.lemmas.Bool.{eqb-true, eqb-false}
 use Rattle.std.proofs.lemmas.List.{length_push}
-use Rattle.odb_asks.specs.MemDisk.{Volume}
+use Rattle.odb_disk.specs.MemDisk.{Volume}
 use Rattle.gix_odb_core.specs.History.{History, opened, present}
 use Rattle.gix_odb_core.specs.Replay.{CanHappen}
 use Rattle.gix_odb_events.specs.declared.event.Event.TheVariants as core_events
-use Rattle.gix_odb_looks.specs.Shown.{IsHanded}
+use Rattle.gix_odb.specs.Shown.{IsHanded}
 use Rattle.gix_odb.specs.Contents.{folder_list}
 use Rattle.gix_odb_world.specs.AtWork.{Store, setting_in}
-use Rattle.gix_odb_runs.specs.Cores.{answer_behind, cores_after, cores_after_asked, entered, history_at}
-use Rattle.gix_odb_runs.specs.Event.{Asked, CoreEvent, Event, OfCore, OfNewCore}
+use Rattle.gix_odb_history.specs.Cores.{answer_behind, cores_after, cores_after_asked, entered, history_at}
+use Rattle.gix_odb_history.specs.Event.{Asked, CoreEvent, Event, OfCore, OfNewCore}
 use Rattle.gix_odb_world.proofs.HistoryLemmas.{cores_after-push, slice_get-kept, slice_get-last, slice_get-push}
 use Rattle.gix_odb_world.proofs.SeatLemmas.Elsewhere.{slice_get-set_other, slice_get-set_same}
 use Rattle.gix_odb_world.proofs.Stock.OneCore.{IsOfStore, IsStocked, ShownSince, of_store_grown, of_store_later}

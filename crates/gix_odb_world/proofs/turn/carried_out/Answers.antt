@@ -1,5 +1,5 @@
 use Rattle.std.proofs.Common.{◌≡◌, Some, None, Ok, refl}
-use Rattle.gix_odb_runs.specs.declared.record.Did.TheVariants as dids
+use Rattle.gix_odb_history.specs.declared.record.Did.TheVariants as dids
 use Rattle.gix_odb_world.specs.declared.turn.Told.TheVariants as tells
 use Rattle.gix_odb_events.specs.declared.answer.Ask.TheVariants as asks
 use Rattle.gix_odb_world.specs.Handle.{seen}

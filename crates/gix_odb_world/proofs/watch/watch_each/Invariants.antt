@@ -1,5 +1,5 @@
 use Rattle.std.specs.Prelude.{take}
-use Rattle.gix_odb_shown.specs.Kept.{Fits}
+use Rattle.gix_odb_watch.specs.Kept.{Fits}
 use Rattle.gix_odb_world.specs.Watch.{Watches}
 use Rattle.gix_odb_world.proofs.watch.watch_each.Given as goal
 

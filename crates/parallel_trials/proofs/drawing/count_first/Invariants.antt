@@ -1,5 +1,5 @@
 use Rattle.std.specs.Prelude.{⊤}
-use Rattle.gix_features_eager.specs.Eager.{IsReady}
+use Rattle.gix_features_channel.specs.Eager.{IsReady}
 use Rattle.parallel_trials.proofs.drawing.count_first.Given as goal
 
 -- the numbers may be asked

@@ -1,6 +1,6 @@
 -- A walk that begins has no streams.
 use Rattle.std.proofs.Common.{◌≡◌, true, sym, subst}
-use Rattle.odb_asks.specs.Streams.{Streams}
+use Rattle.odb_disk.specs.Streams.{Streams}
 use Rattle.walkdir.specs.Options.{Built}
 use Rattle.walkdir.specs.Progress.{Progress, begun, has_its_streams}
 use Rattle.walkdir.specs.Sorted.{all_equal}

@@ -1,6 +1,6 @@
 -- Each entry that was read is one less that is left.
 use Rattle.std.proofs.Common.{◌≡◌, ◌+◌, ◌≤◌, length}
-use Rattle.odb_asks.specs.CallsMade.{Leads}
+use Rattle.odb_disk.specs.CallsMade.{Leads}
 use Rattle.walkdir.specs.Answered.{AreHeld}
 use Rattle.walkdir.specs.Failures.{failures_among}
 use Rattle.walkdir.specs.Directory.{AreAt}

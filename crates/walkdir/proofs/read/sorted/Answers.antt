@@ -1,6 +1,6 @@
 -- A stream is read to its end, closed, and its children are put in order.
 use Rattle.std.proofs.Common.{ap, subst, sym, ◌∙◌}
-use Rattle.odb_asks.specs.Streams.{Streams}
+use Rattle.odb_disk.specs.Streams.{Streams}
 use Rattle.walkdir.specs.Failures.{Costs, failures_among}
 use Rattle.walkdir.proofs.HandlesLemmas.{err_is}
 use Rattle.walkdir.proofs.ReadLemmas.{drawn_removed}

@@ -1,6 +1,6 @@
 use Rattle.std.proofs.Common.{◌≤◌, ◌∙◌, ℕ, List, ap, length, subst, sym}
-use Rattle.gix_odb_slots.specs.Counts.{listed_in}
-use Rattle.gix_odb_slots.specs.Tally.{tally_of}
+use Rattle.gix_odb_core.specs.Counts.{listed_in}
+use Rattle.gix_odb_core.specs.Tally.{tally_of}
 use Rattle.gix_odb_core.proofs.MetricsLemmas.{metrics_from}
 use Rattle.gix_odb_core.proofs.shape.Shape.metrics.Goals as goal
 

@@ -2,7 +2,7 @@ use Rattle.std.proofs.Common.{◌≡◌, All, List, map, ap, sym, subst, ◌∙�
 use Rattle.std.proofs.lemmas.Option.{IfSome_then}
 use Rattle.std.specs.List.{zip}
 use Rattle.gix_odb_core.proofs.RoomLemmas.{length-after, turn-stands, with_room-from}
-use Rattle.gix_odb_slots.specs.Publish.{list_after, new_rows, settled, with_taken}
+use Rattle.gix_odb_core.specs.Publish.{list_after, new_rows, settled, with_taken}
 use Rattle.gix_odb_events.specs.Slots.{Slot, HasFewPacks}
 use Rattle.gix_odb_core.specs.Turn.{publish_turn}
 use Rattle.gix_odb_core.proofs.shape.Shape.publish_with_room.Goals as goal

@@ -1,5 +1,5 @@
 use Rattle.std.proofs.Common.{true, inl, inr, refl}
-use Rattle.odb_asks.specs.declared.ask.DiskAsk.TheVariants as asks
+use Rattle.odb_disk.specs.declared.ask.DiskAsk.TheVariants as asks
 use Rattle.gix_odb_loose.specs.LooseOrder.Answered.{tested_by}
 use Rattle.gix_odb_loose.proofs.AskedLemmas.{asked_at, unasked, want_of_memory}
 use Rattle.gix_odb_loose.proofs.RunLemmas.{test_answers, test_cause}

@@ -1,5 +1,5 @@
 use Rattle.std.proofs.Common.{Some, None, Ok, Err, inr, refl}
-use Rattle.odb_asks.specs.declared.ask.DiskAsk.TheVariants as asks
+use Rattle.odb_disk.specs.declared.ask.DiskAsk.TheVariants as asks
 use Rattle.gix_odb_loose.specs.Answers.{put_in}
 use Rattle.gix_odb_loose.proofs.AskedLemmas.{asked_at, find_asked, found_at, put_none, unasked, want_of_memory}
 use Rattle.gix_odb_loose.proofs.RunLemmas.{find_answers, find_cause}

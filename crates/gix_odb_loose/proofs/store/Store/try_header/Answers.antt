@@ -1,5 +1,5 @@
 use Rattle.std.proofs.Common.{inl, inr, refl}
-use Rattle.odb_asks.specs.declared.ask.DiskAsk.TheVariants as asks
+use Rattle.odb_disk.specs.declared.ask.DiskAsk.TheVariants as asks
 use Rattle.gix_odb_loose.specs.LooseOrder.Answered.{header_by}
 use Rattle.gix_odb_loose.proofs.AskedLemmas.{asked_at, unasked, want_of_memory}
 use Rattle.gix_odb_loose.proofs.RunLemmas.{header_answers, header_cause}

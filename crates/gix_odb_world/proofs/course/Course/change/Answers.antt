@@ -2,12 +2,12 @@ use Rattle.std.proofs.Common.{Result, subst}
 use Rattle.std.specs.Prelude.{IfOk}
 use Rattle.std.specs.Result.{result_err}
 use Rattle.std.proofs.lemmas.Result.{on_ok_weaker}
-use Rattle.odb_nodes.specs.Tree.{tree_of}
-use Rattle.odb_nodes.specs.Tree.Change.{changed}
+use Rattle.odb_disk.specs.Tree.{tree_of}
+use Rattle.odb_disk.specs.Tree.Change.{changed}
 use Rattle.gix_odb_calls.specs.declared.step.Step.TheVariants as steps
 use Rattle.gix_odb_calls.specs.declared.step.Why.{Why}
-use Rattle.gix_odb_shown.specs.Revealed.{IsRevealed}
-use Rattle.gix_odb_shown.specs.declared.revealed.Revealed.{Revealed}
+use Rattle.gix_odb_watch.specs.Revealed.{IsRevealed}
+use Rattle.gix_odb_watch.specs.declared.revealed.Revealed.{Revealed}
 use Rattle.gix_odb_world.specs.Table.{IsReasonNow}
 use Rattle.gix_odb_world.proofs.FitsLemmas.{fits_now}
 use Rattle.gix_odb_world.proofs.StepLemmas.{misused_for}

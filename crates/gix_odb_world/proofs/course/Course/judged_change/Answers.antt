@@ -1,6 +1,6 @@
 use Rattle.std.proofs.Common.{◌≡◌, true, sym, ◌∙◌, subst}
-use Rattle.odb_nodes.specs.Tree.Change.{is_possible_in}
-use Rattle.odb_nodes.proofs.TreeLemmas.Changed.{is_possible-tree_of}
+use Rattle.odb_disk.specs.Tree.Change.{is_possible_in}
+use Rattle.odb_disk.proofs.TreeLemmas.Changed.{is_possible-tree_of}
 use Rattle.gix_odb_world.proofs.course.Course.judged_change.Goals as goal
 
 -- the disk and its tree agree on which changes are possible

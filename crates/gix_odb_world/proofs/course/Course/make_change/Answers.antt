@@ -1,7 +1,7 @@
 use Rattle.std.proofs.lemmas.Result.{on_ok_weaker}
-use Rattle.odb_nodes.specs.Tree.{Tree, tree_of}
-use Rattle.odb_nodes.specs.Tree.Change.{changed}
-use Rattle.gix_odb_shown.specs.Kept.{Fits}
+use Rattle.odb_disk.specs.Tree.{Tree, tree_of}
+use Rattle.odb_disk.specs.Tree.Change.{changed}
+use Rattle.gix_odb_watch.specs.Kept.{Fits}
 use Rattle.gix_odb_world.proofs.FitsLemmas.{fits_now}
 use Rattle.gix_odb_world.proofs.StepLemmas.{made_change, no_second}
 use Rattle.gix_odb_world.proofs.course.Course.make_change.Goals as goal

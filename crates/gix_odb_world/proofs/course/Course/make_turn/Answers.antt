@@ -1,12 +1,12 @@
 use Rattle.std.proofs.Common.{◌≡◌, [], ◌∷◌, ◌++◌, None, refl, sym, ap, ◌∙◌, subst, Vec, Global}
 use Rattle.std.proofs.lemmas.Result.{on_ok_weaker}
-use Rattle.odb_asks.specs.MemDisk.{Volume}
+use Rattle.odb_disk.specs.MemDisk.{Volume}
 use Rattle.gix_odb_core.specs.History.{History}
 use Rattle.gix_odb_calls.specs.declared.step.Outcome.TheVariants.{Misuse}
 use Rattle.gix_odb_calls.specs.declared.step.Step.TheVariants as steps
 use Rattle.gix_odb_world.specs.declared.course.Course.{Course}
-use Rattle.gix_odb_runs.specs.declared.record.Did.TheVariants.{Nothing}
-use Rattle.gix_odb_runs.specs.Run.{change_asked}
+use Rattle.gix_odb_history.specs.declared.record.Did.TheVariants.{Nothing}
+use Rattle.gix_odb_history.specs.Run.{change_asked}
 use Rattle.gix_odb_world.specs.Headline.{outcome_of}
 use Rattle.gix_odb_world.specs.Table.{CanHappenAt, Notes, ask_by_handle}
 use Rattle.gix_odb_world.specs.WorkOrder.{result_in}

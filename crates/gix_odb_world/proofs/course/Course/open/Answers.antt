@@ -2,7 +2,7 @@ use Rattle.std.proofs.Common.{◌≡◌, ◌∷◌, false, sym, subst}
 use Rattle.std.proofs.lemmas.Result.{on_ok_weaker}
 use Rattle.gix_odb_calls.specs.declared.step.Step.TheVariants as steps
 use Rattle.gix_odb_calls.specs.declared.step.Why.TheVariants.{BadOpen}
-use Rattle.gix_odb_shown.specs.Kept.{Fits}
+use Rattle.gix_odb_watch.specs.Kept.{Fits}
 use Rattle.gix_odb_world.specs.Handle.{Begins}
 use Rattle.gix_odb_world.specs.Table.{phase_of_handle}
 use Rattle.gix_odb_world.specs.Valid.{is_openable}

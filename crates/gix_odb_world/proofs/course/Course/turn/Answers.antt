@@ -2,10 +2,10 @@ use Rattle.std.proofs.Common.{◌≡◌, Result, subst}
 use Rattle.std.specs.Prelude.{IfOk}
 use Rattle.std.specs.Result.{result_err}
 use Rattle.std.proofs.lemmas.Result.{on_ok_weaker}
-use Rattle.odb_nodes.specs.Tree.{tree_of}
+use Rattle.odb_disk.specs.Tree.{tree_of}
 use Rattle.gix_odb_calls.specs.declared.step.Step.TheVariants as steps
 use Rattle.gix_odb_calls.specs.declared.step.Why.{Why}
-use Rattle.gix_odb_runs.specs.Run.{change_asked}
+use Rattle.gix_odb_history.specs.Run.{change_asked}
 use Rattle.gix_odb_world.specs.Table.{IsReasonNow, ask_by_handle, would_change_now}
 use Rattle.gix_odb_world.specs.Watch.{TellsChange}
 use Rattle.gix_odb_world.specs.World.{handle_at}

@@ -1,10 +1,10 @@
 use Rattle.std.proofs.Common.{List, Option, Result, Ok, Err}
 use Rattle.std.specs.Result.{IfOk}
-use Rattle.odb_asks.specs.MemDisk.{Volume}
+use Rattle.odb_disk.specs.MemDisk.{Volume}
 use Rattle.gix_odb_calls.specs.declared.step.Step.{Step}
 use Rattle.gix_odb_calls.specs.declared.step.Why.{Why}
 use Rattle.gix_odb_world.specs.declared.course.Course.{Course}
-use Rattle.gix_odb_runs.specs.Event.{Event}
+use Rattle.gix_odb_history.specs.Event.{Event}
 use Rattle.gix_odb_world.specs.Table.{IsReasonNow}
 use Rattle.gix_odb_world.specs.Valid.{IsReason}
 use Rattle.gix_odb_world.specs.World.{Explains}

@@ -1,6 +1,6 @@
 use Rattle.std.proofs.Common.{◌≡◌, ◌∙◌, ap, false, Option, Some, None, is_some, refl}
-use Rattle.odb_asks.specs.Streams.{Streams, still_gives, with_opened}
-use Rattle.odb_asks.proofs.StreamsLemmas.{gives_opened}
+use Rattle.odb_disk.specs.Streams.{Streams, still_gives, with_opened}
+use Rattle.odb_disk.proofs.StreamsLemmas.{gives_opened}
 use Rattle.odb_host.proofs.host_disk.HostDisk.open.Goals as goal
 
 -- a number that no open stream has gives nothing

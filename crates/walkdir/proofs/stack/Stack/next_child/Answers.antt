@@ -1,6 +1,6 @@
 -- What was already read of a directory is taken from its front.
 use Rattle.std.proofs.Common.{◌≡◌, ◌+◌, ◌<◌, ◌≤◌, None, ap, length, length-set, refl, reverse, set, subst, suc, sym, ◌∙◌, arith}
-use Rattle.odb_asks.specs.Streams.{Streams}
+use Rattle.odb_disk.specs.Streams.{Streams}
 use Rattle.walkdir.specs.Progress.{Keeps, Progress}
 use Rattle.walkdir.specs.Directory.{held, left_in, stream_in}
 use Rattle.walkdir.specs.StackProgress.{progress}

@@ -3,7 +3,7 @@ use Rattle.std.proofs.Common.{◌≡◌, ◌+◌, ◌<◌, ◌≤◌, IfSome, Ok
 use lib.ListN.{length-reverse}
 use Rattle.std.specs.Option.{option_map}
 use Rattle.std.specs.Result.{is_ok}
-use Rattle.odb_asks.specs.Streams.{Streams, open_count}
+use Rattle.odb_disk.specs.Streams.{Streams, open_count}
 use Rattle.walkdir.specs.Entry.{is_dir}
 use Rattle.walkdir.specs.Failures.{Costs, failures_left}
 use Rattle.walkdir.specs.Progress.{Progress}

@@ -1,9 +1,9 @@
 -- The device and then the root are statted, and the root is handled.
 use Rattle.std.proofs.Common.{◌≡◌, false, Ok, Err, [], ap, length, refl, reverse, subst, sym, ◌∙◌}
 use Rattle.std.specs.Prelude.{IfSome}
-use Rattle.odb_nodes.specs.Tree.{tree_of}
-use Rattle.odb_nodes.specs.Tree.Follow.{looked}
-use Rattle.odb_nodes.specs.declared.meta.Meta.{Meta}
+use Rattle.odb_disk.specs.Tree.{tree_of}
+use Rattle.odb_disk.specs.Tree.Follow.{looked}
+use Rattle.odb_disk.specs.declared.meta.Meta.{Meta}
 use Rattle.walkdir.specs.Answered.{IsItemTold, IsRefusedAt}
 use Rattle.walkdir.specs.EnteredTurns.{BeginsTelling, HandlesAbove, HandlesTelling}
 use Rattle.walkdir.specs.Innermost.{IsAfter}

@@ -1,7 +1,7 @@
 -- The directories that are not left yet have their streams, which are still the walk's own.
 use Rattle.std.proofs.Common.{◌≡◌, None, false, length}
-use Rattle.odb_asks.specs.CallsMade.{Leads}
-use Rattle.odb_asks.specs.Streams.{Streams}
+use Rattle.odb_disk.specs.CallsMade.{Leads}
+use Rattle.odb_disk.specs.Streams.{Streams}
 use Rattle.walkdir.specs.Progress.{Keeps}
 use Rattle.walkdir.specs.StackProgress.{progress}
 use Rattle.walkdir.proofs.stack.StackSteps.end.Given as goal

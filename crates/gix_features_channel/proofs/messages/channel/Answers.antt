@@ -1,0 +1,5 @@
+use Rattle.gix_features_channel.proofs.EndsLemmas.{begins}
+use Rattle.gix_features_channel.proofs.messages.channel.Goals as goal
+
+pub bounded_with-requires-clause-rule : goal.bounded_with-requires-clause-rule
+bounded_with-requires-clause-rule g c = begins _ tt

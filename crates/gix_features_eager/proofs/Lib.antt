@@ -1,2 +1,0 @@
-mod EagerLemmas
-mod SendLemmas

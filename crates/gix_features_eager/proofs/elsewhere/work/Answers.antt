@@ -1,9 +1,0 @@
-use Rattle.gix_features_channels.proofs.EndsLemmas.{takes, rests}
-use Rattle.gix_features_eager.proofs.EagerLemmas.{first_taken}
-use Rattle.gix_features_eager.proofs.elsewhere.work.Goals as goal
-
-pub recv_as-requires-clause-rule : goal.recv_as-requires-clause-rule
-recv_as-requires-clause-rule g c = (takes _ _ _ c.requires.takes, rests _ _ _ c.requires.takes)
-
-pub run-requires : goal.run-requires
-run-requires g c = first_taken g.K.Task.can_begin _ _ c.requires.none c.in-Ok.ensures.rule.1

@@ -1,5 +1,0 @@
-use Rattle.gix_features_channels.proofs.EndsLemmas.{begins}
-use Rattle.gix_features_messages.proofs.messages.channel.Goals as goal
-
-pub bounded_with-requires-clause-rule : goal.bounded_with-requires-clause-rule
-bounded_with-requires-clause-rule g c = begins _ tt

@@ -1,2 +1,0 @@
-pub mod PipeLemmas
-pub mod PipeLaws

@@ -1,5 +1,0 @@
-mod ChunkLemmas
-mod PackRowLemmas
-mod NameLemmas
-mod PartLemmas
-mod ReadLemmas

@@ -1,6 +1,0 @@
-mod MultiIndexExamples
-mod PlacedPackRowLemmas
-mod WrittenMultiIndexLemmas
-mod WrittenChunkLemmas
-mod WrittenPartsLemmas
-mod ReadMultiIndexLemmas

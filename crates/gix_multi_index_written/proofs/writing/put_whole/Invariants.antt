@@ -1,6 +1,0 @@
-use Rattle.std.proofs.Common.{◌≡◌, ◌++◌, drop}
-use Rattle.gix_multi_index_written.proofs.WrittenMultiIndexLemmas.Loops.{wholes}
-use Rattle.gix_multi_index_written.proofs.writing.put_whole.Given as goal
-
-abbrev pub invariant-loop-row : goal.invariant-loop-row
-invariant-loop-row l = l.list ++ wholes (drop l.row-index l.rows) ≡ l.initial.list ++ wholes l.rows

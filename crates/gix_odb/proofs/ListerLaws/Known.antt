@@ -1,0 +1,152 @@
+-- A listing of the folders of packs has only rows of indices of the folders.
+use Rattle.std.proofs.Common.{◌≡◌, ◌++◌, ℕ, List, [], ◌∷◌, All, Contains, slice_get, Option, Some, None, refl, ap}
+use Rattle.std.proofs.lemmas.Bool.{and_parts}
+use Rattle.std.proofs.lemmas.List.Elements.{All-head, All-nil, All-push, All-tail}
+use Rattle.odb_base.specs.Path.{Path}
+use Rattle.odb_disk.specs.declared.disk_error.DiskError.TheVariants as disk_errors
+use Rattle.odb_disk.specs.declared.entry.Entry.{Entry}
+use Rattle.odb_disk.specs.declared.meta.Kind.{Kind}
+use Rattle.odb_disk.specs.declared.meta.Kind.TheVariants as kinds
+use Rattle.odb_disk.specs.declared.meta.Meta.{Meta}
+use Rattle.odb_disk.specs.declared.ask.DiskAnswer.{DiskAnswer}
+use Rattle.odb_disk.specs.declared.ask.DiskAnswer.TheVariants as answers
+use Rattle.gix_odb_events.specs.declared.listing.ListingRow.{ListingRow}
+use Rattle.gix_odb_search.specs.ListOrder.{at_paths, behind_folder, by_index, by_kind, by_pack, by_pack_kind, fed, fed_at, more, opened, read, row_of}
+use Rattle.gix_odb_search.specs.ListOrder.{started, with_row}
+use Rattle.gix_odb_search.specs.PackFolder.{firsts, index_paths, is_file, is_index_entry, is_index_name, pack_folder}
+use Rattle.gix_odb_search.specs.declared.lister.ListHead.{ListHead}
+use Rattle.gix_odb_search.specs.declared.lister.ListStage.{ListStage}
+use Rattle.gix_odb_search.specs.declared.lister.ListStage.TheVariants as stages
+use Rattle.gix_odb_search.specs.declared.lister.ListStep.{ListStep}
+use Rattle.gix_odb_search.specs.declared.lister.ListStep.TheVariants as steps
+use Rattle.gix_odb_search.specs.declared.lister.Lister.{Lister}
+use Rattle.gix_odb.specs.Store.{Setting}
+use Rattle.gix_odb.specs.Shown.{IsIndexPath, IsIndexRow, folders_of}
+use Rattle.gix_odb.proofs.ListerLaws.Lists.{all_kept, all_longest_first, at_place, has_first, has_later}
+
+module _ (setting : Setting) where
+  -- the folder of packs of one of the folders is listed, and the rows are of indices
+  pub record KnowsListHead (head : ListHead) : Type 0 where
+    pub folder : Path
+    pub among : Contains (folders_of setting) folder
+    pub is : head.folder ≡ pack_folder folder
+    pub rows : All (IsIndexRow setting) head.rows
+
+  abbrev pub KnowsListStage : ListStage → Type 0
+  KnowsListStage (stages.Index path left) = IsIndexPath setting path × All (IsIndexPath setting) left
+  KnowsListStage (stages.Pack row left) = IsIndexRow setting row × All (IsIndexPath setting) left
+  KnowsListStage stage = Unit {0}
+
+  pub record KnowsLister (lister : Lister) : Type 0 where
+    pub head : KnowsListHead lister.head
+    pub stage : KnowsListStage lister.stage
+
+  abbrev pub KnowsListStep : ListStep → Type 0
+  KnowsListStep (steps.More lister) = KnowsLister lister
+  KnowsListStep (steps.Listed listing) = All (IsIndexRow setting) listing.rows
+  KnowsListStep steps.Broken = Unit {0}
+
+-- ---- what goes on
+
+module _ (setting : Setting) where
+  abbrev Knows : ListStep → Type 0
+  Knows step = KnowsListStep setting step
+
+  -- the indices among the entries of a folder of packs
+  indices_known : (head : ListHead) (entries : List Entry) → KnowsListHead setting head → All (IsIndexPath setting) (index_paths head.folder entries)
+  indices_known head entries known =
+      all_kept (IsIndexPath setting) (λ entry. head.folder ++ entry.name ∷ []) is_index_entry
+      (λ entry passes. record {
+        folder = known.folder;
+        among = known.among;
+        name = entry.name;
+        named = (and_parts (is_file entry.kind) (is_index_name entry.name) passes).1;
+        is = ap (λ (folder : Path). folder ++ entry.name ∷ []) known.is;
+      })
+      (firsts entries)
+
+  pub started_known : (base : ℕ) → KnowsLister setting (started setting.objects base)
+  started_known base = record {
+    head = record {
+      folder = setting.objects;
+      among = has_first setting.objects setting.folders;
+      is = refl;
+      rows = All-nil (IsIndexRow setting);
+    };
+    stage = tt;
+  }
+
+  module _ (head : ListHead) (known : KnowsListHead setting head) where
+    more_known : (stage : ListStage) → KnowsListStage setting stage → Knows (more head stage)
+    more_known stage here = record { head = known; stage = here }
+
+    behind_known : (next : Option Path) → slice_get setting.folders head.next ≡ next → Knows (behind_folder head next)
+    behind_known None is = all_longest_first (IsIndexRow setting) head.rows known.rows
+    behind_known (Some folder) is = record {
+      head = record {
+        folder = folder;
+        among = has_later setting.objects setting.folders folder (at_place setting.folders head.next folder is);
+        is = refl;
+        rows = known.rows;
+      };
+      stage = tt;
+    }
+
+    paths_known : (paths : List Path) → All (IsIndexPath setting) paths → Knows (at_paths setting.folders head paths)
+    paths_known [] all = behind_known (slice_get setting.folders head.next) refl
+    paths_known (path ∷ left) all =
+        more_known (stages.Index path left) (All-head (IsIndexPath setting) path left all, All-tail (IsIndexPath setting) path left all)
+
+    opened_known : (answer : DiskAnswer) → Knows (opened setting.folders head answer)
+    opened_known (answers.Dir dir) = more_known (stages.Reading dir []) tt
+    opened_known (answers.Refused disk_errors.Absent) = behind_known (slice_get setting.folders head.next) refl
+    opened_known answer = tt
+
+    read_known : (dir : ℕ) (entries : List Entry) (answer : DiskAnswer) → Knows (read head dir entries answer)
+    read_known dir entries (answers.Entry entry) = more_known (stages.Reading dir (entries ++ entry ∷ [])) tt
+    read_known dir entries answers.End = more_known (stages.Closing dir entries) tt
+    read_known dir entries answer = more_known (stages.Breaking dir) tt
+
+    kind_known : (path : Path) (left : List Path) (meta : Meta) (kind : Kind) → IsIndexPath setting path → All (IsIndexPath setting) left
+        → Knows (by_kind setting.folders head path left meta kind)
+    kind_known path left meta kinds.File here rest = more_known (stages.Pack (row_of path meta) left) (record { at = here; single = refl }, rest)
+    kind_known path left meta kind here rest = paths_known left rest
+
+    index_known : (path : Path) (left : List Path) (answer : DiskAnswer) → IsIndexPath setting path → All (IsIndexPath setting) left
+        → Knows (by_index setting.folders head path left answer)
+    index_known path left (answers.Meta meta) here rest = kind_known path left meta meta.kind here rest
+    index_known path left (answers.Refused disk_errors.Failed) here rest = tt
+    index_known path left answer here rest = paths_known left rest
+
+  with_row_known : (head : ListHead) (row : ListingRow) → KnowsListHead setting head → IsIndexRow setting row → KnowsListHead setting (with_row head row)
+  with_row_known head row known here = record {
+    folder = known.folder;
+    among = known.among;
+    is = known.is;
+    rows = All-push (IsIndexRow setting) head.rows row known.rows here;
+  }
+
+  pack_kind_known : (head : ListHead) (row : ListingRow) (left : List Path) (kind : Kind) → KnowsListHead setting head → IsIndexRow setting row
+      → All (IsIndexPath setting) left
+      → Knows (by_pack_kind setting.folders head row left kind)
+  pack_kind_known head row left kinds.File known here rest = paths_known (with_row head row) (with_row_known head row known here) left rest
+  pack_kind_known head row left kind known here rest = paths_known head known left rest
+
+  pack_known : (head : ListHead) (row : ListingRow) (left : List Path) (answer : DiskAnswer) → KnowsListHead setting head → IsIndexRow setting row
+      → All (IsIndexPath setting) left
+      → Knows (by_pack setting.folders head row left answer)
+  pack_known head row left (answers.Meta meta) known here rest = pack_kind_known head row left meta.kind known here rest
+  pack_known head row left (answers.Refused disk_errors.Failed) known here rest = tt
+  pack_known head row left answer known here rest = paths_known head known left rest
+
+  stage_known : (head : ListHead) (stage : ListStage) (answer : DiskAnswer) → KnowsListHead setting head → KnowsListStage setting stage
+      → Knows (fed_at setting.folders head stage answer)
+  stage_known head stages.Opening answer known here = opened_known head known answer
+  stage_known head (stages.Reading dir entries) answer known here = read_known head known dir entries answer
+  stage_known head (stages.Closing dir entries) answer known here = paths_known head known (index_paths head.folder entries) (indices_known head entries known)
+  stage_known head (stages.Breaking dir) answer known here = tt
+  stage_known head (stages.Index path left) answer known here = index_known head known path left answer here.0 here.1
+  stage_known head (stages.Pack row left) answer known here = pack_known head row left answer known here.0 here.1
+
+  pub fed_known : (lister : Lister) (answer : DiskAnswer) → KnowsLister setting lister → Knows (fed setting.folders lister answer)
+  fed_known lister answer known = stage_known lister.head lister.stage answer known.head known.stage

@@ -1,0 +1,41 @@
+-- The loose objects of the folders are asked.
+use Rattle.std.specs.Prelude.{◌+◌, true, false, slice_get, Option, Some, None}
+use Rattle.gix_odb_calls.specs.Verdict.{asking}
+use Rattle.gix_odb_calls.specs.declared.verdict.Verdict.{Verdict}
+use Rattle.gix_odb_calls.specs.declared.verdict.Verdict.TheVariants as verdicts
+use Rattle.gix_odb.specs.declared.look_up.LookHead.{LookHead}
+use Rattle.gix_odb.specs.declared.look_up.LookStage.{LookStage}
+use Rattle.gix_odb.specs.declared.look_up.LookStage.TheVariants as stages
+use Rattle.gix_odb.specs.declared.look_up.LooseRound.{LooseRound}
+use Rattle.gix_odb.specs.declared.look_up.Part.{Part}
+use Rattle.gix_odb.specs.declared.look_up.Part.TheVariants as parts
+use Rattle.gix_odb.specs.declared.look_up.Purpose.TheVariants as purposes
+use Rattle.gix_odb.specs.declared.refresh.Refresh.TheVariants as fronts
+use Rattle.gix_odb_search.specs.declared.search.Notes.{Notes}
+use Rattle.odb_base.specs.Path.{Path}
+use Rattle.gix_odb.specs.LookUpOrder.Store.{Setting}
+use Rattle.gix_odb.specs.LookUpOrder.Listing.{listing_from}
+
+-- the loose objects of the first folder are asked
+abbrev pub loose_from : Setting → LookHead → Part → Notes → LookStage
+loose_from setting head part notes =
+    stages.Loose (record { next = 0; notes = notes; part = part }) (asking setting.limit head.want head.id setting.objects)
+
+-- behind the loose folders: the core's list, a listing, or a look at whether the list that was tried is still the newest
+abbrev pub after_loose : Setting → Part → Notes → LookStage
+after_loose setting parts.Snapshot notes = stages.Refreshing fronts.Reading (purposes.First false) notes
+after_loose setting (parts.List list_no loose) notes = listing_from setting list_no notes
+after_loose setting (parts.Published list_no) notes = stages.Checking list_no notes
+
+-- the next folder is asked; behind the last one the look-up goes on
+abbrev pub at_folder : Setting → LookHead → LooseRound → Option Path → LookStage
+at_folder setting head round None = after_loose setting round.part round.notes
+at_folder setting head round (Some folder) =
+    stages.Loose (record round { next = round.next + 1 }) (asking setting.limit head.want head.id folder)
+
+-- behind what a folder says: the reply, the next folder, or that folder with the failed look noted
+abbrev pub by_verdict : Setting → LookHead → LooseRound → Verdict → LookStage
+by_verdict setting head round (verdicts.Ends reply) = stages.Done reply
+by_verdict setting head round verdicts.Misses = at_folder setting head round (slice_get setting.folders round.next)
+by_verdict setting head round (verdicts.Notes error) =
+    at_folder setting head (record round { notes = record round.notes { failed = true } }) (slice_get setting.folders round.next)

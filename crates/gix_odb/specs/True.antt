@@ -1,0 +1,34 @@
+-- What true exchanges with a disk and a core say.
+use Rattle.std.specs.Prelude.{◌≡◌, ℕ, List, Contains, Some}
+use Rattle.odb_base.specs.Path.{Path}
+use Rattle.odb_disk.specs.declared.ask.DiskAnswer.{DiskAnswer}
+use Rattle.odb_disk.specs.declared.ask.DiskAnswer.TheVariants as disk_answers
+use Rattle.odb_disk.specs.declared.ask.DiskAsk.{DiskAsk}
+use Rattle.odb_disk.specs.declared.ask.DiskAsk.TheVariants as disk_asks
+use Rattle.gix_hash.specs.declared.kind.Kind.{Kind}
+use Rattle.gix_odb_events.specs.declared.view.View.{View}
+use Rattle.gix_odb_events.specs.declared.answer.Answer.{Answer}
+use Rattle.gix_odb_events.specs.declared.answer.Answer.TheVariants as told
+use Rattle.gix_odb_events.specs.declared.answer.Ask.{Ask}
+use Rattle.gix_odb_events.specs.declared.answer.Ask.TheVariants as asks
+use Rattle.gix_odb.specs.LookExchanges.{Exchange, IsAnswerTo}
+use Rattle.gix_odb.specs.LookUpOrder.{Setting, view_of}
+use Rattle.gix_odb.specs.Shown.{IsShownView}
+pub use Rattle.gix_odb.specs.Suited.{IsRefusal, Suits}
+
+-- Here `Shown path bytes` says that a file with these bytes was shown at this path since the store was opened.
+module _ (Shown : Path → List ℕ → Type 0) (setting : Setting) (hash : Kind) where
+  -- a file that was read was shown
+  abbrev ShowsRead : DiskAsk → DiskAnswer → Type 0
+  ShowsRead (disk_asks.Read path) (disk_answers.File bytes time) = Shown path bytes
+  ShowsRead ask answer = Unit {0}
+
+  -- an exchange is true, which no answer of another kind than its ask is
+  abbrev pub IsTrue : Ask → Answer → Type 0
+  IsTrue (asks.Disk ask) (told.Disk answer) = Suits ask answer × ShowsRead ask answer
+  IsTrue (asks.Core event) (told.Core answer) = (view : View) → view_of (told.Core answer) ≡ Some view → IsShownView Shown setting hash view
+  IsTrue (asks.NewCore slots folders) (told.Core answer) = (view : View) → view_of (told.Core answer) ≡ Some view → IsShownView Shown setting hash view
+  IsTrue ask answer = IsAnswerTo ask answer
+
+  abbrev pub AreTrue : List Exchange → Type 0
+  AreTrue exchanges = (exchange : Exchange) → Contains exchanges exchange → IsTrue exchange.ask exchange.answer

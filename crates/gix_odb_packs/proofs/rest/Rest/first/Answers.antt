@@ -1,5 +1,0 @@
-use Rattle.gix_odb_packs.proofs.RestLemmas.{first_left}
-use Rattle.gix_odb_packs.proofs.rest.Rest.first.Goals as goal
-
-pub returns : goal.returns
-returns g c = let left = first_left c.self.inside.list c.self.inside.next in record { first = cc }

@@ -1,7 +1,0 @@
-use Rattle.std.proofs.Common.{◌≡◌, length, subst, sym, ◌∙◌}
-use Rattle.gix_odb_core.specs.History.{History, present}
-use Rattle.gix_odb_runs.proofs.kept_core.KeptCore.left.Goals as goal
-
-pub invariant_of-result : goal.invariant_of-result
-invariant_of-result c =
-    subst (λ (h : History). length (present h).handles ≡ 0) (sym (c.into_remains.ensures.same ∙ c.into_inner.ensures)) c.requires.none

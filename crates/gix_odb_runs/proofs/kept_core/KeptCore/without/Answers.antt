@@ -1,6 +1,0 @@
-use Rattle.gix_odb_runs.proofs.KeptCoreLemmas.{whole_if_registered}
-use Rattle.gix_odb_runs.proofs.kept_core.KeptCore.without.Goals as goal
-
-pub unreachable-requires : goal.unreachable-requires
-unreachable-requires c =
-    whole_if_registered c.self.inside.state c.args.self _ c.args.seat c.self.view_is c.self.invariant c.in-Left.is c.requires.registered

@@ -1,0 +1,411 @@
+//! The folders of packs are listed, one after another.
+ghost use Rattle.std.specs.Prelude.{◌≡◌, [], IfOk, OnOk, slice_get, true};
+ghost use Rattle.gix_odb_search.specs.ListOrder.{ask_of, at_paths, behind_folder, by_index, by_pack, closed, fed_at, opened, read, started, with_row};
+ghost use Rattle.gix_odb_search.specs.ListOrder as order;
+
+use crate::folders::{PathList, index_paths, pack_folder};
+use crate::longest_first::longest_first;
+use crate::rest::Rest;
+use gix_odb_events::{Listing, ListingRow, ListingRowList, Shared, pack_path};
+use odb_base::{NoMemory, PathText, Sequence};
+use odb_disk::{DirId, DiskAnswer, DiskAsk, DiskError, Entry, Kind};
+use std::alloc::Global;
+
+/// The state of a listing of the folders of packs.
+///
+/// `ask` names the next call of the disk, `feed` takes its answer.
+#[derive(Drop)]
+pub struct Lister {
+    head: ListHead,
+    stage: ListStage,
+}
+
+/// How far a listing has come.
+#[derive(Drop)]
+pub struct ListHead {
+    /// The number of the list that was the newest when the listing began.
+    base: u64,
+    /// The folder of packs that is listed.
+    folder: PathText,
+    /// The place of the folder that comes next, among those besides the objects directory.
+    next: usize,
+    /// The rows that were found.
+    rows: ListingRowList,
+}
+
+/// The entries of a stream, in its order.
+pub type EntryList = Sequence<Entry>;
+
+/// The stage of a listing in its folder.
+#[derive(Drop)]
+pub enum ListStage {
+    /// The folder is to be opened.
+    Opening,
+    /// Its stream is read.
+    Reading {
+        dir: DirId,
+        entries: EntryList,
+    },
+    /// The stream was read to its end, and is to be closed.
+    Closing {
+        dir: DirId,
+        entries: EntryList,
+    },
+    /// A call failed, and the stream is to be closed.
+    Breaking {
+        dir: DirId,
+    },
+    /// An index is to be statted; the others are left.
+    Index {
+        path: PathText,
+        left: Rest<PathText>,
+    },
+    /// The pack of an index is to be statted.
+    Pack {
+        row: ListingRow,
+        left: Rest<PathText>,
+    },
+}
+
+/// The result of a step of a listing.
+#[derive(Drop)]
+pub enum ListStep {
+    /// It goes on.
+    More(Lister),
+    /// All folders were listed: the rows come in the order in which they are tried.
+    Listed(Listing),
+    /// A call failed, or a folder of packs is no directory.
+    Broken,
+}
+
+impl Lister {
+    /// Returns a new listing after the list of a number, which begins with the objects directory.
+    pub fn start(alloc: Global, objects: &PathText, base: u64) -> Result<Lister, NoMemory>
+        ensures begun { IfOk result (λ lister. lister ≡ started objects.now base) }
+    {
+        Ok(Lister {
+            head: ListHead {
+                base,
+                folder: pack_folder(alloc, objects)?,
+                next: 0,
+                rows: ListingRowList::new(alloc),
+            },
+            stage: ListStage::Opening,
+        })
+    }
+
+    /// Returns the folder of packs that is listed: the calls on its stream have no path of their own.
+    pub fn folder(&self) -> &PathText
+        ensures folder { result.now ≡ self.now.head.folder }
+    {
+        &self.head.folder
+    }
+
+    /// Returns the call of the disk that comes next.
+    pub fn ask(&self, alloc: Global) -> Result<DiskAsk, NoMemory>
+        ensures asked { IfOk result (λ ask. ask ≡ ask_of self.now) }
+    {
+        match &self.stage {
+            ListStage::Opening => open_of(alloc, &self.head.folder),
+            ListStage::Reading { dir, .. } => Ok(DiskAsk::NextEntry { dir: *dir }),
+            ListStage::Closing { dir, .. } => Ok(DiskAsk::CloseDir { dir: *dir }),
+            ListStage::Breaking { dir } => Ok(DiskAsk::CloseDir { dir: *dir }),
+            ListStage::Index { path, .. } => look_of(alloc, path, false),
+            ListStage::Pack { row, .. } => pack_look(alloc, row),
+        }
+    }
+
+    /// Returns the step after the answer to what was asked for, where these are the folders besides the objects directory.
+    pub fn feed(
+        self,
+        alloc: Global,
+        folders: &[PathText],
+        answer: DiskAnswer,
+    ) -> Result<ListStep, NoMemory>
+        ensures fed { IfOk result (λ listed. listed ≡ order.fed folders.now self answer) }
+    {
+        if let DiskAnswer::Refused(DiskError::NoMemory) = answer {
+            drop(self);
+            return Err(NoMemory);
+        }
+        let Lister { head, stage } = self;
+        fed_at(alloc, folders, head, stage, answer)
+    }
+}
+
+/// Returns the step after the answer to what a stage asked for.
+fn fed_at(
+    alloc: Global,
+    folders: &[PathText],
+    head: ListHead,
+    stage: ListStage,
+    answer: DiskAnswer,
+) -> Result<ListStep, NoMemory>
+    ensures fed { IfOk result (λ listed. listed ≡ fed_at folders.now head stage answer) }
+{
+    match stage {
+        ListStage::Opening => {
+            let step = opened(alloc, folders, head, &answer);
+            drop(answer);
+            step
+        }
+        ListStage::Reading { dir, entries } => read(head, dir, entries, answer),
+        ListStage::Closing { entries, .. } => {
+            drop(answer);
+            closed(alloc, folders, head, entries)
+        }
+        ListStage::Breaking { .. } => {
+            drop(head);
+            drop(answer);
+            Ok(ListStep::Broken)
+        }
+        ListStage::Index { path, left } => {
+            let step = by_index(alloc, folders, head, path, left, &answer);
+            drop(answer);
+            step
+        }
+        ListStage::Pack { row, left } => {
+            let step = by_pack(alloc, folders, head, row, left, &answer);
+            drop(answer);
+            step
+        }
+    }
+}
+
+fn open_of(alloc: Global, folder: &PathText) -> Result<DiskAsk, NoMemory>
+    ensures asks { IfOk result (λ ask. ask ≡ order.open_of folder.now) }
+{
+    let path = folder.try_clone(alloc)?;
+    Ok(DiskAsk::OpenDir { path })
+}
+
+fn look_of(alloc: Global, path: &PathText, follow: bool) -> Result<DiskAsk, NoMemory>
+    ensures asks { IfOk result (λ ask. ask ≡ order.look_of path.now follow) }
+{
+    let path = path.try_clone(alloc)?;
+    Ok(DiskAsk::Look { path, follow })
+}
+
+/// Returns the stat of the pack of an index, links followed.
+fn pack_look(alloc: Global, row: &ListingRow) -> Result<DiskAsk, NoMemory>
+    ensures asks { IfOk result (λ ask. ask ≡ order.look_of (order.pack_of row.now) true) }
+{
+    let path = pack_path(alloc, &row.path)?;
+    Ok(DiskAsk::Look { path, follow: true })
+}
+
+fn more(head: ListHead, stage: ListStage) -> ListStep
+    ensures more { result ≡ order.more head stage }
+{
+    ListStep::More(Lister { head, stage })
+}
+
+/// Lists the next folder, or ends where all are listed.
+fn behind_folder(alloc: Global, folders: &[PathText], head: ListHead) -> Result<ListStep, NoMemory>
+    ensures behind { IfOk result (λ listed. listed ≡ behind_folder head (slice_get folders.now head.next)) }
+{
+    let ListHead {
+        base,
+        folder,
+        next,
+        rows,
+    } = head;
+    drop(folder);
+    let Some(folder) = folders.get(next) else {
+        let rows = longest_first(rows)?;
+        return Ok(ListStep::Listed(Listing { base, rows }));
+    };
+    match pack_folder(alloc, folder) {
+        Ok(folder) => {
+            let head = ListHead {
+                base,
+                folder,
+                next: next + 1,
+                rows,
+            };
+            Ok(more(head, ListStage::Opening))
+        }
+        Err(error) => {
+            drop(rows);
+            Err(error)
+        }
+    }
+}
+
+/// Reads the stream of a folder from its beginning.
+fn reading(alloc: Global, head: ListHead, dir: DirId) -> ListStep
+    ensures reading { result ≡ order.more head (ListStage.Reading dir []) }
+{
+    let entries = EntryList::new(alloc);
+    more(head, ListStage::Reading { dir, entries })
+}
+
+/// Returns the step after a folder was opened. One that isn't there has no packs.
+fn opened(
+    alloc: Global,
+    folders: &[PathText],
+    head: ListHead,
+    answer: &DiskAnswer,
+) -> Result<ListStep, NoMemory>
+    ensures opened { IfOk result (λ listed. listed ≡ opened folders.now head answer.now) }
+{
+    match answer {
+        DiskAnswer::Dir(dir) => Ok(reading(alloc, head, *dir)),
+        DiskAnswer::Refused(DiskError::Absent) => behind_folder(alloc, folders, head),
+        _ => {
+            drop(head);
+            Ok(ListStep::Broken)
+        }
+    }
+}
+
+/// Returns the step after a stream was read.
+fn read(
+    head: ListHead,
+    dir: DirId,
+    mut entries: EntryList,
+    answer: DiskAnswer,
+) -> Result<ListStep, NoMemory>
+    ensures read { IfOk result (λ listed. listed ≡ read head dir entries answer) }
+{
+    match answer {
+        DiskAnswer::Entry(entry) => {
+            entries.push(entry)?;
+            Ok(more(head, ListStage::Reading { dir, entries }))
+        }
+        DiskAnswer::End => Ok(more(head, ListStage::Closing { dir, entries })),
+        _ => Ok(more(head, ListStage::Breaking { dir })),
+    }
+}
+
+/// Returns the step after a stream was closed: the indices among its entries are to be statted.
+fn closed(
+    alloc: Global,
+    folders: &[PathText],
+    head: ListHead,
+    entries: EntryList,
+) -> Result<ListStep, NoMemory>
+    ensures closed { IfOk result (λ listed. listed ≡ closed folders.now head entries) }
+{
+    let paths = index_paths(alloc, &head.folder, entries.as_slice())?;
+    let left = Rest::all(Shared::new(alloc, paths)?);
+    at_paths(alloc, folders, head, left)
+}
+
+/// Stats the next index of the folder, if there is one.
+fn at_paths(
+    alloc: Global,
+    folders: &[PathText],
+    head: ListHead,
+    mut left: Rest<PathText>,
+) -> Result<ListStep, NoMemory>
+    ensures at { IfOk result (λ listed. listed ≡ at_paths folders.now head left) }
+{
+    let Some(path) = left.first() else {
+        drop(left);
+        return behind_folder(alloc, folders, head);
+    };
+    match path.try_clone(alloc) {
+        Ok(path) => {
+            left.advance();
+            Ok(more(head, ListStage::Index { path, left }))
+        }
+        Err(error) => {
+            drop(head);
+            drop(left);
+            Err(error)
+        }
+    }
+}
+
+/// Returns the step after an index was statted: its pack is statted next, where the index is a file itself.
+fn by_index(
+    alloc: Global,
+    folders: &[PathText],
+    head: ListHead,
+    path: PathText,
+    left: Rest<PathText>,
+    answer: &DiskAnswer,
+) -> Result<ListStep, NoMemory>
+    ensures by { IfOk result (λ listed. listed ≡ by_index folders.now head path left answer.now) }
+{
+    match answer {
+        DiskAnswer::Meta(meta) if meta.kind == Kind::File => {
+            let row = ListingRow {
+                path,
+                time: meta.time,
+                len: meta.len,
+                multi: None,
+            };
+            Ok(more(head, ListStage::Pack { row, left }))
+        }
+        DiskAnswer::Refused(DiskError::Failed) => {
+            drop(head);
+            drop(path);
+            drop(left);
+            Ok(ListStep::Broken)
+        }
+        _ => {
+            drop(path);
+            at_paths(alloc, folders, head, left)
+        }
+    }
+}
+
+impl ListHead {
+    /// Adds one row. Running out of memory leaves the rows.
+    fn put(&mut self, row: ListingRow) -> Result<(), NoMemory>
+        ensures put { OnOk result (self.new ≡ with_row self.old row) }
+    {
+        self.rows.push(row)?;
+        Ok(())
+    }
+}
+
+/// Returns the step after the pack of an index was statted: where it leads to a file, the index has its row.
+fn by_pack(
+    alloc: Global,
+    folders: &[PathText],
+    head: ListHead,
+    row: ListingRow,
+    left: Rest<PathText>,
+    answer: &DiskAnswer,
+) -> Result<ListStep, NoMemory>
+    ensures by { IfOk result (λ listed. listed ≡ by_pack folders.now head row left answer.now) }
+{
+    match answer {
+        DiskAnswer::Meta(meta) if meta.kind == Kind::File => {
+            behind_row(alloc, folders, head, row, left)
+        }
+        DiskAnswer::Refused(DiskError::Failed) => {
+            drop(head);
+            drop(row);
+            drop(left);
+            Ok(ListStep::Broken)
+        }
+        _ => {
+            drop(row);
+            at_paths(alloc, folders, head, left)
+        }
+    }
+}
+
+/// Stats the next index of the folder, after one that has this row.
+fn behind_row(
+    alloc: Global,
+    folders: &[PathText],
+    mut head: ListHead,
+    row: ListingRow,
+    left: Rest<PathText>,
+) -> Result<ListStep, NoMemory>
+    ensures behind { IfOk result (λ listed. listed ≡ at_paths folders.now (with_row head row) left) }
+{
+    match head.put(row) {
+        Ok(()) => at_paths(alloc, folders, head, left),
+        Err(error) => {
+            drop(left);
+            drop(head);
+            Err(error)
+        }
+    }
+}

@@ -1,6 +1,0 @@
-use Rattle.std.proofs.Common.{◌≡◌, ◌≤◌, take}
-use Rattle.gix_odb_slots.specs.Counts.{loaded_packs}
-use Rattle.gix_odb_slots.proofs.counts.loaded_packs.Given as goal
-
-abbrev pub invariant-loop-pack : goal.invariant-loop-pack
-invariant-loop-pack l = record { loaded : l.loaded ≡ loaded_packs (take l.pack-index l.packs); within : l.loaded ≤ l.pack-index }

@@ -1,0 +1,92 @@
+-- Elements of lists, by cases.
+use Rattle.std.proofs.Common.{◌≡◌, ◌⊎◌, inl, inr, Bool, true, List, [], ◌∷◌, ◌++◌, Option, Some, None, sym, ap, ◌∙◌, subst, refl}
+use Rattle.std.specs.List.{list_any, flat_map, filter_map, cons_option}
+use Rattle.std.proofs.lemmas.Bool.{false≢true, or_left, or_right, or_cases}
+use Rattle.std.proofs.lemmas.List.Concat.{flat_map-cons}
+use Rattle.std.specs.Ordering.{eq_by_cmp}
+use Rattle.odb_base.specs.Path.{Path, path_cmp}
+use Rattle.odb_disk.proofs.TreeLemmas.{own_path, same_path}
+use Rattle.gix_odb_watch.specs.Kept.{IsIn}
+use Rattle.gix_odb_watch.specs.Revealed.{is_in}
+
+pub in_left : {X : Type 0} (xs ys : List X) (x : X) → IsIn xs x → IsIn (xs ++ ys) x
+in_left [] ys x one = absurd one
+in_left (y ∷ xs) ys x (inl same) = inl same
+in_left (y ∷ xs) ys x (inr more) = inr (in_left xs ys x more)
+
+pub in_right : {X : Type 0} (xs ys : List X) (x : X) → IsIn ys x → IsIn (xs ++ ys) x
+in_right [] ys x one = one
+in_right (y ∷ xs) ys x one = inr (in_right xs ys x one)
+
+pub in_either : {X : Type 0} (xs ys : List X) (x : X) → IsIn (xs ++ ys) x → IsIn xs x ⊎ IsIn ys x
+in_either [] ys x one = inr one
+in_either (y ∷ xs) ys x (inl same) = inl (inl same)
+in_either (y ∷ xs) ys x (inr more) = elim (in_either xs ys x more) [ inl left ↦ inl (inr left) | inr right ↦ inr right ]
+
+-- what one element gives is among what all give
+pub in_flat_map : {X Y : Type 0} (f : X → List Y) (xs : List X) (x : X) (y : Y) → IsIn xs x → IsIn (f x) y → IsIn (flat_map f xs) y
+in_flat_map f [] x y one given = absurd one
+in_flat_map f (z ∷ xs) x y (inl same) given = subst (λ l. IsIn l y) (sym (flat_map-cons f z xs)) (in_left (f z) (flat_map f xs) y (subst (λ w. IsIn (f w) y) (sym same) given))
+in_flat_map f (z ∷ xs) x y (inr more) given = subst (λ l. IsIn l y) (sym (flat_map-cons f z xs)) (in_right (f z) (flat_map f xs) y (in_flat_map f xs x y more given))
+
+pub of_flat_map : {X Y : Type 0} (f : X → List Y) (xs : List X) (y : Y) → IsIn (flat_map f xs) y → (x : X) × IsIn xs x × IsIn (f x) y
+of_flat_map f [] y one = absurd one
+of_flat_map f (z ∷ xs) y one = elim (in_either (f z) (flat_map f xs) y (subst (λ l. IsIn l y) (flat_map-cons f z xs) one)) [
+  | inl here ↦ (z, inl refl, here)
+  | inr more ↦ let o = of_flat_map f xs y more in (o.0, inr o.1, o.2)
+]
+
+-- what an element is turned into is among what a list is
+pub in_filter_map : {X Y : Type 0} (f : X → Option Y) (xs : List X) (x : X) (y : Y) → IsIn xs x → f x ≡ Some y → IsIn (filter_map f xs) y
+in_filter_map f [] x y one gives = absurd one
+in_filter_map f (z ∷ xs) x y (inl same) gives = elim (f z) as (λ o. o ≡ Some y → IsIn (cons_option o (filter_map f xs)) y) [
+  | None ↦ λ is. absurd (cc)
+  | Some w ↦ λ is. let this : w ≡ y = cc in inl this
+] (ap f same ∙ gives)
+in_filter_map f (z ∷ xs) x y (inr more) gives = elim (f z) as (λ o. IsIn (cons_option o (filter_map f xs)) y) [
+  | None ↦ in_filter_map f xs x y more gives
+  | Some w ↦ inr (in_filter_map f xs x y more gives)
+]
+
+-- an element that passes a test
+pub one_passes : {X : Type 0} (test : X → Bool) (xs : List X) → list_any test xs ≡ true → (x : X) × IsIn xs x × (test x ≡ true)
+one_passes test [] any = absurd (false≢true any)
+one_passes test (y ∷ xs) any = elim (or_cases (test y) (list_any test xs) any) [
+  | inl here ↦ (y, inl refl, here)
+  | inr more ↦ let o = one_passes test xs more in (o.0, inr o.1, o.2)
+]
+
+pub passes_one : {X : Type 0} (test : X → Bool) (xs : List X) (x : X) → IsIn xs x → test x ≡ true → list_any test xs ≡ true
+passes_one test [] x one passes = absurd one
+passes_one test (y ∷ xs) x (inl same) passes = or_left (test y) (list_any test xs) (ap test same ∙ passes)
+passes_one test (y ∷ xs) x (inr more) passes = or_right (test y) (list_any test xs) (passes_one test xs x more passes)
+
+-- whether a path is one of these
+pub is_in_one : (paths : List Path) (path : Path) → is_in paths path ≡ true → IsIn paths path
+is_in_one paths path is = let o = one_passes (eq_by_cmp path_cmp path) paths is in subst (IsIn paths) (sym (same_path path o.0 o.2)) o.1
+
+pub one_is_in : (paths : List Path) (path : Path) → IsIn paths path → is_in paths path ≡ true
+one_is_in paths path one = passes_one (eq_by_cmp path_cmp path) paths path one (own_path path)
+
+-- an element of a list with one more is that or was one before
+pub in_pushed : {X : Type 0} (xs ys : List X) (y x : X) → ys ≡ xs ++ y ∷ [] → IsIn ys x → IsIn xs x ⊎ (y ≡ x)
+in_pushed {X = X} xs ys y x is one = elim (in_either xs (y ∷ []) x (subst (λ (l : List X). IsIn l x) is one)) [
+  | inl before ↦ inl before
+  | inr last ↦ elim last [ inl same ↦ inr same | inr none ↦ absurd none ]
+]
+
+pub old_pushed : {X : Type 0} (xs ys : List X) (y x : X) → ys ≡ xs ++ y ∷ [] → IsIn xs x → IsIn ys x
+old_pushed {X = X} xs ys y x is one = subst (λ (l : List X). IsIn l x) (sym is) (in_left xs (y ∷ []) x one)
+
+pub last_pushed : {X : Type 0} (xs ys : List X) (y : X) → ys ≡ xs ++ y ∷ [] → IsIn ys y
+last_pushed {X = X} xs ys y is = subst (λ (l : List X). IsIn l y) (sym is) (in_right xs (y ∷ []) y (inl refl))
+
+-- an element of a list with more is among these or was one before
+pub in_more : {X : Type 0} (xs more ys : List X) (x : X) → ys ≡ xs ++ more → IsIn ys x → IsIn xs x ⊎ IsIn more x
+in_more {X = X} xs more ys x is one = in_either xs more x (subst (λ (l : List X). IsIn l x) is one)
+
+pub old_more : {X : Type 0} (xs more ys : List X) (x : X) → ys ≡ xs ++ more → IsIn xs x → IsIn ys x
+old_more {X = X} xs more ys x is one = subst (λ (l : List X). IsIn l x) (sym is) (in_left xs more x one)
+
+pub new_more : {X : Type 0} (xs more ys : List X) (x : X) → ys ≡ xs ++ more → IsIn more x → IsIn ys x
+new_more {X = X} xs more ys x is one = subst (λ (l : List X). IsIn l x) (sym is) (in_right xs more x one)

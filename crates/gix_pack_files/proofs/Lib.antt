@@ -1,4 +1,0 @@
-mod PackLemmas
-pub mod EntryLemmas
-mod IndexLemmas
-mod IndexRowsLemmas

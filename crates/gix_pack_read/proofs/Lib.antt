@@ -1,0 +1,15 @@
+pub mod ListLemmas
+pub mod RowsLemmas
+pub mod OffsetLaws
+pub mod SearchLemmas
+pub mod RisingLemmas
+mod PrefixRunLemmas
+mod PackLemmas
+pub mod EntryLemmas
+mod IndexLemmas
+mod IndexRowsLemmas
+mod ChunkLemmas
+mod PackRowLemmas
+mod NameLemmas
+mod PartLemmas
+mod ReadLemmas

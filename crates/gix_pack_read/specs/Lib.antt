@@ -1,0 +1,12 @@
+pub mod Bytes
+pub mod Rows
+pub mod FileBytes
+pub mod Pack
+pub mod PackHead
+pub mod Index
+pub mod IndexRows
+pub mod MultiIndex
+pub mod MultiIndexRows
+pub mod ChunkTable
+pub mod MultiIndexLayout
+pub mod MultiIndexNames

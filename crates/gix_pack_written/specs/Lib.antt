@@ -1,7 +1,0 @@
--- The encodings of objects, their pack and its index, and what is read back of them; then the rows as the encoders keep them.
-pub mod WrittenPack
-pub mod WrittenTables
-pub mod WrittenIndex
-pub mod ReadPack
-pub mod PlacedRow
-pub mod PlacedIndexRow

@@ -1,2 +1,0 @@
--- Laws of these lines, for callers.
-pub mod PrintLemmas

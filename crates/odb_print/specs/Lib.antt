@@ -1,2 +1,0 @@
--- The lines that are written for outcomes.
-pub mod Print

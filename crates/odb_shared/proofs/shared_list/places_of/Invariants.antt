@@ -1,7 +1,0 @@
-use Rattle.std.proofs.Common.{◌≡◌, take}
-use Rattle.odb_shared.specs.Blocks.{joined}
-use Rattle.odb_shared.proofs.shared_list.places_of.Given as goal
-
--- the places of the blocks so far
-abbrev pub invariant-loop-block : goal.invariant-loop-block
-invariant-loop-block g l = l.items.items ≡ joined (take l.block-index l.block-items)

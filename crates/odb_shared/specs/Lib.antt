@@ -1,2 +1,0 @@
--- Lists in blocks.
-pub mod Blocks

@@ -1,4 +1,0 @@
-use Rattle.odb_tree.proofs.tree.Tree.+follow.Given as goal
-
-abbrev pub decreases-follow : goal.decreases-follow
-decreases-follow l = l.links

@@ -1,9 +1,0 @@
--- A line that is outside the language has a reason of its own.
-use Rattle.std.proofs.Common.{sym, ◌∙◌}
-use Rattle.std.proofs.lemmas.Result.{IfOk-weaker}
-use Rattle.script_reasons.proofs.RefusedLaws.{refused_has_reason}
-use Rattle.script_reasons.proofs.reason.reason_of.Goals as goal
-
-pub returns-then-outside-clause-outside : goal.returns-then-outside-clause-outside
-returns-then-outside-clause-outside c = λ refused.
-    IfOk-weaker c.line_reason.result _ _ (λ reason is e. refused_has_reason c.args.line.now refused (sym is ∙ e)) c.line_reason.ensures.reason

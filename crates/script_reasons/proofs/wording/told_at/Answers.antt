@@ -1,6 +1,0 @@
-use Rattle.std.proofs.Common.{arith}
-use Rattle.std.proofs.lemmas.List.{length-take}
-use Rattle.script_reasons.proofs.wording.told_at.Goals as goal
-
-pub slice_bounds-told_in-end : goal.slice_bounds-told_in-end
-slice_bounds-told_in-end c = omega (arith, length-take 67108864 c.args.bytes.now)

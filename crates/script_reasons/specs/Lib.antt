@@ -1,5 +1,0 @@
-pub mod Expected
-pub mod Fault
-pub mod Reason
-pub mod Unbuilt
-pub mod Told
