@@ -58,7 +58,7 @@ fronted-writes (fronts.Refused error) write writes = refl
 
 pub fed-writes : (setting : Setting) (state : CallStage) (answer : Answer) → is_for_writes state ≡ true → is_for_writes (fed setting state answer) ≡ true
 fed-writes setting (Looking look) answer writes = refl
-fed-writes setting (Refreshing refresh write) answer writes = fronted-writes (refreshes.fed setting.objects setting.folders refresh answer) write writes
+fed-writes setting (Refreshing refresh write) answer writes = fronted-writes (refreshes.fed setting.parts.objects setting.parts.folders refresh answer) write writes
 fed-writes setting (Writing call) answer writes = written_on-writes call answer writes
 fed-writes setting (Refused error) answer writes = refl
 
@@ -73,9 +73,9 @@ pub started-writes : (setting : Setting) (hash : HashKind) (view : View) (sought
     → is_for_writes (started setting hash view sought call) ≡ true
 started-writes setting hash view sought call =
     by_call-all (λ (state : CallStage). is_for_writes state ≡ true) (λ query. looking setting view sought query)
-    (λ kind size bytes known. fronted (refreshes.started view) (writing setting.objects hash kind size bytes known))
+    (λ kind size bytes known. fronted (refreshes.started view) (writing setting.parts.objects hash kind size bytes known))
     (λ query. refl)
-    (λ kind size bytes known. fronted-writes (refreshes.started view) (writing setting.objects hash kind size bytes known) refl)
+    (λ kind size bytes known. fronted-writes (refreshes.started view) (writing setting.parts.objects hash kind size bytes known) refl)
     call
 
 pub started_writes_by : (setting : Setting) (hash : HashKind) (view : View) (sought : Query → ObjectId) (call : Call) (stage : CallStage)

@@ -5,6 +5,7 @@ pub mod Pasts
 mod Own
 mod Refusals
 mod Known
+mod Onward
 mod Step
 use Rattle.std.proofs.Common.{◌≡◌, ℕ, ◌≤◌, ◌<◌, Bool, true, false, List, [], ◌∷◌, ◌++◌, Option, Some}
 use Rattle.std.proofs.Common.{None, Ok, Err, ◌↔◌, refl, sym, ◌∙◌, ap, subst, append_assoc, append-nil, arith}
@@ -63,7 +64,8 @@ use Rattle.gix_odb.proofs.CauseLaws.Own.{IsLookOwned, fed_at-owned, own_has_room
 use Rattle.gix_odb.proofs.CauseLaws.Refusals.{refused_event_ends}
 use Rattle.gix_odb.specs.Reply.{IsReplyTo}
 use Rattle.gix_odb.proofs.CauseLaws.Standing.{StandsAt, StandsFor, fed-stands, started-stands}
-use Rattle.gix_odb.proofs.CauseLaws.Step.{fed_at-known, try_view-known}
+use Rattle.gix_odb.proofs.CauseLaws.Onward.{try_view-known}
+use Rattle.gix_odb.proofs.CauseLaws.Step.{fed_at-known}
 
 -- a look-up that has a reply is done with it
 done_with : (head : LookHead) (stage : LookStage) (reply : Reply) → result_at head stage ≡ Ok reply → stage ≡ stages.Done reply

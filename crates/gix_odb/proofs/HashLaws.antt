@@ -43,8 +43,8 @@ module _ (Shown : Path → List ℕ → Type 0) (setting : Setting) (hash : Kind
   in_folder : LooseHash setting hash id exchanges → (folder : Path) → Contains (folders_of setting) folder
       → HasVerdict setting Object id exchanges folder (verdicts.Ends (replies.Found kind bytes)) → object_id hash kind bytes ≡ id
   in_folder loose folder among verdict =
-      loose folder among (folder_ask (asking setting.limit Object id folder)) verdict.answer verdict.told kind bytes
-      (given_object (found_by (loose_path folder id) setting.limit verdict.answer) verdict.is)
+      loose folder among (folder_ask (asking setting.parts.alloc_limit_bytes Object id folder)) verdict.answer verdict.told kind bytes
+      (given_object (found_by (loose_path folder id) setting.parts.alloc_limit_bytes verdict.answer) verdict.is)
 
   module _ (view : View) (shown : IsShownView Shown setting hash view) (asked : AreAsked setting (started setting view Object id) exchanges)
       (truth : AreTrue Shown setting hash exchanges) where

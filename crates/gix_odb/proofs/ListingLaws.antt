@@ -113,15 +113,15 @@ module _ (setting : Setting) where
     Told ask answer = WasTold all (asks.Disk ask) (told.Disk answer)
 
     abbrev OfLister : Lister → Type 0
-    OfLister lister = SeesLister Told setting.folders lister
+    OfLister lister = SeesLister Told setting.parts.folders lister
 
     abbrev OfRows : List ListingRow → Type 0
-    OfRows rows = AreSeen Told setting.folders rows
+    OfRows rows = AreSeen Told setting.parts.folders rows
 
     abbrev Sees : LookStage → Type 0
     Sees stage = Stands setting AnyCall OfLister OfRows (Unit {0}) stage
 
-    step_seen : (step : ListStep) → SeesStep Told setting.folders step → Steps setting AnyCall OfLister OfRows (Unit {0}) step
+    step_seen : (step : ListStep) → SeesStep Told setting.parts.folders step → Steps setting AnyCall OfLister OfRows (Unit {0}) step
     step_seen (steps.More lister) here = here
     step_seen (steps.Listed listing) here = (tt, here)
     step_seen steps.Broken here = tt
@@ -134,8 +134,8 @@ module _ (setting : Setting) where
     goes_seeing (stages.Refreshing fronts.Reading purpose notes) here ask answer is was = tt
     goes_seeing (stages.Checking list_no notes) here ask answer is was = tt
     goes_seeing (stages.Refreshing (fronts.Listing lister) purpose notes) here ask (told.Disk answer) is was =
-        step_seen (lists.fed setting.folders lister answer)
-        (listing_sees Told setting.folders lister.head here.rows lister.stage here.stage answer
+        step_seen (lists.fed setting.parts.folders lister answer)
+        (listing_sees Told setting.parts.folders lister.head here.rows lister.stage here.stage answer
         (subst (λ (a : Ask). WasTold all a (told.Disk answer)) (sym (same_Some _ ask is)) was))
     goes_seeing (stages.Refreshing (fronts.Listing lister) purpose notes) here ask (told.Core answer) is was = here
     goes_seeing (stages.Refreshing (fronts.Publishing listing) purpose notes) here ask answer is was = here
@@ -146,7 +146,7 @@ module _ (setting : Setting) where
     seen_behind look here [] asked among = here
     seen_behind look here (exchange ∷ exchanges) asked among =
         seen_behind (fed setting look exchange.answer)
-        (stage_stands setting AnyCall OfLister OfRows (Unit {0}) (λ want id folder. tt) (λ base here. starts_seeing Told setting.folders setting.objects base)
+        (stage_stands setting AnyCall OfLister OfRows (Unit {0}) (λ want id folder. tt) (λ base here. starts_seeing Told setting.parts.folders setting.parts.objects base)
         (seen look.head exchange.answer) look.stage exchange.answer
         (goes_seeing look.stage here exchange.ask exchange.answer asked.0 (among exchange (has_first exchange exchanges))))
         exchanges asked.1 (λ other is. among other (has_later exchange exchanges other is))
@@ -158,7 +158,7 @@ module _ (setting : Setting) where
     total = listed_in tree (folders_of setting)
 
     abbrev IsAtLister : List Entry → Lister → Type 0
-    IsAtLister coming lister = ListsStage tree setting.folders total coming lister.head lister.stage
+    IsAtLister coming lister = ListsStage tree setting.parts.folders total coming lister.head lister.stage
 
     abbrev AreAll : List ListingRow → Type 0
     AreAll rows = rows ≡ longest_first total
@@ -166,7 +166,7 @@ module _ (setting : Setting) where
     abbrev Lists : List Entry → LookStage → Type 0
     Lists coming stage = Stands setting AnyCall (IsAtLister coming) AreAll (Unit {0}) stage
 
-    step_listed : (coming : List Entry) (step : ListStep) → ListsStep tree setting.folders total coming step
+    step_listed : (coming : List Entry) (step : ListStep) → ListsStep tree setting.parts.folders total coming step
         → Steps setting AnyCall (IsAtLister coming) AreAll (Unit {0}) step
     step_listed coming (steps.More lister) here = here
     step_listed coming (steps.Listed listing) here = (tt, here)
@@ -180,8 +180,8 @@ module _ (setting : Setting) where
     goes_listing coming (stages.Refreshing fronts.Reading purpose notes) here ask answer left is of = tt
     goes_listing coming (stages.Checking list_no notes) here ask answer left is of = tt
     goes_listing coming (stages.Refreshing (fronts.Listing lister) purpose notes) here ask (told.Disk answer) left is of =
-        step_listed left (lists.fed setting.folders lister answer)
-        (listing_lists tree setting.folders total lister.head coming lister.stage here answer left
+        step_listed left (lists.fed setting.parts.folders lister answer)
+        (listing_lists tree setting.parts.folders total lister.head coming lister.stage here answer left
         (subst (λ (a : Ask). IsToldOfTree tree coming a (told.Disk answer) left) (sym (same_Some _ ask is)) of))
     goes_listing coming (stages.Refreshing (fronts.Listing lister) purpose notes) here ask (told.Core answer) left is of =
         absurd (subst (λ (a : Ask). IsToldOfTree tree coming a (told.Core answer) left) (sym (same_Some _ ask is)) of)
@@ -194,7 +194,7 @@ module _ (setting : Setting) where
     listed_behind coming look here (exchange ∷ exchanges) asked of =
         listed_behind of.0 (fed setting look exchange.answer)
         (stage_stands setting AnyCall (IsAtLister of.0) AreAll (Unit {0}) (λ want id folder. tt)
-        (λ base here. starts_listing tree setting.folders setting.objects base of.0) (seen look.head exchange.answer) look.stage exchange.answer
+        (λ base here. starts_listing tree setting.parts.folders setting.parts.objects base of.0) (seen look.head exchange.answer) look.stage exchange.answer
         (goes_listing coming look.stage here exchange.ask exchange.answer of.0 asked.0 of.1))
         exchanges asked.1 of.2
 
@@ -212,7 +212,7 @@ module _ (setting : Setting) where
         published setting AnyCall (OfLister exchanges) (OfRows exchanges) (Unit {0}) (behind setting begun exchanges).stage
         (seen_behind exchanges begun
         (start_stands setting AnyCall (OfLister exchanges) (OfRows exchanges) (Unit {0}) (λ want id folder. tt)
-        (λ base here. starts_seeing (Told exchanges) setting.folders setting.objects base) view want id tt)
+        (λ base here. starts_seeing (Told exchanges) setting.parts.folders setting.parts.objects base) view want id tt)
         exchanges asked (λ exchange among. among))
         listing is
 
@@ -222,6 +222,6 @@ module _ (setting : Setting) where
         let lists_so =
         listed_behind tree [] begun
         (start_stands setting AnyCall (IsAtLister tree []) (AreAll tree) (Unit {0}) (λ want id folder. tt)
-        (λ base here. starts_listing tree setting.folders setting.objects base []) view want id tt)
+        (λ base here. starts_listing tree setting.parts.folders setting.parts.objects base []) view want id tt)
         exchanges asked of in
         published setting AnyCall (IsAtLister tree lists_so.0) (AreAll tree) (Unit {0}) (behind setting begun exchanges).stage lists_so.1 listing is

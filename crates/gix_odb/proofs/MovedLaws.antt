@@ -117,8 +117,8 @@ module _ (setting : Setting) (want : Want) (id : ObjectId) (folder : Path) (amon
   pub record IsComing (round : LooseRound) (call : FolderCall) : Type 0 where
     pub first : IsFirst round.part
     pub asked : Path
-    pub call_is : call ≡ asking setting.limit want id asked
-    pub ahead : (asked ≡ folder) ⊎ Contains (drop round.next setting.folders) folder
+    pub call_is : call ≡ asking setting.parts.alloc_limit_bytes want id asked
+    pub ahead : (asked ≡ folder) ⊎ Contains (drop round.next setting.parts.folders) folder
 
   -- the loose objects of the folder are still to be asked, or the look-up is done with a reply that isn't "not found"
   abbrev IsWaiting : LookStage → Type 0
@@ -135,22 +135,22 @@ module _ (setting : Setting) (want : Want) (id : ObjectId) (folder : Path) (amon
     pub id_is : head.id ≡ id
 
   module _ (head : LookHead) (own : IsFor head) where
-    same_call : (asked : Path) → asking setting.limit head.want head.id asked ≡ asking setting.limit want id asked
+    same_call : (asked : Path) → asking setting.parts.alloc_limit_bytes head.want head.id asked ≡ asking setting.parts.alloc_limit_bytes want id asked
     same_call asked =
-        ap (λ (q : Want). asking setting.limit q head.id asked) own.want_is ∙ ap (λ (i : ObjectId). asking setting.limit want i asked) own.id_is
+        ap (λ (q : Want). asking setting.parts.alloc_limit_bytes q head.id asked) own.want_is ∙ ap (λ (i : ObjectId). asking setting.parts.alloc_limit_bytes want i asked) own.id_is
 
     loose_begins : (part : Part) → IsFirst part → (notes : Notes) → IsWaiting (loose_from setting head part notes)
     loose_begins part first notes =
         record {
           first = first;
-          asked = setting.objects;
-          call_is = same_call setting.objects;
-          ahead = by (first_or_later setting.objects setting.folders folder among);
+          asked = setting.parts.objects;
+          call_is = same_call setting.parts.objects;
+          ahead = by (first_or_later setting.parts.objects setting.parts.folders folder among);
         }
       where
-        by : (setting.objects ≡ folder) ⊎ Contains setting.folders folder → (setting.objects ≡ folder) ⊎ Contains (drop 0 setting.folders) folder
+        by : (setting.parts.objects ≡ folder) ⊎ Contains setting.parts.folders folder → (setting.parts.objects ≡ folder) ⊎ Contains (drop 0 setting.parts.folders) folder
         by (inl is) = inl is
-        by (inr later) = inr (subst (λ (rest : List Path). Contains rest folder) (sym (drop_none setting.folders)) later)
+        by (inr later) = inr (subst (λ (rest : List Path). Contains rest folder) (sym (drop_none setting.parts.folders)) later)
 
     list_waits : (part : Part) → IsFirst part → (notes : Notes) → IsWaiting (after_list setting head part notes)
     list_waits parts.Snapshot first notes = loose_begins parts.Snapshot tt notes
@@ -171,22 +171,22 @@ module _ (setting : Setting) (want : Want) (id : ObjectId) (folder : Path) (amon
 
     -- ---- the loose folders
 
-    folder_waits : (round : LooseRound) → IsFirst round.part → Contains (drop round.next setting.folders) folder → (next : Option Path)
-        → slice_get setting.folders round.next ≡ next → IsWaiting (at_folder setting head round next)
-    folder_waits round first ahead None is = absurd (nothing_ahead setting.folders round.next folder is ahead)
+    folder_waits : (round : LooseRound) → IsFirst round.part → Contains (drop round.next setting.parts.folders) folder → (next : Option Path)
+        → slice_get setting.parts.folders round.next ≡ next → IsWaiting (at_folder setting head round next)
+    folder_waits round first ahead None is = absurd (nothing_ahead setting.parts.folders round.next folder is ahead)
     folder_waits round first ahead (Some asked) is =
-        record { first = first; asked = asked; call_is = same_call asked; ahead = here_or_behind setting.folders round.next asked folder is ahead }
+        record { first = first; asked = asked; call_is = same_call asked; ahead = here_or_behind setting.parts.folders round.next asked folder is ahead }
 
-    verdict_waits : (round : LooseRound) → IsFirst round.part → Contains (drop round.next setting.folders) folder → (verdict : Verdict)
+    verdict_waits : (round : LooseRound) → IsFirst round.part → Contains (drop round.next setting.parts.folders) folder → (verdict : Verdict)
         → EndsNoMiss want verdict → IsWaiting (by_verdict setting head round verdict)
     verdict_waits round first ahead (verdicts.Ends reply) ends = ends
-    verdict_waits round first ahead verdicts.Misses ends = folder_waits round first ahead (slice_get setting.folders round.next) refl
+    verdict_waits round first ahead verdicts.Misses ends = folder_waits round first ahead (slice_get setting.parts.folders round.next) refl
     verdict_waits round first ahead (verdicts.Notes error) ends =
-        folder_waits (record round { notes = record round.notes { failed = true } }) first ahead (slice_get setting.folders round.next) refl
+        folder_waits (record round { notes = record round.notes { failed = true } }) first ahead (slice_get setting.parts.folders round.next) refl
 
     -- the verdict on the folder that is asked
     module _ (round : LooseRound) (call : FolderCall) (coming : IsComing round call) (answer : DiskAnswer) where
-      verdict_so : IsWaiting (by_verdict setting head round (folder_verdict (asking setting.limit want id coming.asked) answer))
+      verdict_so : IsWaiting (by_verdict setting head round (folder_verdict (asking setting.parts.alloc_limit_bytes want id coming.asked) answer))
           → IsWaiting (by_verdict setting head round (folder_verdict call answer))
       verdict_so waits = subst (λ (c : FolderCall). IsWaiting (by_verdict setting head round (folder_verdict c answer))) (sym coming.call_is) waits
 
@@ -194,7 +194,7 @@ module _ (setting : Setting) (want : Want) (id : ObjectId) (folder : Path) (amon
       here_waits has =
           verdict_so (subst (λ (verdict : Verdict). IsWaiting (by_verdict setting head round verdict)) (sym has.says) (answer_is_no_miss want has.told has.found))
 
-      ahead_waits : Contains (drop round.next setting.folders) folder → IsWaiting (by_verdict setting head round (folder_verdict call answer))
+      ahead_waits : Contains (drop round.next setting.parts.folders) folder → IsWaiting (by_verdict setting head round (folder_verdict call answer))
       ahead_waits ahead =
           verdict_waits round coming.first ahead (folder_verdict call answer) (verdict_is_no_miss want call answer)
 
@@ -207,7 +207,7 @@ module _ (setting : Setting) (want : Want) (id : ObjectId) (folder : Path) (amon
                 (subst (λ (f : Path). HasLoose setting want id f answer) (sym same)
                 (same_ask (λ (a : Ask). IsLooseFair setting want id folder a (told.Disk answer) → HasLoose setting want id folder answer) ask
                 (asks.Disk (folder_ask call))
-                (λ fair_to_it. fair_to_it (ap (λ (f : Path). folder_ask (asking setting.limit want id f)) (sym same) ∙ ap folder_ask (sym coming.call_is)))
+                (λ fair_to_it. fair_to_it (ap (λ (f : Path). folder_ask (asking setting.parts.alloc_limit_bytes want id f)) (sym same) ∙ ap folder_ask (sym coming.call_is)))
                 is fair))
             | inr ahead ↦ ahead_waits ahead
           ]
@@ -220,12 +220,12 @@ module _ (setting : Setting) (want : Want) (id : ObjectId) (folder : Path) (amon
     read_waits purposes.Again before view notes = absurd before
 
     look_waits : (purpose : Purpose) → IsBeforeLoose purpose → (notes : Notes) (view : Option View) → ((own : View) → view ≡ Some own → own.read ≡ true)
-        → IsWaiting (by_refresh setting head purpose notes (by_look setting.objects view)).stage
+        → IsWaiting (by_refresh setting head purpose notes (by_look setting.parts.objects view)).stage
     look_waits purpose before notes None published = before
     look_waits purpose before notes (Some view) published = by view.read (published view refl)
       where
         by : (b : Bool) → b ≡ true
-            → IsWaiting (by_refresh setting head purpose notes (cond b (steps.Read view) (steps.More (refreshes.listing_from setting.objects view.list_no)))).stage
+            → IsWaiting (by_refresh setting head purpose notes (cond b (steps.Read view) (steps.More (refreshes.listing_from setting.parts.objects view.list_no)))).stage
         by true is = read_waits purpose before view notes
         by false is = absurd (cc is)
 
@@ -265,7 +265,7 @@ module _ (setting : Setting) (want : Want) (id : ObjectId) (folder : Path) (amon
   own_behind (stages.Loose round call) waits head own (told.Disk answer) = own
   own_behind (stages.Loose round call) waits head own (told.Core answer) = own
   own_behind (stages.Refreshing refresh purpose notes) waits head own answer =
-      own_step head own purpose notes (refreshes.fed setting.objects setting.folders refresh answer)
+      own_step head own purpose notes (refreshes.fed setting.parts.objects setting.parts.folders refresh answer)
   own_behind (stages.Checking list_no notes) waits head own answer = absurd waits
   own_behind (stages.Done reply) waits head own answer = own
 

@@ -97,7 +97,7 @@ module _ (setting : Setting) (slots : Slots) (exchanges : List Exchange) (asked 
     where
       by : (now : OpenStage) → asks_of setting now ≡ Some (asks.Disk ask) → ChangesNothing (asks.Disk ask)
       by opens.Looking is =
-          subst ChangesNothing (same_Some (asks.Disk (disk_asks.Look setting.objects true)) (asks.Disk ask) is) (path_is_looked_at setting.objects true)
+          subst ChangesNothing (same_Some (asks.Disk (disk_asks.Look setting.parts.objects true)) (asks.Disk ask) is) (path_is_looked_at setting.parts.objects true)
       by (opens.Listing lister percent minimum) is =
           subst ChangesNothing (same_Some (asks.Disk (lists.ask_of lister)) (asks.Disk ask) is) (lister_reads lister.head.folder lister.stage)
       by (opens.Registering number) is = absurd (cc is)
@@ -106,7 +106,7 @@ module _ (setting : Setting) (slots : Slots) (exchanges : List Exchange) (asked 
   asks_own : (now : OpenStage) → Knows setting slots exchanges now → (ask : DiskAsk) → asks_of setting now ≡ Some (asks.Disk ask)
       → AsksOwn (told_of exchanges) (asks.Disk ask)
   asks_own opens.Looking known ask is =
-      subst (AsksOwn (told_of exchanges)) (same_Some (asks.Disk (disk_asks.Look setting.objects true)) (asks.Disk ask) is) tt
+      subst (AsksOwn (told_of exchanges)) (same_Some (asks.Disk (disk_asks.Look setting.parts.objects true)) (asks.Disk ask) is) tt
   asks_own (opens.Listing lister percent minimum) known ask is =
       subst (AsksOwn (told_of exchanges)) (same_Some (asks.Disk (lists.ask_of lister)) (asks.Disk ask) is)
       (lister_own (told_of exchanges) lister.head.folder lister.stage known.stream)
@@ -145,7 +145,7 @@ module _ (setting : Setting) (slots : Slots) (exchanges : List Exchange) (asked 
     where
       by : (now : OpenStage) → Knows setting slots exchanges now → ((ask : DiskAsk) → ¬ (asks_of setting now ≡ Some (asks.Disk ask)))
           → left_open exchanges ≡ None
-      by opens.Looking known none = absurd (none (disk_asks.Look setting.objects true) refl)
+      by opens.Looking known none = absurd (none (disk_asks.Look setting.parts.objects true) refl)
       by (opens.Listing lister percent minimum) known none = absurd (none (lists.ask_of lister) refl)
       by (opens.Registering number) known none = known.0
       by (opens.Done reply) known none = known.0
@@ -157,7 +157,7 @@ module _ (setting : Setting) (slots : Slots) (exchanges : List Exchange) (asked 
       → length exchanges + 1 ≤ turns_of_lap 0 (length (folders_of setting)) entries
   an_opening_takes_at_most_a_lap entries within answered =
       let taken = turns_taken setting slots entries None (turns_of_lap 0 (length (folders_of setting)) entries - 1) opens.Looking exchanges
-      (wide (length setting.folders) entries) asked within answered
+      (wide (length setting.parts.folders) entries) asked within answered
       in
       omega (arith, taken)
     where

@@ -83,7 +83,7 @@ module _ (Shown : Path → List ℕ → Type 0) (setting : Setting) (hash : Kind
       → ¬ (Some (asks.Disk (folder_ask call)) ≡ Some (asks.Disk (disk_asks.Read (pack_folder folder ++ name ∷ []))))
   no_loose all call known folder name is =
       loose_is_in_no_pack_folder known.folder folder id name
-      (loose_reads setting.limit want id known.folder (pack_folder folder ++ name ∷ [])
+      (loose_reads setting.parts.alloc_limit_bytes want id known.folder (pack_folder folder ++ name ∷ [])
       (ap (λ (c : FolderCall). Some (asks.Disk (folder_ask c))) (sym known.is) ∙ is))
 
   -- ---- an index that was read

@@ -265,11 +265,11 @@ module _ (setting : Setting) (snapshot : View) (exchanges : List Exchange) (aske
   pub a_refresh_takes_at_most_a_lap : (slots entries : ℕ) → AreWithin entries None exchanges → AreAnswered exchanges
       → length exchanges ≤ turns_of_lap slots (length (folders_of setting)) entries
   a_refresh_takes_at_most_a_lap slots entries within answered =
-      turns_taken setting.objects setting.folders entries None (turns_of_lap slots (length (folders_of setting)) entries) (started snapshot) exchanges
+      turns_taken setting.parts.objects setting.parts.folders entries None (turns_of_lap slots (length (folders_of setting)) entries) (started snapshot) exchanges
       (by snapshot.read) asked within answered
     where
       by : (read : Bool)
-          → StepHasTurns setting.objects setting.folders entries None (if read then steps.Read snapshot else steps.More stages.Reading)
+          → StepHasTurns setting.parts.objects setting.parts.folders entries None (if read then steps.Read snapshot else steps.More stages.Reading)
           (turns_of_lap slots (length (folders_of setting)) entries)
       by true = tt
-      by false = lap_is_wide setting.objects setting.folders entries slots
+      by false = lap_is_wide setting.parts.objects setting.parts.folders entries slots

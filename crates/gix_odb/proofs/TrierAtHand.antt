@@ -88,9 +88,9 @@ module _ (OfTrier : Trier → Type 0) where
 
     of_verdict : (head : LookHead) (round : LooseRound) (verdict : Verdict) → OfStage (by_verdict setting head round verdict)
     of_verdict head round (verdicts.Ends reply) = tt
-    of_verdict head round verdicts.Misses = of_folder head round (slice_get setting.folders round.next)
+    of_verdict head round verdicts.Misses = of_folder head round (slice_get setting.parts.folders round.next)
     of_verdict head round (verdicts.Notes error) =
-        of_folder head (record round { notes = record round.notes { failed = true } }) (slice_get setting.folders round.next)
+        of_folder head (record round { notes = record round.notes { failed = true } }) (slice_get setting.parts.folders round.next)
 
     -- ---- the core has answered
 
@@ -123,7 +123,7 @@ module _ (OfTrier : Trier → Type 0) where
     stage_goes head (stages.Loose round call) (told.Disk answer) here = of_verdict head round (folder_verdict call answer)
     stage_goes head (stages.Loose round call) (told.Core answer) here = tt
     stage_goes head (stages.Refreshing refresh purpose notes) answer here =
-        of_refresh head purpose notes (refreshes.fed setting.objects setting.folders refresh answer)
+        of_refresh head purpose notes (refreshes.fed setting.parts.objects setting.parts.folders refresh answer)
     stage_goes head (stages.Checking list_no notes) (told.Disk answer) here = tt
     stage_goes head (stages.Checking list_no notes) (told.Core (Ok effect)) here = of_checked head list_no notes (view_shown effect)
     stage_goes head (stages.Checking list_no notes) (told.Core (Err refusal)) here = tt

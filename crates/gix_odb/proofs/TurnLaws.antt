@@ -70,7 +70,7 @@ module _ (bounds : Bounds) where
       omega (arith, rest)
 
   started_left : (view : View) (want : Want) (id : ObjectId) (read : Bool) → length view.snapshot.indices ≤ bounds.slots
-      → 8 * bounds.slots + 2 * length bounds.setting.folders + 3 ≤ bounds.lap
+      → 8 * bounds.slots + 2 * length bounds.setting.parts.folders + 3 ≤ bounds.lap
       → HasLeft bounds (new_head want id)
       (cond read (try_view bounds.setting (new_head want id) parts.Snapshot view [] without_notes) (stages.Refreshing fronts.Reading (purposes.First true) without_notes))
       0 None ((bounds.setting.most + 2) * bounds.lap)
@@ -105,8 +105,8 @@ a_look_up_ends_in_time setting view want id exchanges slots entries few asked nu
       slots = slots;
       entries = entries;
       lap = turns_of_lap slots (length (folders_of setting)) entries;
-      wide = lap_is_wide slots (length setting.folders) entries;
+      wide = lap_is_wide slots (length setting.parts.folders) entries;
     }
     in
     turns_left bounds (started setting view want id) 0 None ((setting.most + 2) * bounds.lap) exchanges
-    (started_left bounds view want id view.read few (lists_are_within slots (length setting.folders) entries)) asked numbered within answered on
+    (started_left bounds view want id view.read few (lists_are_within slots (length setting.parts.folders) entries)) asked numbered within answered on

@@ -2,6 +2,7 @@
 -- of the store is read, where it was not.
 use Rattle.std.specs.Prelude.{◌≡◌, ℕ, ◌<◌, ◌^◌, Bool, true, false, List, Option, Some, None, Result, Ok, Err}
 use Rattle.odb_base.specs.Path.{Path}
+use Rattle.odb_disk.specs.declared.ask.DiskAsk.{DiskAsk}
 use Rattle.gix_hash.specs.declared.kind.Kind.{Kind as HashKind}
 use Rattle.gix_hash.specs.declared.object_id.ObjectId.{ObjectId}
 use Rattle.gix_object.specs.declared.kind.Kind.{Kind}
@@ -124,7 +125,7 @@ abbrev pub started : Setting → HashKind → View → (sought : Query → Objec
 started setting hash view sought call =
     by_call
     (λ query. looking setting view sought query)
-    (λ kind size bytes known. fronted (refreshes.started view) (writing setting.objects hash kind size bytes known))
+    (λ kind size bytes known. fronted (refreshes.started view) (writing setting.parts.objects hash kind size bytes known))
     call
 
 -- what is asked for next, if anything is: of the disk, or of the store's core
@@ -170,7 +171,7 @@ written_on call (told.Core answer) = call
 -- the stage of a call after the answer to what it asked for
 abbrev pub fed : Setting → CallStage → Answer → CallStage
 fed setting (Looking look) answer = Looking (looks.fed setting look answer)
-fed setting (Refreshing refresh write) answer = fronted (refreshes.fed setting.objects setting.folders refresh answer) write
+fed setting (Refreshing refresh write) answer = fronted (refreshes.fed setting.parts.objects setting.parts.folders refresh answer) write
 fed setting (Writing call) answer = Writing (written_on call answer)
 fed setting (Refused error) answer = Refused error
 

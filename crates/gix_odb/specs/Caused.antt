@@ -47,7 +47,7 @@ module _ (Shown : Path → List ℕ → Type 0) (setting : Setting) (hash : Kind
   -- An index gives the id an offset, at which its pack refuses what is wanted with this error. No limit refuses a header, and for a
   -- test no pack is read.
   abbrev pub IsPackError : Want → pack.Error → Type 0
-  IsPackError Object error = IsInPack Shown setting hash id (λ pack offset. entry_at hash pack offset setting.limit ≡ Err error)
+  IsPackError Object error = IsInPack Shown setting hash id (λ pack offset. entry_at hash pack offset setting.parts.alloc_limit_bytes ≡ Err error)
   IsPackError Header (pack_errors.OutOfMemory size) = ⊥
   IsPackError Header error = IsInPack Shown setting hash id (λ pack offset. header_at hash pack offset ≡ Err error)
   IsPackError Presence error = ⊥

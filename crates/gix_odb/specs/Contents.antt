@@ -1,12 +1,11 @@
 -- What the files of a store hold, as answers of calls.
-use Rattle.std.specs.Prelude.{◌≡◌, ℕ, Bool, true, false, List, ◌∷◌, Option, Some, None, Ok}
-use Rattle.std.specs.Map.{lookup}
-use Rattle.std.specs.Ordering.{eq_by_cmp}
+use Rattle.std.specs.Prelude.{◌≡◌, ℕ, Bool, true, false, List, Option, Some, None, Ok}
+use Rattle.std.specs.FinMap.{get}
 use Rattle.odb_base.specs.Path.{Name, Path}
 use Rattle.odb_disk.specs.Tree.{Tree}
 use Rattle.odb_disk.specs.Tree.Follow.{read_of}
 use Rattle.gix_hash.specs.declared.object_id.ObjectId.{ObjectId}
-use Rattle.gix_hash.specs.ObjectId.{id_cmp, kind_of}
+use Rattle.gix_hash.specs.ObjectId.{kind_of}
 use Rattle.gix_hash.specs.declared.kind.Kind.{Kind as HashKind}
 use Rattle.gix_object.specs.declared.kind.Kind.{Kind}
 use Rattle.gix_object.specs.declared.want.Want.{Want}
@@ -16,21 +15,11 @@ use Rattle.gix_pack_read.specs.declared.data.entry.Header as entry
 use Rattle.gix_odb_loose.specs.LooseFile as loose
 use Rattle.gix_odb_loose.specs.LooseOrder.{job_of}
 use Rattle.gix_odb.specs.Found.{Gives}
+pub use Rattle.gix_odb_calls.specs.StoreParts.{folder_list}
 use Rattle.gix_odb_calls.specs.declared.query.Query.{Query}
+use Rattle.gix_odb_calls.specs.declared.store_parts.StoreParts.{StoreParts}
 use Rattle.gix_odb_calls.specs.declared.find.Header as headers
 use Rattle.gix_odb_calls.specs.declared.find.Header.TheVariants.{Loose, Packed}
-
--- what a store is, for what it holds: its objects directory, its other folders, the ids that others replace, and
--- the limit on found objects
-pub record StoreData : Type 0 where
-  pub objects : Path
-  pub folders : List Path
-  pub replacements : List (ObjectId × ObjectId)
-  pub limit : Option ℕ
-
--- the folders of a store, the objects directory first
-abbrev pub folder_list : StoreData → List Path
-folder_list store = store.objects ∷ store.folders
 
 -- what an object's bytes may be read from: one loose file; an index of a folder of packs, by its name, which gives an offset; or this and
 -- the pack that it is of
@@ -66,10 +55,10 @@ abbrev pub sought_with : (ObjectId → Option ObjectId) → (ignoring : Bool) �
 sought_with replacement ignoring query = sought_for replacement ignoring query.want query.of
 
 -- the id that replaces another in a store
-abbrev pub replacement_in : StoreData → ObjectId → Option ObjectId
-replacement_in store id = lookup (eq_by_cmp id_cmp id) store.replacements
+abbrev pub replacement_in : StoreParts → ObjectId → Option ObjectId
+replacement_in store id = get store.replacements id
 
-abbrev pub sought : StoreData → (ignoring : Bool) → Query → ObjectId
+abbrev pub sought : StoreParts → (ignoring : Bool) → Query → ObjectId
 sought store ignoring query = sought_with (replacement_in store) ignoring query
 
 -- a path of a tree shows a file with those bytes, links followed
@@ -89,9 +78,9 @@ IsOfRow wants.Presence answer = answer ≡ Presence
 IsOfRow want answer = ⊥
 
 -- A pack holds an answer at an offset: for a find the base entry there, with its data within the limit, and for a header that of the entry there.
-abbrev pub HoldsEntry : StoreData → Want → HashKind → (pack : List ℕ) → (offset : ℕ) → Answer → Type 0
+abbrev pub HoldsEntry : StoreParts → Want → HashKind → (pack : List ℕ) → (offset : ℕ) → Answer → Type 0
 HoldsEntry store wants.Object hash pack offset answer =
-    (own : Entry) × (entry_at hash pack offset store.limit ≡ Ok own) × (answer ≡ Object own.kind own.bytes)
+    (own : Entry) × (entry_at hash pack offset store.alloc_limit_bytes ≡ Ok own) × (answer ≡ Object own.kind own.bytes)
 HoldsEntry store wants.Header hash pack offset answer =
     (own : entry.Header) × (header_at hash pack offset ≡ Ok own) × (answer ≡ HeaderOf (Packed own.kind own.size))
 HoldsEntry store wants.Presence hash pack offset answer = ⊥
@@ -100,12 +89,12 @@ HoldsEntry store wants.Presence hash pack offset answer = ⊥
 -- the data, and then the data, whose length is within the limit. It holds a header if it begins with it. Any file holds the answer of
 -- a test. An index and its pack, both of the hash of the id, hold an answer where the index gives the id an offset at which the pack holds it;
 -- for a test the index is enough.
-abbrev pub Holds : StoreData → Want → (id : ObjectId) → Contents → Answer → Type 0
-Holds store want id (LooseFile bytes) answer = (own : loose.Answer) × (answer ≡ of_loose want own) × loose.Holds store.limit (job_of want id) bytes own
+abbrev pub Holds : StoreParts → Want → (id : ObjectId) → Contents → Answer → Type 0
+Holds store want id (LooseFile bytes) answer = (own : loose.Answer) × (answer ≡ of_loose want own) × loose.Holds store.alloc_limit_bytes (job_of want id) bytes own
 Holds store want id (InIndex name index offset) answer = Gives (kind_of id) index id offset × IsOfRow want answer
 Holds store want id (InPack name index pack offset) answer =
     Gives (kind_of id) index id offset × (is_pack (kind_of id) pack ≡ true) × HoldsEntry store want (kind_of id) pack offset answer
 
 -- contents are sound for a call that seeks an id where they hold some answer of it
-abbrev pub IsSound : StoreData → Want → (id : ObjectId) → Contents → Type 0
+abbrev pub IsSound : StoreParts → Want → (id : ObjectId) → Contents → Type 0
 IsSound store want id contents = (answer : Answer) × Holds store want id contents answer

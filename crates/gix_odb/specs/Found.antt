@@ -57,6 +57,6 @@ module _ (Shown : Path → List ℕ → Type 0) (setting : Setting) (hash : Kind
 
   -- what was found in packs, as the reply to what is wanted. For a test the row of an index is enough
   abbrev pub IsFound : Want → Reply → Type 0
-  IsFound Object reply = IsInPack (λ pack offset. IsEntryReply hash setting.limit pack offset reply)
+  IsFound Object reply = IsInPack (λ pack offset. IsEntryReply hash setting.parts.alloc_limit_bytes pack offset reply)
   IsFound Header reply = IsInPack (λ pack offset. IsHeaderReply hash pack offset reply)
   IsFound Presence reply = (path : Path) × (offset : ℕ) × IsInIndex path offset × (reply ≡ replies.Tested true)

@@ -1,36 +1,22 @@
 -- What a handle of the code knows of its store, and what it seeks for a query.
-use Rattle.std.specs.Prelude.{◌≡◌, false, List, [], Option, Some, None}
-use Rattle.std.specs.BTreeMap.{get}
-use Rattle.odb_base.specs.Path.{Path}
+use Rattle.std.specs.Prelude.{◌≡◌, false, [], Option, Some, None}
 use Rattle.gix_hash.specs.declared.kind.Kind.{Kind as HashKind}
 use Rattle.gix_hash.specs.declared.object_id.ObjectId.{ObjectId}
-use Rattle.gix_hash.specs.ObjectId.{id_cmp}
 use Rattle.gix_odb_events.specs.declared.answer.Answer.{Answer}
 use Rattle.gix_odb_events.specs.declared.view.Snapshot.{Snapshot}
 use Rattle.gix_odb_events.specs.declared.view.View.{View}
 use Rattle.gix_odb_calls.specs.declared.query.Query.{Query}
 use Rattle.gix_odb.specs.LookUpOrder.{Setting, view_of}
-use Rattle.gix_odb.specs.Contents.{replaced, sought_with}
+use Rattle.gix_odb.specs.Contents.{replaced, replacement_in, sought}
 use Rattle.gix_odb.specs.declared.handle_state.HandleState.{HandleState}
 
--- the objects directory and the hash of a handle's store
-abbrev pub objects_of : HandleState → Path
-objects_of handle = handle.info.value.objects
-
+-- the hash of a handle's store
 abbrev pub hash_of : HandleState → HashKind
 hash_of handle = handle.info.value.object_hash
 
-abbrev pub folders_of : HandleState → List Path
-folders_of handle = handle.info.value.folders
-
--- what a look-up takes from the store, and how many changes it tolerates
+-- the store as a handle on it sees it
 abbrev pub setting_at : HandleState → Setting
-setting_at handle = record {
-  objects = handle.info.value.objects;
-  folders = handle.info.value.folders;
-  limit = handle.info.value.alloc_limit_bytes;
-  most = handle.max_changes;
-}
+setting_at handle = record { parts = handle.info.value; most = handle.max_changes }
 
 -- what a handle would see that has no snapshot yet: nothing, of a list that was not read
 abbrev pub nothing_loaded : Snapshot
@@ -59,14 +45,10 @@ pub record IsAlike (one other : HandleState) : Type 0 where
   pub changes : one.max_changes ≡ other.max_changes
   pub view : one.view ≡ other.view
 
--- the id that replaces another
-abbrev pub replacement_of : HandleState → ObjectId → Option ObjectId
-replacement_of handle id = get id_cmp handle.info.value.replacements id
-
 -- the id that is sought in the place of another
 abbrev pub replaced_by : HandleState → ObjectId → ObjectId
-replaced_by handle id = replaced (replacement_of handle) handle.ignore_replacements id
+replaced_by handle id = replaced (replacement_in handle.info.value) handle.ignore_replacements id
 
 -- the id that a call seeks
 abbrev pub sought_by : HandleState → Query → ObjectId
-sought_by handle query = sought_with (replacement_of handle) handle.ignore_replacements query
+sought_by handle query = sought handle.info.value handle.ignore_replacements query

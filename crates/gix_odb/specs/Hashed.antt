@@ -24,10 +24,10 @@ module _ (setting : Setting) (hash : Kind) (id : ObjectId) where
   abbrev pub PacksHash : (Shown : Path → List ℕ → Type 0) → Type 0
   PacksHash Shown =
       (path : Path) (index pack : List ℕ) (offset : ℕ) (entry : Entry) → IsIndexPath setting path → Shown path index → Gives hash index id offset
-      → Shown (pack_path path) pack → entry_at hash pack offset setting.limit ≡ Ok entry → object_id hash entry.kind entry.bytes ≡ id
+      → Shown (pack_path path) pack → entry_at hash pack offset setting.parts.alloc_limit_bytes ≡ Ok entry → object_id hash entry.kind entry.bytes ≡ id
 
   -- each object that was read at the id's path in one of the folders has data that hash to the id
   abbrev pub LooseHash : List Exchange → Type 0
   LooseHash exchanges =
       (folder : Path) → Contains (folders_of setting) folder → (ask : DiskAsk) (answer : DiskAnswer) → WasTold exchanges (asks.Disk ask) (told.Disk answer)
-      → (kind : object.Kind) (bytes : List ℕ) → found_by (loose_path folder id) setting.limit answer ≡ Ok (Some (kind, bytes)) → object_id hash kind bytes ≡ id
+      → (kind : object.Kind) (bytes : List ℕ) → found_by (loose_path folder id) setting.parts.alloc_limit_bytes answer ≡ Ok (Some (kind, bytes)) → object_id hash kind bytes ≡ id

@@ -12,7 +12,8 @@ use Rattle.gix_odb_search.specs.PackFolder.{is_index_name, pack_folder}
 use Rattle.gix_odb_events.specs.PackPath.{pack_path}
 use Rattle.gix_object.specs.declared.want.Want.{Want}
 use Rattle.gix_object.specs.declared.want.Want.TheVariants.{Object, Header, Presence}
-use Rattle.gix_odb.specs.Contents.{StoreData, folder_list, Contents, LooseFile, InIndex, InPack, Answer, Holds, IsSound, ShowsFile}
+use Rattle.gix_odb.specs.Contents.{folder_list, Contents, LooseFile, InIndex, InPack, Answer, Holds, IsSound, ShowsFile}
+use Rattle.gix_odb_calls.specs.declared.store_parts.StoreParts.{StoreParts}
 use Rattle.gix_odb.specs.Moments.{Sometime, Throughout}
 
 -- ---- held
@@ -40,7 +41,7 @@ WasShown trees opened begun now folder id (InPack name index pack offset) =
 
 -- In one folder of a store that was opened at the moment `opened`, contents were shown for the sought id in a call from `begun` to
 -- `now` that hold the answer.
-pub record Held (trees : ℕ → Tree) (store : StoreData) (opened begun now : ℕ) (want : Want) (id : ObjectId) (answer : Answer) : Type 0 where
+pub record Held (trees : ℕ → Tree) (store : StoreParts) (opened begun now : ℕ) (want : Want) (id : ObjectId) (answer : Answer) : Type 0 where
   pub folder : Path
   pub among : Contains (folder_list store) folder
   pub contents : Contents
@@ -62,14 +63,14 @@ pub record IsItselfFile (tree : Tree) (path : Path) : Type 0 where
   pub is_file : meta.kind ≡ kinds.File
 
 -- an index and its pack are sound for a call at an offset: for a test the row of the index is enough
-abbrev pub IsSoundPair : StoreData → Want → ObjectId → Name → (index pack : List ℕ) → (offset : ℕ) → Type 0
+abbrev pub IsSoundPair : StoreParts → Want → ObjectId → Name → (index pack : List ℕ) → (offset : ℕ) → Type 0
 IsSoundPair store Object id name index pack offset = IsSound store Object id (InPack name index pack offset)
 IsSoundPair store Header id name index pack offset = IsSound store Header id (InPack name index pack offset)
 IsSoundPair store Presence id name index pack offset = IsSound store Presence id (InIndex name index offset)
 
 -- At one moment an object lies in a pack of a folder: the index of a name is itself a file, and a file is shown as its pack. The two are sound
 -- for the call, and the index gives the id this offset.
-pub record LiesInPack (store : StoreData) (want : Want) (tree : Tree) (folder : Path) (id : ObjectId) (name : Name) (offset : ℕ) : Type 0 where
+pub record LiesInPack (store : StoreParts) (want : Want) (tree : Tree) (folder : Path) (id : ObjectId) (name : Name) (offset : ℕ) : Type 0 where
   pub named : is_index_name name ≡ true
   pub itself : IsItselfFile tree (index_path folder name)
   pub index : List ℕ
@@ -79,13 +80,13 @@ pub record LiesInPack (store : StoreData) (want : Want) (tree : Tree) (folder : 
   pub sound : IsSoundPair store want id name index pack offset
 
 -- At one moment an object lies at a place of a folder, in contents that are sound for the call.
-abbrev pub LiesAt : StoreData → Want → Tree → (folder : Path) → ObjectId → Place → Type 0
+abbrev pub LiesAt : StoreParts → Want → Tree → (folder : Path) → ObjectId → Place → Type 0
 LiesAt store want tree folder id InLooseFile =
     (bytes : List ℕ) × ShowsFile tree (loose_path folder id) bytes × IsSound store want id (LooseFile bytes)
 LiesAt store want tree folder id (InPackFile name offset) = LiesInPack store want tree folder id name offset
 
 -- In one folder, at one place, the object of an id lay at every moment from `begun` to `now`, in contents that are sound for the call.
-pub record Still (trees : ℕ → Tree) (store : StoreData) (begun now : ℕ) (want : Want) (id : ObjectId) : Type 0 where
+pub record Still (trees : ℕ → Tree) (store : StoreParts) (begun now : ℕ) (want : Want) (id : ObjectId) : Type 0 where
   pub folder : Path
   pub among : Contains (folder_list store) folder
   pub place : Place

@@ -36,8 +36,8 @@ IsLast exchanges exchange = (earlier : List Exchange) × (exchanges ≡ earlier 
 -- the loose objects of a folder were asked for an object in one of them, and the verdict on the answer is this one
 pub record HasVerdict (setting : Setting) (want : Want) (id : ObjectId) (exchanges : List Exchange) (folder : Path) (verdict : Verdict) : Type 0 where
   pub answer : DiskAnswer
-  pub told : WasTold exchanges (asks.Disk (folder_ask (asking setting.limit want id folder))) (told.Disk answer)
-  pub is : folder_verdict (asking setting.limit want id folder) answer ≡ verdict
+  pub told : WasTold exchanges (asks.Disk (folder_ask (asking setting.parts.alloc_limit_bytes want id folder))) (told.Disk answer)
+  pub is : folder_verdict (asking setting.parts.alloc_limit_bytes want id folder) answer ≡ verdict
 
 -- the number of the list in a view, or else another
 abbrev pub number_or : Option ℕ → Option View → Option ℕ

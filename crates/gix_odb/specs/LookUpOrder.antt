@@ -88,7 +88,7 @@ abbrev pub fed_at : Setting → LookHead → LookStage → Answer → LookUp
 fed_at setting head (stages.Trying trier part) answer = at head (by_tried setting head part (trier_fed trier answer))
 fed_at setting head (stages.Loose round call) (told.Disk answer) = at head (by_verdict setting head round (folder_verdict call answer))
 fed_at setting head (stages.Refreshing refresh purpose notes) answer =
-    by_refresh setting head purpose notes (refreshes.fed setting.objects setting.folders refresh answer)
+    by_refresh setting head purpose notes (refreshes.fed setting.parts.objects setting.parts.folders refresh answer)
 fed_at setting head (stages.Checking list_no notes) (told.Core (Ok effect)) = at head (by_checked setting head list_no notes (view_shown effect))
 fed_at setting head (stages.Checking list_no notes) (told.Core (Err refusal)) = at head (stages.Done (load_refused (of_refusal refusal)))
 fed_at setting head stage answer = at head stage

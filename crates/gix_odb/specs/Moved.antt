@@ -24,12 +24,12 @@ module _ (setting : Setting) (want : Want) (id : ObjectId) (folder : Path) where
   -- the loose objects of the folder, asked for what is wanted, have the object, by this answer of the disk
   pub record HasLoose (answer : DiskAnswer) : Type 0 where
     pub told : Reply
-    pub says : folder_verdict (asking setting.limit want id folder) answer ≡ verdicts.Ends told
+    pub says : folder_verdict (asking setting.parts.alloc_limit_bytes want id folder) answer ≡ verdicts.Ends told
     pub found : IsAnswer told
 
   -- an exchange is fair to the loose object of the folder: where its call is the one by which it is asked for, the answer has it
   abbrev pub IsLooseFair : Ask → Answer → Type 0
-  IsLooseFair (asks.Disk ask) (told.Disk answer) = folder_ask (asking setting.limit want id folder) ≡ ask → HasLoose answer
+  IsLooseFair (asks.Disk ask) (told.Disk answer) = folder_ask (asking setting.parts.alloc_limit_bytes want id folder) ≡ ask → HasLoose answer
   IsLooseFair ask answer = IsAnswerTo ask answer
 
   abbrev pub AreLooseFair : List Exchange → Type 0

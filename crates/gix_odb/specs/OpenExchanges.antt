@@ -32,11 +32,11 @@ use Rattle.gix_odb.specs.declared.open_state.OpenStage.{OpenStage}
 
 -- what an opening asks for
 abbrev pub asks_of : Setting → OpenStage → Option Ask
-asks_of setting state = ask_of setting.objects setting.folders state
+asks_of setting state = ask_of setting.parts.objects setting.parts.folders state
 
 -- an opening after the answer
 abbrev pub fed_by : Setting → Slots → OpenStage → Answer → OpenStage
-fed_by setting slots state answer = fed setting.objects setting.folders slots state answer
+fed_by setting slots state answer = fed setting.parts.objects setting.parts.folders slots state answer
 
 abbrev pub behind : Setting → Slots → OpenStage → List Exchange → OpenStage
 behind setting slots state exchanges = any.behind (asks_of setting) (fed_by setting slots) state exchanges
@@ -60,7 +60,7 @@ pub record HasListed (setting : Setting) (exchanges : List Exchange) (step : Lis
   pub look : Exchange
   pub listing : List Exchange
   pub are : exchanges ≡ look ∷ listing
-  pub comes : list_behind setting.folders (listed.More (lists.started setting.objects 0)) listing ≡ step
+  pub comes : list_behind setting.parts.folders (listed.More (lists.started setting.parts.objects 0)) listing ≡ step
 
 -- ---- how many slots
 
@@ -85,7 +85,7 @@ ShowsNoDirectory answer = Unit {0}
 -- why an opening is refused by an error
 abbrev pub IsCaused : Setting → Slots → List Exchange → opening.Error → Type 0
 IsCaused setting slots exchanges opening_errors.NotADirectory =
-    (answer : DiskAnswer) × ShowsNoDirectory answer × WasTold exchanges (asks.Disk (disk_asks.Look setting.objects true)) (told.Disk answer)
+    (answer : DiskAnswer) × ShowsNoDirectory answer × WasTold exchanges (asks.Disk (disk_asks.Look setting.parts.objects true)) (told.Disk answer)
 IsCaused setting slots exchanges (opening_errors.TooManySlots asked) = IsNumber setting slots exchanges asked × (most_slots < asked)
 IsCaused setting slots exchanges opening_errors.Io = HasFailed exchanges
 IsCaused setting slots exchanges (opening_errors.LoadIndex load_errors.Io) = HasBroken setting exchanges

@@ -20,14 +20,14 @@ use Rattle.gix_odb.specs.declared.refresh.RefreshStep.{RefreshStep}
 -- ---- exchanges
 
 abbrev pub behind : Setting → RefreshStep → List Exchange → RefreshStep
-behind setting step exchanges = any.behind asked_of (step_fed setting.objects setting.folders) step exchanges
+behind setting step exchanges = any.behind asked_of (step_fed setting.parts.objects setting.parts.folders) step exchanges
 
 abbrev pub AreAsked : Setting → RefreshStep → List Exchange → Type 0
-AreAsked setting step exchanges = any.AreAsked asked_of (step_fed setting.objects setting.folders) step exchanges
+AreAsked setting step exchanges = any.AreAsked asked_of (step_fed setting.parts.objects setting.parts.folders) step exchanges
 
 -- how many of the exchanges a refresh asked for: those after which it has ended are another's
 abbrev pub turns_of : Setting → RefreshStep → List Exchange → ℕ
-turns_of setting step exchanges = any.turns_of asked_of (step_fed setting.objects setting.folders) step exchanges
+turns_of setting step exchanges = any.turns_of asked_of (step_fed setting.parts.objects setting.parts.folders) step exchanges
 
 -- ---- causes
 

@@ -18,11 +18,12 @@ use Rattle.gix_odb_events.specs.declared.view.View.{View}
 use Rattle.gix_odb_search.specs.PackFolder.{is_index_name, pack_folder}
 use Rattle.gix_odb_events.specs.declared.answer.Ask.{Ask}
 use Rattle.gix_odb_events.specs.declared.answer.Ask.TheVariants as asks
+use Rattle.gix_odb_calls.specs.StoreParts.{folder_list}
 use Rattle.gix_odb.specs.Store.{Setting}
 
 -- the folders of a store, the objects directory first
 abbrev pub folders_of : Setting → List Path
-folders_of setting = setting.objects ∷ setting.folders
+folders_of setting = folder_list setting.parts
 
 -- the path of an index in the folder of packs of one of the folders
 pub record IsIndexPath (setting : Setting) (path : Path) : Type 0 where

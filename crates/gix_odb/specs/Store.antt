@@ -1,11 +1,8 @@
--- The store whose list is read, and in which a look-up is made.
-use Rattle.std.specs.Prelude.{ℕ, List, Option}
-use Rattle.odb_base.specs.Path.{Path}
+-- A store as one handle on it sees it.
+use Rattle.std.specs.Prelude.{ℕ}
+use Rattle.gix_odb_calls.specs.declared.store_parts.StoreParts.{StoreParts}
 
--- what a look-up takes from the store that it is made in: the objects directory, the other folders, the limit on found objects, and how
--- many lists of others it may meet
+-- the parts of a store, and the most changes of its list of indices that a call of the handle tolerates
 pub record Setting : Type 0 where
-  pub objects : Path
-  pub folders : List Path
-  pub limit : Option ℕ
+  pub parts : StoreParts
   pub most : ℕ

@@ -1,26 +1,26 @@
 //! The order of work of a call on a handle: an object is looked for, or written.
-ghost use Rattle.std.specs.Prelude.{◌≡◌, ◌<◌, ◌^◌, IfErr, IfOk, MatchResult, Ok, Err, OnErr, OnOk, Some, None, true};
+ghost use Rattle.std.specs.Prelude.{◌≡◌, IfErr, IfOk, MatchResult, Ok, Err, OnErr, OnOk, Some, None, true};
 ghost use Rattle.std.specs.Option.{option_map};
 ghost use Rattle.std.specs.Result.{result_ok};
 ghost use Rattle.gix_odb_calls.specs.declared.load_index.Error.TheVariants as load_errors;
-ghost use Rattle.gix_odb_loose.specs.LooseOrder.{disk_ask_of};
 ghost use Rattle.gix_odb.specs.Answers.{IsAnswerOf};
-ghost use Rattle.gix_odb.specs.CallOrder.{Asks, HasSize, IsOfHash, ask_of, fronted, is_for_writes, is_write, is_written, loose_ask, opened_in, result_of, result_of_write, started, writing, wrote_as};
+ghost use Rattle.gix_odb.specs.CallOrder.{Asks, HasSize, IsOfHash, ask_of, fronted, is_for_writes, opened_in, result_of, started};
 ghost use Rattle.gix_odb.specs.CallOrder as calls;
 ghost use Rattle.gix_odb.specs.LookUpOrder as looks;
 ghost use Rattle.gix_odb.specs.RefreshOrder as refreshes;
 ghost use Rattle.gix_odb.specs.HandleState.{IsAlike, hash_of, setting_at, sought_by, told_by};
 
+mod loose_write;
+
+use self::loose_write::{begun, write_ask, write_ended, write_reply};
 use crate::ask::Ask as CallAsk;
 use crate::handle_state::HandleState;
 use crate::see::see;
 use crate::{LookUp, Refresh, RefreshStep, Setting};
-use gix_hash::ObjectId;
-use gix_object::Kind;
 use gix_odb_calls::{Call, CallError, Query, Reply, load_index, write};
 use gix_odb_events::{Answer, Ask};
-use gix_odb_loose::{LooseAsk, LooseCall, LooseJob, LooseReply};
-use odb_base::{ByteList, NoMemory, PathText};
+use gix_odb_loose::LooseCall;
+use odb_base::{NoMemory, PathText};
 use std::alloc::Global;
 use std::mem::replace;
 
@@ -106,7 +106,7 @@ impl CallState {
 
     /// Takes the answer to what the call asked for. The handle has the view that the answer passes, even where memory runs
     /// out; the call is refused then.
-    #[tactic(auto, using(crate::proofs::HandleLemmas::fed_by, crate::proofs::CallLemmas::fed_writes_by))]
+    #[tactic(auto, using(crate::proofs::HandleLemmas::fed_by))]
     pub fn feed(&mut self, alloc: Global, answer: Answer) -> Result<(), NoMemory>
         requires answers { IsAnswerOf (ask_of self.old.stage) answer }
         ensures fed { OnOk result (self.new.stage ≡ calls.fed (setting_at self.old.handle) self.old.stage answer) }
@@ -243,55 +243,6 @@ fn first_stage(alloc: Global, handle: &HandleState, call: Call) -> Result<CallSt
     }
 }
 
-// What a write asks of the disk.
-fn write_ask(alloc: Global, call: &LooseCall) -> Result<Option<Ask>, NoMemory>
-    ensures asked { IfOk result (λ ask. ask ≡ loose_ask (disk_ask_of call.now)) }
-{
-    match call.disk_ask(alloc)? {
-        None => Ok(None),
-        Some(ask) => Ok(Some(Ask::Disk(ask))),
-    }
-}
-
-// A copy of the reply of a write that is done.
-#[tactic(auto, using(crate::proofs::CallLemmas::write_asked_done, crate::proofs::CallLemmas::write_copied, crate::proofs::CallLemmas::write_asks_on))]
-fn write_reply(alloc: Global, call: &LooseCall) -> Result<Option<Reply>, NoMemory>
-    requires writes { is_write call.now ≡ true }
-    ensures copied { IfOk result (λ reply. reply ≡ result_ok (result_of_write call.now)) }
-{
-    match call.ask(alloc)? {
-        LooseAsk::Disk(ask) => {
-            drop(ask);
-            Ok(None)
-        }
-        LooseAsk::Done(reply) => Ok(Some(wrote(written(reply)))),
-    }
-}
-
-// The reply of a write that is done, or the write.
-#[tactic(auto, using(crate::proofs::CallLemmas::write_replies, crate::proofs::CallLemmas::write_ends, crate::proofs::CallLemmas::write_stays))]
-fn write_ended(call: LooseCall) -> Result<Reply, LooseCall>
-    requires writes { is_write call ≡ true }
-    ensures ended { result ≡ result_of_write call }
-    ensures same { IfErr result (λ same. same ≡ call) }
-{
-    match call.into_reply() {
-        Ok(reply) => Ok(wrote(written(reply))),
-        Err(call) => Err(call),
-    }
-}
-
-// What a write came to.
-fn written(reply: LooseReply) -> Result<ObjectId, gix_odb_loose::write::Error>
-    requires written { is_written reply ≡ true }
-    ensures written { reply ≡ LooseReply.Wrote result }
-{
-    match reply {
-        LooseReply::Wrote(answer) => answer,
-        _ => unreachable!("a write replies what it wrote"),
-    }
-}
-
 // A write after an answer to the refresh before it.
 fn refreshed_on(
     alloc: Global,
@@ -376,46 +327,9 @@ fn fronted(step: RefreshStep, write: LooseCall) -> CallStage
     }
 }
 
-// The write of an object into a folder, with a hash.
-fn begun(
-    alloc: Global,
-    folder: &PathText,
-    hash: gix_hash::Kind,
-    kind: Kind,
-    size: u64,
-    bytes: ByteList,
-    id: Option<ObjectId>,
-) -> Result<LooseCall, NoMemory>
-    requires of_hash { IsOfHash hash (Call.Write kind size bytes id) }
-    ensures begun { IfOk result (λ call. call ≡ writing folder.now hash kind size bytes id) }
-    ensures sized { size < 2 ^ 64 }
-{
-    let options = gix_odb_loose::Options {
-        alloc_limit_bytes: None,
-    };
-    let store = gix_odb_loose::Store::at_opts(alloc, folder, hash, options)?;
-    let job = LooseJob::Write {
-        kind,
-        size,
-        bytes,
-        id,
-    };
-    LooseCall::start(alloc, &store, job)
-}
-
 // The reply of a write whose store could not be listed.
 fn unlisted(error: load_index::Error) -> Reply
     ensures unlisted { result ≡ calls.unlisted error }
 {
     Reply::Refused(CallError::Write(write::Error::LoadIndex(error)))
-}
-
-// The reply of a write that came to this.
-fn wrote(answer: Result<ObjectId, gix_odb_loose::write::Error>) -> Reply
-    ensures told { result ≡ wrote_as answer }
-{
-    match answer {
-        Ok(id) => Reply::Wrote(id),
-        Err(error) => Reply::Refused(CallError::Write(write::Error::LooseWrite(error))),
-    }
 }

@@ -68,7 +68,7 @@ impl HandleState {
             return id;
         }
         match self.parts().replacements.get(&id) {
-            Some(other) => *other,
+            Some(other) => other,
             None => id,
         }
     }

@@ -29,8 +29,8 @@ mod see;
 pub use ask::{Ask, OpenAsk};
 pub use call_state::{CallStage, CallState};
 pub use gix_odb_calls::{
-    Call, CallError, IdPairs, Options, PathList, Query, Reply, Slots, StoreParts, copy_of_pairs,
-    copy_of_paths, find, init, load_index, write,
+    Call, CallError, IdPairs, Options, PathList, Query, Replacements, Reply, Slots, StoreParts,
+    copy_of_pairs, copy_of_paths, find, init, load_index, write,
 };
 pub use gix_odb_events::Answer;
 pub use handle_state::HandleState;

@@ -1,25 +1,25 @@
 //! The order of work of an opening.
 ghost use Rattle.std.specs.Prelude.{◌≡◌, ◌∷◌, List, IfOk, OnErr, OnOk, ℕ, length, true};
-ghost use Rattle.std.specs.BTreeMap.{IsFromIterResult};
 ghost use Rattle.std.specs.Option.{option_map};
-ghost use Rattle.gix_hash.specs.ObjectId.{id_cmp};
+ghost use Rattle.gix_odb_calls.specs.StoreParts.{parts_of_store};
 ghost use Rattle.gix_odb_calls.specs.declared.init.Error.TheVariants as opening_errors;
 ghost use Rattle.gix_odb_events.specs.declared.answer.Answer.TheVariants as told;
 ghost use Rattle.gix_odb.specs.Answers.{IsDiskAsk};
 ghost use Rattle.gix_odb.specs.OpenOrder.{IsAskOf, ask_of, opened_in, result_of};
 ghost use Rattle.gix_odb.specs.OpenOrder as order;
-ghost use Rattle.gix_odb.specs.OpenState.{IsMadeOf, at_stage, ends_with, opened_handle};
+ghost use Rattle.gix_odb.specs.OpenState.{at_stage, ends_with, opened_handle};
 
 use crate::ask::OpenAsk;
 use crate::handle_state::HandleState;
 use gix_hash::ObjectId;
-use gix_odb_calls::{CallError, Options, PathList, Reply, Slots, StoreParts, init, load_index};
+use gix_odb_calls::{
+    CallError, Options, PathList, Replacements, Reply, Slots, StoreParts, init, load_index,
+};
 use gix_odb_events::{Ask, View};
 use gix_odb_search::{ListStep, Lister};
 use odb_base::{NoMemory, PathText};
 use odb_disk::{DiskAnswer, DiskAsk, DiskError, Kind};
 use std::alloc::Global;
-use std::collections::BTreeMap;
 use std::mem::replace;
 use std::sync::Arc;
 
@@ -70,7 +70,7 @@ impl OpenState {
         replacements: &[(ObjectId, ObjectId)],
         options: Options,
     ) -> Result<OpenState, NoMemory>
-        ensures parts { IfOk result (λ opening. IsMadeOf path.now folders.now hash replacements.now options opening.info.value) }
+        ensures parts { IfOk result (λ opening. opening.info.value ≡ parts_of_store path.now folders.now hash replacements.now options) }
         ensures changes { IfOk result (λ opening. opening.max_changes ≡ options.max_changes) }
         ensures started { IfOk result (λ opening. opening.stage ≡ order.started) }
     {
@@ -78,10 +78,9 @@ impl OpenState {
             objects: path.try_clone(alloc)?,
             folders: list_of(alloc, folders)?,
             object_hash: hash,
-            replacements: map_of(alloc, replacements)?,
+            replacements: Replacements::from_pairs(alloc, replacements)?,
             alloc_limit_bytes: options.alloc_limit_bytes,
             slots: options.slots,
-            max_changes: options.max_changes,
         };
         Ok(OpenState {
             info: Arc::new(alloc, parts)?,
@@ -188,16 +187,6 @@ fn list_of(alloc: Global, paths: &[PathText]) -> Result<PathList, NoMemory>
         list.push(path.try_clone(alloc)?)?;
     }
     Ok(list)
-}
-
-/// Collects pairs into a map.
-fn map_of(
-    alloc: Global,
-    pairs: &[(ObjectId, ObjectId)],
-) -> Result<BTreeMap<ObjectId, ObjectId>, NoMemory>
-    ensures made { IfOk result (IsFromIterResult id_cmp pairs.now) }
-{
-    Ok(pairs.iter().copied().collect(alloc)?)
 }
 
 fn look_at(alloc: Global, objects: &PathText) -> Result<DiskAsk, NoMemory>

@@ -1,1 +1,2 @@
+mod ReplacementsLemmas
 pub mod QueryLaws

@@ -1,4 +1,6 @@
 pub mod Hashes
 pub mod Query
+pub mod Replacements
 pub mod Slots
+pub mod StoreParts
 pub mod Verdict

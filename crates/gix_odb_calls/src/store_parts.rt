@@ -1,8 +1,7 @@
 //! The parts of a store, which handles share.
 use crate::init::{PathList, Slots};
-use gix_hash::ObjectId;
+use crate::replacements::Replacements;
 use odb_base::PathText;
-use std::collections::BTreeMap;
 
 /// The parts of a store, one value for all handles on it.
 #[derive(Drop)]
@@ -13,11 +12,9 @@ pub struct StoreParts {
     pub folders: PathList,
     /// The hash of the store's ids, with which it hashes what it writes.
     pub object_hash: gix_hash::Kind,
-    /// The replacement of an id, which is sought instead.
-    pub replacements: BTreeMap<ObjectId, ObjectId>,
+    /// The ids that are sought in the place of others.
+    pub replacements: Replacements,
     /// The largest size in bytes of an object's data that a find allows, if there is a limit.
     pub alloc_limit_bytes: Option<u64>,
     pub slots: Slots,
-    /// The most changes of the list of indices that a call tolerates.
-    pub max_changes: u32,
 }

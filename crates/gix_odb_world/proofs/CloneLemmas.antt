@@ -70,13 +70,8 @@ matches_cloned cores number Free parent view idle match seen = absurd match
 matches_cloned cores number (Resting store modes) parent view idle match seen =
     let own = match.0 in (
       record {
-        objects = own.objects;
-        folders = own.folders;
-        replacements = own.replacements;
+        parts = own.parts;
         ignoring = own.ignoring;
-        limit = own.limit;
-        slots = own.slots;
-        hash = own.hash;
         changes = own.changes;
         core = own.core;
         view = sym (ap (λ v. or_before v modes.view) (ap (λ core. view_in (joined_answer cores core number)) (sym own.core) ∙ seen));

@@ -91,37 +91,37 @@ looked_file_is_shown tree path meta is file = let found = file_by_meta (followed
 -- ---- the rows of a listing are of the store's folders
 
 module _ (setting : Setting) where
-  step_known : (step : ListStep) (answer : Answer) → KnowsListStep setting step → KnowsListStep setting (list_by setting.folders step answer)
+  step_known : (step : ListStep) (answer : Answer) → KnowsListStep setting step → KnowsListStep setting (list_by setting.parts.folders step answer)
   step_known (listed.More lister) (told.Disk answer) known = fed_known setting lister answer known
   step_known (listed.More lister) (told.Core answer) known = known
   step_known (listed.Listed listing) answer known = known
   step_known listed.Broken answer known = known
 
-  listing_known : (step : ListStep) (exchanges : List Exchange) → KnowsListStep setting step → KnowsListStep setting (list_behind setting.folders step exchanges)
+  listing_known : (step : ListStep) (exchanges : List Exchange) → KnowsListStep setting step → KnowsListStep setting (list_behind setting.parts.folders step exchanges)
   listing_known step [] known = known
   listing_known step (exchange ∷ exchanges) known =
-      listing_known (list_by setting.folders step exchange.answer) exchanges (step_known step exchange.answer known)
+      listing_known (list_by setting.parts.folders step exchange.answer) exchanges (step_known step exchange.answer known)
 
 -- ---- the calls of an opening that counted
 
 module _ (setting : Setting) (slots : Slots) where
   abbrev start : ListStep
-  start = listed.More (lists.started setting.objects 0)
+  start = listed.More (lists.started setting.parts.objects 0)
 
   -- after the stat, and with the answers of one tree from there on
   pub record HasCounted (look : Exchange) (listing : List Exchange) : Type 0 where
     pub has : HasCalls setting slots start listing
     pub of_tree : (tree : Tree) → AreOfTree tree [] (look ∷ listing) → AreOfTree tree [] listing
 
-  counted_behind : (ask : Ask) (answer : Answer) (listing : List Exchange) → asks.Disk (disk_asks.Look setting.objects true) ≡ ask → IsSuited ask answer
+  counted_behind : (ask : Ask) (answer : Answer) (listing : List Exchange) → asks.Disk (disk_asks.Look setting.parts.objects true) ≡ ask → IsSuited ask answer
       → AreAsked setting slots (fed_by setting slots opens.Looking answer) listing → AreSuited listing
       → HasCounted (record { ask = ask; answer = answer }) listing
   counted_behind ask answer listing is suits asked suited =
       subst (λ (own : Ask). IsSuited own answer → HasCounted (record { ask = own; answer = answer }) listing) is (by answer asked) suits
     where
       by : (answer : Answer) → AreAsked setting slots (fed_by setting slots opens.Looking answer) listing
-          → IsSuited (asks.Disk (disk_asks.Look setting.objects true)) answer
-          → HasCounted (record { ask = asks.Disk (disk_asks.Look setting.objects true); answer = answer }) listing
+          → IsSuited (asks.Disk (disk_asks.Look setting.parts.objects true)) answer
+          → HasCounted (record { ask = asks.Disk (disk_asks.Look setting.parts.objects true); answer = answer }) listing
       by (told.Disk answer) asked suits = record {
         has = calls_behind_the_look setting slots answer listing asked suited;
         of_tree = λ tree of. subst (λ (coming : List Entry). AreOfTree tree coming listing) of.1.1 of.2;
@@ -132,7 +132,7 @@ module _ (setting : Setting) (slots : Slots) where
 
 module _ (first : Volume) (events : List Event) (handle : ℕ) (store : Store) (begun : ℕ) (distinct : IsDistinct same_path (folder_list store.parts))
     (given : AreGiven first events handle begun)
-    (asked : AreAsked (setting_in store) store.slots opens.Looking (told_since events handle begun)) (suited : AreSuited (told_since events handle begun)) where
+    (asked : AreAsked (setting_in store) store.parts.slots opens.Looking (told_since events handle begun)) (suited : AreSuited (told_since events handle begun)) where
   abbrev setting : Setting
   setting = setting_in store
 
@@ -155,13 +155,13 @@ module _ (first : Volume) (events : List Event) (handle : ℕ) (store : Store) (
       }
 
   module _ (counted : Listing) (has : HasListed setting exchanges (listed.Listed counted)) where
-    all_asked : AreAsked setting store.slots opens.Looking (has.look ∷ has.listing)
-    all_asked = subst (λ (xs : List Exchange). AreAsked setting store.slots opens.Looking xs) has.are asked
+    all_asked : AreAsked setting store.parts.slots opens.Looking (has.look ∷ has.listing)
+    all_asked = subst (λ (xs : List Exchange). AreAsked setting store.parts.slots opens.Looking xs) has.are asked
 
-    looks : HasCounted setting store.slots has.look has.listing
+    looks : HasCounted setting store.parts.slots has.look has.listing
     looks =
-        counted_behind setting store.slots has.look.ask has.look.answer has.listing
-        (same_Some (asks.Disk (disk_asks.Look setting.objects true)) has.look.ask all_asked.0)
+        counted_behind setting store.parts.slots has.look.ask has.look.answer has.listing
+        (same_Some (asks.Disk (disk_asks.Look setting.parts.objects true)) has.look.ask all_asked.0)
         (suited has.look (subst (λ (xs : List Exchange). Contains xs has.look) (sym has.are) (has_first has.look has.listing)))
         all_asked.1
         (λ one among. suited one (subst (λ (xs : List Exchange). Contains xs one) (sym has.are) (has_later has.look has.listing one among)))
@@ -169,7 +169,7 @@ module _ (first : Volume) (events : List Event) (handle : ℕ) (store : Store) (
     abbrev calls : List Call
     calls = looks.has.calls
 
-    ends : behind_calls setting.folders (start setting store.slots) calls ≡ listed.Listed counted
+    ends : behind_calls setting.parts.folders (start setting store.parts.slots) calls ≡ listed.Listed counted
     ends = looks.has.comes ∙ has.comes
 
     -- the calls are among the exchanges
@@ -207,15 +207,15 @@ module _ (first : Volume) (events : List Event) (handle : ℕ) (store : Store) (
 
     are_counted : AreCounted trees setting begun (length events) counted.rows
     are_counted =
-        let seen : All (IsRowSeen (WasCalled calls)) counted.rows = listed_rows_were_seen setting.folders setting.objects 0 calls counted looks.has.are ends in
+        let seen : All (IsRowSeen (WasCalled calls)) counted.rows = listed_rows_were_seen setting.parts.folders setting.parts.objects 0 calls counted looks.has.are ends in
         let known : All (IsIndexRow setting) counted.rows =
-        subst (KnowsListStep setting) has.comes (listing_known setting (start setting store.slots) has.listing (started_known setting 0)) in
+        subst (KnowsListStep setting) has.comes (listing_known setting (start setting store.parts.slots) has.listing (started_known setting 0)) in
         record {
-          different = listed_rows_have_different_paths setting.folders setting.objects 0 calls counted looks.has.are ends distinct;
+          different = listed_rows_have_different_paths setting.parts.folders setting.parts.objects 0 calls counted looks.has.are ends distinct;
           shown = λ k d within. row_was_shown (slice_index_or counted.rows k d) (seen k d within) (known k d within);
           of_tree = λ tree stood.
               let all = given.of_tree tree stood in
-              listed_rows_are_those_of_the_tree setting.folders setting.objects 0 calls counted looks.has.are ends tree
+              listed_rows_are_those_of_the_tree setting.parts.folders setting.parts.objects 0 calls counted looks.has.are ends tree
               (looks.has.of_tree tree []
               (looks.of_tree tree
               (subst (λ (xs : List Exchange). AreOfTree tree [] xs) has.are (of_tree_to tree [] exchanges all.0 all.1))));

@@ -80,7 +80,7 @@ module _ (trees : ℕ → Tree) (Failed : Type 0) (Refused : Refusal → Type 0)
   at = loose_path folder id
 
   abbrev SaysNow : Want → LooseReply → Type 0
-  SaysNow want reply = Says at store.parts.limit (job_of want id) (tree_of disk.state) (next_fails disk ≡ true) ⊥ reply
+  SaysNow want reply = Says at store.parts.alloc_limit_bytes (job_of want id) (tree_of disk.state) (next_fails disk ≡ true) ⊥ reply
 
   abbrev SaysBy : Want → Verdict → Type 0
   SaysBy want verdict = VerdictSays trees Failed Refused told store begun now want id folder (next_fails disk) verdict
@@ -90,7 +90,7 @@ module _ (trees : ℕ → Tree) (Failed : Type 0) (Refused : Refusal → Type 0)
   IsRead read = read ≡ read_of (tree_of disk.state) at
 
   -- a cause of the last moment is one of the call
-  cause_now : (want : Want) (error : Error) → Cause (job_of want id) at store.parts.limit IsRead (next_fails disk ≡ true) ⊥ error
+  cause_now : (want : Want) (error : Error) → Cause (job_of want id) at store.parts.alloc_limit_bytes IsRead (next_fails disk ≡ true) ⊥ error
       → LooseCause trees Failed store begun now want id error
   cause_now want error c =
       record {
@@ -98,12 +98,12 @@ module _ (trees : ℕ → Tree) (Failed : Type 0) (Refused : Refusal → Type 0)
         among = among;
         cause = Cause-wider IsRead (GaveSometime trees begun now at)
             (λ read is. record { moment = now; from = later; to = omega arith; was = subst (λ tree. read ≡ read_of tree at) (sym shown) is })
-            (next_fails disk ≡ true) Failed ⊥ ⊥ fails (λ never. never) (job_of want id) at store.parts.limit error c;
+            (next_fails disk ≡ true) Failed ⊥ ⊥ fails (λ never. never) (job_of want id) at store.parts.alloc_limit_bytes error c;
       }
 
   -- what the file at the path holds now was held in the call
   held_now : (want : Want) (own : loose_files.Answer)
-      → loose_files.Gives (read_of (tree_of disk.state) at) (λ bytes. loose_files.Holds store.parts.limit (job_of want id) bytes own)
+      → loose_files.Gives (read_of (tree_of disk.state) at) (λ bytes. loose_files.Holds store.parts.alloc_limit_bytes (job_of want id) bytes own)
       → Held trees store.parts store.opened begun now want id (of_loose want own)
   held_now want own gives =
       let read = subst (λ tree. read_of tree at ≡ Ok (gives.bytes, gives.time)) (sym shown) gives.given in
@@ -148,16 +148,16 @@ module _ (trees : ℕ → Tree) (Failed : Type 0) (Refused : Refusal → Type 0)
 
   -- the verdict on the disk's answer says so much
   pub folder_says : (want : Want)
-      → SaysBy want (folder_verdict (asking store.parts.limit want id folder) (answer_now disk (folder_ask (asking store.parts.limit want id folder))))
+      → SaysBy want (folder_verdict (asking store.parts.alloc_limit_bytes want id folder) (answer_now disk (folder_ask (asking store.parts.alloc_limit_bytes want id folder))))
   folder_says Object =
-      let result = found_by at store.parts.limit (answer_now disk (asks.Read at)) in
-      find_says result (Says-now (loose_store store.parts.limit id folder) (jobs.Find id) disk (asks.Read at) (loose_replies.Found result) refl refl)
-      (sound_find at store.parts.limit (next_fails disk) (answer_of (tree_of disk.state) (asks.Read at)))
+      let result = found_by at store.parts.alloc_limit_bytes (answer_now disk (asks.Read at)) in
+      find_says result (Says-now (loose_store store.parts.alloc_limit_bytes id folder) (jobs.Find id) disk (asks.Read at) (loose_replies.Found result) refl refl)
+      (sound_find at store.parts.alloc_limit_bytes (next_fails disk) (answer_of (tree_of disk.state) (asks.Read at)))
   folder_says Header =
       let result = header_by at (answer_now disk (asks.Read at)) in
-      header_says result (Says-now (loose_store store.parts.limit id folder) (jobs.Header id) disk (asks.Read at) (loose_replies.Header result) refl refl)
+      header_says result (Says-now (loose_store store.parts.alloc_limit_bytes id folder) (jobs.Header id) disk (asks.Read at) (loose_replies.Header result) refl refl)
       (sound_header at (next_fails disk) (answer_of (tree_of disk.state) (asks.Read at)))
   folder_says Presence =
       let result = tested_by at (answer_now disk (asks.Look at true)) in
-      test_says result (Says-now (loose_store store.parts.limit id folder) (jobs.Contains id) disk (asks.Look at true) (loose_replies.Contains result) refl refl)
+      test_says result (Says-now (loose_store store.parts.alloc_limit_bytes id folder) (jobs.Contains id) disk (asks.Look at true) (loose_replies.Contains result) refl refl)
       (sound_test at (next_fails disk) (answer_of (tree_of disk.state) (asks.Look at true)))

@@ -1,18 +1,12 @@
 -- The opening and the closing of a handle, and the setting of its mode.
-use Rattle.std.proofs.Common.{◌≡◌, ℕ, ◌+◌, ◌&&◌, nat_le, Bool, true, false, List, [], ◌∷◌, ◌++◌, length, Some, None, Option, refl, sym, ◌∙◌, ap, subst, arith, Vec, Global}
-use Rattle.std.specs.List.{list_all}
-use Rattle.std.specs.Map.{keys_of}
-use Rattle.std.specs.Ordering.{eq_by_cmp}
-use Rattle.std.proofs.lemmas.Bool.{and_parts}
+use Rattle.std.proofs.Common.{◌≡◌, ℕ, ◌+◌, Bool, true, false, List, [], ◌∷◌, ◌++◌, length, Some, None, Option, refl, sym, ◌∙◌, ap, subst, arith, Vec, Global}
 use Rattle.std.proofs.lemmas.List.{length_push}
-use Rattle.std.proofs.lemmas.Map.Made.{update_all_none}
 use Rattle.odb_base.specs.Path.{Path}
 use Rattle.odb_disk.specs.MemDisk.{Volume}
 use Rattle.odb_disk.specs.Tree.{tree_of}
 use Rattle.gix_odb_watch.specs.Kept.{Kept}
 use Rattle.gix_hash.specs.declared.kind.Kind.{Kind as HashKind}
 use Rattle.gix_hash.specs.declared.object_id.ObjectId.{ObjectId}
-use Rattle.gix_odb_calls.specs.Hashes.{is_pair_of}
 use Rattle.gix_odb_calls.specs.declared.step.Step.TheVariants as steps
 use Rattle.gix_odb_calls.specs.declared.step.Outcome.TheVariants as outcomes
 use Rattle.gix_odb_calls.specs.declared.step.Why.{Why}
@@ -25,11 +19,9 @@ use Rattle.gix_odb_history.specs.declared.record.Did.TheVariants.{Core, Nothing}
 use Rattle.gix_odb_world.specs.Work.{Work}
 use Rattle.gix_odb_world.specs.Work.{Opening}
 use Rattle.gix_odb_world.specs.declared.course.Course.{Course}
-use Rattle.gix_hash.specs.ObjectId.{id_cmp}
 use Rattle.gix_odb_core.specs.History.{History}
 use Rattle.gix_odb_core.specs.Replay.{number_behind}
 use Rattle.gix_odb_events.specs.declared.event.Event.TheVariants as core_events
-use Rattle.gix_odb_world.specs.Bound.{most_changes}
 use Rattle.gix_odb_history.specs.Cores.{answer_behind, cores_after, cores_after_asked, history_at}
 use Rattle.gix_odb_history.specs.Event.{Asked, Event, OfCore}
 use Rattle.gix_odb_world.specs.Headline.{LeavesDisk, asked_applied, asked_by_close}
@@ -38,11 +30,10 @@ use Rattle.gix_odb_world.specs.Handle.{Begins, IsHandleOf, Seen, opening_parts, 
 use Rattle.gix_odb_world.specs.declared.handle.HandleAt.TheVariants as stands
 use Rattle.gix_odb_history.specs.Run.{IsTurnOf, did_of_asked}
 use Rattle.gix_odb_world.specs.Running.{Runs}
-use Rattle.gix_odb_world.specs.Valid.{Phase, NoneThere, Idle, Running, why_not_open, why_not_idle, are_distinct, are_good_folders, are_good_replacements}
+use Rattle.gix_odb_world.specs.Valid.{Phase, NoneThere, Idle, Running, why_not_open, why_not_idle}
 use Rattle.gix_odb_world.specs.World.{Continues, Explains, Matches, handle_at}
 use Rattle.gix_odb_world.specs.Table.{SetsHandle, Notes, phase_of_handle, phase_of_work, why_not_now, seen_ignoring}
 use Rattle.gix_odb_world.specs.Watch.{Watches}
-use Rattle.gix_odb_world.proofs.DistinctLemmas.{IsDistinct-by_count, ids_equal}
 use Rattle.gix_odb_world.proofs.StepLemmas.{Tells, applied, applied_at_core}
 use Rattle.gix_odb_world.proofs.KnowsLemmas.{begins, runs-push}
 
@@ -51,27 +42,11 @@ runs_opening : (first : Volume) (events : List Event) (e : Event) (handle : ℕ)
 runs_opening first events e handle store =
     let whole : length (events ++ e ∷ []) ≡ length events + 1 = length_push events e in (omega (arith, whole), begins first events e handle store modes_at_opening OpenStore tt)
 
--- each pair's first id is replaced by its second, where no id is replaced twice
-replacements_same : (path : Path) (folders : List Path) (hash : HashKind) (replacements : List (ObjectId × ObjectId)) (options : Options) (n : ℕ) (opening : OpenState)
+-- the handle of an opening is one of the store of its open step
+opens_store : (path : Path) (folders : List Path) (hash : HashKind) (replacements : List (ObjectId × ObjectId)) (options : Options) (n : ℕ) (opening : OpenState)
     → Begins path folders hash replacements options opening
     → IsHandleOf (store_at n path folders hash replacements options) modes_at_opening (opening_parts 0 opening)
-replacements_same path folders hash replacements options n opening begun =
-    let conditions = and_parts (are_good_folders path folders) (are_good_replacements hash replacements && nat_le options.max_changes most_changes) begun.good in
-    let both = and_parts (are_good_replacements hash replacements) (nat_le options.max_changes most_changes) conditions.1 in
-    let distinct = and_parts (are_distinct id_cmp (keys_of replacements)) (list_all (is_pair_of hash) replacements) both.0 in
-    let parts = begun.parts in
-    record {
-      objects = parts.objects_are;
-      folders = parts.folders_are;
-      replacements = λ id. parts.replacements_are.0 id ∙ update_all_none ids_equal (eq_by_cmp id_cmp) (λ x y. refl) replacements id (IsDistinct-by_count ids_equal (keys_of replacements) distinct.0);
-      ignoring = refl;
-      limit = parts.limit;
-      slots = parts.slots;
-      hash = parts.hash_is;
-      changes = begun.changes;
-      core = refl;
-      view = refl;
-    }
+opens_store path folders hash replacements options n opening begun = record { parts = begun.parts; ignoring = refl; changes = begun.changes; core = refl; view = refl }
 
 pub opened : (old mid new : Course) (shown : Kept) (number : ℕ) (path : Path) (folders : List Path) (hash : HashKind) (replacements : List (ObjectId × ObjectId)) (options : Options)
     (opening : OpenState)
@@ -83,7 +58,7 @@ opened old mid new shown number path folders hash replacements options opening f
     applied old mid new shown (steps.Open number path folders hash replacements options) number (Some (seen_at 0 (stands.Opening opening)))
     (λ n status. opening_at n (store_at n path folders hash replacements options))
     (ap (why_not_open (phase_of_handle (handle_at old number))) begins.good ∙ free) sets notes watches (λ turn. turn) refl (λ other turn. cc) (λ n asked table. refl)
-    (λ n status match. (replacements_same path folders hash replacements options n opening begins, ap (λ (own : OpenStage). Some (Opening own)) begins.begun))
+    (λ n status match. (opens_store path folders hash replacements options n opening begins, ap (λ (own : OpenStage). Some (Opening own)) begins.begun))
     (λ first events e explains opens asked no_turn. runs_opening first events e number (store_at (length events + 1) path folders hash replacements options))
     (λ events. refl)
 
@@ -151,7 +126,7 @@ matches_ignoring Free (Some handle) idle match = absurd match
 matches_ignoring (Resting store modes) None idle match = absurd match
 matches_ignoring (Resting store modes) (Some handle) idle match =
     let own = match.0 in
-    (record { objects = own.objects; folders = own.folders; replacements = own.replacements; ignoring = refl; limit = own.limit; slots = own.slots; hash = own.hash; changes = own.changes; core = own.core; view = own.view }, match.1)
+    (record { parts = own.parts; ignoring = refl; changes = own.changes; core = own.core; view = own.view }, match.1)
 matches_ignoring (Working running) None idle match = absurd match
 matches_ignoring (Working running) (Some handle) idle match =
     absurd (cc (subst (λ (w : Option Work). why_not_idle (phase_of_work handle.state.info.object_hash w) ≡ None) match.1 idle))

@@ -126,21 +126,21 @@ module _ (first : Volume) (events : List Event) (handle : ℕ) (store : Store) (
       cause =
           Cause-wider (GaveSometime trees begun moment (loose_path caused.folder id)) (GaveSometime trees begun now (loose_path caused.folder id))
           (λ read was. sometime_later begun moment now to _ was) Failed Failed ⊥ ⊥ (λ failed. failed) (λ never. never)
-          (job_of want id) (loose_path caused.folder id) store.parts.limit error caused.cause;
+          (job_of want id) (loose_path caused.folder id) store.parts.alloc_limit_bytes error caused.cause;
     }
 
   -- ---- what the loose objects of a folder said
 
   module _ (folder : Path) (among : Contains (folder_list store.parts) folder) (verdict : Verdict) (has : HasVerdict setting want id told folder verdict) where
     abbrev call : FolderCall
-    call = asking store.parts.limit want id folder
+    call = asking store.parts.alloc_limit_bytes want id folder
 
     given : IsGiven first events handle begun (folder_ask call) has.answer
     given = well.given (folder_ask call) has.answer has.told
 
     -- a failed call of the folder is one of the query
     fails : next_fails given.disk ≡ true → Failed
-    fails is = given.failed (fails_now-still given.disk (folder_ask call) (folder_asks_still store.parts.limit want id folder) ∙ is)
+    fails is = given.failed (fails_now-still given.disk (folder_ask call) (folder_asks_still store.parts.alloc_limit_bytes want id folder) ∙ is)
 
     said : VerdictSays trees Failed Refused told store begun given.moment want id folder (next_fails given.disk) verdict
     said =
@@ -171,7 +171,7 @@ module _ (first : Volume) (events : List Event) (handle : ℕ) (store : Store) (
 
   -- ---- what was found in packs
 
-  module _ (path : Path) (offset : ℕ) (row : IsInIndex Shown setting store.hash id path offset) where
+  module _ (path : Path) (offset : ℕ) (row : IsInIndex Shown setting store.parts.object_hash id path offset) where
     -- a row of an index answers a test
     row_held : want ≡ wants.Presence → IsHeld Presence
     row_held is = record {
@@ -185,7 +185,7 @@ module _ (first : Volume) (events : List Event) (handle : ℕ) (store : Store) (
     }
 
   -- an index and its pack hold what the pack has at the offset
-  module _ (Content : (pack : List ℕ) (offset : ℕ) → Type 0) (in_pack : IsInPack Shown setting store.hash id Content) where
+  module _ (Content : (pack : List ℕ) (offset : ℕ) → Type 0) (in_pack : IsInPack Shown setting store.parts.object_hash id Content) where
     pack_held : (answer : Answer) → HoldsEntry store.parts want (kind_of id) in_pack.pack in_pack.offset answer → IsHeld answer
     pack_held answer holds =
         let row = in_pack.index in
@@ -205,17 +205,17 @@ module _ (first : Volume) (events : List Event) (handle : ℕ) (store : Store) (
           );
         }
 
-  found : (wanted : Want) (reply : Reply) → want ≡ wanted → IsFound Shown setting store.hash id wanted reply → Says (claim_of wanted reply)
+  found : (wanted : Want) (reply : Reply) → want ≡ wanted → IsFound Shown setting store.parts.object_hash id wanted reply → Says (claim_of wanted reply)
   found wants.Object reply is in_pack =
       let own = in_pack.content in
       subst (λ r. Says (claim_of wants.Object r)) (sym own.is)
-      (pack_held (λ pack offset. IsEntryReply store.hash setting.limit pack offset reply) in_pack (Object own.entry.kind own.entry.bytes)
+      (pack_held (λ pack offset. IsEntryReply store.parts.object_hash setting.parts.alloc_limit_bytes pack offset reply) in_pack (Object own.entry.kind own.entry.bytes)
       (subst (λ q. HoldsEntry store.parts q (kind_of id) in_pack.pack in_pack.offset (Object own.entry.kind own.entry.bytes)) (sym is)
-      (own.entry, ap (λ hash. entry_at hash in_pack.pack in_pack.offset store.parts.limit) fits.hashed ∙ own.there, refl)))
+      (own.entry, ap (λ hash. entry_at hash in_pack.pack in_pack.offset store.parts.alloc_limit_bytes) fits.hashed ∙ own.there, refl)))
   found wants.Header reply is in_pack =
       let own = in_pack.content in
       subst (λ r. Says (claim_of wants.Header r)) (sym own.is)
-      (pack_held (λ pack offset. IsHeaderReply store.hash pack offset reply) in_pack (HeaderOf (headers.Packed own.header.kind own.header.size))
+      (pack_held (λ pack offset. IsHeaderReply store.parts.object_hash pack offset reply) in_pack (HeaderOf (headers.Packed own.header.kind own.header.size))
       (subst (λ q. HoldsEntry store.parts q (kind_of id) in_pack.pack in_pack.offset (HeaderOf (headers.Packed own.header.kind own.header.size))) (sym is)
       (own.header, ap (λ hash. header_at hash in_pack.pack in_pack.offset) fits.hashed ∙ own.there, refl)))
   found wants.Presence reply is row =
@@ -225,7 +225,7 @@ module _ (first : Volume) (events : List Event) (handle : ℕ) (store : Store) (
 
   answered : (reply : Reply) → result_of look ≡ Ok reply → IsAnswer reply → Says (claim_of want reply)
   answered reply is answer =
-      elim (what_is_found_was_shown Shown setting store.hash want id fits.hashed view well.snapshot told asked well.truth reply is answer) [
+      elim (what_is_found_was_shown Shown setting store.parts.object_hash want id fits.hashed view well.snapshot told asked well.truth reply is answer) [
         | inl in_packs ↦ found want reply refl in_packs
         | inr loose ↦
             let at = given loose.0 loose.1 (verdicts.Ends reply) loose.2 in
@@ -236,14 +236,14 @@ module _ (first : Volume) (events : List Event) (handle : ℕ) (store : Store) (
 
   module _ (is : result_of look ≡ Ok (not_found want)) where
     none_failed : ¬ Failed
-    none_failed failed = not_found_had_no_failure setting want id Shown store.hash view told asked well.truth is (well.failures failed)
+    none_failed failed = not_found_had_no_failure setting want id Shown store.parts.object_hash view told asked well.truth is (well.failures failed)
 
     module _ (folder : Path) (among : Contains (folder_list store.parts) folder) where
       abbrev has : HasVerdict setting want id told folder verdicts.Misses
       has = not_found_missed_in_each_folder setting want id view told asked is folder among
 
       -- the moment at which its loose objects were asked
-      abbrev at : IsGiven first events handle begun (folder_ask (asking store.parts.limit want id folder)) has.answer
+      abbrev at : IsGiven first events handle begun (folder_ask (asking store.parts.alloc_limit_bytes want id folder)) has.answer
       at = given folder among verdicts.Misses has
 
       passed : ¬ (LeadsToFile (trees at.moment) (loose_path folder id))
@@ -255,10 +255,10 @@ module _ (first : Volume) (events : List Event) (handle : ℕ) (store : Store) (
           let named = (always at.moment at.from at.to).named in
           let place : PackedPlace = record { folder = folder; name = name; named = named; offset = offset } in
           let still : IsPackedStill trees store begun now id place = record {
-            always = λ moment from to. lies_indexed store.parts want (trees moment) store.hash id fits.hashed place (always moment from to);
+            always = λ moment from to. lies_indexed store.parts want (trees moment) store.parts.object_hash id fits.hashed place (always moment from to);
             one = rule folder among name named;
           } in
-          nothing_still_in_packs_is_missed setting store.hash view want id told fits.hashed place among asked (well.fair id place none_failed still) is
+          nothing_still_in_packs_is_missed setting store.parts.object_hash view want id told fits.hashed place among asked (well.fair id place none_failed still) is
 
       none_still : (place : Place) → ¬ (Throughout begun now (λ moment. LiesAt store.parts want (trees moment) folder id place))
       none_still InLooseFile always =
@@ -269,9 +269,9 @@ module _ (first : Volume) (events : List Event) (handle : ℕ) (store : Store) (
     missed = (none_failed, λ still. none_still still.folder still.among still.place still.always)
 
   refusal : (error : finding.Error) → result_of look ≡ Ok (replies.Refused (call_errors.Find error)) → FindCause trees Failed Refused told store begun now want id error
-  refusal error is = by error (each_refusal_has_its_cause Shown setting store.hash want id fits.hashed view well.snapshot told asked well.truth modes.slots 0 well.numbered error is)
+  refusal error is = by error (each_refusal_has_its_cause Shown setting store.parts.object_hash want id fits.hashed view well.snapshot told asked well.truth modes.slots 0 well.numbered error is)
     where
-      by : (error : finding.Error) → IsCaused Shown setting store.hash id want told error → FindCause trees Failed Refused told store begun now want id error
+      by : (error : finding.Error) → IsCaused Shown setting store.parts.object_hash id want told error → FindCause trees Failed Refused told store begun now want id error
       by (errors.Loose error) caused =
           let at = given caused.0 caused.1 (verdicts.Ends (refused error)) caused.2 in
           cause_later at.moment at.to error (said caused.0 caused.1 (verdicts.Ends (refused error)) caused.2)

@@ -83,8 +83,8 @@ told_after first events handle running ask = told_now (stand_of events handle ru
 pub record IsStarted (first : Volume) (events : List Event) (handle : ℕ) (store : Store) (modes : Modes) (call : Call) : Type 0 where
   pub seated : IsSeated (cores_after events) handle modes
   pub sized : HasSize call
-  pub hashed : IsOfHash store.hash call
-  pub replaced : (id other : ObjectId) → replacement_in store.parts id ≡ Some other → kind_of other ≡ store.hash
+  pub hashed : IsOfHash store.parts.object_hash call
+  pub replaced : (id other : ObjectId) → replacement_in store.parts id ≡ Some other → kind_of other ≡ store.parts.object_hash
   pub distinct : IsDistinct same_path (folder_list store.parts)
   pub opened : store.opened ≤ length events
   pub stocked : IsStocked first events modes.core store

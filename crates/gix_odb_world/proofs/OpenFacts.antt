@@ -3,7 +3,8 @@
 use Rattle.std.proofs.Common.{◌≡◌, ℕ, ◌≤◌, Bool, true, false, cond, nat_le, List, [], ◌∷◌, length, take, Some, None, refl, sym, ◌∙◌, ap, subst, arith}
 use Rattle.std.specs.Prelude.{◌&&◌}
 use Rattle.std.specs.List.{AllByRecursion, IsDistinct, list_all}
-use Rattle.std.specs.Map.{keys_of, lookup}
+use Rattle.std.specs.FinMap.{find, from_entries, get, get-from_entries}
+use Rattle.std.specs.Map.{keys_of}
 use Rattle.std.specs.Ordering.{eq_by_cmp}
 use Rattle.std.proofs.lemmas.Bool.{and_parts}
 use Rattle.std.proofs.lemmas.Cmp.{eq_by_cmp_equiv}
@@ -12,13 +13,15 @@ use Rattle.odb_base.specs.Path.{Path, path_cmp}
 use Rattle.odb_base.specs.PathLaws.{path_order}
 use Rattle.odb_disk.specs.MemDisk.{Volume}
 use Rattle.gix_hash.specs.ObjectId.{id_cmp, kind_of}
+use Rattle.gix_hash.proofs.IdOrderLaws.{id_order}
 use Rattle.gix_hash.specs.declared.kind.Kind.{Kind as HashKind}
 use Rattle.gix_hash.specs.declared.kind.Kind.TheVariants.{Sha1, Sha256}
 use Rattle.gix_hash.specs.declared.object_id.ObjectId.{ObjectId}
 use Rattle.gix_odb_events.specs.PackFiles.{same_path}
 use Rattle.gix_odb_events.proofs.SamePathLaws.{same_path-true}
 use Rattle.gix_odb_calls.specs.Hashes.{is_id_of, is_pair_of, is_same_hash}
-use Rattle.gix_odb.specs.Contents.{StoreData, folder_list, replacement_in}
+use Rattle.gix_odb.specs.Contents.{folder_list, replacement_in}
+use Rattle.gix_odb_calls.specs.declared.store_parts.StoreParts.{StoreParts}
 use Rattle.gix_odb_world.specs.AtWork.{Modes, Store}
 use Rattle.gix_odb_world.specs.Begun.{FromClone, FromOpen, Holds, OpenedBy}
 use Rattle.gix_odb_world.specs.Bound.{most_changes}
@@ -60,24 +63,28 @@ IsDistinct-same_path (path ∷ paths) distinct = (all_differ path paths distinct
 
 -- ---- what replaces an id
 
-replaced_by : (hash : HashKind) (id other : ObjectId) (pairs : List (ObjectId × ObjectId)) → list_all (is_pair_of hash) pairs ≡ true
-    → lookup (eq_by_cmp id_cmp id) pairs ≡ Some other → kind_of other ≡ hash
-replaced_by hash id other [] all found = absurd (cc found)
-replaced_by hash id other (pair ∷ pairs) all found =
-    by (eq_by_cmp id_cmp id pair.0) refl found (replaced_by hash id other pairs both.1)
+found_of_hash : (hash : HashKind) (id other : ObjectId) (pairs : List (ObjectId × ObjectId)) → list_all (is_pair_of hash) pairs ≡ true
+    → find id_cmp id pairs ≡ Some other → kind_of other ≡ hash
+found_of_hash hash id other [] all found = absurd (cc found)
+found_of_hash hash id other (pair ∷ pairs) all found =
+    by (eq_by_cmp id_cmp id pair.0) refl found (found_of_hash hash id other pairs both.1)
   where
     both : (is_pair_of hash pair ≡ true) × (list_all (is_pair_of hash) pairs ≡ true)
     both = and_parts (is_pair_of hash pair) (list_all (is_pair_of hash) pairs) all
 
-    by : (b : Bool) → eq_by_cmp id_cmp id pair.0 ≡ b → lookup (eq_by_cmp id_cmp id) (pair ∷ pairs) ≡ Some other
-        → (lookup (eq_by_cmp id_cmp id) pairs ≡ Some other → kind_of other ≡ hash) → kind_of other ≡ hash
+    by : (b : Bool) → eq_by_cmp id_cmp id pair.0 ≡ b → find id_cmp id (pair ∷ pairs) ≡ Some other
+        → (find id_cmp id pairs ≡ Some other → kind_of other ≡ hash) → kind_of other ≡ hash
     by true is found later =
-        let here : Some pair.1 ≡ Some other = subst (λ (b : Bool). cond b (Some pair.1) (lookup (eq_by_cmp id_cmp id) pairs) ≡ Some other) is found in
+        let here : Some pair.1 ≡ Some other = subst (λ (b : Bool). cond b (Some pair.1) (find id_cmp id pairs) ≡ Some other) is found in
         let same : other ≡ pair.1 = cc here in
         let ids = and_parts (is_id_of hash pair.0) (is_id_of hash pair.1) both.0 in
         ap kind_of same ∙ same_is (kind_of pair.1) hash ids.1
     by false is found later =
-        later (subst (λ (b : Bool). cond b (Some pair.1) (lookup (eq_by_cmp id_cmp id) pairs) ≡ Some other) is found)
+        later (subst (λ (b : Bool). cond b (Some pair.1) (find id_cmp id pairs) ≡ Some other) is found)
+
+replaced_by : (hash : HashKind) (id other : ObjectId) (pairs : List (ObjectId × ObjectId)) → list_all (is_pair_of hash) pairs ≡ true
+    → get (from_entries {R = id_cmp} pairs) id ≡ Some other → kind_of other ≡ hash
+replaced_by hash id other pairs all is = found_of_hash hash id other pairs all (sym (get-from_entries id_order pairs id) ∙ is)
 
 -- ---- the store of a handle
 
@@ -85,7 +92,7 @@ replaced_by hash id other (pair ∷ pairs) all found =
 pub record IsOpenable (events : List Event) (store : Store) : Type 0 where
   pub opened : store.opened ≤ length events
   pub distinct : IsDistinct same_path (folder_list store.parts)
-  pub replaced : (id other : ObjectId) → replacement_in store.parts id ≡ Some other → kind_of other ≡ store.hash
+  pub replaced : (id other : ObjectId) → replacement_in store.parts id ≡ Some other → kind_of other ≡ store.parts.object_hash
 
 openable_by : (phase : Phase) (openable : Bool) → None ≡ why_not_open phase openable → openable ≡ true
 openable_by NoneThere true valid = refl
@@ -114,7 +121,8 @@ module _ (first : Volume) where
             subst (λ paths. IsDistinct same_path paths) (sym (ap folder_list opened.parts))
             (IsDistinct-same_path (opened.path ∷ opened.folders) (IsDistinct-by_count (eq_by_cmp_equiv path_order) (opened.path ∷ opened.folders) folders.1));
         replaced = λ id other is.
-            replaced_by opened.hash id other opened.replacements ids.1 (ap (λ (p : StoreData). replacement_in p id) (sym opened.parts) ∙ is) ∙ sym opened.hash_is;
+            replaced_by opened.hash id other opened.replacements ids.1 (ap (λ (p : StoreParts). replacement_in p id) (sym opened.parts) ∙ is)
+            ∙ ap (λ (p : StoreParts). p.object_hash) (sym opened.parts);
       }
 
   -- each prefix of a lawful run is lawful

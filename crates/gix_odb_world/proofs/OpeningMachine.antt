@@ -9,6 +9,7 @@ use Rattle.odb_disk.specs.declared.ask.DiskAsk.TheVariants as asks
 use Rattle.gix_odb_search.specs.ListOrder as lists
 use Rattle.gix_odb_calls.specs.declared.call.Reply.{Reply}
 use Rattle.gix_odb.specs.Contents.{folder_list}
+use Rattle.gix_odb_calls.specs.declared.store_parts.StoreParts.{StoreParts}
 use Rattle.gix_odb.specs.OpenExchanges.{AreAsked, behind}
 use Rattle.gix_odb.specs.OpenOrder as openings
 use Rattle.gix_odb.proofs.OpenLaws.{openings_ask_no_event, openings_register_few_slots}
@@ -41,17 +42,14 @@ opening_placed (Err state) = refl
 opening_asks : (store : Store) (modes : Modes) (code : HandleParts) → IsHandleOf store modes code → (state : OpenStage)
     → ask_on code (Opening state) ≡ opening.ask store state
 opening_asks store modes code own state =
-    ap (λ objects. openings.ask_of objects code.info.folders state) own.objects
-    ∙ ap (λ folders. openings.ask_of store.parts.objects folders state) own.folders
+    ap (λ (parts : StoreParts). openings.ask_of parts.objects parts.folders state) own.parts
 
 opening_feeds : (store : Store) (modes : Modes) (code : HandleParts) → IsHandleOf store modes code → (state : OpenStage) (answer : Option Answer)
     → result_in (fed_after code (Opening state) answer) ≡ placed opening (opening.feed store state answer)
 opening_feeds store modes code own state None = opening_placed (openings.result_of state)
 opening_feeds store modes code own state (Some answer) =
-    ap (λ objects. opening_result (openings.result_of (openings.fed objects code.info.folders code.info.slots state answer))) own.objects
-    ∙ (ap (λ folders. opening_result (openings.result_of (openings.fed store.parts.objects folders code.info.slots state answer))) own.folders
-    ∙ (ap (λ slots. opening_result (openings.result_of (openings.fed store.parts.objects store.parts.folders slots state answer))) own.slots
-    ∙ opening_placed (openings.result_of (openings.fed store.parts.objects store.parts.folders store.slots state answer))))
+    ap (λ (parts : StoreParts). opening_result (openings.result_of (openings.fed parts.objects parts.folders parts.slots state answer))) own.parts
+    ∙ opening_placed (openings.result_of (openings.fed store.parts.objects store.parts.folders store.parts.slots state answer))
 
 -- ---- its beginning
 
@@ -66,8 +64,8 @@ module _ (first : Volume) (events : List Event) (e : Event) (handle : ℕ) (stor
       record {
         task = refl;
         since = omega (arith, more);
-        is = ap (behind (setting_in store) store.slots opens.Looking) (sym none);
-        asked = subst (AreAsked (setting_in store) store.slots opens.Looking) (sym none) tt;
+        is = ap (behind (setting_in store) store.parts.slots opens.Looking) (sym none);
+        asked = subst (AreAsked (setting_in store) store.parts.slots opens.Looking) (sym none) tt;
         turns = ap length (sym none);
         well = answered_at_first first events e handle store;
         given = given_at_first first events e handle (length events + 1) none;
@@ -100,8 +98,8 @@ opening_kept first events e handle running state other knows =
     record {
       task = knows.task;
       since = omega (arith, since, more);
-      is = knows.is ∙ ap (behind setting running.store.slots opens.Looking) (sym same);
-      asked = subst (AreAsked setting running.store.slots opens.Looking) (sym same) knows.asked;
+      is = knows.is ∙ ap (behind setting running.store.parts.slots opens.Looking) (sym same);
+      asked = subst (AreAsked setting running.store.parts.slots opens.Looking) (sym same) knows.asked;
       turns = knows.turns ∙ ap length (sym same);
       well = answered_later first events e handle running.store running.begun same knows.well;
       given = given_as_before first events e handle running.begun same knows.given;
@@ -118,7 +116,7 @@ opening_takes first events handle running (opens.Listing lister percent minimum)
 opening_takes first events handle running (opens.Registering slots) knows =
     subst (λ t. TakesTurn first events handle running t (opening.ask running.store (opens.Registering slots))) (sym knows.task) (
       ap (openings.ask_of running.store.parts.objects running.store.parts.folders) (sym knows.is),
-      openings_register_few_slots (setting_in running.store) running.store.slots (told_since events handle running.begun) knows.asked knows.well.suited slots (sym knows.is),
+      openings_register_few_slots (setting_in running.store) running.store.parts.slots (told_since events handle running.begun) knows.asked knows.well.suited slots (sym knows.is),
       refl,
     )
 opening_takes first events handle running (opens.Done reply) knows = absurd knows.seen

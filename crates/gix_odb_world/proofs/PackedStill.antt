@@ -66,7 +66,7 @@ module _ (first : Volume) (events : List Event) (e : Event) (handle : ℕ) (runn
   before = told_since events handle running.begun
 
   abbrev hash : Kind
-  hash = running.store.hash
+  hash = running.store.parts.object_hash
 
   -- the folder that a stream was opened on listed the index as a file then
   lists : (folder : Path) (moment : ℕ) → running.begun ≤ moment → moment ≤ length events → (entries : List Entry)

@@ -81,7 +81,7 @@ no_call_refuses : (first : Volume) (events : List Event) (handle : ℕ) (store :
 no_call_refuses first events handle store modes begun call (replies.Refused (call_errors.Open error)) is promise =
     by_call-all (λ (T : Type 0). ¬ T)
     (λ query. QueryPromise (tree_at first events) (FailedSince events handle begun) (RefusedSince events handle modes.core begun) (told_since events handle begun) store modes begun (length events) query (replies.Refused (call_errors.Open error)))
-    (λ kind size bytes known. PromiseOfWrite first events handle store modes begun (to_write store.parts.objects store.hash kind size bytes known) (replies.Refused (call_errors.Open error)))
+    (λ kind size bytes known. PromiseOfWrite first events handle store modes begun (to_write store.parts.objects store.parts.object_hash kind size bytes known) (replies.Refused (call_errors.Open error)))
     (λ query never. never) (λ kind size bytes known never. never) call promise
 no_call_refuses first events handle store modes begun call reply is promise = cc is
 
@@ -171,8 +171,8 @@ module _ (past : List Event) (e : Event) where
           let fed : fed_in running.store (Opening state) (answered (told (Some (work_asks.Disk ask)))) ≡ Ok reply =
           sym (fed_by state (work_asks.Disk ask) at asks_it) ∙ reply_of _ reply (sym works.goes ∙ out) in
           let parts = running.store.parts in
-          answered_refuses parts.objects parts.folders running.store.slots state given reply on
-          (opened_by (openings.fed parts.objects parts.folders running.store.slots state (work_answers.Disk given)) reply fed)
+          answered_refuses parts.objects parts.folders running.store.parts.slots state given reply on
+          (opened_by (openings.fed parts.objects parts.folders running.store.parts.slots state (work_answers.Disk given)) reply fed)
 
       -- the turn that registers a handle seats it, and any other turn with which an opening ends refuses it
       opened_seat : (state : OpenStage) → running.work ≡ Opening state → IsOn state → IsNowhere before_it number → (reply : Reply) → e.outcome ≡ outcomes.Reply reply

@@ -17,10 +17,7 @@ use Rattle.gix_odb_world.specs.declared.handle.HandleAt.TheVariants as stands
 
 pub setting_same : (store : Store) (modes : Modes) (state : HandleParts) → IsHandleOf store modes state → setting_at state ≡ setting_in store
 setting_same store modes state own =
-    ap (λ objects. record (setting_at state) { objects = objects }) own.objects
-    ∙ (ap (λ folders. record (setting_at state) { objects = store.parts.objects; folders = folders }) own.folders
-    ∙ (ap (λ limit. record (setting_at state) { objects = store.parts.objects; folders = store.parts.folders; limit = limit }) own.limit
-    ∙ ap (λ most. record (setting_in store) { most = most }) own.changes))
+    ap (λ parts. record (setting_at state) { parts = parts }) own.parts ∙ ap (λ most. record (setting_in store) { most = most }) own.changes
 
 -- ---- the table of handles
 

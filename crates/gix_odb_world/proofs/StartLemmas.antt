@@ -1,8 +1,8 @@
 -- The start of a call on an idle handle.
 use Rattle.std.proofs.Common.{◌≡◌, ℕ, ◌+◌, Bool, true, false, List, [], ◌∷◌, ◌++◌, length, Some, None, Option, refl, sym, ◌∙◌, ap, subst, arith}
-use mathlib.Core.Path.{fun_ext}
 use Rattle.std.proofs.lemmas.List.{length_push}
 use Rattle.odb_disk.specs.MemDisk.{Volume}
+use Rattle.gix_odb_calls.specs.declared.store_parts.StoreParts.{StoreParts}
 use Rattle.gix_odb_calls.specs.declared.step.Step.TheVariants as steps
 use Rattle.gix_odb_calls.specs.declared.step.Outcome.TheVariants as outcomes
 use Rattle.gix_odb_calls.specs.declared.call.Call.{Call}
@@ -17,10 +17,10 @@ use Rattle.gix_odb_world.specs.declared.handle.Handle.{Handle}
 use Rattle.gix_odb_world.specs.declared.handle.HandleAt.TheVariants as stands
 use Rattle.gix_odb.specs.declared.call_state.CallState.{CallState}
 use Rattle.gix_odb.specs.declared.handle_state.HandleState.{HandleState}
-use Rattle.gix_odb.specs.Contents.{sought, sought_with}
+use Rattle.gix_odb.specs.Contents.{sought}
 use Rattle.gix_odb_history.specs.Event.{Event, OfNothing}
 use Rattle.gix_odb_world.specs.Status.{MakeCall, Store, Status, Free, Resting, Working, begun_with, setting_in, started, status_of, view_in_modes, Modes}
-use Rattle.gix_odb_world.specs.Handle.{HandleParts, IsHandleOf, Seen, replacement_of, seen, setting_at, sought_by, view_at}
+use Rattle.gix_odb_world.specs.Handle.{HandleParts, IsHandleOf, Seen, seen, setting_at, sought_by, view_at}
 use Rattle.gix_odb.specs.HandleState.{IsAlike, unseen}
 use Rattle.gix_odb_history.specs.Run.{IsTurnOf}
 use Rattle.gix_odb_world.specs.Running.{Runs, RunsThroughout}
@@ -52,13 +52,9 @@ work_started : (store : Store) (modes : Modes) (state : HandleParts) (call : Cal
     → Calling (calls.started (setting_at state) state.info.object_hash (view_at state) (sought_by state) call) ≡ begun_with store modes (MakeCall call)
 work_started store modes state call own =
     ap (λ setting. Calling (calls.started setting state.info.object_hash (view_at state) (sought_by state) call)) (setting_same store modes state own)
-    ∙ (ap (λ hash. Calling (calls.started (setting_in store) hash (view_at state) (sought_by state) call)) own.hash
-    ∙ (ap (λ view. Calling (calls.started (setting_in store) store.hash (unwrap_or view unseen) (sought_by state) call)) own.view
-    ∙ ap (λ seeks. Calling (calls.started (setting_in store) store.hash (view_in_modes modes) seeks call)) sought_same))
-  where
-    -- the handle seeks what its store does
-    sought_same : sought_by state ≡ sought store.parts modes.ignoring
-    sought_same = ap (λ ignoring. sought_with (replacement_of state) ignoring) own.ignoring ∙ ap (λ replacement. sought_with replacement modes.ignoring) (fun_ext own.replacements)
+    ∙ (ap (λ (parts : StoreParts). Calling (calls.started (setting_in store) parts.object_hash (view_at state) (sought parts state.ignoring) call)) own.parts
+    ∙ (ap (λ view. Calling (calls.started (setting_in store) store.parts.object_hash (unwrap_or view unseen) (sought store.parts state.ignoring) call)) own.view
+    ∙ ap (λ ignoring. Calling (calls.started (setting_in store) store.parts.object_hash (view_in_modes modes) (sought store.parts ignoring) call)) own.ignoring))
 
 matches_started : (n : ℕ) (call : Call) (status : Status) (handle : Seen) (work : Work) → why_not_start (phase_of_handle (Some handle)) call ≡ None
     → work ≡ Calling (calls.started (setting_at handle.state) handle.state.info.object_hash (view_at handle.state) (sought_by handle.state) call)
@@ -78,15 +74,15 @@ on_a_copy core state call handle is alike =
 -- ---- what holds where a call begins
 
 valid_idle : (status : Status) (call : Call) → None ≡ why_not_start (phase_of status) call → (store : Store) (modes : Modes) → status ≡ Resting store modes
-    → is_of_hash store.hash call ≡ true
-valid_idle status call valid store modes is = by (is_of_hash store.hash call) refl (valid ∙ ap (λ s. why_not_start (phase_of s) call) is)
+    → is_of_hash store.parts.object_hash call ≡ true
+valid_idle status call valid store modes is = by (is_of_hash store.parts.object_hash call) refl (valid ∙ ap (λ s. why_not_start (phase_of s) call) is)
   where
-    by : (b : Bool) → is_of_hash store.hash call ≡ b → None ≡ why_not_of_hash (is_of_hash store.hash call) → is_of_hash store.hash call ≡ true
+    by : (b : Bool) → is_of_hash store.parts.object_hash call ≡ b → None ≡ why_not_of_hash (is_of_hash store.parts.object_hash call) → is_of_hash store.parts.object_hash call ≡ true
     by true is valid = is
     by false is valid = absurd (cc (valid ∙ ap why_not_of_hash is))
 
 starts_well : (first : Volume) (events : List Event) (e : Event) (number : ℕ) (store : Store) (modes : Modes) (call : Call) → IsLawful first events
-    → status_of events number ≡ Resting store modes → e.asked ≡ OfNothing → HasSize call → is_of_hash store.hash call ≡ true
+    → status_of events number ≡ Resting store modes → e.asked ≡ OfNothing → HasSize call → is_of_hash store.parts.object_hash call ≡ true
     → RunsThroughout first events → IsTree (tree_of first.state) → IsStarted first (events ++ e ∷ []) number store modes call
 starts_well first events e number store modes call lawful status asked sized hashed throughout start =
     let cores : cores_after (events ++ e ∷ []) ≡ cores_after events = cores_after-push events e ∙ ap (cores_after_asked (cores_after events)) asked in

@@ -13,6 +13,7 @@ use Rattle.gix_odb_watch.specs.Kept.{IsSecond, Kept}
 use Rattle.gix_odb_watch.proofs.KeepsLaws.{second_shown, shown_second}
 use Rattle.odb_disk.specs.declared.change.Change.{Change}
 use Rattle.gix_odb_calls.specs.declared.step.Step.{Step}
+use Rattle.gix_odb_calls.specs.declared.store_parts.StoreParts.{StoreParts}
 use Rattle.gix_odb_calls.specs.declared.step.Step.TheVariants as steps
 use Rattle.gix_odb_calls.specs.declared.step.Outcome.{Outcome}
 use Rattle.gix_odb_calls.specs.declared.step.Outcome.TheVariants as outcomes
@@ -49,7 +50,7 @@ phase_of-matched Free None match = refl
 phase_of-matched Free (Some handle) match = absurd match
 phase_of-matched (Resting store modes) None match = absurd match
 phase_of-matched (Resting store modes) (Some handle) match =
-    ap Idle (sym match.0.hash) ∙ ap (phase_of_work handle.state.info.object_hash) (sym match.1)
+    ap (λ (parts : StoreParts). Idle parts.object_hash) (sym match.0.parts) ∙ ap (phase_of_work handle.state.info.object_hash) (sym match.1)
 phase_of-matched (Working running) None match = absurd match
 phase_of-matched (Working running) (Some handle) match = ap (phase_of_work handle.state.info.object_hash) (sym match.1)
 

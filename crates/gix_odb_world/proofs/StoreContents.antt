@@ -15,7 +15,8 @@ use Rattle.gix_odb_watch.specs.HasShown.{HasShown, Since, with_since}
 use Rattle.gix_odb_watch.specs.Watched.{pack_directory}
 use Rattle.gix_odb_watch.proofs.ReadLaws.{shows_read}
 use Rattle.gix_odb_calls.specs.declared.step.Step.TheVariants as steps
-use Rattle.gix_odb.specs.Contents.{StoreData, folder_list}
+use Rattle.gix_odb.specs.Contents.{folder_list}
+use Rattle.gix_odb_calls.specs.declared.store_parts.StoreParts.{StoreParts}
 use Rattle.gix_odb_world.specs.Begun.{IsOpenStore}
 use Rattle.gix_odb_history.specs.Event.{Event}
 use Rattle.gix_odb_history.specs.Run.{tree_at}
@@ -89,7 +90,7 @@ module _ (run : LawfulRun) where
     here : (begun : ℕ) × (watched_after upto folder ≡ Some begun)
     here =
         let at_open = named (watched_after past) (length past + 1) (opened.path ∷ opened.folders) folder
-        (subst (λ (parts : StoreData). Contains (folder_list parts) folder) opened.parts among) in (
+        (subst (λ (parts : StoreParts). Contains (folder_list parts) folder) opened.parts among) in (
           at_open.0,
           ap (λ es. watched_after es folder) upto_is ∙ ap (λ (s : Since). s folder) (watched_after-push past opened.event)
               ∙ (ap (λ s. watched_by (length past + 1) s opened.event.outcome (watched_after past) folder) opened.opens

@@ -70,25 +70,15 @@ handle_after : (store : Store) (modes : Modes) (state : HandleParts) (asked : As
 handle_after store modes state OfNothing own = own
 handle_after store modes state (OfDisk ask answer) own = own
 handle_after store modes state (OfCore number seat happens answer) own = record {
-  objects = own.objects;
-  folders = own.folders;
-  replacements = own.replacements;
+  parts = own.parts;
   ignoring = own.ignoring;
-  limit = own.limit;
-  slots = own.slots;
-  hash = own.hash;
   changes = own.changes;
   core = own.core;
   view = ap (or_before (view_in answer)) own.view;
 }
 handle_after store modes state (OfNewCore slots folders number seat answer) own = record {
-  objects = own.objects;
-  folders = own.folders;
-  replacements = own.replacements;
+  parts = own.parts;
   ignoring = own.ignoring;
-  limit = own.limit;
-  slots = own.slots;
-  hash = own.hash;
   changes = own.changes;
   core = refl;
   view = ap (or_before (view_in answer)) own.view;

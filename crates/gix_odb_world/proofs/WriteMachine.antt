@@ -83,7 +83,7 @@ write_feeds : (store : Store) (modes : Modes) (code : HandleParts) → IsHandleO
     → result_in (fed_after code (work_of state) answer) ≡ placed writing (write_fed store state answer)
 write_feeds store modes code own (InFront refresh call) None = refl
 write_feeds store modes code own (InFront refresh call) (Some answer) =
-    ap (λ (setting : Setting). calling_result (calls.result_of (fronted (refreshes.fed setting.objects setting.folders refresh answer) call))) (setting_same store modes code own)
+    ap (λ (setting : Setting). calling_result (calls.result_of (fronted (refreshes.fed setting.parts.objects setting.parts.folders refresh answer) call))) (setting_same store modes code own)
     ∙ front_placed call (refreshes.fed store.parts.objects store.parts.folders refresh answer)
 write_feeds store modes code own (Own call) None = own_placed (result_of_write call)
 write_feeds store modes code own (Own call) (Some answer) = own_placed (result_of_write (written_on call answer))

@@ -79,7 +79,7 @@ AsksInOrder first past handle store modes begun turns OpenStore ask = AsksAsOpen
 AsksInOrder first past handle store modes begun turns (MakeCall call) ask =
     by_call
     (λ query. AsksAsLook past handle store modes begun query (Some (parts.Disk ask)))
-    (λ kind size bytes known. AsksAsWrite first past handle store modes begun turns (to_write store.parts.objects store.hash kind size bytes known) ask)
+    (λ kind size bytes known. AsksAsWrite first past handle store modes begun turns (to_write store.parts.objects store.parts.object_hash kind size bytes known) ask)
     call
 
 -- How many slots and folders a task may ask for in a core for its store: an opening asks for the slots that its order of work needs, after all

@@ -1,29 +1,25 @@
 -- What a handle is at: a task in a store, and the work that is left of it.
 use Rattle.std.specs.Prelude.{ℕ, Bool, true, false, Option, None, unwrap_or}
-use Rattle.gix_hash.specs.declared.kind.Kind.{Kind as HashKind}
 use Rattle.gix_odb_events.specs.declared.view.View.{View}
-use Rattle.gix_odb.specs.Contents.{StoreData}
 use Rattle.gix_odb.specs.HandleState.{unseen}
 use Rattle.gix_odb.specs.LookUpOrder.{Setting}
 use Rattle.gix_odb_calls.specs.declared.call.Call.{Call}
-use Rattle.gix_odb_calls.specs.declared.init.Slots.{Slots}
+use Rattle.gix_odb_calls.specs.declared.store_parts.StoreParts.{StoreParts}
 use Rattle.gix_odb_events.specs.Answers.{view_in}
 use Rattle.gix_odb_history.specs.Cores.{or_before}
 use Rattle.gix_odb_history.specs.Event.{Asked, OfCore, OfDisk, OfNewCore, OfNothing}
 use Rattle.gix_odb_world.specs.Work.{Work}
 
--- a store that was opened, or whose opening runs: the number of its open step, how many slots it was to have, the hash of its ids, the number of
--- changes of the list that a call tolerates, and its parts
+-- a store that was opened, or whose opening runs: the number of its open step, its parts, and the most changes of the list of indices that a
+-- call tolerates
 pub record Store : Type 0 where
   pub opened : ℕ
-  pub slots : Slots
-  pub hash : HashKind
+  pub parts : StoreParts
   pub max_changes : ℕ
-  pub parts : StoreData
 
--- the setting of a look-up in a store
+-- the store as a handle on it sees it
 abbrev pub setting_in : Store → Setting
-setting_in store = record { objects = store.parts.objects; folders = store.parts.folders; limit = store.parts.limit; most = store.max_changes }
+setting_in store = record { parts = store.parts; most = store.max_changes }
 
 -- what a handle at work is to do: to open its store, or to make a call
 pub data Task : Type 0 where

@@ -3,6 +3,7 @@ use Rattle.std.specs.Prelude.{◌≡◌, ◌⊎◌, take, ◌↔◌, ℕ, ◌+�
 use Rattle.odb_base.specs.Path.{Path}
 use Rattle.gix_hash.specs.declared.kind.Kind.{Kind as HashKind}
 use Rattle.gix_hash.specs.declared.object_id.ObjectId.{ObjectId}
+use Rattle.gix_odb_calls.specs.StoreParts.{parts_of_store}
 use Rattle.gix_odb_calls.specs.declared.call.Call.{Call}
 use Rattle.gix_odb_calls.specs.declared.init.Options.{Options}
 use Rattle.gix_odb_calls.specs.declared.step.Step.{Step}
@@ -35,10 +36,8 @@ pub record OpenedBy (events : List Event) (handle begun : ℕ) (store : Store) :
   pub options : Options
   pub opens : event.step ≡ steps.Open handle path folders hash replacements options
   -- the store has what the step passed
-  pub slots : store.slots ≡ options.slots
-  pub hash_is : store.hash ≡ hash
+  pub parts : store.parts ≡ parts_of_store path folders hash replacements options
   pub changes : store.max_changes ≡ options.max_changes
-  pub parts : store.parts ≡ record { objects = path; folders = folders; replacements = replacements; limit = options.alloc_limit_bytes }
 
 -- a store is that of an open step of this handle
 abbrev pub IsOpenStore : List Event → ℕ → Store → Type 0

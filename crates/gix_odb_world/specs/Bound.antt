@@ -8,7 +8,8 @@ use Rattle.gix_odb_calls.specs.declared.call.Call.{Call}
 use Rattle.gix_odb_calls.specs.declared.call.Call.TheVariants.{Write}
 use Rattle.gix_odb_loose.specs.WriteJobs.{pieces_of}
 use Rattle.gix_odb.specs.Laps.{turns_of_lap}
-use Rattle.gix_odb.specs.Contents.{StoreData, folder_list}
+use Rattle.gix_odb.specs.Contents.{folder_list}
+use Rattle.gix_odb_calls.specs.declared.store_parts.StoreParts.{StoreParts}
 use Rattle.gix_odb_world.specs.AtWork.{Modes, Store, Task, OpenStore, MakeCall}
 
 -- ---- the numbers besides those of a lap, which is one way through all that a store's list names, and through its folders
@@ -44,13 +45,13 @@ abbrev pub is_prefix_name : Name → Bool
 is_prefix_name name = (length name == 2) && list_all (λ digit. list_any (λ d. d == digit) (codes "0123456789abcdef")) name
 
 -- the folders whose entries a call may list: `pack` and the prefix folders of each folder of the store
-pub data IsListed (store : StoreData) : Path → Type 0 where
+pub data IsListed (store : StoreParts) : Path → Type 0 where
   Pack : (folder : Path) (among : Contains (folder_list store) folder) → IsListed store (folder ++ codes "pack" ∷ [])
   Prefix : (folder : Path) (name : Name) (among : Contains (folder_list store) folder) (hex : is_prefix_name name ≡ true)
       → IsListed store (folder ++ name ∷ [])
 
 -- no folder that a call may list has more entries, at any moment from `begun` to `now`
-abbrev pub HasAtMost : (ℕ → Tree) → StoreData → ℕ → ℕ → ℕ → Type 0
+abbrev pub HasAtMost : (ℕ → Tree) → StoreParts → ℕ → ℕ → ℕ → Type 0
 HasAtMost trees store begun now entries =
     (moment : ℕ) → begun ≤ moment → moment ≤ now → (folder : Path) (names : List Name) → IsListed store folder
     → listed (trees moment) folder ≡ Ok names → length names ≤ entries

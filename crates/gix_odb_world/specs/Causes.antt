@@ -41,9 +41,9 @@ ShowsDirectory tree path = IsDirectoryMeta (looked tree path true)
 abbrev pub OpeningCause : (ℕ → Tree) → Type 0 → (told : List Exchange) → Store → ℕ → ℕ → opening.Error → Type 0
 OpeningCause trees Failed told store begun now opening_errors.NotADirectory = Sometime begun now (λ moment. ¬ ShowsDirectory (trees moment) store.parts.objects)
 OpeningCause trees Failed told store begun now (opening_errors.TooManySlots asked) =
-    IsNumber (setting_in store) store.slots told asked × (most_slots < asked) × Sometime begun now (λ moment. ShowsDirectory (trees moment) store.parts.objects)
+    IsNumber (setting_in store) store.parts.slots told asked × (most_slots < asked) × Sometime begun now (λ moment. ShowsDirectory (trees moment) store.parts.objects)
 OpeningCause trees Failed told store begun now opening_errors.Io = Failed
-OpeningCause trees Failed told store begun now (opening_errors.LoadIndex error) = openings.IsCaused (setting_in store) store.slots told (opening_errors.LoadIndex error)
+OpeningCause trees Failed told store begun now (opening_errors.LoadIndex error) = openings.IsCaused (setting_in store) store.parts.slots told (opening_errors.LoadIndex error)
 OpeningCause trees Failed told store begun now opening_errors.NoMemory = ⊥
 
 -- a read of a path had this result at some moment of a call
@@ -54,7 +54,7 @@ GaveSometime trees begun now path read = Sometime begun now (λ moment. read ≡
 pub record LooseCause (trees : ℕ → Tree) (Failed : Type 0) (store : Store) (begun now : ℕ) (want : Want) (id : ObjectId) (error : loose.Error) : Type 0 where
   pub folder : Path
   pub among : Contains (folder_list store.parts) folder
-  pub cause : Cause (job_of want id) (loose_path folder id) store.parts.limit (GaveSometime trees begun now (loose_path folder id)) Failed ⊥ error
+  pub cause : Cause (job_of want id) (loose_path folder id) store.parts.alloc_limit_bytes (GaveSometime trees begun now (loose_path folder id)) Failed ⊥ error
 
 -- What each error of a query says, where `Failed` says that a call of the disk failed in it, `Refused` which refusals its core answered,
 -- and `told` are the answers to the handle since it began: an error of the loose objects of a folder was caused by what these read; one of the
@@ -62,5 +62,5 @@ pub record LooseCause (trees : ℕ → Tree) (Failed : Type 0) (store : Store) (
 abbrev pub FindCause : (ℕ → Tree) → Type 0 → (Refused : CoreRefusal → Type 0) → (told : List Exchange) → Store → ℕ → ℕ → Want → ObjectId → finding.Error → Type 0
 FindCause trees Failed Refused told store begun now want id (find_errors.Loose error) = LooseCause trees Failed store begun now want id error
 FindCause trees Failed Refused told store begun now want id (find_errors.LoadIndex error) =
-    LoadCause Refused (IsCaused (WasShownAt trees store.opened now) (setting_in store) store.hash id want told (find_errors.LoadIndex error)) error
-FindCause trees Failed Refused told store begun now want id error = IsCaused (WasShownAt trees store.opened now) (setting_in store) store.hash id want told error
+    LoadCause Refused (IsCaused (WasShownAt trees store.opened now) (setting_in store) store.parts.object_hash id want told (find_errors.LoadIndex error)) error
+FindCause trees Failed Refused told store begun now want id error = IsCaused (WasShownAt trees store.opened now) (setting_in store) store.parts.object_hash id want told error

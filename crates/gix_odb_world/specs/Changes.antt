@@ -62,7 +62,7 @@ pub record ChangesInWrite (first : Volume) (past : List Event) (handle begun : �
 abbrev pub ChangesInTask : Volume → List Event → (handle : ℕ) → Store → (begun : ℕ) → Task → DiskAsk → Option Change → Type 0
 ChangesInTask first past handle store begun task ask None = Unit {0}
 ChangesInTask first past handle store begun (MakeCall (Write kind size bytes known)) ask (Some change) =
-    ChangesInWrite first past handle begun (to_write store.parts.objects store.hash kind size bytes known) ask change
+    ChangesInWrite first past handle begun (to_write store.parts.objects store.parts.object_hash kind size bytes known) ask change
 ChangesInTask first past handle store begun task ask (Some change) = ⊥
 
 -- a turn changes the tree as its ask does, if it asks for anything: only a call of the disk changes the tree

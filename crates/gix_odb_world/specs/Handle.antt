@@ -1,16 +1,14 @@
 -- What a handle of the code has and is at, how it represents a store, and how its opening begins.
 use Rattle.std.specs.Prelude.{◌≡◌, ℕ, Bool, true, false, List, Option, Some, None, unwrap_or}
-use Rattle.std.specs.BTreeMap.{get}
 use Rattle.odb_base.specs.Path.{Path}
 use Rattle.gix_hash.specs.declared.kind.Kind.{Kind as HashKind}
 use Rattle.gix_hash.specs.declared.object_id.ObjectId.{ObjectId}
-use Rattle.gix_hash.specs.ObjectId.{id_cmp}
-use Rattle.gix_odb.specs.Contents.{replacement_in, sought_with}
+use Rattle.gix_odb.specs.Contents.{sought}
 use Rattle.gix_odb.specs.HandleState.{unseen}
 use Rattle.gix_odb.specs.OpenOrder.{started}
-use Rattle.gix_odb.specs.OpenState.{IsMadeOf}
 use Rattle.gix_odb.specs.declared.handle_state.HandleState.{HandleState}
 use Rattle.gix_odb.specs.declared.open_state.OpenState.{OpenState}
+use Rattle.gix_odb_calls.specs.StoreParts.{parts_of_store}
 use Rattle.gix_odb_calls.specs.declared.init.Options.{Options}
 use Rattle.gix_odb_calls.specs.declared.query.Query.{Query}
 use Rattle.gix_odb_calls.specs.declared.store_parts.StoreParts.{StoreParts}
@@ -55,44 +53,31 @@ seen handle = seen_at handle.core handle.at
 
 -- ---- what a look-up and a query take from it
 
+-- the store as a handle sees it
 abbrev pub setting_at : HandleParts → Setting
-setting_at handle = record {
-  objects = handle.info.objects;
-  folders = handle.info.folders;
-  limit = handle.info.alloc_limit_bytes;
-  most = handle.max_changes;
-}
+setting_at handle = record { parts = handle.info; most = handle.max_changes }
 
 -- what a handle sees: its snapshot, if it has one
 abbrev pub view_at : HandleParts → View
 view_at handle = unwrap_or handle.view unseen
 
--- the id that replaces another
-abbrev pub replacement_of : HandleParts → ObjectId → Option ObjectId
-replacement_of handle id = get id_cmp handle.info.replacements id
-
 -- the id that a query seeks
 abbrev pub sought_by : HandleParts → Query → ObjectId
-sought_by handle query = sought_with (replacement_of handle) handle.ignoring query
+sought_by handle query = sought handle.info handle.ignoring query
 
 -- ---- a store
 
 -- an opening begins: the conditions hold, it has what its open step was passed, and nothing was asked
 pub record Begins (objects : Path) (folders : List Path) (hash : HashKind) (replacements : List (ObjectId × ObjectId)) (options : Options) (opening : OpenState) : Type 0 where
   pub good : is_openable objects folders hash replacements options.max_changes ≡ true
-  pub parts : IsMadeOf objects folders hash replacements options opening.info.value
+  pub parts : opening.info.value ≡ parts_of_store objects folders hash replacements options
   pub changes : opening.max_changes ≡ options.max_changes
   pub begun : opening.stage ≡ started
 
 -- the handle is one of the store, in these modes
 pub record IsHandleOf (store : Store) (modes : Modes) (handle : HandleParts) : Type 0 where
-  pub objects : handle.info.objects ≡ store.parts.objects
-  pub folders : handle.info.folders ≡ store.parts.folders
-  pub replacements : (id : ObjectId) → replacement_of handle id ≡ replacement_in store.parts id
+  pub parts : handle.info ≡ store.parts
   pub ignoring : handle.ignoring ≡ modes.ignoring
-  pub limit : handle.info.alloc_limit_bytes ≡ store.parts.limit
-  pub slots : handle.info.slots ≡ store.slots
-  pub hash : handle.info.object_hash ≡ store.hash
   pub changes : handle.max_changes ≡ store.max_changes
   pub core : handle.core ≡ modes.core
   pub view : handle.view ≡ modes.view

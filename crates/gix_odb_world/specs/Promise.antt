@@ -39,7 +39,7 @@ pub record MadeCore (events : List Event) (slots folders : ℕ) : Type 0 where
 -- An open store has the slots that were given, or as many as are needed for the files that its opening counted, each of which was shown meanwhile;
 -- they are those of the core that was made for it, and its objects directory was shown in the opening.
 pub record Opens (events : List Event) (trees : ℕ → Tree) (told : List Exchange) (store : Store) (begun now slots : ℕ) : Type 0 where
-  pub number : IsCountedNumber trees (setting_in store) told begun now store.slots slots
+  pub number : IsCountedNumber trees (setting_in store) told begun now store.parts.slots slots
   pub core : MadeCore events slots (length (folder_list store.parts))
   pub not_too_many : slots ≤ most_slots
   pub directory : Sometime begun now (λ moment. ShowsDirectory (trees moment) store.parts.objects)
@@ -95,5 +95,5 @@ Promise first events handle store modes begun OpenStore reply =
 Promise first events handle store modes begun (MakeCall call) reply =
     by_call
     (λ query. QueryPromise (tree_at first events) (FailedSince events handle begun) (RefusedSince events handle modes.core begun) (told_since events handle begun) store modes begun (length events) query reply)
-    (λ kind size bytes known. PromiseOfWrite first events handle store modes begun (to_write store.parts.objects store.hash kind size bytes known) reply)
+    (λ kind size bytes known. PromiseOfWrite first events handle store modes begun (to_write store.parts.objects store.parts.object_hash kind size bytes known) reply)
     call

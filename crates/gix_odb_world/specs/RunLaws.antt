@@ -60,17 +60,17 @@ pub record KeepsRunLaws (first : Volume) (events : List Event) : Type 0 where
   -- where a query read an index in a folder of its store, and the bytes parse, its next turn stores these bytes
   pub stores_index : (place : ℕ) (e : Event) (handle : ℕ) (running : Running) (query : Query) → IsQueryTurn events place e handle running query
       → (before : ℕ) (read : Event) (path : Path) (bytes : List ℕ) (time : ℕ) → IsTurnBefore events handle running.begun before read place
-      → Reads read path (answers.File bytes time) → IsIndexPath (setting_in running.store) path → is_index running.store.hash bytes ≡ true
-      → (slot : ℕ) × AsksCore e (core_events.PutIndex slot path (record { kind = running.store.hash; bytes = bytes }))
+      → Reads read path (answers.File bytes time) → IsIndexPath (setting_in running.store) path → is_index running.store.parts.object_hash bytes ≡ true
+      → (slot : ℕ) × AsksCore e (core_events.PutIndex slot path (record { kind = running.store.parts.object_hash; bytes = bytes }))
   -- the same for a pack that it read
   pub stores_pack : (place : ℕ) (e : Event) (handle : ℕ) (running : Running) (query : Query) → IsQueryTurn events place e handle running query
       → (before : ℕ) (read : Event) (path : Path) (bytes : List ℕ) (time : ℕ) → IsTurnBefore events handle running.begun before read place
-      → Reads read path (answers.File bytes time) → IsPackPath (setting_in running.store) path → is_pack running.store.hash bytes ≡ true
-      → (pack : PackId) × AsksCore e (core_events.PutPack pack path (record { kind = running.store.hash; bytes = bytes }))
+      → Reads read path (answers.File bytes time) → IsPackPath (setting_in running.store) path → is_pack running.store.parts.object_hash bytes ≡ true
+      → (pack : PackId) × AsksCore e (core_events.PutPack pack path (record { kind = running.store.parts.object_hash; bytes = bytes }))
   -- What a query stores it read in the turn before, as the file's path showed it then; and it passes a file over only in the turn after a read of
   -- its path, for what that read gave.
   pub just_read : (place : ℕ) (e : Event) (handle : ℕ) (running : Running) (query : Query) → IsQueryTurn events place e handle running query
-      → (event : CoreEvent) → AsksCore e event → IsBacked events (tree_at first events) handle running.begun place running.store.hash event
+      → (event : CoreEvent) → AsksCore e event → IsBacked events (tree_at first events) handle running.begun place running.store.parts.object_hash event
   -- The rows of a listing that a query or a write passes to the core have different paths, each that of an index in the pack directory of one of the
   -- folders of the handle's store, and none is of a multi-pack index. The index of each was itself a file in the call, and its pack's path showed one.
   pub rows_shown : (place : ℕ) (e : Event) (handle : ℕ) (running : Running) → IsTurnAt events place e handle running
@@ -84,7 +84,7 @@ pub record KeepsRunLaws (first : Volume) (events : List Event) : Type 0 where
   pub hashes : (place : ℕ) (e : Event) (handle : ℕ) (running : Running) (asked : ObjectId) → IsQueryTurn events place e handle running (find_of asked)
       → (kind : Kind) (bytes : List ℕ) → e.outcome ≡ outcomes.Reply (replies.Found kind bytes)
       → ObjectsHash (tree_at first events) (length events) running.store
-      → object_id running.store.hash kind bytes ≡ sought running.store.parts running.modes.ignoring (find_of asked)
+      → object_id running.store.parts.object_hash kind bytes ≡ sought running.store.parts running.modes.ignoring (find_of asked)
   -- A query doesn't end with "not found", in a store whose list had been read as the query began, while its object moves from a loose file of a
   -- folder into a pack there.
   pub moved_found : (place : ℕ) (e : Event) (handle : ℕ) (running : Running) (query : Query) → IsQueryTurn events place e handle running query

@@ -6,6 +6,7 @@ use Rattle.gix_hash.specs.declared.object_id.ObjectId.{ObjectId}
 use Rattle.gix_odb_loose.specs.declared.call.LooseCall.{LooseCall}
 use Rattle.gix_odb.specs.Contents.{sought}
 use Rattle.gix_odb.specs.CallOrder as calls
+use Rattle.gix_odb_calls.specs.StoreParts.{parts_of_store}
 use Rattle.gix_odb_calls.specs.declared.call.Call.{Call}
 use Rattle.gix_odb_calls.specs.declared.call.CallError.TheVariants as call_errors
 use Rattle.gix_odb_calls.specs.declared.call.Reply.{Reply}
@@ -39,16 +40,14 @@ pub record IsAtWrite (status : Status) (running : Running) (call : LooseCall) : 
 abbrev pub store_at : ℕ → Path → List Path → HashKind → List (ObjectId × ObjectId) → Options → Store
 store_at number path folders hash replacements options = record {
   opened = number;
-  slots = options.slots;
-  hash = hash;
+  parts = parts_of_store path folders hash replacements options;
   max_changes = options.max_changes;
-  parts = record { objects = path; folders = folders; replacements = replacements; limit = options.alloc_limit_bytes };
 }
 
 -- the work with which a task of a store's handle begins
 abbrev pub begun_with : Store → (modes : Modes) → Task → Work
 begun_with store modes OpenStore = Opening Looking
-begun_with store modes (MakeCall call) = Calling (calls.started (setting_in store) store.hash (view_in_modes modes) (sought store.parts modes.ignoring) call)
+begun_with store modes (MakeCall call) = Calling (calls.started (setting_in store) store.parts.object_hash (view_in_modes modes) (sought store.parts modes.ignoring) call)
 
 -- what a store's handle is at whose task is set by the event that has a number
 abbrev pub running_from : ℕ → Task → Store → (modes : Modes) → Running

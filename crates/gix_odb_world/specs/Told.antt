@@ -56,7 +56,7 @@ look_now events handle store modes begun query =
 
 -- the stage of an opening that began at the event that has a number, after all answers to its handle since then
 abbrev pub opening_now : List Event → (handle : ℕ) → Store → (begun : ℕ) → OpenStage
-opening_now events handle store begun = openings.behind (setting_in store) store.slots opens.Looking (told_since events handle begun)
+opening_now events handle store begun = openings.behind (setting_in store) store.parts.slots opens.Looking (told_since events handle begun)
 
 -- the refresh before a write of a handle that began at the event that has a number, as it begins; and after all answers to the handle
 -- since then

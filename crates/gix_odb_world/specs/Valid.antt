@@ -34,7 +34,7 @@ pub data Phase : Type 0 where
 
 abbrev pub phase_of : Status → Phase
 phase_of Free = NoneThere
-phase_of (Resting store modes) = Idle store.hash
+phase_of (Resting store modes) = Idle store.parts.object_hash
 phase_of (Working running) = Running
 
 -- no two items of a list are equal by an order

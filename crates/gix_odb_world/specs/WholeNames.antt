@@ -32,7 +32,7 @@ pub record GivesName (events : List Event) (place : ℕ) (w : ToWrite) (to : Pat
   pub at : IsAtWrite (status_of (take place events) handle) running call
   pub begins : BegunBy (take place events) handle running.begun (call_to_write w)
   pub into : w.objects ≡ running.store.parts.objects
-  pub hashed : w.hash ≡ running.store.hash
+  pub hashed : w.hash ≡ running.store.parts.object_hash
   pub from : Path
   pub moves : event.entry.change ≡ Some (Rename from to)
 

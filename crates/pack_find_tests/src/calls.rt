@@ -4,12 +4,13 @@ use crate::happening::happen_for;
 use crate::openings::first_view;
 use crate::shown::{put_ask, put_event, put_reply};
 use gix_hash::Kind;
-use gix_odb::{Answer, Ask, Call, CallState, HandleState, PathList, Slots, StoreParts};
+use gix_odb::{
+    Answer, Ask, Call, CallState, HandleState, PathList, Replacements, Slots, StoreParts,
+};
 use gix_odb_core::Core;
 use odb_base::{NoMemory, PathText};
 use odb_mem_disk::{DiskAnswer, DiskAsk, MemDisk};
 use std::alloc::Global;
-use std::collections::BTreeMap;
 use std::sync::Arc;
 use std::test::Fail;
 use test_words::{Text, cut};
@@ -115,10 +116,9 @@ fn store_parts(alloc: Global) -> Result<StoreParts, Fail> {
         objects: PathText::parse(alloc, "/o")?,
         folders: PathList::new(alloc),
         object_hash: Kind::Sha1,
-        replacements: BTreeMap::new(alloc),
+        replacements: Replacements::from_pairs(alloc, &[])?,
         alloc_limit_bytes: None,
         slots: Slots::Given(1),
-        max_changes: 16,
     })
 }
 

@@ -146,9 +146,9 @@ module _ (Shown : Path → List ℕ → Type 0) (setting : Setting) (hash : Kind
   -- what a folder's answer comes to
   pub folder_tells : (want : Want) (folder : Path) → Contains (folders_of setting) folder → (answer : DiskAnswer)
       → (answer ≡ answers.Refused disk_errors.Failed → HasFailed exchanges)
-      → HasVerdict setting want id exchanges folder (folder_verdict (asking setting.limit want id folder) answer)
-      → VerdictTells want (folder_verdict (asking setting.limit want id folder) answer)
-  folder_tells Object folder among answer fails says = find_tells folder among Object (found_by (loose_path folder id) setting.limit answer) says
+      → HasVerdict setting want id exchanges folder (folder_verdict (asking setting.parts.alloc_limit_bytes want id folder) answer)
+      → VerdictTells want (folder_verdict (asking setting.parts.alloc_limit_bytes want id folder) answer)
+  folder_tells Object folder among answer fails says = find_tells folder among Object (found_by (loose_path folder id) setting.parts.alloc_limit_bytes answer) says
   folder_tells Header folder among answer fails says = header_tells folder among Header (header_by (loose_path folder id) answer) says
   folder_tells Presence folder among answer fails says =
       test_tells folder among Presence (tested_by (loose_path folder id) answer) (tested_failed (loose_path folder id) answer fails) says

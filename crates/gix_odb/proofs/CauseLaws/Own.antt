@@ -138,9 +138,9 @@ module _ (setting : Setting) (now : ℕ) where
 
     verdict_owned : (round : LooseRound) (verdict : Verdict) → OwnedPart round.part → Owned (by_verdict setting head round verdict)
     verdict_owned round (verdicts.Ends reply) is = tt
-    verdict_owned round verdicts.Misses is = folder_owned round (slice_get setting.folders round.next) is
+    verdict_owned round verdicts.Misses is = folder_owned round (slice_get setting.parts.folders round.next) is
     verdict_owned round (verdicts.Notes error) is =
-        folder_owned (record round { notes = record round.notes { failed = true } }) (slice_get setting.folders round.next) is
+        folder_owned (record round { notes = record round.notes { failed = true } }) (slice_get setting.parts.folders round.next) is
 
     -- ---- looks and listings
 
@@ -179,18 +179,18 @@ module _ (setting : Setting) (now : ℕ) where
     read_owned purposes.Again view notes is = is
 
     shown_owned : (purpose : Purpose) (notes : Notes) (view : View) → IsBelow head.own view.list_no now
-        → IsLookOwned now (by_refresh setting head purpose notes (by_view setting.objects view))
+        → IsLookOwned now (by_refresh setting head purpose notes (by_view setting.parts.objects view))
     shown_owned purpose notes view is = by view.read
       where
         by : (b : Bool)
             → IsLookOwned now
-            (by_refresh setting head purpose notes (if b then steps.Read view else steps.More (refreshes.listing_from setting.objects view.list_no)))
+            (by_refresh setting head purpose notes (if b then steps.Read view else steps.More (refreshes.listing_from setting.parts.objects view.list_no)))
         by true = read_owned purpose view notes is
         by false = is
 
     look_owned : (purpose : Purpose) (notes : Notes) (view : Option View) → ((shown : View) → view ≡ Some shown → now ≡ shown.list_no)
         → IsBelow head.own now now
-        → IsLookOwned now (by_refresh setting head purpose notes (by_look setting.objects view))
+        → IsLookOwned now (by_refresh setting head purpose notes (by_look setting.parts.objects view))
     look_owned purpose notes None shows is = is
     look_owned purpose notes (Some view) shows is = shown_owned purpose notes view (omega (arith, is.0, shows view refl), omega (arith, shows view refl))
 
@@ -244,8 +244,8 @@ module _ (setting : Setting) (slots before : ℕ) (head : LookHead) where
             (omega (arith, is.0, later), omega arith)
         by (stages.Refreshing fronts.Reading purpose notes) (told.Core (Err refusal)) later asked numbered is = tt
         by (stages.Refreshing (fronts.Listing lister) purpose notes) (told.Disk answer) later asked numbered is =
-            listed_owned setting before head purpose notes lister.head.base (lists.fed setting.folders lister answer)
-            (listing_keeps_its_base setting.folders lister answer) is
+            listed_owned setting before head purpose notes lister.head.base (lists.fed setting.parts.folders lister answer)
+            (listing_keeps_its_base setting.parts.folders lister answer) is
         by (stages.Refreshing (fronts.Listing lister) purpose notes) (told.Core answer) later asked numbered is = (is.0, omega (arith, is.1))
         by (stages.Refreshing (fronts.Publishing listing) purpose notes) (told.Disk answer) later asked numbered is = is
         by (stages.Refreshing (fronts.Publishing listing) purpose notes) (told.Core (Ok effect)) later asked numbered is =

@@ -61,7 +61,7 @@ use Rattle.gix_odb_search.proofs.TrierLaws.{Comes, Fits, failed-passes, fed-come
 module _ (setting : Setting) (want : Want) (id : ObjectId) where
   -- a folder's call has just begun
   abbrev pub IsOfFolder : FolderCall → Type 0
-  IsOfFolder call = (folder : Path) × Contains (folders_of setting) folder × (call ≡ asking setting.limit want id folder)
+  IsOfFolder call = (folder : Path) × Contains (folders_of setting) folder × (call ≡ asking setting.parts.alloc_limit_bytes want id folder)
 
   abbrev pub StandsAt : LookStage → Type 0
   StandsAt (stages.Trying trier part) = trier.goal.want ≡ want
@@ -85,10 +85,10 @@ module _ (setting : Setting) (head : LookHead) where
   load_refused-stand error = refused_replies head.want (find_errors.LoadIndex error)
 
   loose_from-stand : (part : Part) (notes : Notes) → Stand (loose_from setting head part notes)
-  loose_from-stand part notes = (setting.objects, first_folder setting, refl)
+  loose_from-stand part notes = (setting.parts.objects, first_folder setting, refl)
 
   listing_from-stand : (base : ℕ) (notes : Notes) → Stand (listing_from setting base notes)
-  listing_from-stand base notes = (setting.objects, first_folder setting, refl)
+  listing_from-stand base notes = (setting.parts.objects, first_folder setting, refl)
 
   after_list-stand : (part : Part) (notes : Notes) → Stand (after_list setting head part notes)
   after_list-stand parts.Snapshot notes = loose_from-stand parts.Snapshot notes
@@ -128,21 +128,21 @@ module _ (setting : Setting) (head : LookHead) where
 
   -- ---- the loose folders
 
-  at_folder-stand : (round : LooseRound) (next : Option Path) → slice_get setting.folders round.next ≡ next → Stand (at_folder setting head round next)
+  at_folder-stand : (round : LooseRound) (next : Option Path) → slice_get setting.parts.folders round.next ≡ next → Stand (at_folder setting head round next)
   at_folder-stand round None is = after_loose-stand round.part round.notes
   at_folder-stand round (Some folder) is = (folder, later_folder setting round.next folder is, refl)
 
   by_verdict-stand : (round : LooseRound) (verdict : Verdict) → EndsWell head.want verdict → Stand (by_verdict setting head round verdict)
   by_verdict-stand round (verdicts.Ends reply) well = well
-  by_verdict-stand round verdicts.Misses well = at_folder-stand round (slice_get setting.folders round.next) refl
+  by_verdict-stand round verdicts.Misses well = at_folder-stand round (slice_get setting.parts.folders round.next) refl
   by_verdict-stand round (verdicts.Notes error) well =
-      at_folder-stand (record round { notes = record round.notes { failed = true } }) (slice_get setting.folders round.next) refl
+      at_folder-stand (record round { notes = record round.notes { failed = true } }) (slice_get setting.parts.folders round.next) refl
 
   by_asking-stand : (round : LooseRound) (folder : Path) (answer : DiskAnswer)
-      → Stand (by_verdict setting head round (folder_verdict (asking setting.limit head.want head.id folder) answer))
+      → Stand (by_verdict setting head round (folder_verdict (asking setting.parts.alloc_limit_bytes head.want head.id folder) answer))
   by_asking-stand round folder answer =
-      by_verdict-stand round (folder_verdict (asking setting.limit head.want head.id folder) answer)
-      (verdict_ends_well head.want (loose_path folder head.id) setting.limit answer)
+      by_verdict-stand round (folder_verdict (asking setting.parts.alloc_limit_bytes head.want head.id folder) answer)
+      (verdict_ends_well head.want (loose_path folder head.id) setting.parts.alloc_limit_bytes answer)
 
   by_call-stand : (round : LooseRound) (call : FolderCall) → IsOfFolder setting head.want head.id call → (answer : DiskAnswer)
       → Stand (by_verdict setting head round (folder_verdict call answer))
@@ -195,14 +195,14 @@ by_refresh-stand setting head purpose notes (steps.Outdated list_no) goes =
 by_refresh-stand setting head purpose notes (steps.Refused error) goes = load_refused-stand setting head error
 
 module _ (setting : Setting) where
-  view_stands : (view : View) → StepStands setting (by_view setting.objects view)
+  view_stands : (view : View) → StepStands setting (by_view setting.parts.objects view)
   view_stands view = by view.read
     where
-      by : (b : Bool) → StepStands setting (if b then steps.Read view else steps.More (refreshes.listing_from setting.objects view.list_no))
+      by : (b : Bool) → StepStands setting (if b then steps.Read view else steps.More (refreshes.listing_from setting.parts.objects view.list_no))
       by true = tt
-      by false = (setting.objects, first_folder setting, refl)
+      by false = (setting.parts.objects, first_folder setting, refl)
 
-  look_stands : (view : Option View) → StepStands setting (by_look setting.objects view)
+  look_stands : (view : Option View) → StepStands setting (by_look setting.parts.objects view)
   look_stands None = tt
   look_stands (Some view) = view_stands view
 
@@ -219,12 +219,12 @@ module _ (setting : Setting) where
 
   refresh_stands : (head : LookHead) (refresh : Refresh) (purpose : Purpose) (notes : Notes) (answer : Answer)
       → StandsAt setting head.want head.id (stages.Refreshing refresh purpose notes)
-      → StepStands setting (refreshes.fed setting.objects setting.folders refresh answer)
+      → StepStands setting (refreshes.fed setting.parts.objects setting.parts.folders refresh answer)
   refresh_stands head fronts.Reading purpose notes (told.Disk answer) is = tt
   refresh_stands head fronts.Reading purpose notes (told.Core (Ok effect)) is = look_stands (view_shown effect)
   refresh_stands head fronts.Reading purpose notes (told.Core (Err refusal)) is = tt
   refresh_stands head (fronts.Listing lister) purpose notes (told.Disk answer) is =
-      listed_stands (lists.fed setting.folders lister answer) (fed-goes setting lister is answer)
+      listed_stands (lists.fed setting.parts.folders lister answer) (fed-goes setting lister is answer)
   refresh_stands head (fronts.Listing lister) purpose notes (told.Core answer) is = is
   refresh_stands head (fronts.Publishing listing) purpose notes (told.Disk answer) is = tt
   refresh_stands head (fronts.Publishing listing) purpose notes (told.Core (Ok effect)) is = published_stands listing effect
@@ -238,7 +238,7 @@ fed_at-stand setting head (stages.Trying trier part) answer is =
 fed_at-stand setting head (stages.Loose round call) (told.Disk answer) is = by_call-stand setting head round call is answer
 fed_at-stand setting head (stages.Loose round call) (told.Core answer) is = is
 fed_at-stand setting head (stages.Refreshing refresh purpose notes) answer is =
-    by_refresh-stand setting head purpose notes (refreshes.fed setting.objects setting.folders refresh answer)
+    by_refresh-stand setting head purpose notes (refreshes.fed setting.parts.objects setting.parts.folders refresh answer)
     (refresh_stands setting head refresh purpose notes answer is)
 fed_at-stand setting head (stages.Checking list_no notes) (told.Disk answer) is = tt
 fed_at-stand setting head (stages.Checking list_no notes) (told.Core (Ok effect)) is = by_checked-stand setting head list_no notes (view_shown effect)
@@ -261,7 +261,7 @@ fed_at-head setting head (stages.Trying trier part) answer = (refl, refl)
 fed_at-head setting head (stages.Loose round call) (told.Disk answer) = (refl, refl)
 fed_at-head setting head (stages.Loose round call) (told.Core answer) = (refl, refl)
 fed_at-head setting head (stages.Refreshing refresh purpose notes) answer =
-    by_refresh-head setting head purpose notes (refreshes.fed setting.objects setting.folders refresh answer)
+    by_refresh-head setting head purpose notes (refreshes.fed setting.parts.objects setting.parts.folders refresh answer)
 fed_at-head setting head (stages.Checking list_no notes) (told.Disk answer) = (refl, refl)
 fed_at-head setting head (stages.Checking list_no notes) (told.Core (Ok effect)) = (refl, refl)
 fed_at-head setting head (stages.Checking list_no notes) (told.Core (Err refusal)) = (refl, refl)

@@ -1,7 +1,6 @@
 -- What an exchange adds to what is known of a look-up.
-use Rattle.std.proofs.Common.{◌≡◌, ℕ, ◌+◌, ◌-◌, ◌<◌, Bool, true, false, ◌==◌, List, slice_get, Contains, Option, Some, None, Ok, Err, refl, sym, ◌∙◌, ap, subst, inl}
-use Rattle.std.specs.Prelude.{if◌then◌else◌, unwrap_or}
-use Rattle.std.proofs.lemmas.Bool.{ltb-true}
+use Rattle.std.proofs.Common.{◌≡◌, ℕ, ◌+◌, ◌-◌, ◌<◌, Bool, true, false, List, Contains, Option, Some, None, Ok, Err, refl, sym, ap, subst}
+use Rattle.std.specs.Prelude.{if◌then◌else◌}
 use Rattle.odb_base.specs.Path.{Path}
 use Rattle.odb_disk.specs.declared.ask.DiskAnswer.{DiskAnswer}
 use Rattle.gix_hash.specs.declared.kind.Kind.{Kind}
@@ -13,9 +12,7 @@ use Rattle.gix_odb_events.specs.declared.event.Effect.TheVariants as effects
 use Rattle.gix_odb_events.specs.declared.event.Event.TheVariants as events
 use Rattle.gix_odb_events.specs.declared.view.View.{View}
 use Rattle.gix_odb_events.specs.declared.listing.Listing.{Listing}
-use Rattle.gix_odb_events.specs.declared.loaded.Todo.{Todo}
 use Rattle.gix_odb_search.specs.ListOrder as lists
-use Rattle.gix_odb_search.specs.TryOrder.{seek}
 use Rattle.gix_odb_search.specs.TryOrder as tries
 use Rattle.gix_odb_events.specs.declared.answer.Answer.{Answer}
 use Rattle.gix_odb_events.specs.declared.answer.Answer.TheVariants as told
@@ -24,10 +21,8 @@ use Rattle.gix_odb_events.specs.declared.answer.Ask.TheVariants as asks
 use Rattle.gix_odb_search.specs.declared.lister.ListStep.{ListStep}
 use Rattle.gix_odb_search.specs.declared.lister.ListStep.TheVariants as listed
 use Rattle.gix_odb_search.specs.declared.search.Notes.{Notes}
-use Rattle.gix_odb_search.specs.declared.trier.Ahead.{Ahead}
-use Rattle.gix_odb_search.specs.declared.goal.Goal.{Goal}
 use Rattle.gix_odb_search.specs.declared.index_loader.IndexLoader.TheVariants as loaders
-use Rattle.gix_odb_search.proofs.TrierLaws.{Comes, fed-comes, seek-comes}
+use Rattle.gix_odb_search.proofs.TrierLaws.{fed-comes}
 use Rattle.gix_odb.specs.Caused.{IsRefused}
 use Rattle.gix_odb.specs.LookExchanges.{HasFailed}
 use Rattle.gix_odb_events.specs.declared.event.Event.{Event}
@@ -36,22 +31,17 @@ use Rattle.gix_odb_search.specs.declared.lister.Lister.{Lister}
 use Rattle.gix_odb_search.specs.declared.trier.Stage.{Stage as TryStage}
 use Rattle.gix_odb_search.specs.declared.trier.Stage.TheVariants as try_stages
 use Rattle.gix_odb_search.specs.declared.trier.Trier.{Trier}
-use Rattle.gix_odb_search.specs.declared.trier.Tried.{Tried}
-use Rattle.gix_odb_search.specs.declared.trier.Tried.TheVariants as tried
 use Rattle.gix_odb_calls.specs.Verdict.{asking, folder_ask, folder_verdict}
-use Rattle.gix_odb_calls.specs.declared.load_index.Error.TheVariants as load_errors
 use Rattle.gix_odb_calls.specs.declared.verdict.FolderCall.{FolderCall}
-use Rattle.gix_odb_calls.specs.declared.verdict.Verdict.{Verdict}
-use Rattle.gix_odb_calls.specs.declared.verdict.Verdict.TheVariants as verdicts
-use Rattle.gix_odb.specs.Caused.{IsUnsettled, TellsNumber}
+use Rattle.gix_odb.specs.Caused.{TellsNumber}
 use Rattle.gix_odb.specs.LookExchanges.{Exchange, IsLast, WasTold, first_number, is_publish, published_in}
-use Rattle.gix_odb.specs.LookUpOrder.{Setting, after_list, after_loose, ask_at, at_folder, by_check}
-use Rattle.gix_odb.specs.LookUpOrder.{by_checked, by_read, by_refresh, by_tried}
-use Rattle.gix_odb.specs.LookUpOrder.{by_verdict, counted, ended, fed_at, goal_of, is_unsettled, listing_from, load_refused, not_found}
-use Rattle.gix_odb.specs.LookUpOrder.{trier_fed, try_view, unsettled, view_of, view_shown, with_own, without_absent}
+use Rattle.gix_odb.specs.LookUpOrder.{Setting, ask_at}
+use Rattle.gix_odb.specs.LookUpOrder.{by_refresh}
+use Rattle.gix_odb.specs.LookUpOrder.{fed_at}
+use Rattle.gix_odb.specs.LookUpOrder.{trier_fed, view_of, view_shown, with_own, without_absent}
 use Rattle.gix_odb.specs.Shown.{folders_of}
 use Rattle.gix_odb.specs.True.{IsTrue}
-use Rattle.gix_odb.specs.RefreshOrder.{by_listed, by_look, by_published, by_view}
+use Rattle.gix_odb.specs.RefreshOrder.{by_listed, by_look, by_published}
 use Rattle.gix_odb.specs.RefreshOrder as refreshes
 use Rattle.gix_odb.specs.declared.refresh.Refresh.TheVariants as fronts
 use Rattle.gix_odb.specs.declared.refresh.RefreshStep.TheVariants as steps
@@ -70,8 +60,9 @@ use Rattle.gix_odb.proofs.ListerLaws.Tells as listers
 use Rattle.gix_odb.proofs.ListerLaws.Tells.{HasFailed-from_told}
 use Rattle.gix_odb.proofs.CauseLaws.Pasts.{Noted, no_more_own, one_more_own}
 use Rattle.gix_odb.proofs.CauseLaws.Standing.{IsOfFolder, StandsAt}
-use Rattle.gix_odb.proofs.CauseLaws.Known.{Counts, HasBegun, KnowsAt, ShowedPart, VerdictTells, bad_explained, folder_tells, found_explained}
-use Rattle.gix_odb.proofs.CauseLaws.Known.{not_found_explained, refusal_explained}
+use Rattle.gix_odb.proofs.CauseLaws.Known.{Counts, HasBegun, KnowsAt, ShowedPart, folder_tells}
+use Rattle.gix_odb.proofs.CauseLaws.Known.{refusal_explained}
+use Rattle.gix_odb.proofs.CauseLaws.Onward.{by_checked-known, by_listed-known, by_look-known, by_tried-known, by_verdict-known, counted-known, try_view-known}
 
 module _ (Shown : Path → List ℕ → Type 0) (setting : Setting) (hash : Kind) (id : ObjectId)
     (exchanges : List Exchange) where
@@ -81,133 +72,6 @@ module _ (Shown : Path → List ℕ → Type 0) (setting : Setting) (hash : Kind
   -- the core refused an event with this refusal
   abbrev Refuses : Refusal → Type 0
   Refuses refusal = IsRefused exchanges refusal
-
-  module _ (head : LookHead) where
-    listing_from-known : (base : ℕ) (notes : Notes) → Noted exchanges notes → HasBegun head → Knows head (listing_from setting base notes)
-    listing_from-known base notes noted begun = (noted, begun, tt)
-
-    after_list-known : (part : Part) (notes : Notes) → Noted exchanges notes → ShowedPart head part → Knows head (after_list setting head part notes)
-    after_list-known parts.Snapshot notes noted showed = (noted, tt)
-    after_list-known (parts.List list_no true) notes noted showed = (noted, showed)
-    after_list-known (parts.List list_no false) notes noted showed = listing_from-known list_no notes noted showed
-    after_list-known (parts.Published list_no) notes noted showed = (noted, showed)
-
-    after_loose-known : (part : Part) (notes : Notes) → Noted exchanges notes → ShowedPart head part → Knows head (after_loose setting part notes)
-    after_loose-known parts.Snapshot notes noted showed = noted
-    after_loose-known (parts.List list_no loose) notes noted showed = listing_from-known list_no notes noted showed
-    after_loose-known (parts.Published list_no) notes noted showed = noted
-
-    ended-known : (notes : Notes) → Noted exchanges notes → Knows head (ended head.want notes)
-    ended-known notes noted = by notes.failed refl
-      where
-        by : (b : Bool) → notes.failed ≡ b → Knows head (if b then stages.Done (load_refused load_errors.Io) else stages.Done (not_found head.want))
-        by true is = inl (noted is)
-        by false is = not_found_explained Shown setting hash id exchanges head.want
-
-    -- ---- the indices of a list
-
-    by_tried-known : (part : Part) → ShowedPart head part → (goal : Goal) (t : Tried) → Comes goal (HasFailed exchanges) Refuses t
-        → Knows head (by_tried setting head part t)
-    by_tried-known part showed goal (tried.More trier) tells = (tells.1, showed, tells.2)
-    by_tried-known part showed goal (tried.Hit found) tells = found_explained Shown setting hash id exchanges head.want found
-    by_tried-known part showed goal (tried.Missed notes) tells = after_list-known part notes tells showed
-    by_tried-known part showed goal (tried.Bad error) tells = bad_explained Shown setting hash id exchanges head.want error
-    by_tried-known part showed goal (tried.Broken refusal) tells = refusal_explained Shown setting hash id exchanges head.want refusal tells
-
-    pub try_view-known : (part : Part) → ShowedPart head part → (view : View) (todo : List Todo) (notes : Notes) → Noted exchanges notes
-        → Knows head (try_view setting head part view todo notes)
-    try_view-known part showed view todo notes noted =
-        by_tried-known part showed (goal_of setting head) (seek (goal_of setting head) ahead)
-        (seek-comes (goal_of setting head) (HasFailed exchanges) Refuses ahead noted)
-      where
-        ahead : Ahead
-        ahead = record { indices = view.snapshot.indices; todo = todo; notes = notes }
-
-    -- ---- the loose folders
-
-    at_folder-known : (round : LooseRound) → Noted exchanges round.notes → ShowedPart head round.part → (next : Option Path)
-        → Knows head (at_folder setting head round next)
-    at_folder-known round noted showed None = after_loose-known round.part round.notes noted showed
-    at_folder-known round noted showed (Some folder) = (noted, showed)
-
-    by_verdict-known : (round : LooseRound) → Noted exchanges round.notes → ShowedPart head round.part → (verdict : Verdict)
-        → VerdictTells Shown setting hash id exchanges head.want verdict
-        → Knows head (by_verdict setting head round verdict)
-    by_verdict-known round noted showed (verdicts.Ends reply) tells = tells
-    by_verdict-known round noted showed verdicts.Misses tells = at_folder-known round noted showed (slice_get setting.folders round.next)
-    by_verdict-known round noted showed (verdicts.Notes error) tells =
-        at_folder-known (record round { notes = record round.notes { failed = true } }) (λ is. tells) showed (slice_get setting.folders round.next)
-
-    -- ---- the core
-
-    module _ (counts : Counts exchanges head) (begun : HasBegun head) (exchange : Exchange) (last : IsLast exchanges exchange) where
-      -- more lists of others than the look-up may meet
-      unsettled-known : (now : ℕ) → TellsNumber exchange.answer now → is_unsettled setting head now ≡ true
-          → IsUnsettled Shown setting hash id exchanges (unwrap_or head.begun now) head.own now
-      unsettled-known now number many =
-          let same : unwrap_or head.begun now ≡ begun.0 = ap (λ (b : Option ℕ). unwrap_or b now) begun.1 in
-          record {
-            first = sym counts.begun ∙ begun.1 ∙ ap (λ (n : ℕ). Some n) (sym same);
-            published = counts.own;
-            exchange = exchange;
-            last = last;
-            number = number;
-            many = ltb-true setting.most (now - unwrap_or head.begun now - head.own) many;
-          }
-
-      counted-known : (now : ℕ) → TellsNumber exchange.answer now → (next : LookStage) → Knows head next → Knows head (counted setting head now next)
-      counted-known now number next knows = by (is_unsettled setting head now) refl
-        where
-          by : (b : Bool) → is_unsettled setting head now ≡ b → Knows head (if b then unsettled head now else next)
-          by true is = unsettled-known now number is
-          by false is = knows
-
-      by_check-known : (list_no : ℕ) (view : View) (notes : Notes) → Noted exchanges notes → TellsNumber exchange.answer view.list_no
-          → Knows head (by_check setting head list_no view notes)
-      by_check-known list_no view notes noted number = by (view.list_no == list_no)
-        where
-          by : (b : Bool) → Knows head (if b then ended head.want notes else counted setting head view.list_no (listing_from setting view.list_no notes))
-          by true = ended-known notes noted
-          by false = counted-known view.list_no number (listing_from setting view.list_no notes) (listing_from-known view.list_no notes noted begun)
-
-    by_checked-known : Counts exchanges head → (exchange : Exchange) → IsLast exchanges exchange → (list_no : ℕ) (notes : Notes) → Noted exchanges notes
-        → (view : Option View) → ((v : View) → view ≡ Some v → HasBegun head × TellsNumber exchange.answer v.list_no)
-        → Knows head (by_checked setting head list_no notes view)
-    by_checked-known counts exchange last list_no notes noted None shows = noted
-    by_checked-known counts exchange last list_no notes noted (Some view) shows =
-        by_check-known counts (shows view refl).0 exchange last list_no view notes noted (shows view refl).1
-
-    -- ---- the list of the core is read, or brought up to date
-
-    abbrev KnowsLook : LookUp → Type 0
-    KnowsLook look = Knows look.head look.stage
-
-    by_read-known : HasBegun head → (purpose : Purpose) (view : View) (notes : Notes) → Noted exchanges notes → Knows head (by_read setting head purpose view notes)
-    by_read-known begun (purposes.First loose) view notes noted = try_view-known (parts.List view.list_no loose) begun view view.todo notes noted
-    by_read-known begun purposes.Again view notes noted = listing_from-known view.list_no notes noted begun
-
-    by_view-known : HasBegun head → (purpose : Purpose) (view : View) (notes : Notes) → Noted exchanges notes
-        → KnowsLook (by_refresh setting head purpose notes (by_view setting.objects view))
-    by_view-known begun purpose view notes noted = by view.read
-      where
-        by : (b : Bool)
-            → KnowsLook (by_refresh setting head purpose notes (if b then steps.Read view else steps.More (refreshes.listing_from setting.objects view.list_no)))
-        by true = by_read-known begun purpose view notes noted
-        by false = (noted, begun, tt)
-
-    by_look-known : (purpose : Purpose) (notes : Notes) → Noted exchanges notes → (view : Option View) → ((v : View) → view ≡ Some v → HasBegun head)
-        → KnowsLook (by_refresh setting head purpose notes (by_look setting.objects view))
-    by_look-known purpose notes noted None shows = noted
-    by_look-known purpose notes noted (Some view) shows = by_view-known (shows view refl) purpose view notes noted
-
-    by_listed-known : (purpose : Purpose) (notes : Notes) → Noted exchanges notes → HasBegun head → (step : ListStep)
-        → ListedTells setting exchanges step
-        → KnowsLook (by_refresh setting head purpose notes (by_listed step))
-    by_listed-known purpose notes noted begun (listed.More lister) tells = (noted, begun, tells)
-    by_listed-known purpose notes noted begun (listed.Listed listing) tells = (noted, begun)
-    by_listed-known purpose notes noted begun listed.Broken tells = tells
-
-  -- ---- an exchange
 
   -- what an answer at a stage shows, where so many lists were published before it
   pub record Answered (before : ℕ) (head : LookHead) (stage : LookStage) (answer : Answer) : Type 0 where
@@ -266,7 +130,7 @@ module _ (Shown : Path → List ℕ → Type 0) (setting : Setting) (hash : Kind
     trying-known trier part answer t knows =
         let was = was_told (stages.Trying trier part) answer t (tries.ask_of trier) refl in (
           quiet (stages.Trying trier part) answer t (tries.ask_of trier) refl (trier_publishes_none trier.stage answer),
-          by_tried-known head part knows.1 trier.goal (trier_fed trier answer)
+          by_tried-known Shown setting hash id exchanges head part knows.1 trier.goal (trier_fed trier answer)
               (fed-comes (HasFailed exchanges) Refuses trier answer knows.0 knows.2
               (HasFailed-from_told exchanges (tries.ask_of trier) answer was)
               (λ event refusal asked is. record { event = event; told = told_so (tries.ask_of trier) answer event refusal asked is was })),
@@ -282,7 +146,7 @@ module _ (Shown : Path → List ℕ → Type 0) (setting : Setting) (hash : Kind
     module _ (round : LooseRound) (knows : Noted exchanges round.notes × ShowedPart head round.part) where
       module _ (folder : Path) (among : Contains (folders_of setting) folder) where
         abbrev call_asked : FolderCall
-        call_asked = asking setting.limit head.want id folder
+        call_asked = asking setting.parts.alloc_limit_bytes head.want id folder
 
         abbrev at_call : LookStage
         at_call = stages.Loose round call_asked
@@ -292,7 +156,7 @@ module _ (Shown : Path → List ℕ → Type 0) (setting : Setting) (hash : Kind
             let ask = asks.Disk (folder_ask call_asked) in
             let was = was_told at_call (told.Disk answer) t ask refl in (
               quiet at_call (told.Disk answer) t ask refl refl,
-              by_verdict-known head round knows.0 knows.1 (folder_verdict call_asked answer)
+              by_verdict-known Shown setting hash id exchanges head round knows.0 knows.1 (folder_verdict call_asked answer)
                   (folder_tells Shown setting hash id exchanges head.want folder among answer
                   (λ is. HasFailed-from_told exchanges ask (told.Disk answer) was (ap (λ (a : DiskAnswer). told.Disk a) is))
                   (record { answer = answer; told = was; is = refl })),
@@ -320,15 +184,15 @@ module _ (Shown : Path → List ℕ → Type 0) (setting : Setting) (hash : Kind
     listing-known lister purpose notes at knows (told.Disk answer) t =
         let stage : LookStage = stages.Refreshing (fronts.Listing lister) purpose notes in
         let truth = is_true stage (told.Disk answer) t (asks.Disk (lists.ask_of lister)) refl in
-        listing_counts (lists.fed setting.folders lister answer) (quiet stage (told.Disk answer) t (asks.Disk (lists.ask_of lister)) refl refl)
+        listing_counts (lists.fed setting.parts.folders lister answer) (quiet stage (told.Disk answer) t (asks.Disk (lists.ask_of lister)) refl refl)
         (listers.fed-tells setting exchanges lister at knows.2 answer truth.0
         (was_told stage (told.Disk answer) t (asks.Disk (lists.ask_of lister)) refl))
       where
         listing_counts : (step : ListStep) → Counts exchanges head → ListedTells setting exchanges step
             → Knowing (by_refresh setting head purpose notes (by_listed step))
-        listing_counts (listed.More next) counts tells = (counts, by_listed-known head purpose notes knows.0 knows.1 (listed.More next) tells)
-        listing_counts (listed.Listed listing) counts tells = (counts, by_listed-known head purpose notes knows.0 knows.1 (listed.Listed listing) tells)
-        listing_counts listed.Broken counts tells = (counts, by_listed-known head purpose notes knows.0 knows.1 listed.Broken tells)
+        listing_counts (listed.More next) counts tells = (counts, by_listed-known Shown setting hash id exchanges head purpose notes knows.0 knows.1 (listed.More next) tells)
+        listing_counts (listed.Listed listing) counts tells = (counts, by_listed-known Shown setting hash id exchanges head purpose notes knows.0 knows.1 (listed.Listed listing) tells)
+        listing_counts listed.Broken counts tells = (counts, by_listed-known Shown setting hash id exchanges head purpose notes knows.0 knows.1 listed.Broken tells)
     listing-known lister purpose notes at knows (told.Core answer) t =
         (quiet (stages.Refreshing (fronts.Listing lister) purpose notes) (told.Core answer) t (asks.Disk (lists.ask_of lister)) refl refl, knows)
 
@@ -340,13 +204,13 @@ module _ (Shown : Path → List ℕ → Type 0) (setting : Setting) (hash : Kind
 
     -- a refresh leaves the counts where nothing is published
     look_counts : (purpose : Purpose) (notes : Notes) → Counts exchanges head → (view : Option View)
-        → Counts exchanges (by_refresh setting head purpose notes (by_look setting.objects view)).head
+        → Counts exchanges (by_refresh setting head purpose notes (by_look setting.parts.objects view)).head
     look_counts purpose notes counts None = counts
     look_counts purpose notes counts (Some view) = by view.read
       where
         by : (b : Bool)
             → Counts exchanges
-            (by_refresh setting head purpose notes (if b then steps.Read view else steps.More (refreshes.listing_from setting.objects view.list_no))).head
+            (by_refresh setting head purpose notes (if b then steps.Read view else steps.More (refreshes.listing_from setting.parts.objects view.list_no))).head
         by true = counts
         by false = counts
 
@@ -358,7 +222,7 @@ module _ (Shown : Path → List ℕ → Type 0) (setting : Setting) (hash : Kind
     reading-known purpose notes noted (told.Core (Ok effect)) t =
         let counts = quiet (stages.Refreshing fronts.Reading purpose notes) (told.Core (Ok effect)) t (asks.Core events.Look) refl refl in (
           look_counts purpose notes counts (view_shown effect),
-          by_look-known head purpose notes noted (view_shown effect) (λ view is. t.shows view is),
+          by_look-known Shown setting hash id exchanges head purpose notes noted (view_shown effect) (λ view is. t.shows view is),
         )
     reading-known purpose notes noted (told.Core (Err refusal)) t = (
       quiet (stages.Refreshing fronts.Reading purpose notes) (told.Core (Err refusal)) t (asks.Core events.Look) refl refl,
@@ -377,7 +241,7 @@ module _ (Shown : Path → List ℕ → Type 0) (setting : Setting) (hash : Kind
         let counts = quiet (stages.Checking list_no notes) (told.Core (Ok effect)) t (asks.Core events.Look) refl refl in
         let last = last_told (stages.Checking list_no notes) (told.Core (Ok effect)) t (asks.Core events.Look) refl in (
           counts,
-          by_checked-known head counts (record { ask = asks.Core events.Look; answer = told.Core (Ok effect) }) last list_no notes noted (view_shown effect)
+          by_checked-known Shown setting hash id exchanges head counts (record { ask = asks.Core events.Look; answer = told.Core (Ok effect) }) last list_no notes noted (view_shown effect)
               (λ view is. (t.shows view is, tells_view effect view is)),
         )
     checking-known list_no notes noted (told.Core (Err refusal)) t = (
@@ -405,17 +269,17 @@ module _ (Shown : Path → List ℕ → Type 0) (setting : Setting) (hash : Kind
               one_more_own head.own before (published_in exchanges) t.own (t.room listing view refl refl)
               (now_published at_publish (told.Core (Ok (effects.Published view))) t publish refl);
         },
-        try_view-known (with_own head) (parts.Published view.list_no) knows.1 view view.todo (without_absent notes) knows.0,
+        try_view-known Shown setting hash id exchanges (with_own head) (parts.Published view.list_no) knows.1 view view.todo (without_absent notes) knows.0,
       )
       by_published-known (effects.Unchanged view) t = (
         counts_so (told.Core (Ok (effects.Unchanged view))) t refl,
-        try_view-known head (parts.Published view.list_no) knows.1 view view.todo (without_absent notes) knows.0,
+        try_view-known Shown setting hash id exchanges head (parts.Published view.list_no) knows.1 view view.todo (without_absent notes) knows.0,
       )
       by_published-known (effects.Outdated list_no) t =
           let counts = counts_so (told.Core (Ok (effects.Outdated list_no))) t refl in
           let last = last_told at_publish (told.Core (Ok (effects.Outdated list_no))) t publish refl in (
             counts,
-            counted-known head counts knows.1 (record { ask = publish; answer = told.Core (Ok (effects.Outdated list_no)) }) last list_no refl
+            counted-known Shown setting hash id exchanges head counts knows.1 (record { ask = publish; answer = told.Core (Ok (effects.Outdated list_no)) }) last list_no refl
                 (stages.Refreshing fronts.Reading purposes.Again notes) knows.0,
           )
       by_published-known (effects.Seen view) t = (counts_so (told.Core (Ok (effects.Seen view))) t refl, knows)

@@ -75,13 +75,13 @@ module _ (Shown : Path → List ℕ → Type 0) (setting : Setting) (hash : Kind
     abbrev IsCausedBy : Want → pack_data.Error → Type 0
     IsCausedBy want error = IsCaused Shown setting hash id want exchanges (find_error (error_of error))
 
-    entry_refused : (error : pack_data.Error) → entry_at hash file.bytes offset setting.limit ≡ Err error → IsOfEntry error
+    entry_refused : (error : pack_data.Error) → entry_at hash file.bytes offset setting.parts.alloc_limit_bytes ≡ Err error → IsOfEntry error
         → IsCausedBy Object error
     entry_refused data_errors.BadPack is fits = absurd fits
-    entry_refused data_errors.BadEntry is fits = within (λ pack at. entry_at hash pack at setting.limit ≡ Err data_errors.BadEntry) is
-    entry_refused data_errors.DeltaEntry is fits = within (λ pack at. entry_at hash pack at setting.limit ≡ Err data_errors.DeltaEntry) is
-    entry_refused (data_errors.OutOfMemory size) is fits = within (λ pack at. entry_at hash pack at setting.limit ≡ Err (data_errors.OutOfMemory size)) is
-    entry_refused (data_errors.EntryType code) is fits = within (λ pack at. entry_at hash pack at setting.limit ≡ Err (data_errors.EntryType code)) is
+    entry_refused data_errors.BadEntry is fits = within (λ pack at. entry_at hash pack at setting.parts.alloc_limit_bytes ≡ Err data_errors.BadEntry) is
+    entry_refused data_errors.DeltaEntry is fits = within (λ pack at. entry_at hash pack at setting.parts.alloc_limit_bytes ≡ Err data_errors.DeltaEntry) is
+    entry_refused (data_errors.OutOfMemory size) is fits = within (λ pack at. entry_at hash pack at setting.parts.alloc_limit_bytes ≡ Err (data_errors.OutOfMemory size)) is
+    entry_refused (data_errors.EntryType code) is fits = within (λ pack at. entry_at hash pack at setting.parts.alloc_limit_bytes ≡ Err (data_errors.EntryType code)) is
 
     header_refused : (error : pack_data.Error) → header_at hash file.bytes offset ≡ Err error → IsOfHeader error
         → IsCausedBy Header error
@@ -91,11 +91,11 @@ module _ (Shown : Path → List ℕ → Type 0) (setting : Setting) (hash : Kind
     header_refused (data_errors.OutOfMemory size) is fits = absurd fits
     header_refused (data_errors.EntryType code) is fits = within (λ pack at. header_at hash pack at ≡ Err (data_errors.EntryType code)) is
 
-    object_given : (result : Result Entry pack_data.Error) → entry_at hash file.bytes offset setting.limit ≡ result
+    object_given : (result : Result Entry pack_data.Error) → entry_at hash file.bytes offset setting.parts.alloc_limit_bytes ≡ result
         → GivenOf Object (object_in result)
     object_given (Ok entry) is =
-        within (λ pack at. IsEntryReply hash setting.limit pack at (replies.Found entry.kind entry.bytes)) (record { entry = entry; there = is; is = refl })
-    object_given (Err error) is = entry_refused error is (entry_error hash file.bytes offset setting.limit error is)
+        within (λ pack at. IsEntryReply hash setting.parts.alloc_limit_bytes pack at (replies.Found entry.kind entry.bytes)) (record { entry = entry; there = is; is = refl })
+    object_given (Err error) is = entry_refused error is (entry_error hash file.bytes offset setting.parts.alloc_limit_bytes error is)
 
     header_given : (result : Result pack_header.Header pack_data.Error) → header_at hash file.bytes offset ≡ result
         → GivenOf Header (header_in result)
@@ -104,10 +104,10 @@ module _ (Shown : Path → List ℕ → Type 0) (setting : Setting) (hash : Kind
         (record { header = header; there = is; is = refl })
     header_given (Err error) is = header_refused error is (header_error hash file.bytes offset error is)
 
-    pub given_known : (want : Want) → GivenOf want (given_by want setting.limit file offset)
+    pub given_known : (want : Want) → GivenOf want (given_by want setting.parts.alloc_limit_bytes file offset)
     given_known Object =
-        object_given (entry_at file.kind file.bytes offset setting.limit)
-        (ap (λ (kind : Kind). entry_at kind file.bytes offset setting.limit) (sym read.kind))
+        object_given (entry_at file.kind file.bytes offset setting.parts.alloc_limit_bytes)
+        (ap (λ (kind : Kind). entry_at kind file.bytes offset setting.parts.alloc_limit_bytes) (sym read.kind))
     given_known Header =
         header_given (header_at file.kind file.bytes offset) (ap (λ (kind : Kind). header_at kind file.bytes offset) (sym read.kind))
     given_known Presence = (path, offset, index, refl)
@@ -126,7 +126,7 @@ module _ (Shown : Path → List ℕ → Type 0) (setting : Setting) (hash : Kind
         unloaded_comes (Hits want) (Bads want) Wanted (aim want) absent index (record { place = 0; offset = row.offset }) path
         (record { path = index.path; index = known; is = beside })
     file_known path beside (Some file) read =
-        sought_given want (given_by want setting.limit file row.offset)
+        sought_given want (given_by want setting.parts.alloc_limit_bytes file row.offset)
         (given_known index.path row.offset known file (subst (λ (p : Path). IsPackShownAt Shown setting hash p file) beside (read file refl)) want)
 
     packs_known : (packs : List PackFile) → map (λ (pack : PackFile). pack.path) packs ≡ pack_path index.path ∷ [] → All (IsPackShown Shown setting hash) packs

@@ -53,7 +53,7 @@ IsOfPack error = ⊥
 
 -- what is sought of an id
 abbrev pub goal_for : Setting → Want → ObjectId → Goal
-goal_for setting want id = record { id = id; want = want; limit = setting.limit }
+goal_for setting want id = record { id = id; want = want; limit = setting.parts.alloc_limit_bytes }
 
 -- ---- packs
 
@@ -143,7 +143,7 @@ module _ (Shown : Path → List ℕ → Type 0) (setting : Setting) (hash : Kind
   pub record KnowsLoose (call : FolderCall) : Type 0 where
     pub folder : Path
     pub among : Contains (folders_of setting) folder
-    pub is : call ≡ asking setting.limit want id folder
+    pub is : call ≡ asking setting.parts.alloc_limit_bytes want id folder
 
   abbrev pub KnowsLookStage : LookStage → Type 0
   KnowsLookStage (look_stages.Trying trier part) = KnowsTrier trier

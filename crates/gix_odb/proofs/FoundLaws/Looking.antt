@@ -88,12 +88,12 @@ module _ (Shown : Path → List ℕ → Type 0) (setting : Setting) (hash : Kind
   chosen_known false one other first further = further
 
   folder_known : (head : LookHead) (folder : Path) → Heads head → Contains (folders_of setting) folder
-      → KnowsLoose Shown setting hash id exchanges want (asking setting.limit head.want head.id folder)
+      → KnowsLoose Shown setting hash id exchanges want (asking setting.parts.alloc_limit_bytes head.want head.id folder)
   folder_known head folder known among =
-      record { folder = folder; among = among; is = λ i. asking setting.limit (known.want_is i) (known.id_is i) folder }
+      record { folder = folder; among = among; is = λ i. asking setting.parts.alloc_limit_bytes (known.want_is i) (known.id_is i) folder }
 
   loose_known : (head : LookHead) (part : Part) (notes : Notes) → Heads head → Stands (loose_from setting head part notes)
-  loose_known head part notes known = folder_known head setting.objects known (has_first setting.objects setting.folders)
+  loose_known head part notes known = folder_known head setting.parts.objects known (has_first setting.parts.objects setting.parts.folders)
 
   after_list_known : (head : LookHead) (part : Part) (notes : Notes) → Heads head → Stands (after_list setting head part notes)
   after_list_known head parts.Snapshot notes known = loose_known head parts.Snapshot notes known
@@ -117,7 +117,7 @@ module _ (Shown : Path → List ℕ → Type 0) (setting : Setting) (hash : Kind
   tried_known head part (tried.Broken refusal) known here = load_reply Shown setting hash id exchanges want (of_refusal refusal)
 
   goal_is : (head : LookHead) → Heads head → goal_for setting want id ≡ goal_of setting head
-  goal_is head known = sym (λ i. record { id = known.id_is i; want = known.want_is i; limit = setting.limit })
+  goal_is head known = sym (λ i. record { id = known.id_is i; want = known.want_is i; limit = setting.parts.alloc_limit_bytes })
 
   try_known : (head : LookHead) (part : Part) (view : View) (todo : List Todo) (notes : Notes) → Heads head → IsView view → All (IsIndexTodo setting) todo
       → Stands (try_view setting head part view todo notes)
@@ -140,11 +140,11 @@ module _ (Shown : Path → List ℕ → Type 0) (setting : Setting) (hash : Kind
 
   -- ---- a folder has replied
 
-  next_known : (head : LookHead) (round : LooseRound) (next : Option Path) → slice_get setting.folders round.next ≡ next → Heads head
+  next_known : (head : LookHead) (round : LooseRound) (next : Option Path) → slice_get setting.parts.folders round.next ≡ next → Heads head
       → Stands (at_folder setting head round next)
   next_known head round None is known = after_loose_known round.part round.notes
   next_known head round (Some folder) is known =
-      folder_known head folder known (has_later setting.objects setting.folders folder (at_place setting.folders round.next folder is))
+      folder_known head folder known (has_later setting.parts.objects setting.parts.folders folder (at_place setting.parts.folders round.next folder is))
 
   verdict_known : (head : LookHead) (round : LooseRound) (verdict : Verdict) (folder : Path) → Heads head → Contains (folders_of setting) folder
       → HasVerdict setting want id exchanges folder verdict
@@ -152,18 +152,18 @@ module _ (Shown : Path → List ℕ → Type 0) (setting : Setting) (hash : Kind
       → Stands (by_verdict setting head round verdict)
   verdict_known head round (verdicts.Ends reply) folder known among says other =
       loose_reply Shown setting hash id exchanges want reply folder among says other
-  verdict_known head round verdicts.Misses folder known among says other = next_known head round (slice_get setting.folders round.next) refl known
+  verdict_known head round verdicts.Misses folder known among says other = next_known head round (slice_get setting.parts.folders round.next) refl known
   verdict_known head round (verdicts.Notes error) folder known among says other =
-      next_known head (record round { notes = record round.notes { failed = true } }) (slice_get setting.folders round.next) refl known
+      next_known head (record round { notes = record round.notes { failed = true } }) (slice_get setting.parts.folders round.next) refl known
 
   asked_known : (head : LookHead) (round : LooseRound) (folder : Path) (ask : Ask) (answer : DiskAnswer) → Heads head → Contains (folders_of setting) folder
-      → asks.Disk (folder_ask (asking setting.limit want id folder)) ≡ ask
+      → asks.Disk (folder_ask (asking setting.parts.alloc_limit_bytes want id folder)) ≡ ask
       → WasTold exchanges ask (told.Disk answer)
-      → Stands (by_verdict setting head round (folder_verdict (asking setting.limit want id folder) answer))
+      → Stands (by_verdict setting head round (folder_verdict (asking setting.parts.alloc_limit_bytes want id folder) answer))
   asked_known head round folder ask answer known among is was =
-      verdict_known head round (folder_verdict (asking setting.limit want id folder) answer) folder known among
+      verdict_known head round (folder_verdict (asking setting.parts.alloc_limit_bytes want id folder) answer) folder known among
       (record { answer = answer; told = subst (λ (other : Ask). WasTold exchanges other (told.Disk answer)) (sym is) was; is = refl })
-      (loose_ends_other want (loose_path folder id) setting.limit answer)
+      (loose_ends_other want (loose_path folder id) setting.parts.alloc_limit_bytes answer)
 
   call_known : (head : LookHead) (round : LooseRound) (call : FolderCall) (ask : Ask) (answer : DiskAnswer) → Heads head
       → KnowsLoose Shown setting hash id exchanges want call
@@ -204,11 +204,11 @@ module _ (Shown : Path → List ℕ → Type 0) (setting : Setting) (hash : Kind
   StepKnown (steps.Outdated list_no) = Unit {0}
   StepKnown (steps.Refused error) = Unit {0}
 
-  view_step : (view : View) (read : Bool) → IsView view → StepKnown (cond read (steps.Read view) (steps.More (refreshes.listing_from setting.objects view.list_no)))
+  view_step : (view : View) (read : Bool) → IsView view → StepKnown (cond read (steps.Read view) (steps.More (refreshes.listing_from setting.parts.objects view.list_no)))
   view_step view true shown = shown
   view_step view false shown = started_known setting view.list_no
 
-  look_step : (view : Option View) → ((own : View) → view ≡ Some own → IsView own) → StepKnown (by_look setting.objects view)
+  look_step : (view : Option View) → ((own : View) → view ≡ Some own → IsView own) → StepKnown (by_look setting.parts.objects view)
   look_step None views = tt
   look_step (Some view) views = view_step view view.read (views view refl)
 
@@ -225,11 +225,11 @@ module _ (Shown : Path → List ℕ → Type 0) (setting : Setting) (hash : Kind
   published_step listing effect rows views = rows
 
   fed_step : (refresh : Refresh) (ask : Ask) (answer : Answer) → KnowsRefresh setting refresh → IsTrue Shown setting hash ask answer
-      → StepKnown (refreshes.fed setting.objects setting.folders refresh answer)
+      → StepKnown (refreshes.fed setting.parts.objects setting.parts.folders refresh answer)
   fed_step fronts.Reading ask (told.Disk answer) here truth = tt
   fed_step fronts.Reading ask (told.Core (Ok effect)) here truth = look_step (view_shown effect) (views_shown Shown setting hash ask (Ok effect) truth)
   fed_step fronts.Reading ask (told.Core (Err refusal)) here truth = tt
-  fed_step (fronts.Listing lister) ask (told.Disk answer) here truth = listed_step (lists.fed setting.folders lister answer) (fed_known setting lister answer here)
+  fed_step (fronts.Listing lister) ask (told.Disk answer) here truth = listed_step (lists.fed setting.parts.folders lister answer) (fed_known setting lister answer here)
   fed_step (fronts.Listing lister) ask (told.Core answer) here truth = here
   fed_step (fronts.Publishing listing) ask (told.Disk answer) here truth = here
   fed_step (fronts.Publishing listing) ask (told.Core (Ok effect)) here truth =
@@ -285,7 +285,7 @@ module _ (Shown : Path → List ℕ → Type 0) (setting : Setting) (hash : Kind
   stage_known same head (stages.Loose round call) ask (told.Disk answer) known here asks truth asked =
       record { head = known; stage = call_known head round call ask answer known here asks asked }
   stage_known same head (stages.Refreshing refresh purpose notes) ask answer known here asks truth asked =
-      refresh_known head purpose notes (refreshes.fed setting.objects setting.folders refresh answer) known (fed_step refresh ask answer here truth)
+      refresh_known head purpose notes (refreshes.fed setting.parts.objects setting.parts.folders refresh answer) known (fed_step refresh ask answer here truth)
   stage_known same head (stages.Checking list_no notes) ask (told.Core (Ok effect)) known here asks truth asked =
       record { head = known; stage = checked_known head list_no notes (view_shown effect) }
   stage_known same head (stages.Checking list_no notes) ask (told.Core (Err refusal)) known here asks truth asked =

@@ -154,11 +154,11 @@ module _ (Shown : Path → List ℕ → Type 0) (setting : Setting) (hash : Kind
     pack_stored_known : (pack : WantedPack) (file : FileBytes) (effect : Effect) → IsWanted Shown setting hash id pack
         → IsPackShownAt Shown setting hash pack.path file
         → ((view : View) → view_in (Ok effect) ≡ Some view → IsShownView Shown setting hash view)
-        → Knows (by_given (given_by want setting.limit (unwrap_or (pack_behind pack effect) file) pack.offset))
+        → Knows (by_given (given_by want setting.parts.alloc_limit_bytes (unwrap_or (pack_behind pack effect) file) pack.offset))
     pack_stored_known pack file effect wanted read views =
         let own : FileBytes = unwrap_or (pack_behind pack effect) file in
         let own_read : IsPackShownAt Shown setting hash pack.path own = pack_loaded Shown setting hash pack file read (view_in (Ok effect)) views in
-        given_ends (given_by want setting.limit own pack.offset)
+        given_ends (given_by want setting.parts.alloc_limit_bytes own pack.offset)
         (given_known Shown setting hash id exchanges wanted.path pack.offset wanted.index own
         (subst (λ (path : Path). IsPackShownAt Shown setting hash path own) wanted.is own_read) want)
 

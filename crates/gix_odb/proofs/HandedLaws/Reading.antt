@@ -121,8 +121,8 @@ module _ (setting : Setting) where
   goes_on now (stages.Checking list_no notes) own ask answer is = none_by now ask answer (asks.Core events.Look) looking own is
   goes_on now (stages.Refreshing (fronts.Listing lister) purpose notes) own ask (told.Disk answer) is =
       subst (λ (a : Ask). GoesOn now a (told.Disk answer) (stages.Refreshing (fronts.Listing lister) purpose notes)) (same_Some _ ask is)
-      (step_on (told_by now (asks.Disk (lists.ask_of lister)) (told.Disk answer)) (lists.fed setting.folders lister answer)
-      (listing_streams setting.folders lister.head now lister.stage own answer))
+      (step_on (told_by now (asks.Disk (lists.ask_of lister)) (told.Disk answer)) (lists.fed setting.parts.folders lister answer)
+      (listing_streams setting.parts.folders lister.head now lister.stage own answer))
   goes_on now (stages.Refreshing (fronts.Listing lister) purpose notes) own ask (told.Core answer) is =
       subst (λ (a : Ask). GoesOn now a (told.Core answer) (stages.Refreshing (fronts.Listing lister) purpose notes)) (same_Some _ ask is)
       (core_leaves_streams now lister.head.folder lister.stage answer own)

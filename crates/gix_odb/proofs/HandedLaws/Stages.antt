@@ -108,11 +108,11 @@ module _ (setting : Setting) (OfCall : FolderCall → Type 0) (OfLister : Lister
   -- what is to hold after an answer, for the next stage to keep it
   abbrev pub Goes : LookStage → Answer → Type 0
   Goes (stages.Loose round call) (told.Disk answer) = Else
-  Goes (stages.Refreshing (fronts.Listing lister) purpose notes) (told.Disk answer) = Steps (lists.fed setting.folders lister answer)
+  Goes (stages.Refreshing (fronts.Listing lister) purpose notes) (told.Disk answer) = Steps (lists.fed setting.parts.folders lister answer)
   Goes stage answer = Stands stage
 
-  module _ (calls : (want : Want) (id : ObjectId) (folder : Path) → OfCall (asking setting.limit want id folder))
-      (begins : (base : ℕ) → Else → OfLister (lists.started setting.objects base)) where
+  module _ (calls : (want : Want) (id : ObjectId) (folder : Path) → OfCall (asking setting.parts.alloc_limit_bytes want id folder))
+      (begins : (base : ℕ) → Else → OfLister (lists.started setting.parts.objects base)) where
     -- ---- the parts begin
 
     chosen : (b : Bool) (one other : LookStage) → Stands one → Stands other → Stands (cond b one other)
@@ -120,10 +120,10 @@ module _ (setting : Setting) (OfCall : FolderCall → Type 0) (OfLister : Lister
     chosen false one other first further = further
 
     list_stands : (head : LookHead) (part : Part) (notes : Notes) → Else → Stands (after_list setting head part notes)
-    list_stands head parts.Snapshot notes here = (here, calls head.want head.id setting.objects)
-    list_stands head (parts.List list_no true) notes here = (here, calls head.want head.id setting.objects)
+    list_stands head parts.Snapshot notes here = (here, calls head.want head.id setting.parts.objects)
+    list_stands head (parts.List list_no true) notes here = (here, calls head.want head.id setting.parts.objects)
     list_stands head (parts.List list_no false) notes here = begins list_no here
-    list_stands head (parts.Published list_no) notes here = (here, calls head.want head.id setting.objects)
+    list_stands head (parts.Published list_no) notes here = (here, calls head.want head.id setting.parts.objects)
 
     loose_stands : (part : Part) (notes : Notes) → Else → Stands (after_loose setting part notes)
     loose_stands parts.Snapshot notes here = here
@@ -159,9 +159,9 @@ module _ (setting : Setting) (OfCall : FolderCall → Type 0) (OfLister : Lister
 
     verdict_stands : (head : LookHead) (round : LooseRound) (verdict : Verdict) → Else → Stands (by_verdict setting head round verdict)
     verdict_stands head round (verdicts.Ends reply) here = here
-    verdict_stands head round verdicts.Misses here = folder_stands head round (slice_get setting.folders round.next) here
+    verdict_stands head round verdicts.Misses here = folder_stands head round (slice_get setting.parts.folders round.next) here
     verdict_stands head round (verdicts.Notes error) here =
-        folder_stands head (record round { notes = record round.notes { failed = true } }) (slice_get setting.folders round.next) here
+        folder_stands head (record round { notes = record round.notes { failed = true } }) (slice_get setting.parts.folders round.next) here
 
     -- ---- the core has answered
 
@@ -181,11 +181,11 @@ module _ (setting : Setting) (OfCall : FolderCall → Type 0) (OfLister : Lister
 
     -- ---- the list of the core is read, or brought up to date
 
-    view_refreshes : (view : View) (read : Bool) → Else → Refreshes (cond read (steps.Read view) (steps.More (refreshes.listing_from setting.objects view.list_no)))
+    view_refreshes : (view : View) (read : Bool) → Else → Refreshes (cond read (steps.Read view) (steps.More (refreshes.listing_from setting.parts.objects view.list_no)))
     view_refreshes view true here = here
     view_refreshes view false here = begins view.list_no here
 
-    look_refreshes : (view : Option View) → Else → Refreshes (by_look setting.objects view)
+    look_refreshes : (view : Option View) → Else → Refreshes (by_look setting.parts.objects view)
     look_refreshes None here = here
     look_refreshes (Some view) here = view_refreshes view view.read here
 
@@ -217,11 +217,11 @@ module _ (setting : Setting) (OfCall : FolderCall → Type 0) (OfLister : Lister
     refresh_stands head purpose notes (steps.Refused error) here = here
 
     refreshed : (refresh : Refresh) (purpose : Purpose) (notes : Notes) (answer : Answer) → Goes (stages.Refreshing refresh purpose notes) answer
-        → Refreshes (refreshes.fed setting.objects setting.folders refresh answer)
+        → Refreshes (refreshes.fed setting.parts.objects setting.parts.folders refresh answer)
     refreshed fronts.Reading purpose notes (told.Disk answer) here = here
     refreshed fronts.Reading purpose notes (told.Core (Ok effect)) here = look_refreshes (view_shown effect) here
     refreshed fronts.Reading purpose notes (told.Core (Err refusal)) here = here
-    refreshed (fronts.Listing lister) purpose notes (told.Disk answer) here = listed_refreshes (lists.fed setting.folders lister answer) here
+    refreshed (fronts.Listing lister) purpose notes (told.Disk answer) here = listed_refreshes (lists.fed setting.parts.folders lister answer) here
     refreshed (fronts.Listing lister) purpose notes (told.Core answer) here = here
     refreshed (fronts.Publishing listing) purpose notes (told.Disk answer) here = here
     refreshed (fronts.Publishing listing) purpose notes (told.Core (Ok effect)) here = published_refreshes listing effect here.0 here.1
@@ -235,7 +235,7 @@ module _ (setting : Setting) (OfCall : FolderCall → Type 0) (OfLister : Lister
         verdict_stands head round (folder_verdict call answer) here
     stage_stands head (stages.Loose round call) (told.Core answer) here = here
     stage_stands head (stages.Refreshing refresh purpose notes) answer here =
-        refresh_stands head purpose notes (refreshes.fed setting.objects setting.folders refresh answer) (refreshed refresh purpose notes answer here)
+        refresh_stands head purpose notes (refreshes.fed setting.parts.objects setting.parts.folders refresh answer) (refreshed refresh purpose notes answer here)
     stage_stands head (stages.Checking list_no notes) (told.Disk answer) here = here
     stage_stands head (stages.Checking list_no notes) (told.Core (Ok effect)) here = check_stands head list_no notes (view_shown effect) here
     stage_stands head (stages.Checking list_no notes) (told.Core (Err refusal)) here = here

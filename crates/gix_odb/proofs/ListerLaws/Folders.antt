@@ -26,13 +26,13 @@ use Rattle.gix_odb.specs.Shown.{folders_of}
 
 -- ---- the folders of a store
 
-pub first_folder : (setting : Setting) → Contains (folders_of setting) setting.objects
+pub first_folder : (setting : Setting) → Contains (folders_of setting) setting.parts.objects
 first_folder setting = (0, omega arith, refl)
 
-pub later_folder : (setting : Setting) (n : ℕ) (folder : Path) → slice_get setting.folders n ≡ Some folder → Contains (folders_of setting) folder
+pub later_folder : (setting : Setting) (n : ℕ) (folder : Path) → slice_get setting.parts.folders n ≡ Some folder → Contains (folders_of setting) folder
 later_folder setting n folder is =
-    Contains-append_right (setting.objects ∷ []) setting.folders folder
-    (n, slice_get_within setting.folders n folder is, get_or_from_slice_get setting.folders n folder folder is)
+    Contains-append_right (setting.parts.objects ∷ []) setting.parts.folders folder
+    (n, slice_get_within setting.parts.folders n folder is, get_or_from_slice_get setting.parts.folders n folder folder is)
 
 -- ---- a lister
 
@@ -46,18 +46,18 @@ module _ (setting : Setting) where
   GoesToFolder (ends.Listed listing) = Unit {0}
   GoesToFolder ends.Broken = Unit {0}
 
-  behind_folder-goes : (head : ListHead) (next : Option Path) → slice_get setting.folders head.next ≡ next → GoesToFolder (behind_folder head next)
+  behind_folder-goes : (head : ListHead) (next : Option Path) → slice_get setting.parts.folders head.next ≡ next → GoesToFolder (behind_folder head next)
   behind_folder-goes head None is = tt
   behind_folder-goes head (Some folder) is = (folder, later_folder setting head.next folder is, refl)
 
-  at_paths-goes : (head : ListHead) → IsAtFolder head → (paths : List Path) → GoesToFolder (at_paths setting.folders head paths)
-  at_paths-goes head at [] = behind_folder-goes head (slice_get setting.folders head.next) refl
+  at_paths-goes : (head : ListHead) → IsAtFolder head → (paths : List Path) → GoesToFolder (at_paths setting.parts.folders head paths)
+  at_paths-goes head at [] = behind_folder-goes head (slice_get setting.parts.folders head.next) refl
   at_paths-goes head at (path ∷ left) = at
 
   module _ (head : ListHead) (at : IsAtFolder head) where
-    opened-goes : (answer : DiskAnswer) → GoesToFolder (opened setting.folders head answer)
+    opened-goes : (answer : DiskAnswer) → GoesToFolder (opened setting.parts.folders head answer)
     opened-goes (answers.Dir dir) = at
-    opened-goes (answers.Refused disk_errors.Absent) = behind_folder-goes head (slice_get setting.folders head.next) refl
+    opened-goes (answers.Refused disk_errors.Absent) = behind_folder-goes head (slice_get setting.parts.folders head.next) refl
     opened-goes answer = tt
 
     read-goes : (dir : ℕ) (entries : List Entry) (answer : DiskAnswer) → GoesToFolder (read head dir entries answer)
@@ -65,25 +65,25 @@ module _ (setting : Setting) where
     read-goes dir entries answers.End = at
     read-goes dir entries answer = at
 
-    by_kind-goes : (path : Path) (left : List Path) (meta : Meta) (kind : Kind) → GoesToFolder (by_kind setting.folders head path left meta kind)
+    by_kind-goes : (path : Path) (left : List Path) (meta : Meta) (kind : Kind) → GoesToFolder (by_kind setting.parts.folders head path left meta kind)
     by_kind-goes path left meta kinds.File = at
     by_kind-goes path left meta kind = at_paths-goes head at left
 
-    by_index-goes : (path : Path) (left : List Path) (answer : DiskAnswer) → GoesToFolder (by_index setting.folders head path left answer)
+    by_index-goes : (path : Path) (left : List Path) (answer : DiskAnswer) → GoesToFolder (by_index setting.parts.folders head path left answer)
     by_index-goes path left (answers.Meta meta) = by_kind-goes path left meta meta.kind
     by_index-goes path left (answers.Refused disk_errors.Failed) = tt
     by_index-goes path left answer = at_paths-goes head at left
 
-    by_pack_kind-goes : (row : ListingRow) (left : List Path) (kind : Kind) → GoesToFolder (by_pack_kind setting.folders head row left kind)
+    by_pack_kind-goes : (row : ListingRow) (left : List Path) (kind : Kind) → GoesToFolder (by_pack_kind setting.parts.folders head row left kind)
     by_pack_kind-goes row left kinds.File = at_paths-goes (with_row head row) at left
     by_pack_kind-goes row left kind = at_paths-goes head at left
 
-    by_pack-goes : (row : ListingRow) (left : List Path) (answer : DiskAnswer) → GoesToFolder (by_pack setting.folders head row left answer)
+    by_pack-goes : (row : ListingRow) (left : List Path) (answer : DiskAnswer) → GoesToFolder (by_pack setting.parts.folders head row left answer)
     by_pack-goes row left (answers.Meta meta) = by_pack_kind-goes row left meta.kind
     by_pack-goes row left (answers.Refused disk_errors.Failed) = tt
     by_pack-goes row left answer = at_paths-goes head at left
 
-    fed_at-goes : (stage : ListStage) (answer : DiskAnswer) → GoesToFolder (fed_at setting.folders head stage answer)
+    fed_at-goes : (stage : ListStage) (answer : DiskAnswer) → GoesToFolder (fed_at setting.parts.folders head stage answer)
     fed_at-goes stages.Opening answer = opened-goes answer
     fed_at-goes (stages.Reading dir entries) answer = read-goes dir entries answer
     fed_at-goes (stages.Closing dir entries) answer = at_paths-goes head at (index_paths head.folder entries)
@@ -91,7 +91,7 @@ module _ (setting : Setting) where
     fed_at-goes (stages.Index path left) answer = by_index-goes path left answer
     fed_at-goes (stages.Pack row left) answer = by_pack-goes row left answer
 
-  pub fed-goes : (lister : Lister) → IsAtFolder lister.head → (answer : DiskAnswer) → GoesToFolder (fed setting.folders lister answer)
+  pub fed-goes : (lister : Lister) → IsAtFolder lister.head → (answer : DiskAnswer) → GoesToFolder (fed setting.parts.folders lister answer)
   fed-goes lister at answer = fed_at-goes lister.head at lister.stage answer
 
 -- ---- what it opens

@@ -65,11 +65,11 @@ module _ (setting : Setting) where
       })
       (firsts entries)
 
-  pub started_known : (base : ℕ) → KnowsLister setting (started setting.objects base)
+  pub started_known : (base : ℕ) → KnowsLister setting (started setting.parts.objects base)
   started_known base = record {
     head = record {
-      folder = setting.objects;
-      among = has_first setting.objects setting.folders;
+      folder = setting.parts.objects;
+      among = has_first setting.parts.objects setting.parts.folders;
       is = refl;
       rows = All-nil (IsIndexRow setting);
     };
@@ -80,26 +80,26 @@ module _ (setting : Setting) where
     more_known : (stage : ListStage) → KnowsListStage setting stage → Knows (more head stage)
     more_known stage here = record { head = known; stage = here }
 
-    behind_known : (next : Option Path) → slice_get setting.folders head.next ≡ next → Knows (behind_folder head next)
+    behind_known : (next : Option Path) → slice_get setting.parts.folders head.next ≡ next → Knows (behind_folder head next)
     behind_known None is = all_longest_first (IsIndexRow setting) head.rows known.rows
     behind_known (Some folder) is = record {
       head = record {
         folder = folder;
-        among = has_later setting.objects setting.folders folder (at_place setting.folders head.next folder is);
+        among = has_later setting.parts.objects setting.parts.folders folder (at_place setting.parts.folders head.next folder is);
         is = refl;
         rows = known.rows;
       };
       stage = tt;
     }
 
-    paths_known : (paths : List Path) → All (IsIndexPath setting) paths → Knows (at_paths setting.folders head paths)
-    paths_known [] all = behind_known (slice_get setting.folders head.next) refl
+    paths_known : (paths : List Path) → All (IsIndexPath setting) paths → Knows (at_paths setting.parts.folders head paths)
+    paths_known [] all = behind_known (slice_get setting.parts.folders head.next) refl
     paths_known (path ∷ left) all =
         more_known (stages.Index path left) (All-head (IsIndexPath setting) path left all, All-tail (IsIndexPath setting) path left all)
 
-    opened_known : (answer : DiskAnswer) → Knows (opened setting.folders head answer)
+    opened_known : (answer : DiskAnswer) → Knows (opened setting.parts.folders head answer)
     opened_known (answers.Dir dir) = more_known (stages.Reading dir []) tt
-    opened_known (answers.Refused disk_errors.Absent) = behind_known (slice_get setting.folders head.next) refl
+    opened_known (answers.Refused disk_errors.Absent) = behind_known (slice_get setting.parts.folders head.next) refl
     opened_known answer = tt
 
     read_known : (dir : ℕ) (entries : List Entry) (answer : DiskAnswer) → Knows (read head dir entries answer)
@@ -108,12 +108,12 @@ module _ (setting : Setting) where
     read_known dir entries answer = more_known (stages.Breaking dir) tt
 
     kind_known : (path : Path) (left : List Path) (meta : Meta) (kind : Kind) → IsIndexPath setting path → All (IsIndexPath setting) left
-        → Knows (by_kind setting.folders head path left meta kind)
+        → Knows (by_kind setting.parts.folders head path left meta kind)
     kind_known path left meta kinds.File here rest = more_known (stages.Pack (row_of path meta) left) (record { at = here; single = refl }, rest)
     kind_known path left meta kind here rest = paths_known left rest
 
     index_known : (path : Path) (left : List Path) (answer : DiskAnswer) → IsIndexPath setting path → All (IsIndexPath setting) left
-        → Knows (by_index setting.folders head path left answer)
+        → Knows (by_index setting.parts.folders head path left answer)
     index_known path left (answers.Meta meta) here rest = kind_known path left meta meta.kind here rest
     index_known path left (answers.Refused disk_errors.Failed) here rest = tt
     index_known path left answer here rest = paths_known left rest
@@ -128,19 +128,19 @@ module _ (setting : Setting) where
 
   pack_kind_known : (head : ListHead) (row : ListingRow) (left : List Path) (kind : Kind) → KnowsListHead setting head → IsIndexRow setting row
       → All (IsIndexPath setting) left
-      → Knows (by_pack_kind setting.folders head row left kind)
+      → Knows (by_pack_kind setting.parts.folders head row left kind)
   pack_kind_known head row left kinds.File known here rest = paths_known (with_row head row) (with_row_known head row known here) left rest
   pack_kind_known head row left kind known here rest = paths_known head known left rest
 
   pack_known : (head : ListHead) (row : ListingRow) (left : List Path) (answer : DiskAnswer) → KnowsListHead setting head → IsIndexRow setting row
       → All (IsIndexPath setting) left
-      → Knows (by_pack setting.folders head row left answer)
+      → Knows (by_pack setting.parts.folders head row left answer)
   pack_known head row left (answers.Meta meta) known here rest = pack_kind_known head row left meta.kind known here rest
   pack_known head row left (answers.Refused disk_errors.Failed) known here rest = tt
   pack_known head row left answer known here rest = paths_known head known left rest
 
   stage_known : (head : ListHead) (stage : ListStage) (answer : DiskAnswer) → KnowsListHead setting head → KnowsListStage setting stage
-      → Knows (fed_at setting.folders head stage answer)
+      → Knows (fed_at setting.parts.folders head stage answer)
   stage_known head stages.Opening answer known here = opened_known head known answer
   stage_known head (stages.Reading dir entries) answer known here = read_known head known dir entries answer
   stage_known head (stages.Closing dir entries) answer known here = paths_known head known (index_paths head.folder entries) (indices_known head entries known)
@@ -148,5 +148,5 @@ module _ (setting : Setting) where
   stage_known head (stages.Index path left) answer known here = index_known head known path left answer here.0 here.1
   stage_known head (stages.Pack row left) answer known here = pack_known head row left answer known here.0 here.1
 
-  pub fed_known : (lister : Lister) (answer : DiskAnswer) → KnowsLister setting lister → Knows (fed setting.folders lister answer)
+  pub fed_known : (lister : Lister) (answer : DiskAnswer) → KnowsLister setting lister → Knows (fed setting.parts.folders lister answer)
   fed_known lister answer known = stage_known lister.head lister.stage answer known.head known.stage

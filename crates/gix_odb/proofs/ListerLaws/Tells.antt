@@ -147,5 +147,5 @@ module _ (setting : Setting) (exchanges : List Exchange) where
 
   pub fed-tells : (lister : Lister) → IsAtFolder setting lister.head → Breaks exchanges lister.stage → (answer : DiskAnswer) → Suits (ask_of lister) answer
       → WasTold exchanges (asks.Disk (ask_of lister)) (told.Disk answer)
-      → ListedTells (fed setting.folders lister answer)
-  fed-tells lister at breaks answer suits was = fed_at-tells setting.folders lister.head at lister.stage breaks answer suits was
+      → ListedTells (fed setting.parts.folders lister answer)
+  fed-tells lister at breaks answer suits was = fed_at-tells setting.parts.folders lister.head at lister.stage breaks answer suits was

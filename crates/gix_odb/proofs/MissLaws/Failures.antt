@@ -125,15 +125,15 @@ module _ (setting : Setting) (want : Want) where
     marred_verdict : (round : LooseRound) → IsNoted round.notes → (verdict : Verdict) → EndsNoMiss want verdict
         → IsMarred (by_verdict setting head round verdict)
     marred_verdict round noted (verdicts.Ends reply) ends = ends
-    marred_verdict round noted verdicts.Misses ends = marred_folder round noted (slice_get setting.folders round.next)
+    marred_verdict round noted verdicts.Misses ends = marred_folder round noted (slice_get setting.parts.folders round.next)
     marred_verdict round noted (verdicts.Notes error) ends =
-        marred_folder (record round { notes = record round.notes { failed = true } }) refl (slice_get setting.folders round.next)
+        marred_folder (record round { notes = record round.notes { failed = true } }) refl (slice_get setting.parts.folders round.next)
 
     failed_verdict : (round : LooseRound) (verdict : Verdict) → IsNoPlainMiss want verdict → IsMarred (by_verdict setting head round verdict)
     failed_verdict round (verdicts.Ends reply) ends = ends
     failed_verdict round verdicts.Misses ends = absurd ends
     failed_verdict round (verdicts.Notes error) ends =
-        marred_folder (record round { notes = record round.notes { failed = true } }) refl (slice_get setting.folders round.next)
+        marred_folder (record round { notes = record round.notes { failed = true } }) refl (slice_get setting.parts.folders round.next)
 
     marred_counted : (b : Bool) (now : ℕ) (next : LookStage) → IsMarred next → IsMarred (cond b (unsettled head now) next)
     marred_counted true now next marred = refused_mars (load_errors.Unsettled (unwrap_or head.begun now) head.own now)
@@ -188,7 +188,7 @@ module _ (setting : Setting) (want : Want) where
     marred_step noted (steps.Refused error) = refused_step error
 
     breaking_ends : (list_head : ListHead) (stage : ListStage) → IsBreaking stage → (answer : DiskAnswer)
-        → Marred (by_listed (lists.fed_at setting.folders list_head stage answer))
+        → Marred (by_listed (lists.fed_at setting.parts.folders list_head stage answer))
     breaking_ends list_head (list_stages.Breaking dir) breaking answer = refused_step load_errors.Io
     breaking_ends list_head list_stages.Opening breaking answer = absurd breaking
     breaking_ends list_head (list_stages.Reading dir entries) breaking answer = absurd breaking
@@ -197,14 +197,14 @@ module _ (setting : Setting) (want : Want) where
     breaking_ends list_head (list_stages.Pack row left) breaking answer = absurd breaking
 
     marred_refresh : (refresh : Refresh) → IsMarred (stages.Refreshing refresh purpose notes) → (answer : Answer)
-        → Marred (refreshes.fed setting.objects setting.folders refresh answer)
-    marred_refresh fronts.Reading marred answer = marred_step marred (refreshes.fed setting.objects setting.folders fronts.Reading answer)
+        → Marred (refreshes.fed setting.parts.objects setting.parts.folders refresh answer)
+    marred_refresh fronts.Reading marred answer = marred_step marred (refreshes.fed setting.parts.objects setting.parts.folders fronts.Reading answer)
     marred_refresh (fronts.Listing lister) (inl noted) answer =
-        marred_step noted (refreshes.fed setting.objects setting.folders (fronts.Listing lister) answer)
+        marred_step noted (refreshes.fed setting.parts.objects setting.parts.folders (fronts.Listing lister) answer)
     marred_refresh (fronts.Listing lister) (inr breaking) (told.Disk answer) = breaking_ends lister.head lister.stage breaking answer
     marred_refresh (fronts.Listing lister) (inr breaking) (told.Core answer) = record { own = own; stage = inr breaking }
     marred_refresh (fronts.Publishing listing) marred answer =
-        marred_step marred (refreshes.fed setting.objects setting.folders (fronts.Publishing listing) answer)
+        marred_step marred (refreshes.fed setting.parts.objects setting.parts.folders (fronts.Publishing listing) answer)
 
   marred_stage : (head : LookHead) → head.want ≡ want → (stage : LookStage) → IsMarred stage → (answer : Answer)
       → IsLookMarred (fed_at setting head stage answer)
@@ -232,7 +232,7 @@ module _ (setting : Setting) (want : Want) where
 
   failed_lister : (head : LookHead) → head.want ≡ want → (purpose : Purpose) (notes : Notes) (list_head : ListHead) (stage : ListStage)
       → CanFail (asks.Disk (lists.ask_at list_head.folder stage))
-      → IsLookMarred (by_refresh setting head purpose notes (by_listed (lists.fed_at setting.folders list_head stage (disk_answers.Refused disk_errors.Failed))))
+      → IsLookMarred (by_refresh setting head purpose notes (by_listed (lists.fed_at setting.parts.folders list_head stage (disk_answers.Refused disk_errors.Failed))))
   failed_lister head own purpose notes list_head list_stages.Opening can = refused_step head own purpose notes load_errors.Io
   failed_lister head own purpose notes list_head (list_stages.Reading dir entries) can = record { own = own; stage = inr tt }
   failed_lister head own purpose notes list_head (list_stages.Closing dir entries) can = absurd (cc can)
@@ -241,21 +241,21 @@ module _ (setting : Setting) (want : Want) where
   failed_lister head own purpose notes list_head (list_stages.Pack row left) can = refused_step head own purpose notes load_errors.Io
 
   -- the verdict on a folder whose call failed
-  failed_says : (asked : Want) (path : Path) → IsNoPlainMiss asked (verdict_by asked path setting.limit (disk_answers.Refused disk_errors.Failed))
+  failed_says : (asked : Want) (path : Path) → IsNoPlainMiss asked (verdict_by asked path setting.parts.alloc_limit_bytes (disk_answers.Refused disk_errors.Failed))
   failed_says Object path = refused_is_no_miss Object _
   failed_says Header path = refused_is_no_miss Header _
   failed_says Presence path = tt
 
-  failed_folder : (head : LookHead) (round : LooseRound) (call : FolderCall) (id : ObjectId) (asked : Path) → call ≡ asking setting.limit want id asked
+  failed_folder : (head : LookHead) (round : LooseRound) (call : FolderCall) (id : ObjectId) (asked : Path) → call ≡ asking setting.parts.alloc_limit_bytes want id asked
       → IsMarred (by_verdict setting head round (folder_verdict call (disk_answers.Refused disk_errors.Failed)))
   failed_folder head round call id asked is =
       subst (λ (c : FolderCall). IsMarred (by_verdict setting head round (folder_verdict c (disk_answers.Refused disk_errors.Failed)))) (sym is)
-      (failed_verdict head round (verdict_by want (loose_path asked id) setting.limit (disk_answers.Refused disk_errors.Failed))
+      (failed_verdict head round (verdict_by want (loose_path asked id) setting.parts.alloc_limit_bytes (disk_answers.Refused disk_errors.Failed))
       (failed_says want (loose_path asked id)))
 
   -- the folder of a call that the look-up makes there
   abbrev pub IsAskingAt : LookStage → Type 0
-  IsAskingAt (stages.Loose round call) = (id : ObjectId) × (asked : Path) × (call ≡ asking setting.limit want id asked)
+  IsAskingAt (stages.Loose round call) = (id : ObjectId) × (asked : Path) × (call ≡ asking setting.parts.alloc_limit_bytes want id asked)
   IsAskingAt stage = Unit {0}
 
   failed_stage : (head : LookHead) → head.want ≡ want → (stage : LookStage) → IsAskingAt stage → (ask : Ask) → ask_at stage ≡ Some ask → CanFail ask

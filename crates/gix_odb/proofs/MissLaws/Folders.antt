@@ -61,13 +61,13 @@ module _ (setting : Setting) (want : Want) (id : ObjectId) (exchanges : List Exc
   IsPast ahead = (folder : Path) → Contains (folders_of setting) folder → IsMissed folder ⊎ ahead folder
 
   abbrev Behind : ℕ → Path → Type 0
-  Behind next folder = Contains (drop next setting.folders) folder
+  Behind next folder = Contains (drop next setting.parts.folders) folder
 
   -- a folder is asked; where none was noted, those that are neither it nor ahead were missed
   pub record IsAsking (round : LooseRound) (call : FolderCall) : Type 0 where
     pub asked : Path
     pub among : Contains (folders_of setting) asked
-    pub call_is : call ≡ asking setting.limit want id asked
+    pub call_is : call ≡ asking setting.parts.alloc_limit_bytes want id asked
     pub past : round.notes.failed ≡ false → IsPast (λ folder. (asked ≡ folder) ⊎ Behind round.next folder)
 
   -- what is known at each stage of the folders that were asked
@@ -84,9 +84,9 @@ module _ (setting : Setting) (want : Want) (id : ObjectId) (exchanges : List Exc
     pub id_is : head.id ≡ id
 
   module _ (head : LookHead) (own : IsFor head) where
-    same_call : (folder : Path) → asking setting.limit head.want head.id folder ≡ asking setting.limit want id folder
+    same_call : (folder : Path) → asking setting.parts.alloc_limit_bytes head.want head.id folder ≡ asking setting.parts.alloc_limit_bytes want id folder
     same_call folder =
-        ap (λ (q : Want). asking setting.limit q head.id folder) own.want_is ∙ ap (λ (i : ObjectId). asking setting.limit want i folder) own.id_is
+        ap (λ (q : Want). asking setting.parts.alloc_limit_bytes q head.id folder) own.want_is ∙ ap (λ (i : ObjectId). asking setting.parts.alloc_limit_bytes want i folder) own.id_is
 
     refused_passes : (error : load_index.Error) → IsPassing (stages.Done (load_refused error))
     refused_passes error is = absurd (refused_is_no_miss want (call_errors.Find (find_errors.LoadIndex error)) is)
@@ -94,15 +94,15 @@ module _ (setting : Setting) (want : Want) (id : ObjectId) (exchanges : List Exc
     loose_begins : (part : Part) (notes : Notes) → IsPassing (loose_from setting head part notes)
     loose_begins part notes =
         record {
-          asked = setting.objects;
-          among = first_in setting.objects setting.folders;
-          call_is = same_call setting.objects;
-          past = λ none folder among. inr (by folder (first_or_later setting.objects setting.folders folder among));
+          asked = setting.parts.objects;
+          among = first_in setting.parts.objects setting.parts.folders;
+          call_is = same_call setting.parts.objects;
+          past = λ none folder among. inr (by folder (first_or_later setting.parts.objects setting.parts.folders folder among));
         }
       where
-        by : (folder : Path) → (setting.objects ≡ folder) ⊎ Contains setting.folders folder → (setting.objects ≡ folder) ⊎ Behind 0 folder
+        by : (folder : Path) → (setting.parts.objects ≡ folder) ⊎ Contains setting.parts.folders folder → (setting.parts.objects ≡ folder) ⊎ Behind 0 folder
         by folder (inl is) = inl is
-        by folder (inr later) = inr (subst (λ (rest : List Path). Contains rest folder) (sym (drop_none setting.folders)) later)
+        by folder (inr later) = inr (subst (λ (rest : List Path). Contains rest folder) (sym (drop_none setting.parts.folders)) later)
 
     list_passes : (part : Part) (notes : Notes) → IsPassing (after_list setting head part notes)
     list_passes parts.Snapshot notes = loose_begins parts.Snapshot notes
@@ -125,23 +125,23 @@ module _ (setting : Setting) (want : Want) (id : ObjectId) (exchanges : List Exc
     loose_passes (parts.Published list_no) notes missed = missed
 
     folder_passes : (round : LooseRound) → (round.notes.failed ≡ false → IsPast (Behind round.next)) → (next : Option Path)
-        → slice_get setting.folders round.next ≡ next → IsPassing (at_folder setting head round next)
+        → slice_get setting.parts.folders round.next ≡ next → IsPassing (at_folder setting head round next)
     folder_passes round past None is =
         loose_passes round.part round.notes
         (λ none folder among.
         elim (past none folder among) [
           | inl missed ↦ missed
-          | inr ahead ↦ absurd (nothing_ahead setting.folders round.next folder is ahead)
+          | inr ahead ↦ absurd (nothing_ahead setting.parts.folders round.next folder is ahead)
         ])
     folder_passes round past (Some asked) is =
         record {
           asked = asked;
-          among = later_in setting.objects setting.folders asked (found_at setting.folders round.next asked is);
+          among = later_in setting.parts.objects setting.parts.folders asked (found_at setting.parts.folders round.next asked is);
           call_is = same_call asked;
           past = λ none folder among.
               elim (past none folder among) [
                 | inl missed ↦ inl missed
-                | inr ahead ↦ inr (here_or_behind setting.folders round.next asked folder is ahead)
+                | inr ahead ↦ inr (here_or_behind setting.parts.folders round.next asked folder is ahead)
               ];
         }
 
@@ -158,20 +158,20 @@ module _ (setting : Setting) (want : Want) (id : ObjectId) (exchanges : List Exc
             | inr ahead ↦ inr ahead
           ]
         ])
-        (slice_get setting.folders round.next) refl
+        (slice_get setting.parts.folders round.next) refl
     verdict_passes round asked past (verdicts.Notes error) says ends =
-        folder_passes (record round { notes = record round.notes { failed = true } }) (λ none. absurd (cc none)) (slice_get setting.folders round.next) refl
+        folder_passes (record round { notes = record round.notes { failed = true } }) (λ none. absurd (cc none)) (slice_get setting.parts.folders round.next) refl
 
     asked_passes : (round : LooseRound) (call : FolderCall) → IsAsking round call → (ask : Ask) (answer : DiskAnswer)
         → Some (asks.Disk (folder_ask call)) ≡ Some ask → WasTold exchanges ask (told.Disk answer)
         → IsPassing (by_verdict setting head round (folder_verdict call answer))
     asked_passes round call asking_it ask answer is was =
-        let asks_it : ask ≡ asks.Disk (folder_ask (asking setting.limit want id asking_it.asked)) =
+        let asks_it : ask ≡ asks.Disk (folder_ask (asking setting.parts.alloc_limit_bytes want id asking_it.asked)) =
         sym (same_Some (asks.Disk (folder_ask call)) ask is) ∙ ap (λ (c : FolderCall). asks.Disk (folder_ask c)) asking_it.call_is in
         subst (λ (c : FolderCall). IsPassing (by_verdict setting head round (folder_verdict c answer))) (sym asking_it.call_is)
-        (verdict_passes round asking_it.asked asking_it.past (folder_verdict (asking setting.limit want id asking_it.asked) answer)
+        (verdict_passes round asking_it.asked asking_it.past (folder_verdict (asking setting.parts.alloc_limit_bytes want id asking_it.asked) answer)
         (record { answer = answer; told = subst (λ (a : Ask). WasTold exchanges a (told.Disk answer)) asks_it was; is = refl })
-        (verdict_is_no_miss want (asking setting.limit want id asking_it.asked) answer))
+        (verdict_is_no_miss want (asking setting.parts.alloc_limit_bytes want id asking_it.asked) answer))
 
     -- ---- reads of the core's state
 
@@ -229,7 +229,7 @@ module _ (setting : Setting) (want : Want) (id : ObjectId) (exchanges : List Exc
       record { own = own; stage = asked_passes head own round call passes ask answer is was }
   stage_passes head own (stages.Loose round call) passes ask (told.Core answer) is was = record { own = own; stage = passes }
   stage_passes head own (stages.Refreshing refresh purpose notes) passes ask answer is was =
-      refresh_passes head own purpose notes (refreshes.fed setting.objects setting.folders refresh answer)
+      refresh_passes head own purpose notes (refreshes.fed setting.parts.objects setting.parts.folders refresh answer)
   stage_passes head own (stages.Checking list_no notes) passes ask (told.Disk answer) is was = record { own = own; stage = passes }
   stage_passes head own (stages.Checking list_no notes) passes ask (told.Core (Ok effect)) is was =
       record { own = own; stage = checked_passes head own list_no notes passes (view_shown effect) }

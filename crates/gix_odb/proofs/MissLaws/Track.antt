@@ -80,7 +80,7 @@ tries_view setting head view notes = seek (goal_of setting head) (record { indic
 module _ (setting : Setting) (hash : Kind) (want : Want) (id : ObjectId) (of_hash : kind_of id ≡ hash) (place : PackedPlace)
     (among : Contains (folders_of setting) place.folder) where
   abbrev pub RowThere : List ListingRow → Type 0
-  RowThere rows = HasRow hash id place setting.folders rows
+  RowThere rows = HasRow hash id place setting.parts.folders rows
 
   -- a list that the look-up published itself leads to the object
   abbrev pub TriesOn : Part → Trier → Type 0
@@ -93,7 +93,7 @@ module _ (setting : Setting) (hash : Kind) (want : Want) (id : ObjectId) (of_has
   IsOn stream (stages.Trying trier part) = TriesOn part trier
   IsOn stream (stages.Loose round call) = IsEarly round.part
   IsOn stream (stages.Refreshing fronts.Reading purpose notes) = Unit {0}
-  IsOn stream (stages.Refreshing (fronts.Listing lister) purpose notes) = IsOnWay hash id place setting.folders stream lister.head lister.stage
+  IsOn stream (stages.Refreshing (fronts.Listing lister) purpose notes) = IsOnWay hash id place setting.parts.folders stream lister.head lister.stage
   IsOn stream (stages.Refreshing (fronts.Publishing listing) purpose notes) = RowThere listing.rows
   IsOn stream (stages.Checking list_no notes) = ⊥
   IsOn stream (stages.Done reply) = ¬ (IsMiss want reply)
@@ -109,7 +109,7 @@ module _ (setting : Setting) (hash : Kind) (want : Want) (id : ObjectId) (of_has
 
   module _ (stream : Option Stream) (head : LookHead) where
     listing_on : (base : ℕ) (notes : Notes) → IsOn stream (listing_from setting base notes)
-    listing_on base notes = begins hash id place setting.folders setting.objects base stream among
+    listing_on base notes = begins hash id place setting.parts.folders setting.parts.objects base stream among
 
     -- ---- lists
 
@@ -159,9 +159,9 @@ module _ (setting : Setting) (hash : Kind) (want : Want) (id : ObjectId) (of_has
     verdict_goes : (round : LooseRound) → IsEarly round.part → (verdict : Verdict) → EndsNoMiss want verdict
         → IsOn stream (by_verdict setting head round verdict)
     verdict_goes round early (verdicts.Ends reply) ends = ends
-    verdict_goes round early verdicts.Misses ends = folder_goes round early (slice_get setting.folders round.next)
+    verdict_goes round early verdicts.Misses ends = folder_goes round early (slice_get setting.parts.folders round.next)
     verdict_goes round early (verdicts.Notes error) ends =
-        folder_goes (record round { notes = record round.notes { failed = true } }) early (slice_get setting.folders round.next)
+        folder_goes (record round { notes = record round.notes { failed = true } }) early (slice_get setting.parts.folders round.next)
 
     -- ---- the list of the core is read, or brought up to date
 
@@ -178,18 +178,18 @@ module _ (setting : Setting) (hash : Kind) (want : Want) (id : ObjectId) (of_has
       abbrev StepOn : RefreshStep → Type 0
       StepOn step = IsLookOn stream (by_refresh setting head purpose notes step)
 
-      view_read_goes : (view : View) → StepOn (by_view setting.objects view)
+      view_read_goes : (view : View) → StepOn (by_view setting.parts.objects view)
       view_read_goes view = by view.read
         where
-          by : (b : Bool) → StepOn (cond b (steps.Read view) (steps.More (refreshes.listing_from setting.objects view.list_no)))
+          by : (b : Bool) → StepOn (cond b (steps.Read view) (steps.More (refreshes.listing_from setting.parts.objects view.list_no)))
           by true = record { own = own; stage = read_goes purpose view notes }
           by false = record { own = own; stage = listing_on view.list_no notes }
 
-      look_goes : (view : Option View) → StepOn (by_look setting.objects view)
+      look_goes : (view : Option View) → StepOn (by_look setting.parts.objects view)
       look_goes None = record { own = own; stage = tt }
       look_goes (Some view) = view_read_goes view
 
-      listed_goes : (step : ListStep) → StepsOn hash id place setting.folders stream step → StepOn (by_listed step)
+      listed_goes : (step : ListStep) → StepsOn hash id place setting.parts.folders stream step → StepOn (by_listed step)
       listed_goes (listed.More lister) on = record { own = own; stage = on }
       listed_goes (listed.Listed listing) on = record { own = own; stage = on }
       listed_goes listed.Broken on =
@@ -269,8 +269,8 @@ module _ (setting : Setting) (hash : Kind) (want : Want) (id : ObjectId) (of_has
       let then : LookUp = fed_at setting head (stages.Refreshing (fronts.Listing lister) purpose notes) (told.Disk answer) in
       subst (λ (a : Ask). IsLookOn (stream_by (stream_in past) a (told.Disk answer)) then) own_ask
       (listed_goes (stream_by (stream_in past) (asks.Disk (lists.ask_of lister)) (told.Disk answer)) head own purpose notes
-      (lists.fed setting.folders lister answer)
-      (listing_goes hash id place setting.folders past lister.head lister.stage on answer
+      (lists.fed setting.parts.folders lister answer)
+      (listing_goes hash id place setting.parts.folders past lister.head lister.stage on answer
       (subst (λ (a : Ask). IsFair hash id place past a (told.Disk answer)) (sym own_ask) fair)))
   stage_goes past head own (stages.Refreshing (fronts.Listing lister) purpose notes) on ask (told.Core answer) is fair =
       absurd (subst (λ (a : Ask). IsFair hash id place past a (told.Core answer)) (sym (same_Some _ ask is)) fair)

@@ -43,9 +43,9 @@ use Rattle.gix_odb.specs.declared.open_state.OpenStage.TheVariants as opens
 
 -- after one more exchange
 list_behind-push : (setting : Setting) (step : ListStep) (past : List Exchange) (exchange : Exchange)
-    → list_behind setting.folders step (past ++ exchange ∷ []) ≡ list_by setting.folders (list_behind setting.folders step past) exchange.answer
+    → list_behind setting.parts.folders step (past ++ exchange ∷ []) ≡ list_by setting.parts.folders (list_behind setting.parts.folders step past) exchange.answer
 list_behind-push setting step [] exchange = refl
-list_behind-push setting step (first ∷ past) exchange = list_behind-push setting (list_by setting.folders step first.answer) past exchange
+list_behind-push setting step (first ∷ past) exchange = list_behind-push setting (list_by setting.parts.folders step first.answer) past exchange
 
 -- a core with so many slots was made for the store, at which the handle was registered
 abbrev pub WasRegistered : Setting → List Exchange → (number : ℕ) → Type 0
@@ -90,19 +90,19 @@ module _ (setting : Setting) (slots : Slots) where
 
   -- the stat with this answer
   abbrev look : DiskAnswer → Exchange
-  look answer = record { ask = asks.Disk (disk_asks.Look setting.objects true); answer = told.Disk answer }
+  look answer = record { ask = asks.Disk (disk_asks.Look setting.parts.objects true); answer = told.Disk answer }
 
   abbrev one : DiskAnswer → List Exchange
   one answer = look answer ∷ []
 
   module _ (now : Told) (none : HasNone now) where
-    begun_goes : (answer : DiskAnswer) (own : Slots) → slots ≡ own → KnowsAt now (one answer) (begun setting.objects own)
+    begun_goes : (answer : DiskAnswer) (own : Slots) → slots ≡ own → KnowsAt now (one answer) (begun setting.parts.objects own)
     begun_goes answer (Given number) is =
         number_goes now (one answer) none number (subst (λ (s : Slots). IsNumber setting s (one answer) number) (sym is) refl)
     begun_goes answer (AsNeededByDiskState percent minimum) is = record {
       asked = is;
       has = record { look = look answer; listing = []; are = refl; comes = refl };
-      at = (setting.objects, first_folder setting, refl);
+      at = (setting.parts.objects, first_folder setting, refl);
       breaks = tt;
       stream = none;
     }
@@ -110,10 +110,10 @@ module _ (setting : Setting) (slots : Slots) where
     no_directory : (answer : DiskAnswer) → ShowsNoDirectory answer → KnowsAt now (one answer) (refused opening_errors.NotADirectory)
     no_directory answer shows = (none, (answer, shows, Contains-push [] (look answer)))
 
-    looked_goes : (answer : DiskAnswer) → KnowsAt now (one answer) (looked setting.objects slots answer)
+    looked_goes : (answer : DiskAnswer) → KnowsAt now (one answer) (looked setting.parts.objects slots answer)
     looked_goes (answers.Meta meta) = by meta.kind refl
       where
-        by : (kind : Kind) → meta.kind ≡ kind → KnowsAt now (one (answers.Meta meta)) (shown setting.objects slots kind)
+        by : (kind : Kind) → meta.kind ≡ kind → KnowsAt now (one (answers.Meta meta)) (shown setting.parts.objects slots kind)
         by kinds.Dir is = begun_goes (answers.Meta meta) slots refl
         by kinds.File is = no_directory (answers.Meta meta) (subst IsNoDir (sym is) tt)
         by kinds.Link is = no_directory (answers.Meta meta) (subst IsNoDir (sym is) tt)
@@ -138,14 +138,14 @@ module _ (setting : Setting) (slots : Slots) where
       abbrev later : Told
       later = told_by now (asks.Disk (lists.ask_of lister)) (told.Disk answer)
 
-      listed_more : HasListed setting more (lists.fed setting.folders lister answer)
+      listed_more : HasListed setting more (lists.fed setting.parts.folders lister answer)
       listed_more = record {
         look = here.has.look;
         listing = here.has.listing ++ exchange ∷ [];
         are = ap (λ (all : List Exchange). all ++ exchange ∷ []) here.has.are;
         comes =
-            list_behind-push setting (listed.More (lists.started setting.objects 0)) here.has.listing exchange
-            ∙ ap (λ (step : ListStep). list_by setting.folders step (told.Disk answer)) here.has.comes;
+            list_behind-push setting (listed.More (lists.started setting.parts.objects 0)) here.has.listing exchange
+            ∙ ap (λ (step : ListStep). list_by setting.parts.folders step (told.Disk answer)) here.has.comes;
       }
 
       step_goes : (step : ListStep) → HasListed setting more step → GoesToFolder setting step → ListedTells setting more step → StreamBehind later step
@@ -157,21 +157,21 @@ module _ (setting : Setting) (slots : Slots) where
           (subst (λ (s : Slots). IsNumber setting s more (slots_for percent minimum (length listing.rows))) (sym here.asked) (listing, has, refl))
       step_goes listed.Broken has at tells stream = (stream, tells)
 
-      lister_goes : KnowsAt later more (listed_on percent minimum (lists.fed setting.folders lister answer))
+      lister_goes : KnowsAt later more (listed_on percent minimum (lists.fed setting.parts.folders lister answer))
       lister_goes =
-          step_goes (lists.fed setting.folders lister answer) listed_more (fed-goes setting lister here.at answer)
+          step_goes (lists.fed setting.parts.folders lister answer) listed_more (fed-goes setting lister here.at answer)
           (fed-tells setting more lister here.at (Breaks-more past (exchange ∷ []) lister.stage here.breaks) answer suits (Contains-push past exchange))
-          (listing_streams setting.folders lister.head now lister.stage here.stream answer)
+          (listing_streams setting.parts.folders lister.head now lister.stage here.stream answer)
 
     -- ---- one more exchange
 
     abbrev Goes : OpenStage → Ask → Answer → Type 0
     Goes state ask answer = IsSuited ask answer → KnowsAt (told_by now ask answer) (with_one ask answer) (fed_by setting slots state answer)
 
-    look_goes : HasNone now × (past ≡ []) → (answer : Answer) → Goes opens.Looking (asks.Disk (disk_asks.Look setting.objects true)) answer
+    look_goes : HasNone now × (past ≡ []) → (answer : Answer) → Goes opens.Looking (asks.Disk (disk_asks.Look setting.parts.objects true)) answer
     look_goes (none, is) (told.Disk answer) suits =
-        let later : Told = told_by now (asks.Disk (disk_asks.Look setting.objects true)) (told.Disk answer) in
-        subst (λ (before : List Exchange). KnowsAt later (before ++ look answer ∷ []) (looked setting.objects slots answer)) (sym is)
+        let later : Told = told_by now (asks.Disk (disk_asks.Look setting.parts.objects true)) (told.Disk answer) in
+        subst (λ (before : List Exchange). KnowsAt later (before ++ look answer ∷ []) (looked setting.parts.objects slots answer)) (sym is)
         (looked_goes later none answer)
     look_goes known (told.Core answer) suits = absurd suits
 
@@ -194,8 +194,8 @@ module _ (setting : Setting) (slots : Slots) where
         listing = has.listing ++ registered ∷ [];
         are = ap (λ (all : List Exchange). all ++ registered ∷ []) has.are;
         comes =
-            list_behind-push setting (listed.More (lists.started setting.objects 0)) has.listing registered
-            ∙ ap (λ (step : ListStep). list_by setting.folders step (told.Core answer)) has.comes;
+            list_behind-push setting (listed.More (lists.started setting.parts.objects 0)) has.listing registered
+            ∙ ap (λ (step : ListStep). list_by setting.parts.folders step (told.Core answer)) has.comes;
       }
 
       number_still : (own : Slots) → IsNumber setting own past number → IsNumber setting own (past ++ registered ∷ []) number
@@ -210,7 +210,7 @@ module _ (setting : Setting) (slots : Slots) where
 
     goes : (state : OpenStage) → KnowsAt now past state → (ask : Ask) (answer : Answer) → asks_of setting state ≡ Some ask → Goes state ask answer
     goes opens.Looking known ask answer is =
-        subst (λ (own : Ask). Goes opens.Looking own answer) (same_Some (asks.Disk (disk_asks.Look setting.objects true)) ask is) (look_goes known answer)
+        subst (λ (own : Ask). Goes opens.Looking own answer) (same_Some (asks.Disk (disk_asks.Look setting.parts.objects true)) ask is) (look_goes known answer)
     goes (opens.Listing lister percent minimum) known ask answer is =
         subst (λ (own : Ask). Goes (opens.Listing lister percent minimum) own answer) (same_Some (asks.Disk (lists.ask_of lister)) ask is)
         (listing_goes lister percent minimum known answer)

@@ -34,13 +34,13 @@ use Rattle.gix_odb.specs.declared.open_state.OpenStage.TheVariants as opens
 
 module _ (setting : Setting) (slots : Slots) (entries : ℕ) where
   abbrev listing : ℕ
-  listing = listing_turns setting.objects setting.folders entries
+  listing = listing_turns setting.parts.objects setting.parts.folders entries
 
   -- so many turns are enough, where the open stream gave what the listing has: a stat, a listing, and the registration
   abbrev pub HasTurns : Option Stream → OpenStage → (turns : ℕ) → Type 0
   HasTurns stream opens.Looking turns = listing + 2 ≤ turns
   HasTurns stream (opens.Listing lister percent minimum) turns =
-      IsCounted setting.folders entries stream lister × (lister_turns setting.folders entries lister + 1 ≤ turns)
+      IsCounted setting.parts.folders entries stream lister × (lister_turns setting.parts.folders entries lister + 1 ≤ turns)
   HasTurns stream (opens.Registering number) turns = 1 ≤ turns
   HasTurns stream (opens.Done reply) turns = Unit {0}
 
@@ -62,36 +62,36 @@ module _ (setting : Setting) (slots : Slots) (entries : ℕ) where
         by true = some
         by false = tt
 
-    begun_goes : (own : Slots) → listing + 2 ≤ suc turns → HasTurns stream (begun setting.objects own) turns
+    begun_goes : (own : Slots) → listing + 2 ≤ suc turns → HasTurns stream (begun setting.parts.objects own) turns
     begun_goes (Given number) enough = number_goes stream number (omega arith)
     begun_goes (AsNeededByDiskState percent minimum) enough = (tt, omega arith)
 
-    looked_goes : (answer : DiskAnswer) → listing + 2 ≤ suc turns → HasTurns stream (looked setting.objects slots answer) turns
+    looked_goes : (answer : DiskAnswer) → listing + 2 ≤ suc turns → HasTurns stream (looked setting.parts.objects slots answer) turns
     looked_goes (answers.Meta meta) enough = by meta.kind
       where
-        by : (kind : Kind) → HasTurns stream (shown setting.objects slots kind) turns
+        by : (kind : Kind) → HasTurns stream (shown setting.parts.objects slots kind) turns
         by kinds.Dir = begun_goes slots enough
         by kinds.File = tt
         by kinds.Link = tt
     looked_goes (answers.Refused disk_errors.Failed) enough = tt
     looked_goes answer enough = tt
 
-    listed_goes : (now : Option Stream) (percent minimum : ℕ) (step : ListStep) → ListsFor setting.folders entries (turns - 1) now step → 1 ≤ turns
+    listed_goes : (now : Option Stream) (percent minimum : ℕ) (step : ListStep) → ListsFor setting.parts.folders entries (turns - 1) now step → 1 ≤ turns
         → HasTurns now (listed_on percent minimum step) turns
     listed_goes now percent minimum (listed.More lister) left some = (left.0, omega (arith, left.1, some))
     listed_goes now percent minimum (listed.Listed listing) left some = number_goes now (slots_for percent minimum (length listing.rows)) some
     listed_goes now percent minimum listed.Broken left some = tt
 
-    look_goes : listing + 2 ≤ suc turns → (answer : Answer) → Goes opens.Looking (asks.Disk (disk_asks.Look setting.objects true)) answer
+    look_goes : listing + 2 ≤ suc turns → (answer : Answer) → Goes opens.Looking (asks.Disk (disk_asks.Look setting.parts.objects true)) answer
     look_goes enough (told.Disk answer) is fits = looked_goes answer enough
     look_goes enough (told.Core answer) is fits = absurd is
 
     listing_goes : (lister : Lister) (percent minimum : ℕ) → HasTurns stream (opens.Listing lister percent minimum) (suc turns) → (answer : Answer)
         → Goes (opens.Listing lister percent minimum) (asks.Disk (lists.ask_of lister)) answer
     listing_goes lister percent minimum (counted, few) (told.Disk answer) is fits =
-        let some : 1 ≤ turns = omega (arith, few, lister_turns-pos setting.folders entries lister) in
-        listed_goes (stream_by stream (asks.Disk (lists.ask_of lister)) (told.Disk answer)) percent minimum (lists.fed setting.folders lister answer)
-        (fed_lists setting.folders entries (turns - 1) stream lister answer counted fits (omega (arith, few, some)))
+        let some : 1 ≤ turns = omega (arith, few, lister_turns-pos setting.parts.folders entries lister) in
+        listed_goes (stream_by stream (asks.Disk (lists.ask_of lister)) (told.Disk answer)) percent minimum (lists.fed setting.parts.folders lister answer)
+        (fed_lists setting.parts.folders entries (turns - 1) stream lister answer counted fits (omega (arith, few, some)))
         some
     listing_goes lister percent minimum left (told.Core answer) is fits = absurd is
 
@@ -101,7 +101,7 @@ module _ (setting : Setting) (slots : Slots) (entries : ℕ) where
 
     goes : (state : OpenStage) → HasTurns stream state (suc turns) → (ask : Ask) (answer : Answer) → asks_of setting state ≡ Some ask → Goes state ask answer
     goes opens.Looking enough ask answer is =
-        subst (λ (own : Ask). Goes opens.Looking own answer) (same_Some (asks.Disk (disk_asks.Look setting.objects true)) ask is) (look_goes enough answer)
+        subst (λ (own : Ask). Goes opens.Looking own answer) (same_Some (asks.Disk (disk_asks.Look setting.parts.objects true)) ask is) (look_goes enough answer)
     goes (opens.Listing lister percent minimum) enough ask answer is =
         subst (λ (own : Ask). Goes (opens.Listing lister percent minimum) own answer) (same_Some (asks.Disk (lists.ask_of lister)) ask is)
         (listing_goes lister percent minimum enough answer)

@@ -66,24 +66,24 @@ module _ (setting : Setting) where
   refusal_caused past event refusals.GenerationOverflow = record { event = event; told = Contains-push past _ }
   refusal_caused past event refusals.NoMemory = record { event = event; told = Contains-push past _ }
 
-  start_sound : (past : List Exchange) (base : ℕ) → IsSound past (lists.started setting.objects base)
-  start_sound past base = ((setting.objects, first_folder setting, refl), tt)
+  start_sound : (past : List Exchange) (base : ℕ) → IsSound past (lists.started setting.parts.objects base)
+  start_sound past base = ((setting.parts.objects, first_folder setting, refl), tt)
 
   module _ (past : List Exchange) where
     abbrev with_one : Ask → Answer → List Exchange
     with_one ask answer = past ++ record { ask = ask; answer = answer } ∷ []
 
     abbrev pub Goes : Refresh → Ask → Answer → Type 0
-    Goes refresh ask answer = IsSuited ask answer → StepCaused (with_one ask answer) (fed setting.objects setting.folders refresh answer)
+    Goes refresh ask answer = IsSuited ask answer → StepCaused (with_one ask answer) (fed setting.parts.objects setting.parts.folders refresh answer)
 
-    view_goes : (more : List Exchange) (view : View) → StepCaused more (by_view setting.objects view)
+    view_goes : (more : List Exchange) (view : View) → StepCaused more (by_view setting.parts.objects view)
     view_goes more view = by view.read
       where
-        by : (read : Bool) → StepCaused more (if read then steps.Read view else steps.More (listing_from setting.objects view.list_no))
+        by : (read : Bool) → StepCaused more (if read then steps.Read view else steps.More (listing_from setting.parts.objects view.list_no))
         by true = tt
         by false = start_sound more view.list_no
 
-    shown_goes : (more : List Exchange) (shown : Option View) → StepCaused more (by_look setting.objects shown)
+    shown_goes : (more : List Exchange) (shown : Option View) → StepCaused more (by_look setting.parts.objects shown)
     shown_goes more None = tt
     shown_goes more (Some view) = view_goes more view
 
@@ -100,7 +100,7 @@ module _ (setting : Setting) where
     listing_goes : (lister : Lister) → IsSound past lister → (answer : Answer) → Goes (stages.Listing lister) (asks.Disk (lists.ask_of lister)) answer
     listing_goes lister (at, breaks) (told.Disk answer) suits =
         let more : List Exchange = with_one (asks.Disk (lists.ask_of lister)) (told.Disk answer) in
-        listed_goes more (lists.fed setting.folders lister answer) (fed-goes setting lister at answer)
+        listed_goes more (lists.fed setting.parts.folders lister answer) (fed-goes setting lister at answer)
         (fed-tells setting more lister at (Breaks-more past _ lister.stage breaks) answer suits (Contains-push past _))
     listing_goes lister (at, breaks) (told.Core answer) suits = absurd suits
 
@@ -126,7 +126,7 @@ module _ (setting : Setting) where
 
   kept : (past : List Exchange) (step : RefreshStep) (exchange : Exchange) → StepCaused past step → asked_of step ≡ Some exchange.ask
       → IsSuited exchange.ask exchange.answer
-      → StepCaused (past ++ exchange ∷ []) (step_fed setting.objects setting.folders step exchange.answer)
+      → StepCaused (past ++ exchange ∷ []) (step_fed setting.parts.objects setting.parts.folders step exchange.answer)
   kept past (steps.More refresh) exchange sound asked suits =
       subst (λ (own : Ask). Goes past refresh own exchange.answer) (same_Some (ask_of refresh) exchange.ask asked)
       (goes_caused past refresh sound exchange.answer) suits
@@ -142,5 +142,5 @@ module _ (setting : Setting) where
   pub refresh_caused : (snapshot : View) (exchanges : List Exchange) → AreAsked setting (started snapshot) exchanges → AreSuited exchanges
       → StepCaused exchanges (behind setting (started snapshot) exchanges)
   refresh_caused snapshot exchanges asked suited =
-      holds_behind asked_of (step_fed setting.objects setting.folders) StepCaused (λ exchange. IsSuited exchange.ask exchange.answer) kept (started snapshot)
+      holds_behind asked_of (step_fed setting.parts.objects setting.parts.folders) StepCaused (λ exchange. IsSuited exchange.ask exchange.answer) kept (started snapshot)
       exchanges (start_caused snapshot snapshot.read) asked suited

@@ -27,25 +27,25 @@ use Rattle.gix_odb.proofs.AskedLemmas.{holds_behind}
 module _ (setting : Setting) (distinct : IsDistinct same_path (folders_of setting)) where
   abbrev pub Differs : Refresh → Type 0
   Differs stages.Reading = Unit {0}
-  Differs (stages.Listing lister) = ListerDiffers setting.folders lister
+  Differs (stages.Listing lister) = ListerDiffers setting.parts.folders lister
   Differs (stages.Publishing listing) = HasDifferentPaths listing.rows
 
   abbrev pub GoesDiffering : RefreshStep → Type 0
   GoesDiffering (steps.More refresh) = Differs refresh
   GoesDiffering step = Unit {0}
 
-  view_differs : (view : View) → GoesDiffering (by_view setting.objects view)
+  view_differs : (view : View) → GoesDiffering (by_view setting.parts.objects view)
   view_differs view = by view.read
     where
-      by : (read : Bool) → GoesDiffering (if read then steps.Read view else steps.More (listing_from setting.objects view.list_no))
+      by : (read : Bool) → GoesDiffering (if read then steps.Read view else steps.More (listing_from setting.parts.objects view.list_no))
       by true = tt
-      by false = starts_apart setting.folders setting.objects distinct view.list_no
+      by false = starts_apart setting.parts.folders setting.parts.objects distinct view.list_no
 
-  shown_differs : (shown : Option View) → GoesDiffering (by_look setting.objects shown)
+  shown_differs : (shown : Option View) → GoesDiffering (by_look setting.parts.objects shown)
   shown_differs None = tt
   shown_differs (Some view) = view_differs view
 
-  listed_differs : (step : ListStep) → StepDiffers setting.folders step → GoesDiffering (by_listed step)
+  listed_differs : (step : ListStep) → StepDiffers setting.parts.folders step → GoesDiffering (by_listed step)
   listed_differs (listed.More lister) here = here
   listed_differs (listed.Listed listing) here = here
   listed_differs listed.Broken here = tt
@@ -59,19 +59,19 @@ module _ (setting : Setting) (distinct : IsDistinct same_path (folders_of settin
   published_differs listing here (effects.Put view stored) = here
   published_differs listing here effects.Removed = here
 
-  pub fed_differs : (refresh : Refresh) → Differs refresh → (answer : Answer) → GoesDiffering (fed setting.objects setting.folders refresh answer)
+  pub fed_differs : (refresh : Refresh) → Differs refresh → (answer : Answer) → GoesDiffering (fed setting.parts.objects setting.parts.folders refresh answer)
   fed_differs stages.Reading here (told.Disk answer) = tt
   fed_differs stages.Reading here (told.Core (Ok effect)) = shown_differs (view_shown effect)
   fed_differs stages.Reading here (told.Core (Err refusal)) = tt
   fed_differs (stages.Listing lister) here (told.Disk answer) =
-      listed_differs (lists.fed setting.folders lister answer)
-      (listing_differs setting.folders setting.objects distinct lister.head lister.stage here answer)
+      listed_differs (lists.fed setting.parts.folders lister answer)
+      (listing_differs setting.parts.folders setting.parts.objects distinct lister.head lister.stage here answer)
   fed_differs (stages.Listing lister) here (told.Core answer) = here
   fed_differs (stages.Publishing listing) here (told.Disk answer) = here
   fed_differs (stages.Publishing listing) here (told.Core (Ok effect)) = published_differs listing here effect
   fed_differs (stages.Publishing listing) here (told.Core (Err refusal)) = tt
 
-  step_differs : (step : RefreshStep) → GoesDiffering step → (answer : Answer) → GoesDiffering (step_fed setting.objects setting.folders step answer)
+  step_differs : (step : RefreshStep) → GoesDiffering step → (answer : Answer) → GoesDiffering (step_fed setting.parts.objects setting.parts.folders step answer)
   step_differs (steps.More refresh) here answer = fed_differs refresh here answer
   step_differs (steps.Read view) here answer = tt
   step_differs (steps.Current view own) here answer = tt
@@ -85,7 +85,7 @@ module _ (setting : Setting) (distinct : IsDistinct same_path (folders_of settin
   pub refresh_differs : (snapshot : View) (exchanges : List Exchange) → AreAsked setting (started snapshot) exchanges
       → GoesDiffering (behind setting (started snapshot) exchanges)
   refresh_differs snapshot exchanges asked =
-      holds_behind asked_of (step_fed setting.objects setting.folders) (λ past step. GoesDiffering step) (λ exchange. Unit {0})
+      holds_behind asked_of (step_fed setting.parts.objects setting.parts.folders) (λ past step. GoesDiffering step) (λ exchange. Unit {0})
       (λ past step exchange here asked meets. step_differs step here exchange.answer) (started snapshot) exchanges
       (start_differs snapshot snapshot.read) asked
       (λ exchange among. tt)

@@ -85,7 +85,7 @@ module _ (setting : Setting) where
     with_one ask answer = past ++ record { ask = ask; answer = answer } ∷ []
 
     abbrev Goes : Refresh → Ask → Answer → Type 0
-    Goes refresh ask answer = StepKnowsAt (told_by now ask answer) (with_one ask answer) (fed setting.objects setting.folders refresh answer)
+    Goes refresh ask answer = StepKnowsAt (told_by now ask answer) (with_one ask answer) (fed setting.parts.objects setting.parts.folders refresh answer)
 
     -- the core's state was read
     module _ (effect : Effect) (none : HasNone now) where
@@ -96,7 +96,7 @@ module _ (setting : Setting) where
       later = told_by now (asks.Core events.Look) (told.Core (Ok effect))
 
       view_goes : (view : View) → view_in (Ok effect) ≡ Some view → (read : Bool) → view.read ≡ read
-          → StepKnowsAt later looked (if read then steps.Read view else steps.More (listing_from setting.objects view.list_no))
+          → StepKnowsAt later looked (if read then steps.Read view else steps.More (listing_from setting.parts.objects view.list_no))
       view_goes view shown true is = none
       view_goes view shown false is = (
         started_known setting view.list_no,
@@ -104,7 +104,7 @@ module _ (setting : Setting) where
         record { effect = effect; view = view; shown = shown; unread = is; told = Contains-push past (record { ask = asks.Core events.Look; answer = told.Core (Ok effect) }) },
       )
 
-      shown_goes : (shown : Option View) → view_in (Ok effect) ≡ shown → StepKnowsAt later looked (by_look setting.objects shown)
+      shown_goes : (shown : Option View) → view_in (Ok effect) ≡ shown → StepKnowsAt later looked (by_look setting.parts.objects shown)
       shown_goes None is = none
       shown_goes (Some view) is = view_goes view is view.read refl
 
@@ -125,8 +125,8 @@ module _ (setting : Setting) where
         → Goes (stages.Listing lister) (asks.Disk (lists.ask_of lister)) answer
     listing_goes lister known (told.Disk answer) =
         listed_goes (told_by now (asks.Disk (lists.ask_of lister)) (told.Disk answer)) (with_one (asks.Disk (lists.ask_of lister)) (told.Disk answer))
-        (lists.fed setting.folders lister answer) (fed_known setting lister answer known.0)
-        (listing_streams setting.folders lister.head now lister.stage known.1 answer)
+        (lists.fed setting.parts.folders lister answer) (fed_known setting lister answer known.0)
+        (listing_streams setting.parts.folders lister.head now lister.stage known.1 answer)
         (ShowedUnread-more past _ known.2)
     listing_goes lister known (told.Core answer) =
         (known.0, core_leaves_streams now lister.head.folder lister.stage answer known.1, ShowedUnread-more past _ known.2)
@@ -154,7 +154,7 @@ module _ (setting : Setting) where
     goes (stages.Publishing listing) known answer = publish_goes listing known answer
 
     step_goes : (step : RefreshStep) → StepKnowsAt now past step → (ask : Ask) (answer : Answer) → asked_of step ≡ Some ask
-        → StepKnowsAt (told_by now ask answer) (with_one ask answer) (step_fed setting.objects setting.folders step answer)
+        → StepKnowsAt (told_by now ask answer) (with_one ask answer) (step_fed setting.parts.objects setting.parts.folders step answer)
     step_goes (steps.More refresh) known ask answer is =
         subst (λ (own : Ask). Goes refresh own answer) (same_Some (ask_of refresh) ask is) (goes refresh known answer)
     step_goes (steps.Read view) known ask answer is = absurd (cc is)
@@ -163,9 +163,9 @@ module _ (setting : Setting) where
     step_goes (steps.Refused error) known ask answer is = absurd (cc is)
 
   kept : (past : List Exchange) (step : RefreshStep) (exchange : Exchange) → Knows past step → asked_of step ≡ Some exchange.ask → Unit {0}
-      → Knows (past ++ exchange ∷ []) (step_fed setting.objects setting.folders step exchange.answer)
+      → Knows (past ++ exchange ∷ []) (step_fed setting.parts.objects setting.parts.folders step exchange.answer)
   kept past step exchange known asked meets =
-      subst (λ (now : Told). StepKnowsAt now (past ++ exchange ∷ []) (step_fed setting.objects setting.folders step exchange.answer))
+      subst (λ (now : Told). StepKnowsAt now (past ++ exchange ∷ []) (step_fed setting.parts.objects setting.parts.folders step exchange.answer))
       (sym (told_of-push past exchange))
       (step_goes (told_of past) past step known exchange.ask exchange.answer asked)
 
@@ -178,5 +178,5 @@ module _ (setting : Setting) where
   pub refresh_knows : (snapshot : View) (exchanges : List Exchange) → AreAsked setting (started snapshot) exchanges
       → Knows exchanges (behind setting (started snapshot) exchanges)
   refresh_knows snapshot exchanges asked =
-      holds_behind asked_of (step_fed setting.objects setting.folders) Knows (λ exchange. Unit {0}) kept (started snapshot) exchanges
+      holds_behind asked_of (step_fed setting.parts.objects setting.parts.folders) Knows (λ exchange. Unit {0}) kept (started snapshot) exchanges
       (start_knows snapshot snapshot.read) asked (λ exchange among. tt)

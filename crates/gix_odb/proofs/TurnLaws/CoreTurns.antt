@@ -64,7 +64,7 @@ module _ (bounds : Bounds) where
   Shows head purpose read stream turns view notes =
       LookHasLeft bounds
       (by_refresh bounds.setting (shown head view) purpose notes
-      (cond read (steps.Read view) (steps.More (refreshes.listing_from bounds.setting.objects view.list_no))))
+      (cond read (steps.Read view) (steps.More (refreshes.listing_from bounds.setting.parts.objects view.list_no))))
       view.list_no stream turns
 
   first_left : (head : LookHead) (loose read : Bool) (before : ℕ) (stream : Option Stream) (turns : ℕ) (view : View) (notes : Notes) → before ≤ view.list_no
@@ -118,7 +118,7 @@ module _ (bounds : Bounds) where
   pub read_left : (head : LookHead) (purpose : Purpose) (before : ℕ) (stream : Option Stream) (turns : ℕ) (view : View) (notes : Notes) → before ≤ view.list_no
       → HasFew bounds.slots view
       → OfPurpose bounds head purpose before (suc turns)
-      → LookHasLeft bounds (by_refresh bounds.setting (shown head view) purpose notes (by_view bounds.setting.objects view)) view.list_no stream turns
+      → LookHasLeft bounds (by_refresh bounds.setting (shown head view) purpose notes (by_view bounds.setting.parts.objects view)) view.list_no stream turns
   read_left head (purposes.First loose) before stream turns view notes later few has =
       first_left head loose view.read before stream turns view notes later few.0 has
   read_left head purposes.Again before stream turns view notes later few has = again_left head view.read before stream turns view notes later has

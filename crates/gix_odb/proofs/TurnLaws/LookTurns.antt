@@ -42,14 +42,14 @@ stream_behind stream (Some ask) answer = stream_by stream ask answer
 module _ (bounds : Bounds) where
   listed_left : (head : LookHead) (base before : ℕ) (stream : Option Stream) (turns room : ℕ) (purpose : Purpose) (notes : Notes) (step : ListStep)
       → IsFor base step
-      → ListsFor bounds.setting.folders bounds.entries room stream step
+      → ListsFor bounds.setting.parts.folders bounds.entries room stream step
       → HasFurther bounds head base before (room + settling bounds) turns
       → LookHasLeft bounds (by_refresh bounds.setting head purpose notes (by_listed step)) before stream turns
   listed_left head base before stream turns room purpose notes (listed.More lister) is few has =
-      let enough : HasFurther bounds head base before (lister_turns bounds.setting.folders bounds.entries lister + settling bounds) turns =
+      let enough : HasFurther bounds head base before (lister_turns bounds.setting.parts.folders bounds.entries lister + settling bounds) turns =
       IsFurther-less has (omega (arith, few.1)) in (
         few.0,
-        subst (λ (number : ℕ). HasFurther bounds head number before (lister_turns bounds.setting.folders bounds.entries lister + settling bounds) turns) (sym is) enough,
+        subst (λ (number : ℕ). HasFurther bounds head number before (lister_turns bounds.setting.parts.folders bounds.entries lister + settling bounds) turns) (sym is) enough,
       )
   listed_left head base before stream turns room purpose notes (listed.Listed listing) is few has =
       let enough : HasFurther bounds head base before (settling bounds) turns = IsFurther-less has (omega arith) in
@@ -90,12 +90,12 @@ module _ (bounds : Bounds) where
       read_left bounds head purpose before stream turns view notes is.0.0 (is.0.2 view refl) has
   fed_left head (stages.Refreshing fronts.Reading purpose notes) before stream turns (told.Core (Ok effect)) is has = absurd (cc is.1.1)
   fed_left head (stages.Refreshing (fronts.Listing lister) purpose notes) before stream turns (told.Disk answer) is has =
-      let some = lister_turns-pos bounds.setting.folders bounds.entries lister in
-      let room = lister_turns bounds.setting.folders bounds.entries lister - 1 in
+      let some = lister_turns-pos bounds.setting.parts.folders bounds.entries lister in
+      let room = lister_turns bounds.setting.parts.folders bounds.entries lister - 1 in
       let now = stream_by stream (asks.Disk (lists.ask_of lister)) (told.Disk answer) in
-      listed_left (seen head (told.Disk answer)) lister.head.base before now turns room purpose notes (lists.fed bounds.setting.folders lister answer)
-      (listing_keeps_its_base bounds.setting.folders lister answer)
-      (fed_lists bounds.setting.folders bounds.entries room stream lister answer has.0 is.2 (omega arith))
+      listed_left (seen head (told.Disk answer)) lister.head.base before now turns room purpose notes (lists.fed bounds.setting.parts.folders lister answer)
+      (listing_keeps_its_base bounds.setting.parts.folders lister answer)
+      (fed_lists bounds.setting.parts.folders bounds.entries room stream lister answer has.0 is.2 (omega arith))
       (IsFurther-on (told.Disk answer) before has.1 (omega arith) (omega arith))
   fed_left head (stages.Refreshing (fronts.Listing lister) purpose notes) before stream turns (told.Core answer) is has = absurd is.1
   fed_left head (stages.Refreshing (fronts.Publishing rows) purpose notes) before stream turns (told.Disk answer) is has = absurd is.1

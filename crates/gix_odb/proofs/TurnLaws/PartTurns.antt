@@ -77,14 +77,14 @@ module _ (bounds : Bounds) where
   loose_over head (parts.Published number) before stream turns notes has = has
 
   folder_left : (head : LookHead) (round : LooseRound) (before : ℕ) (stream : Option Stream) (turns : ℕ) (next : Option Path)
-      → slice_get bounds.setting.folders round.next ≡ next
+      → slice_get bounds.setting.parts.folders round.next ≡ next
       → OfPart bounds head round.part before (folders bounds - round.next) turns
       → HasLeft bounds head (at_folder bounds.setting head round next) before stream turns
   folder_left head round before stream turns None is has =
       loose_over head round.part before stream turns round.notes
       (OfPart-less bounds head round.part before (folders bounds - round.next) turns 0 turns has (omega arith))
   folder_left head round before stream turns (Some folder) is has =
-      let within = slice_get_within bounds.setting.folders round.next folder is in
+      let within = slice_get_within bounds.setting.parts.folders round.next folder is in
       OfPart-less bounds head round.part before (folders bounds - round.next) turns ((folders bounds - (round.next + 1)) + 1) turns has
       (omega (arith, within))
 
@@ -93,6 +93,6 @@ module _ (bounds : Bounds) where
       → HasLeft bounds head (by_verdict bounds.setting head round verdict) before stream turns
   verdict_left head round before stream turns (verdicts.Ends reply) has = tt
   verdict_left head round before stream turns verdicts.Misses has =
-      folder_left head round before stream turns (slice_get bounds.setting.folders round.next) refl has
+      folder_left head round before stream turns (slice_get bounds.setting.parts.folders round.next) refl has
   verdict_left head round before stream turns (verdicts.Notes error) has =
-      folder_left head (record round { notes = record round.notes { failed = true } }) before stream turns (slice_get bounds.setting.folders round.next) refl has
+      folder_left head (record round { notes = record round.notes { failed = true } }) before stream turns (slice_get bounds.setting.parts.folders round.next) refl has

@@ -28,11 +28,11 @@ pub record Bounds : Type 0 where
   pub slots : ℕ
   pub entries : ℕ
   pub lap : ℕ
-  pub wide : folder_turns setting.folders entries + further setting.folders entries 0 + settling_turns slots (length setting.folders) ≤ lap
+  pub wide : folder_turns setting.parts.folders entries + further setting.parts.folders entries 0 + settling_turns slots (length setting.parts.folders) ≤ lap
 
 module _ (bounds : Bounds) where
   abbrev pub folders : ℕ
-  folders = length bounds.setting.folders
+  folders = length bounds.setting.parts.folders
 
   abbrev pub settling : ℕ
   settling = settling_turns bounds.slots folders
@@ -67,8 +67,8 @@ module _ (bounds : Bounds) where
   HasLeft head (stages.Loose round call) before stream turns = OfPart head round.part before ((folders - round.next) + 1) turns
   HasLeft head (stages.Refreshing fronts.Reading purpose notes) before stream turns = OfPurpose head purpose before turns
   HasLeft head (stages.Refreshing (fronts.Listing lister) purpose notes) before stream turns =
-      IsCounted bounds.setting.folders bounds.entries stream lister
-      × HasFurther head lister.head.base before (lister_turns bounds.setting.folders bounds.entries lister + settling) turns
+      IsCounted bounds.setting.parts.folders bounds.entries stream lister
+      × HasFurther head lister.head.base before (lister_turns bounds.setting.parts.folders bounds.entries lister + settling) turns
   HasLeft head (stages.Refreshing (fronts.Publishing listing) purpose notes) before stream turns = HasFurther head listing.base before settling turns
   HasLeft head (stages.Checking number notes) before stream turns = HasFurther head number before 1 turns
   HasLeft head (stages.Done reply) before stream turns = Unit {0}

@@ -9,4 +9,4 @@ use Rattle.gix_odb.specs.LookUpOrder.Store.{Setting}
 
 -- a listing after the list of a number begins
 abbrev pub listing_from : Setting → (base : ℕ) → Notes → LookStage
-listing_from setting base notes = stages.Refreshing (refreshes.listing_from setting.objects base) purposes.Again notes
+listing_from setting base notes = stages.Refreshing (refreshes.listing_from setting.parts.objects base) purposes.Again notes

@@ -19,7 +19,7 @@ use Rattle.gix_odb.specs.LookUpOrder.Listing.{listing_from}
 -- the loose objects of the first folder are asked
 abbrev pub loose_from : Setting → LookHead → Part → Notes → LookStage
 loose_from setting head part notes =
-    stages.Loose (record { next = 0; notes = notes; part = part }) (asking setting.limit head.want head.id setting.objects)
+    stages.Loose (record { next = 0; notes = notes; part = part }) (asking setting.parts.alloc_limit_bytes head.want head.id setting.parts.objects)
 
 -- behind the loose folders: the core's list, a listing, or a look at whether the list that was tried is still the newest
 abbrev pub after_loose : Setting → Part → Notes → LookStage
@@ -31,11 +31,11 @@ after_loose setting (parts.Published list_no) notes = stages.Checking list_no no
 abbrev pub at_folder : Setting → LookHead → LooseRound → Option Path → LookStage
 at_folder setting head round None = after_loose setting round.part round.notes
 at_folder setting head round (Some folder) =
-    stages.Loose (record round { next = round.next + 1 }) (asking setting.limit head.want head.id folder)
+    stages.Loose (record round { next = round.next + 1 }) (asking setting.parts.alloc_limit_bytes head.want head.id folder)
 
 -- behind what a folder says: the reply, the next folder, or that folder with the failed look noted
 abbrev pub by_verdict : Setting → LookHead → LooseRound → Verdict → LookStage
 by_verdict setting head round (verdicts.Ends reply) = stages.Done reply
-by_verdict setting head round verdicts.Misses = at_folder setting head round (slice_get setting.folders round.next)
+by_verdict setting head round verdicts.Misses = at_folder setting head round (slice_get setting.parts.folders round.next)
 by_verdict setting head round (verdicts.Notes error) =
-    at_folder setting head (record round { notes = record round.notes { failed = true } }) (slice_get setting.folders round.next)
+    at_folder setting head (record round { notes = record round.notes { failed = true } }) (slice_get setting.parts.folders round.next)

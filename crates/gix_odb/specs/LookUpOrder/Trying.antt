@@ -25,7 +25,7 @@ use Rattle.gix_odb.specs.LookUpOrder.Replies.{load_refused, find_error, reply_fo
 
 -- what is sought in the indices, and within which limit
 abbrev pub goal_of : Setting → LookHead → Goal
-goal_of setting head = record { id = head.id; want = head.want; limit = setting.limit }
+goal_of setting head = record { id = head.id; want = head.want; limit = setting.parts.alloc_limit_bytes }
 
 -- after the indices of a list come the loose folders, but not after the core's list where the snapshot was tried before it; then comes a listing
 abbrev pub after_list : Setting → LookHead → Part → Notes → LookStage

@@ -125,7 +125,7 @@ fn at_folder(
     head: LookHead,
     round: LooseRound,
 ) -> Result<LookStage, NoMemory>
-    ensures at { IfOk result (λ stage. stage ≡ order.at_folder (setting_of setting.now) head round (slice_get ((setting_of setting.now).folders) round.next)) }
+    ensures at { IfOk result (λ stage. stage ≡ order.at_folder (setting_of setting.now) head round (slice_get setting.now.parts.now.folders round.next)) }
 {
     let LooseRound { next, notes, part } = round;
     let Some(folder) = setting.parts.folders.as_slice().get(next) else {

@@ -119,8 +119,6 @@ module _ (events : List Event) (e : Event) where
         replacements = o.replacements;
         options = o.options;
         opens = o.opens;
-        slots = o.slots;
-        hash_is = o.hash_is;
         changes = o.changes;
         parts = o.parts;
       }
@@ -147,8 +145,6 @@ module _ (events : List Event) (e : Event) where
         replacements = replacements;
         options = options;
         opens = opens;
-        slots = refl;
-        hash_is = refl;
         changes = refl;
         parts = refl;
       }

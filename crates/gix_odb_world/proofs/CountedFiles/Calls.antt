@@ -45,7 +45,7 @@ one_of_first x xs y (suc k, within, is) = inr (k, omega (arith, within), is)
 
 module _ (setting : Setting) (slots : Slots) where
   abbrev folders : List Path
-  folders = setting.folders
+  folders = setting.parts.folders
 
   -- ---- the calls of a listing
 
@@ -123,11 +123,11 @@ module _ (setting : Setting) (slots : Slots) where
   -- ---- where the listing begins
 
   abbrev start : ListStep
-  start = listed.More (lists.started setting.objects 0)
+  start = listed.More (lists.started setting.parts.objects 0)
 
   -- the stage begins the listing of the folders
   abbrev BeginsListing : OpenStage → Type 0
-  BeginsListing state = (percent : ℕ) × (minimum : ℕ) × (state ≡ opens.Listing (lists.started setting.objects 0) percent minimum)
+  BeginsListing state = (percent : ℕ) × (minimum : ℕ) × (state ≡ opens.Listing (lists.started setting.parts.objects 0) percent minimum)
 
   -- the stage begins no listing: what an opening asks for from there on leaves a listing where it was
   abbrev ListsNothing : OpenStage → Type 0
@@ -141,11 +141,11 @@ module _ (setting : Setting) (slots : Slots) where
   registering_lists_nothing number [] asked suited = refl
   registering_lists_nothing number (exchange ∷ exchanges) asked suited =
       by exchange.answer
-      (subst (λ (ask : Ask). IsSuited ask exchange.answer) (sym (same_Some (asks.NewCore number (length (setting.objects ∷ setting.folders))) exchange.ask asked.0))
+      (subst (λ (ask : Ask). IsSuited ask exchange.answer) (sym (same_Some (asks.NewCore number (length (setting.parts.objects ∷ setting.parts.folders))) exchange.ask asked.0))
       (suited exchange (has_first exchange exchanges)))
       asked.1
     where
-      by : (answer : Answer) → IsSuited (asks.NewCore number (length (setting.objects ∷ setting.folders))) answer
+      by : (answer : Answer) → IsSuited (asks.NewCore number (length (setting.parts.objects ∷ setting.parts.folders))) answer
           → AreAsked setting slots (fed_by setting slots (opens.Registering number) answer) exchanges
           → list_behind folders (list_by folders start answer) exchanges ≡ start
       by (told.Disk answer) suits further = absurd suits
@@ -160,22 +160,22 @@ module _ (setting : Setting) (slots : Slots) where
       by true = registering_lists_nothing number
       by false = done_lists_nothing (replies.Refused (call_errors.Open (opening_errors.TooManySlots number)))
 
-  begun_goes : (own : Slots) → BeginsListing (begun setting.objects own) ⊎ ListsNothing (begun setting.objects own)
+  begun_goes : (own : Slots) → BeginsListing (begun setting.parts.objects own) ⊎ ListsNothing (begun setting.parts.objects own)
   begun_goes (Given number) = inr (numbered_lists_nothing number)
   begun_goes (AsNeededByDiskState percent minimum) = inl (percent, minimum, refl)
 
-  shown_goes : (kind : Kind) → BeginsListing (shown setting.objects slots kind) ⊎ ListsNothing (shown setting.objects slots kind)
+  shown_goes : (kind : Kind) → BeginsListing (shown setting.parts.objects slots kind) ⊎ ListsNothing (shown setting.parts.objects slots kind)
   shown_goes kinds.Dir = begun_goes slots
   shown_goes kinds.File = inr (done_lists_nothing (replies.Refused (call_errors.Open opening_errors.NotADirectory)))
   shown_goes kinds.Link = inr (done_lists_nothing (replies.Refused (call_errors.Open opening_errors.NotADirectory)))
 
-  looked_goes : (answer : DiskAnswer) → BeginsListing (looked setting.objects slots answer) ⊎ ListsNothing (looked setting.objects slots answer)
+  looked_goes : (answer : DiskAnswer) → BeginsListing (looked setting.parts.objects slots answer) ⊎ ListsNothing (looked setting.parts.objects slots answer)
   looked_goes (answers.Meta meta) = shown_goes meta.kind
   looked_goes (answers.Refused disk_errors.Failed) = inr (done_lists_nothing (replies.Refused (call_errors.Open opening_errors.Io)))
   looked_goes answer = inr (done_lists_nothing (replies.Refused (call_errors.Open opening_errors.NotADirectory)))
 
   -- after its stat an opening calls the disk only for what the listing of its folders asks for
-  pub calls_behind_the_look : (answer : DiskAnswer) (exchanges : List Exchange) → AreAsked setting slots (looked setting.objects slots answer) exchanges
+  pub calls_behind_the_look : (answer : DiskAnswer) (exchanges : List Exchange) → AreAsked setting slots (looked setting.parts.objects slots answer) exchanges
       → AreSuited exchanges → HasCalls start exchanges
   calls_behind_the_look answer exchanges asked suited =
       elim (looked_goes answer) [

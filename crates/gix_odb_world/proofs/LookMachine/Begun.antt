@@ -37,19 +37,19 @@ use Rattle.gix_odb_world.proofs.ToldLemmas.{snapshot_seen, told_first}
 use Rattle.gix_odb_world.proofs.ToldWell.{told_well_at_first}
 
 -- the sought id is of the store's hash
-sought_of : (store : Store) (modes : Modes) (query : Query) → is_of_hash store.hash (call_of query) ≡ true
-    → ((id other : ObjectId) → replacement_in store.parts id ≡ Some other → kind_of other ≡ store.hash)
-    → kind_of (sought store.parts modes.ignoring query) ≡ store.hash
+sought_of : (store : Store) (modes : Modes) (query : Query) → is_of_hash store.parts.object_hash (call_of query) ≡ true
+    → ((id other : ObjectId) → replacement_in store.parts id ≡ Some other → kind_of other ≡ store.parts.object_hash)
+    → kind_of (sought store.parts modes.ignoring query) ≡ store.parts.object_hash
 sought_of store modes query hashed replaced = by query.want query.of named modes.ignoring
   where
-    named : kind_of query.of ≡ store.hash
-    named = same_is (kind_of query.of) store.hash (sym (is_of_hash-query store.hash query) ∙ hashed)
+    named : kind_of query.of ≡ store.parts.object_hash
+    named = same_is (kind_of query.of) store.parts.object_hash (sym (is_of_hash-query store.parts.object_hash query) ∙ hashed)
 
-    itself : (id : ObjectId) → kind_of id ≡ store.hash → (o : Option ObjectId) → replacement_in store.parts id ≡ o → kind_of (or_itself o id) ≡ store.hash
+    itself : (id : ObjectId) → kind_of id ≡ store.parts.object_hash → (o : Option ObjectId) → replacement_in store.parts id ≡ o → kind_of (or_itself o id) ≡ store.parts.object_hash
     itself id own None is = own
     itself id own (Some other) is = replaced id other is
 
-    by : (want : Want) (id : ObjectId) → kind_of id ≡ store.hash → (ignoring : Bool) → kind_of (sought_for (replacement_in store.parts) ignoring want id) ≡ store.hash
+    by : (want : Want) (id : ObjectId) → kind_of id ≡ store.parts.object_hash → (ignoring : Bool) → kind_of (sought_for (replacement_in store.parts) ignoring want id) ≡ store.parts.object_hash
     by Object id own true = own
     by Object id own false = itself id own (replacement_in store.parts id) refl
     by Header id own true = own
@@ -99,14 +99,14 @@ module _ (first : Volume) (events : List Event) (e : Event) (handle : ℕ) (stor
       let same : Calling (Looking (looks.started (setting_in store) (view_in_modes modes) query.want (sought store.parts modes.ignoring query))) ≡ Calling (Looking look) =
       ap (λ (s : CallStage). Calling s)
       (sym (by_call-call_of (λ (q : Query). calls.looking (setting_in store) (view_in_modes modes) (sought store.parts modes.ignoring) q)
-      (λ kind size bytes known. fronted (refreshes.started (view_in_modes modes)) (writing store.parts.objects store.hash kind size bytes known)) query)) ∙ is in
+      (λ kind size bytes known. fronted (refreshes.started (view_in_modes modes)) (writing store.parts.objects store.parts.object_hash kind size bytes known)) query)) ∙ is in
       begins query start look (cc same)
 
   begins_no_write : (kind : Kind) (size : ℕ) (bytes : List ℕ) (known : Option ObjectId) (look : LookUp)
       → ¬ (begun_with store modes (MakeCall (call_kinds.Write kind size bytes known)) ≡ Calling (Looking look))
   begins_no_write kind size bytes known look is = never (view_in_modes modes).read is
     where
-      never : (read : Bool) → ¬ (Calling (fronted (if read then fronts.Read (view_in_modes modes) else fronts.More Reading) (writing store.parts.objects store.hash kind size bytes known)) ≡ Calling (Looking look))
+      never : (read : Bool) → ¬ (Calling (fronted (if read then fronts.Read (view_in_modes modes) else fronts.More Reading) (writing store.parts.objects store.parts.object_hash kind size bytes known)) ≡ Calling (Looking look))
       never true is = cc is
       never false is = cc is
 

@@ -55,7 +55,8 @@ use Rattle.gix_odb_world.proofs.QueryCalls.{to_call}
 use Rattle.gix_odb_world.proofs.QuietTurn.{shown_now}
 use Rattle.gix_odb_world.proofs.RefusedLemmas.{refused_later, refused_on_core, refused_on_disk}
 use Rattle.gix_odb_world.proofs.ToldLemmas.{asked-push, behind-push, told_none, told_turn, view_kept}
-use Rattle.gix_odb_world.proofs.ToldWell.{no_failure, told_well_later, told_well_on_core, told_well_on_disk}
+use Rattle.gix_odb_world.proofs.ToldWell.{no_failure, told_well_later}
+use Rattle.gix_odb_world.proofs.ToldWell.Turn.{told_well_on_core, told_well_on_disk}
 use Rattle.gix_odb_history.proofs.WriteAsk.Quiet.{change_by-quiet}
 
 -- what is left of a look-up that isn't done is the look-up
@@ -102,7 +103,7 @@ module _ (first : Volume) (events : List Event) (handle : ℕ) (running : Runnin
       → AsksInOrder first events handle store running.modes running.begun running.turns (MakeCall (call_of query)) ask
   in_order ask is =
       to_call (λ q. AsksAsLook events handle store running.modes running.begun q (Some (parts.Disk ask)))
-      (λ kind size bytes known. AsksAsWrite first events handle store running.modes running.begun running.turns (to_write store.parts.objects store.hash kind size bytes known) ask)
+      (λ kind size bytes known. AsksAsWrite first events handle store running.modes running.begun running.turns (to_write store.parts.objects store.parts.object_hash kind size bytes known) ask)
       query is
 
   takes_part : (asked : Option Ask) → ask_of look ≡ asked → TakesTurn first events handle running (MakeCall (call_of query)) asked
@@ -149,7 +150,7 @@ module _ (first : Volume) (events : List Event) (handle : ℕ) (running : Runnin
     promised reply keeps = subst (λ task. Promise first whole handle store running.modes running.begun task reply) (sym knows.task)
         (to_call
         (λ q. QueryPromise (tree_at first whole) (FailedSince whole handle running.begun) (RefusedSince whole handle running.modes.core running.begun) (told_since whole handle running.begun) store running.modes running.begun (length whole) q reply)
-        (λ kind size bytes known. PromiseOfWrite first whole handle store running.modes running.begun (to_write store.parts.objects store.hash kind size bytes known) reply)
+        (λ kind size bytes known. PromiseOfWrite first whole handle store running.modes running.begun (to_write store.parts.objects store.parts.object_hash kind size bytes known) reply)
         query keeps)
 
     abbrev begun_now : LookUp

@@ -80,9 +80,9 @@ module _ (run : LawfulRun) where
     ends =
         writers.rename_ends run place gives.event gives.there gives.handle gives.running gives.call gives.at gives.turn gives.from to gives.moves
 
-    keeps : HasWritten first upto gives.handle gives.running.begun (to_write gives.running.store.parts.objects gives.running.store.hash w.kind w.size w.bytes w.known) ends.0
+    keeps : HasWritten first upto gives.handle gives.running.begun (to_write gives.running.store.parts.objects gives.running.store.parts.object_hash w.kind w.size w.bytes w.known) ends.0
     keeps =
-        subst (λ es. HasWritten first es gives.handle gives.running.begun (to_write gives.running.store.parts.objects gives.running.store.hash w.kind w.size w.bytes w.known) ends.0) (sym upto_is)
+        subst (λ es. HasWritten first es gives.handle gives.running.begun (to_write gives.running.store.parts.objects gives.running.store.parts.object_hash w.kind w.size w.bytes w.known) ends.0) (sym upto_is)
         ((lawful place gives.event gives.there).promise gives.handle gives.running (MakeCall (call_to_write w)) (replies.Wrote ends.0)
         (record { turn = gives.turn; status = gives.at.works }) gives.begins ends.1)
 

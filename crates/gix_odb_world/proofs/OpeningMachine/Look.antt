@@ -80,12 +80,12 @@ module _ (trees : ℕ → Tree) (Failed : Type 0) (store : Store) (begun now : �
   shown_last shown = at_last (λ moment. ShowsDirectory (trees moment) objects) shown
 
   -- what the stat showed
-  by_kind : (meta : Meta) → looked (trees now) objects true ≡ Ok meta → (kind : Kind) → meta.kind ≡ kind → Looks (after_kind objects store.slots kind)
-  by_kind meta e kinds.Dir is = by_slots (shown_last (rw e is)) store.slots
+  by_kind : (meta : Meta) → looked (trees now) objects true ≡ Ok meta → (kind : Kind) → meta.kind ≡ kind → Looks (after_kind objects store.parts.slots kind)
+  by_kind meta e kinds.Dir is = by_slots (shown_last (rw e is)) store.parts.slots
   by_kind meta e kinds.File is = not_shown (rw e (λ dir. cc))
   by_kind meta e kinds.Link is = not_shown (rw e (λ dir. cc))
 
-  by_look : (told : Result Meta Refusal) → looked (trees now) objects true ≡ told → Looks (after_look objects store.slots (meta_answer told))
+  by_look : (told : Result Meta Refusal) → looked (trees now) objects true ≡ told → Looks (after_look objects store.parts.slots (meta_answer told))
   by_look (Ok meta) e = by_kind meta e meta.kind refl
   by_look (Err Absent) e = not_shown (rw e (λ nothing. nothing))
   by_look (Err WrongKind) e = not_shown (rw e (λ nothing. nothing))
@@ -93,7 +93,7 @@ module _ (trees : ℕ → Tree) (Failed : Type 0) (store : Store) (begun now : �
 
   -- the stat failed, or was answered by the last moment's tree
   pub look_keeps : (fails : Bool) → (fails ≡ true → Failed)
-      → Looks (after_look objects store.slots (cond fails (answers.Refused disk_errors.Failed) (answer_of (trees now) (asks.Look objects true))))
+      → Looks (after_look objects store.parts.slots (cond fails (answers.Refused disk_errors.Failed) (answer_of (trees now) (asks.Look objects true))))
   unfolding answer_of
   look_keeps true is = is refl
   look_keeps false is = by_look (looked (trees now) objects true) refl

@@ -90,7 +90,7 @@ module _ (first : Volume) (events : List Event) (handle : ℕ) (running : Runnin
   setting = setting_in store
 
   abbrev slots : Slots
-  slots = store.slots
+  slots = store.parts.slots
 
   abbrev exchanges : List Exchange
   exchanges = told_since events handle running.begun
@@ -228,18 +228,18 @@ module _ (first : Volume) (events : List Event) (e : Event) (handle : ℕ) (runn
 
       look_shows : Looks (tree_at first (events ++ e ∷ [])) (FailedSince (events ++ e ∷ []) handle running.begun) running.store running.begun (length (events ++ e ∷ []))
           (now_is first events handle running opens.Looking knows e ran)
-          (openings.looked running.store.parts.objects running.store.slots (answer_now (disk_after first events) look))
+          (openings.looked running.store.parts.objects running.store.parts.slots (answer_now (disk_after first events) look))
       look_shows =
           subst (λ tree. Looks (tree_at first (events ++ e ∷ [])) (FailedSince (events ++ e ∷ []) handle running.begun) running.store running.begun (length (events ++ e ∷ []))
           (now_is first events handle running opens.Looking knows e ran)
-          (openings.looked running.store.parts.objects running.store.slots (cond fails (answers.Refused disk_errors.Failed) (answer_of tree look))))
+          (openings.looked running.store.parts.objects running.store.parts.slots (cond fails (answers.Refused disk_errors.Failed) (answer_of tree look))))
           (ap (tree_at first (events ++ e ∷ [])) (length_push events e)
           ∙ shown_now first events e handle running knows.since look turn (quiet first events handle running opens.Looking knows look refl))
           (look_keeps (tree_at first (events ++ e ∷ [])) (FailedSince (events ++ e ∷ []) handle running.begun) running.store running.begun (length (events ++ e ∷ []))
           (now_is first events handle running opens.Looking knows e ran) fails (failed_now first events e handle running knows.since look turn))
 
       pub look_comes : MachineComes first events e handle running opening IsOpening (OfDisk look (answer_now (disk_after first events) look))
-          (openings.result_of (openings.looked running.store.parts.objects running.store.slots (answer_now (disk_after first events) look)))
+          (openings.result_of (openings.looked running.store.parts.objects running.store.parts.slots (answer_now (disk_after first events) look)))
       look_comes = comes_to first events handle running opens.Looking knows e ran look refl turn look_shows
 
   -- a turn of the listing
@@ -289,11 +289,11 @@ module _ (first : Volume) (events : List Event) (e : Event) (handle : ℕ) (runn
           number =
               number_is_counted first (events ++ e ∷ []) handle running.store running.begun distinct
               (given_as_before first events e handle running.begun told_same knows.given)
-              (subst (AreAsked setting running.store.slots opens.Looking) (sym told_same) knows.asked) (subst AreSuited (sym told_same) knows.well.suited)
-              running.store.slots slots
-              (subst (λ xs. IsNumber setting running.store.slots xs slots) (sym told_same)
-              (openings_register_their_number setting running.store.slots asked knows.asked knows.well.suited slots (sym knows.is)));
+              (subst (AreAsked setting running.store.parts.slots opens.Looking) (sym told_same) knows.asked) (subst AreSuited (sym told_same) knows.well.suited)
+              running.store.parts.slots slots
+              (subst (λ xs. IsNumber setting running.store.parts.slots xs slots) (sym told_same)
+              (openings_register_their_number setting running.store.parts.slots asked knows.asked knows.well.suited slots (sym knows.is)));
           core = made;
-          not_too_many = openings_register_few_slots setting running.store.slots asked knows.asked knows.well.suited slots (sym knows.is);
+          not_too_many = openings_register_few_slots setting running.store.parts.slots asked knows.asked knows.well.suited slots (sym knows.is);
           directory = shown_before first events e running.begun running.store.parts.objects knows.seen;
         })

@@ -9,18 +9,18 @@ use Rattle.gix_object.specs.declared.want.Want.{Want}
 use Rattle.gix_object.specs.declared.want.Want.TheVariants.{Object, Header, Presence}
 use Rattle.gix_odb.specs.Fair.{PackedPlace}
 use Rattle.gix_odb.specs.Found.{Gives}
-use Rattle.gix_odb.specs.Contents.{StoreData}
+use Rattle.gix_odb_calls.specs.declared.store_parts.StoreParts.{StoreParts}
 use Rattle.gix_odb.specs.Held.{IsSoundPair, LiesInPack}
 use Rattle.gix_odb_world.specs.Running.PackedStill.{LiesIndexed}
 
 -- the index of a sound pair gives the id the offset
-sound_pair_gives : (store : StoreData) (want : Want) (id : ObjectId) (name : Name) (index pack : List ℕ) (offset : ℕ)
+sound_pair_gives : (store : StoreParts) (want : Want) (id : ObjectId) (name : Name) (index pack : List ℕ) (offset : ℕ)
     → IsSoundPair store want id name index pack offset → Gives (kind_of id) index id offset
 sound_pair_gives store Object id name index pack offset sound = sound.1.0
 sound_pair_gives store Header id name index pack offset sound = sound.1.0
 sound_pair_gives store Presence id name index pack offset sound = sound.1.0
 
-pub lies_indexed : (store : StoreData) (want : Want) (tree : Tree) (hash : Kind) (id : ObjectId) → kind_of id ≡ hash → (place : PackedPlace)
+pub lies_indexed : (store : StoreParts) (want : Want) (tree : Tree) (hash : Kind) (id : ObjectId) → kind_of id ≡ hash → (place : PackedPlace)
     → LiesInPack store want tree place.folder id place.name place.offset → LiesIndexed tree hash id place
 lies_indexed store want tree hash id hashed place lies = record {
   itself = lies.itself;

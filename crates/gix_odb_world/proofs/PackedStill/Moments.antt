@@ -22,13 +22,13 @@ use Rattle.gix_odb_world.proofs.Stock.OneCore.{shown_later}
 -- what was shown as the index of what stays unchanged is sound
 pub shown_index_is_sound : (trees : ℕ → Tree) (store : Store) (begun now : ℕ) (id : ObjectId) (place : PackedPlace)
     → IsPackedStill trees store begun now id place → store.opened ≤ begun → begun ≤ now
-    → (bytes : List ℕ) → WasShownAt trees store.opened now (index_at place) bytes → IsIndexSound store.hash id place bytes
+    → (bytes : List ℕ) → WasShownAt trees store.opened now (index_at place) bytes → IsIndexSound store.parts.object_hash id place bytes
 shown_index_is_sound trees store begun now id place still early since bytes was =
-    let lies : LiesIndexed (trees now) store.hash id place = still.always now since (omega arith) in
+    let lies : LiesIndexed (trees now) store.parts.object_hash id place = still.always now since (omega arith) in
     let own : WasShownAt trees store.opened now (index_at place) lies.index =
     record { moment = now; from = omega (arith, early, since); to = omega arith; was = lies.shows_index } in
     let same : lies.index ≡ bytes = still.one lies.index bytes own was in
-    subst (λ bs. Gives store.hash bs id place.offset) same lies.gives
+    subst (λ bs. Gives store.parts.object_hash bs id place.offset) same lies.gives
 
 module _ (first : Volume) (events : List Event) (e : Event) where
   abbrev whole : List Event
@@ -43,14 +43,14 @@ module _ (first : Volume) (events : List Event) (e : Event) where
   still_before store begun id place still = record {
     always = λ moment from to.
         let more = longer in
-        subst (λ tree. LiesIndexed tree store.hash id place) (tree_at-before first events e moment to) (still.always moment from (omega (arith, to, more)));
+        subst (λ tree. LiesIndexed tree store.parts.object_hash id place) (tree_at-before first events e moment to) (still.always moment from (omega (arith, to, more)));
     one = λ one other was further.
         still.one one other (shown_later first events e store (index_at place) one was) (shown_later first events e store (index_at place) other further);
   }
 
   -- at any moment it lies there
   pub lies_at : (store : Store) (begun : ℕ) (id : ObjectId) (place : PackedPlace) → IsPackedStill (tree_at first whole) store begun (length whole) id place
-      → (moment : ℕ) → begun ≤ moment → moment ≤ length events → LiesIndexed (tree_at first events moment) store.hash id place
+      → (moment : ℕ) → begun ≤ moment → moment ≤ length events → LiesIndexed (tree_at first events moment) store.parts.object_hash id place
   lies_at store begun id place still moment from to = (still_before store begun id place still).always moment from to
 
   -- ---- an event that changes nothing

@@ -33,8 +33,6 @@ open_in_whole events place opener begun store opened = record {
   replacements = opened.replacements;
   options = opened.options;
   opens = opened.opens;
-  slots = opened.slots;
-  hash_is = opened.hash_is;
   changes = opened.changes;
   parts = opened.parts;
 }

@@ -94,7 +94,7 @@ module _ (first : Volume) (events : List Event) (is : IsKnownRun first events) (
       record {
         different = rows_of_a_listing_have_different_paths setting knows.fits.distinct view knows.query.want id told knows.asked listing here;
         at =
-            what_is_handed_was_shown (ShownSince first past running.store) setting running.store.hash knows.query.want id knows.fits.hashed view
+            what_is_handed_was_shown (ShownSince first past running.store) setting running.store.parts.object_hash knows.query.want id knows.fits.hashed view
             knows.well.snapshot told knows.asked knows.well.truth (parts.Core (events_of.Publish listing)) here;
         seen = rows_of_a_listing_were_seen setting view knows.query.want id told knows.asked listing here;
         of_tree = rows_of_a_listing_are_those_of_the_tree setting view knows.query.want id told knows.asked listing here;

@@ -58,7 +58,7 @@ pub found_data_hash_to_the_sought_id : (first : Volume) (events : List Event) �
     → (place : ℕ) (e : Event) (handle : ℕ) (running : Running) (asked : ObjectId) → IsQueryTurn events place e handle running (find_of asked)
     → (kind : Kind) (bytes : List ℕ) → e.outcome ≡ outcomes.Reply (replies.Found kind bytes)
     → ObjectsHash (tree_at first events) (length events) running.store
-    → object_id running.store.hash kind bytes ≡ sought running.store.parts running.modes.ignoring (find_of asked)
+    → object_id running.store.parts.object_hash kind bytes ≡ sought running.store.parts running.modes.ignoring (find_of asked)
 found_data_hash_to_the_sought_id first events is place e handle running asked turn kind bytes ends hashed =
     let at : IsLookTurn first events place e handle running (find_of asked) = look_turn first events is place e handle running (find_of asked) turn in
     let id : ObjectId = sought running.store.parts running.modes.ignoring (find_of asked) in

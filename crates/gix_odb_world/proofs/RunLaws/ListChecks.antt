@@ -124,9 +124,9 @@ module _ (setting : Setting) (want : Want) where
 
     verdict_at : (round : LooseRound) → PartAt number round.part → (verdict : Verdict) → EndsNoMiss want verdict → IsAt number (by_verdict setting head round verdict)
     verdict_at round at (verdicts.Ends reply) ends = ends
-    verdict_at round at verdicts.Misses ends = folder_at round at (slice_get setting.folders round.next)
+    verdict_at round at verdicts.Misses ends = folder_at round at (slice_get setting.parts.folders round.next)
     verdict_at round at (verdicts.Notes error) ends =
-        folder_at (record round { notes = record round.notes { failed = true } }) at (slice_get setting.folders round.next)
+        folder_at (record round { notes = record round.notes { failed = true } }) at (slice_get setting.parts.folders round.next)
 
     -- ---- looks at the core
 
@@ -204,11 +204,11 @@ module _ (setting : Setting) (want : Want) where
   published_at number head own listing purpose notes effects.Removed = record { own = own; stage = tt }
   published_at number head own listing purpose notes (effects.Put view stored) = record { own = own; stage = tt }
 
-  view_is_no_list : (view : View) (b : Bool) → IsNoList (cond b (steps.Read view) (steps.More (refreshes.listing_from setting.objects view.list_no)))
+  view_is_no_list : (view : View) (b : Bool) → IsNoList (cond b (steps.Read view) (steps.More (refreshes.listing_from setting.parts.objects view.list_no)))
   view_is_no_list view true = tt
   view_is_no_list view false = tt
 
-  look_is_no_list : (view : Option View) → IsNoList (by_look setting.objects view)
+  look_is_no_list : (view : Option View) → IsNoList (by_look setting.parts.objects view)
   look_is_no_list None = tt
   look_is_no_list (Some view) = view_is_no_list view view.read
 
@@ -267,12 +267,12 @@ module _ (setting : Setting) (want : Want) where
       by : (told_it : Answer)
           → IsLookAt (list_by number (asks.Core events.Look) told_it) (fed_at setting head (stages.Refreshing fronts.Reading purpose notes) told_it)
       by (told.Disk own_answer) = record { own = own; stage = tt }
-      by (told.Core (Ok effect)) = step_at number head own purpose notes (by_look setting.objects (view_shown effect)) (look_is_no_list (view_shown effect))
+      by (told.Core (Ok effect)) = step_at number head own purpose notes (by_look setting.parts.objects (view_shown effect)) (look_is_no_list (view_shown effect))
       by (told.Core (Err refusal)) = record { own = own; stage = refused_at (of_refusal refusal) }
   goes_at number head own (stages.Refreshing (fronts.Listing lister) purpose notes) at ask (told.Disk answer) is =
       inl
-      (step_at (list_by number ask (told.Disk answer)) head own purpose notes (by_listed (lists.fed setting.folders lister answer))
-      (listed_is_no_list (lists.fed setting.folders lister answer)))
+      (step_at (list_by number ask (told.Disk answer)) head own purpose notes (by_listed (lists.fed setting.parts.folders lister answer))
+      (listed_is_no_list (lists.fed setting.parts.folders lister answer)))
   goes_at number head own (stages.Refreshing (fronts.Listing lister) purpose notes) at ask (told.Core answer) is = inl (record { own = own; stage = tt })
   goes_at number head own (stages.Refreshing (fronts.Publishing listing) purpose notes) at ask (told.Disk answer) is = inl (record { own = own; stage = tt })
   goes_at number head own (stages.Refreshing (fronts.Publishing listing) purpose notes) at ask (told.Core (Ok effect)) is =

@@ -149,9 +149,9 @@ module _ (first : Volume) (events : List Event) (handle : ℕ) (store : Store) (
   never_told (MakeCall call) error promise wants =
       by_call-all (λ (T : Type 0). T → ¬ (TellsWant error))
       (λ query. QueryPromise (tree_at first events) (FailedSince events handle begun) (RefusedSince events handle modes.core begun) (told_since events handle begun) store modes begun (length events) query (replies.Refused error))
-      (λ kind size bytes known. PromiseOfWrite first events handle store modes begun (to_write store.parts.objects store.hash kind size bytes known) (replies.Refused error))
+      (λ kind size bytes known. PromiseOfWrite first events handle store modes begun (to_write store.parts.objects store.parts.object_hash kind size bytes known) (replies.Refused error))
       (λ query promised. query_wants query error promised)
-      (λ kind size bytes known promised. write_wants (to_write store.parts.objects store.hash kind size bytes known) error promised)
+      (λ kind size bytes known promised. write_wants (to_write store.parts.objects store.parts.object_hash kind size bytes known) error promised)
       call promise wants
 
 is_turn_if_replied : (step : Step) (error : CallError) (asked : Asked) (outcome : Outcome) → outcome ≡ outcomes.Reply (replies.Refused error) → Suits step outcome asked → IsTurn step

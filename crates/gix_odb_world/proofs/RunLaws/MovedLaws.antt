@@ -1,11 +1,12 @@
 -- A law of runs about an object that moves from a loose file into a pack while a query works: it isn't missed.
+mod LastTurn
 mod LooseSound
 mod ReadLists
 mod Calls
 mod PackedStream
 mod Fairness
 mod Lists
-use Rattle.std.proofs.Common.{◌≡◌, ◌⊎◌, inl, inr, ℕ, zero, suc, ◌+◌, ◌<◌, ◌≤◌, true, false, List, [], ◌∷◌, ◌++◌, length, take, Contains, Option, Some, None, Result, Ok, Err, refl, sym, ap, ◌∙◌, subst, append-nil, arith}
+use Rattle.std.proofs.Common.{◌≡◌, ◌⊎◌, inl, inr, ℕ, zero, suc, ◌+◌, ◌<◌, ◌≤◌, true, false, List, [], ◌∷◌, ◌++◌, length, take, Contains, Option, Some, None, Ok, refl, sym, ap, ◌∙◌, subst, append-nil, arith}
 use Rattle.std.specs.Prelude.{slice_get}
 use Rattle.std.proofs.lemmas.Bool.{cases_lt, false_from_ne_true}
 use Rattle.std.proofs.lemmas.Option.{same_Some}
@@ -24,8 +25,6 @@ use Rattle.gix_odb_events.specs.declared.answer.Ask.{Ask}
 use Rattle.gix_odb_events.specs.declared.answer.Ask.TheVariants as parts
 use Rattle.gix_odb_calls.specs.declared.call.Reply.{Reply}
 use Rattle.gix_odb_calls.specs.declared.query.Query.{Query}
-use Rattle.gix_object.specs.declared.want.Want.{Want}
-use Rattle.gix_object.specs.declared.want.Want.TheVariants as wants
 use Rattle.gix_odb_calls.specs.declared.step.Outcome.TheVariants as outcomes
 use Rattle.gix_odb.specs.LookExchanges.{AreAsked, Exchange, IsAnswerTo, behind}
 use Rattle.gix_odb.specs.Fair.{AreFair, PackedPlace}
@@ -41,72 +40,32 @@ use Rattle.gix_odb.specs.Moved.{AreLooseFair, ArePublished, HasLoose, IsLooseFai
 use Rattle.gix_odb.proofs.MovedLaws.{no_stream_is_open_before_the_loose_folder_is_asked, objects_that_move_into_packs_are_not_missed}
 use Rattle.gix_odb_world.specs.Work.{Work}
 use Rattle.gix_odb_world.specs.Work.{Calling}
-use Rattle.gix_odb_world.specs.AtWork.{MakeCall, Modes, Running, Store, setting_in}
+use Rattle.gix_odb_world.specs.AtWork.{MakeCall, Running, Store, setting_in}
 use Rattle.gix_odb_world.specs.Begun.{BegunAs}
 use Rattle.gix_odb_history.specs.Cores.{answer_behind, cores_after, history_at}
 use Rattle.gix_odb_history.specs.Event.{Asked, CoreAnswer, CoreEvent, Event, OfCore, OfDisk, OfNewCore, OfNothing, answered}
 use Rattle.gix_odb_world.specs.Headline.{FailsAsListed, Law, Works, outcome_of, stand_of}
-use Rattle.gix_odb_world.specs.Machine.{placed}
 use Rattle.gix_odb_world.specs.Machines.{fed_in}
-use Rattle.gix_odb_world.specs.Promise.{Keeps, Promise, QueryPromise, claim_of}
-use Rattle.gix_odb_world.specs.Refused.{RefusedSince}
-use Rattle.gix_odb_world.specs.Written.{PromiseOfWrite}
-use Rattle.gix_odb_history.specs.Writing.{to_write}
 use Rattle.gix_odb_history.specs.Run.{Fails, FailedSince, Stand, did_of_asked, disk_after, told_now, tree_at}
 use Rattle.gix_odb_world.specs.Running.PackedStill.{LiesIndexed}
-use Rattle.gix_odb_world.specs.Running.Query.{looking}
 use Rattle.gix_odb_world.specs.Status.{Working, status_of}
 use Rattle.gix_odb_world.specs.Told.{call_of, exchange_of, look_begun, told_since, view_then}
 use Rattle.gix_odb_world.proofs.HistoryLemmas.{cores_after-push}
 use Rattle.gix_odb_world.proofs.PackedStill.Contents.{lies_indexed}
-use Rattle.gix_odb_world.proofs.QueryCalls.{of_call}
 use Rattle.gix_odb_world.proofs.RunSteps.Fronts.{event_or_end, length_take, none_beyond, take_next, take_suc, there_in_front}
 use Rattle.gix_odb_world.proofs.ToldLemmas.{asked-push, behind-push, told_none, told_turn}
 use Rattle.gix_odb_world.specs.RunLaws.Moved.{HadPublished, HasMoved}
 use Rattle.gix_odb_world.specs.RunLaws.Turn.{IsQueryTurn}
 use Rattle.gix_odb_world.proofs.RunLaws.JustRead.{answered_then}
 use Rattle.gix_odb_world.proofs.RunLaws.KnownRun.{IsKnownRun}
-use Rattle.gix_odb_world.proofs.RunLaws.QueryTurns.{IsLookTurn, look_turn, same_event}
+use Rattle.gix_odb_world.proofs.RunLaws.QueryTurns.{IsLookTurn, look_turn}
 use Rattle.gix_odb_world.proofs.RunLaws.ToldThen.{ToldBy, told_by_turn}
 use Rattle.gix_odb_world.proofs.RunLaws.MovedLaws.Calls.{call_before}
 use Rattle.gix_odb_world.proofs.RunLaws.MovedLaws.Fairness.{fair_to, goes_on}
+use Rattle.gix_odb_world.proofs.RunLaws.MovedLaws.LastTurn.{core_told, no_failure, reply_of_result, same_answer}
 use Rattle.gix_odb_world.proofs.RunLaws.MovedLaws.LooseSound.{sound_file_is_had}
 use Rattle.gix_odb_world.proofs.RunLaws.MovedLaws.ReadLists.{cores_read, view_read}
 use Rattle.gix_odb_world.proofs.RunLaws.MovedLaws.Lists.{asked_first, told_first_part}
-
--- ---- the last turn
-
-reply_of_result : (result : Result Reply LookUp) (reply : Reply) → outcome_of (placed looking result) ≡ outcomes.Reply reply → result ≡ Ok reply
-reply_of_result (Ok own) reply is = let same : own ≡ reply = cc is in ap (λ (r : Reply). Ok r) same
-reply_of_result (Err look) reply is = absurd (cc is)
-
-core_told : (at : Stand) (disk : Volume) (ask : Option Ask) (store seat : ℕ) (event : CoreEvent) (answer : CoreAnswer) → told_now at disk ask ≡ OfCore store seat event answer
-    → OfCore at.store at.seat event (answer_behind (history_at at.cores at.store) at.seat event) ≡ OfCore store seat event answer
-core_told at disk None store seat event answer is = absurd (cc is)
-core_told at disk (Some (parts.Disk ask)) store seat event answer is = absurd (cc is)
-core_told at disk (Some (parts.NewCore slots folders)) store seat event answer is = absurd (cc is)
-core_told at disk (Some (parts.Core own)) store seat event answer is =
-    let same = same_event at.store at.seat store seat own event (answer_behind (history_at at.cores at.store) at.seat own) answer is in
-    ap (λ (x : CoreEvent). OfCore at.store at.seat x (answer_behind (history_at at.cores at.store) at.seat x)) (sym same) ∙ is
-
-same_answer : (store seat other further : ℕ) (one two : CoreEvent) (a b : CoreAnswer) → OfCore store seat one a ≡ OfCore other further two b → a ≡ b
-same_answer store seat other further one two a b is = cc is
-
-no_failure : (first : Volume) (whole : List Event) (handle : ℕ) (store : Store) (modes : Modes) (begun : ℕ) (query : Query)
-    → Promise first whole handle store modes begun (MakeCall (call_of query)) (not_found query.want) → ¬ (FailedSince whole handle begun)
-no_failure first whole handle store modes begun query promise =
-    by query.want
-    (of_call
-    (λ (q : Query). QueryPromise (tree_at first whole) (FailedSince whole handle begun) (RefusedSince whole handle modes.core begun) (told_since whole handle begun) store modes begun (length whole) q (not_found query.want))
-    (λ kind size bytes known. PromiseOfWrite first whole handle store modes begun (to_write store.parts.objects store.hash kind size bytes known) (not_found query.want))
-    query promise)
-  where
-    by : (want : Want)
-        → Keeps (tree_at first whole) (FailedSince whole handle begun) (RefusedSince whole handle modes.core begun) (told_since whole handle begun) store begun (length whole) want (sought store.parts modes.ignoring query) (claim_of want (not_found want))
-        → ¬ (FailedSince whole handle begun)
-    by wants.Object misses = misses.no_failure
-    by wants.Header misses = misses.no_failure
-    by wants.Presence misses = misses.no_failure
 
 module _ (first : Volume) (events : List Event) (is : IsKnownRun first events) (place : ℕ) (e : Event) (handle : ℕ) (running : Running) (query : Query)
     (turn : IsQueryTurn events place e handle running query) (missing : e.outcome ≡ outcomes.Reply (not_found query.want)) where
@@ -355,8 +314,8 @@ module _ (first : Volume) (events : List Event) (is : IsKnownRun first events) (
         abbrev packed_place : PackedPlace
         packed_place = record { folder = folder; name = name; named = named; offset = offset }
 
-        lies : (now : ℕ) → moment ≤ now → now ≤ place + 1 → LiesIndexed (tree_at first events now) store.hash id packed_place
-        lies now later up = lies_indexed store.parts query.want (tree_at first events now) store.hash id at.fits.hashed packed_place (packed now later up)
+        lies : (now : ℕ) → moment ≤ now → now ≤ place + 1 → LiesIndexed (tree_at first events now) store.parts.object_hash id packed_place
+        lies now later up = lies_indexed store.parts query.want (tree_at first events now) store.parts.object_hash id at.fits.hashed packed_place (packed now later up)
 
         first_part : (rest : List Exchange) × (told_since (take (place + 1) events) handle begun ≡ before ++ rest)
         first_part = told_first_part events handle begun moment (place + 1) since to (let lt = at.within in omega (arith, lt))
@@ -373,7 +332,7 @@ module _ (first : Volume) (events : List Event) (is : IsKnownRun first events) (
         record Parts : Type 0 where
           rest : List Exchange
           all : told_since whole handle begun ≡ before ++ rest
-          fair : AreFair store.hash id packed_place before rest
+          fair : AreFair store.parts.object_hash id packed_place before rest
 
         parts_by : (moment < place + 1) ⊎ (place + 1 ≤ moment) → Parts
         parts_by (inl earlier) =
@@ -398,7 +357,7 @@ module _ (first : Volume) (events : List Event) (is : IsKnownRun first events) (
         not_missing : ⊥
         not_missing =
             let all_parts = parts_by (cases_lt moment (place + 1)) in
-            objects_that_move_into_packs_are_not_missed setting store.hash query.want id at.fits.hashed packed_place among view before all_parts.rest
+            objects_that_move_into_packs_are_not_missed setting store.parts.object_hash query.want id at.fits.hashed packed_place among view before all_parts.rest
             (subst (AreAsked setting start) all_parts.all ended.asked) published_before loose_before all_parts.fair
             (sym (ap (λ (es : List Exchange). result_of (behind setting start es)) all_parts.all) ∙ ended.misses)
 

@@ -48,10 +48,10 @@ module _ (first : Volume) (events : List Event) (handle : ℕ) (store : Store) (
 
   abbrev PromisedOfWrite : Reply → Kind → ℕ → List ℕ → Option ObjectId → Type 0
   PromisedOfWrite reply kind size bytes known =
-      PromiseOfWrite first events handle store modes begun (to_write store.parts.objects store.hash kind size bytes known) reply
+      PromiseOfWrite first events handle store modes begun (to_write store.parts.objects store.parts.object_hash kind size bytes known) reply
 
   abbrev NoCauseOfWrite : Kind → ℕ → List ℕ → Option ObjectId → Type 0
-  NoCauseOfWrite kind size bytes known = NoWriteCause first events handle store modes begun (to_write store.parts.objects store.hash kind size bytes known)
+  NoCauseOfWrite kind size bytes known = NoWriteCause first events handle store modes begun (to_write store.parts.objects store.parts.object_hash kind size bytes known)
 
   own_query : (query : Query) (reply : Reply) → Promised reply query → NoQueryCause first events handle store modes begun query → IsOwnOfWant query.want reply
   own_query query reply promise none = by query.want reply promise none
@@ -88,7 +88,7 @@ module _ (first : Volume) (events : List Event) (handle : ℕ) (store : Store) (
       to_call (λ (q : Query). IsOwnOfWant q.want reply) (λ kind size bytes known. IsOwnOfWrite reply) query
       (own_query query reply (of_call (Promised reply) (PromisedOfWrite reply) query promised)
       (of_call (λ (q : Query). NoQueryCause first events handle store modes begun q) NoCauseOfWrite query no_cause)))
-      (λ kind size bytes known promised no_cause. own_write (to_write store.parts.objects store.hash kind size bytes known) reply promised no_cause)
+      (λ kind size bytes known promised no_cause. own_write (to_write store.parts.objects store.parts.object_hash kind size bytes known) reply promised no_cause)
       call promise none
 
 -- Where a turn ends a task, and the run up to it shows no cause of an error for the task, the reply is an answer of its own and no refusal.

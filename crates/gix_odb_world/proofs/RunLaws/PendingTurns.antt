@@ -5,7 +5,8 @@ use Rattle.odb_disk.specs.MemDisk.{Volume}
 use Rattle.odb_disk.specs.Tree.{Tree, tree_of}
 use Rattle.odb_disk.specs.Tree.Follow.{listed}
 use Rattle.gix_odb_calls.specs.declared.call.Call.{Call}
-use Rattle.gix_odb.specs.Contents.{StoreData, folder_list}
+use Rattle.gix_odb.specs.Contents.{folder_list}
+use Rattle.gix_odb_calls.specs.declared.store_parts.StoreParts.{StoreParts}
 use Rattle.gix_odb_history.specs.Event.{Asked, Event}
 use Rattle.gix_odb_events.specs.declared.answer.Ask.{Ask}
 use Rattle.gix_odb_events.specs.declared.answer.Ask.TheVariants as work_asks
@@ -89,7 +90,7 @@ module _ (first : Volume) (past : List Event) (e : Event) (law : Law first past 
 -- ---- entries of folders
 
 -- no folder had more entries in the prefix of a run that ends with an event than it had in the run
-most_in_front : (first : Volume) (events : List Event) (place : ℕ) (e : Event) → slice_get events place ≡ Some e → (parts : StoreData) (begun now entries : ℕ)
+most_in_front : (first : Volume) (events : List Event) (place : ℕ) (e : Event) → slice_get events place ≡ Some e → (parts : StoreParts) (begun now entries : ℕ)
     → place + 1 ≤ now → HasAtMost (tree_at first events) parts begun now entries
     → HasAtMost (tree_at first (take place events ++ e ∷ [])) parts begun (length (take place events) + 1) entries
 most_in_front first events place e there parts begun now entries within most moment from to folder names among is =

@@ -83,25 +83,25 @@ module _ (first : Volume) (events : List Event) (is : IsKnownRun first events) w
           }
 
       -- Where a query read an index in a folder of its store, and the bytes parse, its next turn stores these bytes.
-      pub index_that_a_turn_read_is_stored_in_the_next : IsIndexPath setting path → is_index running.store.hash bytes ≡ true
-          → (slot : ℕ) × AsksCore e (events_of.PutIndex slot path (record { kind = running.store.hash; bytes = bytes }))
+      pub index_that_a_turn_read_is_stored_in_the_next : IsIndexPath setting path → is_index running.store.parts.object_hash bytes ≡ true
+          → (slot : ℕ) × AsksCore e (events_of.PutIndex slot path (record { kind = running.store.parts.object_hash; bytes = bytes }))
       index_that_a_turn_read_is_stored_in_the_next index parsed =
           let put =
-          index_that_was_read_is_stored_next Shown setting running.store.hash query.want id at.fits.hashed view at.well.snapshot told at.asked at.well.truth path bytes index parsed got in (
+          index_that_was_read_is_stored_next Shown setting running.store.parts.object_hash query.want id at.fits.hashed view at.well.snapshot told at.asked at.well.truth path bytes index parsed got in (
             put.0,
             asks_look first events place e handle running query at
-                (events_of.PutIndex put.0 path (record { kind = running.store.hash; bytes = bytes })) (ap ask_of at.is ∙ put.1),
+                (events_of.PutIndex put.0 path (record { kind = running.store.parts.object_hash; bytes = bytes })) (ap ask_of at.is ∙ put.1),
           )
 
       -- And where it read a pack, its next turn stores that.
-      pub pack_that_a_turn_read_is_stored_in_the_next : IsPackPath setting path → is_pack running.store.hash bytes ≡ true
-          → (pack : PackId) × AsksCore e (events_of.PutPack pack path (record { kind = running.store.hash; bytes = bytes }))
+      pub pack_that_a_turn_read_is_stored_in_the_next : IsPackPath setting path → is_pack running.store.parts.object_hash bytes ≡ true
+          → (pack : PackId) × AsksCore e (events_of.PutPack pack path (record { kind = running.store.parts.object_hash; bytes = bytes }))
       pack_that_a_turn_read_is_stored_in_the_next pack parsed =
           let put =
-          pack_that_was_read_is_stored_next Shown setting running.store.hash query.want id at.fits.hashed view at.well.snapshot told at.asked at.well.truth path bytes pack parsed got in (
+          pack_that_was_read_is_stored_next Shown setting running.store.parts.object_hash query.want id at.fits.hashed view at.well.snapshot told at.asked at.well.truth path bytes pack parsed got in (
             put.0,
             asks_look first events place e handle running query at
-                (events_of.PutPack put.0 path (record { kind = running.store.hash; bytes = bytes })) (ap ask_of at.is ∙ put.1),
+                (events_of.PutPack put.0 path (record { kind = running.store.parts.object_hash; bytes = bytes })) (ap ask_of at.is ∙ put.1),
           )
 
     -- ---- what is stored was read
@@ -111,11 +111,11 @@ module _ (first : Volume) (events : List Event) (is : IsKnownRun first events) w
         let read = just_read first events place e handle running query at path (answers.File bytes last.time) last.last in
         record { time = last.time; read = read; shown = shown_then read.place read.event path bytes last.time read.before.there read.reads }
 
-    missing : (path : Path) (why : PassWhy) → MissedLast running.store.hash told path why → IsMissing events handle begun place running.store.hash path why
+    missing : (path : Path) (why : PassWhy) → MissedLast running.store.parts.object_hash told path why → IsMissing events handle begun place running.store.parts.object_hash path why
     missing path why last =
         record { answer = last.answer; read = just_read first events place e handle running query at path last.answer last.last; reason = last.reason }
 
-    backed : (event : CoreEvent) → IsOfLastRead running.store.hash told event → IsBacked events trees handle begun place running.store.hash event
+    backed : (event : CoreEvent) → IsOfLastRead running.store.parts.object_hash told event → IsBacked events trees handle begun place running.store.parts.object_hash event
     backed (events_of.PutIndex slot path file) last = as_read path file.bytes last
     backed (events_of.PutPack pack path file) last = as_read path file.bytes last
     backed (events_of.PassOver slot path why) last = missing path why last
@@ -123,8 +123,8 @@ module _ (first : Volume) (events : List Event) (is : IsKnownRun first events) w
 
     -- What a query stores is what it read in the turn before, as the file's path showed it then; and it passes a file over only in the turn after a
     -- read of its path, for what that read gave.
-    pub what_a_turn_stores_or_passes_over_was_just_read : (event : CoreEvent) → AsksCore e event → IsBacked events trees handle begun place running.store.hash event
+    pub what_a_turn_stores_or_passes_over_was_just_read : (event : CoreEvent) → AsksCore e event → IsBacked events trees handle begun place running.store.parts.object_hash event
     what_a_turn_stores_or_passes_over_was_just_read event asks_it =
         backed event
-        (what_is_stored_or_passed_over_was_just_read Shown setting running.store.hash query.want id at.fits.hashed view at.well.snapshot told at.asked at.well.truth event
+        (what_is_stored_or_passed_over_was_just_read Shown setting running.store.parts.object_hash query.want id at.fits.hashed view at.well.snapshot told at.asked at.well.truth event
         (sym (ap ask_of at.is) ∙ look_asks first events place e handle running query at event asks_it))

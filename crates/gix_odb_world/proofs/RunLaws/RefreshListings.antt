@@ -43,7 +43,7 @@ published P own listing here is = let same : own ≡ listing = cc is in subst (�
 
 module _ (setting : Setting) where
   abbrev fed_by : RefreshStep → Answer → RefreshStep
-  fed_by step answer = step_fed setting.objects setting.folders step answer
+  fed_by step answer = step_fed setting.parts.objects setting.parts.folders step answer
 
   -- ---- what was seen
 
@@ -55,20 +55,20 @@ module _ (setting : Setting) where
     AreSeen rows = All (IsRowSeen Told) rows
 
     abbrev Sees : RefreshStep → Type 0
-    Sees (ends.More (stages.Listing lister)) = SeesLister Told setting.folders lister
+    Sees (ends.More (stages.Listing lister)) = SeesLister Told setting.parts.folders lister
     Sees (ends.More (stages.Publishing listing)) = AreSeen listing.rows
     Sees step = Unit {0}
 
-    listed_seen : (step : ListStep) → SeesStep Told setting.folders step → Sees (by_listed step)
+    listed_seen : (step : ListStep) → SeesStep Told setting.parts.folders step → Sees (by_listed step)
     listed_seen (steps.More lister) here = here
     listed_seen (steps.Listed listing) here = here
     listed_seen steps.Broken here = tt
 
-    view_seen : (view : View) (b : Bool) → Sees (cond b (ends.Read view) (ends.More (listing_from setting.objects view.list_no)))
+    view_seen : (view : View) (b : Bool) → Sees (cond b (ends.Read view) (ends.More (listing_from setting.parts.objects view.list_no)))
     view_seen view true = tt
-    view_seen view false = starts_seeing Told setting.folders setting.objects view.list_no
+    view_seen view false = starts_seeing Told setting.parts.folders setting.parts.objects view.list_no
 
-    look_seen : (view : Option View) → Sees (by_look setting.objects view)
+    look_seen : (view : Option View) → Sees (by_look setting.parts.objects view)
     look_seen None = tt
     look_seen (Some view) = view_seen view view.read
 
@@ -80,8 +80,8 @@ module _ (setting : Setting) where
 
     fed_seen : (step : RefreshStep) → Sees step → (ask : Ask) (answer : Answer) → asked_of step ≡ Some ask → WasTold all ask answer → Sees (fed_by step answer)
     fed_seen (ends.More (stages.Listing lister)) here ask (told.Disk answer) is was =
-        listed_seen (lists.fed setting.folders lister answer)
-        (listing_sees Told setting.folders lister.head here.rows lister.stage here.stage answer
+        listed_seen (lists.fed setting.parts.folders lister answer)
+        (listing_sees Told setting.parts.folders lister.head here.rows lister.stage here.stage answer
         (subst (λ (a : Ask). WasTold all a (told.Disk answer)) (sym (same_part (parts.Disk (lists.ask_of lister)) ask is)) was))
     fed_seen (ends.More (stages.Listing lister)) here ask (told.Core answer) is was = here
     fed_seen (ends.More stages.Reading) here ask (told.Disk answer) is was = tt
@@ -126,20 +126,20 @@ module _ (setting : Setting) where
     AreAll rows = rows ≡ longest_first total
 
     abbrev Lists : List Entry → RefreshStep → Type 0
-    Lists coming (ends.More (stages.Listing lister)) = ListsStage tree setting.folders total coming lister.head lister.stage
+    Lists coming (ends.More (stages.Listing lister)) = ListsStage tree setting.parts.folders total coming lister.head lister.stage
     Lists coming (ends.More (stages.Publishing listing)) = AreAll listing.rows
     Lists coming step = Unit {0}
 
-    listed_so : (coming : List Entry) (step : ListStep) → ListsStep tree setting.folders total coming step → Lists coming (by_listed step)
+    listed_so : (coming : List Entry) (step : ListStep) → ListsStep tree setting.parts.folders total coming step → Lists coming (by_listed step)
     listed_so coming (steps.More lister) here = here
     listed_so coming (steps.Listed listing) here = here
     listed_so coming steps.Broken here = tt
 
-    view_listed : (coming : List Entry) (view : View) (b : Bool) → Lists coming (cond b (ends.Read view) (ends.More (listing_from setting.objects view.list_no)))
+    view_listed : (coming : List Entry) (view : View) (b : Bool) → Lists coming (cond b (ends.Read view) (ends.More (listing_from setting.parts.objects view.list_no)))
     view_listed coming view true = tt
-    view_listed coming view false = starts_listing tree setting.folders setting.objects view.list_no coming
+    view_listed coming view false = starts_listing tree setting.parts.folders setting.parts.objects view.list_no coming
 
-    look_listed : (coming : List Entry) (view : Option View) → Lists coming (by_look setting.objects view)
+    look_listed : (coming : List Entry) (view : Option View) → Lists coming (by_look setting.parts.objects view)
     look_listed coming None = tt
     look_listed coming (Some view) = view_listed coming view view.read
 
@@ -152,8 +152,8 @@ module _ (setting : Setting) where
     fed_listed : (coming : List Entry) (step : RefreshStep) → Lists coming step → (ask : Ask) (answer : Answer) (left : List Entry) → asked_of step ≡ Some ask
         → IsToldOfTree tree coming ask answer left → Lists left (fed_by step answer)
     fed_listed coming (ends.More (stages.Listing lister)) here ask (told.Disk answer) left is of =
-        listed_so left (lists.fed setting.folders lister answer)
-        (listing_lists tree setting.folders total lister.head coming lister.stage here answer left
+        listed_so left (lists.fed setting.parts.folders lister answer)
+        (listing_lists tree setting.parts.folders total lister.head coming lister.stage here answer left
         (subst (λ (a : Ask). IsToldOfTree tree coming a (told.Disk answer) left) (sym (same_part (parts.Disk (lists.ask_of lister)) ask is)) of))
     fed_listed coming (ends.More (stages.Listing lister)) here ask (told.Core answer) left is of =
         absurd (subst (λ (a : Ask). IsToldOfTree tree coming a (told.Core answer) left) (sym (same_part (parts.Disk (lists.ask_of lister)) ask is)) of)

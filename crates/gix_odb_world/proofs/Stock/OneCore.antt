@@ -31,7 +31,7 @@ pub record IsOfStore (first : Volume) (events : List Event) (store : Store) (his
   pub opening : history.opening ≡ (opened slots (length (folder_list store.parts)) 0 0).opening
   pub legal : IsLegal history.opening history.entries
   pub possible : IsPossible history.opening history.entries
-  pub handed : (entry : Entry) → Contains history.entries entry → IsHanded (ShownSince first events store) (setting_in store) store.hash entry.event
+  pub handed : (entry : Entry) → Contains history.entries entry → IsHanded (ShownSince first events store) (setting_in store) store.parts.object_hash entry.event
 
 -- the core of a number is that of a store
 pub record IsStocked (first : Volume) (events : List Event) (core : ℕ) (store : Store) : Type 0 where
@@ -63,13 +63,13 @@ module _ (first : Volume) (events : List Event) (e : Event) (store : Store) wher
     legal = of.legal;
     possible = of.possible;
     handed = λ entry among.
-        IsHanded-wider (ShownSince first events store) (ShownSince first whole store) shown_later (setting_in store) store.hash entry.event (of.handed entry among);
+        IsHanded-wider (ShownSince first events store) (ShownSince first whole store) shown_later (setting_in store) store.parts.object_hash entry.event (of.handed entry among);
   }
 
   -- with one more entry
   pub of_store_grown : (history : History) (seat : ℕ) (event : CoreEvent) (answer : CoreAnswer) → answer ≡ answer_behind history seat event
       → CanHappen (present history) seat event
-      → IsHanded (ShownSince first events store) (setting_in store) store.hash event → IsOfStore first events store history
+      → IsHanded (ShownSince first events store) (setting_in store) store.parts.object_hash event → IsOfStore first events store history
       → IsOfStore first whole store (entered history seat event answer)
   of_store_grown history seat event answer answered can handed of =
       let entry : Entry = entry_of history seat event answer in
@@ -80,6 +80,6 @@ module _ (first : Volume) (events : List Event) (e : Event) (store : Store) wher
         legal = legal_journal_grows history.entries entry history.opening of.legal (record { numbered = refl; answered = inr answered });
         possible = possible_journal_grows history.entries history.opening entry of.possible can;
         handed =
-            each_of_grown history.entries entry (λ (one : Entry). IsHanded (ShownSince first whole store) (setting_in store) store.hash one.event) later.handed
-            (IsHanded-wider (ShownSince first events store) (ShownSince first whole store) shown_later (setting_in store) store.hash event handed);
+            each_of_grown history.entries entry (λ (one : Entry). IsHanded (ShownSince first whole store) (setting_in store) store.parts.object_hash one.event) later.handed
+            (IsHanded-wider (ShownSince first events store) (ShownSince first whole store) shown_later (setting_in store) store.parts.object_hash event handed);
       }

@@ -56,7 +56,7 @@ shift (z ∷ xs) x ys = ap (λ zs. z ∷ zs) (shift xs x ys)
 
 module _ (first : Volume) (events : List Event) (store : Store) (history : History) (of : IsOfStore first events store history) where
   abbrev pub Shows : View → Type 0
-  Shows view = IsShownView (ShownSince first events store) (setting_in store) store.hash view × (length view.snapshot.indices ≤ of.slots)
+  Shows view = IsShownView (ShownSince first events store) (setting_in store) store.parts.object_hash view × (length view.snapshot.indices ≤ of.slots)
 
   pub is_opened : IsOpened history.opening
   is_opened = record { slots = of.slots; folders = length (folder_list store.parts); generation = 0; state = 0; is = of.opening }
@@ -91,7 +91,7 @@ module _ (first : Volume) (events : List Event) (store : Store) (history : Histo
         let same = (entries_lower_no_number to_here history.opening).slots in
         let many = slots_are in
         subst Shows (sym is) (
-          what_a_core_shows_was_shown (ShownSince first events store) (setting_in store) store.hash to_here
+          what_a_core_shows_was_shown (ShownSince first events store) (setting_in store) store.parts.object_hash to_here
               (λ one among. of.handed one (subst (λ es. Contains es one) (sym split) (Contains-append_left to_here later one among)))
               history.opening is_opened legal_here (number_behind past),
           grind (arith, few, same, many),

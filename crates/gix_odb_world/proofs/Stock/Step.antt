@@ -189,7 +189,7 @@ module _ (first : Volume) (past : List Event) (e : Event) (lawful : IsLawful fir
     -- what work asks a core for can happen, and is what was read
     module _ (event : CoreEvent) where
       handed_by : (work : Work) → ask_in running.store work ≡ Some (parts.Core event) → Knows first past number running work
-          → IsHanded (ShownSince first past running.store) (setting_in running.store) running.store.hash event × CanHappen (present (history_at cores running.modes.core)) number event
+          → IsHanded (ShownSince first past running.store) (setting_in running.store) running.store.parts.object_hash event × CanHappen (present (history_at cores running.modes.core)) number event
       handed_by (Opening opens.Looking) is knows = absurd (cc is)
       handed_by (Opening (opens.Listing lister percent minimum)) is knows = absurd (cc is)
       handed_by (Opening (opens.Registering slots)) is knows = absurd (cc is)
@@ -200,7 +200,7 @@ module _ (first : Volume) (past : List Event) (e : Event) (lawful : IsLawful fir
           let setting = setting_in running.store in
           let snapshot = view_then past number running.modes.core running.begun in
           let exchanges = told_since past number running.begun in (
-            what_a_refresh_hands_on_is_of_the_folders setting snapshot exchanges knows.asked (ShownSince first past running.store) running.store.hash event asked,
+            what_a_refresh_hands_on_is_of_the_folders setting snapshot exchanges knows.asked (ShownSince first past running.store) running.store.parts.object_hash event asked,
             what_a_refresh_hands_on_can_happen setting snapshot exchanges knows.asked knows.distinct event asked (present (history_at cores running.modes.core)) number,
           )
       handed_by (Calling (Writing call)) is knows = absurd (no_event (disk_ask_of call) is)
@@ -214,7 +214,7 @@ module _ (first : Volume) (past : List Event) (e : Event) (lawful : IsLawful fir
           let id = sought running.store.parts running.modes.ignoring knows.query in
           let view = view_then past number running.modes.core running.begun in
           let exchanges = told_since past number running.begun in (
-            what_is_handed_was_shown (ShownSince first past running.store) setting running.store.hash knows.query.want id knows.fits.hashed view knows.well.snapshot exchanges
+            what_is_handed_was_shown (ShownSince first past running.store) setting running.store.parts.object_hash knows.query.want id knows.fits.hashed view knows.well.snapshot exchanges
                 knows.asked knows.well.truth (parts.Core event) asked,
             what_is_handed_can_happen setting knows.fits.distinct view knows.query.want id exchanges knows.asked event asked (present (history_at cores running.modes.core)) number,
           )
@@ -300,12 +300,12 @@ module _ (first : Volume) (past : List Event) (e : Event) (lawful : IsLawful fir
         -- the core of the handle is that of its own store alone
         one_store : (store : Store) → slice_get before.stores running.modes.core ≡ Some store
             → MayAskCore past number running.store running.modes running.begun running.task event
-            → IsHanded (ShownSince first past running.store) (setting_in running.store) running.store.hash event
-            → IsHanded (ShownSince first past store) (setting_in store) store.hash event
+            → IsHanded (ShownSince first past running.store) (setting_in running.store) running.store.parts.object_hash event
+            → IsHanded (ShownSince first past store) (setting_in store) store.parts.object_hash event
         one_store store has may handed =
             let both : Some running.store ≡ Some store = sym (owned_by running.task may owned_now) ∙ has in
             let same : running.store ≡ store = cc both in
-            subst (λ (o : Store). IsHanded (ShownSince first past o) (setting_in o) o.hash event) same handed
+            subst (λ (o : Store). IsHanded (ShownSince first past o) (setting_in o) o.parts.object_hash event) same handed
           where
             owned_by : (task : Task) → MayAskCore past number running.store running.modes running.begun task event → OwnsAt before.stores running.store running.modes task
                 → slice_get before.stores running.modes.core ≡ Some running.store

@@ -91,9 +91,9 @@ asks_own first events handle running (Opening (opens.Listing lister percent mini
     let asked : opening_asks setting (opening_now events handle running.store running.begun) ≡ Some (parts.Disk ask) = ap (opening_asks setting) (sym knows.is) ∙ here in
     record {
       opens = λ path same.
-          openings_open_folders_of_packs setting running.store.slots exchanges knows.asked knows.well.suited path (asked ∙ ap (λ a. Some (parts.Disk a)) same);
+          openings_open_folders_of_packs setting running.store.parts.slots exchanges knows.asked knows.well.suited path (asked ∙ ap (λ a. Some (parts.Disk a)) same);
       on = λ dir on_it.
-          let own = streams_of_openings_are_their_own setting running.store.slots exchanges knows.asked knows.well.suited dir
+          let own = streams_of_openings_are_their_own setting running.store.parts.slots exchanges knows.asked knows.well.suited dir
           (on_stream (opening_asks setting (opening_now events handle running.store running.begun)) ask asked dir on_it) in
           (own.stream, own.told, own.number);
     }
@@ -120,7 +120,7 @@ asks_own first events handle running (Calling (Looking look)) knows ask is =
     ap looks.ask_of (sym knows.is) ∙ is in
     record {
       opens = λ path same.
-          look_ups_open_folders_of_packs (ShownSince first events running.store) (setting_in running.store) running.store.hash knows.query.want
+          look_ups_open_folders_of_packs (ShownSince first events running.store) (setting_in running.store) running.store.parts.object_hash knows.query.want
           (sought running.store.parts running.modes.ignoring knows.query) knows.fits.hashed (view_then events handle running.modes.core running.begun) knows.well.snapshot
           (told_since events handle running.begun) knows.asked knows.well.truth path (asked ∙ ap (λ a. Some (parts.Disk a)) same);
       on = λ dir on_it.

@@ -53,10 +53,10 @@ module _ (first : Volume) (events : List Event) (e : Event) (handle : ℕ) (stor
   module _ (kind : Kind) (size : ℕ) (bytes : List ℕ) (known : Option ObjectId)
       (start : IsStarted first whole handle store modes (call_kinds.Write kind size bytes known)) where
     abbrev w : ToWrite
-    w = to_write store.parts.objects store.hash kind size bytes known
+    w = to_write store.parts.objects store.parts.object_hash kind size bytes known
 
     abbrev write : LooseCall
-    write = calls.writing store.parts.objects store.hash kind size bytes known
+    write = calls.writing store.parts.objects store.parts.object_hash kind size bytes known
 
     abbrev running : Running
     running = running_from number (MakeCall (call_kinds.Write kind size bytes known)) store modes
@@ -145,7 +145,7 @@ module _ (first : Volume) (events : List Event) (e : Event) (handle : ℕ) (stor
       no_look (looks.started (setting_in store) (view_in_modes modes) query.want (sought store.parts modes.ignoring query)) state
       (ap (λ (s : CallStage). Calling s)
       (sym (by_call-call_of (λ (q : Query). calls.looking (setting_in store) (view_in_modes modes) (sought store.parts modes.ignoring) q)
-      (λ kind size bytes known. fronted (started (view_in_modes modes)) (calls.writing store.parts.objects store.hash kind size bytes known)) query)) ∙ is)
+      (λ kind size bytes known. fronted (started (view_in_modes modes)) (calls.writing store.parts.objects store.parts.object_hash kind size bytes known)) query)) ∙ is)
 
   -- a state at which a task begins is that of its write
   pub write_starts : (task : Task) (state : WriteState) → BeginsAs first whole handle store modes task → begun_with store modes task ≡ work_of state

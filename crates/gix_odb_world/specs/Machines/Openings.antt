@@ -11,7 +11,7 @@ use Rattle.gix_odb_world.specs.Machine.{Machine}
 
 abbrev pub opening_fed : Store → OpenStage → Option Answer → OpenStage
 opening_fed store state None = state
-opening_fed store state (Some answer) = openings.fed store.parts.objects store.parts.folders store.slots state answer
+opening_fed store state (Some answer) = openings.fed store.parts.objects store.parts.folders store.parts.slots state answer
 
 -- an opening as a machine: one stat, a listing where its indices are to be counted, the registration, and then its reply
 abbrev pub opening : Machine

@@ -71,5 +71,5 @@ NoCause first events handle store modes begun OpenStore = NoOpeningCause first e
 NoCause first events handle store modes begun (MakeCall call) =
     by_call
     (λ query. NoQueryCause first events handle store modes begun query)
-    (λ kind size bytes known. NoWriteCause first events handle store modes begun (to_write store.parts.objects store.hash kind size bytes known))
+    (λ kind size bytes known. NoWriteCause first events handle store modes begun (to_write store.parts.objects store.parts.object_hash kind size bytes known))
     call

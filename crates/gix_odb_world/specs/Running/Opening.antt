@@ -24,7 +24,7 @@ pub record IsOpening (first : Volume) (events : List Event) (handle : ℕ) (runn
   pub task : running.task ≡ OpenStore
   pub since : running.begun ≤ length events
   pub is : state ≡ opening_now events handle running.store running.begun
-  pub asked : AreAsked (setting_in running.store) running.store.slots opens.Looking (told_since events handle running.begun)
+  pub asked : AreAsked (setting_in running.store) running.store.parts.slots opens.Looking (told_since events handle running.begun)
   pub turns : running.turns ≡ length (told_since events handle running.begun)
   pub well : IsAnsweredWell first events handle running.store running.begun
   pub given : AreGiven first events handle running.begun

@@ -23,7 +23,7 @@ pub record LiesIndexed (tree : Tree) (hash : Kind) (id : ObjectId) (place : Pack
 
 -- it lies there at every moment from `begun` to `now`, and the index has shown nothing else since the store was opened
 pub record IsPackedStill (trees : ℕ → Tree) (store : Store) (begun now : ℕ) (id : ObjectId) (place : PackedPlace) : Type 0 where
-  pub always : Throughout begun now (λ moment. LiesIndexed (trees moment) store.hash id place)
+  pub always : Throughout begun now (λ moment. LiesIndexed (trees moment) store.parts.object_hash id place)
   pub one : ShowsOne trees store.opened now (index_at place)
 
 -- no index of the folders of packs of a store has shown two contents since the store was opened

@@ -52,10 +52,10 @@ number_after before (exchange ∷ exchanges) = number_after (number_by before ex
 -- All answers to its handle since it began are true of the run; and where none of them failed, they are fair to what stayed unchanged in a pack.
 pub record IsToldWell (first : Volume) (events : List Event) (handle : ℕ) (store : Store) (modes : Modes) (begun : ℕ) : Type 0 where
   pub opened : store.opened ≤ begun
-  pub snapshot : IsShownView (WasShownAt (tree_at first events) store.opened (length events)) (setting_in store) store.hash (view_then events handle modes.core begun)
+  pub snapshot : IsShownView (WasShownAt (tree_at first events) store.opened (length events)) (setting_in store) store.parts.object_hash (view_then events handle modes.core begun)
   pub few : length (view_then events handle modes.core begun).snapshot.indices ≤ modes.slots
   pub place : modes.core < length (cores_after events)
-  pub truth : AreTrue (WasShownAt (tree_at first events) store.opened (length events)) (setting_in store) store.hash (told_since events handle begun)
+  pub truth : AreTrue (WasShownAt (tree_at first events) store.opened (length events)) (setting_in store) store.parts.object_hash (told_since events handle begun)
   pub answered : AreAnswered (told_since events handle begun)
   pub numbered : AreNumbered modes.slots 0 (told_since events handle begun)
   pub no_later : number_after 0 (told_since events handle begun) ≤ (present (history_at (cores_after events) modes.core)).list_no
@@ -64,14 +64,14 @@ pub record IsToldWell (first : Volume) (events : List Event) (handle : ℕ) (sto
       → IsGiven first events handle begun ask answer
   pub failures : FailedSince events handle begun → HasFailed (told_since events handle begun)
   pub fair : (id : ObjectId) (place : PackedPlace) → ¬ (FailedSince events handle begun)
-      → IsPackedStill (tree_at first events) store begun (length events) id place → AreFair store.hash id place [] (told_since events handle begun)
+      → IsPackedStill (tree_at first events) store begun (length events) id place → AreFair store.parts.object_hash id place [] (told_since events handle begun)
 
 -- ---- what it knows
 
 -- what the store of a query is: no folder occurs twice in it, and the sought id is of its hash
 pub record IsFit (store : Store) (modes : Modes) (query : Query) : Type 0 where
   pub distinct : IsDistinct same_path (folder_list store.parts)
-  pub hashed : kind_of (sought store.parts modes.ignoring query) ≡ store.hash
+  pub hashed : kind_of (sought store.parts modes.ignoring query) ≡ store.parts.object_hash
 
 -- A query is at the state after all answers to its handle since it began, each of which answered its ask then, and had a turn for each.
 pub record IsLooking (first : Volume) (events : List Event) (handle : ℕ) (running : Running) (look : LookUp) : Type 0 where

@@ -82,7 +82,7 @@ pub record StandsAt (first : Volume) (events : List Event) (handle begun own : �
 pub record IsWriting (first : Volume) (events : List Event) (handle : ℕ) (running : Running) (call : LooseCall) : Type 0 where
   pub write : ToWrite
   pub into : write.objects ≡ running.store.parts.objects
-  pub hashed : write.hash ≡ running.store.hash
+  pub hashed : write.hash ≡ running.store.parts.object_hash
   pub fits : write.size < 2 ^ 64
   pub stage : WriteStage
   pub is : call ≡ write_at write stage
@@ -92,7 +92,7 @@ pub record IsWriting (first : Volume) (events : List Event) (handle : ℕ) (runn
 -- the write that the task of its handle sets
 pub record IsTask (running : Running) (w : ToWrite) : Type 0 where
   pub into : w.objects ≡ running.store.parts.objects
-  pub hashed : w.hash ≡ running.store.hash
+  pub hashed : w.hash ≡ running.store.parts.object_hash
   pub fits : w.size < 2 ^ 64
   pub task : running.task ≡ MakeCall (call_to_write w)
 

@@ -65,7 +65,7 @@ use Rattle.gix_odb_world.proofs.RunLaws.MovedLaws.PackedStream.{IsOpenedSince, c
 
 module _ (first : Volume) (events : List Event) (is : IsKnownRun first events) (handle begun : ℕ) (store : Store) (id : ObjectId) (place : PackedPlace)
     (among : Contains (folder_list store.parts) place.folder) (since last : ℕ) (started : begun ≤ since) (early : store.opened ≤ begun) (until : last ≤ length events)
-    (lies : (moment : ℕ) → since ≤ moment → moment ≤ last → LiesIndexed (tree_at first events moment) store.hash id place)
+    (lies : (moment : ℕ) → since ≤ moment → moment ≤ last → LiesIndexed (tree_at first events moment) store.parts.object_hash id place)
     (works : ¬ (FailedSince (take last events) handle begun)) where
   abbrev pub before : List Exchange
   before = told_since (take since events) handle begun
@@ -78,7 +78,7 @@ module _ (first : Volume) (events : List Event) (is : IsKnownRun first events) (
   pub record IsFairTo (now : ℕ) : Type 0 where
     pub behind : List Exchange
     pub told_is : told_since (take now events) handle begun ≡ before ++ behind
-    pub fair : AreFair store.hash id place before behind
+    pub fair : AreFair store.parts.object_hash id place before behind
     pub stream : HasStream now
 
   abbrev Holds : (now : ℕ) → Type 0
@@ -123,14 +123,14 @@ module _ (first : Volume) (events : List Event) (is : IsKnownRun first events) (
       behind_begun : begun ≤ length past
       behind_begun = let a = started in let b = later in let c = long in omega (arith, a, b, c)
 
-      lies_now : LiesIndexed (tree_of disk.state) store.hash id place
+      lies_now : LiesIndexed (tree_of disk.state) store.parts.object_hash id place
       lies_now = lies now later (let lt = up in omega (arith, lt))
 
       -- what holds after one more event
       pub record GoesOn : Type 0 where
         pub behind : List Exchange
         pub told_is : told_since whole handle begun ≡ before ++ behind
-        pub fair : AreFair store.hash id place before behind
+        pub fair : AreFair store.parts.object_hash id place before behind
         pub stream : (stream : Stream) → stream_in (told_since whole handle begun) ≡ Some stream → IsOpenedSince first events since last (disk_after first whole) stream
 
       -- nothing was answered
@@ -145,12 +145,12 @@ module _ (first : Volume) (events : List Event) (is : IsKnownRun first events) (
       }
 
       -- there was an exchange
-      told_one : (x : Exchange) → told_since whole handle begun ≡ exchanges ++ x ∷ [] → IsFair store.hash id place exchanges x.ask x.answer
+      told_one : (x : Exchange) → told_since whole handle begun ≡ exchanges ++ x ∷ [] → IsFair store.parts.object_hash id place exchanges x.ask x.answer
           → ((stream : Stream) → stream_in (exchanges ++ x ∷ []) ≡ Some stream → IsOpenedSince first events since last (disk_after first whole) stream) → GoesOn
       told_one x more fair stream = record {
         behind = one.behind ++ x ∷ [];
         told_is = more ∙ ap (λ (es : List Exchange). es ++ x ∷ []) one.told_is ∙ append_assoc before one.behind (x ∷ []);
-        fair = AreFair-push store.hash id place before one.behind x one.fair (subst (λ (es : List Exchange). IsFair store.hash id place es x.ask x.answer) one.told_is fair);
+        fair = AreFair-push store.parts.object_hash id place before one.behind x one.fair (subst (λ (es : List Exchange). IsFair store.parts.object_hash id place es x.ask x.answer) one.told_is fair);
         stream = λ s has. stream s (sym (ap stream_in more) ∙ has);
       }
 
@@ -195,20 +195,20 @@ module _ (first : Volume) (events : List Event) (is : IsKnownRun first events) (
               looked_file_is_listed (tree_at first events s.moment) stream.folder (stream.entries ++ s.coming) place.name lie.itself.meta s.is.fixed
               (ap (λ f. looked (tree_at first events s.moment) (f ++ place.name ∷ []) false) here ∙ lie.itself.looks) lie.itself.is_file
 
-          next_fair : (dir : ℕ) → ask ≡ asks.NextEntry dir → IsDiskFair store.hash id place exchanges (asks.NextEntry dir) (answer_now disk (asks.NextEntry dir))
+          next_fair : (dir : ℕ) → ask ≡ asks.NextEntry dir → IsDiskFair store.parts.object_hash id place exchanges (asks.NextEntry dir) (answer_now disk (asks.NextEntry dir))
           next_fair dir is_next =
               let two = asks_its.on dir (subst (λ (a : DiskAsk). IsOnStream dir a) (sym is_next) refl) in
               let has : stream_in exchanges ≡ Some two.0 = sym (ap (λ n. stream_in (told_since past handle n)) same) ∙ two.1 in
               let s = one.stream two.0 has in
-              subst (λ (n : ℕ). IsDiskFair store.hash id place exchanges (asks.NextEntry n) (answer_now disk (asks.NextEntry n))) two.2
-              (next_answer_is_fair store.hash id place (tree_at first events s.moment) disk two.0 s.coming s.is (lists two.0 s) exchanges has)
+              subst (λ (n : ℕ). IsDiskFair store.parts.object_hash id place exchanges (asks.NextEntry n) (answer_now disk (asks.NextEntry n))) two.2
+              (next_answer_is_fair store.parts.object_hash id place (tree_at first events s.moment) disk two.0 s.coming s.is (lists two.0 s) exchanges has)
 
           called : GoesOn
           called =
               let x : Exchange = record { ask = parts.Disk ask; answer = told.Disk (answer_now disk ask) } in
               let asked : e.asked ≡ OfDisk ask (answer_now disk ask) = told_so (Some (parts.Disk ask)) same_ask in
               told_one x (told_turn past e handle begun behind_begun turn (OfDisk ask (answer_now disk ask)) asked x refl)
-              (calls_are_fair store.hash id place disk lies_now exchanges ask unfailed next_fair)
+              (calls_are_fair store.parts.object_hash id place disk lies_now exchanges ask unfailed next_fair)
               (λ stream has.
               called_stream first events is since last now later (let lt = up in omega (arith, lt)) e there handle was status ask asks_its asked
               (λ s old. one.stream s (sym (ap (λ n. stream_in (told_since past handle n)) same) ∙ old)) stream
@@ -234,7 +234,7 @@ module _ (first : Volume) (events : List Event) (is : IsKnownRun first events) (
           -- the core is that of its store, and gets only what was shown
           record IsHandedWell : Type 0 where
             stock : IsStocked first past was.modes.core was.store
-            handed : IsHanded (ShownSince first past was.store) (setting_in was.store) was.store.hash event
+            handed : IsHanded (ShownSince first past was.store) (setting_in was.store) was.store.parts.object_hash event
 
           stock_at : (task : Task) → was.task ≡ task → HasStockAt first past was.store was.modes task
           stock_at task is_task =
@@ -248,7 +248,7 @@ module _ (first : Volume) (events : List Event) (is : IsKnownRun first events) (
               record {
                 stock = stock_at (MakeCall (call_of knows.query)) knows.task;
                 handed =
-                    what_is_handed_was_shown (ShownSince first past was.store) setting was.store.hash knows.query.want (sought was.store.parts was.modes.ignoring knows.query)
+                    what_is_handed_was_shown (ShownSince first past was.store) setting was.store.parts.object_hash knows.query.want (sought was.store.parts was.modes.ignoring knows.query)
                     knows.fits.hashed view knows.well.snapshot (told_since past handle was.begun) knows.asked knows.well.truth (parts.Core event)
                     (ap looks.ask_of (sym knows.is) ∙ asked);
               }
@@ -257,7 +257,7 @@ module _ (first : Volume) (events : List Event) (is : IsKnownRun first events) (
                 stock = stock_at (MakeCall (call_to_write knows.write)) knows.of.task;
                 handed =
                     what_a_refresh_hands_on_is_of_the_folders (setting_in was.store) (view_then past handle was.modes.core was.begun) (told_since past handle was.begun) knows.asked
-                    (ShownSince first past was.store) was.store.hash event (ap refreshes.asked_of (sym knows.refresh_is) ∙ asked);
+                    (ShownSince first past was.store) was.store.parts.object_hash event (ap refreshes.asked_of (sym knows.refresh_is) ∙ asked);
               }
           by (Calling (Writing call)) knows asked = absurd (no_event (disk_ask_of call) event asked)
           by (Calling (Refused error)) knows asked = absurd knows
@@ -266,7 +266,7 @@ module _ (first : Volume) (events : List Event) (is : IsKnownRun first events) (
           handed_well = by was.work runs.1 asks_it
 
           -- what was shown as the index since the store was opened is what it shows now
-          index_sound : (bytes : List ℕ) → ShownSince first past was.store (index_at place) bytes → IsIndexSound was.store.hash id place bytes
+          index_sound : (bytes : List ℕ) → ShownSince first past was.store (index_at place) bytes → IsIndexSound was.store.parts.object_hash id place bytes
           index_sound bytes was_shown =
               let count = long in
               let opened_early : was.store.opened ≤ now = subst (λ (s : Store). s.opened ≤ now) (sym own) (let a = early in let b = started in let c = later in omega (arith, a, b, c)) in
@@ -279,15 +279,15 @@ module _ (first : Volume) (events : List Event) (is : IsKnownRun first events) (
               } in
               let its : Contains (folder_list was.store.parts) place.folder = subst (λ (s : Store). Contains (folder_list s.parts) place.folder) (sym own) among in
               let one_content : lies_now.index ≡ bytes = indices_show_one first past handle was ran place.folder its place.name place.named lies_now.index bytes here was_shown in
-              subst (λ (s : Store). IsIndexSound s.hash id place bytes) (sym own) (subst (λ bs. Gives store.hash bs id place.offset) one_content lies_now.gives)
+              subst (λ (s : Store). IsIndexSound s.parts.object_hash id place bytes) (sym own) (subst (λ bs. Gives store.parts.object_hash bs id place.offset) one_content lies_now.gives)
 
-          core_fair : IsFair store.hash id place exchanges (parts.Core event) (told.Core answer)
+          core_fair : IsFair store.parts.object_hash id place exchanges (parts.Core event) (told.Core answer)
           core_fair =
               let stock = handed_well.stock in
               let is_there : history_at (cores_after past) was.modes.core ≡ stock.history = ap (λ o. unwrap_or o (opened 0 0 0 0)) stock.there in
-              subst (λ (s : Store). IsFair s.hash id place exchanges (parts.Core event) (told.Core answer)) own
+              subst (λ (s : Store). IsFair s.parts.object_hash id place exchanges (parts.Core event) (told.Core answer)) own
               (core_answers_are_fair stock.history.opening stock.history.entries handle event answer (ap (λ (h : History). answer_behind h handle event) is_there)
-              (is_opened first past was.store stock.history stock.of) stock.of.legal (ShownSince first past was.store) (setting_in was.store) was.store.hash stock.of.handed
+              (is_opened first past was.store stock.history stock.of) stock.of.legal (ShownSince first past was.store) (setting_in was.store) was.store.parts.object_hash stock.of.handed
               handed_well.handed id place index_sound exchanges)
 
           entered : GoesOn

@@ -38,7 +38,7 @@ use Rattle.gix_object.specs.declared.want.Want.TheVariants.{Object, Header, Pres
 use Rattle.gix_odb_calls.specs.declared.verdict.Verdict.TheVariants as verdicts
 use Rattle.gix_odb.specs.LookUpOrder.{Setting}
 use Rattle.gix_odb.specs.Reply.{IsAnswer}
-use Rattle.gix_odb.specs.Contents.{StoreData}
+use Rattle.gix_odb_calls.specs.declared.store_parts.StoreParts.{StoreParts}
 use Rattle.gix_odb.specs.Held.{InLooseFile, LiesAt}
 use Rattle.gix_odb.specs.Moved.{HasLoose}
 use Rattle.gix_odb_world.proofs.FolderLemmas.{loose_store}
@@ -150,7 +150,7 @@ module _ (limit : Option ℕ) (id : ObjectId) (folder : Path) (disk : Volume) (w
   leads : LeadsToFile (tree_of disk.state) at
   leads = record { bytes = bytes; time = time; given = reads; holds = tt }
 
-  module _ (setting : Setting) (limited : setting.limit ≡ limit) where
+  module _ (setting : Setting) (limited : setting.parts.alloc_limit_bytes ≡ limit) where
     abbrev SaysOf : LooseJob → LooseReply → Type 0
     SaysOf job reply = Says at limit job (tree_of disk.state) Failed ⊥ reply
 
@@ -220,9 +220,9 @@ fails_as_next limit Presence id folder disk ask is works =
     subst (λ (a : DiskAsk). fails_now disk a ≡ false) (sym is) works
 
 -- An object that lies in its loose file, sound for a query, is found by the disk's answer to the query, where that call doesn't fail.
-pub sound_file_is_had : (store : StoreData) (setting : Setting) → setting.limit ≡ store.limit → (want : Want) (id : ObjectId) (folder : Path) (disk : Volume)
-    → LiesAt store want (tree_of disk.state) folder id InLooseFile → (ask : DiskAsk) → folder_ask (asking store.limit want id folder) ≡ ask
+pub sound_file_is_had : (store : StoreParts) (setting : Setting) → setting.parts.alloc_limit_bytes ≡ store.alloc_limit_bytes → (want : Want) (id : ObjectId) (folder : Path) (disk : Volume)
+    → LiesAt store want (tree_of disk.state) folder id InLooseFile → (ask : DiskAsk) → folder_ask (asking store.alloc_limit_bytes want id folder) ≡ ask
     → fails_now disk ask ≡ false → HasLoose setting want id folder (answer_now disk ask)
 sound_file_is_had store setting limited want id folder disk lies ask is works =
     let sound = lies.2.1 in
-    read_has store.limit id folder disk (fails_as_next store.limit want id folder disk ask is works) lies.0 lies.1.0 lies.1.1 setting limited want sound.0 sound.2 ask is
+    read_has store.alloc_limit_bytes id folder disk (fails_as_next store.alloc_limit_bytes want id folder disk ask is works) lies.0 lies.1.0 lies.1.1 setting limited want sound.0 sound.2 ask is

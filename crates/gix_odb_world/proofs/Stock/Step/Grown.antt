@@ -48,7 +48,7 @@ module _ (first : Volume) (past : List Event) (e : Event) (before : AreStocked f
   -- an event of a core that can happen, and passes it what was read
   pub grown_core : (core handle : ℕ) (event : CoreEvent) → e.asked ≡ OfCore core handle event (answer_behind (history_at cores core) handle event)
       → CanHappen (present (history_at cores core)) handle event
-      → ((store : Store) → slice_get before.stores core ≡ Some store → IsHanded (ShownSince first past store) (setting_in store) store.hash event)
+      → ((store : Store) → slice_get before.stores core ≡ Some store → IsHanded (ShownSince first past store) (setting_in store) store.parts.object_hash event)
       → GrowsTo before.stores
   grown_core core handle event is can handed =
       let answer = answer_behind (history_at cores core) handle event in

@@ -3,7 +3,7 @@ use Rattle.gix_hash.specs.ObjectId.{kind_of}
 use Rattle.gix_odb_loose.specs.LooseFile.{id_asked}
 use Rattle.gix_odb_loose.specs.declared.call.LooseJob.TheVariants as jobs
 use Rattle.gix_odb.proofs.WriteLemmas.{start_fits}
-use Rattle.gix_odb.proofs.call_state.begun.Goals as goal
+use Rattle.gix_odb.proofs.call_state.loose_write.begun.Goals as goal
 
 pub start-requires : goal.start-requires
 start-requires c =
