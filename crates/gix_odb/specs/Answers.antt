@@ -1,12 +1,12 @@
--- What a call and an opening may be fed.
+-- What a machine that may be done is fed.
 use Rattle.std.specs.Prelude.{◌≡◌, Option, Some, None}
 use Rattle.odb_disk.specs.declared.ask.DiskAsk.{DiskAsk}
+use Rattle.gix_odb_events.specs.Asks.{IsAnswerTo}
 use Rattle.gix_odb_events.specs.declared.answer.Answer.{Answer}
 use Rattle.gix_odb_events.specs.declared.answer.Ask.{Ask}
 use Rattle.gix_odb_events.specs.declared.answer.Ask.TheVariants as asks
-use Rattle.gix_odb.specs.LookExchanges.{IsAnswerTo}
 
--- an answer is one that what a call asks for can have. A call that asks for nothing is fed nothing
+-- an answer is one that what is asked for can have. A machine that asks for nothing is fed nothing
 abbrev pub IsAnswerOf : Option Ask → Answer → Type 0
 IsAnswerOf None answer = ⊥
 IsAnswerOf (Some ask) answer = IsAnswerTo ask answer

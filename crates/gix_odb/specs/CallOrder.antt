@@ -163,7 +163,7 @@ is_for_writes (Refreshing refresh write) = is_write write
 is_for_writes (Writing call) = is_write call
 is_for_writes (Refused error) = true
 
--- a write after an answer. One of the core leaves it
+-- a write after an answer, which is one of the disk: the last row only makes the function total
 abbrev pub written_on : LooseCall → Answer → LooseCall
 written_on call (told.Disk answer) = loose_order.fed call answer
 written_on call (told.Core answer) = call

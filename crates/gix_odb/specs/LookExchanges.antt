@@ -13,7 +13,8 @@ use Rattle.gix_odb_events.specs.declared.answer.Ask.TheVariants as asks
 use Rattle.gix_odb_calls.specs.Verdict.{asking, folder_ask, folder_verdict}
 use Rattle.gix_object.specs.declared.want.Want.{Want}
 use Rattle.gix_odb_calls.specs.declared.verdict.Verdict.{Verdict}
-pub use Rattle.gix_odb.specs.Exchange.{Exchange, IsAnswerTo, AreAnswered, HasFailed, WasTold}
+pub use Rattle.gix_odb_events.specs.Asks.{IsAnswerTo}
+pub use Rattle.gix_odb.specs.Exchange.{Exchange, AreAnswered, HasFailed, WasTold}
 use Rattle.gix_odb.specs.LookUpOrder.{Setting, ask_of, fed, view_of}
 use Rattle.gix_odb.specs.declared.look_up.LookUp.{LookUp}
 

@@ -83,7 +83,7 @@ seen head answer = record head { begun = first_of head.begun (view_of answer) }
 abbrev pub at : LookHead → LookStage → LookUp
 at head stage = record { head = head; stage = stage }
 
--- an answer of the other kind, of the disk or of the core, leaves the stage unchanged
+-- what is fed answers the ask: the last row only makes the function total
 abbrev pub fed_at : Setting → LookHead → LookStage → Answer → LookUp
 fed_at setting head (stages.Trying trier part) answer = at head (by_tried setting head part (trier_fed trier answer))
 fed_at setting head (stages.Loose round call) (told.Disk answer) = at head (by_verdict setting head round (folder_verdict call answer))

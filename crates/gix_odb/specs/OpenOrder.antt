@@ -100,7 +100,7 @@ listed_on percent minimum (listed.Listed listing) = numbered (slots_for percent 
 listed_on percent minimum listed.Broken = refused (opening_errors.LoadIndex load_errors.Io)
 
 -- An opening after the answer to what it asked for, in a store of these folders that is to have these slots. One whose handle was
--- registered has opened its store. An answer of the other kind, of the disk or of the core, leaves it unchanged.
+-- registered has opened its store. What is fed answers the ask: the last row only makes the function total.
 abbrev pub fed : (objects : Path) → (folders : List Path) → Slots → OpenStage → Answer → OpenStage
 fed objects folders slots opens.Looking (told.Disk answer) = looked objects slots answer
 fed objects folders slots (opens.Listing lister percent minimum) (told.Disk answer) = listed_on percent minimum (lists.fed folders lister answer)

@@ -78,7 +78,7 @@ by_published listing (effects.Unchanged view) = steps.Current view false
 by_published listing (effects.Outdated list_no) = steps.Outdated list_no
 by_published listing effect = steps.More (stages.Publishing listing)
 
--- an answer of the other kind, of the disk or of the core, leaves the refresh unchanged
+-- what is fed answers the ask: the rows that leave the refresh unchanged, here and above, only make the functions total
 abbrev pub fed : (objects : Path) → (folders : List Path) → Refresh → Answer → RefreshStep
 fed objects folders stages.Reading (told.Core (Ok effect)) = by_look objects (view_shown effect)
 fed objects folders stages.Reading (told.Core (Err refusal)) = steps.Refused (of_refusal refusal)

@@ -3,6 +3,7 @@ ghost use Rattle.std.specs.Prelude.{◌≡◌, IfErr, IfOk, MatchResult, Ok, Err
 ghost use Rattle.std.specs.Option.{option_map};
 ghost use Rattle.std.specs.Result.{result_ok};
 ghost use Rattle.gix_odb_calls.specs.declared.load_index.Error.TheVariants as load_errors;
+ghost use Rattle.gix_odb_events.specs.Asks.{IsAnswerTo};
 ghost use Rattle.gix_odb.specs.Answers.{IsAnswerOf};
 ghost use Rattle.gix_odb.specs.CallOrder.{Asks, HasSize, IsOfHash, ask_of, fronted, is_for_writes, opened_in, result_of, started};
 ghost use Rattle.gix_odb.specs.CallOrder as calls;
@@ -12,7 +13,7 @@ ghost use Rattle.gix_odb.specs.HandleState.{IsAlike, hash_of, setting_at, sought
 
 mod loose_write;
 
-use self::loose_write::{begun, write_ask, write_ended, write_reply};
+use self::loose_write::{begun, write_ask, write_ended, write_reply, written_on};
 use crate::ask::Ask as CallAsk;
 use crate::handle_state::HandleState;
 use crate::see::see;
@@ -166,9 +167,9 @@ impl CallStage {
         }
     }
 
-    // The stage after the answer to what it asked for, on the handle of the call. An answer of the core leaves a write as it
-    // was.
+    // The stage after the answer to what it asked for, on the handle of the call.
     fn fed(self, alloc: Global, handle: &HandleState, answer: Answer) -> Result<CallStage, NoMemory>
+        requires suits { IsAnswerOf (ask_of self) answer }
         ensures fed { IfOk result (λ stage. stage ≡ calls.fed (setting_at handle.now) self answer) }
     {
         match self {
@@ -180,10 +181,7 @@ impl CallStage {
                 refreshed_on(alloc, handle, refresh, write, answer)
             }
             CallStage::Writing(call) => Ok(CallStage::Writing(written_on(alloc, call, answer)?)),
-            CallStage::Refused(error) => {
-                drop(answer);
-                Ok(CallStage::Refused(error))
-            }
+            CallStage::Refused(_) => unreachable!("a refused call asks nothing"),
         }
     }
 
@@ -251,6 +249,7 @@ fn refreshed_on(
     write: LooseCall,
     answer: Answer,
 ) -> Result<CallStage, NoMemory>
+    requires suits { IsAnswerTo (refreshes.ask_of refresh) answer }
     ensures fed { IfOk result (λ stage. stage ≡ calls.fed (setting_at handle.now) (CallStage.Refreshing refresh write) answer) }
 {
     match refresh.feed(alloc, handle.parts(), answer) {
@@ -258,19 +257,6 @@ fn refreshed_on(
         Err(error) => {
             drop(write);
             Err(error)
-        }
-    }
-}
-
-// A write after an answer.
-fn written_on(alloc: Global, call: LooseCall, answer: Answer) -> Result<LooseCall, NoMemory>
-    ensures fed { IfOk result (λ next. next ≡ calls.written_on call answer) }
-{
-    match answer {
-        Answer::Disk(answer) => call.feed(alloc, answer),
-        answer => {
-            drop(answer);
-            Ok(call)
         }
     }
 }

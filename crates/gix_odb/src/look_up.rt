@@ -3,6 +3,7 @@
 ghost use Rattle.std.specs.Prelude.{◌≡◌, IfOk, None, Some};
 ghost use Rattle.std.specs.Option.{option_copied, option_map};
 ghost use Rattle.std.specs.Result.{result_ok};
+ghost use Rattle.gix_odb.specs.Answers.{IsAnswerOf};
 ghost use Rattle.gix_odb.specs.LookUpOrder.{setting_of};
 ghost use Rattle.gix_odb.specs.LookUpOrder as order;
 
@@ -196,14 +197,14 @@ impl LookUp {
         }
     }
 
-    /// Returns the look-up after the answer to what it asked for, on the handle that it was started on. An answer of the
-    /// other kind, of the disk or of the core, leaves the stage unchanged.
+    /// Returns the look-up after the answer to what it asked for, on the handle that it was started on.
     pub fn feed(
         self,
         alloc: Global,
         setting: &Setting<'_>,
         answer: Answer,
     ) -> Result<LookUp, NoMemory>
+        requires suits { IsAnswerOf (order.ask_of self) answer }
         ensures fed { IfOk result (λ look. look ≡ order.fed (setting_of setting.now) self answer) }
     {
         let LookUp { head, stage } = self;

@@ -213,6 +213,7 @@ fn by_disk(
     state: OpenStage,
     answer: DiskAnswer,
 ) -> Result<OpenStage, NoMemory>
+    requires asks { IsDiskAsk (ask_of parts.now.objects parts.now.folders state) }
     ensures fed { IfOk result (λ next. next ≡ order.fed parts.now.objects parts.now.folders parts.now.slots state (told.Disk answer)) }
 {
     match state {
@@ -225,10 +226,7 @@ fn by_disk(
             let step = lister.feed(alloc, parts.folders.as_slice(), answer)?;
             Ok(listed_on(percent, minimum, step))
         }
-        state => {
-            drop(answer);
-            Ok(state)
-        }
+        _ => unreachable!("such an opening has no call of the disk"),
     }
 }
 

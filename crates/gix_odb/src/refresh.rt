@@ -1,9 +1,11 @@
 //! The order of work of a refresh: the store's core is read, and where its list was never read, the folders of packs are
 //! listed, and the listing is published.
-ghost use Rattle.std.specs.Prelude.{◌≡◌, List, IfOk, Err, Ok};
+ghost use Rattle.std.specs.Prelude.{◌≡◌, List, IfOk, Err, Ok, Some};
 ghost use Rattle.std.specs.Option.{option_map};
 ghost use Rattle.odb_base.specs.Path.{Path};
+ghost use Rattle.gix_odb_events.specs.Asks.{IsAnswerTo};
 ghost use Rattle.gix_odb_events.specs.declared.answer.Answer.TheVariants as told;
+ghost use Rattle.gix_odb_events.specs.declared.view.View as views;
 ghost use Rattle.gix_odb.specs.RefreshOrder.{ask_of, opened_in, view_shown};
 ghost use Rattle.gix_odb.specs.RefreshOrder as order;
 
@@ -75,14 +77,14 @@ impl Refresh {
         }
     }
 
-    /// Returns the step after the answer to what was asked for, in a store of these parts. An answer of the other kind, of the
-    /// disk or of the core, leaves the refresh unchanged.
+    /// Returns the step after the answer to what was asked for, in a store of these parts.
     pub fn feed(
         self,
         alloc: Global,
         parts: &StoreParts,
         answer: Answer,
     ) -> Result<RefreshStep, NoMemory>
+        requires suits { IsAnswerTo (ask_of self) answer }
         ensures fed { IfOk result (λ step. step ≡ order.fed parts.now.objects parts.now.folders self answer) }
     {
         match answer {
@@ -101,6 +103,7 @@ fn by_disk(
     refresh: Refresh,
     answer: DiskAnswer,
 ) -> Result<RefreshStep, NoMemory>
+    requires suits { IsAnswerTo (ask_of refresh) (told.Disk answer) }
     ensures fed { IfOk result (λ step. step ≡ order.fed parts.now.objects parts.now.folders refresh (told.Disk answer)) }
 {
     match refresh {
@@ -108,10 +111,7 @@ fn by_disk(
             let step = lister.feed(alloc, parts.folders.as_slice(), answer)?;
             Ok(by_listed(step))
         }
-        refresh => {
-            drop(answer);
-            Ok(RefreshStep::More(refresh))
-        }
+        _ => unreachable!("only the listing makes calls of the disk"),
     }
 }
 
@@ -133,15 +133,13 @@ fn by_effect(
     refresh: Refresh,
     effect: Effect,
 ) -> Result<RefreshStep, NoMemory>
+    requires suits { IsAnswerTo (ask_of refresh) (told.Core (Ok effect)) }
     ensures fed { IfOk result (λ step. step ≡ order.fed parts.now.objects parts.now.folders refresh (told.Core (Ok effect))) }
 {
     match refresh {
         Refresh::Reading => by_look(alloc, parts, shown_by(effect)),
         Refresh::Publishing(listing) => Ok(by_published(listing, effect)),
-        refresh => {
-            drop(effect);
-            Ok(RefreshStep::More(refresh))
-        }
+        Refresh::Listing(_) => unreachable!("the listing has no event"),
     }
 }
 
@@ -168,10 +166,11 @@ fn shown_by(effect: Effect) -> Option<View>
 
 /// Returns the step after the core's state was read: the folders are listed where its list was never read.
 fn by_look(alloc: Global, parts: &StoreParts, view: Option<View>) -> Result<RefreshStep, NoMemory>
+    requires seen { (seen : views.View) × (view ≡ Some seen) }
     ensures by { IfOk result (λ step. step ≡ order.by_look parts.now.objects view) }
 {
     match view {
-        None => Ok(RefreshStep::More(Refresh::Reading)),
+        None => unreachable!("the core's state is answered by a view"),
         Some(view) if view.read => Ok(RefreshStep::Read(view)),
         Some(view) => Ok(RefreshStep::More(Refresh::listing(alloc, parts, view.list_no)?)),
     }
@@ -179,25 +178,24 @@ fn by_look(alloc: Global, parts: &StoreParts, view: Option<View>) -> Result<Refr
 
 /// Returns the step after a listing was published, or came too late.
 fn by_published(listing: Listing, effect: Effect) -> RefreshStep
+    requires suits { IsAnswerTo (ask_of (Refresh.Publishing listing)) (told.Core (Ok effect)) }
     ensures by { result ≡ order.by_published listing effect }
 {
     match effect {
         Effect::Published(view) => RefreshStep::Current { view, own: true },
         Effect::Unchanged(view) => RefreshStep::Current { view, own: false },
         Effect::Outdated { list_no } => RefreshStep::Outdated { list_no },
-        effect => {
-            drop(effect);
-            RefreshStep::More(Refresh::Publishing(listing))
-        }
+        _ => unreachable!("a listing is answered by its result"),
     }
 }
 
 /// Returns the step after an event was refused.
 fn by_refusal(refresh: Refresh, refusal: Refusal) -> RefreshStep
+    requires suits { IsAnswerTo (ask_of refresh) (told.Core (Err refusal)) }
     ensures fed { (objects : Path) → (folders : List Path) → result ≡ order.fed objects folders refresh (told.Core (Err refusal)) }
 {
     match refresh {
         Refresh::Reading | Refresh::Publishing(_) => RefreshStep::Refused(of_refusal(refusal)),
-        refresh => RefreshStep::More(refresh),
+        Refresh::Listing(_) => unreachable!("the listing has no event"),
     }
 }

@@ -1,5 +1,6 @@
 pub mod View
 pub mod Answers
+pub mod Asks
 pub mod PackId
 pub mod OnDiskFile
 pub mod PackPath

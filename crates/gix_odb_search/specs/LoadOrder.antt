@@ -98,7 +98,8 @@ index_stored place file effect = shown_or_own place file (shown_behind place eff
 
 -- ---- what follows an answer
 
--- An answer of the other kind than what was asked for leaves the stage unchanged, here and below.
+-- A loader is fed what answers its ask. Where an answer is of the other kind, of the disk or of the core, the rows here and below only make
+-- the functions total.
 abbrev pub after_disk : Kind → IndexLoader → DiskAnswer → IndexLoader
 after_disk hash (Reading place) answer = index_read hash place answer
 after_disk hash loader answer = loader

@@ -20,8 +20,8 @@ pub use Rattle.gix_odb_search.specs.TryOrder.Seek.{at, at_todo, at_search, seek}
 pub use Rattle.gix_odb_search.specs.TryOrder.Loading.{is_failed, noting, after_load}
 pub use Rattle.gix_odb_search.specs.TryOrder.Pack.{pack_or_bad, pack_read, by_given, pack_among, pack_in, pack_or, pack_shown, pack_behind, pack_stored, pack_passed}
 
--- An index is loaded, then searched, and its pack is read and stored. The core may refuse an event, which ends the work. An answer of
--- the other kind, of the disk or of the core, leaves the stage unchanged.
+-- An index is loaded, then searched, and its pack is read and stored. The core may refuse an event, which ends the work. What is fed
+-- answers the ask: the rows for the other kind, of the disk or of the core, only make the function total.
 abbrev pub by_answer : Goal → Ahead → Stage → Answer → Tried
 by_answer goal ahead (stages.Loading loader) answer = after_load goal ahead (load.fed (kind_of goal.id) loader answer)
 by_answer goal ahead (stages.ReadingPack pack) (told.Disk answer) = pack_read goal ahead pack answer

@@ -1,5 +1,6 @@
 //! One index of a list is loaded: it is read, and then stored in the store's core, or passed over.
 ghost use Rattle.std.specs.Prelude.{◌≡◌, IfOk};
+ghost use Rattle.gix_odb_events.specs.Asks.{IsAnswerTo};
 ghost use Rattle.gix_odb_search.specs.LoadOrder.{ask_of, index_or_bad, place_of, put_index};
 ghost use Rattle.gix_odb_search.specs.LoadOrder as order;
 
@@ -116,9 +117,9 @@ impl IndexLoader {
         }
     }
 
-    /// Returns the step after the answer to what was asked for, where ids come from a hash. An answer of the other kind, of
-    /// the disk or of the core, leaves the stage unchanged.
+    /// Returns the step after the answer to what was asked for, where ids come from a hash.
     pub fn feed(self, alloc: Global, hash: Kind, answer: Answer) -> Result<LoadStep, NoMemory>
+        requires suits { IsAnswerTo (ask_of self) answer }
         ensures fed { IfOk result (λ step. step ≡ order.fed hash self answer) }
     {
         match answer {
@@ -135,14 +136,12 @@ fn after_disk(
     loader: IndexLoader,
     answer: DiskAnswer,
 ) -> Result<IndexLoader, NoMemory>
+    requires suits { IsAnswerTo (ask_of loader) (Answer.Disk answer) }
     ensures read { IfOk result (λ next. next ≡ order.after_disk hash loader answer) }
 {
     match loader {
         IndexLoader::Reading(place) => index_read(alloc, hash, place, answer),
-        loader => {
-            drop(answer);
-            Ok(loader)
-        }
+        _ => unreachable!("only the read of the index is a call of the disk"),
     }
 }
 
@@ -152,13 +151,11 @@ fn after_core(
     loader: IndexLoader,
     answer: Result<Effect, Refusal>,
 ) -> Result<LoadStep, NoMemory>
+    requires suits { IsAnswerTo (ask_of loader) (Answer.Core answer) }
     ensures answered { IfOk result (λ step. step ≡ order.after_core loader answer) }
 {
     match loader {
-        IndexLoader::Reading(place) => {
-            drop(answer);
-            Ok(LoadStep::More(IndexLoader::Reading(place)))
-        }
+        IndexLoader::Reading(_) => unreachable!("the read of the index is no event"),
         IndexLoader::Storing { place, file } => after_storing(alloc, place, file, answer),
         IndexLoader::Passing { place, why } => after_passing(place, why, answer),
     }

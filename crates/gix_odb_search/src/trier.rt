@@ -1,7 +1,8 @@
 //! The indices of a list are tried, one after another, until one leads to the object.
 ghost use Rattle.std.specs.Prelude.{◌≡◌, IfOk};
+ghost use Rattle.gix_odb_events.specs.Asks.{IsAnswerTo};
 ghost use Rattle.gix_odb_search.specs.LoadOrder as load;
-ghost use Rattle.gix_odb_search.specs.TryOrder.{ask_of, at_search, at_todo, seek};
+ghost use Rattle.gix_odb_search.specs.TryOrder.{ask_at, ask_of, at_search, at_todo, seek};
 ghost use Rattle.gix_odb_search.specs.TryOrder as order;
 
 mod loading;
@@ -116,9 +117,9 @@ impl Trier {
         }
     }
 
-    /// Returns the step after the answer to what was asked for. An answer of the other kind, of the disk or of the core,
-    /// leaves the stage unchanged.
+    /// Returns the step after the answer to what was asked for.
     pub fn feed(self, alloc: Global, answer: Answer) -> Result<Tried, NoMemory>
+        requires suits { IsAnswerTo (ask_of self) answer }
         ensures fed { IfOk result (λ tried. tried ≡ order.fed self answer) }
     {
         let Trier { goal, ahead, stage } = self;
@@ -148,6 +149,7 @@ fn fed_loading(
     loader: IndexLoader,
     answer: Answer,
 ) -> Result<Tried, NoMemory>
+    requires suits { IsAnswerTo (load.ask_of loader) answer }
     ensures fed { IfOk result (λ tried. tried ≡ order.by_answer goal ahead (Stage.Loading loader) answer) }
 {
     match loader.feed(alloc, goal.id.kind(), answer) {
@@ -167,14 +169,12 @@ fn fed_reading(
     pack: WantedPack,
     answer: Answer,
 ) -> Result<Tried, NoMemory>
+    requires suits { IsAnswerTo (ask_at (Stage.ReadingPack pack)) answer }
     ensures fed { IfOk result (λ tried. tried ≡ order.by_answer goal ahead (Stage.ReadingPack pack) answer) }
 {
     match answer {
         Answer::Disk(answer) => pack_read(alloc, goal, ahead, pack, answer),
-        Answer::Core(answer) => {
-            drop(answer);
-            Ok(at(goal, ahead, Stage::ReadingPack(pack)))
-        }
+        Answer::Core(_) => unreachable!("the read of a pack is no event"),
     }
 }
 
@@ -187,6 +187,7 @@ fn fed_storing(
     file: Shared<data::File>,
     answer: Answer,
 ) -> Result<Tried, NoMemory>
+    requires suits { IsAnswerTo (ask_at (Stage.StoringPack pack file)) answer }
     ensures fed { IfOk result (λ tried. tried ≡ order.by_answer goal ahead (Stage.StoringPack pack file) answer) }
 {
     match answer {
@@ -202,10 +203,7 @@ fn fed_storing(
             drop(file);
             broken(refusal)
         }
-        Answer::Disk(answer) => {
-            drop(answer);
-            Ok(at(goal, ahead, Stage::StoringPack { pack, file }))
-        }
+        Answer::Disk(_) => unreachable!("a pack is stored by the core"),
     }
 }
 
@@ -217,6 +215,7 @@ fn fed_passing(
     pack: WantedPack,
     answer: Answer,
 ) -> Result<Tried, NoMemory>
+    requires suits { IsAnswerTo (ask_at (Stage.PassingPack pack)) answer }
     ensures fed { IfOk result (λ tried. tried ≡ order.by_answer goal ahead (Stage.PassingPack pack) answer) }
 {
     match answer {
@@ -229,10 +228,7 @@ fn fed_passing(
             drop(pack);
             broken(refusal)
         }
-        Answer::Disk(answer) => {
-            drop(answer);
-            Ok(at(goal, ahead, Stage::PassingPack(pack)))
-        }
+        Answer::Disk(_) => unreachable!("a pack is passed over by the core"),
     }
 }
 

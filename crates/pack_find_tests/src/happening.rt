@@ -6,7 +6,7 @@ ghost use Rattle.gix_odb_events.specs.PackFiles.{HasDifferentPaths};
 ghost use Rattle.gix_odb_events.specs.declared.answer.Answer.TheVariants as told;
 ghost use Rattle.gix_odb_events.specs.declared.answer.Ask.TheVariants as asks;
 ghost use Rattle.gix_odb_events.specs.declared.listing.Listing.{Listing};
-ghost use Rattle.gix_odb.specs.LookExchanges.{IsAnswerTo};
+ghost use Rattle.gix_odb_events.specs.Asks.{IsAnswerTo};
 
 use gix_odb_core::{Core, Effect, Event, ListingRow, Refusal};
 use std::alloc::Global;

@@ -1,6 +1,10 @@
 //! Seeking an object in the packs that a core lists.
+ghost use Rattle.std.specs.Prelude.{IfOk};
+ghost use Rattle.gix_odb_events.specs.Asks.{IsAnswerTo};
+ghost use Rattle.gix_odb_search.specs.TryOrder.{ask_of};
+
 use crate::files::id_of;
-use crate::happening::happen;
+use crate::happening::happen_for;
 use crate::shown::{put_ask, put_end, put_event};
 use gix_object::Want;
 use gix_odb_core::{Core, Refusal, View};
@@ -34,7 +38,9 @@ fn carried_out(
     core: &mut Core,
     ask: Ask,
     text: &mut Text,
-) -> Answer {
+) -> Answer
+    ensures suits { IsAnswerTo ask result }
+{
     match ask {
         Ask::Disk(ask) => {
             put_ask(text, &ask);
@@ -42,7 +48,7 @@ fn carried_out(
         }
         Ask::Core(event) => {
             put_event(text, &event);
-            Answer::Core(happen(alloc, core, event))
+            Answer::Core(happen_for(alloc, core, event))
         }
         // A search never asks for a new core.
         Ask::NewCore { .. } => Answer::Core(Err(Refusal::NoMemory)),
@@ -56,7 +62,9 @@ fn answered(
     core: &mut Core,
     trier: &Trier,
     text: &mut Text,
-) -> Result<Answer, NoMemory> {
+) -> Result<Answer, NoMemory>
+    ensures suits { IfOk result (λ answer. IsAnswerTo (ask_of trier.now) answer) }
+{
     let ask = trier.ask(alloc)?;
     Ok(carried_out(alloc, disk, core, ask, text))
 }

@@ -27,7 +27,7 @@ abbrev pub by_check : Setting → LookHead → (list_no : ℕ) → View → Note
 by_check setting head list_no view notes =
     if view.list_no == list_no then ended head.want notes else counted setting head view.list_no (listing_from setting view.list_no notes)
 
--- the core's state was read for this
+-- the core's state was read for this, which passes a view: the first row only makes the function total
 abbrev pub by_checked : Setting → LookHead → (list_no : ℕ) → Notes → Option View → LookStage
 by_checked setting head list_no notes None = stages.Checking list_no notes
 by_checked setting head list_no notes (Some view) = by_check setting head list_no view notes

@@ -1,13 +1,14 @@
-//! The write of a call into the objects directory: how it begins, what it asks of the disk, and its reply.
+//! The write of a call into the objects directory: how it begins, what it asks of the disk, what follows, and its reply.
 ghost use Rattle.std.specs.Prelude.{◌≡◌, ◌<◌, ◌^◌, IfErr, IfOk, true};
 ghost use Rattle.std.specs.Result.{result_ok};
 ghost use Rattle.gix_odb_loose.specs.LooseOrder.{disk_ask_of};
-ghost use Rattle.gix_odb.specs.CallOrder.{IsOfHash, is_write, is_written, loose_ask, result_of_write, writing, wrote_as};
+ghost use Rattle.gix_odb.specs.Answers.{IsAnswerOf};
+ghost use Rattle.gix_odb.specs.CallOrder.{IsOfHash, is_write, is_written, loose_ask, result_of_write, writing, written_on, wrote_as};
 
 use gix_hash::ObjectId;
 use gix_object::Kind;
 use gix_odb_calls::{Call, CallError, Reply, write};
-use gix_odb_events::Ask;
+use gix_odb_events::{Answer, Ask};
 use gix_odb_loose::{LooseAsk, LooseCall, LooseJob, LooseReply};
 use odb_base::{ByteList, NoMemory, PathText};
 use std::alloc::Global;
@@ -46,6 +47,21 @@ pub(super) fn write_ask(alloc: Global, call: &LooseCall) -> Result<Option<Ask>, 
     match call.disk_ask(alloc)? {
         None => Ok(None),
         Some(ask) => Ok(Some(Ask::Disk(ask))),
+    }
+}
+
+/// A write after the answer to what it asked of the disk.
+pub(super) fn written_on(
+    alloc: Global,
+    call: LooseCall,
+    answer: Answer,
+) -> Result<LooseCall, NoMemory>
+    requires suits { IsAnswerOf (loose_ask (disk_ask_of call)) answer }
+    ensures fed { IfOk result (λ next. next ≡ written_on call answer) }
+{
+    match answer {
+        Answer::Disk(answer) => call.feed(alloc, answer),
+        Answer::Core(_) => unreachable!("a write makes calls of the disk alone"),
     }
 }
 

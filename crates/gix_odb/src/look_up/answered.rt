@@ -1,5 +1,6 @@
 //! What follows an answer to a look-up.
 ghost use Rattle.std.specs.Prelude.{◌≡◌, IfOk};
+ghost use Rattle.gix_odb.specs.Answers.{IsAnswerOf};
 ghost use Rattle.gix_odb.specs.LookUpOrder.{setting_of};
 ghost use Rattle.gix_odb.specs.LookUpOrder as order;
 
@@ -7,7 +8,7 @@ use super::checking::checked;
 use super::loose::by_call;
 use super::refreshing::by_answer;
 use super::trying::by_trier;
-use super::{LookHead, LookStage, LookUp, Setting, at};
+use super::{LookHead, LookStage, LookUp, Setting};
 use gix_odb_events::Answer;
 use odb_base::NoMemory;
 use std::alloc::Global;
@@ -20,6 +21,7 @@ pub(super) fn fed(
     stage: LookStage,
     answer: Answer,
 ) -> Result<LookUp, NoMemory>
+    requires suits { IsAnswerOf (order.ask_at stage) answer }
     ensures fed { IfOk result (λ look. look ≡ order.fed_at (setting_of setting.now) head stage answer) }
 {
     match stage {
@@ -35,9 +37,6 @@ pub(super) fn fed(
             drop(answer);
             look
         }
-        LookStage::Done(reply) => {
-            drop(answer);
-            Ok(at(head, LookStage::Done(reply)))
-        }
+        LookStage::Done(_) => unreachable!("a look-up that is done asks nothing"),
     }
 }

@@ -1,5 +1,8 @@
 //! Whether the list that was tried is the newest, and how many lists of others a look-up met.
-ghost use Rattle.std.specs.Prelude.{◌≡◌, IfOk};
+ghost use Rattle.std.specs.Prelude.{◌≡◌, IfOk, Ok};
+ghost use Rattle.gix_odb_events.specs.Asks.{IsAnswerTo};
+ghost use Rattle.gix_odb_events.specs.declared.answer.Ask.TheVariants as asks;
+ghost use Rattle.gix_odb_events.specs.declared.event.Event.TheVariants as events;
 ghost use Rattle.gix_odb.specs.LookUpOrder.{setting_of};
 ghost use Rattle.gix_odb.specs.LookUpOrder as order;
 
@@ -12,7 +15,7 @@ use gix_odb_search::Notes;
 use odb_base::NoMemory;
 use std::alloc::Global;
 
-/// Returns the stage after the core's state was read. An answer of the disk leaves the stage unchanged.
+/// Returns the stage after the core's state was read.
 pub(super) fn checked(
     alloc: Global,
     setting: &Setting<'_>,
@@ -21,6 +24,7 @@ pub(super) fn checked(
     notes: Notes,
     answer: &Answer,
 ) -> Result<LookUp, NoMemory>
+    requires suits { IsAnswerTo (asks.Core events.Look) answer.now }
     ensures by { IfOk result (λ look. look ≡ order.fed_at (setting_of setting.now) head (LookStage.Checking list_no notes) answer.now) }
 {
     match answer {
@@ -32,7 +36,7 @@ pub(super) fn checked(
             drop(notes);
             Ok(at(head, refused(*refusal)?))
         }
-        Answer::Disk(_) => Ok(at(head, LookStage::Checking { list_no, notes })),
+        Answer::Disk(_) => unreachable!("the core's state is read by an event"),
     }
 }
 
@@ -45,10 +49,11 @@ fn by_checked(
     notes: Notes,
     effect: &Effect,
 ) -> Result<LookStage, NoMemory>
+    requires suits { IsAnswerTo (asks.Core events.Look) (Answer.Core (Ok effect.now)) }
     ensures by { IfOk result (λ stage. stage ≡ order.by_checked (setting_of setting.now) head list_no notes (order.view_shown effect.now)) }
 {
     match effect.view() {
-        None => Ok(LookStage::Checking { list_no, notes }),
+        None => unreachable!("the core's state is answered by a view"),
         Some(view) => by_check(alloc, setting, head, list_no, view, notes),
     }
 }

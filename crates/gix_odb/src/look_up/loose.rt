@@ -1,7 +1,9 @@
 //! The loose objects of the folders are asked.
 ghost use Rattle.std.specs.Prelude.{◌≡◌, IfOk, slice_get, true};
 ghost use Rattle.gix_odb.specs.LookUpOrder.{setting_of};
-ghost use Rattle.gix_odb_calls.specs.Verdict.{asking, folder_verdict};
+ghost use Rattle.gix_odb_events.specs.Asks.{IsAnswerTo};
+ghost use Rattle.gix_odb_events.specs.declared.answer.Ask.TheVariants as asks;
+ghost use Rattle.gix_odb_calls.specs.Verdict.{asking, folder_ask, folder_verdict};
 ghost use Rattle.gix_odb.specs.LookUpOrder as order;
 
 use super::listing::listing_from;
@@ -55,7 +57,7 @@ impl LookHead {
     }
 }
 
-/// What comes behind an answer to a folder's call. One of the core leaves it.
+/// What comes behind an answer to a folder's call.
 pub(super) fn by_call(
     alloc: Global,
     setting: &Setting<'_>,
@@ -64,14 +66,12 @@ pub(super) fn by_call(
     call: FolderCall,
     answer: Answer,
 ) -> Result<LookUp, NoMemory>
+    requires suits { IsAnswerTo (asks.Disk (folder_ask call)) answer }
     ensures by { IfOk result (λ look. look ≡ order.fed_at (setting_of setting.now) head (LookStage.Loose round call) answer) }
 {
     match answer {
         Answer::Disk(answer) => call_fed(alloc, setting, head, round, call, answer),
-        answer => {
-            drop(answer);
-            Ok(at(head, LookStage::Loose { round, call }))
-        }
+        Answer::Core(_) => unreachable!("a folder is asked by a call of the disk"),
     }
 }
 

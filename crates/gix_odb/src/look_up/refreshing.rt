@@ -1,7 +1,9 @@
 //! The list of the core is read, or brought up to date.
 ghost use Rattle.std.specs.Prelude.{◌≡◌, IfOk};
+ghost use Rattle.gix_odb_events.specs.Asks.{IsAnswerTo};
 ghost use Rattle.gix_odb.specs.LookUpOrder.{setting_of};
 ghost use Rattle.gix_odb.specs.LookUpOrder as order;
+ghost use Rattle.gix_odb.specs.RefreshOrder as refreshes;
 
 use super::checking::{is_unsettled, unsettled};
 use super::listing::listing_from;
@@ -24,6 +26,7 @@ pub(super) fn by_answer(
     notes: Notes,
     answer: Answer,
 ) -> Result<LookUp, NoMemory>
+    requires suits { IsAnswerTo (refreshes.ask_of refresh) answer }
     ensures by { IfOk result (λ look. look ≡ order.fed_at (setting_of setting.now) head (LookStage.Refreshing refresh purpose notes) answer) }
 {
     match refresh.feed(alloc, setting.parts, answer) {

@@ -1,5 +1,7 @@
 //! The indices of a list are tried.
 ghost use Rattle.std.specs.Prelude.{◌≡◌, IfOk, []};
+ghost use Rattle.gix_odb_events.specs.Asks.{IsAnswerTo};
+ghost use Rattle.gix_odb_search.specs.TryOrder as tries;
 ghost use Rattle.gix_odb.specs.LookUpOrder.{setting_of};
 ghost use Rattle.gix_odb.specs.LookUpOrder as order;
 
@@ -80,6 +82,7 @@ pub(super) fn by_trier(
     part: Part,
     answer: Answer,
 ) -> Result<LookUp, NoMemory>
+    requires suits { IsAnswerTo (tries.ask_of trier) answer }
     ensures by { IfOk result (λ look. look ≡ order.at head (order.by_tried (setting_of setting.now) head part (order.trier_fed trier answer))) }
 {
     let tried = trier.feed(alloc, answer)?;

@@ -2,7 +2,7 @@ use Rattle.std.proofs.Common.{sym, subst}
 use Rattle.gix_odb_events.specs.declared.answer.Answer.TheVariants as told
 use Rattle.gix_odb_events.specs.declared.answer.Ask.TheVariants as asks
 use Rattle.gix_odb_events.specs.declared.event.Event.{Event}
-use Rattle.gix_odb.specs.LookExchanges.{IsAnswerTo}
+use Rattle.gix_odb_events.specs.Asks.{IsAnswerTo}
 use Rattle.pack_find_tests.proofs.happening.happen_for.Goals as goal
 
 -- a listing that is published
