@@ -1,17 +1,17 @@
 -- The laws of prefixes, for callers: which ids have one, and where it is among ids that rise.
-use Rattle.std.proofs.Common.{◌≡◌, ℕ, take, Ordering, Less, Equal, Greater, refl, sym, ◌∙◌}
+use Rattle.std.proofs.Common.{◌≡◌, ℕ, ◌≤◌, slice_index, take, Ordering, Less, Equal, Greater, refl, sym, ◌∙◌, arith}
 use Rattle.std.specs.Ordering.{nat_cmp, on, ordering_then, then_cmp}
 use Rattle.std.specs.Cmp.{IsTotalOrder}
 use Rattle.std.specs.Cmp.Lexicographic.{slice_cmp}
 use Rattle.std.specs.FinMap.{nat_cmp-IsAntisymmetric, slice_cmp-IsAntisymmetric}
 use Rattle.std.proofs.lemmas.Cmp.{alike_right, nat_cmp_total, nat_list_cmp_total, on_total, then_total, tied_itself}
 use Rattle.hex.specs.Hex.{IsBytes}
-use Rattle.gix_hash.specs.ObjectId.{bytes_of, hex_of, id_cmp, kind_of, rank_of}
-use Rattle.gix_hash.specs.Prefix.{PrefixOf, digits_of, prefix_cmp, HasPrefix}
+use Rattle.gix_hash.specs.ObjectId.{bytes_of, first_byte_of, hex_of, id_cmp, kind_of, rank_of}
+use Rattle.gix_hash.specs.Prefix.{PrefixOf, digits_of, prefix_cmp, HasPrefix, IsPrefix}
 use Rattle.gix_hash.specs.declared.kind.Kind.{Kind}
 use Rattle.gix_hash.specs.declared.kind.Kind.TheVariants as kind
 use Rattle.gix_hash.specs.declared.object_id.ObjectId.{ObjectId}
-use Rattle.gix_hash.proofs.PrefixLemmas.Order.{texts_rise, then_rises}
+use Rattle.gix_hash.proofs.PrefixLemmas.Order.{first_byte_same, texts_rise, then_rises}
 
 -- ---- the ids of a prefix
 
@@ -40,6 +40,13 @@ HasPrefix-from_Equal prefix id h =
 pub Equal-from_HasPrefix : (prefix : PrefixOf) (id : ObjectId) → HasPrefix prefix id → prefix_cmp prefix id ≡ Equal
 Equal-from_HasPrefix prefix id has =
     rw (has.kind, has.digits, tied_itself nat_cmp_total (rank_of (kind_of prefix.id))) (tied_itself nat_list_cmp_total (digits_of prefix))
+
+-- an id with which the prefix ties begins with the prefix's first byte
+pub same_first_byte : (prefix : PrefixOf) (id : ObjectId) → IsPrefix prefix → IsBytes (bytes_of id) → prefix_cmp prefix id ≡ Equal → first_byte_of id ≡ first_byte_of prefix.id
+same_first_byte prefix id is bytes h =
+    let parts = both_Equal (nat_cmp (rank_of (kind_of prefix.id)) (rank_of (kind_of id))) (slice_cmp nat_cmp (digits_of prefix) (take prefix.hex_len (hex_of id))) h in
+    let long : 2 ≤ prefix.hex_len = omega arith in
+    first_byte_same prefix.hex_len (bytes_of prefix.id) (bytes_of id) is.id.bytes bytes long parts.1
 
 -- ---- a prefix among ids that rise
 

@@ -3,3 +3,4 @@ pub mod ObjectId
 pub mod IdOrder
 pub mod Prefix
 pub mod Hash
+pub mod Steps

@@ -1,5 +1,5 @@
 -- Ids of objects: their kind, their bytes and their hex text.
-use Rattle.std.specs.Prelude.{◌≡◌, ◌==◌, ◌&&◌, ◌||◌, ◌⊎◌, nat_le, ℕ, Bool, List, length, if◌then◌else◌, Option, Some, None, Result, Ok, Err}
+use Rattle.std.specs.Prelude.{◌≡◌, ◌==◌, ◌&&◌, ◌||◌, ◌⊎◌, nat_le, ℕ, Bool, List, length, slice_index, if◌then◌else◌, Option, Some, None, Result, Ok, Err}
 use Rattle.std.specs.List.{list_all}
 use Rattle.std.specs.Ordering.{nat_cmp, on, then_cmp}
 use Rattle.std.specs.Cmp.Lexicographic.{slice_cmp}
@@ -21,6 +21,10 @@ kind_of (Sha256 bytes) = kind.Sha256
 abbrev pub bytes_of : ObjectId → List ℕ
 bytes_of (Sha1 bytes) = bytes
 bytes_of (Sha256 bytes) = bytes
+
+-- the first of them
+abbrev pub first_byte_of : ObjectId → ℕ
+first_byte_of id = slice_index (bytes_of id) 0
 
 -- what holds of every value of the type: its bytes are bytes, and their number is that of its kind
 pub record IsId (id : ObjectId) : Type 0 where

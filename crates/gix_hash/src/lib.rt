@@ -13,8 +13,10 @@ mod hasher;
 mod kind;
 mod object_id;
 mod prefix;
+mod steps;
 
 pub use hasher::Hasher;
 pub use kind::{Kind, SHA1_LEN, SHA256_LEN};
 pub use object_id::{HexError, ObjectId};
 pub use prefix::{Prefix, PrefixError};
+pub use steps::Steps;

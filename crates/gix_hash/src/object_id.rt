@@ -1,17 +1,18 @@
 //! Ids of objects: read from their hex text, written as such, and ordered.
-ghost use Rattle.std.specs.Prelude.{◌≡◌, ◌*◌, ◌↔◌, length, replicate, IfOk, IfErr, IsErr, IsErrOf, IsFalse, IsOk, IsTrue, MatchOption, Some};
+ghost use Rattle.std.specs.Prelude.{◌≡◌, ◌+◌, ◌*◌, ◌↔◌, length, replicate, IfOk, IfErr, IsErr, IsErrOf, IsFalse, IsOk, IsTrue, MatchOption, Some};
 ghost use Rattle.std.specs.String.{string_bytes};
 ghost use Rattle.hex.specs.Hex.{decode_of, IsBytes};
 ghost use Rattle.gix_hash.specs.Kind.{len_in_bytes_of};
-ghost use Rattle.gix_hash.specs.ObjectId.{bytes_of, hex_of, id_of, is_lower_digit, is_lower_text, kind_of, IsHexOf, IsId, IsIdLength};
+ghost use Rattle.gix_hash.specs.ObjectId.{bytes_of, first_byte_of, hex_of, id_cmp, id_of, is_lower_digit, is_lower_text, kind_of, IsHexOf, IsId, IsIdLength};
 
-use crate::Kind;
 use crate::kind::{SHA1_DIGITS, SHA1_LEN, SHA256_DIGITS, SHA256_LEN};
+use crate::{Kind, Steps};
 use hex::FromHex;
 use odb_base::NoMemory;
 use std::alloc::Global;
 use std::cmp::Ordering;
 use std::fmt;
+use std::sync::ledger::Ledger;
 use thiserror::Error;
 
 /// The id of an object.
@@ -82,11 +83,30 @@ impl ObjectId {
         }
     }
 
+    /// The first byte of the id.
+    pub fn first_byte(&self) -> u8
+        ensures first { result ≡ first_byte_of self.now }
+    {
+        match self {
+            ObjectId::Sha1(bytes) => bytes[0],
+            ObjectId::Sha256(bytes) => bytes[0],
+        }
+    }
+
     /// The hex text of the id, in lower case.
     pub fn to_hex(&self, alloc: Global) -> Result<String, NoMemory>
         ensures text { IfOk result (λ text. string_bytes text ≡ hex_of self.now) }
     {
         Ok(hex::encode(alloc, self.as_bytes())?)
+    }
+
+    /// How the id compares with another, which counts as one step.
+    pub fn cmp_counted<L: Ledger>(&self, other: &ObjectId, steps: &mut Steps<L>) -> Ordering
+        ensures order { result ≡ id_cmp self.now other.now }
+        ensures step { steps.new ≡ steps.old + 1 }
+    {
+        steps.tick();
+        self.cmp(other)
     }
 
     // The hex text, written into a buffer that has room for the longer kind.

@@ -1,5 +1,5 @@
 //! Prefixes of ids: made from ids, read from digits, and compared with ids.
-ghost use Rattle.std.specs.Prelude.{◌≡◌, ◌-◌, ◌*◌, ◌/◌, ◌%◌, ◌<◌, ◌≤◌, ◌++◌, ◌↔◌, length, slice_index, take, IfOk, IsErrOf, IsFalse, IsOk, IsTrue};
+ghost use Rattle.std.specs.Prelude.{◌≡◌, ◌+◌, ◌-◌, ◌*◌, ◌/◌, ◌%◌, ◌<◌, ◌≤◌, ◌++◌, ◌↔◌, length, slice_index, take, IfOk, IsErrOf, IsFalse, IsOk, IsTrue};
 ghost use Rattle.std.specs.Ordering.{nat_cmp};
 ghost use Rattle.std.specs.Cmp.Lexicographic.{slice_cmp};
 ghost use Rattle.hex.specs.Hex.{encode_lower};
@@ -8,9 +8,10 @@ ghost use Rattle.gix_hash.specs.ObjectId.{hex_of, is_lower_text, kind_of, IsId};
 ghost use Rattle.gix_hash.specs.Prefix.{digits_of, fewest_digits, kind_of_digits, prefix_cmp, zero_digits, HasPrefix, IsPrefix};
 
 use crate::kind::{SHA1_DIGITS, SHA256_DIGITS};
-use crate::{HexError, Kind, ObjectId};
+use crate::{HexError, Kind, ObjectId, Steps};
 use std::cmp::Ordering;
 use std::marker::Model;
+use std::sync::ledger::Ledger;
 use thiserror::Error;
 
 /// The first hex digits of an id, at least four.
@@ -125,6 +126,16 @@ impl Prefix {
             Ordering::Equal => cmp_digits(self.id.as_bytes(), id.as_bytes(), self.hex_len),
             order => order,
         }
+    }
+
+    /// How the prefix compares with an id, which counts as one step.
+    pub fn cmp_oid_counted<L: Ledger>(&self, id: &ObjectId, steps: &mut Steps<L>) -> Ordering
+        ensures order { result ≡ prefix_cmp self.now id.now }
+        ensures equal { (result ≡ Ordering.Equal) ↔ HasPrefix self.now id.now }
+        ensures step { steps.new ≡ steps.old + 1 }
+    {
+        steps.tick();
+        self.cmp_oid(id)
     }
 }
 

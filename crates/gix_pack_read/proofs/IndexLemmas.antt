@@ -9,14 +9,11 @@ use Rattle.std.proofs.lemmas.List.{drop-drop}
 use Rattle.std.proofs.lemmas.Option.{get_or_from_slice_get, slice_get-map}
 use Rattle.gix_hash.specs.Kind.{len_in_bytes_of}
 use Rattle.gix_hash.specs.declared.kind.Kind.{Kind}
-use Rattle.gix_hash.specs.declared.object_id.ObjectId.{ObjectId}
-use Rattle.gix_hash.specs.declared.prefix.Prefix.{Prefix}
 use Rattle.gix_pack_read.specs.Bytes.{long_number_at, number_at, numbers, part, same, table}
-use Rattle.gix_pack_read.specs.Rows.{counts_len, counts_of, ids_of, is_named_below, is_rising, offset_in, IsPrefixRun, IsRowOf}
+use Rattle.gix_pack_read.specs.Rows.{counts_fit, counts_len, counts_of, ids_of, is_named_below, is_rising, offset_in}
 use Rattle.gix_pack_read.specs.Index.{counts_place, has_length, ids_place, index_ids, index_offsets, is_index}
 use Rattle.gix_pack_read.specs.Index.{narrow_offsets, objects_in, offsets_place, tables_agree, wide_offsets, wides_in, wides_place}
 use Rattle.gix_pack_read.proofs.RowsLemmas.{slice_get-table}
-use Rattle.gix_pack_read.proofs.SearchLemmas.{row_fits}
 use Rattle.gix_pack_read.proofs.OffsetLaws.{named_below, offset_in-low, offset_in-wide}
 
 -- ---- an index's length
@@ -133,8 +130,9 @@ has_ids kind bytes h = front_room kind bytes (has_length_of kind bytes h)
 pub ids_room : (kind : Kind) (bytes : List ℕ) → is_index kind bytes ≡ true → objects_in bytes * len_in_bytes_of kind ≤ length (drop ids_place bytes)
 ids_room kind bytes h = table_room kind bytes (has_length_of kind bytes h)
 
-pub row_room : (kind : Kind) (bytes : List ℕ) (row : ℕ) → is_index kind bytes ≡ true → row < objects_in bytes → (row + 1) * len_in_bytes_of kind ≤ length (drop ids_place bytes)
-row_room kind bytes row h below = row_fits kind (objects_in bytes) row (length (drop ids_place bytes)) below (ids_room kind bytes h)
+counts_agree_in : (kind : Kind) (bytes : List ℕ) → is_index kind bytes ≡ true → counts_fit (drop counts_place bytes) (index_ids kind bytes) ≡ true
+unfolding counts_fit tables_agree
+counts_agree_in kind bytes h = (and_parts _ _ (and_parts _ _ (tables_of kind bytes h)).0).1
 
 pub ids_rise : (kind : Kind) (bytes : List ℕ) → is_index kind bytes ≡ true → is_rising (index_ids kind bytes) ≡ true
 unfolding tables_agree
@@ -144,14 +142,23 @@ offsets_named : (kind : Kind) (bytes : List ℕ) → is_index kind bytes ≡ tru
 unfolding tables_agree
 offsets_named kind bytes h = (and_parts _ _ (tables_of kind bytes h)).1
 
--- the row of an id in a count and a table that were read
-pub row_read : (kind : Kind) (bytes : List ℕ) (n : ℕ) (ids : List ℕ) (id : ObjectId) (row : Option ℕ) → n ≡ objects_in bytes → ids ≡ drop ids_place bytes
-    → IsRowOf (ids_of kind n ids) id row → IsRowOf (index_ids kind bytes) id row
-row_read kind bytes n ids id row n_is ids_is own = rw (n_is, ids_is) at own
+-- a count and two tables that were read are what a table of ids takes
+module _ (kind : Kind) (bytes : List ℕ) (n : ℕ) (counts ids : List ℕ) (is : is_index kind bytes ≡ true) (n_is : n ≡ objects_in bytes) (counts_are : counts ≡ drop counts_place bytes)
+    (ids_are : ids ≡ drop ids_place bytes) where
+  pub counts_read_room : counts_len ≤ length counts
+  counts_read_room = rw counts_are (counts_room kind bytes (has_length_of kind bytes is))
 
-pub run_read : (kind : Kind) (bytes : List ℕ) (n : ℕ) (ids : List ℕ) (prefix : Prefix) (start end : ℕ) → n ≡ objects_in bytes → ids ≡ drop ids_place bytes
-    → IsPrefixRun (ids_of kind n ids) prefix start end → IsPrefixRun (index_ids kind bytes) prefix start end
-run_read kind bytes n ids prefix start end n_is ids_is own = rw (n_is, ids_is) at own
+  pub ids_read_room : n * len_in_bytes_of kind ≤ length ids
+  ids_read_room = rw (n_is, ids_are) (ids_room kind bytes is)
+
+  pub ids_read_rise : is_rising (ids_of kind n ids) ≡ true
+  ids_read_rise = rw (n_is, ids_are) (ids_rise kind bytes is)
+
+  pub counts_read_agree : counts_fit counts (ids_of kind n ids) ≡ true
+  counts_read_agree = rw (counts_are, n_is, ids_are) (counts_agree_in kind bytes is)
+
+  pub ids_read : ids_of kind n ids ≡ index_ids kind bytes
+  ids_read = rw (n_is, ids_are) refl
 
 -- ---- a row's offset
 

@@ -1,8 +1,10 @@
 pub mod ListLemmas
 pub mod RowsLemmas
 pub mod OffsetLaws
-pub mod SearchLemmas
 pub mod RisingLemmas
+pub mod SearchLemmas
+mod FirstByteLemmas
+pub mod LookUpLaws
 mod PrefixRunLemmas
 mod PackLemmas
 pub mod EntryLemmas

@@ -17,7 +17,7 @@ use Rattle.gix_pack_read.specs.declared.multi_index.layout.Layout.{Layout}
 use Rattle.gix_pack_read.specs.declared.multi_index.layout.Span.{Span}
 use Rattle.gix_pack_read.proofs.ListLemmas.{of_row, zip_get}
 use Rattle.gix_pack_read.proofs.RowsLemmas.{length-table, slice_get-table}
-use Rattle.gix_pack_read.proofs.SearchLemmas.{length-ids_of, row_fits, row_id}
+use Rattle.gix_pack_read.proofs.SearchLemmas.{length-ids_of, row_id}
 use Rattle.gix_pack_read.proofs.OffsetLaws.{named_below, offset_in-wide}
 
 -- ---- an offset
@@ -89,6 +89,12 @@ module _ (kind : Kind) (places : Layout) (bytes : List ℕ) where
       → option_map (λ (row : PackRow). row.offset) (slice_get (rows_at kind places bytes) n) ≡ Some (offset_of_bytes (wides_at places bytes) (number_at 4 (row_bytes n)))
   offset_in_row n below = ap (option_map (λ (row : PackRow). row.offset)) (row_is n _ below (some_id n below))
 
+-- the id of a row, in the ids of the rows
+pub id_of_row : (rows : List PackRow) (ids : List ObjectId) (n : ℕ) (id : ObjectId) → ids ≡ map (λ (row : PackRow). row.id) rows → slice_get ids n ≡ Some id
+    → option_map (λ (row : PackRow). row.id) (slice_get rows n) ≡ Some id
+id_of_row rows ids n id are own =
+    sym (slice_get-map (λ (row : PackRow). row.id) rows n) ∙ ap (λ (its : List ObjectId). slice_get its n) (sym are) ∙ own
+
 -- ---- where the tables are
 
 pub length_span : (bytes : List ℕ) (place : Span) → IsIn bytes place → length (span_of bytes place) ≡ place.len
@@ -98,8 +104,8 @@ module _ (kind : Kind) (places : Layout) (bytes : List ℕ) (laid : IsLaidOut ki
   pub ids_room : places.count * len_in_bytes_of kind ≤ length (span_of bytes places.ids)
   ids_room = let long = length_span bytes places.ids laid.ids_in in let all = laid.ids_len in omega arith
 
-  pub id_room : (n : ℕ) → n < places.count → (n + 1) * len_in_bytes_of kind ≤ length (span_of bytes places.ids)
-  id_room n below = row_fits kind places.count n (length (span_of bytes places.ids)) below ids_room
+  pub counts_room : 1024 ≤ length (span_of bytes places.counts)
+  counts_room = let long = length_span bytes places.counts laid.counts_in in let all = laid.counts_len in omega arith
 
   pub row_room : (n : ℕ) → n < places.count → n * 8 + 8 ≤ length (span_of bytes places.offsets)
   row_room n below = let long = length_span bytes places.offsets laid.offsets_in in let all = laid.offsets_len in omega arith

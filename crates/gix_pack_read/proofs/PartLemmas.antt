@@ -11,7 +11,7 @@ use Rattle.gix_hash.specs.Kind.{len_in_bytes_of}
 use Rattle.gix_hash.specs.declared.kind.Kind.{Kind}
 use Rattle.gix_pack_read.specs.Bytes.{number_at, numbers, same, table}
 use Rattle.gix_hash.specs.declared.object_id.ObjectId.{ObjectId}
-use Rattle.gix_pack_read.specs.Rows.{counts_of, ids_of, is_rising}
+use Rattle.gix_pack_read.specs.Rows.{counts_fit, counts_of, ids_of, is_rising}
 use Rattle.gix_pack_read.specs.MultiIndex.{Parts, are_parts, have_lengths, multi_index_from, multi_index_of, objects_in, offset_rows, part_ids, parts_of}
 use Rattle.gix_pack_read.specs.MultiIndex.Chunks.{chunk_rows, ends_at, has_header, has_room, header_len, kind_in, packs_in, trailer_place}
 use Rattle.gix_pack_read.specs.MultiIndex.Held.{has_offset, holds_names, name_parts}
@@ -190,6 +190,11 @@ module _ (spans : Spans) (rows : Layout) (bytes : List ℕ) (tables : AreTables 
   rising = (and_parts (is_rising (part_ids (kind_in bytes) (parts_at bytes spans)))
       (same (numbers 256 (span_of bytes spans.counts)) (counts_of (part_ids (kind_in bytes) (parts_at bytes spans)))) (and_parts _ _ agreeing).0).0
 
+  counted : counts_fit (span_of bytes spans.counts) (part_ids (kind_in bytes) (parts_at bytes spans)) ≡ true
+  unfolding counts_fit rows_agree
+  counted = (and_parts (is_rising (part_ids (kind_in bytes) (parts_at bytes spans)))
+      (same (numbers 256 (span_of bytes spans.counts)) (counts_of (part_ids (kind_in bytes) (parts_at bytes spans)))) (and_parts _ _ agreeing).0).1
+
   all_rows : list_all (is_row (packs_in bytes) (wides_in (option_map (span_of bytes) spans.wides))) (offset_rows (parts_at bytes spans)) ≡ true
   unfolding rows_agree
   all_rows = (and_parts (is_rising (part_ids (kind_in bytes) (parts_at bytes spans)) && same (numbers 256 (span_of bytes spans.counts))
@@ -198,12 +203,15 @@ module _ (spans : Spans) (rows : Layout) (bytes : List ℕ) (tables : AreTables 
 
   laid_out : IsLaidOut (kind_in bytes) (layout_in bytes spans) bytes
   laid_out = record {
+    counts_in = tables.within.counts;
     ids_in = tables.within.ids;
     offsets_in = tables.within.offsets;
     wides_in = tables.within.wides;
+    counts_len = counts_span (kind_in bytes) bytes spans tables.within lengths;
     ids_len = sym (length_span bytes spans.ids tables.within.ids) ∙ ids_len (kind_in bytes) (parts_at bytes spans) lengths;
     offsets_len = sym (length_span bytes spans.offsets tables.within.offsets) ∙ offsets_len (kind_in bytes) (parts_at bytes spans) lengths;
     rising = rising;
+    counted = counted;
     named = name_offsets (option_map (span_of bytes) spans.wides) (packs_in bytes) (offset_rows (parts_at bytes spans)) all_rows;
   }
 

@@ -1,5 +1,6 @@
 pub mod Bytes
 pub mod Rows
+pub mod IdTable
 pub mod FileBytes
 pub mod Pack
 pub mod PackHead

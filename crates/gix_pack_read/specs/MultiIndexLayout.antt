@@ -8,7 +8,7 @@ use Rattle.gix_pack_read.specs.Bytes.{part, numbers, same, table}
 use Rattle.gix_pack_read.specs.MultiIndex.Chunks.{Chunk, chunk_rows, ends_at, has_header, has_room, kind_in, packs_in, trailer_place}
 use Rattle.gix_pack_read.specs.MultiIndex.{Parts, at_most_one, parts_of, have_lengths, multi_index_of, narrow_in, objects_in, offset_row_len, offset_rows, pack_in, pack_row, part_ids}
 use Rattle.gix_pack_read.specs.MultiIndex.Held.{has_offset}
-use Rattle.gix_pack_read.specs.Rows.{PackRow, counts_of, ids_of, is_named_below, is_rising, wide_len}
+use Rattle.gix_pack_read.specs.Rows.{PackRow, counts_fit, counts_len, counts_of, ids_of, is_named_below, is_rising, wide_len}
 use Rattle.gix_pack_read.specs.declared.multi_index.layout.Layout as layout
 use Rattle.gix_pack_read.specs.declared.multi_index.layout.Span as span
 use Rattle.gix_pack_read.specs.declared.multi_index.layout.Spans as spans
@@ -89,7 +89,7 @@ tables_agree kind packs parts = have_lengths kind parts && rows_agree kind packs
 
 -- the places of the rows among those of the chunks
 abbrev pub layout_in : List ℕ → spans.Spans → layout.Layout
-layout_in bytes places = record { count = objects_in (parts_at bytes places); ids = places.ids; offsets = places.offsets; wides = places.wides }
+layout_in bytes places = record { count = objects_in (parts_at bytes places); counts = places.counts; ids = places.ids; offsets = places.offsets; wides = places.wides }
 
 -- whether ids, offsets and wide offsets have the lengths of tables of `count` rows
 abbrev pub spans_have_lengths : Kind → layout.Layout → Bool
@@ -119,14 +119,17 @@ row_ids kind places bytes = map (λ (row : PackRow). row.id) (rows_at kind place
 abbrev pub told_by : {X : Type 0} → (PackRow → X) → Kind → layout.Layout → List ℕ → ℕ → Option X
 told_by part_of kind places bytes n = option_map part_of (slice_get (rows_at kind places bytes) n)
 
--- the tables are in the bytes, the ids rise strictly, and each offset that refers to a wide one refers to an existing one
+-- the tables are in the bytes, the ids rise strictly, the counts are theirs, and each offset that refers to a wide one refers to an existing one
 pub record IsLaidOut (kind : Kind) (places : layout.Layout) (bytes : List ℕ) : Type 0 where
+  pub counts_in : IsIn bytes places.counts
   pub ids_in : IsIn bytes places.ids
   pub offsets_in : IsIn bytes places.offsets
   pub wides_in : IsInIfThere bytes places.wides
+  pub counts_len : places.counts.len ≡ counts_len
   pub ids_len : places.ids.len ≡ places.count * len_in_bytes_of kind
   pub offsets_len : places.offsets.len ≡ places.count * offset_row_len
   pub rising : is_rising (ids_at kind places bytes) ≡ true
+  pub counted : counts_fit (span_of bytes places.counts) (ids_at kind places bytes) ≡ true
   pub named : list_all (λ row. has_offset (wides_at places bytes) (narrow_in row)) (offset_rows_at places bytes) ≡ true
 
 -- bytes hold a multi-index of this kind, with these names, and with the rows at these places

@@ -1,5 +1,5 @@
 -- The rows of an index or a multi-index, and look-ups in them: the row of an id, and the rows of a prefix.
-use Rattle.std.specs.Prelude.{◌≡◌, ℕ, ◌-◌, ◌^◌, ◌<◌, ◌≤◌, ◌↔◌, ◌&&◌, ◌||◌, Bool, true, List, [], ◌∷◌, length, map}
+use Rattle.std.specs.Prelude.{◌≡◌, ◌==◌, ℕ, ◌-◌, ◌^◌, ◌<◌, ◌≤◌, ◌↔◌, ◌&&◌, ◌||◌, Bool, true, List, [], ◌∷◌, length, map}
 use Rattle.std.specs.Prelude.{slice_get, slice_index, count_by, Contains, Option, Some, None, nat_le, nat_lt, if◌then◌else◌}
 use Rattle.std.specs.List.{range_with_len}
 use Rattle.std.specs.Ordering.{is_lt}
@@ -10,7 +10,7 @@ use Rattle.gix_hash.specs.declared.kind.Kind.{Kind}
 use Rattle.gix_hash.specs.declared.kind.Kind.TheVariants as kind
 use Rattle.gix_hash.specs.declared.object_id.ObjectId.{ObjectId}
 use Rattle.gix_hash.specs.declared.object_id.ObjectId.TheVariants.{Sha1, Sha256}
-use Rattle.gix_pack_read.specs.Bytes.{table}
+use Rattle.gix_pack_read.specs.Bytes.{numbers, same, table}
 
 -- a row of an index: an id, and the offset of its entry in the pack
 pub record Row : Type 0 where
@@ -42,6 +42,13 @@ is_rising (id ∷ next ∷ ids) = is_lt (id_cmp id next) && is_rising (next ∷ 
 abbrev pub count_to : List ObjectId → ℕ → ℕ
 count_to ids first = count_by (λ id. nat_le (slice_index (bytes_of id) 0) first) ids
 
+-- how many begin with a lower byte, and below how many with this one
+abbrev pub count_below : List ObjectId → ℕ → ℕ
+count_below ids first = count_by (λ id. nat_lt (slice_index (bytes_of id) 0) first) ids
+
+abbrev pub begin_with : List ObjectId → ℕ → ℕ
+begin_with ids first = count_by (λ id. slice_index (bytes_of id) 0 == first) ids
+
 -- the length of the counts in a file: 256 of four bytes each
 abbrev pub counts_len : ℕ
 counts_len = 1024
@@ -49,6 +56,10 @@ counts_len = 1024
 -- the 256 cumulative counts of ids, by their first byte
 abbrev pub counts_of : List ObjectId → List ℕ
 counts_of ids = map (count_to ids) (range_with_len 0 256)
+
+-- whether 256 counts are those of ids
+unfoldable pub counts_fit : List ℕ → List ObjectId → Bool
+counts_fit counts ids = same (numbers 256 counts) (counts_of ids)
 
 -- the length of a wide offset in its table
 abbrev pub wide_len : ℕ

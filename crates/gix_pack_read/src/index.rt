@@ -1,19 +1,23 @@
 //! Pack indices, version 2: the offsets of the objects of a pack.
 ghost use Rattle.std.specs.Prelude.{◌≡◌, ◌^◌, ◌<◌, ◌≤◌, ◌↔◌, length, slice_get, true, IfOk, IsOk, IsTrue, Some};
 ghost use Rattle.gix_pack_read.specs.IndexRows.{rows_left};
-ghost use Rattle.gix_pack_read.specs.Rows.{IsPrefixRun, IsRowOf};
+ghost use Rattle.gix_hash.specs.ObjectId.{first_byte_of};
+ghost use Rattle.gix_hash.specs.Steps.{AreTwoSearches, IsSearch};
+ghost use Rattle.gix_pack_read.specs.IdTable.{ids_in};
+ghost use Rattle.gix_pack_read.specs.Rows.{begin_with, IsPrefixRun, IsRowOf};
 ghost use Rattle.gix_pack_read.specs.Index.{has_length as length_fits, ids_place, index_ids, index_offsets, index_rows, is_index};
 ghost use Rattle.gix_pack_read.specs.Index.{narrow_offsets, objects_in, offsets_place, tables_agree, wide_offsets, wides_in, wides_place};
 
 mod walk;
 
 use crate::file_bytes::FileBytes;
-use crate::search;
+use crate::id_table::IdTable;
 use crate::tables::{self, HIGH_BIT, WIDE_LEN};
-use gix_hash::{Kind, ObjectId, Prefix, SHA1_LEN, SHA256_LEN};
+use gix_hash::{Kind, ObjectId, Prefix, SHA1_LEN, SHA256_LEN, Steps};
 use odb_base::ByteList;
-use std::marker::Model;
+use std::marker::{Brand, Model};
 use std::ops::Range;
+use std::sync::ledger::{Blank, Ledger};
 use thiserror::Error;
 pub use walk::Iter;
 
@@ -92,13 +96,26 @@ impl File {
         count_of(&self.file)
     }
 
+    // The ids, with the counts of their first bytes.
+    #[tactic(auto, using(crate::proofs::IndexLemmas::has_ids))]
+    fn table(&self) -> IdTable<'_>
+        ensures ids { ids_in result ≡ index_ids self.now.kind self.now.bytes }
+        ensures count { result.count ≡ objects_in self.now.bytes }
+    {
+        IdTable::new(
+            self.file.kind,
+            count_of(&self.file),
+            self.file.behind(COUNTS_PLACE),
+            self.file.behind(IDS_PLACE),
+        )
+    }
+
     /// The id of a row.
-    #[tactic(auto, using(crate::proofs::IndexLemmas::row_room, crate::proofs::IndexLemmas::has_ids))]
     pub fn oid_at_index(&self, n: u32) -> ObjectId
         requires row { n < objects_in self.now.bytes }
         ensures id { slice_get (index_ids self.now.kind self.now.bytes) n ≡ Some result }
     {
-        search::id_at(self.file.behind(IDS_PLACE), self.file.kind, n)
+        self.table().id_at(n)
     }
 
     /// The offset in the pack of a row's object.
@@ -135,29 +152,57 @@ impl File {
     }
 
     /// The row of an id, if it has one.
-    #[tactic(auto, using(crate::proofs::IndexLemmas::ids_room, crate::proofs::IndexLemmas::has_ids))]
     pub fn lookup(&self, id: &ObjectId) -> Option<u32>
         ensures row { IsRowOf (index_ids self.now.kind self.now.bytes) id.now result }
     {
-        search::row_of(
-            self.file.behind(IDS_PLACE),
-            self.file.kind,
-            count_of(&self.file),
-            id,
-        )
+        self.lookup_uncounted::<Brand>(id, Blank::new(1))
+    }
+
+    // The row of an id, by a counter that is dropped.
+    fn lookup_uncounted<L: Ledger>(&self, id: &ObjectId, blank: Blank) -> Option<u32>
+        requires name { blank.name ≡ L.name }
+        requires parts { blank.parts ≡ L.parts }
+        requires some { 0 < blank.parts }
+        ensures row { IsRowOf (index_ids self.now.kind self.now.bytes) id.now result }
+    {
+        self.lookup_counted(id, &mut Steps::<L>::new(blank))
+    }
+
+    /// The row of an id, if it has one, by binary search among those that begin with the same byte.
+    pub fn lookup_counted<L: Ledger>(&self, id: &ObjectId, steps: &mut Steps<L>) -> Option<u32>
+        ensures row { IsRowOf (index_ids self.now.kind self.now.bytes) id.now result }
+        ensures steps { IsSearch (begin_with (index_ids self.now.kind self.now.bytes) (first_byte_of id.now)) steps.old steps.new }
+    {
+        self.table().row_of(id, steps)
     }
 
     /// The range of rows whose ids begin with a prefix.
-    #[tactic(auto, using(crate::proofs::IndexLemmas::ids_room, crate::proofs::IndexLemmas::ids_rise, crate::proofs::IndexLemmas::has_ids))]
     pub fn lookup_prefix(&self, prefix: &Prefix) -> Range<u32>
         ensures run { IsPrefixRun (index_ids self.now.kind self.now.bytes) prefix.now result.start result.end }
     {
-        search::rows_of_prefix(
-            self.file.behind(IDS_PLACE),
-            self.file.kind,
-            count_of(&self.file),
-            prefix,
-        )
+        self.lookup_prefix_uncounted::<Brand>(prefix, Blank::new(1))
+    }
+
+    // The range of rows of a prefix, by a counter that is dropped.
+    fn lookup_prefix_uncounted<L: Ledger>(&self, prefix: &Prefix, blank: Blank) -> Range<u32>
+        requires name { blank.name ≡ L.name }
+        requires parts { blank.parts ≡ L.parts }
+        requires some { 0 < blank.parts }
+        ensures run { IsPrefixRun (index_ids self.now.kind self.now.bytes) prefix.now result.start result.end }
+    {
+        self.lookup_prefix_counted(prefix, &mut Steps::<L>::new(blank))
+    }
+
+    /// The range of rows whose ids begin with a prefix, by two binary searches among those that begin with its first byte.
+    pub fn lookup_prefix_counted<L: Ledger>(
+        &self,
+        prefix: &Prefix,
+        steps: &mut Steps<L>,
+    ) -> Range<u32>
+        ensures run { IsPrefixRun (index_ids self.now.kind self.now.bytes) prefix.now result.start result.end }
+        ensures steps { AreTwoSearches (begin_with (index_ids self.now.kind self.now.bytes) (first_byte_of prefix.now.id)) steps.old steps.new }
+    {
+        self.table().rows_of_prefix(prefix, steps)
     }
 
     /// The rows, in the order of their ids.

@@ -1,11 +1,11 @@
 //! Tests of the tables of an index.
-ghost use Rattle.std.specs.Prelude.{◌≡◌, ℕ, ◌+◌, ◌*◌, ◌≤◌, true, length};
+ghost use Rattle.std.specs.Prelude.{◌≡◌, ◌*◌, ◌<◌, ◌≤◌, ◌↔◌, true, length, IsTrue};
 ghost use Rattle.std.specs.List.{list_all};
 ghost use Rattle.gix_hash.specs.Kind.{len_in_bytes_of};
 ghost use Rattle.gix_pack_read.specs.Bytes.{numbers, same};
 ghost use Rattle.gix_pack_read.specs.Rows.{count_to, counts_len, counts_of, ids_of, is_named_below, is_rising as ids_rise};
 
-use crate::bytes::{behind_first, number_at};
+use crate::bytes::{behind_first, id_of, number_at, part_of};
 use gix_hash::Kind;
 
 /// The high bit of four bytes: it marks those that refer to a wide offset.
@@ -62,26 +62,6 @@ pub fn is_named(narrow: u32, wides: u64) -> bool
     narrow < HIGH_BIT || ((narrow - HIGH_BIT) as u64) < wides
 }
 
-// Of n ids that rise, those that begin above a byte, which come last: their number, and their table.
-#[tactic(auto, using(crate::proofs::RowsLemmas::one_more, crate::proofs::RowsLemmas::none_to, crate::proofs::RowsLemmas::rising_rest, crate::proofs::RowsLemmas::some_room))]
-fn behind(ids: &[u8], kind: Kind, n: usize, first: usize) -> (usize, &[u8])
-    requires ids { n * len_in_bytes_of kind ≤ length ids.now }
-    requires rising { ids_rise (ids_of kind n ids.now) ≡ true }
-    ensures within { result.0 ≤ n }
-    ensures room { result.0 * len_in_bytes_of kind ≤ length result.1.now }
-    ensures rising { ids_rise (ids_of kind result.0 result.1.now) ≡ true }
-    ensures above { (later : ℕ) → first ≤ later → count_to (ids_of kind n ids.now) later + result.0 ≡ n + count_to (ids_of kind result.0 result.1.now) later }
-    ensures none { count_to (ids_of kind result.0 result.1.now) first ≡ 0 }
-{
-    let mut rest = ids;
-    let mut left = n;
-    while left > 0 && rest[0] as usize <= first {
-        rest = behind_first(rest, kind.len_in_bytes());
-        left -= 1;
-    }
-    (left, rest)
-}
-
 /// Whether the 256 counts are those of n ids that rise.
 #[tactic(auto, using(crate::proofs::RowsLemmas::counts_next, crate::proofs::RowsLemmas::counts_done))]
 pub fn counts_agree(counts: &[u8], kind: Kind, n: usize, ids: &[u8]) -> bool
@@ -91,16 +71,34 @@ pub fn counts_agree(counts: &[u8], kind: Kind, n: usize, ids: &[u8]) -> bool
     ensures agree { result ≡ same (numbers 256 counts.now) (counts_of (ids_of kind n ids.now)) }
 {
     let mut rest = counts;
-    let mut above = ids;
-    let mut left = n;
     for first in 0..256 {
-        let (more_left, more) = behind(above, kind, left, first);
-        left = more_left;
-        above = more;
-        if number_at(rest, 0) as usize != n - left {
+        if !is_count(ids, kind, n, first, number_at(rest, 0) as usize) {
             return false;
         }
         rest = behind_first(rest, 4);
     }
     true
+}
+
+// Whether so many of n ids that rise begin with a byte or a lower one: the last of so many does, and none after it.
+fn is_count(ids: &[u8], kind: Kind, n: usize, first: usize, count: usize) -> bool
+    requires ids { n * len_in_bytes_of kind ≤ length ids.now }
+    requires rising { ids_rise (ids_of kind n ids.now) ≡ true }
+    ensures count { IsTrue result ↔ (count ≡ count_to (ids_of kind n ids.now) first) }
+{
+    count <= n
+        && (count == 0 || is_counted(ids, kind, n, first, count - 1))
+        && (count == n || !is_counted(ids, kind, n, first, count))
+}
+
+// Whether the id of a row begins with a byte or a lower one, as those do that come before so many.
+#[tactic(auto, using(crate::proofs::SearchLemmas::row_fits, crate::proofs::SearchLemmas::row_id))]
+fn is_counted(ids: &[u8], kind: Kind, n: usize, first: usize, row: usize) -> bool
+    requires ids { n * len_in_bytes_of kind ≤ length ids.now }
+    requires rising { ids_rise (ids_of kind n ids.now) ≡ true }
+    requires row { row < n }
+    ensures counted { IsTrue result ↔ (row < count_to (ids_of kind n ids.now) first) }
+{
+    let size = kind.len_in_bytes();
+    id_of(kind, part_of(ids, row * size, size)).first_byte() as usize <= first
 }

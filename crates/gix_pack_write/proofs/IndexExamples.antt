@@ -1,11 +1,13 @@
 -- Indices on examples, by computation: the index of the two versions, and bytes that are no index.
-use Rattle.std.proofs.Common.{◌≡◌, ◌+◌, ◌-◌, ◌^◌, ℕ, List, [], ◌∷◌, ◌++◌, take, replicate, Option, Some, None, refl}
+use Rattle.std.proofs.Common.{◌≡◌, ◌+◌, ◌-◌, ◌^◌, ◌≤◌, ℕ, List, [], ◌∷◌, ◌++◌, take, replicate, Option, Some, None, refl}
 use Rattle.std.specs.List.{flat_map}
 use Rattle.gix_hash.specs.declared.kind.Kind.TheVariants as kind
 use Rattle.gix_hash.specs.declared.object_id.ObjectId.TheVariants.{Sha1}
 use Rattle.gix_pack_read.specs.Bytes.{table}
-use Rattle.gix_pack_read.specs.Rows.{Row, is_rising}
-use Rattle.gix_pack_read.specs.Index.{is_index, last_count_place, rows_of_index, signature, tables_agree}
+use Rattle.gix_hash.specs.Steps.{IsSearch}
+use Rattle.gix_pack_read.specs.Rows.{Row, begin_with, is_rising}
+use Rattle.gix_pack_read.specs.Index.{index_ids, is_index, last_count_place, rows_of_index, signature, tables_agree}
+use Rattle.gix_pack_read.proofs.LookUpLaws.{no_step, one_step}
 use Rattle.gix_pack_write.specs.WrittenIndex.{index_front}
 use Rattle.gix_pack_write.specs.WrittenTables.{narrow_from}
 use Rattle.gix_pack_write.proofs.ExampleIds.{first, second}
@@ -98,6 +100,23 @@ count_too_early = refl
 wide_row_missing : Reads (two two_counts (second ++ first) (128 ∷ 0 ∷ 0 ∷ 1 ∷ 0 ∷ 0 ∷ 0 ∷ 12 ∷ []) (replicate 8 0)) None
 unfolding is_index tables_agree two two_counts counts first second table is_rising
 wide_row_missing = refl
+
+-- ---- how many steps a look-up takes
+
+none_with_0 : begin_with (index_ids kind.Sha1 whole) 0 ≡ 0
+unfolding whole two two_counts counts first second offsets table
+none_with_0 = refl
+
+one_with_131 : begin_with (index_ids kind.Sha1 whole) 131 ≡ 1
+unfolding whole two two_counts counts first second offsets table
+one_with_131 = refl
+
+-- the id of zeros takes none, and that of `version 1` at most one
+zeros_take_none : (before after : ℕ) → IsSearch (begin_with (index_ids kind.Sha1 whole) 0) before after → after ≡ before
+zeros_take_none before after search = no_step (begin_with (index_ids kind.Sha1 whole) 0) before after none_with_0 search
+
+first_takes_one : (before after : ℕ) → IsSearch (begin_with (index_ids kind.Sha1 whole) 131) before after → after ≤ before + 1
+first_takes_one before after search = one_step (begin_with (index_ids kind.Sha1 whole) 131) before after one_with_131 search
 
 -- ---- what is written
 

@@ -264,6 +264,17 @@ fn finds_prefixes(rt: HostRuntime) -> Result<(), Fail> {
     check_prefixes(alloc, &index, Kind::Sha1, PREFIXES_SHA1)
 }
 
+// Prefixes of ids of SHA-256, which an index of SHA-1 has none of.
+const PREFIXES_OTHER: &[(&str, &str)] = &[("1f7a", "None None"), ("6cf44", "None None")];
+
+// A row whose id has the same digits and is of the other hash.
+#[test]
+fn finds_no_ids_of_the_other_hash(rt: HostRuntime) -> Result<(), Fail> {
+    let alloc = rt.alloc();
+    let index = File::parse(index_of(alloc, &SHA1)?, Kind::Sha1)?;
+    check_prefixes(alloc, &index, Kind::Sha256, PREFIXES_OTHER)
+}
+
 // The longer ids of SHA-256.
 #[test]
 fn finds_long_prefixes(rt: HostRuntime) -> Result<(), Fail> {
@@ -313,6 +324,7 @@ const CHANGES: &[(&str, usize, u8, &str)] = &[
     ("a count too early", 131, 1, REFUSED),
     ("the high byte of a count", 132, 1, REFUSED),
     ("a count that falls", 171, 2, REFUSED),
+    ("a count that passes the rows", 431, 3, REFUSED),
     ("one object less", 1031, 1, REFUSED),
     ("one object more", 1031, 3, REFUSED),
     ("an id that is not counted", 1032, 32, REFUSED),
@@ -338,6 +350,55 @@ fn check_changes(alloc: Global, whole: &[u8]) -> Result<(), Fail> {
 fn reads_changed_indices(rt: HostRuntime) -> Result<(), Fail> {
     let bytes = index_of(rt.alloc(), &WIDE)?;
     check_changes(rt.alloc(), bytes.as_slice())
+}
+
+// Orders of the five ids in which two neighbours have changed places, or one id is there twice.
+const OUT_OF_ORDER: &[[usize; 5]] = &[
+    [1, 0, 2, 3, 4],
+    [0, 2, 1, 3, 4],
+    [0, 1, 3, 2, 4],
+    [0, 1, 2, 4, 3],
+    [0, 0, 2, 3, 4],
+    [0, 1, 1, 3, 4],
+    [0, 1, 2, 2, 4],
+    [0, 1, 2, 3, 3],
+];
+
+fn put_order(bytes: &mut ByteList, order: &[usize]) -> Result<(), Fail> {
+    for place in order {
+        if let Some(id) = SHA1.ids.get(*place) {
+            bytes.extend_from_slice(ObjectId::from_hex(id)?.as_bytes())?;
+        }
+    }
+    Ok(())
+}
+
+fn in_order(alloc: Global, order: &[usize]) -> Result<ByteList, Fail> {
+    let mut bytes = ByteList::from_slice(alloc, SIGNATURE)?;
+    put_counts(&mut bytes, SHA1.counts)?;
+    put_order(&mut bytes, order)?;
+    put_rest(&mut bytes, &SHA1)?;
+    Ok(bytes)
+}
+
+// Two ids that are not compared, at each place.
+#[test]
+fn refuses_ids_out_of_order(rt: HostRuntime) -> Result<(), Fail> {
+    check(
+        rt.alloc(),
+        in_order(rt.alloc(), &[0, 1, 2, 3, 4])?,
+        Kind::Sha1,
+        SHOWN_SHA1,
+    )?;
+    for order in OUT_OF_ORDER {
+        check(
+            rt.alloc(),
+            in_order(rt.alloc(), order)?,
+            Kind::Sha1,
+            REFUSED,
+        )?;
+    }
+    Ok(())
 }
 
 const HIGH: Parts<'static> = Parts {

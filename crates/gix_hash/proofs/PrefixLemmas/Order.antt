@@ -162,3 +162,19 @@ texts_rise (suc zero) (a ∷ own) (b ∷ its) first second up down =
 texts_rise (suc (suc digits)) (a ∷ own) (b ∷ its) first second up down =
     then_rises (nat_cmp a b) (slice_cmp nat_cmp own its) (texts_cmp own its digits) (texts_rise digits own its (IsBytes-rest a own first) (IsBytes-rest b its second)) up
     (sym (one_byte a b own its digits (first 0) (second 0)) ∙ down)
+
+-- texts that agree in two digits or more begin with the same byte
+pub first_byte_same : (digits : ℕ) (own its : List ℕ) → IsBytes own → IsBytes its → 2 ≤ digits → texts_cmp own its digits ≡ Equal → slice_index its 0 ≡ slice_index own 0
+unfolding encode_with
+first_byte_same zero own its first second long tie = absurd (omega arith)
+first_byte_same (suc zero) own its first second long tie = absurd (omega arith)
+first_byte_same (suc (suc digits)) [] [] first second long tie = refl
+first_byte_same (suc (suc digits)) [] (b ∷ its) first second long tie = cc tie
+first_byte_same (suc (suc digits)) (a ∷ own) [] first second long tie = cc tie
+first_byte_same (suc (suc digits)) (a ∷ own) (b ∷ its) first second long tie =
+    tied (nat_cmp a b) (texts_cmp own its digits) refl (sym (one_byte a b own its digits (first 0) (second 0)) ∙ tie)
+  where
+    tied : (o rest : Ordering) → o ≡ nat_cmp a b → ordering_then o rest ≡ Equal → b ≡ a
+    tied Less rest is h = cc h
+    tied Equal rest is h = sym (ranked a b Equal is)
+    tied Greater rest is h = cc h

@@ -3,18 +3,23 @@ ghost use Rattle.std.specs.Prelude.{◌≡◌, ◌<◌, length, map, option_map,
 ghost use Rattle.gix_pack_read.specs.MultiIndex.{multi_index_of, read_of, told, IsRefusal};
 ghost use Rattle.gix_pack_read.specs.MultiIndexLayout.{rows_at, IsLaidOut};
 ghost use Rattle.gix_pack_read.specs.MultiIndexRows.{rows_left};
-ghost use Rattle.gix_pack_read.specs.Rows.{PackRow, IsPrefixRun, IsRowOf};
+ghost use Rattle.gix_hash.specs.ObjectId.{first_byte_of};
+ghost use Rattle.gix_hash.specs.Steps.{IsSearch};
+ghost use Rattle.gix_pack_read.specs.IdTable.{ids_in};
+ghost use Rattle.gix_pack_read.specs.Rows.{begin_with, PackRow, IsPrefixRun, IsRowOf};
 
 use crate::bytes::is_within;
+use crate::id_table::IdTable;
 use crate::multi_index::layout::Layout;
 use crate::multi_index::parts::read;
 use crate::multi_index::rows::Rows;
 use crate::multi_index::walk::Iter;
-use gix_hash::{Kind, ObjectId, Prefix};
+use gix_hash::{Kind, ObjectId, Prefix, Steps};
 use odb_base::{ByteList, NoMemory, PathName, Sequence};
 use std::alloc::Global;
-use std::marker::Model;
+use std::marker::{Brand, Model};
 use std::ops::Range;
+use std::sync::ledger::{Blank, Ledger};
 use thiserror::Error;
 
 /// Why bytes are no multi-pack index.
@@ -158,18 +163,54 @@ impl File {
         self.rows().place_at(n)
     }
 
+    // The ids of the rows, with the counts of their first bytes.
+    fn table(&self) -> IdTable<'_>
+        ensures ids { ids_in result ≡ map (λ (row : PackRow). row.id) (told self.now).rows }
+    {
+        self.rows().table()
+    }
+
     /// The row of an id, if it has one.
     pub fn lookup(&self, id: &ObjectId) -> Option<u32>
         ensures row { IsRowOf (map (λ (row : PackRow). row.id) (told self.now).rows) id.now result }
     {
-        self.rows().row_of(id)
+        self.lookup_uncounted::<Brand>(id, Blank::new(1))
+    }
+
+    // The row of an id, by a counter that is dropped.
+    fn lookup_uncounted<L: Ledger>(&self, id: &ObjectId, blank: Blank) -> Option<u32>
+        requires name { blank.name ≡ L.name }
+        requires parts { blank.parts ≡ L.parts }
+        requires some { 0 < blank.parts }
+        ensures row { IsRowOf (map (λ (row : PackRow). row.id) (told self.now).rows) id.now result }
+    {
+        self.lookup_counted(id, &mut Steps::<L>::new(blank))
+    }
+
+    /// The row of an id, if it has one, by binary search among those that begin with the same byte.
+    pub fn lookup_counted<L: Ledger>(&self, id: &ObjectId, steps: &mut Steps<L>) -> Option<u32>
+        ensures row { IsRowOf (map (λ (row : PackRow). row.id) (told self.now).rows) id.now result }
+        ensures steps { IsSearch (begin_with (map (λ (row : PackRow). row.id) (told self.now).rows) (first_byte_of id.now)) steps.old steps.new }
+    {
+        self.table().row_of(id, steps)
     }
 
     /// The range of rows whose ids begin with a prefix.
     pub fn lookup_prefix(&self, prefix: &Prefix) -> Range<u32>
         ensures run { IsPrefixRun (map (λ (row : PackRow). row.id) (told self.now).rows) prefix.now result.start result.end }
     {
-        self.rows().rows_of_prefix(prefix)
+        self.lookup_prefix_uncounted::<Brand>(prefix, Blank::new(1))
+    }
+
+    // The range of rows of a prefix, by two binary searches and a counter that is dropped.
+    fn lookup_prefix_uncounted<L: Ledger>(&self, prefix: &Prefix, blank: Blank) -> Range<u32>
+        requires name { blank.name ≡ L.name }
+        requires parts { blank.parts ≡ L.parts }
+        requires some { 0 < blank.parts }
+        ensures run { IsPrefixRun (map (λ (row : PackRow). row.id) (told self.now).rows) prefix.now result.start result.end }
+    {
+        self.table()
+            .rows_of_prefix(prefix, &mut Steps::<L>::new(blank))
     }
 
     /// The rows, in the order of their ids.

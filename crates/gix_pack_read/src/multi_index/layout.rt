@@ -17,10 +17,11 @@ pub(crate) struct Spans {
     pub(crate) wides: Option<Span>,
 }
 
-// The number of rows, and the places of ids, offsets and wide offsets.
+// The number of rows, and the places of counts, ids, offsets and wide offsets.
 #[derive(Clone, Copy)]
 pub(crate) struct Layout {
     pub(crate) count: u32,
+    pub(crate) counts: Span,
     pub(crate) ids: Span,
     pub(crate) offsets: Span,
     pub(crate) wides: Option<Span>,

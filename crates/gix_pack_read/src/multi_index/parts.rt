@@ -90,6 +90,7 @@ fn layout_of(bytes: &[u8], spans: Spans) -> Layout
 {
     Layout {
         count: number_at(span_in(bytes, spans.counts), LAST_COUNT_PLACE),
+        counts: spans.counts,
         ids: spans.ids,
         offsets: spans.offsets,
         wides: spans.wides,

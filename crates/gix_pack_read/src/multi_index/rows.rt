@@ -2,15 +2,15 @@
 ghost use Rattle.std.specs.Prelude.{◌≡◌, ◌<◌, option_map, Some, true};
 ghost use Rattle.gix_pack_read.specs.MultiIndex.Held.{has_offset, offset_of_bytes};
 ghost use Rattle.gix_pack_read.specs.MultiIndexLayout.{row_ids, span_of, told_by, IsInIfThere, IsLaidOut};
-ghost use Rattle.gix_pack_read.specs.Rows.{PackRow, IsPrefixRun, IsRowOf};
+ghost use Rattle.gix_pack_read.specs.IdTable.{ids_in};
+ghost use Rattle.gix_pack_read.specs.Rows.{PackRow};
 
 use crate::bytes::{long_at, number_at, part_of};
+use crate::id_table::IdTable;
 use crate::multi_index::layout::{Layout, Span};
 use crate::multi_index::parts::{OFFSET_ROW_LEN, span_in};
-use crate::search;
 use crate::tables::{HIGH_BIT, WIDE_LEN};
-use gix_hash::{Kind, ObjectId, Prefix};
-use std::ops::Range;
+use gix_hash::{Kind, ObjectId};
 
 // The rows of a multi-index in its bytes: the hash of their ids, and their places.
 #[derive(Clone, Copy)]
@@ -20,43 +20,30 @@ pub(crate) struct Rows<'a> {
     pub(crate) bytes: &'a [u8],
 }
 
-impl Rows<'_> {
+impl<'a> Rows<'a> {
+    // The ids, with the counts of their first bytes.
+    #[tactic(auto, using(crate::proofs::PackRowLemmas::counts_room, crate::proofs::PackRowLemmas::ids_room, crate::proofs::PackRowLemmas::ids_in_rows))]
+    pub(crate) fn table(&self) -> IdTable<'a>
+        requires laid_out { IsLaidOut self.now.kind self.now.layout self.now.bytes.now }
+        ensures ids { ids_in result ≡ row_ids self.now.kind self.now.layout self.now.bytes.now }
+        ensures count { result.count ≡ self.now.layout.count }
+    {
+        IdTable::new(
+            self.kind,
+            self.layout.count,
+            span_in(self.bytes, self.layout.counts),
+            span_in(self.bytes, self.layout.ids),
+        )
+    }
+
     // The id of a row.
-    #[tactic(auto, using(crate::proofs::PackRowLemmas::id_room, crate::proofs::PackRowLemmas::id_in_row))]
+    #[tactic(auto, using(crate::proofs::PackRowLemmas::id_of_row))]
     pub(crate) fn id_at(&self, n: u32) -> ObjectId
         requires laid_out { IsLaidOut self.now.kind self.now.layout self.now.bytes.now }
         requires row { n < self.now.layout.count }
         ensures id { told_by (λ (row : PackRow). row.id) self.now.kind self.now.layout self.now.bytes.now n ≡ Some result }
     {
-        search::id_at(span_in(self.bytes, self.layout.ids), self.kind, n)
-    }
-
-    // The row of an id.
-    #[tactic(auto, using(crate::proofs::PackRowLemmas::ids_room, crate::proofs::PackRowLemmas::ids_in_rows))]
-    pub(crate) fn row_of(&self, id: &ObjectId) -> Option<u32>
-        requires laid_out { IsLaidOut self.now.kind self.now.layout self.now.bytes.now }
-        ensures row { IsRowOf (row_ids self.now.kind self.now.layout self.now.bytes.now) id.now result }
-    {
-        search::row_of(
-            span_in(self.bytes, self.layout.ids),
-            self.kind,
-            self.layout.count,
-            id,
-        )
-    }
-
-    // The range of rows of a prefix.
-    #[tactic(auto, using(crate::proofs::PackRowLemmas::ids_room, crate::proofs::PackRowLemmas::ids_in_rows))]
-    pub(crate) fn rows_of_prefix(&self, prefix: &Prefix) -> Range<u32>
-        requires laid_out { IsLaidOut self.now.kind self.now.layout self.now.bytes.now }
-        ensures run { IsPrefixRun (row_ids self.now.kind self.now.layout self.now.bytes.now) prefix.now result.start result.end }
-    {
-        search::rows_of_prefix(
-            span_in(self.bytes, self.layout.ids),
-            self.kind,
-            self.layout.count,
-            prefix,
-        )
+        self.table().id_at(n)
     }
 
     // The number of a row's pack, and the offset of its object there.
