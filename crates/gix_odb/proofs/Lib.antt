@@ -16,7 +16,6 @@ pub mod AskLaws
 pub mod OpenLaws
 mod CallLemmas
 mod HandleLemmas
-mod AnswersLemmas
 mod SlotsLemmas
 mod WriteLemmas
 mod AnySearch

@@ -1,15 +1,14 @@
 -- Tables, ids and their counts, read row by row.
-use Rattle.std.proofs.Common.{◌≡◌, ℕ, zero, suc, ◌+◌, ◌-◌, ◌*◌, ◌<◌, ◌≤◌, ◌==◌, ◌&&◌, nat_le, Bool, true, false, cond, List, [], ◌∷◌, length, take}
-use Rattle.std.proofs.Common.{drop, map, slice_get, slice_index, Some, length-drop, Ordering, Less, Equal, Greater, refl, sym, ap, ◌∙◌, arith}
+use Rattle.std.proofs.Common.{◌≡◌, ℕ, zero, suc, ◌+◌, ◌-◌, ◌*◌, ◌<◌, ◌≤◌, ◌==◌, ◌&&◌, Bool, true, false, List, [], ◌∷◌, length, take}
+use Rattle.std.proofs.Common.{drop, map, slice_get, slice_index, Some, Ordering, Less, Equal, Greater, refl, sym, ap, ◌∙◌, arith}
 use Rattle.std.specs.List.{list_all, range_with_len}
 use Rattle.std.specs.Ordering.{is_lt, nat_cmp, ordering_then}
 use Rattle.std.specs.Cmp.{ranked}
 use Rattle.std.specs.Cmp.Lexicographic.{slice_cmp}
-use Rattle.std.proofs.lemmas.Bool.{and_parts, eq-eqb, le-leb, ne_eqb}
+use Rattle.std.proofs.lemmas.Bool.{eq-eqb, ne_eqb}
 use Rattle.std.proofs.lemmas.List.{drop-drop}
-use Rattle.std.proofs.lemmas.List.Sums.{sum_by-cons}
 use Rattle.gix_hash.specs.Kind.{len_in_bytes_of}
-use Rattle.gix_hash.specs.ObjectId.{bytes_of, id_cmp}
+use Rattle.gix_hash.specs.ObjectId.{id_cmp}
 use Rattle.gix_hash.specs.declared.kind.Kind.{Kind}
 use Rattle.gix_hash.specs.declared.kind.Kind.TheVariants.{Sha1, Sha256}
 use Rattle.gix_hash.specs.declared.object_id.ObjectId.{ObjectId}
@@ -64,39 +63,7 @@ rising_short kind zero rest h = refl
 rising_short kind (suc zero) rest h = refl
 rising_short kind (suc (suc m)) rest h = absurd (omega arith)
 
-pub rising_rest : (kind : Kind) (left : ℕ) (rest : List ℕ) → 0 < left → is_rising (ids_of kind left rest) ≡ true → is_rising (ids_of kind (left - 1) (drop (len_in_bytes_of kind) rest)) ≡ true
-rising_rest kind zero rest h rising = absurd (omega arith)
-rising_rest kind (suc zero) rest h rising = rising_short kind _ _ (omega arith)
-rising_rest kind (suc (suc m)) rest h rising =
-    let apart = and_parts _ _ (sym (rising_step kind (suc (suc m)) rest (omega arith)) ∙ rising) in
-    apart.1
-
--- ---- counts
-
--- an id's first byte is that of its row
-first_byte : (kind : Kind) (rest : List ℕ) → slice_index (bytes_of (id_from kind (take (size_of kind) rest))) 0 ≡ slice_index rest 0
-first_byte Sha1 [] = refl
-first_byte Sha1 (b ∷ rest) = refl
-first_byte Sha256 [] = refl
-first_byte Sha256 (b ∷ rest) = refl
-
--- 1 for a byte that is counted, and 0 for others
-abbrev counted : ℕ → ℕ → ℕ
-counted byte later = cond (nat_le byte later) 1 0
-
-counts_first : (kind : Kind) (m : ℕ) (rest : List ℕ) (later : ℕ)
-    → count_to (ids_of kind (suc m) rest) later ≡ counted (slice_index rest 0) later + count_to (ids_of kind m (drop (size_of kind) rest)) later
-unfolding table
-counts_first kind m rest later =
-    sum_by-cons (λ (id : ObjectId). cond (nat_le (slice_index (bytes_of id) 0) later) 1 0) (id_from kind (take (size_of kind) rest)) (ids_of kind m (drop (size_of kind) rest))
-    ∙ ap (λ (b : ℕ). cond (nat_le b later) 1 0 + count_to (ids_of kind m (drop (size_of kind) rest)) later) (first_byte kind rest)
-
-pub one_more : (kind : Kind) (left : ℕ) (rest : List ℕ) (later : ℕ) → 0 < left → slice_index rest 0 ≤ later
-    → count_to (ids_of kind left rest) later ≡ 1 + count_to (ids_of kind (left - 1) (drop (len_in_bytes_of kind) rest)) later
-one_more kind zero rest later h low = absurd (omega arith)
-one_more kind (suc m) rest later h low =
-    let less : suc m - 1 ≡ m = omega arith in
-    rw less (counts_first kind m rest later ∙ ap (λ (b : Bool). cond b 1 0 + count_to (ids_of kind m (drop (size_of kind) rest)) later) (le-leb _ _ low))
+-- ---- first bytes
 
 by_first : (o p : Ordering) (x y : ℕ) → o ≡ nat_cmp x y → is_lt (ordering_then o p) ≡ true → x ≤ y
 by_first Less p x y is h = let below = ranked x y Less is in omega arith
@@ -109,43 +76,6 @@ first_no_higher [] [] h = cc h
 first_no_higher [] (y ∷ ys) h = omega arith
 first_no_higher (x ∷ xs) [] h = cc h
 first_no_higher (x ∷ xs) (y ∷ ys) h = by_first (nat_cmp x y) (slice_cmp nat_cmp xs ys) x y refl h
-
-take_first : (kind : Kind) (rest : List ℕ) → slice_index (take (size_of kind) rest) 0 ≡ slice_index rest 0
-take_first Sha1 [] = refl
-take_first Sha1 (b ∷ rest) = refl
-take_first Sha256 [] = refl
-take_first Sha256 (b ∷ rest) = refl
-
-not_counted : (byte later : ℕ) → later < byte → counted byte later ≡ 0
-not_counted byte later above = grind arith
-
-none_left : (kind : Kind) (rest : List ℕ) (first : ℕ) → count_to (ids_of kind 0 rest) first ≡ 0
-unfolding table
-none_left kind rest first = refl
-
--- ids that rise and all begin above a byte
-pub none_to : (kind : Kind) (left : ℕ) (rest : List ℕ) (first : ℕ) → is_rising (ids_of kind left rest) ≡ true → (0 < left → first < slice_index rest 0)
-    → count_to (ids_of kind left rest) first ≡ 0
-none_to kind zero rest first rising above = none_left kind rest first
-none_to kind (suc zero) rest first rising above =
-    let all : count_to (ids_of kind 1 rest) first ≡ counted (slice_index rest 0) first + count_to (ids_of kind 0 (drop (size_of kind) rest)) first = counts_first kind 0 rest first in
-    let own : counted (slice_index rest 0) first ≡ 0 = not_counted (slice_index rest 0) first (above (omega arith)) in
-    let none : count_to (ids_of kind 0 (drop (size_of kind) rest)) first ≡ 0 = none_left kind (drop (size_of kind) rest) first in
-    omega arith
-none_to kind (suc (suc m)) rest first rising above =
-    let high : first < slice_index rest 0 = above (omega arith) in
-    let step = and_parts (is_lt (slice_cmp nat_cmp (take (size_of kind) rest) (take (size_of kind) (drop (size_of kind) rest))))
-    (is_rising (ids_of kind (suc (suc m) - 1) (drop (size_of kind) rest))) (sym (rising_step kind (suc (suc m)) rest (omega arith)) ∙ rising) in
-    let order : slice_index (take (size_of kind) rest) 0 ≤ slice_index (take (size_of kind) (drop (size_of kind) rest)) 0 = first_no_higher (take (size_of kind) rest)
-    (take (size_of kind) (drop (size_of kind) rest)) step.0 in
-    let next : first < slice_index (drop (size_of kind) rest) 0 = omega (arith, take_first kind rest, take_first kind (drop (size_of kind) rest)) in
-    let less : suc (suc m) - 1 ≡ suc m = omega arith in
-    let behind : is_rising (ids_of kind (suc m) (drop (size_of kind) rest)) ≡ true = rw less at (rising_rest kind (suc (suc m)) rest (omega arith) rising) in
-    let all : count_to (ids_of kind (suc (suc m)) rest) first ≡ counted (slice_index rest 0) first + count_to
-    (ids_of kind (suc m) (drop (size_of kind) rest)) first = counts_first kind (suc m) rest first in
-    let own : counted (slice_index rest 0) first ≡ 0 = not_counted (slice_index rest 0) first high in
-    let none : count_to (ids_of kind (suc m) (drop (size_of kind) rest)) first ≡ 0 = none_to kind (suc m) (drop (size_of kind) rest) first behind (λ _. next) in
-    omega arith
 
 -- ---- tables of numbers
 
@@ -180,16 +110,6 @@ unfolding table
 counts_done ids first rest h =
     let none : 256 - first ≡ 0 = omega arith in
     rw none refl
-
--- if rows are left there is room for one
-pub some_room : (kind : Kind) (left room : ℕ) → 0 < left → left * len_in_bytes_of kind ≤ room → len_in_bytes_of kind ≤ room
-some_room Sha1 left room some fits = omega arith
-some_room Sha256 left room some fits = omega arith
-
--- if rows are left, the others have room after the first
-pub room_rest : (kind : Kind) (left : ℕ) (rest : List ℕ) → 0 < left → left * len_in_bytes_of kind ≤ length rest → (left - 1) * len_in_bytes_of kind ≤ length (drop (len_in_bytes_of kind) rest)
-room_rest Sha1 left rest some fits = omega (arith, length-drop 20 rest)
-room_rest Sha256 left rest some fits = omega (arith, length-drop 32 rest)
 
 -- a count that differs from that of the ids
 false_first : (b c : Bool) → b ≡ false → false ≡ (b && c)

@@ -1,5 +1,5 @@
-//! What is read of indices: those that Git made, and cut, changed and lengthened ones.
-use crate::pack_words::{changed, joined, put_counts, rows_in};
+//! What is read of indices that Git made.
+use crate::pack_words::{put_counts, rows_in};
 use gix_hash::{Kind, ObjectId, Prefix};
 use gix_pack::index::{Entry, File};
 use odb_base::ByteList;
@@ -7,7 +7,7 @@ use std::alloc::{AllocError, Global};
 use std::test::Fail;
 use test_words::compare;
 
-const SIGNATURE: &[u8] = b"\xfftOc\x00\x00\x00\x02";
+pub(crate) const SIGNATURE: &[u8] = b"\xfftOc\x00\x00\x00\x02";
 
 // Git's ids of the blobs `version 2` and `version 1`, each with a line feed.
 const SECOND: &[u8] = b"1f7a7a472abf3dd9643fd615f6da379c4acb3e3a";
@@ -20,21 +20,21 @@ const TWO_COUNTS: &[(u16, u8)] = &[(31, 0), (100, 1), (125, 2)];
 // The offsets 23 and 12, and 12 with one that refers to the first wide offset.
 const OFFSETS: &[u8] = &[0, 0, 0, 23, 0, 0, 0, 12];
 
-const ONE_WIDE: &[u8] = &[128, 0, 0, 0, 0, 0, 0, 12];
+pub(crate) const ONE_WIDE: &[u8] = &[128, 0, 0, 0, 0, 0, 0, 12];
 
 // The parts of an index.
 #[derive(Clone, Copy)]
-struct Parts<'a> {
-    counts: &'a [(u16, u8)],
-    ids: &'a [&'a [u8]],
-    checks: &'a [u8],
-    offsets: &'a [u8],
-    wides: &'a [u8],
-    hashes: [&'a [u8]; 2],
+pub(crate) struct Parts<'a> {
+    pub(crate) counts: &'a [(u16, u8)],
+    pub(crate) ids: &'a [&'a [u8]],
+    pub(crate) checks: &'a [u8],
+    pub(crate) offsets: &'a [u8],
+    pub(crate) wides: &'a [u8],
+    pub(crate) hashes: [&'a [u8]; 2],
 }
 
 // The index of the two versions: `version 2` is its first row. Its CRC values and hashes are zeros.
-const VERSIONS: Parts<'static> = Parts {
+pub(crate) const VERSIONS: Parts<'static> = Parts {
     counts: TWO_COUNTS,
     ids: &[SECOND, FIRST],
     checks: &[0; 8],
@@ -46,7 +46,7 @@ const VERSIONS: Parts<'static> = Parts {
 const NO_HASH: [u8; 40] = [b'0'; 40];
 
 // An index from its parts.
-fn index_of(alloc: Global, parts: &Parts<'_>) -> Result<ByteList, Fail> {
+pub(crate) fn index_of(alloc: Global, parts: &Parts<'_>) -> Result<ByteList, Fail> {
     let mut bytes = ByteList::from_slice(alloc, SIGNATURE)?;
     put_counts(&mut bytes, parts.counts)?;
     put_ids(&mut bytes, parts.ids)?;
@@ -61,7 +61,7 @@ fn put_ids(bytes: &mut ByteList, ids: &[&[u8]]) -> Result<(), Fail> {
     Ok(())
 }
 
-fn put_rest(bytes: &mut ByteList, parts: &Parts<'_>) -> Result<(), Fail> {
+pub(crate) fn put_rest(bytes: &mut ByteList, parts: &Parts<'_>) -> Result<(), Fail> {
     bytes.extend_from_slice(parts.checks)?;
     bytes.extend_from_slice(parts.offsets)?;
     bytes.extend_from_slice(parts.wides)?;
@@ -73,7 +73,7 @@ fn put_rest(bytes: &mut ByteList, parts: &Parts<'_>) -> Result<(), Fail> {
 //     git init --object-format=sha1; echo 285 | git hash-object -w --stdin; ..
 //     git pack-objects five; git index-pack --index-version=2,0x20 -o wide.idx five-*.pack
 // The second has a wide offset from the offset 32 on.
-const SHA1: Parts<'static> = Parts {
+pub(crate) const SHA1: Parts<'static> = Parts {
     counts: &[(31, 0), (77, 1), (23, 4), (125, 5)],
     ids: &[
         SECOND,
@@ -133,7 +133,7 @@ const SHOWN_VERSIONS: &str = "2
 12 83baae61804e65cc73a7201a7252750c76066a30 Some(1)
 ";
 
-const SHOWN_SHA1: &str = "5
+pub(crate) const SHOWN_SHA1: &str = "5
 31 1f7a7a472abf3dd9643fd615f6da379c4acb3e3a Some(0)
 50 6cf44528e2d9c5e4b4b27a4fc1456eb5b2987a97 Some(1)
 63 6cf44bc0b0a2c1d11d2939b6a406f951ea73213b Some(2)
@@ -149,7 +149,7 @@ const SHOWN_SHA256: &str = "5
 31 bd965fae20eb0dd136c5fb90b7c99ea1863ab46bb9a2647be049f38751749e61 Some(4)
 ";
 
-const REFUSED: &str = "BadIndex";
+pub(crate) const REFUSED: &str = "BadIndex";
 
 // The number of rows and each row, or why there are none.
 fn index_shown(alloc: Global, bytes: ByteList, kind: Kind) -> Result<String, AllocError> {
@@ -174,7 +174,7 @@ fn row_shown(alloc: Global, index: &File, row: Entry) -> Result<String, AllocErr
     format!(in alloc; "{offset} {id} {found:?}\n")
 }
 
-fn check(alloc: Global, bytes: ByteList, kind: Kind, want: &str) -> Result<(), Fail> {
+pub(crate) fn check(alloc: Global, bytes: ByteList, kind: Kind, want: &str) -> Result<(), Fail> {
     let found = index_shown(alloc, bytes, kind)?;
     compare(want, found.as_str(), want)
 }
@@ -290,147 +290,4 @@ fn id_from(alloc: Global, kind: Kind, digits: &[u8]) -> Result<ObjectId, Fail> {
         text.push(b'0')?;
     }
     Ok(ObjectId::from_hex(text.as_slice())?)
-}
-
-// The offsets of an index of two rows.
-fn offsets_shown(alloc: Global, bytes: ByteList) -> Result<String, AllocError> {
-    match File::parse(bytes, Kind::Sha1) {
-        Ok(index) => two_offsets(alloc, &index),
-        Err(error) => format!(in alloc; "{error:?}"),
-    }
-}
-
-fn two_offsets(alloc: Global, index: &File) -> Result<String, AllocError> {
-    if index.num_objects() != 2 {
-        return "another number of rows".to_string(alloc);
-    }
-    let first = index.pack_offset_at_index(0);
-    let second = index.pack_offset_at_index(1);
-    format!(in alloc; "{first} {second}")
-}
-
-const WIDE: Parts<'static> = Parts {
-    offsets: ONE_WIDE,
-    wides: &[0, 0, 0, 1, 0, 0, 0, 0],
-    ..VERSIONS
-};
-
-// Changes of a byte of the two rows with a wide offset, and the offsets that are then read, if any.
-const CHANGES: &[(&str, usize, u8, &str)] = &[
-    ("no change", 0, 255, "4294967296 12"),
-    ("no mark", 0, 254, REFUSED),
-    ("version 1", 7, 1, REFUSED),
-    ("version 3", 7, 3, REFUSED),
-    ("a count too early", 131, 1, REFUSED),
-    ("the high byte of a count", 132, 1, REFUSED),
-    ("a count that falls", 171, 2, REFUSED),
-    ("a count that passes the rows", 431, 3, REFUSED),
-    ("one object less", 1031, 1, REFUSED),
-    ("one object more", 1031, 3, REFUSED),
-    ("an id that is not counted", 1032, 32, REFUSED),
-    ("ids out of order", 1032, 200, REFUSED),
-    ("another id", 1051, 59, "4294967296 12"),
-    ("a CRC value", 1072, 7, "4294967296 12"),
-    ("no such wide row", 1083, 1, REFUSED),
-    ("a narrow offset", 1084, 127, "4294967296 2130706444"),
-    ("a wide offset", 1088, 255, "18374686483966590976 12"),
-    ("the own hash", 1135, 1, "4294967296 12"),
-];
-
-fn check_changes(alloc: Global, whole: &[u8]) -> Result<(), Fail> {
-    for (name, place, byte, want) in CHANGES {
-        let found = offsets_shown(alloc, changed(alloc, whole, *place, *byte)?)?;
-        compare(name, found.as_str(), want)?;
-    }
-    Ok(())
-}
-
-// A count that is not compared, a wide row that does not exist, or bytes that matter although reading ignores them.
-#[test]
-fn reads_changed_indices(rt: HostRuntime) -> Result<(), Fail> {
-    let bytes = index_of(rt.alloc(), &WIDE)?;
-    check_changes(rt.alloc(), bytes.as_slice())
-}
-
-// Orders of the five ids in which two neighbours have changed places, or one id is there twice.
-const OUT_OF_ORDER: &[[usize; 5]] = &[
-    [1, 0, 2, 3, 4],
-    [0, 2, 1, 3, 4],
-    [0, 1, 3, 2, 4],
-    [0, 1, 2, 4, 3],
-    [0, 0, 2, 3, 4],
-    [0, 1, 1, 3, 4],
-    [0, 1, 2, 2, 4],
-    [0, 1, 2, 3, 3],
-];
-
-fn put_order(bytes: &mut ByteList, order: &[usize]) -> Result<(), Fail> {
-    for place in order {
-        if let Some(id) = SHA1.ids.get(*place) {
-            bytes.extend_from_slice(ObjectId::from_hex(id)?.as_bytes())?;
-        }
-    }
-    Ok(())
-}
-
-fn in_order(alloc: Global, order: &[usize]) -> Result<ByteList, Fail> {
-    let mut bytes = ByteList::from_slice(alloc, SIGNATURE)?;
-    put_counts(&mut bytes, SHA1.counts)?;
-    put_order(&mut bytes, order)?;
-    put_rest(&mut bytes, &SHA1)?;
-    Ok(bytes)
-}
-
-// Two ids that are not compared, at each place.
-#[test]
-fn refuses_ids_out_of_order(rt: HostRuntime) -> Result<(), Fail> {
-    check(
-        rt.alloc(),
-        in_order(rt.alloc(), &[0, 1, 2, 3, 4])?,
-        Kind::Sha1,
-        SHOWN_SHA1,
-    )?;
-    for order in OUT_OF_ORDER {
-        check(
-            rt.alloc(),
-            in_order(rt.alloc(), order)?,
-            Kind::Sha1,
-            REFUSED,
-        )?;
-    }
-    Ok(())
-}
-
-const HIGH: Parts<'static> = Parts {
-    offsets: &[128, 0, 0, 1, 128, 0, 0, 0],
-    wides: &[0, 0, 0, 0, 255, 255, 255, 255, 0, 0, 0, 0, 128, 0, 0, 0],
-    ..VERSIONS
-};
-
-const SHOWN_HIGH: &str = "2147483648 4294967295";
-
-fn check_cuts(alloc: Global, whole: &[u8]) -> Result<(), Fail> {
-    for cut in 1..=whole.len() {
-        let found = offsets_shown(alloc, joined(alloc, &[whole], cut)?)?;
-        compare("cut", found.as_str(), REFUSED)?;
-    }
-    Ok(())
-}
-
-// A wide offset that no row refers to is allowed.
-fn check_more(alloc: Global, whole: &[u8]) -> Result<(), Fail> {
-    for more in 0..=16usize {
-        let found = offsets_shown(alloc, joined(alloc, &[whole, &[0; 16]], 16 - more)?)?;
-        let want = if more % 8 == 0 { SHOWN_HIGH } else { REFUSED };
-        compare("with more", found.as_str(), want)?;
-    }
-    Ok(())
-}
-
-// A length that is not compared, of an index that is cut or has more bytes.
-#[test]
-fn reads_other_lengths(rt: HostRuntime) -> Result<(), Fail> {
-    let bytes = index_of(rt.alloc(), &HIGH)?;
-    check_cuts(rt.alloc(), bytes.as_slice())?;
-    check_more(rt.alloc(), bytes.as_slice())
 }

@@ -5,6 +5,8 @@
 #![tactic(auto)]
 
 #[cfg(test)]
+mod changed_indices;
+#[cfg(test)]
 mod databases;
 #[cfg(test)]
 mod encoders;

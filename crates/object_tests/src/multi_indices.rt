@@ -248,6 +248,8 @@ const CHANGES: &[(&str, usize, u8, &str)] = &[
     ("a byte behind the names", 95, 1, REFUSED),
     ("a count too early", 219, 1, REFUSED),
     ("the high byte of a count", 220, 1, REFUSED),
+    ("a count that falls", 259, 2, REFUSED),
+    ("a count that passes the rows", 519, 3, REFUSED),
     ("an object less", 1119, 1, REFUSED),
     ("an object more", 1119, 3, REFUSED),
     ("an id that is not counted", 1120, 32, REFUSED),

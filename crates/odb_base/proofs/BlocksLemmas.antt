@@ -1,5 +1,5 @@
 -- Lists in blocks: the item at a place, another item in its place, and blocks that are filled one after another.
-use Rattle.std.proofs.Common.{◌≡◌, ◌∙◌, ap, arith, refl, sym, ℕ, zero, suc, ◌+◌, ◌-◌, ◌*◌, ◌/◌, ◌%◌, ◌<◌, ◌≤◌, Option, Some, None, List, [], ◌∷◌, ◌++◌, length, set, append-nil, length-append, length-set}
+use Rattle.std.proofs.Common.{◌≡◌, ◌∙◌, ap, arith, refl, sym, ℕ, zero, suc, ◌+◌, ◌-◌, ◌*◌, ◌/◌, ◌%◌, ◌<◌, ◌≤◌, Option, Some, None, List, [], ◌∷◌, ◌++◌, length, set, append-nil, append_assoc, length-append, length-set, Result, Ok, Err, IfOk}
 use Rattle.std.specs.List.{All, slice_get}
 use Rattle.std.proofs.Math.Nat.{mul-le-mul_right}
 use Rattle.std.proofs.lemmas.List.{set-append_left, set-append_right}
@@ -7,7 +7,7 @@ use Rattle.std.proofs.lemmas.List.Concat.{flat_map-append}
 use Rattle.std.proofs.lemmas.List.Elements.{All-tail}
 use Rattle.std.proofs.lemmas.Nat.{div-add-mod', mod_below}
 use Rattle.std.proofs.lemmas.Option.{same_Some}
-use Rattle.odb_base.specs.Blocks.{AreFilled, joined}
+use Rattle.odb_base.specs.Blocks.{AreFilled, IsFilled, joined}
 
 -- ---- items of two lists, one after the other
 
@@ -90,6 +90,22 @@ module _ {X : Type 0} (w : ℕ) (bs : List (List X)) (i : ℕ) (filled : AreFill
         rw all (AreFilled-set w bs (i / w) b (set b (i % w) x) filled at (length-set b (i % w) x)),
         ap joined all ∙ sym (set_joined_at w bs (i / w) (i % w) i b x filled (sym (div-add-mod' i w)) (mod_below i w wide) at),
       )
+
+-- ---- groups of blocks
+
+-- another item in its block, and this block in its group
+pub set_in_groups : {X : Type 0} (w : ℕ) (gs hs : List (List (List X))) (i : ℕ) (x : X) {b c : List X} → IsFilled w gs → 0 < w → slice_get (joined gs) (i / w) ≡ Some b → c ≡ set b (i % w) x → AreFilled w hs → joined hs ≡ set (joined gs) (i / w) c → IsFilled w hs × (joined (joined hs) ≡ set (joined (joined gs)) i x)
+set_in_groups w gs hs i x filled wide at block full blocks =
+    let changed = set_joined w (joined gs) i filled.1 wide x at block blocks in
+    ((full, changed.0), changed.1)
+
+-- two clauses on one result
+pub IfOk-both : {X E : Type 0} (r : Result X E) (P Q : X → Type 0) → IfOk r P → IfOk r Q → IfOk r (λ x. P x × Q x)
+IfOk-both (Ok x) P Q p q = (p, q)
+IfOk-both (Err e) P Q p q = tt
+
+pub joined-after : {X : Type 0} (bs : List (List X)) (b : List X) (cs : List (List X)) → joined bs ++ b ++ joined cs ≡ joined (bs ++ b ∷ cs)
+joined-after bs b cs = append_assoc (joined bs) b (joined cs) ∙ sym (flat_map-append (λ block. block) bs (b ∷ cs))
 
 -- ---- blocks that are filled one after another
 

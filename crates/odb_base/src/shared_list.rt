@@ -1,33 +1,36 @@
 //! Lists of places whose copies share what they have in common.
 ghost use Rattle.std.specs.Prelude.{◌≡◌, ◌/◌, IfOk, None, OnOk, ◌++◌, length, replicate, slice_get, slice_set, unwrap_or};
 ghost use Rattle.std.specs.Option.{option_copied};
-ghost use Rattle.odb_base.specs.Blocks.{AreFilled, joined};
+ghost use Rattle.odb_base.specs.Blocks.{AreFilled, IsFilled, joined};
 
-use crate::filling::Filling;
+use crate::filling::in_blocks;
 use crate::{NoMemory, Sequence, Shared};
 use std::alloc::Global;
 use std::marker::Model;
 
-/// How many places a block has, if it is not the last.
-pub(crate) const WIDTH: usize = 64;
+/// How many places a block has, and how many blocks a group, if they are not the last.
+pub(crate) const WIDTH: usize = 32;
 
 /// A place: it is empty, or has a value.
-pub(crate) type Place<T> = Option<Shared<T>>;
+type Place<T> = Option<Shared<T>>;
 
 /// Places next to each other.
-pub(crate) type Block<T> = Sequence<Place<T>>;
+type Block<T> = Sequence<Place<T>>;
 
-/// Blocks, all full but perhaps the last.
-pub(crate) type Blocks<T> = Sequence<Shared<Block<T>>>;
+/// Blocks next to each other.
+type Group<T> = Sequence<Shared<Block<T>>>;
+
+/// Groups of blocks. All groups and all blocks are full, but perhaps the last.
+type Groups<T> = Sequence<Shared<Group<T>>>;
 
 /// A list of places, each empty or with a value, whose copies share what they have in common.
 ///
-/// The places are in blocks, all full but perhaps the last. A list whose places are all empty may have none, and then
-/// takes no memory beyond itself. A copy adds one owner. A list with another item at one place has a block of its own
-/// there, and shares the others.
+/// The places are in blocks of 32, and the blocks in groups of 32. A list whose places are all empty may have none, and
+/// then takes no memory beyond itself. A copy adds one owner. A list with another item at one place has a block, a group
+/// and a list of groups of its own there, and shares the others: that is 768 bytes for up to 32,768 places.
 #[derive(Drop)]
 pub struct SharedList<T> {
-    blocks: Option<Shared<Blocks<T>>>,
+    groups: Option<Shared<Groups<T>>>,
     len: usize,
 }
 
@@ -40,9 +43,9 @@ impl<T> Model for SharedList<T> {
 
     ghost coded = { coded_list (coded_option T.code) };
 
-    ghost view = { λ list. places_in list.len list.blocks };
+    ghost view = { λ list. places_in list.len list.groups };
 
-    ghost invariant = { λ list. HasPlaces 64 list.len list.blocks };
+    ghost invariant = { λ list. HasPlaces 32 list.len list.groups };
 }
 
 impl<T> SharedList<T> {
@@ -51,7 +54,7 @@ impl<T> SharedList<T> {
         ensures items { result ≡ replicate count None }
     {
         SharedList {
-            blocks: None,
+            groups: None,
             len: count,
         }
     }
@@ -67,9 +70,9 @@ impl<T> SharedList<T> {
     pub fn get(&self, place: usize) -> Option<&Shared<T>>
         ensures value { option_copied result ≡ unwrap_or (slice_get self.now place) None }
     {
-        match &self.blocks {
+        match &self.groups {
             None => None,
-            Some(blocks) => value_at(blocks, place),
+            Some(groups) => value_at(groups, place),
         }
     }
 
@@ -77,12 +80,12 @@ impl<T> SharedList<T> {
     pub fn try_clone(&self) -> Result<SharedList<T>, NoMemory>
         ensures copy { IfOk result (λ copy. copy ≡ self.now) }
     {
-        let blocks = match &self.blocks {
+        let groups = match &self.groups {
             None => None,
-            Some(blocks) => Some(blocks.try_clone()?),
+            Some(groups) => Some(groups.try_clone()?),
         };
         Ok(SharedList {
-            blocks,
+            groups,
             len: self.len,
         })
     }
@@ -94,13 +97,9 @@ impl<T: Drop> SharedList<T> {
         ensures items { IfOk result (λ list. list ≡ items.items) }
     {
         let len = items.len();
-        let mut filling = Filling::new(alloc);
-        for item in items {
-            filling.push(alloc, item)?;
-        }
-        let blocks = filling.finish(alloc)?;
+        let groups = groups_of(alloc, items)?;
         Ok(SharedList {
-            blocks: Some(blocks),
+            groups: Some(groups),
             len,
         })
     }
@@ -114,22 +113,22 @@ impl<T: Drop> SharedList<T> {
     ) -> Result<SharedList<T>, NoMemory>
         ensures items { IfOk result (λ list. list ≡ slice_set self.now place item) }
     {
-        let blocks = self.own_blocks(alloc)?;
-        let blocks = with_item(alloc, &blocks, place, item)?;
+        let groups = self.own_groups(alloc)?;
+        let groups = with_item(alloc, &groups, place, item)?;
         Ok(SharedList {
-            blocks: Some(blocks),
+            groups: Some(groups),
             len: self.len,
         })
     }
 
-    /// Its blocks. They are made if the list has none.
-    fn own_blocks(&self, alloc: Global) -> Result<Shared<Blocks<T>>, NoMemory>
-        ensures filled { IfOk result (AreFilled 64) }
-        ensures places { IfOk result (λ blocks. joined blocks ≡ self.now) }
+    /// Its groups of blocks. They are made if the list has none.
+    fn own_groups(&self, alloc: Global) -> Result<Shared<Groups<T>>, NoMemory>
+        ensures filled { IfOk result (IsFilled 32) }
+        ensures places { IfOk result (λ groups. joined (joined groups) ≡ self.now) }
     {
-        match &self.blocks {
-            None => empty_blocks(alloc, self.len),
-            Some(blocks) => blocks.try_clone(),
+        match &self.groups {
+            None => groups_of(alloc, empty_places(alloc, self.len)?),
+            Some(groups) => groups.try_clone(),
         }
     }
 
@@ -137,9 +136,9 @@ impl<T: Drop> SharedList<T> {
     pub fn to_vec(&self, alloc: Global) -> Result<Vec<Option<Shared<T>>>, NoMemory>
         ensures items { IfOk result (λ items. items.items ≡ self.now) }
     {
-        match &self.blocks {
+        match &self.groups {
             None => empty_places(alloc, self.len),
-            Some(blocks) => places_of(alloc, blocks.value(), self.len),
+            Some(groups) => places_of(alloc, groups.value(), self.len),
         }
     }
 }
@@ -155,59 +154,77 @@ fn empty_places<T: Drop>(alloc: Global, count: usize) -> Result<Vec<Place<T>>, N
     Ok(items)
 }
 
-/// Blocks of `count` empty places.
-fn empty_blocks<T: Drop>(alloc: Global, count: usize) -> Result<Shared<Blocks<T>>, NoMemory>
-    ensures filled { IfOk result (AreFilled 64) }
-    ensures places { IfOk result (λ blocks. joined blocks ≡ replicate count None) }
+/// Places in groups of blocks.
+fn groups_of<T: Drop>(alloc: Global, places: Vec<Place<T>>) -> Result<Shared<Groups<T>>, NoMemory>
+    ensures filled { IfOk result (IsFilled 32) }
+    ensures places { IfOk result (λ groups. joined (joined groups) ≡ places.items) }
 {
-    let mut filling = Filling::new(alloc);
-    for _ in 0..count {
-        filling.push(alloc, None)?;
-    }
-    filling.finish(alloc)
+    let blocks = in_blocks(alloc, places)?;
+    let groups = in_blocks(alloc, blocks.into_vec())?;
+    Shared::new(alloc, groups)
 }
 
-/// The places of blocks, `count` in all.
+/// The places of groups of blocks, `count` in all.
 fn places_of<T: Drop>(
     alloc: Global,
-    blocks: &Blocks<T>,
+    groups: &Groups<T>,
     count: usize,
 ) -> Result<Vec<Place<T>>, NoMemory>
-    ensures items { IfOk result (λ items. items.items ≡ joined blocks.now) }
+    ensures items { IfOk result (λ items. items.items ≡ joined (joined groups.now)) }
 {
     let mut items = Vec::with_capacity(alloc, count)?;
-    for block in blocks.as_slice() {
-        append(&mut items, block.value())?;
+    for group in groups.as_slice() {
+        append_group(&mut items, group.value())?;
     }
     Ok(items)
 }
 
-/// Blocks with another item at one of their places. After the last nothing changes.
+/// Groups of blocks with another item at one of their places. After the last nothing changes.
 fn with_item<T: Drop>(
     alloc: Global,
-    blocks: &Shared<Blocks<T>>,
+    groups: &Shared<Groups<T>>,
     place: usize,
     item: Place<T>,
-) -> Result<Shared<Blocks<T>>, NoMemory>
-    requires filled { AreFilled 64 blocks.now }
-    ensures filled { IfOk result (AreFilled 64) }
-    ensures places { IfOk result (λ changed. joined changed ≡ slice_set (joined blocks.now) place item) }
+) -> Result<Shared<Groups<T>>, NoMemory>
+    requires filled { IsFilled 32 groups.now }
+    ensures filled { IfOk result (IsFilled 32) }
+    ensures places { IfOk result (λ changed. joined (joined changed) ≡ slice_set (joined (joined groups.now)) place item) }
 {
-    match block_at(blocks, place) {
-        None => blocks.try_clone(),
+    match block_at(groups, place / WIDTH) {
+        None => groups.try_clone(),
         Some(block) => {
             let block = block_with(alloc, block, place % WIDTH, item)?;
-            blocks_with(alloc, blocks, place / WIDTH, block)
+            with_block(alloc, groups, place / WIDTH, block)
         }
     }
 }
 
-/// The value at a place of blocks, if there is one.
-fn value_at<T>(blocks: &Shared<Blocks<T>>, place: usize) -> Option<&Shared<T>>
-    requires filled { AreFilled 64 blocks.now }
-    ensures value { option_copied result ≡ unwrap_or (slice_get (joined blocks.now) place) None }
+/// Groups of blocks with another block under one number. After the last nothing changes.
+fn with_block<T: Drop>(
+    alloc: Global,
+    groups: &Shared<Groups<T>>,
+    number: usize,
+    block: Shared<Block<T>>,
+) -> Result<Shared<Groups<T>>, NoMemory>
+    requires filled { AreFilled 32 groups.now }
+    ensures filled { IfOk result (AreFilled 32) }
+    ensures changed { IfOk result (λ changed. joined changed ≡ slice_set (joined groups.now) number block) }
 {
-    match block_at(blocks, place) {
+    match group_at(groups, number / WIDTH) {
+        None => groups.try_clone(),
+        Some(group) => {
+            let group = shared_with(alloc, group, number % WIDTH, block)?;
+            shared_with(alloc, groups, number / WIDTH, group)
+        }
+    }
+}
+
+/// The value at a place of groups of blocks, if there is one.
+fn value_at<T>(groups: &Shared<Groups<T>>, place: usize) -> Option<&Shared<T>>
+    requires filled { IsFilled 32 groups.now }
+    ensures value { option_copied result ≡ unwrap_or (slice_get (joined (joined groups.now)) place) None }
+{
+    match block_at(groups, place / WIDTH) {
         None => None,
         Some(block) => value_in(block, place % WIDTH),
     }
@@ -223,11 +240,29 @@ fn value_in<T>(block: &Block<T>, place: usize) -> Option<&Shared<T>>
     }
 }
 
-/// The block that a place is in, if there is one.
-fn block_at<T>(blocks: &Shared<Blocks<T>>, place: usize) -> Option<&Block<T>>
-    ensures block { option_copied result ≡ slice_get blocks.now (place / 64) }
+/// The block under a number, if there is one.
+fn block_at<T>(groups: &Shared<Groups<T>>, number: usize) -> Option<&Block<T>>
+    requires filled { AreFilled 32 groups.now }
+    ensures block { option_copied result ≡ slice_get (joined groups.now) number }
 {
-    match blocks.value().get(place / WIDTH) {
+    match group_at(groups, number / WIDTH) {
+        None => None,
+        Some(group) => block_in(group, number % WIDTH),
+    }
+}
+
+/// The group under a number, if there is one.
+fn group_at<T>(groups: &Shared<Groups<T>>, number: usize) -> Option<&Shared<Group<T>>>
+    ensures group { option_copied result ≡ slice_get groups.now number }
+{
+    groups.value().get(number)
+}
+
+/// The block of a group under a number, if there is one.
+fn block_in<T>(group: &Shared<Group<T>>, number: usize) -> Option<&Block<T>>
+    ensures block { option_copied result ≡ slice_get group.now number }
+{
+    match group.value().get(number) {
         None => None,
         Some(block) => Some(block.value()),
     }
@@ -248,20 +283,30 @@ fn block_with<T: Drop>(
     Shared::new(alloc, Sequence::from_vec(items))
 }
 
-/// A list of blocks with another one under one number.
-fn blocks_with<T: Drop>(
+/// A list of shared values with another one at one place.
+fn shared_with<X: Drop>(
     alloc: Global,
-    blocks: &Shared<Blocks<T>>,
-    number: usize,
-    block: Shared<Block<T>>,
-) -> Result<Shared<Blocks<T>>, NoMemory>
-    ensures blocks { IfOk result (λ copy. copy ≡ slice_set blocks.now number block) }
+    values: &Shared<Sequence<Shared<X>>>,
+    place: usize,
+    value: Shared<X>,
+) -> Result<Shared<Sequence<Shared<X>>>, NoMemory>
+    ensures values { IfOk result (λ copy. copy ≡ slice_set values.now place value) }
 {
-    let blocks = blocks.value();
-    let mut copies = Vec::with_capacity(alloc, blocks.len())?;
-    append_blocks(&mut copies, blocks)?;
-    put(&mut copies, number, block);
+    let values = values.value();
+    let mut copies = Vec::with_capacity(alloc, values.len())?;
+    append_shared(&mut copies, values)?;
+    put(&mut copies, place, value);
     Shared::new(alloc, Sequence::from_vec(copies))
+}
+
+/// Adds the places of the blocks of a group; each gets one more owner.
+fn append_group<T: Drop>(items: &mut Vec<Place<T>>, group: &Group<T>) -> Result<(), NoMemory>
+    ensures items { OnOk result (items.new.items ≡ items.old.items ++ joined group.now) }
+{
+    for block in group.as_slice() {
+        append(items, block.value())?;
+    }
+    Ok(())
 }
 
 /// Adds the places of a block; each gets one more owner.
@@ -274,15 +319,15 @@ fn append<T: Drop>(items: &mut Vec<Place<T>>, block: &Block<T>) -> Result<(), No
     Ok(())
 }
 
-/// Adds blocks; each gets one more owner.
-fn append_blocks<T: Drop>(
-    items: &mut Vec<Shared<Block<T>>>,
-    blocks: &Blocks<T>,
+/// Adds shared values; each gets one more owner.
+fn append_shared<X: Drop>(
+    copies: &mut Vec<Shared<X>>,
+    values: &Sequence<Shared<X>>,
 ) -> Result<(), NoMemory>
-    ensures blocks { OnOk result (items.new.items ≡ items.old.items ++ blocks.now) }
+    ensures values { OnOk result (copies.new.items ≡ copies.old.items ++ values.now) }
 {
-    for block in blocks.as_slice() {
-        items.push(block.try_clone()?)?;
+    for value in values.as_slice() {
+        copies.push(value.try_clone()?)?;
     }
     Ok(())
 }

@@ -30,7 +30,7 @@ returns-then-count-n-2 c =
         | then-count-n+else-count-eq0 w ↦
             let less = w.is_counted.ensures.counted.0 (sym w.value-is ∙ c.if-is_counted.true) in
             all_counted c.args.count c.args.n total within c.if-count-n-2.true (omega arith)
-        | else-count-n w ↦ absurd (both c.if-count-n.value c.if-is_counted.true w.value-is)
+        | else-count-n w ↦ absurd (omega arith)
       ];
     }
 
@@ -41,7 +41,7 @@ returns-else-is_counted c =
     let within : total ≤ c.args.n = count_within c.args.kind c.args.n c.args.ids.now c.args.first in
     record {
       count = not_so c.if-count-n.value c.args.count total c.if-is_counted.false (λ h. elim c.if-count-n.branch [
-        | then-count-n+then-count-eq0 w ↦ both c.if-count-n.value w.value-is c.if-is_counted.false
+        | then-count-n+then-count-eq0 w ↦ both c.if-count-n.value (w.value-is ∙ eq-eqb c.args.count 0 w.if-count-eq0.true) c.if-is_counted.false
         | then-count-n+else-count-eq0 w ↦ both c.if-count-n.value (w.value-is ∙ w.is_counted.ensures.counted.1 (omega arith)) c.if-is_counted.false
         | else-count-n w ↦ absurd (omega arith)
       ]);

@@ -2,6 +2,6 @@ use Rattle.std.proofs.Common.{◌≡◌, take}
 use Rattle.odb_base.specs.Blocks.{joined}
 use Rattle.odb_base.proofs.shared_list.places_of.Given as goal
 
--- the places of the blocks so far
-abbrev pub invariant-loop-block : goal.invariant-loop-block
-invariant-loop-block g l = l.items.items ≡ joined (take l.block-index l.block-items)
+-- the places of the groups so far
+abbrev pub invariant-loop-group : goal.invariant-loop-group
+invariant-loop-group g l = l.items.items ≡ joined (joined (take l.group-index l.group-items))

@@ -1,5 +1,5 @@
 use Rattle.std.proofs.Common.{◌≡◌}
-use Rattle.odb_base.proofs.shared_list.SharedList.from_vec.Given as goal
+use Rattle.odb_base.proofs.filling.in_blocks.Given as goal
 
 -- the items so far
 abbrev pub invariant-loop-item : goal.invariant-loop-item

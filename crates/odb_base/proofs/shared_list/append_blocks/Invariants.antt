@@ -1,6 +1,0 @@
-use Rattle.std.proofs.Common.{◌≡◌, ◌++◌, take}
-use Rattle.odb_base.proofs.shared_list.append_blocks.Given as goal
-
--- the blocks so far
-abbrev pub invariant-loop-block : goal.invariant-loop-block
-invariant-loop-block g l = l.items.items ≡ l.fn.items.items ++ take l.block-index l.block-items
