@@ -8,13 +8,12 @@ use Rattle.odb_disk.specs.Tree.{Tree}
 use Rattle.odb_disk.specs.Tree.Follow.{Refusal, read_of}
 use Rattle.odb_disk.proofs.TreeLemmas.{same_path, own_path}
 use Rattle.gix_odb_watch.specs.Watched.{Shows, counted, named_kind, pack_directory, watched_kind}
-use Rattle.gix_odb_watch.specs.Files.{AreFilesIn, file_at, file_read}
+use Rattle.gix_odb_watch.specs.Files.{file_at, file_read}
 use Rattle.gix_odb_watch.specs.Kept.{IsIn}
 use Rattle.gix_odb_watch.specs.declared.watched.WatchedKind.{WatchedKind}
 use Rattle.gix_odb_watch.specs.declared.shown_file.ShownFile.{ShownFile}
-use Rattle.gix_odb_watch.proofs.ListLemmas.{in_flat_map, of_flat_map, one_passes, passes_one}
+use Rattle.gix_odb_watch.proofs.ListLemmas.{one_passes, passes_one}
 use Rattle.gix_odb_watch.proofs.NameLemmas.{last_name-push}
-use Rattle.gix_odb_watch.proofs.EntryLemmas.{read_has_name}
 
 module _ (folder : Path) (tree : Tree) where
   -- a file that is read is shown
@@ -45,26 +44,6 @@ module _ (folder : Path) (tree : Tree) where
       reading =
           ap (λ kind. file_read path kind (read_of tree path)) (kind_of_name s.name path s.path_is ∙ s.is_watched)
           ∙ ap (λ told. file_read path (Some s.kind) told) s.reads
-
--- what the directory's files are
-pub in_shows : (folder : Path) (tree : Tree) (files : List ShownFile) → AreFilesIn tree folder files → (file : ShownFile) → IsIn files file
-    → Shows folder tree file.key.0 file.key.1 file.bytes
-in_shows folder tree files a file one =
-    let o = of_flat_map (file_at tree) a.paths file (subst (λ (l : List ShownFile). IsIn l file) a.are one) in
-    let n = a.watched.only o.0 o.1 in
-    at_shows folder tree n.0 o.0 n.1 file o.2
-
-pub shown_in : (folder : Path) (tree : Tree) (files : List ShownFile) → AreFilesIn tree folder files → (path : Path) (time : ℕ) (bytes : List ℕ)
-    → Shows folder tree path time bytes → IsIn files (record { key = (path, time); bytes = bytes })
-shown_in folder tree files a path time bytes s =
-    subst (λ (l : List ShownFile). IsIn l (record { key = (path, time); bytes = bytes })) (sym a.are)
-    (in_flat_map (file_at tree) a.paths path (record { key = (path, time); bytes = bytes }) (subst (IsIn a.paths) (sym s.path_is) among)
-    (shown_at folder tree path time bytes s))
-  where
-    among : IsIn a.paths (pack_directory folder ++ s.name ∷ [])
-    among =
-        a.watched.whole s.name s.kind s.is_watched
-        (read_has_name tree s.name (pack_directory folder) (bytes, s.at) (ap (read_of tree) (sym s.path_is) ∙ s.reads))
 
 -- ---- a folder among others
 

@@ -1,5 +1,5 @@
 -- When a tree shows a second content, and what is kept after a tree was noted.
-use Rattle.std.proofs.Common.{◌≡◌, ◌≢◌, ◌⊎◌, ◌↔◌, ◌||◌, ◌&&◌, not, inl, inr, ℕ, Bool, true, false, List, [], ◌∷◌, ◌++◌, codes, Option, Some, None, IsSome, is_some, Result, Ok, refl, sym, ap, ◌∙◌, subst}
+use Rattle.std.proofs.Common.{◌≡◌, ◌≢◌, ◌⊎◌, ◌↔◌, ◌||◌, inl, inr, ℕ, Bool, true, false, List, [], ◌∷◌, ◌++◌, codes, Option, Some, None, IsSome, is_some, Result, Ok, refl, sym, ap, ◌∙◌, subst}
 use Rattle.std.specs.List.{list_any, starts_with}
 use Rattle.std.specs.Ordering.{eq_by_cmp}
 use Rattle.std.specs.FinMap as finite
@@ -16,12 +16,12 @@ use Rattle.odb_disk.specs.Tree.Follow.{Refusal}
 use Rattle.odb_disk.proofs.TreeLemmas.{same_path, own_path}
 use Rattle.gix_odb_watch.specs.Watched.{Shows, pack_directory}
 use Rattle.gix_odb_watch.specs.Kept.{Kept, Contents, Folders, IsIn, Knows, key_cmp, ShowsInOne, IsSecond, Notes, LiesInOne, Fits, nothing_kept}
-use Rattle.gix_odb_watch.specs.Files.{AreFilesIn, Reveals, differs, with_files}
-use Rattle.gix_odb_watch.specs.Revealed.{IsRevealed, Learns, LooksAt, Relinks, is_in}
+use Rattle.gix_odb_watch.specs.Files.{Reveals, differs, with_files}
+use Rattle.gix_odb_watch.specs.Revealed.{IsRevealed, IsSeen, Learns, Relinks, RevealsMore, Spot, is_in}
 use Rattle.gix_odb_watch.specs.declared.revealed.Revealed.{Revealed}
 use Rattle.gix_odb_watch.specs.declared.shown_file.ShownFile.{ShownFile}
-use Rattle.gix_odb_watch.proofs.ListLemmas.{one_is_in, one_passes, passes_one}
-use Rattle.gix_odb_watch.proofs.FilesLemmas.{in_shows, shown_in}
+use Rattle.gix_odb_watch.proofs.ListLemmas.{is_in_one, one_is_in, one_passes, passes_one}
+use Rattle.gix_odb_watch.proofs.SeenLemmas.{seen_linked, seen_shown, seen_sorted, seen_whole, still_known}
 use Rattle.gix_odb_watch.proofs.FolderLemmas.{inserted_keys, is_in_set}
 use Rattle.gix_odb_watch.proofs.ContentsLemmas.{all_stay, all_there, all_only, IsOneOf, differs_from, from_other}
 
@@ -45,102 +45,93 @@ one_content tree path time bytes other f g s o =
 
 -- ---- a second content among files
 
-module _ (kept : Kept) (tree : Tree) (files : List ShownFile)
-    (show : (file : ShownFile) → IsIn files file → ShowsInOne kept.folders tree file.key.0 file.key.1 file.bytes)
-    (shown : (path : Path) (time : ℕ) (first bytes : List ℕ) → finite.get kept.contents (path, time) ≡ Some first → bytes ≢ first → ShowsInOne kept.folders tree path time bytes
-    → IsIn files (record { key = (path, time); bytes = bytes })) where
-  second_found : list_any (differs kept.contents) files ≡ true → IsSecond kept tree
+module _ (kept : Kept) (before after : Tree) (files : List ShownFile) (fits : Fits kept before) (r : Reveals kept.folders kept.folders before after files) where
+  second_found : list_any (differs kept.contents) files ≡ true → IsSecond kept after
   second_found any =
       let o = one_passes (differs kept.contents) files any in
       let d = differs_from kept.contents o.0 o.2 in
-      record { path = o.0.key.0; time = o.0.key.1; first = d.0; bytes = o.0.bytes; known = d.1; shows = show o.0 o.1; differs = d.2 }
+      record { path = o.0.key.0; time = o.0.key.1; first = d.0; bytes = o.0.bytes; known = d.1; shows = r.shown o.0 o.1; differs = d.2 }
 
-  second_there : IsSecond kept tree → list_any (differs kept.contents) files ≡ true
-  second_there s =
-      let file : ShownFile = record { key = (s.path, s.time); bytes = s.bytes } in
-      passes_one (differs kept.contents) files file (shown s.path s.time s.first s.bytes s.known s.differs s.shows) (from_other kept.contents file s.first s.known s.differs)
+  second_there : IsSecond kept after → list_any (differs kept.contents) files ≡ true
+  second_there s = elim (r.whole s.path s.time s.bytes s.shows) [
+    | inl there ↦
+        let both : Some s.first ≡ Some s.bytes = sym s.known ∙ fits.whole s.path s.time s.bytes there in
+        let same : s.first ≡ s.bytes = cc in absurd (s.differs (sym same))
+    | inr one ↦
+        let file : ShownFile = record { key = (s.path, s.time); bytes = s.bytes } in
+        passes_one (differs kept.contents) files file one (from_other kept.contents file s.first s.known s.differs)
+  ]
 
-  pub is_second : (list_any (differs kept.contents) files ≡ true) ↔ IsSecond kept tree
-  is_second = (second_found, second_there)
+  pub second_answered : (answer : Bool) → answer ≡ list_any (differs kept.contents) files → (answer ≡ true) ↔ IsSecond kept after
+  second_answered answer is = (λ yes. second_found (sym is ∙ yes), λ s. is ∙ second_there s)
 
--- ---- what is kept after a tree was noted
+-- ---- what is kept of what is revealed
 
-module _ (old : Kept) (folders : Folders) (tree : Tree) (files : List ShownFile) (linked : Folders)
-    (show : (file : ShownFile) → IsIn files file → ShowsInOne folders tree file.key.0 file.key.1 file.bytes)
-    (shown : (path : Path) (time : ℕ) (bytes : List ℕ) → ShowsInOne folders tree path time bytes
-    → (finite.get old.contents (path, time) ≡ Some bytes) ⊎ IsIn files (record { key = (path, time); bytes = bytes })) where
-  abbrev noted : Kept
-  noted = record { folders = folders; linked = linked; contents = with_files old.contents files }
+some_kept : (o : Option (List ℕ)) → IsSome o → (bytes : List ℕ) × (o ≡ Some bytes)
+some_kept None is = absurd (false≢true is)
+some_kept (Some bytes) is = (bytes, refl)
 
-  pub notes_files : Notes old folders tree noted
-  notes_files = record {
-    folders_are = refl;
-    stays = λ path time bytes known. all_stay files old.contents (path, time) bytes known;
-    whole = λ path time bytes s.
-        elim (shown path time bytes s) [
-          | inl known ↦ ap is_some (all_stay files old.contents (path, time) bytes known)
-          | inr one ↦ all_there files old.contents (record { key = (path, time); bytes = bytes }) one
-        ];
-    only = λ path time bytes kept.
-        elim (all_only files old.contents (path, time) bytes kept) [
-          | inl before ↦ inl before
-          | inr o ↦ inr (from_file path time bytes o)
-        ];
+module _ (kept : Kept) (new : Folders) (before after : Tree) (fits : Fits kept before) (revealed : Revealed) (r : RevealsMore kept.folders new before after revealed) (told : Kept)
+    (folders : told.folders ≡ new) (linked : Relinks kept.linked revealed told.linked) (contents : told.contents ≡ with_files kept.contents revealed.files.items) where
+  abbrev files : List ShownFile
+  files = revealed.files.items
+
+  get_told : (key : Path × ℕ) → finite.get told.contents key ≡ finite.get (with_files kept.contents files) key
+  get_told key = ap (λ (c : Contents). finite.get c key) contents
+
+  some_told : (path : Path) (time : ℕ) (bytes : List ℕ) → ShowsInOne new after path time bytes → IsSome (finite.get (with_files kept.contents files) (path, time))
+  some_told path time bytes s = elim (r.reveals.whole path time bytes s) [
+    | inl there ↦ ap is_some (all_stay files kept.contents (path, time) bytes (fits.whole path time bytes there))
+    | inr one ↦ all_there files kept.contents (record { key = (path, time); bytes = bytes }) one
+  ]
+
+  from_file : (path : Path) (time : ℕ) (bytes : List ℕ) → IsOneOf files (path, time) bytes → ShowsInOne new after path time bytes
+  from_file path time bytes o =
+      subst (λ (b : List ℕ). ShowsInOne new after path time b) o.3 (subst (λ (k : Path × ℕ). ShowsInOne new after k.0 k.1 o.0.bytes) o.2 (r.reveals.shown o.0 o.1))
+
+  only_told : (path : Path) (time : ℕ) (bytes : List ℕ) → finite.get told.contents (path, time) ≡ Some bytes
+      → (finite.get kept.contents (path, time) ≡ Some bytes) ⊎ ShowsInOne new after path time bytes
+  only_told path time bytes known = elim (all_only files kept.contents (path, time) bytes (sym (get_told (path, time)) ∙ known)) [
+    | inl was ↦ inl was
+    | inr one ↦ inr (from_file path time bytes one)
+  ]
+
+  pub more_notes : Notes kept new after told
+  more_notes = record {
+    folders_are = folders;
+    stays = λ path time bytes known. get_told (path, time) ∙ all_stay files kept.contents (path, time) bytes known;
+    whole = λ path time bytes s. ap is_some (get_told (path, time)) ∙ some_told path time bytes s;
+    only = only_told;
   }
-    where
-      from_file : (path : Path) (time : ℕ) (bytes : List ℕ) → IsOneOf files (path, time) bytes → ShowsInOne folders tree path time bytes
-      from_file path time bytes o =
-          let told = show o.0 o.1 in
-          subst (λ (b : List ℕ). ShowsInOne folders tree path time b) o.3 (subst (λ (k : Path × ℕ). ShowsInOne folders tree k.0 k.1 o.0.bytes) o.2 told)
 
--- ---- what a change reveals
+  linked_among : (folder : Path) → set.contains told.linked folder ≡ true → set.contains new folder ≡ true
+  linked_among folder is = elim (or_cases (is_in revealed.linked.items folder) (set.contains kept.linked folder) (sym (linked folder) ∙ is)) [
+    | inl now ↦ r.linked folder (is_in_one revealed.linked.items folder now)
+    | inr was ↦ r.stays folder (fits.linked folder was)
+  ]
 
-module _ (kept : Kept) (before after : Tree) (files : List ShownFile) (fits : Fits kept before) (r : Reveals kept.folders before after files) where
-  pub second_after : (list_any (differs kept.contents) files ≡ true) ↔ IsSecond kept after
-  second_after = is_second kept after files r.shown (λ path time first bytes known apart shows.
-      elim (r.whole path time bytes shows) [
-        | inl there ↦ let both : Some first ≡ Some bytes = sym known ∙ fits.whole path time bytes there in let same : first ≡ bytes = cc in absurd (apart (sym same))
-        | inr one ↦ one
-      ])
+  lies_in : (path : Path) (time : ℕ) (bytes : List ℕ) → (finite.get kept.contents (path, time) ≡ Some bytes) ⊎ ShowsInOne new after path time bytes → LiesInOne new path
+  lies_in path time bytes (inl was) = let l = fits.only path time bytes was in record { folder = l.folder; among = r.stays l.folder l.among; name = l.name; path_is = l.path_is }
+  lies_in path time bytes (inr s) = record { folder = s.folder; among = s.among; name = s.shows.name; path_is = s.shows.path_is }
 
-  pub notes_after : (linked : Folders) → Notes kept kept.folders after (record { folders = kept.folders; linked = linked; contents = with_files kept.contents files })
-  notes_after linked = notes_files kept kept.folders after files linked r.shown (λ path time bytes shows.
-      elim (r.whole path time bytes shows) [
-        | inl there ↦ inl (fits.whole path time bytes there)
-        | inr one ↦ inr one
-      ])
+  among_told : (folder : Path) → set.contains told.folders folder ≡ set.contains new folder
+  among_told folder = ap (λ (f : Folders). set.contains f folder) folders
 
--- ---- what fits
-
-lies_by : (folders : Folders) (tree : Tree) (path : Path) (time : ℕ) (bytes : List ℕ) → ShowsInOne folders tree path time bytes → LiesInOne folders path
-lies_by folders tree path time bytes s = record { folder = s.folder; among = s.among; name = s.shows.name; path_is = s.shows.path_is }
-
-module _ (old : Kept) (folders : Folders) (tree : Tree) (new : Kept) (n : Notes old folders tree new)
-    (agree : (path : Path) (time : ℕ) (first bytes : List ℕ) → finite.get old.contents (path, time) ≡ Some first → ShowsInOne folders tree path time bytes → first ≡ bytes)
-    (lies : (path : Path) (time : ℕ) (bytes : List ℕ) → finite.get old.contents (path, time) ≡ Some bytes → LiesInOne folders path)
-    (knows : (folder : Path) → set.contains folders folder ≡ true → Knows new.linked tree folder) (is_tree : IsTree tree) where
-  some_kept : (o : Option (List ℕ)) → IsSome o → (bytes : List ℕ) × (o ≡ Some bytes)
-  some_kept None is = absurd (false≢true is)
-  some_kept (Some bytes) is = (bytes, refl)
-
-  pub fits_noted : Fits new tree
-  fits_noted = record {
-    is_tree = is_tree;
+  -- unless a path shows another content than it did
+  pub more_fits : ((path : Path) (time : ℕ) (first bytes : List ℕ) → finite.get kept.contents (path, time) ≡ Some first → ShowsInOne new after path time bytes → first ≡ bytes) → Fits told after
+  more_fits agree = record {
+    is_tree = r.is_tree;
     whole = λ path time bytes s.
-        let there = subst (λ (f : Folders). ShowsInOne f tree path time bytes) n.folders_are s in
-        let k = some_kept (finite.get new.contents (path, time)) (n.whole path time bytes there) in
-        let same : k.0 ≡ bytes = elim (n.only path time k.0 k.1) [
-          | inl before ↦ agree path time k.0 bytes before there
-          | inr now ↦ one_content tree path time k.0 bytes now.folder there.folder now.shows there.shows
+        let there = subst (λ (f : Folders). ShowsInOne f after path time bytes) folders s in
+        let k = some_kept (finite.get told.contents (path, time)) (ap is_some (get_told (path, time)) ∙ some_told path time bytes there) in
+        let same : k.0 ≡ bytes = elim (only_told path time k.0 k.1) [
+          | inl was ↦ agree path time k.0 bytes was there
+          | inr now ↦ one_content after path time k.0 bytes now.folder there.folder now.shows there.shows
         ] in
         k.1 ∙ ap (λ (b : List ℕ). Some b) same;
-    only = λ path time bytes kept.
-        subst (λ (f : Folders). LiesInOne f path) (sym n.folders_are)
-        (elim (n.only path time bytes kept) [
-          | inl before ↦ lies path time bytes before
-          | inr now ↦ lies_by folders tree path time bytes now
-        ]);
-    knows = λ folder among. knows folder (ap (λ (f : Folders). set.contains f folder) (sym n.folders_are) ∙ among);
+    only = λ path time bytes known. subst (λ (f : Folders). LiesInOne f path) (sym folders) (lies_in path time bytes (only_told path time bytes known));
+    linked = λ folder is. among_told folder ∙ linked_among folder is;
+    knows = λ folder among. r.knows folder (sym (among_told folder) ∙ among) kept.linked told.linked (fits.knows folder) linked;
   }
 
 -- after a change that shows no second content
@@ -159,10 +150,6 @@ first_agrees kept tree first_only path time first bytes known shows = elim (case
         differs = λ same. false≢true (sym apart ∙ (bytes_decides bytes first).1 same);
       }))
 ]
-
-pub fits_after : (old : Kept) (before after : Tree) (new : Kept) → Fits old before → (IsSecond old after → ⊥) → Notes old old.folders after new
-    → ((folder : Path) → set.contains old.folders folder ≡ true → Knows new.linked after folder) → IsTree after → Fits new after
-fits_after old before after new fits first_only n knows is_tree = fits_noted old old.folders after new n (first_agrees old after first_only) fits.only knows is_tree
 
 -- ---- one more folder
 
@@ -187,21 +174,6 @@ module _ (old : Kept) (folder : Path) (tree : Tree) (fits : Fits old tree) where
   abbrev pub more : Folders
   more = one_more old.folders folder
 
-  -- the files of the folder are all that is to be noted
-  module _ (files : List ShownFile) (f : AreFilesIn tree folder files) where
-    own_show : (file : ShownFile) → IsIn files file → ShowsInOne more tree file.key.0 file.key.1 file.bytes
-    own_show file one = record { folder = folder; among = among_own old.folders folder; shows = in_shows folder tree files f file one }
-
-    own_shown : (path : Path) (time : ℕ) (bytes : List ℕ) → ShowsInOne more tree path time bytes
-        → (finite.get old.contents (path, time) ≡ Some bytes) ⊎ IsIn files (record { key = (path, time); bytes = bytes })
-    own_shown path time bytes s = elim (among_either old.folders folder s.folder s.among) [
-      | inl same ↦ inr (shown_in folder tree files f path time bytes (subst (λ (other : Path). Shows other tree path time bytes) same s.shows))
-      | inr among ↦ inl (fits.whole path time bytes (record { folder = s.folder; among = among; shows = s.shows }))
-    ]
-
-    pub notes_folder : (linked : Folders) → Notes old more tree (record { folders = more; linked = linked; contents = with_files old.contents files })
-    notes_folder linked = notes_files old more tree files linked own_show own_shown
-
   -- what was kept is of folders that were watched, so it is the same as what they show
   own_agrees : (path : Path) (time : ℕ) (first bytes : List ℕ) → finite.get old.contents (path, time) ≡ Some first → ShowsInOne more tree path time bytes → first ≡ bytes
   own_agrees path time first bytes known s =
@@ -210,55 +182,38 @@ module _ (old : Kept) (folder : Path) (tree : Tree) (fits : Fits old tree) where
       let there = fits.whole path time bytes (record { folder = s.folder; among = ap (set.contains old.folders) (sym same) ∙ l.among; shows = s.shows }) in
       let both : Some first ≡ Some bytes = sym known ∙ there in cc
 
-  own_lies : (path : Path) (time : ℕ) (bytes : List ℕ) → finite.get old.contents (path, time) ≡ Some bytes → LiesInOne more path
-  own_lies path time bytes known =
-      let l = fits.only path time bytes known in record { folder = l.folder; among = among_more old.folders folder l.folder l.among; name = l.name; path_is = l.path_is }
+  -- what is seen of the folder is revealed
+  module _ (revealed : Revealed) (seen : IsSeen tree (folder ∷ []) [] revealed) where
+    own_one : (other : Path) → IsIn (folder ∷ []) other ⊎ ((path : Path) × IsIn {X = Spot} [] (other, path)) → set.contains more other ≡ true
+    own_one other (inl (inl same)) = ap (set.contains more) (sym same) ∙ among_own old.folders folder
+    own_one other (inl (inr none)) = absurd none
+    own_one other (inr none) = absurd none.1
 
-  -- what was known of those that are watched already is known besides what is read of it
-  module _ (nothing revealed : Revealed) (none : (nothing.linked.items ≡ []) × (nothing.plain.items ≡ [])) (looks : LooksAt tree folder nothing revealed)
-      (new : Folders) (relinks : Relinks old.linked revealed new) where
-    own_linked : revealed.linked.items ≡ folder ∷ [] → set.contains new folder ≡ true
-    own_linked is =
-        relinks folder
-        ∙ or_left (is_in revealed.linked.items folder) (not (is_in revealed.plain.items folder) && set.contains old.linked folder)
-        (one_is_in revealed.linked.items folder (subst (λ (l : List Path). IsIn l folder) (sym is) (inl refl)))
-
-    own_knows : Knows new tree folder
-    own_knows name kind watched place on = elim looks.sorted [
-      | inl l ↦ or_left (set.contains new folder) (starts_with same_name (pack_directory folder ++ name ∷ []) place) (own_linked (l.linked ∙ ap (λ (i : List Path). i ++ folder ∷ []) none.0))
-      | inr p ↦ or_right (set.contains new folder) (starts_with same_name (pack_directory folder ++ name ∷ []) place) (p.is_plain name kind watched place on)
+    own_knows : (other : Path) → set.contains more other ≡ true → (was now : Folders) → (set.contains old.folders other ≡ true → Knows was tree other) → Relinks was revealed now
+        → Knows now tree other
+    own_knows other among was now knew relinks name kind watched place on = elim (among_either old.folders folder other among) [
+      | inl same ↦ elim (seen_sorted tree (folder ∷ []) [] revealed seen other (inl (sym same))) [
+        | inl linked ↦ or_left (set.contains now other) (starts_with same_name (pack_directory other ++ name ∷ []) place) (relinks other ∙ or_left (is_in revealed.linked.items other) (set.contains was other) (one_is_in revealed.linked.items other linked))
+        | inr plain ↦ or_right (set.contains now other) (starts_with same_name (pack_directory other ++ name ∷ []) place) (plain name kind watched place on)
+      ]
+      | inr old_one ↦ still_known revealed was now other relinks (starts_with same_name (pack_directory other ++ name ∷ []) place) (knew old_one name kind watched place on)
     ]
 
-    -- another folder stays as it was
-    stays : (other : Path) → is_in (folder ∷ []) other ≡ false → set.contains new other ≡ set.contains old.linked other
-    stays other apart =
-        let kept : (is_in revealed.linked.items other || (not (is_in revealed.plain.items other) && set.contains old.linked other)) ≡ set.contains old.linked other =
-        elim looks.sorted [
-          | inl l ↦
-              ap (λ (i : List Path). is_in i other || (not (is_in revealed.plain.items other) && set.contains old.linked other)) (l.linked ∙ ap (λ (i : List Path). i ++ folder ∷ []) none.0)
-              ∙ ap (λ (i : List Path). is_in (folder ∷ []) other || (not (is_in i other) && set.contains old.linked other)) (l.plain ∙ none.1)
-              ∙ ap (λ b. b || set.contains old.linked other) apart
-          | inr p ↦
-              ap (λ (i : List Path). is_in i other || (not (is_in revealed.plain.items other) && set.contains old.linked other)) (p.linked ∙ none.0)
-              ∙ ap (λ (i : List Path). not (is_in i other) && set.contains old.linked other) (p.plain ∙ ap (λ (i : List Path). i ++ folder ∷ []) none.1)
-              ∙ ap (λ b. not b && set.contains old.linked other) apart
-        ] in
-        relinks other ∙ kept
-
-    pub knows_more : (other : Path) → set.contains more other ≡ true → Knows new tree other
-    knows_more other among = by (eq_by_cmp path_cmp other folder) refl
-      where
-        by : (b : Bool) → eq_by_cmp path_cmp other folder ≡ b → Knows new tree other
-        by true tied = subst (Knows new tree) (sym (same_path other folder tied)) own_knows
-        by false apart =
-            let before : set.contains old.folders other ≡ true =
-            ap (λ b. b || set.contains old.folders other) (sym apart) ∙ sym (set.contains-insert path_order old.folders folder other) ∙ among in
-            λ name kind watched place on.
-            ap (λ b. b || starts_with same_name (pack_directory other ++ name ∷ []) place) (stays other (ap (λ b. b || false) apart))
-            ∙ fits.knows other before name kind watched place on
-
-  pub fits_watched : (new : Kept) → Notes old more tree new → ((other : Path) → set.contains more other ≡ true → Knows new.linked tree other) → Fits new tree
-  fits_watched new n knows = fits_noted old more tree new n own_agrees own_lies knows fits.is_tree
+    pub folder_revealed : RevealsMore old.folders more tree tree revealed
+    folder_revealed = record {
+      is_tree = fits.is_tree;
+      stays = among_more old.folders folder;
+      reveals = record {
+        shown = λ file one. let s = seen_shown tree (folder ∷ []) [] revealed seen (λ other path none. absurd none) file one in
+            record { folder = s.0; among = own_one s.0 s.1; shows = s.2 };
+        whole = λ path time bytes s. elim (among_either old.folders folder s.folder s.among) [
+          | inl same ↦ inr (seen_whole tree (folder ∷ []) [] revealed seen s.folder (inl (sym same)) path time bytes s.shows)
+          | inr among ↦ inl (record { folder = s.folder; among = among; shows = s.shows })
+        ];
+      };
+      linked = λ other one. own_one other (seen_linked tree (folder ∷ []) [] revealed seen other one);
+      knows = own_knows;
+    }
 
   -- a folder that is watched already
   module _ (among : set.contains old.folders folder ≡ true) where
@@ -288,47 +243,32 @@ nothing_fits tree is_tree = record {
   is_tree = is_tree;
   whole = λ path time bytes s. absurd (false≢true (sym (set.contains-empty path_cmp s.folder) ∙ s.among));
   only = λ path time bytes known. let both : None ≡ Some bytes = sym (finite.get-empty key_cmp (path, time)) ∙ known in absurd (cc);
+  linked = λ folder is. absurd (false≢true (sym (set.contains-empty path_cmp folder) ∙ is));
   knows = λ folder among. absurd (false≢true (sym (set.contains-empty path_cmp folder) ∙ among));
 }
 
 -- ---- what the code asks
 
-pub second_answered : (kept : Kept) (before after : Tree) (files : List ShownFile) (fits : Fits kept before) → Reveals kept.folders before after files → (answer : Bool)
-    → answer ≡ list_any (differs kept.contents) files → (answer ≡ true) ↔ IsSecond kept after
-second_answered kept before after files fits r answer is =
-    let second = second_after kept before after files fits r in (λ yes. second.0 (sym is ∙ yes), λ s. is ∙ second.1 s)
-
--- what is kept, of equal parts
-kept_parts : (told : Kept) (folders : Folders) (contents : Contents) → told.folders ≡ folders → told.contents ≡ contents
-    → ◌≡◌ {A = Kept} (record { folders = folders; linked = told.linked; contents = contents }) told
-kept_parts told folders contents f g = λ i. record { folders = sym f i; linked = told.linked; contents = sym g i }
-
 -- what is found out is kept
-pub learnt : (kept : Kept) (folders : Folders) (was mid now : BTreeSet Path) (own contents : Contents) (revealed : Revealed)
+pub learnt : (kept : Kept) (folders : Folders) (was now : BTreeSet Path) (own contents : Contents) (revealed : Revealed)
     → ◌≡◌ {A = Kept} (record { folders = folders; linked = set.from_list was.keys; contents = own }) kept
-    → ((folder : Path) → is_in mid.keys folder ≡ (not (is_in revealed.plain.items folder) && is_in was.keys folder))
-    → ((folder : Path) → is_in now.keys folder ≡ (is_in revealed.linked.items folder || is_in mid.keys folder)) → contents ≡ with_files own revealed.files.items
+    → ((folder : Path) → is_in now.keys folder ≡ (is_in revealed.linked.items folder || is_in was.keys folder)) → contents ≡ with_files own revealed.files.items
     → Learns kept revealed (record { folders = folders; linked = set.from_list now.keys; contents = contents })
-learnt kept folders was mid now own contents revealed view removed added is = record {
+learnt kept folders was now own contents revealed view added is = record {
   folders = ap (λ (k : Kept). k.folders) view;
   linked = λ folder.
       is_in_set now.keys folder ∙ added folder
-      ∙ ap (λ b. is_in revealed.linked.items folder || b)
-      (removed folder
-      ∙ ap (λ b. not (is_in revealed.plain.items folder) && b) (sym (is_in_set was.keys folder) ∙ ap (λ (k : Kept). set.contains k.linked folder) view));
+      ∙ ap (λ b. is_in revealed.linked.items folder || b) (sym (is_in_set was.keys folder) ∙ ap (λ (k : Kept). set.contains k.linked folder) view);
   contents = is ∙ ap (λ (k : Kept). with_files k.contents revealed.files.items) view;
 }
 
 module _ (kept : Kept) (before after : Tree) (fits : Fits kept before) (revealed : Revealed) (r : IsRevealed kept.folders before after revealed) (told : Kept)
     (learns : Learns kept revealed told) where
   pub keep_notes : Notes kept kept.folders after told
-  keep_notes =
-      subst (Notes kept kept.folders after) (kept_parts told kept.folders (with_files kept.contents revealed.files.items) learns.folders learns.contents)
-      (notes_after kept before after revealed.files.items fits r.reveals told.linked)
+  keep_notes = more_notes kept kept.folders before after fits revealed r told learns.folders learns.linked learns.contents
 
   pub keep_fits : (IsSecond kept after → ⊥) → Fits told after
-  keep_fits first_only =
-      fits_after kept before after told fits first_only keep_notes (λ folder among. r.knows folder among kept.linked told.linked (fits.knows folder among) learns.linked) r.is_tree
+  keep_fits first_only = more_fits kept kept.folders before after fits revealed r told learns.folders learns.linked learns.contents (first_agrees kept after first_only)
 
 module _ (kept : Kept) (tree : Tree) (fits : Fits kept tree) (folder : Path) (old : BTreeSet Path) (linked : Folders) (contents : Contents)
     (view : ◌≡◌ {A = Kept} (record { folders = set.from_list old.keys; linked = linked; contents = contents }) kept) where
@@ -337,22 +277,21 @@ module _ (kept : Kept) (tree : Tree) (fits : Fits kept tree) (folder : Path) (ol
       notes_again kept folder tree fits
       (sym (ap (λ (k : Kept). set.contains k.folders folder) view) ∙ set.contains-from_list path_order old.keys folder ∙ there)
 
-  module _ (new : BTreeSet Path) (added : tree_set.Updates path_cmp old new folder true) (nothing revealed : Revealed) (files : nothing.files.items ≡ [])
-      (no_linked : nothing.linked.items ≡ []) (no_plain : nothing.plain.items ≡ []) (looks : LooksAt tree folder nothing revealed) (told : Kept)
+  module _ (new : BTreeSet Path) (added : tree_set.Updates path_cmp old new folder true) (revealed : Revealed) (seen : IsSeen tree (folder ∷ []) [] revealed) (told : Kept)
       (learns : Learns (record { folders = set.from_list new.keys; linked = linked; contents = contents }) revealed told) where
-    its_files : revealed.files.items ≡ looks.files
-    its_files = looks.added ∙ ap (λ (l : List ShownFile). l ++ looks.files) files
+    its_folders : told.folders ≡ set.insert kept.folders folder
+    its_folders = learns.folders ∙ inserted_keys old new folder added ∙ ap (λ (k : Kept). set.insert k.folders folder) view
+
+    its_links : Relinks kept.linked revealed told.linked
+    its_links = subst (λ (k : Kept). Relinks k.linked revealed told.linked) view learns.linked
+
+    its_contents : told.contents ≡ with_files kept.contents revealed.files.items
+    its_contents = learns.contents ∙ ap (λ (k : Kept). with_files k.contents revealed.files.items) view
 
     pub watch_notes : Notes kept (set.insert kept.folders folder) tree told
-    watch_notes =
-        subst (Notes kept (set.insert kept.folders folder) tree)
-        (kept_parts told (set.insert kept.folders folder) (with_files kept.contents looks.files)
-        (learns.folders ∙ inserted_keys old new folder added ∙ ap (λ (k : Kept). set.insert k.folders folder) view)
-        (learns.contents ∙ ap (λ (k : Kept). with_files k.contents revealed.files.items) view ∙ ap (with_files kept.contents) its_files))
-        (notes_folder kept folder tree fits looks.files looks.are_in told.linked)
+    watch_notes = more_notes kept (set.insert kept.folders folder) tree tree fits revealed (folder_revealed kept folder tree fits revealed seen) told its_folders its_links its_contents
 
     pub watch_fits : Fits told tree
     watch_fits =
-        fits_watched kept folder tree fits told watch_notes
-        (knows_more kept folder tree fits nothing revealed (no_linked, no_plain) looks told.linked
-        (subst (λ (k : Kept). Relinks k.linked revealed told.linked) view learns.linked))
+        more_fits kept (set.insert kept.folders folder) tree tree fits revealed (folder_revealed kept folder tree fits revealed seen) told its_folders its_links its_contents
+        (own_agrees kept folder tree fits)

@@ -3,15 +3,12 @@ pub mod KeepsLaws
 pub mod ReadLaws
 mod ListLemmas
 mod NameLemmas
-mod WholeLemmas
 mod EntryLemmas
 mod FilesLemmas
+mod OverLemmas
 mod SightLemmas
-mod SightWaysLemmas
-mod WatchedPathsLemmas
 mod PlainLemmas
 mod TouchedLemmas
-mod PutLemmas
 mod ContentsLemmas
 mod FolderLemmas
 mod PlacesLemmas

@@ -1,5 +1,5 @@
 -- Elements of lists, by cases.
-use Rattle.std.proofs.Common.{◌≡◌, ◌⊎◌, inl, inr, Bool, true, List, [], ◌∷◌, ◌++◌, Option, Some, None, sym, ap, ◌∙◌, subst, refl}
+use Rattle.std.proofs.Common.{◌≡◌, ◌⊎◌, inl, inr, Bool, true, List, [], ◌∷◌, ◌++◌, map, Option, Some, None, sym, ap, ◌∙◌, subst, refl}
 use Rattle.std.specs.List.{list_any, flat_map, filter_map, cons_option}
 use Rattle.std.proofs.lemmas.Bool.{false≢true, or_left, or_right, or_cases}
 use Rattle.std.proofs.lemmas.List.Concat.{flat_map-cons}
@@ -35,6 +35,16 @@ of_flat_map f (z ∷ xs) y one = elim (in_either (f z) (flat_map f xs) y (subst 
   | inl here ↦ (z, inl refl, here)
   | inr more ↦ let o = of_flat_map f xs y more in (o.0, inr o.1, o.2)
 ]
+
+pub in_map : {X Y : Type 0} (f : X → Y) (xs : List X) (x : X) → IsIn xs x → IsIn (map f xs) (f x)
+in_map f [] x one = absurd one
+in_map f (z ∷ xs) x (inl same) = inl (ap f same)
+in_map f (z ∷ xs) x (inr more) = inr (in_map f xs x more)
+
+pub of_map : {X Y : Type 0} (f : X → Y) (xs : List X) (y : Y) → IsIn (map f xs) y → (x : X) × IsIn xs x × (f x ≡ y)
+of_map f [] y one = absurd one
+of_map f (z ∷ xs) y (inl same) = (z, inl refl, same)
+of_map f (z ∷ xs) y (inr more) = let o = of_map f xs y more in (o.0, inr o.1, o.2)
 
 -- what an element is turned into is among what a list is
 pub in_filter_map : {X Y : Type 0} (f : X → Option Y) (xs : List X) (x : X) (y : Y) → IsIn xs x → f x ≡ Some y → IsIn (filter_map f xs) y

@@ -1,11 +1,12 @@
 -- What a change touches, place by place.
-use Rattle.std.proofs.Common.{◌≡◌, ◌⊎◌, inl, inr, true, false, List, [], ◌∷◌, ◌++◌, append-nil, append_assoc, codes, Option, Some, None, refl, sym, ap, ◌∙◌, subst}
+use Rattle.std.proofs.Common.{◌≡◌, inl, inr, true, false, List, [], ◌∷◌, ◌++◌, append-nil, append_assoc, codes, Option, Some, None, refl, sym, ap, ◌∙◌, subst}
 use lib.Pointwise.{pointwise, pointwise_decides}
 use Rattle.std.specs.List.{starts_with}
 use Rattle.std.specs.Cmp.Lexicographic.{bytes_decides}
 use Rattle.std.proofs.lemmas.Bool.{and_from, and_parts, false≢true}
 use Rattle.odb_base.specs.Path.{Path, last_name, parent_of, same_name}
 use Rattle.odb_base.specs.PathLaws.{parent_of-push, parent_of-some}
+use Rattle.odb_disk.proofs.TreeLemmas.Moved.{begins-append}
 use Rattle.gix_odb_watch.specs.Kept.{IsIn}
 use Rattle.gix_odb_watch.specs.Revealed.{is_in}
 use Rattle.gix_odb_watch.specs.Touched.{AddsBelow, AddsInside, AddsNamed, AreTouched, LiesIn, TellsFolder, is_folder_of}
@@ -19,11 +20,11 @@ use Rattle.gix_odb_watch.proofs.TouchedLemmas.{front_or_whole}
 module _ (watched linked : List Path) where
   -- ---- one place after the other
 
-  pub touched_first : (folders : List Path) (named : List (Path × Path)) → ((folder : Path) → IsIn folders folder → IsIn watched folder)
-      → ((folder : Path) → IsIn watched folder → IsIn linked folder → IsIn folders folder) → named ≡ [] → AreTouched watched linked [] folders named
-  touched_first folders named only whole none = record {
-    only = only;
-    are_linked = whole;
+  pub touched_first : (folders : List Path) (named : List (Path × Path)) → ((folder : Path) → IsIn linked folder → IsIn watched folder) → AddsInside linked [] [] folders → named ≡ []
+      → AreTouched watched linked [] folders named
+  touched_first folders named are adds none = record {
+    only = λ folder one. are folder (adds.only folder (subst (λ (l : List Path). IsIn l folder) adds.added one));
+    are_linked = λ folder among link. subst (λ (l : List Path). IsIn l folder) (sym adds.added) (adds.whole folder link (begins-append [] folder));
     below = λ folder place among one. absurd one;
     named_only = λ folder path one. absurd (subst (λ (l : List (Path × Path)). IsIn l (folder, path)) none one);
     named_whole = λ folder place among one. absurd one;
@@ -151,50 +152,3 @@ module _ (watched : List Path) (directory : Path) where
       false≢true (sym none
       ∙ and_from (is_in watched folder) (pointwise same_name (pack_directory folder) directory) (one_is_in watched folder (subst (IsIn watched) (sym same) among))
       ((pointwise_decides bytes_decides (pack_directory folder) directory).1 (ap pack_directory same ∙ sym own)))
-
--- ---- the folders that are watched and linked
-
--- those so far are gathered, and the others are left
-pub record AreBoth (watched linked both rest : List Path) : Type 0 where
-  pub only : (folder : Path) → IsIn both folder → IsIn watched folder
-  pub whole : (folder : Path) → IsIn watched folder → IsIn linked folder → IsIn both folder ⊎ IsIn rest folder
-
-pub both_first : (watched linked both rest : List Path) → both ≡ [] → rest ≡ linked → AreBoth watched linked both rest
-both_first watched linked both rest none all = record {
-  only = λ folder one. absurd (subst (λ (l : List Path). IsIn l folder) none one);
-  whole = λ folder among link. inr (subst (λ (l : List Path). IsIn l folder) (sym all) link);
-}
-
-module _ (watched linked both before rest : List Path) (folder : Path) (so : AreBoth watched linked both before) (steps : before ≡ folder ∷ rest) where
-  pub both_pushed : (more : List Path) (copy : Path) → is_in watched folder ≡ true → copy ≡ folder → more ≡ both ++ copy ∷ [] → AreBoth watched linked more rest
-  both_pushed more copy among same pushed = record {
-    only = λ other one. elim (in_pushed both more copy other pushed one) [
-      | inl was ↦ so.only other was
-      | inr is ↦ subst (IsIn watched) (sym same ∙ is) (is_in_one watched folder among)
-    ];
-    whole = λ other is link. elim (so.whole other is link) [
-      | inl was ↦ inl (old_pushed both more copy other pushed was)
-      | inr left ↦ elim (subst (λ (l : List Path). IsIn l other) steps left) [
-        | inl here ↦ inl (subst (IsIn more) (same ∙ here) (last_pushed both more copy pushed))
-        | inr later ↦ inr later
-      ]
-    ];
-  }
-
-  pub both_other : is_in watched folder ≡ false → AreBoth watched linked both rest
-  both_other apart = record {
-    only = so.only;
-    whole = λ other is link. elim (so.whole other is link) [
-      | inl was ↦ inl was
-      | inr left ↦ elim (subst (λ (l : List Path). IsIn l other) steps left) [
-        | inl here ↦ absurd (false≢true (sym apart ∙ one_is_in watched folder (subst (IsIn watched) (sym here) is)))
-        | inr later ↦ inr later
-      ]
-    ];
-  }
-
-pub both_all : (watched linked both rest : List Path) → AreBoth watched linked both rest → rest ≡ [] → (folder : Path) → IsIn watched folder → IsIn linked folder → IsIn both folder
-both_all watched linked both rest so none folder among link = elim (so.whole folder among link) [
-  | inl is ↦ is
-  | inr left ↦ absurd (subst (λ (l : List Path). IsIn l folder) none left)
-]

@@ -1,25 +1,19 @@
 -- Paths on whose way no link is followed.
-use Rattle.std.proofs.Common.{◌≡◌, inl, inr, ℕ, ◌+◌, ◌<◌, ◌≤◌, suc, arith, get_or, length, take, true, false, List, [], ◌∷◌, ◌++◌, Option, Some, None, is_some, refl, sym, ap, ◌∙◌, subst}
+use Rattle.std.proofs.Common.{◌≡◌, inl, inr, true, false, List, [], ◌∷◌, ◌++◌, Option, Some, None, is_some, refl, sym, ap, ◌∙◌}
 use Rattle.std.specs.List.{starts_with}
-use Rattle.std.proofs.Math.Seq.{take-suc}
 use Rattle.std.proofs.lemmas.Bool.{false≢true, or_cases}
-use Rattle.std.proofs.lemmas.List.{take_all}
 use Rattle.odb_base.specs.Path.{Name, Path, same_name}
 use Rattle.odb_disk.specs.Tree.{Tree, node_at}
-use Rattle.odb_disk.specs.Tree.Follow.{Pass, Reached, Onward, Missing, Blocked, ending, most_links, pass}
+use Rattle.odb_disk.specs.Tree.Follow.{Pass, Reached, Onward, Missing, Blocked, ending, followed, most_links, pass}
 use Rattle.odb_disk.specs.Tree.Way.{is_front_of_one, on_way, ways_onward, ways_within}
 use Rattle.odb_disk.specs.declared.node.Content.{Content}
 use Rattle.odb_disk.specs.declared.node.Content.TheVariants.{File, Dir, Link}
 use Rattle.odb_disk.specs.declared.node.Node.{Node}
 use Rattle.odb_disk.proofs.TreeLemmas.Follow.{followed_reached}
 use Rattle.odb_mem_disk.specs.PassCalls.{onward_of}
-use Rattle.gix_odb_watch.specs.Kept.{IsIn}
-use Rattle.gix_odb_watch.specs.Revealed.{IsPlain, IsPlainPath}
-use Rattle.gix_odb_watch.specs.Sight.{AreWatchedIn}
-use Rattle.gix_odb_watch.specs.Watched.{pack_directory, watched_kind}
-use Rattle.gix_odb_watch.specs.declared.watched.WatchedKind.{WatchedKind}
+use Rattle.gix_odb_watch.specs.Revealed.{IsLone, IsPlainPath}
+use Rattle.gix_odb_watch.specs.Sight.{HasName}
 use Rattle.gix_odb_watch.proofs.EntryLemmas.{by_name, inside, next, pass_by}
-use Rattle.gix_odb_watch.proofs.ListLemmas.{in_pushed}
 
 none_onward : (further : Path → List Path) (p : Pass) → onward_of p ≡ None → ways_onward further p ≡ []
 none_onward further (Reached path node) is = refl
@@ -29,7 +23,7 @@ none_onward further Blocked is = refl
 
 -- ---- a path from which no link leads on
 
-module _ (t : Tree) (path : Path) (lone : onward_of (pass t true [] path) ≡ None) where
+module _ (t : Tree) (path : Path) (lone : IsLone t path) where
   ways_alone : ways_within most_links t true path ≡ path ∷ []
   unfolding ways_within
   ways_alone = ap (λ (ways : List Path). path ∷ ways) (none_onward (ways_within 39 t true) (pass t true [] path) lone)
@@ -42,74 +36,43 @@ module _ (t : Tree) (path : Path) (lone : onward_of (pass t true [] path) ≡ No
     | inr none ↦ absurd (false≢true none)
   ]
 
--- ---- a directory of which this holds, and of each path in it at which there is something
+-- ---- a name in a directory of which this holds
 
-module _ (t : Tree) (directory : Path) (paths : List Path) (are : AreWatchedIn t directory paths) (lone : onward_of (pass t true [] directory) ≡ None)
-    (each : (path : Path) → IsIn paths path → onward_of (pass t true [] path) ≡ None) where
-  module _ (name : Name) (kind : WatchedKind) (watched : watched_kind name ≡ Some kind) where
-    abbrev Lone : Type 0
-    Lone = onward_of (pass t true [] (directory ++ name ∷ [])) ≡ None
+module _ (t : Tree) (directory : Path) (lone : IsLone t directory) (name : Name) (each : HasName t name (followed t true directory) → IsLone t (directory ++ name ∷ [])) where
+  told_by : (p : Pass) → pass t true [] directory ≡ p → pass t true [] (directory ++ name ∷ []) ≡ by_name t name p
+  told_by p at = pass_by t name [] directory ∙ ap (by_name t name) at
 
-    told_by : (p : Pass) → pass t true [] directory ≡ p → pass t true [] (directory ++ name ∷ []) ≡ by_name t name p
-    told_by p at = pass_by t name [] directory ∙ ap (by_name t name) at
+  by_node : (way : Path) (n : Node) → pass t true [] directory ≡ Reached way n → n.content ≡ Dir → (o : Option Node) → node_at t (way ++ name ∷ []) ≡ o
+      → pass t true [] (directory ++ name ∷ []) ≡ next t name way → IsLone t (directory ++ name ∷ [])
+  by_node way n reached is None at told = ap onward_of (told ∙ ap (ending true (way ++ name ∷ [])) at)
+  by_node way n reached is (Some node) at told =
+      each (record {
+        place = record { path = way; node = n };
+        leads = followed_reached t true directory most_links way n reached;
+        directory = is;
+        node = node;
+        stands = at;
+      })
 
-    by_node : (way : Path) (n : Node) → pass t true [] directory ≡ Reached way n → n.content ≡ Dir → (o : Option Node) → node_at t (way ++ name ∷ []) ≡ o
-        → pass t true [] (directory ++ name ∷ []) ≡ next t name way → Lone
-    by_node way n reached is None at told = ap onward_of (told ∙ ap (ending true (way ++ name ∷ [])) at)
-    by_node way n reached is (Some node) at told =
-        each (directory ++ name ∷ [])
-        (are.whole name kind watched
-        (record {
-          place = record { path = way; node = n };
-          leads = followed_reached t true directory most_links way n reached;
-          directory = is;
-          node = node;
-          stands = at;
-        }))
+  by_content : (way : Path) (n : Node) → pass t true [] directory ≡ Reached way n → (content : Content) → n.content ≡ content
+      → pass t true [] (directory ++ name ∷ []) ≡ inside t name content (next t name way) → IsLone t (directory ++ name ∷ [])
+  by_content way n reached (File bytes time) is told = ap onward_of told
+  by_content way n reached Dir is told = by_node way n reached is (node_at t (way ++ name ∷ [])) refl told
+  by_content way n reached (Link target) is told = ap onward_of told
 
-    by_content : (way : Path) (n : Node) → pass t true [] directory ≡ Reached way n → (content : Content) → n.content ≡ content
-        → pass t true [] (directory ++ name ∷ []) ≡ inside t name content (next t name way) → Lone
-    by_content way n reached (File bytes time) is told = ap onward_of told
-    by_content way n reached Dir is told = by_node way n reached is (node_at t (way ++ name ∷ [])) refl told
-    by_content way n reached (Link target) is told = ap onward_of told
+  by_pass : (p : Pass) → pass t true [] directory ≡ p → onward_of p ≡ None → IsLone t (directory ++ name ∷ [])
+  by_pass (Reached way n) at none = by_content way n at n.content refl (told_by (Reached way n) at)
+  by_pass (Onward onward) at none = absurd (cc)
+  by_pass Missing at none = ap onward_of (told_by Missing at)
+  by_pass Blocked at none = ap onward_of (told_by Blocked at)
 
-    by_pass : (p : Pass) → pass t true [] directory ≡ p → onward_of p ≡ None → Lone
-    by_pass (Reached way n) at none = by_content way n at n.content refl (told_by (Reached way n) at)
-    by_pass (Onward onward) at none = absurd (cc)
-    by_pass Missing at none = ap onward_of (told_by Missing at)
-    by_pass Blocked at none = ap onward_of (told_by Blocked at)
-
-    named_lone : Lone
-    named_lone = by_pass (pass t true [] directory) refl lone
-
-  -- the folder of which it is the pack directory is plain
-  pub plain_folder : (folder : Path) → directory ≡ pack_directory folder → IsPlain t folder
-  plain_folder folder is name kind watched =
-      subst (λ (d : Path). IsPlainPath t (d ++ name ∷ [])) is (plain_path t (directory ++ name ∷ []) (named_lone name kind watched))
-
--- ---- path by path
+  pub named_lone : IsLone t (directory ++ name ∷ [])
+  named_lone = by_pass (pass t true [] directory) refl lone
 
 -- where a test says so no link leads on
-pub lone_by : (t : Tree) (path : Path) → is_some (onward_of (pass t true [] path)) ≡ false → onward_of (pass t true [] path) ≡ None
+pub lone_by : (t : Tree) (path : Path) → is_some (onward_of (pass t true [] path)) ≡ false → IsLone t path
 lone_by t path = by (onward_of (pass t true [] path))
   where
     by : (o : Option Path) → is_some o ≡ false → o ≡ None
     by None is = refl
     by (Some onward) is = absurd (false≢true (sym is))
-
-abbrev AreLone : Tree → List Path → Type 0
-AreLone t paths = (path : Path) → IsIn paths path → onward_of (pass t true [] path) ≡ None
-
-pub lone_next : (t : Tree) (paths : List Path) (i : ℕ) (path : Path) → i < length paths → path ≡ get_or paths i path → AreLone t (take i paths) → onward_of (pass t true [] path) ≡ None
-    → AreLone t (take (i + 1) paths)
-lone_next t paths i path within is so lone other one =
-    let more : i + 1 ≡ suc i = omega arith in
-    let whole : take (i + 1) paths ≡ take i paths ++ path ∷ [] =
-    ap (λ (n : ℕ). take n paths) more ∙ take-suc paths i path within ∙ ap (λ (p : Path). take i paths ++ p ∷ []) (sym is) in
-    elim (in_pushed (take i paths) (take (i + 1) paths) path other whole one) [
-      | inl before ↦ so other before
-      | inr same ↦ subst (λ (p : Path). onward_of (pass t true [] p) ≡ None) same lone
-    ]
-
-pub lone_all : (t : Tree) (paths : List Path) (i : ℕ) → length paths ≤ i → AreLone t (take i paths) → AreLone t paths
-lone_all t paths i all so = subst (AreLone t) (take_all i paths all) so

@@ -1,8 +1,8 @@
 -- What is read, of what a change touches, is all that the change reveals.
-use Rattle.std.proofs.Common.{◌≡◌, ◌⊎◌, inl, inr, ℕ, Bool, true, false, not, ◌&&◌, ◌||◌, List, [], ◌∷◌, ◌++◌, Some, Result, Ok, Err, IfOk, refl, sym, ◌∙◌, subst}
+use Rattle.std.proofs.Common.{◌≡◌, ◌⊎◌, inl, inr, ℕ, Bool, true, false, ◌||◌, List, [], ◌∷◌, ◌++◌, Some, Result, Ok, Err, IfOk, refl, sym, ◌∙◌, subst}
 use Rattle.std.specs.FinSet as set
 use Rattle.std.specs.List.{starts_with}
-use Rattle.std.proofs.lemmas.Bool.{false≢true, or_parts}
+use Rattle.std.proofs.lemmas.Bool.{false≢true, or_left, or_right}
 use Rattle.odb_base.specs.Path.{Name, Path, path_cmp, same_name}
 use Rattle.odb_disk.specs.Tree.{IsTree, Tree}
 use Rattle.odb_disk.specs.Tree.Change.{changed, is_possible_in}
@@ -11,14 +11,14 @@ use Rattle.odb_disk.specs.declared.change.Change.{Change}
 use Rattle.odb_disk.proofs.TreeLemmas.Changed.{IsTree-changed}
 use Rattle.gix_odb_watch.specs.Files.{Reveals}
 use Rattle.gix_odb_watch.specs.Kept.{Contents, Fits, Folders, IsIn, Kept, Knows, ShowsInOne}
-use Rattle.gix_odb_watch.specs.Revealed.{IsRevealed, IsSeen, Relinks, is_in}
+use Rattle.gix_odb_watch.specs.Revealed.{IsPlain, IsPlainPath, IsRevealed, IsSeen, Relinks, is_in}
 use Rattle.gix_odb_watch.specs.Touched.{AreTouched, places_of}
 use Rattle.gix_odb_watch.specs.Watched.{Shows, pack_directory, watched_kind}
 use Rattle.gix_odb_watch.specs.declared.revealed.Revealed.{Revealed}
 use Rattle.gix_odb_watch.specs.declared.watched.WatchedKind.{WatchedKind}
 use Rattle.gix_odb_watch.proofs.FilesLemmas.{among_keys, keys_among}
 use Rattle.gix_odb_watch.proofs.ListLemmas.{is_in_one, one_is_in}
-use Rattle.gix_odb_watch.proofs.SeenLemmas.{nothing_seen}
+use Rattle.gix_odb_watch.proofs.SeenLemmas.{listed_first, read_first, seen_linked, seen_named, seen_named_sorted, seen_shown, seen_sorted, seen_whole, still_known}
 use Rattle.gix_odb_watch.proofs.TouchedLemmas.{shown_before, way_before}
 
 module _ (t : Tree) (change : Change) (possible : is_possible_in t change ≡ true) (watched linked keys : List Path) (named : List (Path × Path))
@@ -46,7 +46,7 @@ module _ (t : Tree) (change : Change) (possible : is_possible_in t change ≡ tr
 
     by_place : (b : Bool) → is_in (places_of t change) path ≡ b → (IsIn keys folder → ⊥) → ShowsInOne folders t path time bytes ⊎ New
     by_place true is apart =
-        inr (seen.named_whole folder path
+        inr (seen_named u keys named revealed seen folder path
         (touched.named_whole folder path among (is_in_one (places_of t change) path is) (record { name = s.name; kind = s.kind; is_watched = s.is_watched; path_is = s.path_is })) time bytes s)
     by_place false is apart =
         let own = subst (λ (p : Path). Shows folder u p time bytes) s.path_is s in
@@ -56,12 +56,12 @@ module _ (t : Tree) (change : Change) (possible : is_possible_in t change ≡ tr
         inl (record { folder = folder; among = among_keys watched folder among; shows = subst (λ (p : Path). Shows folder t p time bytes) (sym s.path_is) before })
 
     by_folder : (b : Bool) → is_in keys folder ≡ b → ShowsInOne folders t path time bytes ⊎ New
-    by_folder true is = inr (seen.whole folder (is_in_one keys folder is) path time bytes s)
+    by_folder true is = inr (seen_whole u keys named revealed seen folder (is_in_one keys folder is) path time bytes s)
     by_folder false is = by_place (is_in (places_of t change) path) refl (not_in keys folder is)
 
-  reveals : Reveals folders t u revealed.files.items
+  reveals : Reveals folders folders t u revealed.files.items
   reveals = record {
-    shown = λ file one. let s = seen.shown file one in record { folder = s.0; among = among_keys watched s.0 (watched_one s.0 s.1); shows = s.2 };
+    shown = λ file one. let s = seen_shown u keys named revealed seen (λ folder path is. (touched.named_only folder path is).1) file one in record { folder = s.0; among = among_keys watched s.0 (watched_one s.0 s.1); shows = s.2 };
     whole = λ path time bytes s. by_folder s.folder (keys_among watched s.folder s.among) path time bytes s.shows (is_in keys s.folder) refl;
   }
 
@@ -72,54 +72,47 @@ module _ (t : Tree) (change : Change) (possible : is_possible_in t change ≡ tr
     abbrev path : Path
     path = pack_directory folder ++ name ∷ []
 
-    abbrev Front : Type 0
-    Front = starts_with same_name path place ≡ true
+    abbrev front : Bool
+    front = starts_with same_name path place
 
-    -- where it isn't among the linked ones
-    module _ (none : is_in revealed.linked.items folder ≡ false) where
-      never_linked : {X : Type 0} → IsIn revealed.linked.items folder ⊎ X → X
-      never_linked (inl one) = absurd (not_in revealed.linked.items folder none one)
-      never_linked (inr is) = is
+    -- where the folder or the path was read
+    read_front : IsIn revealed.linked.items folder ⊎ IsPlainPath u path → (set.contains new folder || front) ≡ true
+    read_front (inl one) = or_left (set.contains new folder) front (relinks folder ∙ or_left (is_in revealed.linked.items folder) (set.contains old folder) (one_is_in revealed.linked.items folder one))
+    read_front (inr plain) = or_right (set.contains new folder) front (plain place on)
 
-      untouched_front : set.contains old folder ≡ false → (IsIn keys folder → ⊥) → (IsIn (places_of t change) path → ⊥) → Front
-      untouched_front was apart other =
-          let lay = way_before t change possible watched linked keys named touched knows folder among apart name kind watched_name other place on in
-          unlinked (set.contains old folder) (k name kind watched_name place lay) was
-        where
-          unlinked : (b : Bool) → (b || starts_with same_name path place) ≡ true → b ≡ false → Front
-          unlinked true either is = absurd (false≢true (sym is))
-          unlinked false either is = either
+    by_named : (IsIn keys folder → ⊥) → (b : Bool) → is_in (places_of t change) path ≡ b → (set.contains new folder || front) ≡ true
+    by_named apart true is =
+        read_front (seen_named_sorted u keys named revealed seen folder path
+        (touched.named_whole folder path among (is_in_one (places_of t change) path is) (record { name = name; kind = kind; is_watched = watched_name; path_is = refl })))
+    by_named apart false is =
+        still_known revealed old new folder relinks front
+        (k name kind watched_name place (way_before t change possible watched linked keys named touched knows folder among apart name kind watched_name (not_in (places_of t change) path is) place on))
 
-      by_named : set.contains old folder ≡ false → (IsIn keys folder → ⊥) → (b : Bool) → is_in (places_of t change) path ≡ b → Front
-      by_named was apart true is =
-          never_linked
-          (seen.named_sorted folder path
-          (touched.named_whole folder path among (is_in_one (places_of t change) path is) (record { name = name; kind = kind; is_watched = watched_name; path_is = refl }))) place on
-      by_named was apart false is = untouched_front was apart (not_in (places_of t change) path is)
-
-      by_key : set.contains old folder ≡ false → is_in revealed.plain.items folder ≡ false → (b : Bool) → is_in keys folder ≡ b → Front
-      by_key was lost true is = absurd (not_in revealed.plain.items folder lost (never_linked (seen.sorted folder (is_in_one keys folder is))))
-      by_key was lost false is = by_named was (not_in keys folder is) (is_in (places_of t change) path) refl
-
-      by_plain : (b : Bool) → is_in revealed.plain.items folder ≡ b → (not b && set.contains old folder) ≡ false → Front
-      by_plain true is was = seen.plain folder (is_in_one revealed.plain.items folder is) name kind watched_name place on
-      by_plain false is was = by_key was is (is_in keys folder) refl
-
-    by_new : (b : Bool) → set.contains new folder ≡ b → (b || starts_with same_name path place) ≡ true
-    by_new true is = refl
-    by_new false is =
-        let parts = or_parts (is_in revealed.linked.items folder) (not (is_in revealed.plain.items folder) && set.contains old folder) (sym (relinks folder) ∙ is) in
-        by_plain parts.0 (is_in revealed.plain.items folder) refl parts.1
+    by_key : (b : Bool) → is_in keys folder ≡ b → (set.contains new folder || front) ≡ true
+    by_key true is = read_front (plain_of (seen_sorted u keys named revealed seen folder (is_in_one keys folder is)))
+      where
+        plain_of : IsIn revealed.linked.items folder ⊎ IsPlain u folder → IsIn revealed.linked.items folder ⊎ IsPlainPath u path
+        plain_of (inl one) = inl one
+        plain_of (inr plain) = inr (plain name kind watched_name)
+    by_key false is = by_named (not_in keys folder is) (is_in (places_of t change) path) refl
 
   pub change_revealed : IsRevealed folders t u revealed
   change_revealed = record {
     is_tree = is_tree;
+    stays = λ folder among. among;
     reveals = reveals;
+    linked = λ folder one. among_keys watched folder (watched_one folder (seen_linked u keys named revealed seen folder one));
     knows = λ folder among old new k relinks name kind watched_name place on.
-        by_new folder (keys_among watched folder among) old new k relinks name kind watched_name place on (set.contains new folder) refl;
+        by_key folder (keys_among watched folder among) old new (k among) relinks name kind watched_name place on (is_in keys folder) refl;
   }
 
 -- ---- what the code answers
+
+pub linked_watched : (kept : Kept) (t : Tree) → Fits kept t → (watched linked : List Path) (contents : Contents)
+    → ◌≡◌ {A = Kept} (record { folders = set.from_list watched; linked = set.from_list linked; contents = contents }) kept → (folder : Path) → IsIn linked folder → IsIn watched folder
+linked_watched kept t fits watched linked contents view folder one =
+    keys_among watched folder
+    (subst (λ (k : Kept). set.contains k.linked folder ≡ true → set.contains k.folders folder ≡ true) (sym view) (fits.linked folder) (among_keys linked folder one))
 
 module _ (kept : Kept) (t : Tree) (change : Change) (fits : Fits kept t) (possible : is_possible_in t change ≡ true) (watched linked : List Path) (contents : Contents)
     (view : ◌≡◌ {A = Kept} (record { folders = set.from_list watched; linked = set.from_list linked; contents = contents }) kept) (keys : List Path) (named : List (Path × Path))
@@ -136,8 +129,14 @@ module _ (kept : Kept) (t : Tree) (change : Change) (fits : Fits kept t) (possib
   seen_answer after same (Err error) seen = tt
 
   -- where nothing is touched
-  pub nothing_answer : keys ≡ [] → named ≡ [] → (revealed : Revealed) → revealed.files.items ≡ [] → revealed.plain.items ≡ [] → IsRevealed kept.folders t (changed t change) revealed
-  nothing_answer no_keys no_named revealed files plain =
+  pub nothing_answer : keys ≡ [] → named ≡ [] → (revealed : Revealed) → revealed.files.items ≡ [] → revealed.linked.items ≡ [] → IsRevealed kept.folders t (changed t change) revealed
+  nothing_answer no_keys no_named revealed files none =
       seen_reveals revealed
       (subst (λ (n : List (Path × Path)). IsSeen (changed t change) keys n revealed) (sym no_named)
-      (subst (λ (k : List Path). IsSeen (changed t change) k [] revealed) (sym no_keys) (nothing_seen (changed t change) revealed files plain)))
+      (subst (λ (k : List Path). IsSeen (changed t change) k [] revealed) (sym no_keys)
+      (record {
+        spots = [];
+        linked = revealed.linked.items;
+        listed = listed_first (changed t change) [] revealed.linked.items none;
+        read = read_first (changed t change) revealed files;
+      })))

@@ -1,161 +1,182 @@
--- Folders and watched paths are read, one after the other.
-use Rattle.std.proofs.Common.{◌≡◌, ◌⊎◌, inl, inr, ℕ, List, [], ◌∷◌, ◌++◌, Result, Ok, Err, OnOk, refl, sym, ap, ◌∙◌, subst}
-use Rattle.odb_base.specs.Path.{Path}
+-- Folders are listed and watched paths are read, one after the other; and what is seen by that.
+use Rattle.std.proofs.Common.{◌≡◌, ◌⊎◌, inl, inr, ℕ, ◌||◌, Bool, true, false, List, [], ◌∷◌, ◌++◌, map, Some, refl, sym, ap, ◌∙◌, subst}
+use Rattle.std.specs.FinSet as set
+use Rattle.std.proofs.lemmas.Bool.{false≢true, or_cases, or_left, or_right}
+use Rattle.std.proofs.lemmas.List.{flat_map_more}
+use Rattle.odb_base.specs.Path.{Name, Path}
 use Rattle.odb_disk.specs.Tree.{Tree}
+use Rattle.odb_disk.specs.Tree.Follow.{followed, read_of}
 use Rattle.gix_odb_watch.specs.Files.{file_at}
-use Rattle.gix_odb_watch.specs.Kept.{IsIn}
-use Rattle.gix_odb_watch.specs.Revealed.{AddsLinked, IsPlain, IsPlainPath, IsSeen, LooksAt, LooksAtPath}
+use Rattle.gix_odb_watch.specs.Kept.{Folders, IsIn}
+use Rattle.gix_odb_watch.specs.Revealed.{AreListed, AreRead, IsLone, IsPlain, IsPlainPath, IsSeen, Links, Relinks, Spot, is_in}
+use Rattle.gix_odb_watch.specs.Sight.{AreWatchedIn, HasName}
 use Rattle.gix_odb_watch.specs.Touched.{LiesIn}
-use Rattle.gix_odb_watch.specs.Watched.{Shows}
+use Rattle.gix_odb_watch.specs.Watched.{Shows, pack_directory, watched_kind}
 use Rattle.gix_odb_watch.specs.declared.revealed.Revealed.{Revealed}
 use Rattle.gix_odb_watch.specs.declared.shown_file.ShownFile.{ShownFile}
-use Rattle.gix_odb_watch.proofs.FilesLemmas.{at_shows, in_shows, shown_at, shown_in}
-use Rattle.gix_odb_watch.proofs.ListLemmas.{in_more, in_pushed, last_pushed, new_more, old_more, old_pushed}
+use Rattle.gix_odb_watch.specs.declared.watched.WatchedKind.{WatchedKind}
+use Rattle.gix_odb_watch.proofs.EntryLemmas.{read_has_name}
+use Rattle.gix_odb_watch.proofs.FilesLemmas.{at_shows, shown_at}
+use Rattle.gix_odb_watch.proofs.ListLemmas.{in_flat_map, in_map, in_more, in_pushed, is_in_one, last_pushed, new_more, of_flat_map, of_map, old_more, old_pushed, one_is_in}
+use Rattle.gix_odb_watch.proofs.PlainLemmas.{named_lone, plain_path}
 
-abbrev file_of : (path : Path) (time : ℕ) (bytes : List ℕ) → ShownFile
-file_of path time bytes = record { key = (path, time); bytes = bytes }
+-- a folder that was linked stays linked
+pub still_known : (revealed : Revealed) (was now : Folders) (folder : Path) → Relinks was revealed now → (front : Bool) → (set.contains was folder || front) ≡ true
+    → (set.contains now folder || front) ≡ true
+still_known revealed was now folder relinks front either = elim (or_cases (set.contains was folder) front either) [
+  | inl linked ↦ or_left (set.contains now folder) front (relinks folder ∙ or_right (is_in revealed.linked.items folder) (set.contains was folder) linked)
+  | inr is ↦ or_right (set.contains now folder) front is
+]
 
--- nothing is read
-pub nothing_seen : (t : Tree) (revealed : Revealed) → revealed.files.items ≡ [] → revealed.plain.items ≡ [] → IsSeen t [] [] revealed
-nothing_seen t revealed files plain = record {
-  shown = λ file one. absurd (subst (λ (l : List ShownFile). IsIn l file) files one);
-  whole = λ folder one. absurd one;
-  named_whole = λ folder path one. absurd one;
-  plain = λ folder one. absurd (subst (λ (l : List Path). IsIn l folder) plain one);
-  sorted = λ folder one. absurd one;
-  named_sorted = λ folder path one. absurd one;
-}
+module _ (t : Tree) where
+  -- ---- folders are listed
 
-module _ (t : Tree) (folders : List Path) (named : List (Path × Path)) (old new : Revealed) (seen : IsSeen t folders named old) (folder : Path) where
-  -- what is linked stays linked
-  linked_stays : AddsLinked folder old new → (other : Path) → IsIn old.linked.items other → IsIn new.linked.items other
-  linked_stays adds other one = old_pushed old.linked.items new.linked.items folder other adds.linked one
+  pub listed_first : (named : List Spot) (linked : List Path) → linked ≡ [] → AreListed t [] named named linked
+  listed_first named linked none = record {
+    keeps = λ spot one. one;
+    listed = λ folder one. absurd one;
+    only = λ folder path one. inl one;
+    sorted = λ folder one. absurd one;
+    linked_only = λ folder one. absurd (subst (λ (l : List Path). IsIn l folder) none one);
+  }
 
-  same_items : {X : Type 0} (xs ys : List X) → ys ≡ xs → (x : X) → IsIn xs x → IsIn ys x
-  same_items {X = X} xs ys is x one = subst (λ (l : List X). IsIn l x) (sym is) one
-
-  -- ---- a folder
-
-  module _ (looks : LooksAt t folder old new) where
+  module _ (folders : List Path) (named spots longer : List Spot) (linked newer : List Path) (folder directory : Path) (own : directory ≡ pack_directory folder) (paths : List Path)
+      (watched : AreWatchedIn t directory paths) (added : longer ≡ spots ++ map (λ (path : Path). (folder, path)) paths) (links : Links t folder directory linked newer)
+      (so : AreListed t folders named spots linked) where
     abbrev more : List Path
     more = folders ++ folder ∷ []
 
-    among_more : (other : Path) → IsIn folders other ⊎ ((path : Path) × IsIn named (other, path)) → IsIn more other ⊎ ((path : Path) × IsIn named (other, path))
-    among_more other (inl one) = inl (old_pushed folders more folder other refl one)
-    among_more other (inr one) = inr one
+    abbrev its_spots : List Spot
+    its_spots = map (λ (path : Path). (folder, path)) paths
 
-    keeps : (other : Path) → IsIn old.linked.items other ⊎ IsIn old.plain.items other → IsIn new.linked.items other ⊎ IsIn new.plain.items other
-    keeps other was = elim looks.sorted [
-      | inl l ↦ elim was [
-        | inl one ↦ inl (linked_stays l other one)
-        | inr one ↦ inr (same_items old.plain.items new.plain.items l.plain other one)
-      ]
-      | inr p ↦ elim was [
-        | inl one ↦ inl (same_items old.linked.items new.linked.items p.linked other one)
-        | inr one ↦ inr (old_pushed old.plain.items new.plain.items folder other p.plain one)
-      ]
-    ]
+    own_watched : AreWatchedIn t (pack_directory folder) paths
+    own_watched = subst (λ (d : Path). AreWatchedIn t d paths) own watched
 
-    own_sorted : IsIn new.linked.items folder ⊎ IsIn new.plain.items folder
-    own_sorted = elim looks.sorted [
-      | inl l ↦ inl (last_pushed old.linked.items new.linked.items folder l.linked)
-      | inr p ↦ inr (last_pushed old.plain.items new.plain.items folder p.plain)
-    ]
+    own_sorted : IsIn newer folder ⊎ IsLone t (pack_directory folder)
+    own_sorted = subst (λ (d : Path). IsIn newer folder ⊎ IsLone t d) own links.sorted
 
-    plain_by : (other : Path) → IsIn new.plain.items other → IsPlain t other
-    plain_by other one = elim looks.sorted [
-      | inl l ↦ seen.plain other (subst (λ (i : List Path). IsIn i other) l.plain one)
-      | inr p ↦ elim (in_pushed old.plain.items new.plain.items folder other p.plain one) [
-        | inl before ↦ seen.plain other before
-        | inr same ↦ subst (IsPlain t) same p.is_plain
-      ]
-    ]
+    own_listed : (name : Name) (kind : WatchedKind) → watched_kind name ≡ Some kind → HasName t name (followed t true (pack_directory folder))
+        → IsIn longer (folder, pack_directory folder ++ name ∷ [])
+    own_listed name kind is h =
+        new_more spots its_spots longer (folder, pack_directory folder ++ name ∷ []) added
+        (in_map (λ (path : Path). (folder, path)) paths (pack_directory folder ++ name ∷ []) (own_watched.whole name kind is h))
 
-    linked_or : {Other : Type 0} (other : Path) → IsIn old.linked.items other ⊎ Other → IsIn new.linked.items other ⊎ Other
-    linked_or other (inr is) = inr is
-    linked_or other (inl one) = elim looks.sorted [
-      | inl l ↦ inl (linked_stays l other one)
-      | inr p ↦ inl (same_items old.linked.items new.linked.items p.linked other one)
-    ]
+    abbrev IsUnder : Spot → Type 0
+    IsUnder spot = IsIn more spot.0 × ((name : Name) × (spot.1 ≡ pack_directory spot.0 ++ name ∷ []))
 
-    pub folder_seen : IsSeen t more named new
-    folder_seen = record {
-      shown = λ file one. elim (in_more old.files.items looks.files new.files.items file looks.added one) [
-        | inl before ↦ let s = seen.shown file before in (s.0, among_more s.0 s.1, s.2)
-        | inr here ↦ (folder, inl (last_pushed folders more folder refl), in_shows folder t looks.files looks.are_in file here)
-      ];
-      whole = λ other one path time bytes s. elim (in_pushed folders more folder other refl one) [
-        | inl before ↦ old_more old.files.items looks.files new.files.items (file_of path time bytes) looks.added (seen.whole other before path time bytes s)
+    own_under : (spot : Spot) → IsIn its_spots spot → IsUnder spot
+    own_under spot one = let m = of_map (λ (path : Path). (folder, path)) paths spot one in subst IsUnder m.2 (last_pushed folders more folder refl, own_watched.only m.0 m.1)
+
+    pub listed_next : AreListed t more named longer newer
+    listed_next = record {
+      keeps = λ spot one. old_more spots its_spots longer spot added (so.keeps spot one);
+      listed = λ other one name kind is h. elim (in_pushed folders more folder other refl one) [
+        | inl before ↦ old_more spots its_spots longer (other, pack_directory other ++ name ∷ []) added (so.listed other before name kind is h)
         | inr same ↦
-            new_more old.files.items looks.files new.files.items (file_of path time bytes) looks.added
-            (shown_in folder t looks.files looks.are_in path time bytes (subst (λ (f : Path). Shows f t path time bytes) (sym same) s))
+            subst (λ (f : Path). IsIn longer (f, pack_directory f ++ name ∷ [])) same
+            (own_listed name kind is (subst (λ (f : Path). HasName t name (followed t true (pack_directory f))) (sym same) h))
       ];
-      named_whole = λ other path one time bytes s.
-          old_more old.files.items looks.files new.files.items (file_of path time bytes) looks.added (seen.named_whole other path one time bytes s);
-      plain = plain_by;
-      sorted = λ other one. elim (in_pushed folders more folder other refl one) [
-        | inl before ↦ keeps other (seen.sorted other before)
-        | inr same ↦ subst (λ (f : Path). IsIn new.linked.items f ⊎ IsIn new.plain.items f) same own_sorted
-      ];
-      named_sorted = λ other path one. linked_or other (seen.named_sorted other path one);
-    }
-
-  -- ---- a watched path
-
-  module _ (path : Path) (lies : LiesIn folder path) (looks : LooksAtPath t folder path old new) where
-    abbrev longer : List (Path × Path)
-    longer = named ++ (folder, path) ∷ []
-
-    among_longer : (other : Path) → IsIn folders other ⊎ ((p : Path) × IsIn named (other, p)) → IsIn folders other ⊎ ((p : Path) × IsIn longer (other, p))
-    among_longer other (inl one) = inl one
-    among_longer other (inr one) = inr (one.0, old_pushed named longer (folder, path) (other, one.0) refl one.1)
-
-    linked_keeps : (other : Path) → IsIn old.linked.items other → IsIn new.linked.items other
-    linked_keeps other one = elim looks.sorted [
-      | inl l ↦ linked_stays l other one
-      | inr n ↦ same_items old.linked.items new.linked.items n.linked other one
-    ]
-
-    plain_same : new.plain.items ≡ old.plain.items
-    plain_same = elim looks.sorted [ inl l ↦ l.plain | inr n ↦ n.plain ]
-
-    own_named : IsIn new.linked.items folder ⊎ IsPlainPath t path
-    own_named = elim looks.sorted [
-      | inl l ↦ inl (last_pushed old.linked.items new.linked.items folder l.linked)
-      | inr n ↦ inr n.is_plain
-    ]
-
-    pub path_seen : IsSeen t folders longer new
-    path_seen = record {
-      shown = λ file one. elim (in_more old.files.items (file_at t path) new.files.items file looks.added one) [
-        | inl before ↦ let s = seen.shown file before in (s.0, among_longer s.0 s.1, s.2)
-        | inr here ↦ (folder, inr (path, last_pushed named longer (folder, path) refl), at_shows folder t lies.name path lies.path_is file here)
-      ];
-      whole = λ other one p time bytes s.
-          old_more old.files.items (file_at t path) new.files.items (file_of p time bytes) looks.added (seen.whole other one p time bytes s);
-      named_whole = λ other p one time bytes s. elim (in_pushed named longer (folder, path) (other, p) refl one) [
-        | inl before ↦ old_more old.files.items (file_at t path) new.files.items (file_of p time bytes) looks.added (seen.named_whole other p before time bytes s)
-        | inr same ↦
-            new_more old.files.items (file_at t path) new.files.items (file_of p time bytes) looks.added
-            (subst (λ (q : Path). IsIn (file_at t q) (file_of p time bytes)) (sym (ap (λ (k : Path × Path). k.1) same)) (shown_at other t p time bytes s))
-      ];
-      plain = λ other one. seen.plain other (subst (λ (i : List Path). IsIn i other) plain_same one);
-      sorted = λ other one. elim (seen.sorted other one) [
-        | inl linked ↦ inl (linked_keeps other linked)
-        | inr plain ↦ inr (same_items old.plain.items new.plain.items plain_same other plain)
-      ];
-      named_sorted = λ other p one. elim (in_pushed named longer (folder, path) (other, p) refl one) [
-        | inl before ↦ elim (seen.named_sorted other p before) [
-          | inl linked ↦ inl (linked_keeps other linked)
-          | inr plain ↦ inr plain
+      only = λ other path one. elim (in_more spots its_spots longer (other, path) added one) [
+        | inl before ↦ elim (so.only other path before) [
+          | inl was ↦ inl was
+          | inr under ↦ inr (old_pushed folders more folder other refl under.0, under.1)
         ]
-        | inr same ↦ subst (λ (k : Path × Path). IsIn new.linked.items k.0 ⊎ IsPlainPath t k.1) same own_named
+        | inr now ↦ inr (own_under (other, path) now)
+      ];
+      sorted = λ other one. elim (in_pushed folders more folder other refl one) [
+        | inl before ↦ elim (so.sorted other before) [ inl was ↦ inl (old_more linked links.more newer other links.added was) | inr lone ↦ inr lone ]
+        | inr same ↦ subst (λ (f : Path). IsIn newer f ⊎ IsLone t (pack_directory f)) same own_sorted
+      ];
+      linked_only = λ other one. elim (in_more linked links.more newer other links.added one) [
+        | inl before ↦ old_pushed folders more folder other refl (so.linked_only other before)
+        | inr now ↦ subst (IsIn more) (links.only other now) (last_pushed folders more folder refl)
       ];
     }
 
--- a path that follows a link is read
-pub linked_answer : {A E : Type 0} (t : Tree) (folder path : Path) (old new : Revealed) (files : List ShownFile) → files ≡ old.files.items ++ file_at t path → (answer : Result A E)
-    → OnOk answer (new.files.items ≡ files) → OnOk answer (new.linked.items ≡ old.linked.items ++ folder ∷ []) → OnOk answer (new.plain.items ≡ old.plain.items)
-    → OnOk answer (LooksAtPath t folder path old new)
-linked_answer t folder path old new files added (Ok done) kept linked plain = record { added = kept ∙ added; sorted = inl (record { linked = linked; plain = plain }) }
-linked_answer t folder path old new files added (Err error) kept linked plain = tt
+  -- ---- paths are read
+
+  pub read_first : (revealed : Revealed) → revealed.files.items ≡ [] → AreRead t [] revealed.linked.items revealed
+  read_first revealed none = record { files = none; stays = λ folder one. one; sorted = λ folder path one. absurd one; only = λ folder one. inl one }
+
+  module _ (spots : List Spot) (linked : List Path) (old new : Revealed) (folder path : Path) (links : Links t folder path old.linked.items new.linked.items)
+      (added : new.files.items ≡ old.files.items ++ file_at t path) (so : AreRead t spots linked old) where
+    abbrev longer : List Spot
+    longer = spots ++ (folder, path) ∷ []
+
+    still_linked : (other : Path) → IsIn old.linked.items other → IsIn new.linked.items other
+    still_linked other one = old_more old.linked.items links.more new.linked.items other links.added one
+
+    pub read_next : AreRead t longer linked new
+    read_next = record {
+      files = added ∙ ap (λ (l : List ShownFile). l ++ file_at t path) so.files ∙ flat_map_more (λ (spot : Spot). file_at t spot.1) [] spots (folder, path);
+      stays = λ other one. still_linked other (so.stays other one);
+      sorted = λ other p one. elim (in_pushed spots longer (folder, path) (other, p) refl one) [
+        | inl before ↦ elim (so.sorted other p before) [ inl was ↦ inl (still_linked other was) | inr lone ↦ inr lone ]
+        | inr same ↦ subst (λ (s : Spot). IsIn new.linked.items s.0 ⊎ IsLone t s.1) same links.sorted
+      ];
+      only = λ other one. elim (in_more old.linked.items links.more new.linked.items other links.added one) [
+        | inl before ↦ elim (so.only other before) [
+          | inl was ↦ inl was
+          | inr at ↦ inr (at.0, old_pushed spots longer (folder, path) (other, at.0) refl at.1)
+        ]
+        | inr now ↦ inr (path, subst (λ (f : Path). IsIn longer (f, path)) (links.only other now) (last_pushed spots longer (folder, path) refl))
+      ];
+    }
+
+-- ---- what is seen
+
+module _ (t : Tree) (folders : List Path) (named : List Spot) (revealed : Revealed) (seen : IsSeen t folders named revealed) where
+  abbrev files_of : Spot → List ShownFile
+  files_of spot = file_at t spot.1
+
+  pub seen_linked : (folder : Path) → IsIn revealed.linked.items folder → IsIn folders folder ⊎ ((path : Path) × IsIn named (folder, path))
+  seen_linked folder one = elim (seen.read.only folder one) [
+    | inl was ↦ inl (seen.listed.linked_only folder was)
+    | inr at ↦ elim (seen.listed.only folder at.0 at.1) [ inl is ↦ inr (at.0, is) | inr under ↦ inl under.0 ]
+  ]
+
+  pub seen_shown : ((folder path : Path) → IsIn named (folder, path) → LiesIn folder path) → (file : ShownFile) → IsIn revealed.files.items file
+      → (folder : Path) × (IsIn folders folder ⊎ ((path : Path) × IsIn named (folder, path))) × Shows folder t file.key.0 file.key.1 file.bytes
+  seen_shown lies file one =
+      let o = of_flat_map files_of seen.spots file (subst (λ (l : List ShownFile). IsIn l file) seen.read.files one) in
+      elim (seen.listed.only o.0.0 o.0.1 o.1) [
+        | inl is ↦ let l = lies o.0.0 o.0.1 is in (o.0.0, inr (o.0.1, is), at_shows o.0.0 t l.name o.0.1 l.path_is file o.2)
+        | inr under ↦ (o.0.0, inl under.0, at_shows o.0.0 t under.1.0 o.0.1 under.1.1 file o.2)
+      ]
+
+  spot_seen : (folder path : Path) → IsIn seen.spots (folder, path) → (time : ℕ) (bytes : List ℕ) → Shows folder t path time bytes
+      → IsIn revealed.files.items (record { key = (path, time); bytes = bytes })
+  spot_seen folder path one time bytes s =
+      subst (λ (l : List ShownFile). IsIn l (record { key = (path, time); bytes = bytes })) (sym seen.read.files)
+      (in_flat_map files_of seen.spots (folder, path) (record { key = (path, time); bytes = bytes }) one (shown_at folder t path time bytes s))
+
+  pub seen_named : (folder path : Path) → IsIn named (folder, path) → (time : ℕ) (bytes : List ℕ) → Shows folder t path time bytes
+      → IsIn revealed.files.items (record { key = (path, time); bytes = bytes })
+  seen_named folder path one time bytes s = spot_seen folder path (seen.listed.keeps (folder, path) one) time bytes s
+
+  pub seen_whole : (folder : Path) → IsIn folders folder → (path : Path) (time : ℕ) (bytes : List ℕ) → Shows folder t path time bytes
+      → IsIn revealed.files.items (record { key = (path, time); bytes = bytes })
+  seen_whole folder one path time bytes s =
+      let has = read_has_name t s.name (pack_directory folder) (bytes, s.at) (ap (read_of t) (sym s.path_is) ∙ s.reads) in
+      spot_seen folder path (subst (λ (p : Path). IsIn seen.spots (folder, p)) (sym s.path_is) (seen.listed.listed folder one s.name s.kind s.is_watched has)) time bytes s
+
+  pub seen_named_sorted : (folder path : Path) → IsIn named (folder, path) → IsIn revealed.linked.items folder ⊎ IsPlainPath t path
+  seen_named_sorted folder path one = elim (seen.read.sorted folder path (seen.listed.keeps (folder, path) one)) [ inl is ↦ inl is | inr lone ↦ inr (plain_path t path lone) ]
+
+  pub seen_sorted : (folder : Path) → IsIn folders folder → IsIn revealed.linked.items folder ⊎ IsPlain t folder
+  seen_sorted folder one = by (is_in revealed.linked.items folder) refl
+    where
+      never : {X : Type 0} → is_in revealed.linked.items folder ≡ false → IsIn revealed.linked.items folder ⊎ X → X
+      never none (inl is) = absurd (false≢true (sym none ∙ one_is_in revealed.linked.items folder is))
+      never none (inr x) = x
+
+      lone_directory : IsIn revealed.linked.items folder ⊎ IsLone t (pack_directory folder)
+      lone_directory = elim (seen.listed.sorted folder one) [ inl was ↦ inl (seen.read.stays folder was) | inr lone ↦ inr lone ]
+
+      by : (b : Bool) → is_in revealed.linked.items folder ≡ b → IsIn revealed.linked.items folder ⊎ IsPlain t folder
+      by true is = inl (is_in_one revealed.linked.items folder is)
+      by false none =
+          inr (λ name kind watched.
+          plain_path t (pack_directory folder ++ name ∷ [])
+          (named_lone t (pack_directory folder) (never none lone_directory) name (λ h.
+          never none (seen.read.sorted folder (pack_directory folder ++ name ∷ []) (seen.listed.listed folder one name kind watched h)))))

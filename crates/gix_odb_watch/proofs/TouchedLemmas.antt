@@ -8,7 +8,7 @@ use Rattle.std.proofs.lemmas.Bool.{and_from, and_parts, false≢true, false_from
 use Rattle.odb_base.specs.Path.{Name, Path, path_cmp, same_name}
 use Rattle.odb_disk.specs.Tree.{Tree}
 use Rattle.odb_disk.specs.Tree.Follow as following
-use Rattle.odb_disk.specs.Tree.Follow.{Place, followed, read_of}
+use Rattle.odb_disk.specs.Tree.Follow.{Place, followed}
 use Rattle.odb_disk.specs.Tree.Change.{changed, is_file_place, is_possible_in}
 use Rattle.odb_disk.specs.Tree.Way.{SameOnWay, on_way}
 use Rattle.odb_disk.specs.Tree.Write as writing

@@ -1,5 +1,5 @@
 -- The files that a tree shows in pack directories, as lists. No public clause cites this.
-use Rattle.std.specs.Prelude.{◌≡◌, ◌⊎◌, ◌++◌, ℕ, Bool, false, not, List, [], ◌∷◌, Option, Some, None, Result, Ok, Err, unwrap_or}
+use Rattle.std.specs.Prelude.{◌⊎◌, ℕ, Bool, false, not, List, [], ◌∷◌, Option, Some, None, Result, Ok, Err, unwrap_or}
 use Rattle.std.specs.Result.{result_ok}
 use Rattle.std.specs.List.{flat_map}
 use Rattle.std.specs.FinMap as finite
@@ -7,11 +7,10 @@ use Rattle.odb_base.specs.Path.{Path, last_name, same_name}
 use Rattle.odb_disk.specs.Tree.{Tree}
 use Rattle.odb_disk.specs.Tree.Follow.{Refusal, read_of}
 use Rattle.odb_disk.specs.Entries.{opened}
-use Rattle.odb_disk.specs.declared.change.Change.{Change}
 use Rattle.odb_disk.specs.declared.entry.Entry.{Entry}
-use Rattle.gix_odb_watch.specs.Watched.{counted, named_kind, pack_directory}
+use Rattle.gix_odb_watch.specs.Watched.{counted, named_kind}
 use Rattle.gix_odb_watch.specs.Kept.{Contents, Folders, IsIn, ShowsInOne}
-use Rattle.gix_odb_watch.specs.Sight.{AreWatchedIn, place_put, put_path, watched_path}
+use Rattle.gix_odb_watch.specs.Sight.{watched_path}
 use Rattle.gix_odb_watch.specs.declared.watched.WatchedKind.{WatchedKind}
 use Rattle.gix_odb_watch.specs.declared.shown_file.ShownFile.{ShownFile}
 
@@ -32,16 +31,6 @@ listed tree directory = unwrap_or (result_ok (opened tree directory)) []
 -- the watched paths of a directory at whose names there is something, by another path that leads there
 abbrev pub listed_paths : Tree → (like directory : Path) → List Path
 listed_paths tree like directory = flat_map (λ entry. watched_path directory entry.name) (listed tree like)
-
--- the watched paths after a change: that of what the change puts may be among them too
-abbrev pub paths_like : Tree → Option Change → (like directory : Path) → List Path
-paths_like tree change like directory = listed_paths tree like directory ++ put_path directory (place_put change)
-
--- The files are what a tree shows in the pack directory of a folder.
-pub record AreFilesIn (tree : Tree) (folder : Path) (files : List ShownFile) : Type 0 where
-  pub paths : List Path
-  pub watched : AreWatchedIn tree (pack_directory folder) paths
-  pub are : files ≡ flat_map (file_at tree) paths
 
 -- whether other bytes than a file's are kept under its key
 abbrev pub is_other : Option (List ℕ) → List ℕ → Bool
@@ -64,8 +53,8 @@ abbrev pub with_files : Contents → List ShownFile → Contents
 with_files contents [] = contents
 with_files contents (file ∷ files) = with_files (with_file contents file) files
 
--- The files are what watched paths show in a tree that comes after another one: all that they didn't show before.
-pub record Reveals (folders : Folders) (before after : Tree) (files : List ShownFile) : Type 0 where
-  pub shown : (file : ShownFile) → IsIn files file → ShowsInOne folders after file.key.0 file.key.1 file.bytes
-  pub whole : (path : Path) (time : ℕ) (bytes : List ℕ) → ShowsInOne folders after path time bytes
-      → ShowsInOne folders before path time bytes ⊎ IsIn files (record { key = (path, time); bytes = bytes })
+-- The files are what paths of the new folders show in a tree that comes after another one: all that those of the old ones didn't show before.
+pub record Reveals (old new : Folders) (before after : Tree) (files : List ShownFile) : Type 0 where
+  pub shown : (file : ShownFile) → IsIn files file → ShowsInOne new after file.key.0 file.key.1 file.bytes
+  pub whole : (path : Path) (time : ℕ) (bytes : List ℕ) → ShowsInOne new after path time bytes
+      → ShowsInOne old before path time bytes ⊎ IsIn files (record { key = (path, time); bytes = bytes })

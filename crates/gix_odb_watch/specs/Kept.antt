@@ -89,9 +89,10 @@ Knows linked tree folder =
     → (set.contains linked folder || starts_with same_name (pack_directory folder ++ name ∷ []) place) ≡ true
 
 -- What is kept fits a tree: all that the tree shows in the watched folders is kept, and only what such paths showed is, and each folder
--- in which a path follows a link is kept as linked. The tree is that of a disk, so that nothing is below a place where nothing is.
+-- in which a path follows a link is kept as linked, and watched. The tree is that of a disk, so that nothing is below a place where nothing is.
 pub record Fits (kept : Kept) (tree : Tree) : Type 0 where
   pub is_tree : IsTree tree
   pub whole : (path : Path) (time : ℕ) (bytes : List ℕ) → ShowsInOne kept.folders tree path time bytes → finite.get kept.contents (path, time) ≡ Some bytes
   pub only : (path : Path) (time : ℕ) (bytes : List ℕ) → finite.get kept.contents (path, time) ≡ Some bytes → LiesInOne kept.folders path
+  pub linked : (folder : Path) → set.contains kept.linked folder ≡ true → set.contains kept.folders folder ≡ true
   pub knows : (folder : Path) → set.contains kept.folders folder ≡ true → Knows kept.linked tree folder

@@ -6,4 +6,5 @@ pub mod HasShown
 pub mod Files
 pub mod Revealed
 pub mod Touched
+pub mod Over
 pub mod Sight

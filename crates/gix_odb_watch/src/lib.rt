@@ -14,7 +14,7 @@
 mod contents;
 mod linked;
 mod names;
-mod put;
+mod over;
 mod revealed;
 mod shown;
 mod shown_file;

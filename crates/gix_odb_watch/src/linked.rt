@@ -1,5 +1,5 @@
-//! Folders that are added to a set, or taken from it.
-ghost use Rattle.std.specs.Prelude.{◌≡◌, ◌&&◌, ◌||◌, not, OnOk};
+//! Folders that are added to a set.
+ghost use Rattle.std.specs.Prelude.{◌≡◌, ◌||◌, OnOk};
 ghost use Rattle.odb_base.specs.Path.{Path};
 ghost use Rattle.gix_odb_watch.specs.Revealed.{is_in};
 
@@ -13,12 +13,4 @@ pub(crate) fn add_all(set: &mut BTreeSet<PathText>, folders: Vec<PathText>) -> R
         set.insert(folder)?;
     }
     Ok(())
-}
-
-pub(crate) fn remove_all(set: &mut BTreeSet<PathText>, folders: Vec<PathText>)
-    ensures removed { (folder : Path) → is_in set.new.keys folder ≡ (not (is_in folders.items folder) && is_in set.old.keys folder) }
-{
-    for folder in folders {
-        let _ = set.remove(&folder);
-    }
 }

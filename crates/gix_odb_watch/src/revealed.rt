@@ -1,20 +1,15 @@
 //! What a change would make watched paths show.
-ghost use Rattle.std.specs.Prelude.{◌≡◌, ◌++◌, [], ◌∷◌, true, false, List, IfOk, OnOk};
+ghost use Rattle.std.specs.Prelude.{◌≡◌, ◌++◌, [], ◌∷◌, List, map, IfOk, OnOk};
 ghost use Rattle.odb_base.specs.Path.{Path};
 ghost use Rattle.odb_disk.specs.Tree.{IsTree};
-ghost use Rattle.odb_disk.specs.Tree.Change.{changed, is_possible_in};
-ghost use Rattle.gix_odb_watch.specs.Kept.{IsIn};
-ghost use Rattle.gix_odb_watch.specs.Revealed.{IsPlain, IsSeen, LooksAt, LooksAtPath};
-ghost use Rattle.gix_odb_watch.specs.Sight.{AreWatchedIn, is_whole};
-ghost use Rattle.gix_odb_watch.specs.Touched.{LiesIn};
-ghost use Rattle.gix_odb_watch.specs.Watched.{pack_directory};
+ghost use Rattle.gix_odb_watch.specs.Files.{file_at};
+ghost use Rattle.gix_odb_watch.specs.Revealed.{AreListed, AreRead, IsSeen, Links, Spot};
 
-use crate::shown_file::{ShownFile, add_file, files_read};
+use crate::shown_file::{ShownFile, add_file};
 use crate::sight::Sight;
-use crate::touched::Touched;
+use crate::touched::{Touched, add_pair};
 use crate::watched::pack_directory;
 use odb_base::{NoMemory, PathText};
-use odb_disk::Change;
 use odb_mem_disk::Tree;
 use std::alloc::Global;
 
@@ -24,8 +19,6 @@ pub struct Revealed {
     pub(crate) files: Vec<ShownFile>,
     /// Folders in which a watched path follows a link after the change.
     pub(crate) linked: Vec<PathText>,
-    /// Folders in which none does.
-    pub(crate) plain: Vec<PathText>,
 }
 
 impl Revealed {
@@ -33,155 +26,136 @@ impl Revealed {
     pub(crate) fn nothing(alloc: Global) -> Revealed
         ensures files { result.files.items ≡ [] }
         ensures linked { result.linked.items ≡ [] }
-        ensures plain { result.plain.items ≡ [] }
     {
         Revealed {
             files: Vec::new(alloc),
             linked: Vec::new(alloc),
-            plain: Vec::new(alloc),
         }
     }
 }
 
-/// Returns what the folders and the paths show after a change that it touches.
-pub(crate) fn seen_after(
-    alloc: Global,
-    tree: &Tree,
-    change: &Change,
-    touched: Touched,
-) -> Result<Revealed, NoMemory>
-    requires is_tree { IsTree tree.now }
-    requires possible { is_possible_in tree.now change.now ≡ true }
-    requires is_whole { is_whole change.now ≡ true }
-    requires named { (folder path : Path) → IsIn touched.named.items (folder, path) → LiesIn folder path }
-    ensures seen { IfOk result (IsSeen (changed tree.now change.now) touched.folders.items touched.named.items) }
-{
-    let after = Sight::after(tree, change);
-    seen(alloc, &after, touched)
-}
-
-/// Returns what they show after the put of a file that stands for a change.
-pub(crate) fn seen_put(
-    alloc: Global,
-    tree: &Tree,
-    put: Change,
-    touched: Touched,
-) -> Result<Revealed, NoMemory>
-    requires is_tree { IsTree tree.now }
-    requires possible { is_possible_in tree.now put ≡ true }
-    requires is_whole { is_whole put ≡ true }
-    requires named { (folder path : Path) → IsIn touched.named.items (folder, path) → LiesIn folder path }
-    ensures seen { IfOk result (IsSeen (changed tree.now put) touched.folders.items touched.named.items) }
-{
-    seen_after(alloc, tree, &put, touched)
-}
-
-fn seen(alloc: Global, sight: &Sight<'_>, touched: Touched) -> Result<Revealed, NoMemory>
-    requires named { (folder path : Path) → IsIn touched.named.items (folder, path) → LiesIn folder path }
+/// Returns what touched folders and paths show.
+pub(crate) fn seen(alloc: Global, sight: &Sight<'_>, touched: Touched) -> Result<Revealed, NoMemory>
     ensures seen { IfOk result (IsSeen sight.now touched.folders.items touched.named.items) }
 {
-    let Touched { folders, named } = touched;
-    let mut revealed = Revealed::nothing(alloc);
-    look_at_all(alloc, sight, folders, &mut revealed)?;
-    look_at_named(alloc, sight, named, &mut revealed)?;
+    let Touched { folders, mut named } = touched;
+    let mut linked = Vec::new(alloc);
+    list_all(alloc, sight, folders, &mut named, &mut linked)?;
+    let mut revealed = Revealed {
+        files: Vec::new(alloc),
+        linked,
+    };
+    read_all(alloc, sight, named, &mut revealed)?;
     Ok(revealed)
 }
 
-fn look_at_all(
+/// Returns what a folder shows in a tree as it is.
+pub(crate) fn seen_now(alloc: Global, folder: &PathText, tree: &Tree) -> Result<Revealed, NoMemory>
+    requires is_tree { IsTree tree.now }
+    ensures seen { IfOk result (IsSeen tree.now (folder.now ∷ []) []) }
+{
+    let mut folders = Vec::new(alloc);
+    folders.push(folder.try_clone(alloc)?)?;
+    let touched = Touched {
+        folders,
+        named: Vec::new(alloc),
+    };
+    seen(alloc, &Sight::now(tree), touched)
+}
+
+/// Adds the watched paths of folders at which there is something to those that are to be read.
+fn list_all(
     alloc: Global,
     sight: &Sight<'_>,
     folders: Vec<PathText>,
-    revealed: &mut Revealed,
+    spots: &mut Vec<(PathText, PathText)>,
+    linked: &mut Vec<PathText>,
 ) -> Result<(), NoMemory>
-    requires first { IsSeen sight.now [] [] revealed.old }
-    ensures seen { OnOk result (IsSeen sight.now folders.items [] revealed.new) }
+    requires none { linked.old.items ≡ [] }
+    ensures listed { OnOk result (AreListed sight.now folders.items spots.old.items spots.new.items linked.new.items) }
 {
     for folder in folders {
-        look_at(alloc, sight, folder, revealed)?;
+        list(alloc, sight, &folder, spots, linked)?;
     }
     Ok(())
 }
 
-/// Adds what a folder shows, and whether a watched path in it follows a link.
-pub(crate) fn look_at(
+/// Adds the watched paths of a folder, and the folder to the linked ones where a link leads on from its directory.
+fn list(
     alloc: Global,
     sight: &Sight<'_>,
-    folder: PathText,
-    revealed: &mut Revealed,
+    folder: &PathText,
+    spots: &mut Vec<(PathText, PathText)>,
+    linked: &mut Vec<PathText>,
 ) -> Result<(), NoMemory>
-    ensures looks { OnOk result (LooksAt sight.now folder revealed.old revealed.new) }
+    ensures listed { OnOk result ((folders : List Path) (named : List Spot) → AreListed sight.now folders named spots.old.items linked.old.items → AreListed sight.now (folders ++ folder.now ∷ []) named spots.new.items linked.new.items) }
 {
-    let directory = pack_directory(alloc, &folder)?;
+    let directory = pack_directory(alloc, folder)?;
+    link_if_led(alloc, sight, folder, &directory, linked)?;
     let paths = sight.watched_paths(alloc, &directory)?;
-    let linked = is_linked(alloc, sight, &directory, &paths)?;
-    let mut files = files_read(alloc, sight, paths)?;
-    revealed.files.append(&mut files)?;
-    if linked {
-        revealed.linked.push(folder)?;
-    } else {
-        revealed.plain.push(folder)?;
+    add_spots(alloc, folder, paths, spots)
+}
+
+/// Adds paths with their folder.
+fn add_spots(
+    alloc: Global,
+    folder: &PathText,
+    paths: Vec<PathText>,
+    spots: &mut Vec<(PathText, PathText)>,
+) -> Result<(), NoMemory>
+    ensures added { OnOk result (spots.new.items ≡ spots.old.items ++ map (λ path. (folder.now, path)) paths.items) }
+{
+    for path in paths {
+        add_pair(alloc, folder, path, spots)?;
     }
     Ok(())
 }
 
-/// Returns whether the way of a pack directory follows a link, or that of one of these paths in it.
-fn is_linked(
+/// Adds what paths show, and their folders to the linked ones where a path follows a link.
+fn read_all(
     alloc: Global,
     sight: &Sight<'_>,
-    directory: &PathText,
-    paths: &[PathText],
-) -> Result<bool, NoMemory>
-    ensures plain { IfOk result (λ linked. (folder : Path) → directory.now ≡ pack_directory folder → AreWatchedIn sight.now directory.now paths.now → linked ≡ false → IsPlain sight.now folder) }
-{
-    if sight.leads_on(alloc, directory)? {
-        return Ok(true);
-    }
-    for path in paths {
-        if sight.leads_on(alloc, path)? {
-            return Ok(true);
-        }
-    }
-    Ok(false)
-}
-
-fn look_at_named(
-    alloc: Global,
-    sight: &Sight<'_>,
-    named: Vec<(PathText, PathText)>,
+    spots: Vec<(PathText, PathText)>,
     revealed: &mut Revealed,
 ) -> Result<(), NoMemory>
-    requires named { (folder path : Path) → IsIn named.items (folder, path) → LiesIn folder path }
-    ensures seen { OnOk result ((folders : List Path) → IsSeen sight.now folders [] revealed.old → IsSeen sight.now folders named.items revealed.new) }
+    requires none { revealed.old.files.items ≡ [] }
+    ensures read { OnOk result (AreRead sight.now spots.items revealed.old.linked.items revealed.new) }
 {
-    for (folder, path) in named {
-        look_at_path(alloc, sight, folder, path, revealed)?;
+    for (folder, path) in spots {
+        read(alloc, sight, &folder, path, revealed)?;
     }
     Ok(())
 }
 
-/// Adds what a path of a folder shows, and the folder to those that are linked where the path follows a link.
-fn look_at_path(
+/// Adds what a path of a folder shows, and the folder to the linked ones where the path follows a link.
+fn read(
     alloc: Global,
     sight: &Sight<'_>,
-    folder: PathText,
+    folder: &PathText,
     path: PathText,
     revealed: &mut Revealed,
 ) -> Result<(), NoMemory>
-    ensures looks { OnOk result (LooksAtPath sight.now folder path revealed.old revealed.new) }
+    ensures links { OnOk result (Links sight.now folder.now path revealed.old.linked.items revealed.new.linked.items) }
+    ensures added { OnOk result (revealed.new.files.items ≡ revealed.old.files.items ++ file_at sight.now path) }
 {
-    let linked = sight.leads_on(alloc, &path)?;
-    add_file(alloc, sight, path, &mut revealed.files)?;
-    if linked {
-        return link(folder, revealed);
-    }
-    Ok(())
+    link_if_led(alloc, sight, folder, &path, &mut revealed.linked)?;
+    add_file(alloc, sight, path, &mut revealed.files)
 }
 
-fn link(folder: PathText, revealed: &mut Revealed) -> Result<(), NoMemory>
-    ensures files { OnOk result (revealed.new.files.items ≡ revealed.old.files.items) }
-    ensures linked { OnOk result (revealed.new.linked.items ≡ revealed.old.linked.items ++ folder ∷ []) }
-    ensures plain { OnOk result (revealed.new.plain.items ≡ revealed.old.plain.items) }
+/// Adds a folder to the linked ones where a link leads on from a path.
+fn link_if_led(
+    alloc: Global,
+    sight: &Sight<'_>,
+    folder: &PathText,
+    path: &PathText,
+    linked: &mut Vec<PathText>,
+) -> Result<(), NoMemory>
+    ensures links { OnOk result (Links sight.now folder.now path.now linked.old.items linked.new.items) }
 {
-    revealed.linked.push(folder)?;
+    let led = sight.leads_on(alloc, path)?;
+    if !led {
+        return Ok(());
+    }
+    linked.push(folder.try_clone(alloc)?)?;
     Ok(())
 }

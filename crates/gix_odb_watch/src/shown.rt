@@ -7,9 +7,8 @@ ghost use Rattle.gix_odb_watch.specs.Kept.{Fits, IsSecond, Notes, nothing_kept};
 ghost use Rattle.gix_odb_watch.specs.Revealed.{IsRevealed, Learns};
 
 use crate::contents::Contents;
-use crate::linked::{add_all, remove_all};
-use crate::put::as_put;
-use crate::revealed::{Revealed, look_at, seen_after, seen_put};
+use crate::linked::add_all;
+use crate::revealed::{Revealed, seen, seen_now};
 use crate::sight::Sight;
 use crate::touched::touched_by;
 use odb_base::{NoMemory, PathText};
@@ -23,7 +22,7 @@ use std::marker::Model;
 #[derive(Drop)]
 pub struct Shown {
     folders: BTreeSet<PathText>,
-    /// The folders in which a watched path follows a link.
+    /// The folders in which a watched path follows a link, or did.
     linked: BTreeSet<PathText>,
     contents: Contents,
 }
@@ -60,10 +59,7 @@ impl Shown {
         if self.folders.contains(folder) {
             return Ok(());
         }
-        let mut revealed = Revealed::nothing(alloc);
-        let sight = Sight::now(tree);
-        let own = folder.try_clone(alloc)?;
-        look_at(alloc, &sight, own, &mut revealed)?;
+        let revealed = seen_now(alloc, folder, tree)?;
         let key = folder.try_clone(alloc)?;
         self.folders.insert(key)?;
         self.learn(revealed)
@@ -106,10 +102,8 @@ impl Shown {
         if touched.is_nothing() {
             return Ok(Revealed::nothing(alloc));
         }
-        match as_put(alloc, tree, change)? {
-            None => seen_after(alloc, tree, change, touched),
-            Some(put) => seen_put(alloc, tree, put, touched),
-        }
+        let after = Sight::after(alloc, tree, change)?;
+        seen(alloc, &after, touched)
     }
 
     /// Returns whether a path would show a second content among what a change would make them show.
@@ -127,16 +121,11 @@ impl Shown {
         self.learn(revealed)
     }
 
-    /// Keeps what is shown besides what was, and which folders are linked.
+    /// Keeps what is shown besides what was, and the folders that are linked.
     fn learn(&mut self, revealed: Revealed) -> Result<(), NoMemory>
         ensures learns { OnOk result (Learns self.old revealed self.new) }
     {
-        let Revealed {
-            files,
-            linked,
-            plain,
-        } = revealed;
-        remove_all(&mut self.linked, plain);
+        let Revealed { files, linked } = revealed;
         add_all(&mut self.linked, linked)?;
         self.contents.keep_all(files)
     }

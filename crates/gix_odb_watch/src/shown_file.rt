@@ -1,6 +1,5 @@
 //! The files that a tree shows at watched paths.
 ghost use Rattle.std.specs.Prelude.{◌≡◌, ◌++◌, IfOk, OnOk};
-ghost use Rattle.std.specs.List.{flat_map};
 ghost use Rattle.gix_odb_watch.specs.Files.{file_at, listed};
 
 use crate::sight::Sight;
@@ -16,21 +15,6 @@ pub(crate) struct ShownFile {
     /// The path, and the time under which the bytes count.
     pub key: (PathText, u64),
     pub bytes: ByteList,
-}
-
-/// Returns what a tree shows at paths.
-pub(crate) fn files_read(
-    alloc: Global,
-    sight: &Sight<'_>,
-    paths: Vec<PathText>,
-) -> Result<Vec<ShownFile>, NoMemory>
-    ensures files { IfOk result (λ files. files.items ≡ flat_map (file_at sight.now) paths.items) }
-{
-    let mut files = Vec::new(alloc);
-    for path in paths {
-        add_file(alloc, sight, path, &mut files)?;
-    }
-    Ok(files)
 }
 
 /// Adds what a tree shows at a path, if its name is watched.

@@ -1,24 +1,23 @@
 //! A tree as it is, or as it will be after a change, with no copy of it.
-//!
-//! After a change each path is followed as some path is in the tree before, or it leads to what the change puts. So a path
-//! is followed in the tree after it by walks in the tree before, one for each link on its way.
-ghost use Rattle.std.specs.Prelude.{◌≡◌, ◌++◌, [], true, Some, None, is_some, IfOk, OnOk};
-ghost use Rattle.std.specs.List.{starts_with};
+ghost use Rattle.std.specs.Prelude.{◌≡◌, ◌++◌, [], true, None, Some, is_some, IfOk, OnOk};
 ghost use Rattle.std.specs.Option.{option_copied};
 ghost use Rattle.std.specs.Result.{result_ok};
-ghost use Rattle.odb_base.specs.Path.{same_name};
+ghost use Rattle.odb_base.specs.Path.{Path, parent_of};
 ghost use Rattle.odb_disk.specs.Tree.{IsTree};
 ghost use Rattle.odb_disk.specs.Tree.Change.{changed, is_possible_in};
-ghost use Rattle.odb_disk.specs.Tree.Follow.{followed, followed_within, most_links, pass, read_of};
+ghost use Rattle.odb_disk.specs.Tree.Follow.{at_last, file_of, followed_within, pass, read_of};
+ghost use Rattle.odb_disk.specs.declared.node.Node.{Node};
 ghost use Rattle.odb_mem_disk.specs.PassCalls.{onward_of};
-ghost use Rattle.gix_odb_watch.specs.Files.{listed_paths, paths_like};
-ghost use Rattle.gix_odb_watch.specs.Sight.{AreWatchedIn, IsLast, arrival_of, empty_arrival, file_arrival, file_put, is_whole, link_arrival, moved, moved_arrival, place_put, put_path};
+ghost use Rattle.gix_odb_watch.specs.Files.{listed_paths};
+ghost use Rattle.gix_odb_watch.specs.Over.{content_at, place_put};
+ghost use Rattle.gix_odb_watch.specs.Sight.{AreWatchedIn, IsEnd, IsFound, put_path};
 
 use crate::names::{behind, behind_directory, joined};
+use crate::over::{Over, content, origin, over_of, put_place};
 use crate::shown_file::listed;
 use crate::watched::{has_watched_name, watched_kind};
 use odb_base::{ByteList, NoMemory, PathText};
-use odb_disk::{Change, DiskError};
+use odb_disk::{Change, Content};
 use odb_mem_disk::Tree;
 use std::alloc::Global;
 use std::marker::Model;
@@ -26,18 +25,19 @@ use std::marker::Model;
 /// The most links that are followed on the way of a path.
 const MAX_LINKS: u8 = 40;
 
-/// A tree as it is, or as it will be after a change that is whole.
+/// A tree as it is, or as it will be after a change.
 #[derive(Drop)]
 pub(crate) struct Sight<'a> {
     tree: &'a Tree,
     change: Option<&'a Change>,
+    over: Over,
 }
 
 impl<'a> Model for Sight<'a> {
     ghost use Rattle.odb_disk.specs.Tree.{Tree as TreeValue, coded_tree};
     ghost use Rattle.std.specs.Option.{option_copied};
     ghost use Rattle.odb_disk.specs.Tree.Write.{changed_by};
-    ghost use Rattle.gix_odb_watch.specs.Sight.{IsSight};
+    ghost use Rattle.gix_odb_watch.specs.Over.{IsLaid};
 
     ghost Value = { TreeValue };
 
@@ -45,20 +45,24 @@ impl<'a> Model for Sight<'a> {
 
     ghost view = { λ s. changed_by s.tree.now (option_copied s.change) };
 
-    ghost invariant = { λ s. IsSight s.tree.now (option_copied s.change) };
+    ghost invariant = { λ s. IsLaid s.tree.now s.over (changed_by s.tree.now (option_copied s.change)) };
 }
 
-/// Where a path leads in the tree after a change, by the tree before.
+/// Where one pass along the names of a path ends.
 #[derive(Drop)]
-pub(crate) enum Arrival {
-    /// It is followed as this path is in the tree before.
-    Like(PathText),
-    /// The link that the change puts leads on to this path.
-    LedTo(PathText),
-    /// The file that the change puts is there.
-    AtFile,
-    /// Nothing is there.
+pub(crate) enum End<'a> {
+    /// At this, which is no link.
+    At(&'a Content),
+    /// A link leads on to this path.
+    Onward(PathText),
     Nowhere,
+}
+
+/// What a path leads to.
+#[derive(Drop)]
+pub(crate) struct Found<'a> {
+    pub place: PathText,
+    pub content: &'a Content,
 }
 
 impl<'a> Sight<'a> {
@@ -67,27 +71,35 @@ impl<'a> Sight<'a> {
         requires is_tree { IsTree tree.now }
         ensures now { result ≡ tree.now }
     {
-        Sight { tree, change: None }
+        Sight {
+            tree,
+            change: None,
+            over: Over::Nothing,
+        }
     }
 
     /// Returns the tree as it will be after a change.
-    pub(crate) fn after(tree: &'a Tree, change: &'a Change) -> Sight<'a>
+    pub(crate) fn after(
+        alloc: Global,
+        tree: &'a Tree,
+        change: &'a Change,
+    ) -> Result<Sight<'a>, NoMemory>
         requires is_tree { IsTree tree.now }
         requires possible { is_possible_in tree.now change.now ≡ true }
-        requires is_whole { is_whole change.now ≡ true }
-        ensures after { result ≡ changed tree.now change.now }
+        ensures after { IfOk result (λ sight. sight ≡ changed tree.now change.now) }
     {
-        Sight {
+        Ok(Sight {
             tree,
             change: Some(change),
-        }
+            over: over_of(alloc, tree, change)?,
+        })
     }
 
     /// Returns whether a link leads on from a path.
     pub(crate) fn leads_on(&self, alloc: Global, path: &PathText) -> Result<bool, NoMemory>
         ensures leads { IfOk result (λ leads. leads ≡ is_some (onward_of (pass self.now true [] path.now))) }
     {
-        Ok(self.onward(alloc, path)?.is_some())
+        Ok(matches!(self.pass(alloc, path)?, End::Onward(_)))
     }
 
     /// Returns the bytes and the time of the file that a path leads to, if it leads to one.
@@ -98,9 +110,9 @@ impl<'a> Sight<'a> {
     ) -> Result<Option<(ByteList, u64)>, NoMemory>
         ensures read { IfOk result (λ file. file ≡ result_ok (read_of self.now path.now)) }
     {
-        match self.last_way(alloc, path, MAX_LINKS)? {
-            Some(last) => self.read_at(alloc, &last),
+        match self.follow(alloc, path, MAX_LINKS)? {
             None => Ok(None),
+            Some(found) => file_of(alloc, found.content),
         }
     }
 
@@ -112,212 +124,113 @@ impl<'a> Sight<'a> {
     ) -> Result<Vec<PathText>, NoMemory>
         ensures watched { IfOk result (λ paths. AreWatchedIn self.now directory.now paths.items) }
     {
-        match self.last_way(alloc, directory, MAX_LINKS)? {
-            Some(last) => self.watched_at(alloc, directory, &last),
+        match self.follow(alloc, directory, MAX_LINKS)? {
             None => Ok(Vec::new(alloc)),
+            Some(found) => {
+                let listed_at = origin(alloc, &self.over, &found.place)?;
+                paths_at(alloc, self.tree, &self.over, &listed_at, directory)
+            }
         }
     }
 
-    /// Returns these paths by the last of the paths along which the directory is followed.
-    fn watched_at(
-        &self,
-        alloc: Global,
-        directory: &PathText,
-        last: &PathText,
-    ) -> Result<Vec<PathText>, NoMemory>
-        requires last { IsLast self.now (followed self.now true directory.now) (Some last.now) }
-        ensures watched { IfOk result (λ paths. AreWatchedIn self.now directory.now paths.items) }
-    {
-        match arrival_after(alloc, self.change, last)? {
-            Arrival::Like(like) => paths_like(alloc, self.tree, self.change, &like, directory),
-            Arrival::LedTo(_) => Ok(Vec::new(alloc)),
-            Arrival::AtFile => Ok(Vec::new(alloc)),
-            Arrival::Nowhere => Ok(Vec::new(alloc)),
-        }
-    }
-
-    /// Returns the last of the paths along which a path is followed with so many links left. None where there are more.
-    fn last_way(
-        &self,
+    /// Returns what a path leads to, with so many links left.
+    fn follow<'b>(
+        &'b self,
         alloc: Global,
         path: &PathText,
         links: u8,
-    ) -> Result<Option<PathText>, NoMemory>
-        ensures last { IfOk result (IsLast self.now (followed_within links self.now true path.now)) }
+    ) -> Result<Option<Found<'b>>, NoMemory>
+        ensures found { IfOk result (IsFound (followed_within links self.now true path.now)) }
     {
-        match self.onward(alloc, path)? {
-            None => Ok(Some(path.try_clone(alloc)?)),
-            Some(_) if links == 0 => Ok(None),
-            Some(onward) => self.last_way(alloc, &onward, links - 1),
+        match self.pass(alloc, path)? {
+            End::At(content) => Ok(Some(Found {
+                place: path.try_clone(alloc)?,
+                content,
+            })),
+            End::Nowhere => Ok(None),
+            End::Onward(_) if links == 0 => Ok(None),
+            End::Onward(onward) => self.follow(alloc, &onward, links - 1),
         }
     }
 
-    /// Returns the path that the first link on the way of a path leads on to, if there is a link.
-    fn onward(&self, alloc: Global, path: &PathText) -> Result<Option<PathText>, NoMemory>
-        ensures onward { IfOk result (λ onward. onward ≡ onward_of (pass self.now true [] path.now)) }
+    /// Passes along the names of a path once. Where nothing is at a path, its directory says where the pass ends.
+    fn pass<'b>(&'b self, alloc: Global, path: &PathText) -> Result<End<'b>, NoMemory>
+        ensures end { IfOk result (λ end. IsEnd path.now end (pass self.now true [] path.now)) }
     {
-        match arrival_after(alloc, self.change, path)? {
-            Arrival::Like(like) => onward_before(alloc, self.tree, &like),
-            Arrival::LedTo(onward) => Ok(Some(onward)),
-            Arrival::AtFile => Ok(None),
-            Arrival::Nowhere => Ok(None),
-        }
-    }
-
-    /// Reads a path from which no link leads on.
-    fn read_at(&self, alloc: Global, path: &PathText) -> Result<Option<(ByteList, u64)>, NoMemory>
-        requires last { onward_of (pass self.now true [] path.now) ≡ None }
-        ensures read { IfOk result (λ file. file ≡ result_ok (read_of self.now path.now)) }
-    {
-        match arrival_after(alloc, self.change, path)? {
-            Arrival::Like(like) => read_before(alloc, self.tree, &like),
-            Arrival::LedTo(_) => Ok(None),
-            Arrival::AtFile => put_file(alloc, self.change),
-            Arrival::Nowhere => Ok(None),
-        }
-    }
-}
-
-/// Returns where a path leads after a change that is whole, or after none.
-fn arrival_after(
-    alloc: Global,
-    change: Option<&Change>,
-    path: &PathText,
-) -> Result<Arrival, NoMemory>
-    ensures arrival { IfOk result (λ arrival. arrival ≡ arrival_of (option_copied change.entry) path.now) }
-{
-    let like = path.try_clone(alloc)?;
-    match change {
-        Some(Change::PutFile { path: place, .. }) => Ok(file_arrival(place, like)),
-        Some(
-            Change::PutLink {
-                path: place,
-                target,
+        match self.content(alloc, path)? {
+            Some(content) => end_at(alloc, content),
+            None => match path.parent(alloc)? {
+                None => Ok(End::Nowhere),
+                Some(directory) => match self.pass(alloc, &directory)? {
+                    End::Onward(onward) => led_on(alloc, &onward, path, &directory),
+                    End::At(_) => Ok(End::Nowhere),
+                    End::Nowhere => Ok(End::Nowhere),
+                },
             },
-        ) => link_arrival(alloc, place, target, like),
-        Some(Change::Rename { from, to }) => moved_arrival(alloc, from, to, like),
-        Some(Change::Remove { path: place }) => Ok(empty_arrival(place, like)),
-        Some(Change::MakeDir { path: place, .. }) => Ok(empty_arrival(place, like)),
-        _ => Ok(Arrival::Like(like)),
+        }
+    }
+
+    /// Returns what is at a path, by its names alone.
+    fn content<'b>(
+        &'b self,
+        alloc: Global,
+        path: &PathText,
+    ) -> Result<Option<&'b Content>, NoMemory>
+        ensures content { IfOk result (λ content. option_copied content ≡ content_at self.now path.now) }
+        ensures is_tree { IsTree self.now }
+    {
+        content(alloc, self.tree, &self.over, path)
     }
 }
 
-fn file_arrival(place: &PathText, path: PathText) -> Arrival
-    ensures arrival { result ≡ file_arrival place.now path }
+/// Returns where a pass ends that has no names left at this.
+fn end_at<'a>(alloc: Global, content: &'a Content) -> Result<End<'a>, NoMemory>
+    ensures end { IfOk result (λ end. (path : Path) (node : Node) → node.content ≡ content.now → IsEnd path end (at_last true path node content.now)) }
 {
-    if path == *place {
-        return Arrival::AtFile;
+    match content {
+        Content::Link(target) => Ok(End::Onward(target.try_clone(alloc)?)),
+        Content::File { .. } => Ok(End::At(content)),
+        Content::Dir => Ok(End::At(content)),
     }
-    if path.starts_with(place) {
-        return Arrival::Nowhere;
-    }
-    Arrival::Like(path)
 }
 
-fn link_arrival(
+/// Returns where a link leads that leads on from a directory, for a path in the directory.
+fn led_on<'a>(
     alloc: Global,
-    place: &PathText,
-    target: &PathText,
-    path: PathText,
-) -> Result<Arrival, NoMemory>
-    ensures arrival { IfOk result (λ arrival. arrival ≡ link_arrival place.now target.now path) }
-{
-    if path.starts_with(place) {
-        return Ok(Arrival::LedTo(moved(alloc, place, target, &path)?));
-    }
-    Ok(Arrival::Like(path))
-}
-
-fn moved_arrival(
-    alloc: Global,
-    from: &PathText,
-    to: &PathText,
-    path: PathText,
-) -> Result<Arrival, NoMemory>
-    ensures arrival { IfOk result (λ arrival. arrival ≡ moved_arrival from.now to.now path) }
-{
-    if path.starts_with(to) {
-        return Ok(Arrival::Like(moved(alloc, to, from, &path)?));
-    }
-    if path.starts_with(from) {
-        return Ok(Arrival::Nowhere);
-    }
-    Ok(Arrival::Like(path))
-}
-
-fn empty_arrival(place: &PathText, path: PathText) -> Arrival
-    ensures arrival { result ≡ empty_arrival place.now path }
-{
-    if path.starts_with(place) {
-        return Arrival::Nowhere;
-    }
-    Arrival::Like(path)
-}
-
-/// Returns what lies below one path, below another.
-fn moved(
-    alloc: Global,
-    from: &PathText,
-    to: &PathText,
+    onward: &PathText,
     path: &PathText,
-) -> Result<PathText, NoMemory>
-    requires behind { starts_with same_name path.now from.now ≡ true }
-    ensures moved { IfOk result (λ result. result ≡ moved from.now to.now path.now) }
+    directory: &PathText,
+) -> Result<End<'a>, NoMemory>
+    requires parent { parent_of path.now ≡ Some directory.now }
+    ensures end { IfOk result (λ end. (rest : Path) → directory.now ++ rest ≡ path.now → end ≡ End.Onward (onward.now ++ rest)) }
 {
-    let rest = behind(alloc, path, from)?;
-    to.followed_by(alloc, &rest)
+    let rest = behind(alloc, path, directory)?;
+    Ok(End::Onward(onward.followed_by(alloc, &rest)?))
 }
 
-/// Returns the path that the first link on the way of a path leads on to, in a tree as it is.
-fn onward_before(alloc: Global, tree: &Tree, path: &PathText) -> Result<Option<PathText>, NoMemory>
-    ensures onward { IfOk result (λ onward. onward ≡ onward_of (pass tree.now true [] path.now)) }
+/// Returns the bytes and the time of a file. Anything else has none.
+fn file_of(alloc: Global, content: &Content) -> Result<Option<(ByteList, u64)>, NoMemory>
+    ensures file { IfOk result (λ file. file ≡ result_ok (file_of content.now)) }
 {
-    let mut ways = tree.ways(alloc, path)?;
-    if ways.len() < 2 {
-        return Ok(None);
+    match content {
+        Content::File { bytes, time } => Ok(Some((bytes.try_clone(alloc)?, *time))),
+        Content::Dir | Content::Link(_) => Ok(None),
     }
-    Ok(Some(ways.swap_remove(1)))
 }
 
-/// Reads a path in a tree as it is.
-fn read_before(
+/// Returns the watched paths of a directory by where it was before the change, and that of what the change puts.
+fn paths_at(
     alloc: Global,
     tree: &Tree,
-    path: &PathText,
-) -> Result<Option<(ByteList, u64)>, NoMemory>
-    ensures read { IfOk result (λ file. file ≡ result_ok (read_of tree.now path.now)) }
-{
-    match tree.read(alloc, path) {
-        Ok(file) => Ok(Some(file)),
-        Err(DiskError::NoMemory) => Err(NoMemory),
-        Err(_) => Ok(None),
-    }
-}
-
-/// Returns the file that a change puts.
-fn put_file(alloc: Global, change: Option<&Change>) -> Result<Option<(ByteList, u64)>, NoMemory>
-    ensures file { IfOk result (λ file. file ≡ file_put (option_copied change.entry)) }
-{
-    match change {
-        Some(Change::PutFile { time, bytes, .. }) => Ok(Some((bytes.try_clone(alloc)?, *time))),
-        _ => Ok(None),
-    }
-}
-
-/// Returns the watched paths of a directory at whose names there is something, by another path that leads there before
-/// a change; and with them the path of the name that the change puts.
-fn paths_like(
-    alloc: Global,
-    tree: &Tree,
-    change: Option<&Change>,
-    like: &PathText,
+    over: &Over,
+    listed_at: &PathText,
     directory: &PathText,
 ) -> Result<Vec<PathText>, NoMemory>
-    ensures paths { IfOk result (λ paths. paths.items ≡ paths_like tree.now (option_copied change.entry) like.now directory.now) }
+    ensures paths { IfOk result (λ paths. paths.items ≡ listed_paths tree.now listed_at.now directory.now ++ put_path directory.now (place_put over.now)) }
 {
     let mut paths = Vec::new(alloc);
-    add_listed(alloc, tree, like, directory, &mut paths)?;
-    add_put(alloc, change, directory, &mut paths)?;
+    add_listed(alloc, tree, listed_at, directory, &mut paths)?;
+    add_put(alloc, over, directory, &mut paths)?;
     Ok(paths)
 }
 
@@ -343,13 +256,13 @@ fn add_listed(
 /// Adds the path of a directory with the last name of what the change puts, if that is watched.
 fn add_put(
     alloc: Global,
-    change: Option<&Change>,
+    over: &Over,
     directory: &PathText,
     paths: &mut Vec<PathText>,
 ) -> Result<(), NoMemory>
-    ensures added { OnOk result (paths.new.items ≡ paths.old.items ++ put_path directory.now (place_put (option_copied change.entry))) }
+    ensures added { OnOk result (paths.new.items ≡ paths.old.items ++ put_path directory.now (place_put over.now)) }
 {
-    let Some(place) = put_place(change) else {
+    let Some(place) = put_place(over) else {
         return Ok(());
     };
     let last = behind_directory(alloc, place)?;
@@ -357,17 +270,4 @@ fn add_put(
         paths.push(directory.followed_by(alloc, &last)?)?;
     }
     Ok(())
-}
-
-/// Returns where a change puts something.
-fn put_place<'a>(change: Option<&'a Change>) -> Option<&'a PathText>
-    ensures place { option_copied result ≡ place_put (option_copied change.entry) }
-{
-    match change {
-        Some(Change::PutFile { path, .. }) => Some(path),
-        Some(Change::MakeDir { path, .. }) => Some(path),
-        Some(Change::PutLink { path, .. }) => Some(path),
-        Some(Change::Rename { to, .. }) => Some(to),
-        _ => None,
-    }
 }

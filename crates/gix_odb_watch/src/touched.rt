@@ -10,9 +10,10 @@ ghost use Rattle.gix_odb_watch.specs.Watched.{is_watched_name};
 use crate::watched::{has_watched_name, pack_directory};
 use odb_base::{ByteList, NoMemory, PathText};
 use odb_disk::{Change, DiskError};
-use odb_mem_disk::Tree;
+use odb_mem_disk::{Tree, end_of};
 use std::alloc::Global;
 use std::collections::BTreeSet;
+use std::collections::btree_set::Range;
 use std::ops::Bound;
 
 /// What a change touches.
@@ -40,35 +41,28 @@ pub(crate) fn touched_by(
     tree: &Tree,
     change: &Change,
 ) -> Result<Touched, NoMemory>
+    requires linked { (folder : Path) → IsIn linked.now.keys folder → IsIn watched.now.keys folder }
     ensures touched { IfOk result (λ touched. AreTouched watched.now.keys linked.now.keys (places_of tree.now change.now) touched.folders.items touched.named.items) }
 {
     let places = places_of(alloc, tree, change)?;
-    let mut touched = Touched {
-        folders: both(alloc, watched, linked)?,
-        named: Vec::new(alloc),
-    };
+    let mut touched = all_of(alloc, linked)?;
     for place in places {
         add_touched(alloc, watched, &place, &mut touched)?;
     }
     Ok(touched)
 }
 
-/// Returns the folders that are watched and linked.
-fn both(
-    alloc: Global,
-    watched: &BTreeSet<PathText>,
-    linked: &BTreeSet<PathText>,
-) -> Result<Vec<PathText>, NoMemory>
-    ensures only { IfOk result (λ both. (folder : Path) → IsIn both.items folder → IsIn watched.now.keys folder) }
-    ensures whole { IfOk result (λ both. (folder : Path) → IsIn watched.now.keys folder → IsIn linked.now.keys folder → IsIn both.items folder) }
+/// Returns all folders of a set as touched.
+fn all_of(alloc: Global, set: &BTreeSet<PathText>) -> Result<Touched, NoMemory>
+    ensures folders { IfOk result (λ touched. AddsInside set.now.keys [] [] touched.folders.items) }
+    ensures named { IfOk result (λ touched. touched.named.items ≡ []) }
 {
-    let mut both = Vec::new(alloc);
-    for folder in linked {
-        if watched.contains(folder) {
-            both.push(folder.try_clone(alloc)?)?;
-        }
-    }
-    Ok(both)
+    let mut folders = Vec::new(alloc);
+    add_inside(alloc, set, &PathText::root(alloc), &mut folders)?;
+    Ok(Touched {
+        folders,
+        named: Vec::new(alloc),
+    })
 }
 
 /// Adds what a change at a place touches.
@@ -117,10 +111,26 @@ fn add_inside(
 ) -> Result<(), NoMemory>
     ensures added { OnOk result (AddsInside watched.now.keys place.now folders.old.items folders.new.items) }
 {
-    for folder in watched.range((Bound::Included(place), Bound::Unbounded)) {
-        if !folder.starts_with(place) {
-            return Ok(());
+    match end_of(alloc, place)? {
+        None => {
+            let inside = watched.range((Bound::Included(place), Bound::Unbounded));
+            add_each(alloc, inside, folders)
         }
+        Some(end) => {
+            let inside = watched.range((Bound::Included(place), Bound::Excluded(&end)));
+            add_each(alloc, inside, folders)
+        }
+    }
+}
+
+fn add_each(
+    alloc: Global,
+    inside: Range<'_, PathText>,
+    folders: &mut Vec<PathText>,
+) -> Result<(), NoMemory>
+    ensures added { OnOk result (folders.new.items ≡ folders.old.items ++ inside.entry) }
+{
+    for folder in inside {
         folders.push(folder.try_clone(alloc)?)?;
     }
     Ok(())
@@ -200,19 +210,20 @@ fn add_named_in(
 {
     match folder_of(alloc, watched, directory)? {
         None => Ok(()),
-        Some(folder) => add_pair(alloc, folder, place, named),
+        Some(folder) => add_pair(alloc, &folder, place.try_clone(alloc)?, named),
     }
 }
 
-fn add_pair(
+/// Adds a path with its folder.
+pub(crate) fn add_pair(
     alloc: Global,
-    folder: PathText,
-    place: &PathText,
-    named: &mut Vec<(PathText, PathText)>,
+    folder: &PathText,
+    path: PathText,
+    pairs: &mut Vec<(PathText, PathText)>,
 ) -> Result<(), NoMemory>
-    ensures added { OnOk result (named.new.items ≡ named.old.items ++ (folder, place.now) ∷ []) }
+    ensures added { OnOk result (pairs.new.items ≡ pairs.old.items ++ (folder.now, path) ∷ []) }
 {
-    named.push((folder, place.try_clone(alloc)?))?;
+    pairs.push((folder.try_clone(alloc)?, path))?;
     Ok(())
 }
 

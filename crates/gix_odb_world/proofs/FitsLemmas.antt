@@ -75,5 +75,6 @@ module _ (world : Course) (explained : IsExplained world) where
     };
     whole = λ path time bytes shows. ∥∥₁_elim explained (Coded-set (coded_option (coded_list coded_ℕ)) _ _) (λ h. (fits_by h).whole path time bytes shows);
     only = λ path time bytes kept. lies world.shown.folders path (λ h. (fits_by h).only path time bytes kept);
+    linked = λ folder is. ∥∥₁_elim explained (Coded-set coded_bool _ _) (λ h. (fits_by h).linked folder is);
     knows = λ folder among name kind is place on. ∥∥₁_elim explained (Coded-set coded_bool _ _) (λ h. (fits_by h).knows folder among name kind is place on);
   }

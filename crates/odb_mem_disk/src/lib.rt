@@ -1,7 +1,7 @@
 //! A disk in memory, and its tree.
 //!
 //! It answers by its tree, and fails exactly at the listed calls. Read `mem_disk` first, then `tree`. What a tree and a disk
-//! are is in `odb_mem_disk`; its names, and those of `odb_base`, are re-exported here.
+//! are is in `odb_disk`; its names, and those of `odb_base`, are re-exported here.
 //! ```rust
 //! let mut disk = MemDisk::new(alloc)?;
 //! let path = PathText::parse(alloc, "/o")?;
@@ -26,4 +26,4 @@ pub use odb_disk::{
     Change, DirId, Disk, DiskAnswer, DiskAsk, DiskError, Entry, EntryQueue, Impossible, Kind, Meta,
     Op,
 };
-pub use tree::Tree;
+pub use tree::{Tree, end_of};

@@ -14,6 +14,8 @@ mod list;
 mod possible;
 mod write;
 
+pub use list::end_of;
+
 /// The tree of a disk in memory: what is at each path.
 ///
 /// Nodes are kept by their paths, so a look-up is a search in a map. The least inode number that no node has is the
@@ -69,7 +71,7 @@ impl Tree {
     }
 
     /// The node at a path, by its names alone.
-    fn node(&self, path: &PathText) -> Option<&Node>
+    pub fn node(&self, path: &PathText) -> Option<&Node>
         ensures value { option_copied result ≡ node_at self.now path.now }
         ensures is_tree { IsTree self.now }
     {

@@ -103,7 +103,7 @@ fn last_below<'a>(
 
 /// A path after all that is below another one: a name has no NUL, so only what begins with a name comes between it
 /// and the name with the byte 1 added. The root has no such path.
-fn end_of(alloc: Global, path: &PathText) -> Result<Option<PathText>, NoMemory>
+pub fn end_of(alloc: Global, path: &PathText) -> Result<Option<PathText>, NoMemory>
     ensures end { IfOk result (λ end. IfSome end (λ end. (rest : Path) → path_cmp (path.now ++ rest) end ≡ Less)) }
 {
     let Some(directory) = path.parent(alloc)? else {

@@ -1,27 +1,31 @@
-use Rattle.std.proofs.Common.{◌∙◌, sym}
-use Rattle.gix_odb_watch.proofs.FolderLemmas.{inside_all, inside_ended, inside_first, inside_next}
+use Rattle.std.proofs.Common.{◌++◌, ap, refl}
+use Rattle.std.specs.Ordering.{is_gt}
+use Rattle.std.specs.declared.ops.Bound.TheVariants.{Excluded, Unbounded}
+use Rattle.std.proofs.lemmas.Result.{on_ok_weaker}
+use Rattle.gix_odb_watch.proofs.FolderLemmas.{inside_range, not_past, starts_before}
 use Rattle.gix_odb_watch.proofs.touched.add_inside.Goals as goal
 
-pub loop-folder-init : goal.loop-folder-init
-loop-folder-init c =
-    inside_first c.args.watched.now.keys c.args.place.now c.args.folders.now.items c.into_iter-folder-iterator.result c.range-folder-items.ensures.ordered
-    (c.into_iter-folder-iterator.ensures.into_iter_gives ∙ c.range-folder-items.ensures.between tt)
+pub range-inside-requires-in-Some : goal.range-inside-requires-in-Some
+range-inside-requires-in-Some c = ap is_gt (starts_before c.args.place.now c.in-Some.end (rw c.in-Some.is at c.in_ok-end_of.ensures.end))
 
-pub loop-folder-preserved : goal.loop-folder-preserved
-loop-folder-preserved c =
-    inside_next c.args.watched.now.keys c.args.place.now c.args.folders.now.items c.loop-folder.folders.items c.push.new.self.items c.loop-folder.folder-iterator c.next.new.self
-    c.in-Some.folder.now c.in_ok-try_clone.field-0 c.loop-folder.invariant c.in-Some.ensures.steps c.in_ok-try_clone.ensures.copy c.in_ok-push.ensures.items
-
-pub returns-then-not-starts_with : goal.returns-then-not-starts_with
-returns-then-not-starts_with c = record {
+pub returns-in-None : goal.returns-in-None
+returns-in-None c = record {
   added =
-      inside_ended c.args.watched.now.keys c.args.place.now c.args.folders.now.items c.loop-folder.folders.items c.loop-folder.folder-iterator c.next.new.self c.in-Some.folder.now
-      c.loop-folder.invariant c.in-Some.ensures.steps (sym c.starts_with.ensures.starts ∙ c.if-not-starts_with.true);
+      on_ok_weaker c.add_each.result
+      (λ added.
+      inside_range c.args.watched.now.keys c.args.place.now c.args.folders.now.items c.add_each.new.folders.items c.range-inside.result Unbounded
+      (c.range-inside.ensures.between tt) (λ rest. refl) added)
+      c.add_each.ensures.added;
 }
 
-pub returns : goal.returns
-returns c = record {
-  added =
-      inside_all c.args.watched.now.keys c.args.place.now c.args.folders.now.items c.loop-folder.folders.items c.loop-folder.folder-iterator c.loop-folder.invariant
-      c.in-None.ensures.steps.0;
-}
+pub returns-in-Some : goal.returns-in-Some
+returns-in-Some c =
+    let before = rw c.in-Some.is at c.in_ok-end_of.ensures.end in
+    record {
+      added =
+          on_ok_weaker c.add_each-in-Some.result
+          (λ added.
+          inside_range c.args.watched.now.keys c.args.place.now c.args.folders.now.items c.add_each-in-Some.new.folders.items c.range-inside-in-Some.result (Excluded c.in-Some.end)
+          (c.range-inside-in-Some.ensures.between tt) (λ rest. not_past (c.args.place.now ++ rest) c.in-Some.end (before rest)) added)
+          c.add_each-in-Some.ensures.added;
+    }

@@ -3,7 +3,8 @@ use Rattle.gix_odb_watch.proofs.touched.touched_by.Goals as goal
 
 pub loop-place-init : goal.loop-place-init
 loop-place-init c =
-    touched_first c.args.watched.now.keys c.args.linked.now.keys c.in_ok-both.field-0.items c.new.result.items c.in_ok-both.ensures.only c.in_ok-both.ensures.whole c.new.ensures.items
+    touched_first c.args.watched.now.keys c.args.linked.now.keys c.in_ok-touched.touched.folders.items c.in_ok-touched.touched.named.items c.requires.linked
+    c.in_ok-touched.ensures.folders c.in_ok-touched.ensures.named
 
 pub loop-place-preserved : goal.loop-place-preserved
 loop-place-preserved c =

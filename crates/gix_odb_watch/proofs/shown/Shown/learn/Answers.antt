@@ -8,7 +8,7 @@ returns c = record {
   learns =
       on_ok_weaker c.keep_all.result
       (λ kept.
-      learnt c.args.self.now (set.from_list c.self.inside.folders.keys) c.self.inside.linked c.remove_all.new.set c.add_all.new.set c.self.inside.contents c.keep_all.new.self c.args.revealed
-      c.self.view_is c.remove_all.ensures.removed c.in_ok-add_all.ensures.added kept)
+      learnt c.args.self.now (set.from_list c.self.inside.folders.keys) c.self.inside.linked c.add_all.new.set c.self.inside.contents c.keep_all.new.self c.args.revealed
+      c.self.view_is c.in_ok-add_all.ensures.added kept)
       c.keep_all.ensures.kept;
 }
