@@ -21,7 +21,7 @@ pub(crate) fn chain(alloc: Global, count: u32) -> Result<(String, String), Fail>
     Ok((links, come))
 }
 
-/// Makes a change, unless a watched path shows a second content by it, and tells what it comes to.
+/// Makes a change, unless a watched path would show a second content after it, and returns the outcome.
 fn made(
     alloc: Global,
     shown: &mut Shown,

@@ -12,7 +12,7 @@ setting_told : (handle : HandleState) (view : Option View) → setting_at (seein
 setting_told handle None = refl
 setting_told handle (Some view) = refl
 
--- a stage that was fed the same answer, on a handle that was told it before
+-- a stage after an answer, whose view the handle has already
 pub fed_by : (old handle : HandleState) (answer same : Answer) (before stage next : CallStage) → handle ≡ told_by old answer → same ≡ answer → before ≡ stage
     → next ≡ fed (setting_at handle) before same → next ≡ fed (setting_at old) stage answer
 fed_by old handle answer same before stage next seen is was feeds =

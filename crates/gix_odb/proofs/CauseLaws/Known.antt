@@ -143,7 +143,7 @@ module _ (Shown : Path → List ℕ → Type 0) (setting : Setting) (hash : Kind
   tested_failed path (answers.Meta meta) fails error is = absurd (cc is)
   tested_failed path answer fails error is = absurd (cc is)
 
-  -- what a folder's answer comes to
+  -- the stage after a folder's answer
   pub folder_tells : (want : Want) (folder : Path) → Contains (folders_of setting) folder → (answer : DiskAnswer)
       → (answer ≡ answers.Refused disk_errors.Failed → HasFailed exchanges)
       → HasVerdict setting want id exchanges folder (folder_verdict (asking setting.parts.alloc_limit_bytes want id folder) answer)

@@ -1,4 +1,4 @@
--- A look-up only reads: its calls on loose objects do, and so do those of the trier and the lister. What it is told of streams is of its own.
+-- A look-up only reads: its calls on loose objects do, and so do those of the trier and the lister. The streams that it reads are those that it opened.
 use Rattle.std.proofs.Common.{◌≡◌, Bool, true, List, [], ◌∷◌, Some, Ok, refl, subst}
 use Rattle.std.proofs.lemmas.Option.{same_Some}
 use Rattle.odb_base.specs.Path.{Path}

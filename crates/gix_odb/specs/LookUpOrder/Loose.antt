@@ -33,7 +33,7 @@ at_folder setting head round None = after_loose setting round.part round.notes
 at_folder setting head round (Some folder) =
     stages.Loose (record round { next = round.next + 1 }) (asking setting.parts.alloc_limit_bytes head.want head.id folder)
 
--- behind what a folder says: the reply, the next folder, or that folder with the failed look noted
+-- after a folder's verdict: the reply, the next folder, or that folder with the failed look noted
 abbrev pub by_verdict : Setting → LookHead → LooseRound → Verdict → LookStage
 by_verdict setting head round (verdicts.Ends reply) = stages.Done reply
 by_verdict setting head round verdicts.Misses = at_folder setting head round (slice_get setting.parts.folders round.next)

@@ -75,7 +75,7 @@ pub(super) fn by_call(
     }
 }
 
-/// What comes behind the answer of the disk to a folder's call.
+/// Returns the stage after the disk's answer to a folder's call.
 fn call_fed(
     alloc: Global,
     setting: &Setting<'_>,
