@@ -5,7 +5,10 @@ use crate::table::check;
 use std::test::Fail;
 
 const ONE_SLOT: &[&str] = &[
+    "slot /a.idx | none",
     "publish 0 0 /a.idx | published #1 1 0.1 [] [] [0:/a.idx]",
+    "slot /a.idx | 0",
+    "slot /b.idx | none",
     "publish 0 0 /a.idx | outdated 1",
     "publish 0 0 /a.idx /b.idx /c.idx | outdated 1",
     "publish 0 1 /b.idx | published #4 2 1.2 [] [] [0:/b.idx]",
@@ -158,7 +161,51 @@ const UNCHANGED: &[&str] = &[
     "publish 0 3 /a.idx@1 /b.idx | published #7 4 1.4 [0:/a.idx*2 /a.pack- /b.pack-] [] [1:/b.idx]",
 ];
 
+const SLOTS_OF_PATHS: &[&str] = &[
+    "slot /a.idx | none",
+    "publish 0 0 /e.idx /c.idx /a.idx /p/f.idx /b.idx /p/a.idx /d.idx /m | published #1 1 0.1 [] [] [0:/e.idx, 1:/c.idx, 2:/a.idx, 3:/p/f.idx, 4:/b.idx, 5:/p/a.idx, 6:/d.idx, 7:/m]",
+    "slot /a.idx | 2",
+    "slot /b.idx | 4",
+    "slot /c.idx | 1",
+    "slot /d.idx | 6",
+    "slot /e.idx | 0",
+    "slot /m | 7",
+    "slot /p/a.idx | 5",
+    "slot /p/f.idx | 3",
+    "slot / | none",
+    "slot /c.idx/a | none",
+    "slot /f.idx | none",
+    "slot /q | none",
+    "slot /c.idx@0 | none",
+    "index 0 5 /p/a.idx 1 | stored #2 1 0.2 [5:/p/a.idx=1 /p/a.pack-] [] [0:/e.idx, 1:/c.idx, 2:/a.idx, 3:/p/f.idx, 4:/b.idx, 6:/d.idx, 7:/m]",
+    "slot /p/a.idx | 5",
+    "publish 0 1 /m /p/m | published #3 2 1.3 [] [] [7:/m, 0:/p/m]",
+    "slot /m | 7",
+    "slot /p/m | 0",
+    "slot /e.idx | none",
+    "slot /p/a.idx | none",
+];
+
+const SLOTS_OF_ONE_PATH: &[&str] = &[
+    "register 0 stable | seen #1 0 0.0 unread [] [] []",
+    "publish 0 0 /m@5 | published #2 1 0.1 [0:/m*2 /a.pack- /b.pack-] [] []",
+    "publish 0 1 /m@2 | published #3 2 0.2 [1:/m*1 /b.pack-] [0:/m*2 /a.pack- /b.pack-] []",
+    "publish 0 2 /m | published #4 3 0.3 [] [0:/m*2 /a.pack- /b.pack-, 1:/m*1 /b.pack-] [2:/m]",
+    "slot /m | 2",
+    "slot /m@2 | 1",
+    "slot /m@5 | 0",
+    "slot /m@0 | none",
+    "slot /m@3 | none",
+    "slot /m@6 | none",
+    "remove 0 | removed",
+    "publish 0 3 /m@2 | published #6 4 0.4 [1:/m*1 /b.pack-] [] []",
+    "slot /m | none",
+    "slot /m@2 | 1",
+    "slot /m@5 | none",
+];
+
 const NO_SLOTS: &[&str] = &[
+    "slot /a.idx | none",
     "publish 0 0 /a.idx | insufficient 0 1",
     "publish 0 0 | published #2 1 0.1 [] [] []",
     "now | #2 1 0.1 [] [] [] 0 1 0 0 0 0 0 0 0 0",
@@ -212,6 +259,9 @@ const TABLES: &[(Opening, &[&str])] = &[
     // Free slots sought from the first, a generation that rises for each slot, or a number that rises where nothing changed.
     ((4, 1, 0, 0), AFTER_THE_GREATEST_AND_ROUND),
     ((2, 1, 0, 0), UNCHANGED),
+    // A slot that is sought in the order of the slots, at another time, or by the table of another listing.
+    ((8, 1, 0, 0), SLOTS_OF_PATHS),
+    ((4, 1, 0, 0), SLOTS_OF_ONE_PATH),
     // An event that was refused and has no entry, entries that are counted from 0, or an entry with the answer of another.
     ((0, 0, 0, 0), NO_SLOTS),
     ((1, 1, 0, 0), JOURNAL),

@@ -1,14 +1,33 @@
 //! A core and the second model, on which the rows of a table are played.
 //!
 //! Besides an event, a row may be `now`, for the core's view and its counts, `entry PLACE`, for an entry of the
-//! journal by its place counted from 0, `newest`, for the last one, or `entries`, for the number of entries.
+//! journal by its place counted from 0, `newest`, for the last one, `entries`, for the number of entries, or `slot PATH`
+//! or `slot PATH@TIME`, for the slot that holds an index.
 use crate::happening::happen;
 use crate::model::{Model, Opening};
 use crate::shown::{put_entry_at, put_present};
+use crate::words::parts_of;
 use gix_odb_core::Core;
+use odb_base::PathText;
 use std::alloc::Global;
 use std::test::Fail;
 use test_words::{Text, cut, wide_halves};
+
+/// Appends the number of the slot that holds an index to a text.
+fn put_slot(alloc: Global, core: &Core, word: &str, text: &mut Text) -> Result<(), Fail> {
+    let (path, time, is_multi) = parts_of(word);
+    let path = PathText::parse(alloc, path)?;
+    let time = if is_multi {
+        time.parse::<u64>().ok()
+    } else {
+        None
+    };
+    match core.slot_of(&path, time) {
+        Some(slot) => text.marked("", u64::from(slot)),
+        None => text.put("none"),
+    }
+    Ok(())
+}
 
 /// Appends a core's result of a row to a text.
 fn put_told(alloc: Global, core: &mut Core, line: &str, text: &mut Text) -> Result<(), Fail> {
@@ -18,6 +37,7 @@ fn put_told(alloc: Global, core: &mut Core, line: &str, text: &mut Text) -> Resu
         "now" => put_present(text, core),
         "entries" => text.marked("", count as u64),
         "newest" => put_entry_at(text, core, count.saturating_sub(1)),
+        "slot" => return put_slot(alloc, core, rest, text),
         "entry" => put_entry_at(text, core, rest.parse::<usize>().unwrap_or(0)),
         _ => return happen(alloc, core, line, text),
     }
@@ -31,9 +51,9 @@ pub fn check_core(alloc: Global, core: &mut Core, line: &str, want: &str) -> Res
     found.check(line, want)
 }
 
-/// Compares the second model's result of a row, unless the row is of the journal.
+/// Compares the second model's result of a row, unless the row is of the journal or of the slot of a path.
 fn check_model(alloc: Global, model: &mut Model, line: &str, want: &str) -> Result<(), Fail> {
-    if line.starts_with("entr") {
+    if line.starts_with("entr") || line.starts_with("slot") {
         return Ok(());
     }
     let mut told = Text::new(alloc);

@@ -19,6 +19,11 @@ mod PublishLemmas
 mod IndexKeysLemmas
 mod MatchedLemmas
 mod PositionLemmas
+mod OrderedLemmas
+mod SlotTableLemmas
+mod TableSearchLemmas
+mod TableRowLemmas
+mod SlotKeyLemmas
 pub mod FilterMapLemmas
 mod LoopLemmas
 mod CountsLemmas

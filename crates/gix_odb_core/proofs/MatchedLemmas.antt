@@ -1,13 +1,10 @@
 -- The rows and slots that were looked up, by their places.
-use Rattle.std.proofs.Common.{◌≡◌, ℕ, suc, ◌+◌, ◌<◌, ◌≤◌, Bool, true, false, cond, not, ◌||◌, List, [], ◌∷◌, ◌++◌, length, get_or}
-use Rattle.std.proofs.Common.{take, filter, map, Some, None, Option, All, is_none, is_some, position, refl, sym, ap, ◌∙◌, arith}
+use Rattle.std.proofs.Common.{◌≡◌, ℕ, suc, ◌+◌, ◌<◌, Bool, true, false, cond, not, ◌||◌, List, [], ◌∷◌, ◌++◌, length, get_or}
+use Rattle.std.proofs.Common.{take, filter, map, Some, None, Option, is_none, is_some, position, refl, sym, ap, ◌∙◌}
 use Rattle.std.specs.List.{cons_option, filter_map, list_any, position_from}
-use Rattle.std.specs.Option.{ForSome}
 use Rattle.std.proofs.lemmas.Iterator.Adapters.{position_from-zero}
 use Rattle.std.proofs.lemmas.List.{get_or-map, map_push, take_more}
-use Rattle.std.proofs.lemmas.List.Elements.{All-cons, All-nil}
 use Rattle.std.proofs.lemmas.List.Folds.{list_any_at, list_any_more}
-use Rattle.std.proofs.lemmas.List.Quantifiers.{position-Some}
 use Rattle.gix_odb_core.specs.Publish.{is_new, new_rows}
 use Rattle.gix_odb_events.specs.Slots.{slot_at, Slot, holds}
 use Rattle.gix_odb_events.specs.declared.listing.ListingRow.{ListingRow}
@@ -84,15 +81,6 @@ module _ (slots : List Slot) where
           → length (cond b (place_of row ∷ filter is_none (map place_of rows)) (filter is_none (map place_of rows))) ≡ length (cond b (row ∷ new_rows slots rows) (new_rows slots rows))
       by true rest = ap suc rest
       by false rest = rest
-
-  -- ---- the slots that hold rows
-
-  -- each is one of the slots
-  pub places-within : (rows : List ListingRow) (most : ℕ) → length slots ≤ most → All (λ place. ForSome place (λ number. number < most)) (map (λ row. position (holds row) slots) rows)
-  places-within [] most few = All-nil (λ (place : Option ℕ). ForSome place (λ number. number < most))
-  places-within (row ∷ rows) most few =
-      All-cons (λ (place : Option ℕ). ForSome place (λ number. number < most)) (place_of row) (map place_of rows)
-      (λ number is. omega (arith, few, (position-Some (holds row) slots number None is).0)) (places-within rows most few)
 
   -- the places that are present are the list
   pub list_after-places : (rows : List ListingRow) → filter_map (λ (place : Option ℕ). place) (map (λ row. position (holds row) slots) rows) ≡ filter_map (λ row. position (holds row) slots) rows

@@ -1,10 +1,9 @@
--- The keys of indices, and the order by which maps find them. No public clause cites this module.
-use Rattle.std.specs.Prelude.{ℕ, Bool, false, List, Option, Some, None}
+-- The keys of indices, and their order. Public clauses cite only `parts_cmp`.
+use Rattle.std.specs.Prelude.{ℕ, Bool, List, Option, Some, None}
 use Rattle.std.specs.Ordering.{is_eq, nat_cmp, ordering_then}
 use Rattle.std.specs.Option.{option_cmp}
 use Rattle.std.specs.declared.cmp.Ordering.{Ordering}
 use Rattle.odb_base.specs.Path.{Path, path_cmp}
-use Rattle.gix_odb_events.specs.Slots.{Slot, index_path}
 use Rattle.gix_odb_core.specs.declared.index_key.IndexKey.{IndexKey}
 use Rattle.gix_odb_events.specs.declared.listing.ListingRow.{ListingRow}
 use Rattle.gix_odb_events.specs.declared.slot.IndexFile.{IndexFile}
@@ -29,8 +28,3 @@ key_cmp one other = parts_cmp one.path.now one.multi_time other.path.now other.m
 -- whether a row's index has a key
 abbrev pub row_has : IndexKey → ListingRow → Bool
 row_has key row = is_eq (parts_cmp row.path (row_time row.multi row.time) key.path.now key.multi_time)
-
--- whether a slot holds an index that has a key
-abbrev pub slot_has : IndexKey → Slot → Bool
-slot_has key None = false
-slot_has key (Some filled) = is_eq (parts_cmp (index_path filled.index) (index_time filled.index filled.time) key.path.now key.multi_time)

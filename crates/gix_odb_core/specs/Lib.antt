@@ -8,6 +8,7 @@ pub use Rattle.gix_odb_events.specs.View
 pub use Rattle.gix_odb_events.specs.Answers
 pub mod Publish
 pub mod IndexKeys
+pub mod SlotTable
 pub mod Files
 pub mod Counts
 pub mod Tally

@@ -2,10 +2,12 @@
 //! longer in use.
 use crate::journal::Journal;
 use crate::state::State;
+use gix_hash::Steps;
 use gix_odb_events::{Effect, Event, Metrics, Refusal, View};
-use odb_base::NoMemory;
+use odb_base::{NoMemory, PathText};
 use std::alloc::Global;
 use std::marker::Model;
+use std::sync::ledger::Ledger;
 
 /// How a core was made.
 #[derive(Clone, Copy)]
@@ -46,7 +48,9 @@ impl Core {
     ghost use Rattle.gix_odb_core.specs.Metrics.{metrics_of};
     ghost use Rattle.gix_odb_core.specs.Possible.{IsComplete, IsOpened, IsPossible};
     ghost use Rattle.gix_odb_core.specs.Replay.{Appends, CanHappen, IsLegal, IsNeverRefused, answer_of, number_behind, refreshes_in};
+    ghost use Rattle.gix_odb_core.specs.SlotTable.{filled_count, slot_of};
     ghost use Rattle.gix_odb_core.specs.State.{newest};
+    ghost use Rattle.gix_hash.specs.Steps.{IsSearch};
     ghost use Rattle.gix_odb_core.specs.Steps.{IsShape, after};
     ghost use Rattle.gix_odb_core.specs.Views.{view_of};
     ghost use Rattle.gix_odb_events.specs.PackId.{most_slots};
@@ -100,6 +104,27 @@ impl Core {
         ensures at_last { result ≡ Err Refusal.GenerationOverflow → StandsAtLast (present self.old) event }
     {
         self.state.apply(alloc, seat, event)
+    }
+
+    /// The slot that holds the index of a path, if one does: as a pack index where no time is given, and else as the
+    /// multi-pack index of that time. Each comparison of two paths with their times counts as one step.
+    pub fn slot_of_counted<L: Ledger>(
+        &self,
+        path: &PathText,
+        time: Option<u64>,
+        steps: &mut Steps<L>,
+    ) -> Option<u16>
+        ensures slot { result ≡ slot_of path.now time (present self.now).slots }
+        ensures steps { IsSearch (filled_count (present self.now).slots) steps.old steps.new }
+    {
+        self.state.shape.slots.slot_of_counted(path, time, steps)
+    }
+
+    /// The slot that holds the index of a path, if one does, without a count of steps.
+    pub fn slot_of(&self, path: &PathText, time: Option<u64>) -> Option<u16>
+        ensures slot { result ≡ slot_of path.now time (present self.now).slots }
+    {
+        self.state.shape.slots.slot_of(path, time)
     }
 
     /// The view of its present shape, with the number of the newest entry.

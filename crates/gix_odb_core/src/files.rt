@@ -2,7 +2,9 @@
 ghost use Rattle.std.specs.Prelude.{◌≡◌, ◌<◌, ◌+◌, IfOk, Some, slice_set};
 ghost use Rattle.gix_odb_core.specs.Files.{slot_with_index, slot_with_pack};
 ghost use Rattle.gix_odb_events.specs.Slots.{slot_at};
+ghost use Rattle.std.specs.Option.{IfSome};
 ghost use Rattle.gix_odb_core.specs.Shelf.{shelf_of};
+ghost use Rattle.gix_odb_core.specs.SlotTable.{slot_key};
 ghost use Rattle.gix_odb_events.specs.View.{last_state};
 ghost use Rattle.gix_odb_core.specs.Turn.{pass_turn, put_turn};
 
@@ -20,6 +22,7 @@ impl Shape {
     /// The slots, the list and the counters once a slot holds `filled`.
     fn shelf_with(&self, alloc: Global, place: usize, filled: Filled) -> Result<Shelf, NoMemory>
         requires small { self.now.state_id < last_state }
+        requires same_index { slot_key (Some filled) ≡ slot_key (slot_at self.now.slots place) }
         ensures shelf { IfOk result (λ shelf. shelf ≡ record (shelf_of self.now) { slots = slice_set self.now.slots place (Some filled); state_id = self.now.state_id + 1 }) }
     {
         let slot = Some(Shared::new(alloc, filled)?);
@@ -31,6 +34,7 @@ impl Shape {
 
     /// The turn of an event that puts a file; the slot then holds `filled`, if the file is stored.
     fn put(&self, alloc: Global, place: usize, filled: Option<Filled>) -> Result<Turn, NoMemory>
+        requires same_index { IfSome filled (λ filled. slot_key (Some filled) ≡ slot_key (slot_at self.now.slots place)) }
         ensures turn { IfOk result (λ turn. turn ≡ put_turn self.now place filled) }
     {
         let Some(filled) = filled else {
@@ -56,7 +60,7 @@ impl Shape {
     ) -> Result<Turn, NoMemory>
         ensures turn { IfOk result (λ turn. turn ≡ put_turn self.now place (slot_with_index path.now read.now (slot_at self.now.slots place))) }
     {
-        let filled = slot_with_index(path, read, &self.slots, place)?;
+        let filled = slot_with_index(path, read, self.slots.list(), place)?;
         self.put(alloc, place, filled)
     }
 
@@ -70,7 +74,7 @@ impl Shape {
     ) -> Result<Turn, NoMemory>
         ensures turn { IfOk result (λ turn. turn ≡ put_turn self.now place (slot_with_pack path.now read.now (slot_at self.now.slots place))) }
     {
-        let filled = slot_with_pack(alloc, path, read, &self.slots, place)?;
+        let filled = slot_with_pack(alloc, path, read, self.slots.list(), place)?;
         self.put(alloc, place, filled)
     }
 
@@ -83,10 +87,10 @@ impl Shape {
     ) -> Result<Turn, NoMemory>
         ensures turn { IfOk result (λ turn. turn ≡ pass_turn self.now place path.now) }
     {
-        if !slot_turns_missing(path, &self.slots, place) {
+        if !slot_turns_missing(path, self.slots.list(), place) {
             return Ok(Turn::quiet(Told::Seen));
         }
-        let slot = slot_passed(alloc, path, &self.slots, place)?;
+        let slot = slot_passed(alloc, path, self.slots.list(), place)?;
         let slots = self.slots.with(alloc, place, slot)?;
         Ok(Turn {
             shelf: Some(self.with_slots(slots)?),

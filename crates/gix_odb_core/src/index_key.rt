@@ -1,23 +1,26 @@
 //! The keys of indices, and which rows and slots have the same index.
-ghost use Rattle.std.specs.Prelude.{◌≡◌, IfOk, List, map};
+ghost use Rattle.std.specs.Prelude.{◌≡◌, ◌+◌, IfOk, List, map};
 ghost use Rattle.std.specs.List.{list_any, position};
-ghost use Rattle.std.specs.BTreeMap.{get};
 ghost use Rattle.std.specs.BTreeSet.{contains};
-ghost use Rattle.gix_odb_core.specs.IndexKeys.{index_time, key_cmp, row_has, row_time, slot_has};
+ghost use Rattle.gix_odb_core.specs.IndexKeys.{index_time, key_cmp, parts_cmp, row_has, row_time};
 ghost use Rattle.gix_odb_core.specs.Publish.{is_kept};
 ghost use Rattle.gix_odb_events.specs.Slots.{holds, index_path};
 
+use crate::SlotTable;
+use gix_hash::Steps;
 use gix_odb_events::{Filled, IndexFile, ListingRow, Slot};
 use odb_base::{NoMemory, PathText};
 use std::alloc::Global;
-use std::collections::{BTreeMap, BTreeSet};
+use std::cmp::Ordering;
+use std::collections::BTreeSet;
+use std::sync::ledger::Ledger;
 
 /// The key of an index: its path and its kind, and the time of a multi-pack index.
 #[derive(Clone, Copy, PartialEq, Eq, PartialOrd, Ord)]
-struct IndexKey<'a> {
-    path: &'a PathText,
+pub(crate) struct IndexKey<'a> {
+    pub path: &'a PathText,
     /// When a multi-pack index was last changed. A pack index has none.
-    multi_time: Option<u64>,
+    pub multi_time: Option<u64>,
 }
 
 impl IndexKey<'_> {
@@ -37,7 +40,7 @@ impl IndexKey<'_> {
     }
 
     /// The key of what a slot holds.
-    fn of_filled(filled: &Filled) -> IndexKey<'_>
+    pub(crate) fn of_filled(filled: &Filled) -> IndexKey<'_>
         ensures path { result.path.now ≡ index_path filled.now.index }
         ensures time { result.multi_time ≡ index_time filled.now.index filled.now.time }
     {
@@ -52,6 +55,22 @@ impl IndexKey<'_> {
     }
 }
 
+/// How an index compares with another, by their paths and the times of multi-pack indices, which counts as one step. A
+/// pack index has no time, and is lower than the multi-pack indices of its path.
+pub fn compare_paths_counted<L: Ledger>(
+    path: &PathText,
+    time: Option<u64>,
+    other: &PathText,
+    later: Option<u64>,
+    steps: &mut Steps<L>,
+) -> Ordering
+    ensures order { result ≡ parts_cmp path.now time other.now later }
+    ensures step { steps.new ≡ steps.old + 1 }
+{
+    steps.tick();
+    path.cmp(other).then(time.cmp(&later))
+}
+
 /// The keys of rows.
 fn row_keys(alloc: Global, rows: &[ListingRow]) -> Result<BTreeSet<IndexKey<'_>>, NoMemory>
     ensures keys { IfOk result (λ keys. (key : IndexKey) → contains key_cmp keys key ≡ list_any (row_has key) rows.now) }
@@ -61,20 +80,6 @@ fn row_keys(alloc: Global, rows: &[ListingRow]) -> Result<BTreeSet<IndexKey<'_>>
         keys.insert(IndexKey::of_row(row))?;
     }
     Ok(keys)
-}
-
-/// The first slot of each key.
-fn first_places(alloc: Global, slots: &[Slot]) -> Result<BTreeMap<IndexKey<'_>, usize>, NoMemory>
-    ensures first { IfOk result (λ places. (key : IndexKey) → get key_cmp places key ≡ position (slot_has key) slots.now) }
-{
-    let mut places = BTreeMap::new(alloc);
-    // Of slots with the same key, the first is put last, and stays.
-    for place in (0..slots.len()).rev() {
-        if let Some(filled) = &slots[place] {
-            places.insert(IndexKey::of_filled(filled.value()), place)?;
-        }
-    }
-    Ok(places)
 }
 
 /// Whether the contents of a slot have one of these keys.
@@ -103,18 +108,18 @@ pub(crate) fn kept_slots<'a>(
     Ok(kept)
 }
 
-/// For each row, the first slot that holds it.
-pub(crate) fn places_of_rows<'a>(
+/// For each row, the first slot that holds it, found in the table of the slots.
+pub(crate) fn places_of_rows(
     alloc: Global,
-    rows: &'a [ListingRow],
-    slots: &'a [Slot],
-) -> Result<Vec<Option<usize>>, NoMemory>
+    rows: &[ListingRow],
+    slots: &SlotTable,
+) -> Result<Vec<Option<u16>>, NoMemory>
     ensures places { IfOk result (λ places. places.items ≡ map (λ row. position (holds row) slots.now) rows.now) }
 {
-    let first = first_places(alloc, slots)?;
     let mut places = Vec::new(alloc);
     for row in rows {
-        places.push(first.get(&IndexKey::of_row(row)).copied())?;
+        let key = IndexKey::of_row(row);
+        places.push(slots.slot_of(key.path, key.multi_time))?;
     }
     Ok(places)
 }

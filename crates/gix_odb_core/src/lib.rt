@@ -2,8 +2,8 @@
 //!
 //! A slot holds an index or a multi-pack index, and a file for each of its packs. Handles bring events to a core: files that
 //! were read or could not be, listings of the store's folders, and their own opening and closing. Each is answered and
-//! journalled, and the present state is the replay of the journal. Read `apply` first, then `shape`, then `matched`, `publish`
-//! and `put`. Events and views are types of `gix_odb_events`, re-exported here.
+//! journalled, and the present state is the replay of the journal. Read `apply` first, then `shape`, then `slot_table`,
+//! `matched`, `publish` and `put`. Events and views are types of `gix_odb_events`, re-exported here.
 //! ```rust
 //! let mut core = Core::new(alloc, 32, 1)?;
 //! let answer = core.apply(alloc, 0, Event::Register { stable: false });
@@ -26,6 +26,7 @@ mod publishing;
 pub mod put;
 pub mod report;
 mod shape;
+mod slot_table;
 mod state;
 mod turn;
 pub mod unsettled;
@@ -37,6 +38,8 @@ pub use gix_odb_events::{
     PackFileList, PackId, PassWhy, Passed, PassedList, Refusal, Report, Shared, SlotIndexMarker,
     Snapshot, SnapshotIndex, Todo, TodoList, TodoRest, View, pack_path, packs_beside,
 };
+pub use index_key::compare_paths_counted;
 pub use journal::{Entry, Journal};
 pub use matched::Matched;
 pub use shape::Shape;
+pub use slot_table::SlotTable;

@@ -4,6 +4,7 @@ ghost use Rattle.std.specs.List.{position};
 ghost use Rattle.gix_odb_core.specs.Publish.{is_kept, is_new};
 ghost use Rattle.gix_odb_events.specs.Slots.{slot_at, holds};
 
+use crate::SlotTable;
 use crate::index_key::{kept_slots, places_of_rows};
 use gix_odb_events::{ListingRow, Slot};
 use odb_base::NoMemory;
@@ -17,23 +18,25 @@ pub struct Matched<'a> {
     /// For each slot, whether a row keeps its contents.
     kept: Vec<bool>,
     /// For each row, the first slot that holds it.
-    places: Vec<Option<usize>>,
+    places: Vec<Option<u16>>,
     ghost kept_slots: { kept.items ≡ map (is_kept rows.now) slots.now },
     ghost places_of_rows: { places.items ≡ map (λ row. position (holds row) slots.now) rows.now },
 }
 
 impl<'a> Matched<'a> {
-    /// Looks up rows among slots, and slots among rows.
+    /// Looks up rows among slots, whose table is `table`, and slots among rows.
     pub fn new(
         alloc: Global,
         rows: &'a [ListingRow],
         slots: &'a [Slot],
+        table: &SlotTable,
     ) -> Result<Matched<'a>, NoMemory>
+        requires table { table.now ≡ slots.now }
         ensures rows { IfOk result (λ matched. matched.rows.now ≡ rows.now) }
         ensures slots { IfOk result (λ matched. matched.slots.now ≡ slots.now) }
     {
         let kept = kept_slots(alloc, rows, slots)?;
-        let places = places_of_rows(alloc, rows, slots)?;
+        let places = places_of_rows(alloc, rows, table)?;
         Ok(Matched {
             rows,
             slots,
@@ -67,7 +70,7 @@ impl<'a> Matched<'a> {
     }
 
     /// For each row, the first slot that holds it.
-    pub(crate) fn places(&self) -> &[Option<usize>]
+    pub(crate) fn places(&self) -> &[Option<u16>]
         ensures places { result.now ≡ map (λ row. position (holds row) self.now.slots.now) self.now.rows.now }
     {
         &self.places

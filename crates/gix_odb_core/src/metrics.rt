@@ -13,8 +13,9 @@ impl Shape {
         requires countable { IsCountable self.now }
         ensures metrics { result ≡ metrics_of self.now refreshes }
     {
-        let listed = listed_tally(&self.slots, self.list.as_slice());
-        let disposable = disposable_tally(&self.slots);
+        let slots = self.slots.list();
+        let listed = listed_tally(slots, self.list.as_slice());
+        let disposable = disposable_tally(slots);
         Metrics {
             num_handles: self.handles.len(),
             num_refreshes: refreshes,
@@ -22,7 +23,7 @@ impl Shape {
             known_reachable_indices: listed.indices,
             open_reachable_packs: listed.open_packs,
             known_packs: listed.packs,
-            unused_slots: count_unused(&self.slots),
+            unused_slots: count_unused(slots),
             unreachable_indices: disposable.indices,
             unreachable_packs: disposable.open_packs,
             loose_dbs: self.folders,

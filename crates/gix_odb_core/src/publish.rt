@@ -1,16 +1,15 @@
 //! What publishing a listing does to the slots and the list.
 //!
-//! The rows are looked up among the slots once, and the slots among the rows (`Matched`). So a listing takes time
-//! proportional to the number of rows and slots, times its logarithm.
+//! The rows are looked up among the slots once, by the table of these (`SlotTable`), and the slots among the rows
+//! (`Matched`). So a listing takes time proportional to the number of rows and slots, times its logarithm.
 ghost use Rattle.std.specs.Prelude.{◌≡◌, ◌≤◌, ◌<◌, ◌-◌, ◌++◌, ◌∷◌, [], IfOk, OnOk, All, Some, drop, is_none, is_some, length, map, filter, take, if◌then◌else◌};
-ghost use Rattle.std.specs.Option.{ForSome, option_to_list};
+ghost use Rattle.std.specs.Option.{option_to_list};
 ghost use Rattle.std.specs.List.{filter_map, list_any, range_with_len, zip};
 ghost use Rattle.gix_odb_events.specs.Slots.{HasFewPacks, slot_at};
 ghost use Rattle.gix_odb_core.specs.Publish.{free_places, is_free, list_after, new_rows, place_after, settled, slots_after, taken, with_taken};
-ghost use Rattle.gix_odb_events.specs.PackId.{most_slots};
 
-use crate::Matched;
 use crate::index_key::places_of_rows;
+use crate::{Matched, SlotTable};
 use gix_odb_events::{Filled, ListingRow, Shared, Slot};
 use odb_base::{NoMemory, Sequence};
 use std::alloc::Global;
@@ -86,7 +85,7 @@ pub fn free_places(
 }
 
 /// How many of these are None.
-fn count_without(places: &[Option<usize>]) -> usize
+fn count_without(places: &[Option<u16>]) -> usize
     ensures count { result ≡ length (filter is_none places.now) }
 {
     places.iter().filter(|place| place.is_none()).count()
@@ -172,19 +171,17 @@ fn take(
 }
 
 /// Adds the number of a slot, if there is one.
-fn put_place(list: &mut Sequence<u16>, place: Option<usize>) -> Result<(), NoMemory>
-    requires few { ForSome place (λ place. place < most_slots) }
+fn put_place(list: &mut Sequence<u16>, place: Option<u16>) -> Result<(), NoMemory>
     ensures put { OnOk result (list.new ≡ list.old ++ option_to_list place) }
 {
     if let Some(place) = place {
-        list.push(place as u16)?;
+        list.push(place)?;
     }
     Ok(())
 }
 
 /// The numbers of these slots.
-fn listed(alloc: Global, places: &[Option<usize>]) -> Result<Sequence<u16>, NoMemory>
-    requires few { All (λ place. ForSome place (λ number. number < most_slots)) places.now }
+fn listed(alloc: Global, places: &[Option<u16>]) -> Result<Sequence<u16>, NoMemory>
     ensures list { IfOk result (λ list. list ≡ filter_map (λ place. place) places.now) }
 {
     let mut list = Sequence::new(alloc);
@@ -196,7 +193,6 @@ fn listed(alloc: Global, places: &[Option<usize>]) -> Result<Sequence<u16>, NoMe
 
 /// The new list, where the slots stay unchanged: for each row, the slot that holds it.
 pub fn list_as_is(alloc: Global, matched: &Matched) -> Result<Sequence<u16>, NoMemory>
-    requires few { length matched.now.slots.now ≤ most_slots }
     ensures list { IfOk result (λ list. list ≡ list_after matched.now.rows.now matched.now.slots.now) }
 {
     listed(alloc, matched.places())
@@ -206,9 +202,8 @@ pub fn list_as_is(alloc: Global, matched: &Matched) -> Result<Sequence<u16>, NoM
 pub fn list_after(
     alloc: Global,
     rows: &[ListingRow],
-    slots: &[Slot],
+    slots: &SlotTable,
 ) -> Result<Sequence<u16>, NoMemory>
-    requires few { length slots.now ≤ most_slots }
     ensures list { IfOk result (λ list. list ≡ list_after rows.now slots.now) }
 {
     let places = places_of_rows(alloc, rows, slots)?;

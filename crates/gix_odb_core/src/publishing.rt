@@ -9,12 +9,12 @@ ghost use Rattle.gix_odb_core.specs.Steps.{publishing, settled_as, with_list, wi
 ghost use Rattle.gix_odb_core.specs.Turn.{publish_turn, stands};
 ghost use Rattle.gix_odb_events.specs.PackId.{most_slots};
 
-use crate::Matched;
 use crate::publish::{count_new, free_places, list_after, list_as_is, slots_after, takes_over};
 use crate::shape::{Shape, Shelf};
 use crate::turn::{Told, Turn};
 use crate::unsettled::is_any_unsettled;
-use gix_odb_events::{Listing, ListingRow, PlaceList, Refusal, Slot, SlotList};
+use crate::{Matched, SlotTable};
+use gix_odb_events::{Listing, ListingRow, PlaceList, Refusal, Slot};
 use odb_base::{NoMemory, Sequence};
 use std::alloc::Global;
 
@@ -30,13 +30,13 @@ fn shared_with_list(
     alloc: Global,
     rows: &[ListingRow],
     after: Sequence<Slot>,
-) -> Result<(SlotList, PlaceList), NoMemory>
+) -> Result<(SlotTable, PlaceList), NoMemory>
     requires few { length after ≤ most_slots }
     ensures slots { IfOk result (λ shared. shared.0 ≡ after) }
     ensures list { IfOk result (λ shared. shared.1 ≡ list_after rows.now after) }
 {
-    let list = PlaceList::new(alloc, list_after(alloc, rows, after.as_slice())?)?;
-    let slots = SlotList::from_vec(alloc, after.into_vec())?;
+    let slots = SlotTable::new(alloc, after.into_vec())?;
+    let list = PlaceList::new(alloc, list_after(alloc, rows, &slots)?)?;
     Ok((slots, list))
 }
 
@@ -77,7 +77,7 @@ impl Shape {
     }
 
     /// The shape with a new list.
-    fn with_list(&self, slots: SlotList, list: PlaceList, renewed: bool) -> Shelf
+    fn with_list(&self, slots: SlotTable, list: PlaceList, renewed: bool) -> Shelf
         requires numbered { self.now.list_no ≤ self.now.state_id }
         requires rises { would_overflow self.now false renewed ≡ false }
         ensures shelf { result ≡ shelf_of (with_list self.now slots list renewed) }
@@ -95,7 +95,7 @@ impl Shape {
     }
 
     /// The shape with its current list.
-    fn with_same_list(&self, slots: SlotList, list: PlaceList) -> Shelf
+    fn with_same_list(&self, slots: SlotTable, list: PlaceList) -> Shelf
         requires same { same_list list self.now.list ≡ true }
         ensures shelf { result ≡ shelf_of (record self.now { slots = slots }) }
     {
@@ -113,7 +113,7 @@ impl Shape {
     fn settled_as(
         &self,
         rows: &[ListingRow],
-        slots: SlotList,
+        slots: SlotTable,
         list: PlaceList,
         news: usize,
         renewed: bool,
@@ -184,7 +184,7 @@ impl Shape {
                 list_no: self.list_no,
             }));
         }
-        let slots = self.slots.to_vec(alloc)?;
+        let slots = self.slots.list().to_vec(alloc)?;
         self.publish_over(alloc, listing, &slots)
     }
 
@@ -204,13 +204,13 @@ impl Shape {
         ensures few_packs { IfOk result (λ turn. IfSome turn.shelf (λ shelf. All HasFewPacks shelf.slots)) }
     {
         let stable = self.handles.is_any_stable();
-        let matched = Matched::new(alloc, listing.rows.as_slice(), slots)?;
+        let matched = Matched::new(alloc, listing.rows.as_slice(), slots, &self.slots)?;
         let free = free_places(alloc, stable, &matched, self.list.as_slice())?;
         let news = count_new(&matched);
         if free.len() < news {
             let needed = news - free.len();
             return Ok(Turn::quiet(Told::Refused(Refusal::InsufficientSlots {
-                current: self.slots.len(),
+                current: self.slots.list().len(),
                 needed,
             })));
         }

@@ -3,11 +3,10 @@ ghost use Rattle.std.specs.Prelude.{◌≡◌, [], false, IfOk, replicate};
 ghost use Rattle.gix_odb_core.specs.Shelf.{settled_by, shelf_of, shown_of, with_shelf, without_handles};
 ghost use Rattle.gix_odb_events.specs.Shown.{shown_indices, shown_kept, shown_todo};
 
-use crate::Shared;
 use crate::handles::HandleTable;
+use crate::{Shared, SlotTable};
 use gix_odb_events::{
-    KeptList, ListedSlots, LoadedList, PlaceList, SlotIndexMarker, SlotList, Snapshot, TodoList,
-    View,
+    KeptList, ListedSlots, LoadedList, PlaceList, SlotIndexMarker, Snapshot, TodoList, View,
 };
 use odb_base::NoMemory;
 use std::alloc::Global;
@@ -17,7 +16,7 @@ use std::alloc::Global;
 pub struct Shape {
     /// How many folders the store has. No event changes it.
     pub folders: usize,
-    pub slots: SlotList,
+    pub slots: SlotTable,
     /// The slots of the newest listing, in its order.
     pub list: PlaceList,
     /// Whether a listing was published.
@@ -35,7 +34,7 @@ pub struct Shape {
 /// The slots, the list and the counters after an event.
 #[derive(Drop)]
 pub(crate) struct Shelf {
-    pub slots: SlotList,
+    pub slots: SlotTable,
     pub list: PlaceList,
     pub read: bool,
     pub list_no: u64,
@@ -49,7 +48,7 @@ impl Shelf {
         ensures opening { result ≡ record { slots = replicate slots None; list = []; read = false; list_no = 0; generation = generation; state_id = state_id } }
     {
         Shelf {
-            slots: SlotList::empty(slots as usize),
+            slots: SlotTable::empty(slots as usize),
             list: PlaceList::empty(),
             read: false,
             list_no: 0,
@@ -98,7 +97,7 @@ impl Shape {
     }
 
     /// Its list and counters with other slots.
-    pub(crate) fn with_slots(&self, slots: SlotList) -> Result<Shelf, NoMemory>
+    pub(crate) fn with_slots(&self, slots: SlotTable) -> Result<Shelf, NoMemory>
         ensures shelf { IfOk result (λ shelf. shelf ≡ record (shelf_of self.now) { slots = slots }) }
     {
         let list = self.list.try_clone()?;
@@ -135,7 +134,7 @@ impl Shelf {
         ensures slots { IfOk result (λ shared. shared.slots ≡ self.now.slots) }
         ensures list { IfOk result (λ shared. shared.list ≡ self.now.list) }
     {
-        let slots = self.slots.try_clone()?;
+        let slots = self.slots.list().try_clone()?;
         let list = self.list.try_clone()?;
         Shared::new(alloc, ListedSlots { slots, list })
     }

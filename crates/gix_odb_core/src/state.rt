@@ -127,7 +127,7 @@ impl State {
         ensures report { IfOk result (λ report. report ≡ report_of self.now.shape self.now.journal.entries.items) }
     {
         let list = self.shape.list.as_slice();
-        let listed = report_listed(alloc, &self.shape.slots, list)?;
+        let listed = report_listed(alloc, self.shape.slots.list(), list)?;
         let passed_over = reported(alloc, self.passed.as_slice())?;
         let report = Report {
             metrics: self.shape.metrics(self.refreshes),
