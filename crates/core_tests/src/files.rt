@@ -81,9 +81,14 @@ fn multi_of(alloc: Global, packs: &[NamedPack]) -> Result<Shared<multi_index::Fi
     Ok(Shared::new(alloc, file)?)
 }
 
-/// The multi-pack index of a time: for odd times it has the packs `a` and `b`, otherwise only the pack `b`.
+/// The multi-pack index of a time: for odd times it has the packs `a` and `b`, otherwise only the pack `b`. That of the time
+/// 100 has two names of one pack, and that of 200 has names whose packs don't rise.
 pub fn multi_file(alloc: Global, time: u64) -> Result<Shared<multi_index::File>, Fail> {
-    let names: &[&str] = if time % 2 == 1 {
+    let names: &[&str] = if time == 100 {
+        &["a", "a.idx", "b.idx"]
+    } else if time == 200 {
+        &["a", "a.b", "b.idx"]
+    } else if time % 2 == 1 {
         &["a.idx", "b.idx"]
     } else {
         &["b.idx"]

@@ -6,10 +6,9 @@
 //! missing, `=COUNT` loaded and `~COUNT` garbage.
 use crate::events::{put_event, word_of_why};
 use gix_odb_core::{
-    Core, Effect, Entry, KeptList, Listed, LoadedIndex, LoadedRest, Metrics, OnDiskFile, Passed,
-    Refusal, Report, Shared, SnapshotIndex, Todo, TodoRest, View,
+    Core, Effect, Entry, KeptList, Listed, LoadedIndex, LoadedRest, Metrics, PackFile,
+    PackFileList, Passed, PassedList, Refusal, Report, Shared, SnapshotIndex, Todo, TodoRest, View,
 };
-use gix_pack::data;
 use odb_base::NoMemory;
 use test_words::Text;
 
@@ -93,7 +92,7 @@ fn put_index(text: &mut Text, index: Result<Option<SnapshotIndex>, NoMemory>) {
     text.marked("", u64::from(index.slot));
     text.marked(":", index.path.value());
     put_loaded(text, &index.index);
-    put_packs(text, index.packs.value().as_slice());
+    put_packs(text, index.packs.value());
 }
 
 fn put_loaded(text: &mut Text, index: &LoadedIndex) {
@@ -103,14 +102,20 @@ fn put_loaded(text: &mut Text, index: &LoadedIndex) {
     }
 }
 
-fn put_packs(text: &mut Text, packs: &[OnDiskFile<Shared<data::File>>]) {
-    for pack in packs {
+fn put_packs(text: &mut Text, packs: &PackFileList) {
+    for place in 0..packs.len() {
+        put_pack(text, packs.get(place));
+    }
+}
+
+fn put_pack(text: &mut Text, pack: Option<&PackFile>) {
+    if let Some(pack) = pack {
         text.marked(" ", pack.path());
         put_state(text, pack);
     }
 }
 
-fn put_state(text: &mut Text, pack: &OnDiskFile<Shared<data::File>>) {
+fn put_state(text: &mut Text, pack: &PackFile) {
     match pack.loaded() {
         None => text.put(if pack.is_disposable() { "!" } else { "-" }),
         Some(file) => {
@@ -146,7 +151,7 @@ fn put_reported(text: &mut Text, view: &View, report: &Report) {
     text.put(" [");
     put_listed(text, report.listed.value().as_slice());
     text.put("] [");
-    put_passed(text, report.passed_over.value().as_slice());
+    put_passed(text, &report.passed_over);
     text.put("]");
 }
 
@@ -176,12 +181,18 @@ fn put_listed(text: &mut Text, listed: &[Listed]) {
     }
 }
 
-fn put_passed(text: &mut Text, passed: &[Passed]) {
-    for file in passed {
+fn put_passed(text: &mut Text, passed: &PassedList) {
+    for place in 0..passed.len() {
+        put_passed_file(text, passed.get(place));
+    }
+}
+
+fn put_passed_file(text: &mut Text, file: Option<&Shared<Passed>>) {
+    if let Some(file) = file {
         text.comma();
-        text.marked("", file.path.value());
+        text.marked("", file.value().path.value());
         text.put(" ");
-        text.put(word_of_why(file.why));
+        text.put(word_of_why(file.value().why));
     }
 }
 

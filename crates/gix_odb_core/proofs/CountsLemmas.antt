@@ -1,7 +1,9 @@
 -- Counts summed one slot at a time are counts over the filled slots.
-use Rattle.std.proofs.Common.{◌≡◌, ℕ, ◌+◌, ◌<◌, true, false, cond, List, [], ◌∷◌, length, get_or, drop, take, Some, None, is_none, refl, sym, ap, subst, ◌∙◌, arith}
-use Rattle.std.specs.List.{cons_option, count_by, sum_by}
+use Rattle.std.proofs.Common.{◌≡◌, ℕ, ◌+◌, ◌<◌, Bool, true, false, cond, inl, inr, List, [], ◌∷◌, length, get_or, drop, take, Option, Some, None, is_none, refl, sym, ap, subst, ◌∙◌, arith}
+use Rattle.std.specs.List.{cons_option, count_by, slice_get, sum_by}
+use Rattle.std.specs.Option.{option_map_or}
 use Rattle.std.proofs.lemmas.List.{drop_more}
+use Rattle.std.proofs.lemmas.Option.{get_or_from_slice_get, slice_get_cases}
 use Rattle.std.proofs.lemmas.List.Sums.{count_by_more_no, count_by_more_yes, sum_by-cons}
 use Rattle.gix_odb_core.proofs.SlotsAfterLemmas.{slot_at-get_or}
 use Rattle.gix_odb_core.specs.Tally.{IsSmall, no_tally, tally_of, with_disposable, with_filled, with_places, with_slot}
@@ -62,6 +64,21 @@ module _ (slots : List Slot) (place : ℕ) (within : place < length slots) where
 
   pub count_unused-no : false ≡ is_none (slot_at slots place) → count_by is_none (take (place + 1) slots) ≡ count_by is_none (take place slots)
   count_unused-no filled = count_by_more_no is_none slots place None within (ap is_none (sym (slot_at-get_or slots place)) ∙ sym filled)
+
+-- ---- items that pass a test
+
+module _ {X : Type 0} (test : X → Bool) (xs : List X) (i : ℕ) (within : i < length xs) (passes : Bool) (is : passes ≡ option_map_or test (slice_get xs i) false) where
+  at : (x : X) → slice_get xs i ≡ Some x → passes ≡ test (get_or xs i x)
+  at x there = is ∙ ap (λ (o : Option X). option_map_or test o false) there ∙ ap test (sym (get_or_from_slice_get xs i x x there))
+
+  item : (x : X) × (slice_get xs i ≡ Some x)
+  item = elim (slice_get_cases xs i).1 [ inl there ↦ (there.0, there.2) | inr past ↦ absurd (omega (arith, past.0)) ]
+
+  pub count_by-yes : passes ≡ true → count_by test (take (i + 1) xs) ≡ count_by test (take i xs) + 1
+  count_by-yes pass = count_by_more_yes test xs i item.0 within (sym (at item.0 item.1) ∙ pass)
+
+  pub count_by-no : passes ≡ false → count_by test (take (i + 1) xs) ≡ count_by test (take i xs)
+  count_by-no fail = count_by_more_no test xs i item.0 within (sym (at item.0 item.1) ∙ fail)
 
 -- ---- the counts
 

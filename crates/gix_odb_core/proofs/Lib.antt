@@ -13,6 +13,7 @@ pub mod ApartLemmas
 pub mod DistinctLemmas
 pub mod FewPacksLemmas
 pub mod PassLemmas
+mod PacksOfPathLemmas
 pub mod StandsLemmas
 mod KeptFilesLemmas
 mod PublishLemmas

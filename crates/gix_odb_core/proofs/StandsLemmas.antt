@@ -103,7 +103,7 @@ index-trashed-changes : (index : IndexFile) → is_index_trashable index ≡ tru
 index-trashed-changes (Single file) wanted same = file-trashed-changes file wanted (ap (λ (i : IndexFile). single_of i file) same)
 index-trashed-changes (Multi file) wanted same = file-trashed-changes file wanted (ap (λ (i : IndexFile). multi_of i file) same)
 
-filled-put_back-same : (filled : Filled) → has_disposable filled ≡ false → filled_put_back filled ≡ filled
+pub filled-put_back-same : (filled : Filled) → has_disposable filled ≡ false → filled_put_back filled ≡ filled
 filled-put_back-same filled wanted =
     let each = neither (is_index_disposable filled.index) (list_any (λ file. is_disposable file.state) filled.packs) wanted in
     ap (λ (index : IndexFile). record filled { index = index; packs = map (with_state put_back) filled.packs }) (index-put_back-same filled.index each.0)
@@ -116,7 +116,7 @@ filled-put_back-changes filled left same =
       | inr packs ↦ any-changes (λ file. is_disposable file.state) (with_state put_back) file-put_back-changes filled.packs packs (ap (λ (f : Filled). f.packs) same)
     ]
 
-filled-trashed-same : (filled : Filled) → has_trashable filled ≡ false → filled_trashed filled ≡ filled
+pub filled-trashed-same : (filled : Filled) → has_trashable filled ≡ false → filled_trashed filled ≡ filled
 filled-trashed-same filled left =
     let each = neither (is_index_trashable filled.index) (list_any (λ file. is_trashable file.state) filled.packs) left in
     ap (λ (index : IndexFile). record filled { index = index; packs = map (with_state trashed) filled.packs }) (index-trashed-same filled.index each.0)

@@ -10,6 +10,7 @@ pub mod Publish
 pub mod IndexKeys
 pub mod SlotTable
 pub mod Files
+pub mod PacksWith
 pub mod Counts
 pub mod Tally
 pub mod Kept

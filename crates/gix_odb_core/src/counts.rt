@@ -1,11 +1,13 @@
 //! Counts over slots.
-ghost use Rattle.std.specs.Prelude.{◌≡◌, ◌≤◌, All, is_none, length, count_by};
+ghost use Rattle.std.specs.Prelude.{◌≡◌, ◌≤◌, All, false, is_none, length, count_by, slice_get};
+ghost use Rattle.std.specs.Option.{option_map_or};
+ghost use Rattle.gix_odb_events.specs.OnDiskFile.{is_loaded};
 ghost use Rattle.gix_odb_core.specs.Counts.{disposable_in, disposable_slot, listed_in, loaded_packs};
 ghost use Rattle.gix_odb_events.specs.Slots.{is_index_loaded, is_multi, slot_at, has_disposable, is_index_disposable, HasFewPacks};
 ghost use Rattle.gix_odb_core.specs.Tally.{IsSmall, tally_of, with_filled, with_slot};
 ghost use Rattle.gix_odb_events.specs.PackId.{most_slots};
 
-use gix_odb_events::{Filled, PackFile, SlotList};
+use gix_odb_events::{Filled, PackFileList, SlotList};
 
 /// Counts over filled slots.
 #[derive(Clone, Copy)]
@@ -20,14 +22,24 @@ pub struct Tally {
     pub open_packs: usize,
 }
 
+/// Whether the pack at a place is loaded.
+fn is_loaded_at(packs: &PackFileList, place: usize) -> bool
+    ensures loaded { result ≡ option_map_or (λ pack. is_loaded pack.state) (slice_get packs.now place) false }
+{
+    match packs.get(place) {
+        Some(pack) => pack.is_loaded(),
+        None => false,
+    }
+}
+
 /// How many packs are loaded.
-fn loaded_packs(packs: &[PackFile]) -> usize
+fn loaded_packs(packs: &PackFileList) -> usize
     ensures loaded { result ≡ loaded_packs packs.now }
     ensures at_most { result ≤ length packs.now }
 {
     let mut loaded = 0;
-    for pack in packs {
-        if pack.is_loaded() {
+    for place in 0..packs.len() {
+        if is_loaded_at(packs, place) {
             loaded += 1;
         }
     }
@@ -41,7 +53,7 @@ impl Tally {
         ensures tally { result ≡ with_filled self filled.now }
     {
         let open = if filled.index.is_loaded() { 1 } else { 0 };
-        let packs = filled.packs.value().as_slice();
+        let packs = filled.packs.value();
         Tally {
             indices: self.indices + 1,
             open_indices: self.open_indices + open,

@@ -5,10 +5,11 @@
 ghost use Rattle.std.specs.Prelude.{◌≡◌, ◌≤◌, ◌<◌, ◌-◌, ◌++◌, ◌∷◌, [], IfOk, OnOk, All, Some, drop, is_none, is_some, length, map, filter, take, if◌then◌else◌};
 ghost use Rattle.std.specs.Option.{option_to_list};
 ghost use Rattle.std.specs.List.{filter_map, list_any, range_with_len, zip};
-ghost use Rattle.gix_odb_events.specs.Slots.{HasFewPacks, slot_at};
+ghost use Rattle.gix_odb_events.specs.Slots.{HasFewPacks, filled_put_back, filled_trashed, slot_at};
 ghost use Rattle.gix_odb_core.specs.Publish.{free_places, is_free, list_after, new_rows, place_after, settled, slots_after, taken, with_taken};
 
 use crate::index_key::places_of_rows;
+use crate::unsettled::has_trashable;
 use crate::{Matched, SlotTable};
 use gix_odb_events::{Filled, ListingRow, Shared, Slot};
 use odb_base::{NoMemory, Sequence};
@@ -98,7 +99,27 @@ pub fn count_new(matched: &Matched) -> usize
     count_without(matched.places())
 }
 
-/// The slot at a place after a listing, if no new row takes it.
+/// The contents of a slot, put back. They are shared if they stay as they are.
+fn put_back(alloc: Global, filled: &Shared<Filled>) -> Result<Shared<Filled>, NoMemory>
+    ensures put_back { IfOk result (λ after. after ≡ filled_put_back filled.now) }
+{
+    if filled.value().has_disposable() {
+        return Shared::new(alloc, filled.value().put_back(alloc)?);
+    }
+    filled.try_clone()
+}
+
+/// The contents of a slot, trashed. They are shared if they stay as they are.
+fn trashed(alloc: Global, filled: &Shared<Filled>) -> Result<Shared<Filled>, NoMemory>
+    ensures trashed { IfOk result (λ after. after ≡ filled_trashed filled.now) }
+{
+    if has_trashable(filled.value()) {
+        return Shared::new(alloc, filled.value().trashed(alloc)?);
+    }
+    filled.try_clone()
+}
+
+/// The slot at a place after a listing, if no new row takes it. It is shared if it stays as it is.
 fn settled(alloc: Global, stable: bool, matched: &Matched, place: usize) -> Result<Slot, NoMemory>
     requires within { place < length matched.now.slots.now }
     ensures settled { IfOk result (λ slot. slot ≡ settled stable matched.now.rows.now (slot_at matched.now.slots.now place)) }
@@ -107,9 +128,9 @@ fn settled(alloc: Global, stable: bool, matched: &Matched, place: usize) -> Resu
         return Ok(None);
     };
     if matched.is_kept(place) {
-        Ok(Some(Shared::new(alloc, filled.value().put_back(alloc)?)?))
+        Ok(Some(put_back(alloc, filled)?))
     } else if stable {
-        Ok(Some(Shared::new(alloc, filled.value().trashed(alloc)?)?))
+        Ok(Some(trashed(alloc, filled)?))
     } else {
         Ok(None)
     }

@@ -3,6 +3,8 @@ ghost use Rattle.std.specs.Prelude.{◌≡◌, ◌<◌, ◌+◌, IfOk, Some, map
 ghost use Rattle.std.specs.List.{list_any};
 ghost use Rattle.gix_odb_events.specs.Slots.{slot_at};
 ghost use Rattle.gix_odb_core.specs.Files.{index_with, slot_with_index, slot_with_pack, stored_at, takes};
+ghost use Rattle.gix_odb_core.specs.PacksWith.{packs_with, place_with};
+ghost use Rattle.gix_odb_events.specs.PackList.{HasFirst, IsRising};
 
 use gix_odb_events::{
     FileState, Filled, IndexFile, OnDiskFile, PackFile, PackFileList, Shared, SlotList,
@@ -87,45 +89,127 @@ fn stored_at(
     Ok(OnDiskFile::new(stands, state))
 }
 
-/// The packs, each with what was read if it takes it.
-fn packs_with(
+/// A pack with what was read, if it takes it, to be shared.
+fn shared_stored_at(
     alloc: Global,
     path: &PathText,
     read: &Shared<data::File>,
-    packs: &[PackFile],
-) -> Result<PackFileList, NoMemory>
-    ensures packs { IfOk result (λ stored. stored ≡ map (stored_at path.now read.now) packs.now) }
+    pack: &Shared<PackFile>,
+) -> Result<Shared<PackFile>, NoMemory>
+    ensures pack { IfOk result (λ stored. stored ≡ stored_at path.now read.now pack.now) }
 {
-    let mut copies = PackFileList::new(alloc);
-    for pack in packs {
-        copies.push(stored_at(path, read, pack)?)?;
-    }
-    Ok(copies)
-}
-
-/// The packs with what was read, to be shared.
-fn shared_packs_with(
-    alloc: Global,
-    path: &PathText,
-    read: &Shared<data::File>,
-    packs: &[PackFile],
-) -> Result<Shared<PackFileList>, NoMemory>
-    ensures packs { IfOk result (λ stored. stored ≡ map (stored_at path.now read.now) packs.now) }
-{
-    let packs = packs_with(alloc, path, read, packs)?;
-    Shared::new(alloc, packs)
+    Shared::new(alloc, stored_at(path, read, pack.value())?)
 }
 
 /// Whether one of the packs takes a file.
-fn is_taken(path: &PathText, packs: &[PackFile]) -> bool
+fn is_taken(path: &PathText, packs: &[Shared<PackFile>]) -> bool
     ensures taken { result ≡ list_any (takes path.now) packs.now }
 {
     for pack in packs {
-        if takes(path, pack) {
+        if takes(path, pack.value()) {
             return true;
         }
     }
     false
+}
+
+/// The packs, each with what was read if it takes it.
+fn each_with(
+    alloc: Global,
+    path: &PathText,
+    read: &Shared<data::File>,
+    packs: &[Shared<PackFile>],
+) -> Result<PackFileList, NoMemory>
+    ensures packs { IfOk result (λ stored. stored ≡ map (stored_at path.now read.now) packs.now) }
+{
+    let mut copies = Vec::with_capacity(alloc, packs.len())?;
+    for pack in packs {
+        copies.push(shared_stored_at(alloc, path, read, pack)?)?;
+    }
+    PackFileList::from_vec(alloc, copies)
+}
+
+/// The packs, each with what was read if it takes it, where at least one does.
+fn all_with(
+    alloc: Global,
+    path: &PathText,
+    read: &Shared<data::File>,
+    packs: &PackFileList,
+) -> Result<Option<PackFileList>, NoMemory>
+    ensures packs { IfOk result (λ stored. stored ≡ packs_with path.now read.now packs.now) }
+{
+    let packs = packs.to_vec(alloc)?;
+    if !is_taken(path, &packs) {
+        return Ok(None);
+    }
+    Ok(Some(each_with(alloc, path, read, &packs)?))
+}
+
+/// The packs with what was read at one place, if the pack there takes it.
+fn place_with(
+    alloc: Global,
+    path: &PathText,
+    read: &Shared<data::File>,
+    packs: &PackFileList,
+    place: usize,
+    pack: &Shared<PackFile>,
+) -> Result<Option<PackFileList>, NoMemory>
+    ensures packs { IfOk result (λ stored. stored ≡ place_with path.now read.now packs.now place pack.now) }
+{
+    if !takes(path, pack.value()) {
+        return Ok(None);
+    }
+    let stored = shared_stored_at(alloc, path, read, pack)?;
+    Ok(Some(packs.with(alloc, place, stored)?))
+}
+
+/// The packs, each with what was read if it takes it, where at least one does. Only the one at this place has the path.
+fn one_with(
+    alloc: Global,
+    path: &PathText,
+    read: &Shared<data::File>,
+    packs: &PackFileList,
+    place: usize,
+) -> Result<Option<PackFileList>, NoMemory>
+    requires rising { IsRising packs.now }
+    requires first { HasFirst path.now packs.now place }
+    ensures packs { IfOk result (λ stored. stored ≡ packs_with path.now read.now packs.now) }
+{
+    match packs.shared(place) {
+        Some(pack) => place_with(alloc, path, read, packs, place, pack),
+        None => Ok(None),
+    }
+}
+
+/// The packs, each with what was read if it takes it, where at least one does. Their paths rise, so only one has the path.
+fn rising_with(
+    alloc: Global,
+    path: &PathText,
+    read: &Shared<data::File>,
+    packs: &PackFileList,
+) -> Result<Option<PackFileList>, NoMemory>
+    requires rising { IsRising packs.now }
+    ensures packs { IfOk result (λ stored. stored ≡ packs_with path.now read.now packs.now) }
+{
+    match packs.place_of(path) {
+        Some(place) => one_with(alloc, path, read, packs, place),
+        None => Ok(None),
+    }
+}
+
+/// The packs, each with what was read if it takes it, where at least one does.
+fn packs_with(
+    alloc: Global,
+    path: &PathText,
+    read: &Shared<data::File>,
+    packs: &PackFileList,
+) -> Result<Option<PackFileList>, NoMemory>
+    ensures packs { IfOk result (λ stored. stored ≡ packs_with path.now read.now packs.now) }
+{
+    if packs.is_rising() {
+        return rising_with(alloc, path, read, packs);
+    }
+    all_with(alloc, path, read, packs)
 }
 
 fn filled_with_pack(
@@ -136,14 +220,12 @@ fn filled_with_pack(
 ) -> Result<Option<Filled>, NoMemory>
     ensures filled { IfOk result (λ stored. stored ≡ slot_with_pack path.now read.now (Some filled.now)) }
 {
-    let packs = filled.packs.value().as_slice();
-    if !is_taken(path, packs) {
+    let Some(packs) = packs_with(alloc, path, read, filled.packs.value())? else {
         return Ok(None);
-    }
-    let packs = shared_packs_with(alloc, path, read, packs)?;
-    let index = filled.index.try_clone()?;
+    };
+    let packs = Shared::new(alloc, packs)?;
     Ok(Some(Filled {
-        index,
+        index: filled.index.try_clone()?,
         time: filled.time,
         packs,
     }))

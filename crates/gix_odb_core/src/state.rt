@@ -15,7 +15,7 @@ use crate::report::report_listed;
 use crate::shape::{Shape, Shelf};
 use crate::turn::{Told, Turn};
 use gix_odb_events::{Effect, Event, PassWhy, Passed, PassedList, Refusal, Report, View};
-use odb_base::{NoMemory, PathText, Sequence};
+use odb_base::{NoMemory, PathText};
 use std::alloc::Global;
 
 /// The present state of a core, beside its journal.
@@ -25,37 +25,16 @@ pub struct State {
     /// The view of the shape, with the number of the newest entry.
     pub(crate) view: View,
     /// The files that were passed over.
-    pub(crate) passed: Sequence<Passed>,
+    pub(crate) passed: PassedList,
     /// How many listings were published or confirmed the list.
     pub(crate) refreshes: usize,
     pub(crate) journal: Journal,
 }
 
-/// A copy of a file that was passed over; it shares the path.
-fn copied_passed(passed: &Passed) -> Result<Passed, NoMemory>
-    ensures copy { IfOk result (λ copy. copy ≡ passed.now) }
-{
-    Ok(Passed {
-        path: passed.path.try_clone()?,
-        why: passed.why,
-    })
-}
-
-/// The files that were passed over, in the form of a report.
-fn reported(alloc: Global, passed: &[Passed]) -> Result<PassedList, NoMemory>
-    ensures copy { IfOk result (λ copies. copies ≡ passed.now) }
-{
-    let mut copies = Sequence::new(alloc);
-    for file in passed {
-        copies.push(copied_passed(file)?)?;
-    }
-    Ok(Shared::new(alloc, copies)?)
-}
-
 /// Records that a file was passed over. If memory runs out, the list is unchanged.
 fn note_passed(
     alloc: Global,
-    passed: &mut Sequence<Passed>,
+    passed: &mut PassedList,
     path: &PathText,
     why: PassWhy,
 ) -> Result<(), NoMemory>
@@ -63,7 +42,8 @@ fn note_passed(
     ensures kept { OnErr result (passed.new ≡ passed.old) }
 {
     let path = Shared::new(alloc, path.try_clone(alloc)?)?;
-    passed.push(Passed { path, why })?;
+    let file = Shared::new(alloc, Passed { path, why })?;
+    *passed = passed.with_next(alloc, file)?;
     Ok(())
 }
 
@@ -113,7 +93,7 @@ impl State {
         Ok(State {
             shape: Shape::without_handles(alloc, folders, shelf),
             view,
-            passed: Sequence::new(alloc),
+            passed: PassedList::empty(),
             refreshes: 0,
             journal: Journal {
                 entries: Vec::new(alloc),
@@ -128,7 +108,7 @@ impl State {
     {
         let list = self.shape.list.as_slice();
         let listed = report_listed(alloc, self.shape.slots.list(), list)?;
-        let passed_over = reported(alloc, self.passed.as_slice())?;
+        let passed_over = self.passed.try_clone()?;
         let report = Report {
             metrics: self.shape.metrics(self.refreshes),
             listed,

@@ -1,12 +1,13 @@
 //! Which slots a listing changes.
-ghost use Rattle.std.specs.Prelude.{◌≡◌, ◌<◌, length};
+ghost use Rattle.std.specs.Prelude.{◌≡◌, ◌<◌, false, length, slice_get};
 ghost use Rattle.std.specs.List.{list_any};
+ghost use Rattle.std.specs.Option.{option_map_or};
 ghost use Rattle.gix_odb_events.specs.OnDiskFile.{file_state};
 ghost use Rattle.gix_odb_events.specs.Slots.{slot_at};
 ghost use Rattle.gix_odb_core.specs.Publish.{has_trashable, is_index_trashable, is_trashable, is_unsettled};
 
 use crate::Matched;
-use gix_odb_events::{Filled, IndexFile, OnDiskFile, PackFile};
+use gix_odb_events::{Filled, IndexFile, OnDiskFile, PackFileList};
 
 /// Whether a file changes when its slot is trashed: it is loaded, and is not garbage yet.
 fn is_trashable<T>(file: &OnDiskFile<T>) -> bool
@@ -25,18 +26,33 @@ fn is_index_trashable(index: &IndexFile) -> bool
     }
 }
 
+/// Whether the pack at a place changes when its slot is trashed.
+fn is_trashable_at(packs: &PackFileList, place: usize) -> bool
+    ensures trashable { result ≡ option_map_or (λ pack. is_trashable pack.state) (slice_get packs.now place) false }
+{
+    match packs.get(place) {
+        Some(pack) => is_trashable(pack),
+        None => false,
+    }
+}
+
 /// Whether a pack changes when its slot is trashed.
-fn is_any_trashable(packs: &[PackFile]) -> bool
+fn is_any_trashable(packs: &PackFileList) -> bool
     ensures trashable { result ≡ list_any (λ pack. is_trashable pack.state) packs.now }
 {
-    packs.iter().any(|pack| is_trashable(pack))
+    for place in 0..packs.len() {
+        if is_trashable_at(packs, place) {
+            return true;
+        }
+    }
+    false
 }
 
 /// Whether a file of a slot changes when the slot is trashed.
-fn has_trashable(filled: &Filled) -> bool
+pub(crate) fn has_trashable(filled: &Filled) -> bool
     ensures trashable { result ≡ has_trashable filled.now }
 {
-    is_index_trashable(&filled.index) || is_any_trashable(filled.packs.value().as_slice())
+    is_index_trashable(&filled.index) || is_any_trashable(filled.packs.value())
 }
 
 /// Whether a listing changes a slot: a kept one has a file that is garbage or missing; another one is emptied, or

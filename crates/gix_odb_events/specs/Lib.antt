@@ -1,3 +1,4 @@
+pub mod Values
 pub mod View
 pub mod Answers
 pub mod Asks
@@ -5,6 +6,7 @@ pub mod PackId
 pub mod OnDiskFile
 pub mod PackPath
 pub mod PackFiles
+pub mod PackList
 pub mod Slots
 pub mod Shown
 pub mod Places

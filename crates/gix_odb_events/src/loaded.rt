@@ -3,11 +3,10 @@ ghost use Rattle.std.specs.Prelude.{◌≡◌, ◌==◌, [], Contains, IfOk, OnE
 ghost use Rattle.std.specs.List.{find};
 ghost use Rattle.gix_odb_events.specs.Shown.{first_of, shown_indices, shown_kept, shown_todo};
 
-use crate::Shared;
-use crate::pack_file::PackFileList;
 use crate::places::PlaceList;
 use crate::shown::{first_shown, first_unloaded, shown_at};
 use crate::slot::SlotList;
+use crate::{PackFileList, Shared};
 use gix_pack_read::{index, multi_index};
 use odb_base::{NoMemory, PathText};
 use std::alloc::Global;

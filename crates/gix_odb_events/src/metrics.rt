@@ -1,8 +1,8 @@
 //! The counts of a core, and its report.
 
 use crate::event::PassWhy;
-use crate::{ListedList, Shared};
-use odb_base::{PathText, Sequence};
+use crate::{ListedList, Shared, SharedSequence};
+use odb_base::PathText;
 
 /// Counts over a core.
 #[derive(Clone, Copy, Debug, Default, PartialEq, Eq)]
@@ -36,8 +36,8 @@ pub struct Passed {
     pub why: PassWhy,
 }
 
-/// The files that were passed over, in the order of the journal.
-pub type PassedList = Shared<Sequence<Passed>>;
+/// The files that were passed over, in the order of the journal. A report shares them with the core.
+pub type PassedList = SharedSequence<Passed>;
 
 /// The report of a core on itself. The one that is returned and the one in the journal are the same.
 #[derive(Drop)]

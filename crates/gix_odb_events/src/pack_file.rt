@@ -5,16 +5,13 @@ ghost use Rattle.gix_odb_events.specs.PackFiles.{new_pack, new_packs};
 
 use crate::on_disk_file::FileState;
 use crate::pack_place::{folder_of, name_of, pack_in};
-use crate::{OnDiskFile, Shared};
+use crate::{OnDiskFile, PackFileList, Shared};
 use gix_pack_read::{data, multi_index};
-use odb_base::{NoMemory, PathText, Sequence};
+use odb_base::{NoMemory, PathText};
 use std::alloc::Global;
 
 /// A pack of a slot.
 pub type PackFile = OnDiskFile<Shared<data::File>>;
-
-/// The packs of an index: those that a multi-pack index names, in the order of the names; a single one of a pack index.
-pub type PackFileList = Sequence<PackFile>;
 
 /// The packs of a new row.
 pub fn new_packs(
@@ -47,14 +44,15 @@ fn new_pack(alloc: Global, folder: &PathText, name: &str) -> Result<PackFile, No
     Ok(OnDiskFile::new(path, FileState::Unloaded))
 }
 
+/// The pack beside a pack index.
 fn only_pack(alloc: Global, folder: &PathText, name: &str) -> Result<PackFileList, NoMemory>
     ensures pack { IfOk result (λ packs. packs ≡ new_pack folder.now name.now ∷ []) }
 {
-    let mut packs = PackFileList::new(alloc);
-    packs.push(new_pack(alloc, folder, name)?)?;
-    Ok(packs)
+    let pack = new_pack(alloc, folder, name)?;
+    Ok(PackFileList::one(Shared::new(alloc, pack)?))
 }
 
+/// The packs that a multi-pack index names, in the order of the names.
 fn named_packs(
     alloc: Global,
     folder: &PathText,
@@ -66,7 +64,8 @@ fn named_packs(
     // The header has the number of packs in 32 bits, so there are no more.
     let mut packs = Vec::with_capacity(alloc, file.num_indices() as usize)?;
     for name in file.index_names() {
-        packs.push(new_pack(alloc, folder, name.as_str())?)?;
+        let pack = new_pack(alloc, folder, name.as_str())?;
+        packs.push(Shared::new(alloc, pack)?)?;
     }
-    Ok(Sequence::from_vec(packs))
+    PackFileList::from_vec(alloc, packs)
 }

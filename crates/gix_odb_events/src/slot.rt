@@ -1,14 +1,15 @@
 //! Slots: the index that each holds, with its packs.
-ghost use Rattle.std.specs.Prelude.{◌≡◌, IfOk, map};
+ghost use Rattle.std.specs.Prelude.{◌≡◌, IfOk, false, map, slice_get};
 ghost use Rattle.std.specs.List.{list_any};
+ghost use Rattle.std.specs.Option.{option_map_or};
 ghost use Rattle.gix_odb_events.specs.OnDiskFile.{is_disposable, put_back, trashed, with_state};
 ghost use Rattle.gix_odb_events.specs.Slots.{IsFewPacks, filled_put_back, filled_trashed, has_disposable, index_path, index_put_back, index_trashed, is_index_disposable, is_index_loaded, is_multi, listed_of, new_filled, new_index};
 ghost use Rattle.gix_odb_events.specs.PackFiles.{new_packs};
 
 use crate::listed::Listed;
 use crate::listing::ListingRow;
-use crate::pack_file::{PackFile, PackFileList, new_packs};
-use crate::{FileState, OnDiskFile, Shared};
+use crate::pack_file::{PackFile, new_packs};
+use crate::{FileState, OnDiskFile, PackFileList, Shared};
 use gix_pack_read::{index, multi_index};
 use odb_base::{NoMemory, PathText, SharedList};
 use std::alloc::Global;
@@ -160,7 +161,7 @@ impl Filled {
     pub fn has_disposable(&self) -> bool
         ensures disposable { result ≡ has_disposable self.now }
     {
-        self.index.is_disposable() || is_any_disposable(self.packs.value().as_slice())
+        self.index.is_disposable() || is_any_disposable(self.packs.value())
     }
 
     /// Its row in a report, as a listed slot.
@@ -176,11 +177,26 @@ impl Filled {
     }
 }
 
+/// Whether the pack at a place is garbage or missing.
+fn is_disposable_at(packs: &PackFileList, place: usize) -> bool
+    ensures disposable { result ≡ option_map_or (λ pack. is_disposable pack.state) (slice_get packs.now place) false }
+{
+    match packs.get(place) {
+        Some(pack) => pack.is_disposable(),
+        None => false,
+    }
+}
+
 /// Whether a pack is garbage or missing.
-fn is_any_disposable(packs: &[PackFile]) -> bool
+fn is_any_disposable(packs: &PackFileList) -> bool
     ensures disposable { result ≡ list_any (λ pack. is_disposable pack.state) packs.now }
 {
-    packs.iter().any(|pack| pack.is_disposable())
+    for place in 0..packs.len() {
+        if is_disposable_at(packs, place) {
+            return true;
+        }
+    }
+    false
 }
 
 /// The index of a new row: a single one is to be read, a multi-pack index was read by the listing.
@@ -201,24 +217,46 @@ fn new_index(
     }
 }
 
+/// A pack, put back. It is shared if it stays as it is.
+fn pack_put_back(alloc: Global, pack: &Shared<PackFile>) -> Result<Shared<PackFile>, NoMemory>
+    ensures put_back { IfOk result (λ copy. copy ≡ with_state put_back pack.now) }
+{
+    if !pack.value().is_disposable() {
+        return pack.try_clone();
+    }
+    Shared::new(alloc, pack.value().copy_put_back()?)
+}
+
 /// The packs, each put back.
 fn packs_put_back(alloc: Global, packs: &PackFileList) -> Result<PackFileList, NoMemory>
     ensures put_back { IfOk result (λ copies. copies ≡ map (with_state put_back) packs.now) }
 {
-    let mut copies = PackFileList::new(alloc);
+    let packs = packs.to_vec(alloc)?;
+    let mut copies = Vec::with_capacity(alloc, packs.len())?;
     for pack in packs.as_slice() {
-        copies.push(pack.copy_put_back()?)?;
+        copies.push(pack_put_back(alloc, pack)?)?;
     }
-    Ok(copies)
+    PackFileList::from_vec(alloc, copies)
+}
+
+/// A pack, trashed. It is shared if it stays as it is.
+fn pack_trashed(alloc: Global, pack: &Shared<PackFile>) -> Result<Shared<PackFile>, NoMemory>
+    ensures trashed { IfOk result (λ copy. copy ≡ with_state trashed pack.now) }
+{
+    if !pack.value().is_loaded() {
+        return pack.try_clone();
+    }
+    Shared::new(alloc, pack.value().copy_trashed()?)
 }
 
 /// The packs, each trashed.
 fn packs_trashed(alloc: Global, packs: &PackFileList) -> Result<PackFileList, NoMemory>
     ensures trashed { IfOk result (λ copies. copies ≡ map (with_state trashed) packs.now) }
 {
-    let mut copies = PackFileList::new(alloc);
+    let packs = packs.to_vec(alloc)?;
+    let mut copies = Vec::with_capacity(alloc, packs.len())?;
     for pack in packs.as_slice() {
-        copies.push(pack.copy_trashed()?)?;
+        copies.push(pack_trashed(alloc, pack)?)?;
     }
-    Ok(copies)
+    PackFileList::from_vec(alloc, copies)
 }

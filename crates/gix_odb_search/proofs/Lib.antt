@@ -10,6 +10,7 @@ mod MultiSpotLemmas
 mod LongestFirstLemmas
 mod FirstsLemmas
 mod IndexPathsLemmas
+mod PackAmongLemmas
 pub mod LoadLaws
 pub mod TrierLaws
 pub mod ReachLemmas

@@ -1,13 +1,14 @@
 //! How the core shows a pack that was stored.
-ghost use Rattle.std.specs.Prelude.{◌≡◌, IfOk, unwrap_or};
-ghost use Rattle.std.specs.Option.{option_copied};
+ghost use Rattle.std.specs.Prelude.{◌≡◌, IfOk, slice_get, unwrap_or};
+ghost use Rattle.std.specs.Option.{option_and_then, option_copied};
+ghost use Rattle.gix_odb_events.specs.OnDiskFile.{loaded};
 ghost use Rattle.gix_odb_search.specs.TryOrder.{by_given, pack_among, pack_behind, pack_in, pack_passed, pack_stored};
 ghost use Rattle.gix_odb_search.specs.InSlot.{pack_of};
 
 use super::{Ahead, Tried, seek};
 use crate::goal::{Error, Found, Goal};
 use crate::search::WantedPack;
-use gix_odb_events::{Effect, PackFile, Shared, SnapshotIndex, View};
+use gix_odb_events::{Effect, PackFileList, Shared, SnapshotIndex, View};
 use gix_pack_read::data;
 use odb_base::NoMemory;
 use std::alloc::Global;
@@ -23,15 +24,23 @@ fn by_given(given: Result<Found, Error>) -> Tried
 }
 
 /// Returns the pack as an index of its slot shows it, where it is loaded.
-fn pack_among<'a>(pack: &WantedPack, packs: &'a [PackFile]) -> Option<&'a Shared<data::File>>
+fn pack_among<'a>(pack: &WantedPack, packs: &'a PackFileList) -> Option<&'a Shared<data::File>>
     ensures pack { option_copied result ≡ pack_among pack.now packs.now }
 {
-    for file in packs {
-        if *file.path() == pack.path {
-            return file.loaded();
-        }
+    match packs.place_of(&pack.path) {
+        Some(place) => loaded_at(packs, place),
+        None => None,
     }
-    None
+}
+
+/// Returns the pack at a place, where it is loaded.
+fn loaded_at(packs: &PackFileList, place: usize) -> Option<&Shared<data::File>>
+    ensures pack { option_copied result ≡ option_and_then (λ file. loaded file.state) (slice_get packs.now place) }
+{
+    match packs.get(place) {
+        Some(file) => file.loaded(),
+        None => None,
+    }
 }
 
 /// Returns the pack as an index shows it, where it is loaded.
@@ -44,7 +53,7 @@ fn pack_of(
     let Some(index) = shown else {
         return Ok(None);
     };
-    match pack_among(pack, index.packs.value().as_slice()) {
+    match pack_among(pack, index.packs.value()) {
         None => Ok(None),
         Some(file) => Ok(Some(file.try_clone()?)),
     }

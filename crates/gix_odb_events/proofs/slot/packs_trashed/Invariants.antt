@@ -3,4 +3,4 @@ use Rattle.gix_odb_events.specs.OnDiskFile.{trashed, with_state}
 use Rattle.gix_odb_events.proofs.slot.packs_trashed.Given as goal
 
 abbrev pub invariant-loop-pack : goal.invariant-loop-pack
-invariant-loop-pack l = l.copies ≡ map (with_state trashed) (take l.pack-index l.pack-items)
+invariant-loop-pack l = l.copies.items ≡ map (with_state trashed) (take l.pack-index l.pack-items)
