@@ -16,6 +16,8 @@ mod generator;
 #[cfg(test)]
 mod happening;
 #[cfg(test)]
+mod lent;
+#[cfg(test)]
 mod made_up;
 #[cfg(test)]
 mod many_rows;

@@ -14,10 +14,12 @@ pub const REPORTS: &[&str] = &[
     "index 0 0 /a.idx 1 | stored #4 1 0.2 [0:/a.idx=1 /a.pack-, 2:/m*2 /a.pack- /b.pack-] [] [1:/b.idx]",
     "pack 0 0 /a.pack 1 | stored #5 1 0.3 [0:/a.idx=1 /a.pack=1, 2:/m*2 /a.pack- /b.pack-] [] [1:/b.idx]",
     "pack 0 2.1 /b.pack 2 | stored #6 1 0.4 [0:/a.idx=1 /a.pack=1, 2:/m*2 /a.pack- /b.pack=2] [] [1:/b.idx]",
+    "lent | 2 [0:/a.idx=1 /a.pack=1, 2:/m*2 /a.pack- /b.pack=2, none]; 0 [none]; 1 [1:/b.idx, none]",
     "pass 0 1 /b.idx absent | seen #7 1 0.4 [0:/a.idx=1 /a.pack=1, 2:/m*2 /a.pack- /b.pack=2] [] [1:/b.idx]",
     "report 1 | reported #8 1 0.4 [0:/a.idx=1 /a.pack=1, 2:/m*2 /a.pack- /b.pack=2] [] [1:/b.idx] \
         2 1 2 3 2 4 7 1 0 9 [/a.idx=, /b.idx!, /m*=] [/b.idx absent]",
     "publish 1 1 /c.idx /b.idx | published #9 2 0.5 [] [0:/a.idx=1 /a.pack~1, 2:/m*2 /a.pack- /b.pack~2] [3:/c.idx, 1:/b.idx]",
+    "lent | 0 [none]; 2 [0:/a.idx=1 /a.pack~1, 2:/m*2 /a.pack- /b.pack~2, none]; 2 [3:/c.idx, 1:/b.idx, none]",
     "pass 1 3 /c.pack bad | seen #10 2 0.5 [] [0:/a.idx=1 /a.pack~1, 2:/m*2 /a.pack- /b.pack~2] [3:/c.idx, 1:/b.idx]",
     "pass 1 7 /d.idx failed | seen #11 2 0.5 [] [0:/a.idx=1 /a.pack~1, 2:/m*2 /a.pack- /b.pack~2] [3:/c.idx, 1:/b.idx]",
     "register 2 | seen #12 2 0.5 [] [0:/a.idx=1 /a.pack~1, 2:/m*2 /a.pack- /b.pack~2] [3:/c.idx, 1:/b.idx]",

@@ -102,7 +102,8 @@ fn put_loaded(text: &mut Text, index: &LoadedIndex) {
     }
 }
 
-fn put_packs(text: &mut Text, packs: &PackFileList) {
+/// Appends packs, each after a space.
+pub fn put_packs(text: &mut Text, packs: &PackFileList) {
     for place in 0..packs.len() {
         put_pack(text, packs.get(place));
     }

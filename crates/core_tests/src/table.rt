@@ -1,9 +1,10 @@
 //! A core and the second model, on which the rows of a table are played.
 //!
 //! Besides an event, a row may be `now`, for the core's view and its counts, `entry PLACE`, for an entry of the
-//! journal by its place counted from 0, `newest`, for the last one, `entries`, for the number of entries, or `slot PATH`
-//! or `slot PATH@TIME`, for the slot that holds an index.
+//! journal by its place counted from 0, `newest`, for the last one, `entries`, for the number of entries, `slot PATH`
+//! or `slot PATH@TIME`, for the slot that holds an index, or `lent`, for what the lists of the core's view lend.
 use crate::happening::happen;
+use crate::lent::put_lent;
 use crate::model::{Model, Opening};
 use crate::shown::{put_entry_at, put_present};
 use crate::words::parts_of;
@@ -35,6 +36,7 @@ fn put_told(alloc: Global, core: &mut Core, line: &str, text: &mut Text) -> Resu
     let (verb, rest) = cut(line);
     match verb {
         "now" => put_present(text, core),
+        "lent" => put_lent(text, core.look()),
         "entries" => text.marked("", count as u64),
         "newest" => put_entry_at(text, core, count.saturating_sub(1)),
         "slot" => return put_slot(alloc, core, rest, text),
@@ -51,9 +53,9 @@ pub fn check_core(alloc: Global, core: &mut Core, line: &str, want: &str) -> Res
     found.check(line, want)
 }
 
-/// Compares the second model's result of a row, unless the row is of the journal or of the slot of a path.
+/// Compares the second model's result of a row, unless the row is of the journal, of the slot of a path or of what is lent.
 fn check_model(alloc: Global, model: &mut Model, line: &str, want: &str) -> Result<(), Fail> {
-    if line.starts_with("entr") || line.starts_with("slot") {
+    if line.starts_with("entr") || line.starts_with("slot") || line == "lent" {
         return Ok(());
     }
     let mut told = Text::new(alloc);

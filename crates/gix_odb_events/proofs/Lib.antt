@@ -2,6 +2,7 @@
 pub mod SamePathLaws
 pub mod PackListLaws
 pub mod ShownLemmas
+mod LentLemmas
 mod PackIdLemmas
 mod PlacesLemmas
 mod PackPathLemmas

@@ -9,4 +9,5 @@ pub mod PackFiles
 pub mod PackList
 pub mod Slots
 pub mod Shown
+pub mod Lent
 pub mod Places

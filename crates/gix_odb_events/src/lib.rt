@@ -12,6 +12,7 @@
 
 mod answer;
 mod event;
+mod lent;
 mod listed;
 mod listing;
 mod loaded;
@@ -29,6 +30,7 @@ mod view;
 
 pub use answer::{Answer, Ask};
 pub use event::{Effect, Event, PassWhy, Refusal};
+pub use lent::{LentFile, LentIndex, LentTodo};
 pub use listed::{Listed, ListedList};
 pub use listing::{Listing, ListingRow, ListingRowList};
 pub use loaded::{

@@ -1,8 +1,13 @@
 //! Indices that are loaded or to be loaded: one of them, and the lists.
-ghost use Rattle.std.specs.Prelude.{◌≡◌, ◌==◌, [], Contains, IfOk, OnErr, OnOk, Some, drop};
+ghost use Rattle.std.specs.Prelude.{◌≡◌, ◌==◌, [], Contains, IfOk, OnErr, OnOk, Some, drop, length, option_map, slice_get};
 ghost use Rattle.std.specs.List.{find};
+ghost use Rattle.gix_odb_events.specs.Lent.{lent_index, lent_todo};
 ghost use Rattle.gix_odb_events.specs.Shown.{first_of, shown_indices, shown_kept, shown_todo};
 
+use crate::lent::{
+    LentIndex, LentTodo, count_kept, count_shown, count_unloaded, kept_after, shown_after,
+    unloaded_after,
+};
 use crate::places::PlaceList;
 use crate::shown::{first_shown, first_unloaded, shown_at};
 use crate::slot::SlotList;
@@ -87,6 +92,22 @@ impl LoadedList {
         LoadedList::of(&self.of)
     }
 
+    /// How many there are. It goes through the listed slots.
+    pub fn len(&self) -> usize
+        ensures len { result ≡ length self.now }
+    {
+        let of = self.of.value();
+        count_shown(&of.slots, of.list.as_slice())
+    }
+
+    /// The index at a place, counted from 0, if there is one, lent by the slots. It goes through the listed slots before it.
+    pub fn get(&self, place: usize) -> Option<LentIndex<'_>>
+        ensures lent { option_map lent_index result ≡ slice_get self.now place }
+    {
+        let of = self.of.value();
+        shown_after(&of.slots, of.list.as_slice(), place)
+    }
+
     /// The whole list, to be taken one by one.
     pub fn rest(&self) -> Result<LoadedRest, NoMemory>
         ensures all { IfOk result (λ rest. rest ≡ self.now) }
@@ -143,6 +164,22 @@ impl KeptList {
         KeptList::of(&self.of)
     }
 
+    /// How many there are. It goes through the slots.
+    pub fn len(&self) -> usize
+        ensures len { result ≡ length self.now }
+    {
+        let of = self.of.value();
+        count_kept(&of.slots, &of.list)
+    }
+
+    /// The index at a place, counted from 0, if there is one, lent by the slots. It goes through the slots before it.
+    pub fn get(&self, place: usize) -> Option<LentIndex<'_>>
+        ensures lent { option_map lent_index result ≡ slice_get self.now place }
+    {
+        let of = self.of.value();
+        kept_after(&of.slots, &of.list, place)
+    }
+
     /// The index of a slot, if it is among these. Where there are several of one slot, they are equal.
     pub fn in_slot(&self, place: u16) -> Result<Option<SnapshotIndex>, NoMemory>
         ensures first { IfOk result (λ found. found ≡ find (λ index. index.slot == place) self.now) }
@@ -188,6 +225,22 @@ impl TodoList {
         ensures copy { IfOk result (λ copy. copy ≡ self.now) }
     {
         TodoList::of(&self.of)
+    }
+
+    /// How many there are. It goes through the listed slots.
+    pub fn len(&self) -> usize
+        ensures len { result ≡ length self.now }
+    {
+        let of = self.of.value();
+        count_unloaded(&of.slots, of.list.as_slice())
+    }
+
+    /// The index at a place, counted from 0, if there is one, lent by the slots. It goes through the listed slots before it.
+    pub fn get(&self, place: usize) -> Option<LentTodo<'_>>
+        ensures lent { option_map lent_todo result ≡ slice_get self.now place }
+    {
+        let of = self.of.value();
+        unloaded_after(&of.slots, of.list.as_slice(), place)
     }
 
     /// The whole list, to be taken one by one.

@@ -44,10 +44,10 @@ impl ListedPlaces {
     }
 
     /// Whether a slot is listed.
-    fn has(&self, place: u16) -> bool
+    fn has(&self, place: usize) -> bool
         ensures has { result ≡ is_listed self.now place }
     {
-        match self.marks.get(place as usize) {
+        match self.marks.get(place) {
             Some(marked) => *marked,
             None => false,
         }
@@ -114,6 +114,13 @@ impl PlaceList {
 
     /// Whether a slot is listed.
     pub fn has(&self, place: u16) -> bool
+        ensures has { result ≡ is_listed self.now place }
+    {
+        self.has_at(place as usize)
+    }
+
+    /// Whether a slot is listed, by its number as a size.
+    pub(crate) fn has_at(&self, place: usize) -> bool
         ensures has { result ≡ is_listed self.now place }
     {
         match &self.listed {
