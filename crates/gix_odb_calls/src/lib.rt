@@ -6,7 +6,7 @@
 //! ```rust
 //! let step = Step::Start { handle, call: Call::Find(id) };
 //! if let Outcome::Reply(reply) = outcome {
-//!     match reply.get() {
+//!     match reply.value() {
 //!         Reply::Found { kind, bytes } => ..,
 //!         Reply::NotFound => ..,
 //!     }

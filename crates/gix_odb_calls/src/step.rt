@@ -3,7 +3,7 @@ ghost use Rattle.std.specs.Prelude.{◌≡◌, IfOk};
 
 use crate::call::{Call, Reply};
 use crate::init::{IdPairs, Options, PathList, copy_of_pairs, copy_of_paths};
-use odb_base::{Boxed, NoMemory, PathText};
+use odb_base::{NoMemory, PathText, Shared};
 use odb_disk::Change;
 use std::alloc::Global;
 
@@ -101,29 +101,26 @@ fn opening_copy(
 }
 
 /// The outcome of a step.
-#[derive(Debug, Drop)]
+#[derive(Drop)]
 pub enum Outcome {
     Applied,
     /// The call goes on.
     Pending,
-    /// The call is over. Its reply is boxed, since most steps have none.
-    Reply(Boxed<Reply>),
+    /// The call is over. Its reply is on the heap, since most steps have none, and copies of the outcome share it.
+    Reply(Shared<Reply>),
     /// The step wasn't valid, and changed nothing.
     Misuse(Why),
 }
 
 impl Outcome {
-    /// A copy of the outcome.
-    pub fn try_clone(&self, alloc: Global) -> Result<Outcome, NoMemory>
+    /// A copy of the outcome, which shares its reply. It allocates no memory, and fails if there are too many copies.
+    pub fn try_clone(&self) -> Result<Outcome, NoMemory>
         ensures copied { IfOk result (λ copy. copy ≡ self.now) }
     {
         match self {
             Outcome::Applied => Ok(Outcome::Applied),
             Outcome::Pending => Ok(Outcome::Pending),
-            Outcome::Reply(reply) => {
-                let copy = reply.get().try_clone(alloc)?;
-                Ok(Outcome::Reply(Boxed::new(alloc, copy)?))
-            }
+            Outcome::Reply(reply) => Ok(Outcome::Reply(reply.try_clone()?)),
             Outcome::Misuse(why) => Ok(Outcome::Misuse(*why)),
         }
     }

@@ -145,13 +145,13 @@ impl Course {
         matches!(self.outcomes.as_slice(), [.., Outcome::Pending])
     }
 
-    /// Returns the outcome of the last step.
-    pub fn last_outcome(&self, alloc: Global) -> Result<Outcome, NoMemory>
+    /// Returns the outcome of the last step, which is lent.
+    pub fn last_outcome(&self) -> &Outcome
         requires some { self.now.outcomes ≢ [] }
-        ensures last { IfOk result (λ outcome. (before : List Outcome) × (self.now.outcomes ≡ before ++ outcome ∷ [])) }
+        ensures last { (before : List Outcome) × (self.now.outcomes ≡ before ++ result.now ∷ []) }
     {
         let outcomes = self.outcomes.as_slice();
-        outcomes[outcomes.len() - 1].try_clone(alloc)
+        &outcomes[outcomes.len() - 1]
     }
 
     /// Begins the opening of a store.

@@ -29,7 +29,7 @@ use gix_odb_calls::{CallError, Outcome, Reply};
 use gix_odb_events::{Answer, Ask, Event, View};
 use gix_odb_history::cores::{EventDone, added, applied};
 use gix_odb_history::{Did, KeptCore};
-use odb_base::{Boxed, NoMemory};
+use odb_base::{NoMemory, Shared};
 use odb_disk::{DiskAnswer, DiskAsk};
 use odb_mem_disk::{MemDisk, PathText};
 use std::alloc::Global;
@@ -239,7 +239,7 @@ fn opened(
     ensures outcome { IfOk result (λ turned. turned.outcome ≡ Outcome.Reply (Reply.Opened slots)) }
     ensures handle { IfOk result (λ turned. option_map seen turned.handle ≡ Some (record { state = parts_of core (opened_handle opening view); work = None })) }
 {
-    let reply = Boxed::new(alloc, Reply::Opened { slots })?;
+    let reply = Shared::new(alloc, Reply::Opened { slots })?;
     Ok(Turned {
         outcome: Outcome::Reply(reply),
         handle: Some(Handle {
@@ -257,7 +257,7 @@ fn finished_opening(alloc: Global, core: usize, opening: OpenState) -> Result<Tu
 {
     match opening.into_reply() {
         Ok(reply) => Ok(Turned {
-            outcome: Outcome::Reply(Boxed::new(alloc, reply)?),
+            outcome: Outcome::Reply(Shared::new(alloc, reply)?),
             handle: None,
         }),
         Err(opening) => Ok(going_on(core, HandleAt::Opening(opening))),
@@ -291,9 +291,9 @@ fn replied(alloc: Global, core: usize, state: HandleState, reply: Reply) -> Resu
     ensures outcome { IfOk result (λ turned. turned.outcome ≡ Outcome.Reply reply) }
     ensures handle { IfOk result (λ turned. option_map seen turned.handle ≡ after_reply None (tables.at_rest (parts_of core state)) reply) }
 {
-    match Boxed::new(alloc, reply) {
+    match Shared::new(alloc, reply) {
         Ok(reply) => {
-            let handle = at_rest(core, state, reply.get());
+            let handle = at_rest(core, state, reply.value());
             Ok(Turned {
                 outcome: Outcome::Reply(reply),
                 handle,

@@ -65,14 +65,14 @@ impl World {
         Ok(run)
     }
 
-    /// Makes one step, and returns its outcome. Where memory runs out, the steps so far are forgotten, and the world is a
-    /// new one on its disk as it is then.
+    /// Makes one step, and returns its outcome, whose reply the run shares. Where memory runs out, the steps so far are
+    /// forgotten, and the world is a new one on its disk as it is then.
     pub fn step(&mut self, alloc: Global, step: &Step) -> Result<Outcome, NoMemory>
         ensures goes_on { IfOk result (λ outcome. (first : Volume) (events : List Event) → Explains first events self.old → GoesOn first events step.now outcome self.new) }
         ensures anew { OnErr result (Explains self.new.disk [] self.new) }
     {
         self.advance(alloc, step)?;
-        match self.course.last_outcome(alloc) {
+        match self.course.last_outcome().try_clone() {
             Ok(outcome) => Ok(outcome),
             Err(error) => {
                 self.course.begin_anew(alloc);

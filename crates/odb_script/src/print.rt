@@ -19,7 +19,7 @@ pub fn print_outcome(alloc: Global, out: &mut Vec<u8>, outcome: &Outcome) -> Res
     match outcome {
         Outcome::Applied => text(out, b"applied"),
         Outcome::Pending => text(out, b"pending"),
-        Outcome::Reply(reply) => print_reply(alloc, out, reply.get()),
+        Outcome::Reply(reply) => print_reply(alloc, out, reply.value()),
         Outcome::Misuse(why) => print_misuse(out, *why),
     }
 }

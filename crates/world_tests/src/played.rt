@@ -10,7 +10,7 @@ pub(crate) fn outcome_shown(alloc: Global, outcome: &Outcome) -> Result<String, 
     match outcome {
         Outcome::Applied => "applied".to_string(alloc),
         Outcome::Pending => "pending".to_string(alloc),
-        Outcome::Reply(reply) => reply_shown(alloc, reply.get()),
+        Outcome::Reply(reply) => reply_shown(alloc, reply.value()),
         Outcome::Misuse(why) => format!(in alloc; "misuse {why:?}"),
     }
 }
