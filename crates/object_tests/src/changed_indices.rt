@@ -70,6 +70,36 @@ fn reads_changed_indices(rt: HostRuntime) -> Result<(), Fail> {
     check_changes(rt.alloc(), bytes.as_slice())
 }
 
+// The low byte of the first of the 256 counts.
+const FIRST_COUNT: usize = 11;
+
+fn check_count(alloc: Global, whole: &[u8], place: usize, count: u8) -> Result<(), Fail> {
+    let bytes = changed(alloc, whole, place, count)?;
+    let want = if bytes.as_slice() == whole {
+        "4294967296 12"
+    } else {
+        REFUSED
+    };
+    let found = offsets_shown(alloc, bytes)?;
+    compare("another count", found.as_str(), want)
+}
+
+fn check_counts(alloc: Global, whole: &[u8]) -> Result<(), Fail> {
+    for byte in 0..256usize {
+        for count in 0..=3u8 {
+            check_count(alloc, whole, FIRST_COUNT + 4 * byte, count)?;
+        }
+    }
+    Ok(())
+}
+
+// A count that falls, or passes the two rows, at each place.
+#[test]
+fn refuses_other_counts(rt: HostRuntime) -> Result<(), Fail> {
+    let bytes = index_of(rt.alloc(), &WIDE)?;
+    check_counts(rt.alloc(), bytes.as_slice())
+}
+
 // Orders of the five ids in which two neighbours have changed places, or one id is there twice.
 const OUT_OF_ORDER: &[[usize; 5]] = &[
     [1, 0, 2, 3, 4],

@@ -7,6 +7,8 @@
 #[cfg(test)]
 mod changed_indices;
 #[cfg(test)]
+mod changed_multi_indices;
+#[cfg(test)]
 mod databases;
 #[cfg(test)]
 mod encoders;

@@ -10,7 +10,7 @@ use std::alloc::{AllocError, Global};
 use std::test::Fail;
 use test_words::compare;
 
-fn put_ids(table: &mut ByteList, ids: &[&[u8]]) -> Result<(), Fail> {
+pub(crate) fn put_ids(table: &mut ByteList, ids: &[&[u8]]) -> Result<(), Fail> {
     for id in ids {
         table.extend_from_slice(ObjectId::from_hex(id)?.as_bytes())?;
     }
@@ -56,7 +56,7 @@ fn with_chunks(
 }
 
 // A multi-index from its parts, in git's order.
-fn file_of(alloc: Global, parts: &Parts<'static>) -> Result<ByteList, Fail> {
+pub(crate) fn file_of(alloc: Global, parts: &Parts<'static>) -> Result<ByteList, Fail> {
     let mut counts = ByteList::new(alloc);
     put_counts(&mut counts, parts.counts)?;
     let mut ids = ByteList::new(alloc);
@@ -64,7 +64,7 @@ fn file_of(alloc: Global, parts: &Parts<'static>) -> Result<ByteList, Fail> {
     in_order(alloc, parts, counts.as_slice(), ids.as_slice())
 }
 
-fn in_order<'a>(
+pub(crate) fn in_order<'a>(
     alloc: Global,
     parts: &Parts<'static>,
     counts: &'a [u8],
@@ -81,10 +81,10 @@ fn in_order<'a>(
     with_chunks(alloc, parts.hash, &chunks[..count], parts.own)
 }
 
-const REFUSED: &str = "BadMultiIndex";
+pub(crate) const REFUSED: &str = "BadMultiIndex";
 
 // The front and the rows, or why there are none.
-fn file_shown(alloc: Global, bytes: ByteList) -> Result<String, AllocError> {
+pub(crate) fn file_shown(alloc: Global, bytes: ByteList) -> Result<String, AllocError> {
     match File::parse(alloc, bytes, None) {
         Ok(index) => rows_shown(alloc, &index),
         Err(error) => format!(in alloc; "{error:?}"),
@@ -200,7 +200,7 @@ fn finds_prefixes(rt: HostRuntime) -> Result<(), Fail> {
 }
 
 // The packs and offsets of the two rows of a multi-index that has two.
-fn two_shown(alloc: Global, bytes: ByteList) -> Result<String, AllocError> {
+pub(crate) fn two_shown(alloc: Global, bytes: ByteList) -> Result<String, AllocError> {
     match File::parse(alloc, bytes, None) {
         Ok(index) => two_rows(alloc, &index),
         Err(error) => format!(in alloc; "{error:?}"),
@@ -216,7 +216,7 @@ fn two_rows(alloc: Global, index: &File) -> Result<String, AllocError> {
     format!(in alloc; "{pack} {offset} {second} {behind}")
 }
 
-const READ: &str = "1 12 0 12";
+pub(crate) const READ: &str = "1 12 0 12";
 
 // Changes of a byte of the multi-index of two objects, and the rows that are then read, if any.
 const CHANGES: &[(&str, usize, u8, &str)] = &[
