@@ -34,10 +34,11 @@ fn made(
     if !tree.is_possible(alloc, change)? {
         return Ok("no ");
     }
-    if shown.is_second(alloc, tree, change)? {
+    let revealed = shown.revealed(alloc, tree, change)?;
+    if shown.has_second(&revealed) {
         return Ok("second ");
     }
-    shown.note(alloc, tree, change)?;
+    shown.keep(revealed)?;
     tree.change(alloc, change)?;
     Ok("made ")
 }

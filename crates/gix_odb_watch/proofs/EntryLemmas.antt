@@ -1,10 +1,14 @@
--- What a read of a path finds is among the entries of its directory.
-use Rattle.std.proofs.Common.{◌≡◌, inl, inr, ℕ, zero, suc, true, false, cond, List, [], ◌∷◌, ◌++◌, Option, Some, None, Result, Ok, Err, unwrap_or, refl, sym, ap, ◌∙◌, subst, append_assoc}
+-- Names at the end of paths, and what a directory has.
+use Rattle.std.proofs.Common.{◌≡◌, true, [], ◌∷◌, ◌++◌, Some, sym, ap, refl, inl, inr, ℕ, zero, suc, false, cond, List, Option, None, Result, Ok, Err, unwrap_or, ◌∙◌, subst, append_assoc, ◌⊎◌}
+use Rattle.std.specs.List.{starts_with}
+use Rattle.std.proofs.lemmas.List.{append_cancel_left}
+use Rattle.odb_base.specs.Path.{Name, Path, last_name, parent_of, same_name, path_cmp}
+use Rattle.odb_base.specs.PathLaws.{goes_beyond, lies_below, parent_of-some}
+use Rattle.gix_odb_watch.specs.Over.{moved}
 use Rattle.std.specs.Result.{result_ok}
 use Rattle.std.specs.Option.{option_map}
 use Rattle.std.specs.Ordering.{eq_by_cmp}
 use Rattle.std.specs.FinMap.{find}
-use Rattle.odb_base.specs.Path.{Name, Path, path_cmp}
 use Rattle.odb_disk.specs.Tree.{Tree, node_at}
 use Rattle.odb_disk.specs.Tree.Nodes.{entries_of, node_at-entries_of}
 use Rattle.odb_disk.specs.Tree.Follow.{Pass, Reached, Onward, Missing, Blocked, pass, past, beyond, at_last, ending, Place, Refusal, LinkLoop, arrives, followed_within, followed, most_links, file_of_place, read_of}
@@ -19,6 +23,25 @@ use Rattle.gix_odb_watch.specs.Files.{listed}
 use Rattle.gix_odb_watch.specs.Sight.{HasName}
 use Rattle.gix_odb_watch.specs.Kept.{IsIn}
 use Rattle.gix_odb_watch.proofs.ListLemmas.{in_filter_map}
+use Rattle.std.proofs.lemmas.Bool.{false≢true, or_cases}
+use Rattle.odb_disk.specs.Tree.Way.{is_front_of_one, on_way, ways_onward, ways_within}
+use Rattle.odb_disk.proofs.TreeLemmas.Follow.{followed_reached}
+use Rattle.odb_mem_disk.specs.PassCalls.{onward_of}
+use Rattle.gix_odb_watch.specs.Revealed.{IsLone, IsPlainPath}
+
+-- ---- names
+
+pub last_name-push : (path : Path) (name : Name) → last_name (path ++ name ∷ []) ≡ Some name
+unfolding last_name
+last_name-push [] name = refl
+last_name-push (first ∷ []) name = refl
+last_name-push (first ∷ other ∷ path) name = last_name-push (other ∷ path) name
+
+pub begins_directory : (path directory : Path) → parent_of path ≡ Some directory → starts_with same_name path directory ≡ true
+begins_directory path directory parent = let s = parent_of-some path directory parent in lies_below path directory (s.0 ∷ []) s.1
+
+pub moved-rest : (from to rest : Path) → moved from to (from ++ rest) ≡ to ++ rest
+moved-rest from to rest = ap (λ (r : Path). to ++ r) (append_cancel_left from _ rest (sym (goes_beyond (from ++ rest) from (lies_below (from ++ rest) from rest refl))))
 
 -- ---- what a directory says of a name in it
 
@@ -122,3 +145,52 @@ pub has_entry : (t : Tree) (front : Path) (name : Name) → (h : HasName t name 
 has_entry t front name h =
     subst (λ (told : Result (List Entry) Refusal). IsIn (unwrap_or (result_ok told) []) (entry_of h.node name)) (sym (opens_there t front name h))
     (entry_listed t h.place.path name h.node h.stands)
+
+none_onward : (further : Path → List Path) (p : Pass) → onward_of p ≡ None → ways_onward further p ≡ []
+none_onward further (Reached path node) is = refl
+none_onward further (Onward path) is = absurd (cc)
+none_onward further Missing is = refl
+none_onward further Blocked is = refl
+
+-- ---- a path from which no link leads on
+
+module _ (t : Tree) (path : Path) (lone : IsLone t path) where
+  ways_alone : ways_within most_links t true path ≡ path ∷ []
+  unfolding ways_within
+  ways_alone = ap (λ (ways : List Path). path ∷ ways) (none_onward (ways_within 39 t true) (pass t true [] path) lone)
+
+  -- only places that it begins with lie on its way
+  pub plain_path : IsPlainPath t path
+  unfolding on_way
+  plain_path place on = elim (or_cases (starts_with same_name path place) false (sym (ap (λ (ways : List Path). is_front_of_one ways place) ways_alone) ∙ on)) [
+    | inl is ↦ is
+    | inr none ↦ absurd (false≢true none)
+  ]
+
+-- ---- a name in a directory of which this holds: nothing is there, or no link leads on from it
+
+module _ (t : Tree) (directory : Path) (lone : IsLone t directory) (name : Name) where
+  abbrev HasOrLone : Type 0
+  HasOrLone = HasName t name (followed t true directory) ⊎ IsLone t (directory ++ name ∷ [])
+
+  told_by : (p : Pass) → pass t true [] directory ≡ p → onward_of (by_name t name p) ≡ None → HasOrLone
+  told_by p at none = inr (ap onward_of (pass_by t name [] directory ∙ ap (by_name t name) at) ∙ none)
+
+  by_node : (way : Path) (n : Node) → pass t true [] directory ≡ Reached way n → n.content ≡ Dir → (o : Option Node) → node_at t (way ++ name ∷ []) ≡ o → HasOrLone
+  by_node way n reached is None at = told_by (Reached way n) reached (ap (λ c. onward_of (inside t name c (next t name way))) is ∙ ap (λ o. onward_of (ending true (way ++ name ∷ []) o)) at)
+  by_node way n reached is (Some node) at =
+      inl (record { place = record { path = way; node = n }; leads = followed_reached t true directory most_links way n reached; directory = is; node = node; stands = at })
+
+  by_content : (way : Path) (n : Node) → pass t true [] directory ≡ Reached way n → (content : Content) → n.content ≡ content → HasOrLone
+  by_content way n reached (File bytes time) is = told_by (Reached way n) reached (ap (λ c. onward_of (inside t name c (next t name way))) is)
+  by_content way n reached Dir is = by_node way n reached is (node_at t (way ++ name ∷ [])) refl
+  by_content way n reached (Link target) is = told_by (Reached way n) reached (ap (λ c. onward_of (inside t name c (next t name way))) is)
+
+  by_pass : (p : Pass) → pass t true [] directory ≡ p → onward_of p ≡ None → HasOrLone
+  by_pass (Reached way n) at none = by_content way n at n.content refl
+  by_pass (Onward onward) at none = absurd (cc)
+  by_pass Missing at none = told_by Missing at refl
+  by_pass Blocked at none = told_by Blocked at refl
+
+  pub has_or_lone : HasOrLone
+  has_or_lone = by_pass (pass t true [] directory) refl lone

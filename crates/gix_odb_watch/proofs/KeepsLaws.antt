@@ -4,14 +4,16 @@ use Rattle.std.specs.FinMap as finite
 use Rattle.std.specs.FinSet as set
 use Rattle.std.specs.Option.{option_or}
 use Rattle.std.specs.Ordering.{eq_by_cmp}
-use Rattle.std.proofs.lemmas.Bool.{false≢true, cases_lt}
+use Rattle.std.proofs.lemmas.Bool.{cases_lt}
 use Rattle.odb_base.specs.Path.{Path, path_cmp}
 use Rattle.odb_base.specs.PathLaws.{path_order}
 use Rattle.odb_disk.specs.Tree.{IsTree, Tree}
 use Rattle.gix_odb_watch.specs.Watched.{Shows}
 use Rattle.gix_odb_watch.specs.Kept.{Kept, Folders, key_cmp, ShowsInOne, IsSecond, Notes, Fits, nothing_kept}
 use Rattle.gix_odb_watch.specs.HasShown.{Since, AreBegun, with_since, HasShown, ShowsSecond, Keeps}
-use Rattle.gix_odb_watch.proofs.KeptLemmas.{nothing_fits, one_more}
+use Rattle.gix_odb_watch.proofs.KeptLemmas.{nothing_fits, still_notes}
+use Rattle.gix_odb_watch.proofs.FilesLemmas.{some_of}
+use Rattle.gix_odb_watch.proofs.RevealedLemmas.{one_more}
 
 -- nothing is watched, and nothing is kept
 pub keeps_nothing : (trees : ℕ → Tree) (now : ℕ) → IsTree (trees now) → Keeps trees (λ folder. None) now nothing_kept
@@ -22,16 +24,12 @@ keeps_nothing trees now is_tree = record {
   fits = nothing_fits (trees now) is_tree;
 }
 
-since_when : (o : Option ℕ) → is_some o ≡ true → (begun : ℕ) × (o ≡ Some begun)
-since_when None is = absurd (false≢true is)
-since_when (Some begun) is = (begun, refl)
-
 module _ (trees : ℕ → Tree) (since : Since) (now : ℕ) (kept : Kept) (k : Keeps trees since now kept) where
   -- ---- a second content by what is kept is one by what was shown
 
   pub second_shown : (tree : Tree) → IsSecond kept tree → ShowsSecond trees since now tree
   second_shown tree s =
-      let w = since_when (since s.shows.folder) (sym (k.folders s.shows.folder) ∙ s.shows.among) in
+      let w = some_of (since s.shows.folder) (sym (k.folders s.shows.folder) ∙ s.shows.among) in
       record {
         path = s.path;
         time = s.time;
@@ -45,9 +43,6 @@ module _ (trees : ℕ → Tree) (since : Since) (now : ℕ) (kept : Kept) (k : K
         differs = s.differs;
       }
 
-  watched_among : (folder : Path) (begun : ℕ) → since folder ≡ Some begun → set.contains kept.folders folder ≡ true
-  watched_among folder begun watched = k.folders folder ∙ ap is_some watched
-
   pub shown_second : (tree : Tree) → ShowsSecond trees since now tree → IsSecond kept tree
   shown_second tree s =
       record {
@@ -56,7 +51,7 @@ module _ (trees : ℕ → Tree) (since : Since) (now : ℕ) (kept : Kept) (k : K
         first = s.first;
         bytes = s.bytes;
         known = k.whole s.path s.time s.first s.known;
-        shows = record { folder = s.folder; among = watched_among s.folder s.begun s.watched; shows = s.shows };
+        shows = record { folder = s.folder; among = k.folders s.folder ∙ ap is_some s.watched; shows = s.shows };
         differs = s.differs;
       }
 
@@ -66,9 +61,6 @@ le_or_next : (m n : ℕ) → m ≤ n + 1 → (m ≤ n) ⊎ (m ≡ n + 1)
 le_or_next m n le = elim (cases_lt n m) [ inl more ↦ inr (omega (arith, le, more)) | inr less ↦ inl less ]
 
 module _ (trees : ℕ → Tree) (since : Since) (now : ℕ) (old new : Kept) (k : Keeps trees since now old) where
-  among : (folder : Path) (begun : ℕ) → since folder ≡ Some begun → set.contains old.folders folder ≡ true
-  among folder begun watched = k.folders folder ∙ ap is_some watched
-
   longer : (path : Path) (time : ℕ) (bytes : List ℕ) → HasShown trees since now path time bytes → HasShown trees since (now + 1) path time bytes
   longer path time bytes h =
       record { folder = h.folder; begun = h.begun; watched = h.watched; moment = h.moment; from = h.from; to = omega (arith, h.to); shows = h.shows }
@@ -78,7 +70,7 @@ module _ (trees : ℕ → Tree) (since : Since) (now : ℕ) (old new : Kept) (k 
       → HasShown trees since now path time bytes ⊎ ShowsInOne old.folders (trees (now + 1)) path time bytes
   split path time bytes h = elim (le_or_next h.moment now h.to) [
     | inl before ↦ inl (record { folder = h.folder; begun = h.begun; watched = h.watched; moment = h.moment; from = h.from; to = before; shows = h.shows })
-    | inr next ↦ inr (record { folder = h.folder; among = among h.folder h.begun h.watched; shows = subst (λ (m : ℕ). Shows h.folder (trees m) path time bytes) next h.shows })
+    | inr next ↦ inr (record { folder = h.folder; among = k.folders h.folder ∙ ap is_some h.watched; shows = subst (λ (m : ℕ). Shows h.folder (trees m) path time bytes) next h.shows })
   ]
 
   -- After a change that shows no second content, and that was noted, what is kept says what the trees up to the next moment showed.
@@ -100,22 +92,14 @@ module _ (trees : ℕ → Tree) (since : Since) (now : ℕ) (old new : Kept) (k 
     where
       shown_now : (path : Path) (time : ℕ) (bytes : List ℕ) → ShowsInOne old.folders (trees (now + 1)) path time bytes → HasShown trees since (now + 1) path time bytes
       shown_now path time bytes s =
-          let w = since_when (since s.folder) (sym (k.folders s.folder) ∙ s.among) in
+          let w = some_of (since s.folder) (sym (k.folders s.folder) ∙ s.among) in
           let early = begun s.folder w.0 w.1 in
           record { folder = s.folder; begun = w.0; watched = w.1; moment = now + 1; from = omega (arith, early); to = omega arith; shows = s.shows }
 
 -- A moment at which nothing changes adds nothing.
 pub keeps_still : (trees : ℕ → Tree) (since : Since) (now : ℕ) (kept : Kept) → Keeps trees since now kept → AreBegun since now → trees (now + 1) ≡ trees now → Keeps trees since (now + 1) kept
-keeps_still trees since now kept k begun same = record {
-  folders = k.folders;
-  only = λ path time bytes known. longer trees since now kept kept k path time bytes (k.only path time bytes known);
-  whole = λ path time bytes h.
-      elim (split trees since now kept kept k path time bytes h) [
-        | inl before ↦ k.whole path time bytes before
-        | inr shown ↦ k.fits.whole path time bytes (subst (λ (t : Tree). ShowsInOne kept.folders t path time bytes) same shown)
-      ];
-  fits = subst (λ (t : Tree). Fits kept t) (sym same) k.fits;
-}
+keeps_still trees since now kept k begun same =
+    let fits = subst (λ (t : Tree). Fits kept t) (sym same) k.fits in keeps_on trees since now kept kept k begun (still_notes kept (trees (now + 1)) fits) fits
 
 -- ---- one more folder
 
@@ -155,7 +139,7 @@ module _ (trees : ℕ → Tree) (since : Since) (now : ℕ) (folder : Path) (old
 
     shown_since : AreBegun since now → (path : Path) (time : ℕ) (bytes : List ℕ) → ShowsInOne (one_more old.folders folder) (trees now) path time bytes → HasShown trees later now path time bytes
     shown_since begun path time bytes s =
-        let w = since_when (later s.folder) (sym (folders_later s.folder) ∙ ap (λ (f : Folders). set.contains f s.folder) n.folders_are ∙ s.among) in
+        let w = some_of (later s.folder) (sym (folders_later s.folder) ∙ ap (λ (f : Folders). set.contains f s.folder) n.folders_are ∙ s.among) in
         record {
           folder = s.folder;
           begun = w.0;

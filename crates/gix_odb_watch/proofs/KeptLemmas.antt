@@ -1,40 +1,64 @@
 -- When a tree shows a second content, and what is kept after a tree was noted.
-use Rattle.std.proofs.Common.{◌≡◌, ◌≢◌, ◌⊎◌, ◌↔◌, ◌||◌, inl, inr, ℕ, Bool, true, false, List, [], ◌∷◌, ◌++◌, codes, Option, Some, None, IsSome, is_some, Result, Ok, refl, sym, ap, ◌∙◌, subst}
-use Rattle.std.specs.List.{list_any, starts_with}
-use Rattle.std.specs.Ordering.{eq_by_cmp}
-use Rattle.std.specs.FinMap as finite
+use Rattle.std.proofs.Common.{◌≡◌, Bool, true, false, ◌||◌, cond, List, [], ◌∷◌, ◌++◌, refl, sym, ap, ◌∙◌, ◌⊎◌, ◌↔◌, inl, inr, ℕ, Some, None, IsSome, is_some, Result, Ok, subst}
+use Rattle.std.specs.List.{list_any}
 use Rattle.std.specs.FinSet as set
 use Rattle.std.specs.BTreeSet as tree_set
 use Rattle.std.specs.BTreeSet.{BTreeSet}
+use Rattle.std.specs.Ordering.{eq_by_cmp}
+use Rattle.std.proofs.lemmas.Cmp.{eq_by_cmp_equiv}
+use Rattle.std.proofs.lemmas.List.Folds.{list_any-append}
+use Rattle.odb_base.specs.Path.{Path, path_cmp, same_name}
+use Rattle.odb_base.specs.PathLaws.{one_place, path_order}
+use Rattle.gix_odb_watch.specs.Revealed.{is_in, IsRevealed, IsSeen, Learns, Relinks, RevealsMore}
+use Rattle.std.specs.FinMap as finite
 use Rattle.std.specs.Cmp.Lexicographic.{bytes_decides}
-use Rattle.std.proofs.lemmas.Bool.{false≢true, or_left, or_right, or_cases, cases_Bool}
-use Rattle.odb_base.specs.Path.{Name, Path, path_cmp, same_name}
-use Rattle.odb_base.specs.PathLaws.{one_place, path_order, parent_of-push}
-use Rattle.odb_base.specs.Path.{parent_of}
+use Rattle.std.proofs.lemmas.Bool.{false≢true, or_cases, cases_Bool}
 use Rattle.odb_disk.specs.Tree.{IsTree, Tree}
 use Rattle.odb_disk.specs.Tree.Follow.{Refusal}
-use Rattle.odb_disk.proofs.TreeLemmas.{same_path, own_path}
+use Rattle.odb_disk.proofs.TreeLemmas.{same_path}
 use Rattle.gix_odb_watch.specs.Watched.{Shows, pack_directory}
-use Rattle.gix_odb_watch.specs.Kept.{Kept, Contents, Folders, IsIn, Knows, key_cmp, ShowsInOne, IsSecond, Notes, LiesInOne, Fits, nothing_kept}
-use Rattle.gix_odb_watch.specs.Files.{Reveals, differs, with_files}
-use Rattle.gix_odb_watch.specs.Revealed.{IsRevealed, IsSeen, Learns, Relinks, RevealsMore, Spot, is_in}
+use Rattle.gix_odb_watch.specs.Kept.{Kept, Contents, Folders, Key, key_cmp, ShowsInOne, IsSecond, Notes, LiesInOne, Fits, nothing_kept}
+use Rattle.gix_odb_watch.specs.Files.{KeepsFiles, Reveals, differs}
 use Rattle.gix_odb_watch.specs.declared.revealed.Revealed.{Revealed}
 use Rattle.gix_odb_watch.specs.declared.shown_file.ShownFile.{ShownFile}
-use Rattle.gix_odb_watch.proofs.ListLemmas.{is_in_one, one_is_in, one_passes, passes_one}
-use Rattle.gix_odb_watch.proofs.SeenLemmas.{seen_linked, seen_shown, seen_sorted, seen_whole, still_known}
-use Rattle.gix_odb_watch.proofs.FolderLemmas.{inserted_keys, is_in_set}
-use Rattle.gix_odb_watch.proofs.ContentsLemmas.{all_stay, all_there, all_only, IsOneOf, differs_from, from_other}
+use Rattle.gix_odb_watch.proofs.ListLemmas.{is_in_one, one_passes, passes_one}
+use Rattle.gix_odb_watch.proofs.RevealedLemmas.{folder_revealed, one_more}
+use Rattle.gix_odb_watch.proofs.TouchedLemmas.{one_folder}
+use Rattle.gix_odb_watch.proofs.FilesLemmas.{differs_from, from_other, some_of}
 
--- ---- what lies in a folder lies in no other
+-- ---- one folder more or less
 
-pub pack_apart : (a b : Path) → pack_directory a ≡ pack_directory b → a ≡ b
-pack_apart a b same =
-    let both : Some a ≡ Some b = sym (parent_of-push a (codes "pack")) ∙ ap parent_of same ∙ parent_of-push b (codes "pack") in cc
+cond-or : (b c : Bool) → cond b true c ≡ (b || c)
+cond-or true c = refl
+cond-or false c = refl
 
-pub one_folder : (a b : Path) (n m : Name) → pack_directory a ++ n ∷ [] ≡ pack_directory b ++ m ∷ [] → a ≡ b
-one_folder a b n m same =
-    let both : Some (pack_directory a) ≡ Some (pack_directory b) = sym (parent_of-push (pack_directory a) n) ∙ ap parent_of same ∙ parent_of-push (pack_directory b) m in
-    let inner : pack_directory a ≡ pack_directory b = cc in pack_apart a b inner
+eq_swap : (a b : Path) → eq_by_cmp path_cmp a b ≡ eq_by_cmp path_cmp b a
+eq_swap a b = (eq_by_cmp_equiv path_order).symm a b
+
+pub is_in_set : (keys : List Path) (folder : Path) → set.contains (set.from_list {R = path_cmp} keys) folder ≡ is_in keys folder
+is_in_set keys folder = set.contains-from_list path_order keys folder
+
+-- an insert adds a folder to the set of them
+pub inserted_keys : (old new : BTreeSet Path) (folder : Path) → tree_set.Updates path_cmp old new folder true
+    → set.from_list {R = path_cmp} new.keys ≡ set.insert (set.from_list old.keys) folder
+inserted_keys old new folder updates =
+    set.same_set path_order one_place _ _ (λ q.
+    set.contains-from_list path_order new.keys q ∙ updates.0 q ∙ cond-or (eq_by_cmp path_cmp folder q) (tree_set.contains path_cmp old q)
+    ∙ ap (λ b. b || tree_set.contains path_cmp old q) (eq_swap folder q)
+    ∙ sym (set.contains-insert path_order (set.from_list old.keys) folder q ∙ ap (λ b. eq_by_cmp path_cmp q folder || b) (set.contains-from_list path_order old.keys q)))
+
+-- folders one by one
+pub adds_next : (yielded : List Path) (start : Bool) (old new : BTreeSet Path) (folder other : Path) → tree_set.Updates path_cmp old new folder true
+    → is_in old.keys other ≡ (is_in yielded other || start) → is_in new.keys other ≡ (is_in (yielded ++ folder ∷ []) other || start)
+adds_next yielded start old new folder other updates before =
+    updates.0 other ∙ ap (λ b. cond b true (is_in old.keys other)) (eq_swap folder other) ∙ ap (λ b. cond (eq_by_cmp path_cmp other folder) true b) before
+    ∙ join (eq_by_cmp path_cmp other folder) (is_in yielded other) ∙ ap (λ b. b || start) (sym (list_any-append (eq_by_cmp path_cmp other) yielded (folder ∷ [])))
+  where
+    join : (a b : Bool) → cond a true (b || start) ≡ ((b || (a || false)) || start)
+    join true true = refl
+    join true false = refl
+    join false true = refl
+    join false false = refl
 
 -- ---- a path of one tree shows one content
 
@@ -67,40 +91,26 @@ module _ (kept : Kept) (before after : Tree) (files : List ShownFile) (fits : Fi
 
 -- ---- what is kept of what is revealed
 
-some_kept : (o : Option (List ℕ)) → IsSome o → (bytes : List ℕ) × (o ≡ Some bytes)
-some_kept None is = absurd (false≢true is)
-some_kept (Some bytes) is = (bytes, refl)
-
 module _ (kept : Kept) (new : Folders) (before after : Tree) (fits : Fits kept before) (revealed : Revealed) (r : RevealsMore kept.folders new before after revealed) (told : Kept)
-    (folders : told.folders ≡ new) (linked : Relinks kept.linked revealed told.linked) (contents : told.contents ≡ with_files kept.contents revealed.files.items) where
-  abbrev files : List ShownFile
-  files = revealed.files.items
-
-  get_told : (key : Path × ℕ) → finite.get told.contents key ≡ finite.get (with_files kept.contents files) key
-  get_told key = ap (λ (c : Contents). finite.get c key) contents
-
-  some_told : (path : Path) (time : ℕ) (bytes : List ℕ) → ShowsInOne new after path time bytes → IsSome (finite.get (with_files kept.contents files) (path, time))
+    (folders : told.folders ≡ new) (linked : Relinks kept.linked revealed told.linked) (keeps : KeepsFiles kept.contents revealed.files.items told.contents) where
+  some_told : (path : Path) (time : ℕ) (bytes : List ℕ) → ShowsInOne new after path time bytes → IsSome (finite.get told.contents (path, time))
   some_told path time bytes s = elim (r.reveals.whole path time bytes s) [
-    | inl there ↦ ap is_some (all_stay files kept.contents (path, time) bytes (fits.whole path time bytes there))
-    | inr one ↦ all_there files kept.contents (record { key = (path, time); bytes = bytes }) one
+    | inl there ↦ ap is_some (keeps.stays (path, time) bytes (fits.whole path time bytes there))
+    | inr one ↦ keeps.there (record { key = (path, time); bytes = bytes }) one
   ]
-
-  from_file : (path : Path) (time : ℕ) (bytes : List ℕ) → IsOneOf files (path, time) bytes → ShowsInOne new after path time bytes
-  from_file path time bytes o =
-      subst (λ (b : List ℕ). ShowsInOne new after path time b) o.3 (subst (λ (k : Path × ℕ). ShowsInOne new after k.0 k.1 o.0.bytes) o.2 (r.reveals.shown o.0 o.1))
 
   only_told : (path : Path) (time : ℕ) (bytes : List ℕ) → finite.get told.contents (path, time) ≡ Some bytes
       → (finite.get kept.contents (path, time) ≡ Some bytes) ⊎ ShowsInOne new after path time bytes
-  only_told path time bytes known = elim (all_only files kept.contents (path, time) bytes (sym (get_told (path, time)) ∙ known)) [
+  only_told path time bytes known = elim (keeps.only (path, time) bytes known) [
     | inl was ↦ inl was
-    | inr one ↦ inr (from_file path time bytes one)
+    | inr o ↦ inr (subst (λ (b : List ℕ). ShowsInOne new after path time b) o.3 (subst (λ (k : Key). ShowsInOne new after k.0 k.1 o.0.bytes) o.2 (r.reveals.shown o.0 o.1)))
   ]
 
   pub more_notes : Notes kept new after told
   more_notes = record {
     folders_are = folders;
-    stays = λ path time bytes known. get_told (path, time) ∙ all_stay files kept.contents (path, time) bytes known;
-    whole = λ path time bytes s. ap is_some (get_told (path, time)) ∙ some_told path time bytes s;
+    stays = λ path time bytes known. keeps.stays (path, time) bytes known;
+    whole = some_told;
     only = only_told;
   }
 
@@ -123,7 +133,7 @@ module _ (kept : Kept) (new : Folders) (before after : Tree) (fits : Fits kept b
     is_tree = r.is_tree;
     whole = λ path time bytes s.
         let there = subst (λ (f : Folders). ShowsInOne f after path time bytes) folders s in
-        let k = some_kept (finite.get told.contents (path, time)) (ap is_some (get_told (path, time)) ∙ some_told path time bytes there) in
+        let k = some_of (finite.get told.contents (path, time)) (some_told path time bytes there) in
         let same : k.0 ≡ bytes = elim (only_told path time k.0 k.1) [
           | inl was ↦ agree path time k.0 bytes was there
           | inr now ↦ one_content after path time k.0 bytes now.folder there.folder now.shows there.shows
@@ -151,24 +161,16 @@ first_agrees kept tree first_only path time first bytes known shows = elim (case
       }))
 ]
 
+-- a tree that is fitted already adds nothing
+pub still_notes : (kept : Kept) (tree : Tree) → Fits kept tree → Notes kept kept.folders tree kept
+still_notes kept tree fits = record {
+  folders_are = refl;
+  stays = λ path time bytes known. known;
+  whole = λ path time bytes s. ap is_some (fits.whole path time bytes s);
+  only = λ path time bytes known. inl known;
+}
+
 -- ---- one more folder
-
-module _ (folders : Folders) (folder : Path) where
-  abbrev pub one_more : Folders
-  one_more = set.insert folders folder
-
-  pub among_more : (other : Path) → set.contains folders other ≡ true → set.contains one_more other ≡ true
-  among_more other among = set.contains-insert path_order folders folder other ∙ or_right (eq_by_cmp path_cmp other folder) (set.contains folders other) among
-
-  pub among_own : set.contains one_more folder ≡ true
-  among_own = set.contains-insert path_order folders folder folder ∙ ap (λ b. b || set.contains folders folder) (own_path folder)
-
-  pub among_either : (other : Path) → set.contains one_more other ≡ true → (other ≡ folder) ⊎ (set.contains folders other ≡ true)
-  among_either other among =
-      elim (or_cases (eq_by_cmp path_cmp other folder) (set.contains folders other) (sym (set.contains-insert path_order folders folder other) ∙ among)) [
-        | inl tied ↦ inl (same_path other folder tied)
-        | inr old ↦ inr old
-      ]
 
 module _ (old : Kept) (folder : Path) (tree : Tree) (fits : Fits old tree) where
   abbrev pub more : Folders
@@ -181,39 +183,6 @@ module _ (old : Kept) (folder : Path) (tree : Tree) (fits : Fits old tree) where
       let same : l.folder ≡ s.folder = one_folder l.folder s.folder l.name s.shows.name (sym l.path_is ∙ s.shows.path_is) in
       let there = fits.whole path time bytes (record { folder = s.folder; among = ap (set.contains old.folders) (sym same) ∙ l.among; shows = s.shows }) in
       let both : Some first ≡ Some bytes = sym known ∙ there in cc
-
-  -- what is seen of the folder is revealed
-  module _ (revealed : Revealed) (seen : IsSeen tree (folder ∷ []) [] revealed) where
-    own_one : (other : Path) → IsIn (folder ∷ []) other ⊎ ((path : Path) × IsIn {X = Spot} [] (other, path)) → set.contains more other ≡ true
-    own_one other (inl (inl same)) = ap (set.contains more) (sym same) ∙ among_own old.folders folder
-    own_one other (inl (inr none)) = absurd none
-    own_one other (inr none) = absurd none.1
-
-    own_knows : (other : Path) → set.contains more other ≡ true → (was now : Folders) → (set.contains old.folders other ≡ true → Knows was tree other) → Relinks was revealed now
-        → Knows now tree other
-    own_knows other among was now knew relinks name kind watched place on = elim (among_either old.folders folder other among) [
-      | inl same ↦ elim (seen_sorted tree (folder ∷ []) [] revealed seen other (inl (sym same))) [
-        | inl linked ↦ or_left (set.contains now other) (starts_with same_name (pack_directory other ++ name ∷ []) place) (relinks other ∙ or_left (is_in revealed.linked.items other) (set.contains was other) (one_is_in revealed.linked.items other linked))
-        | inr plain ↦ or_right (set.contains now other) (starts_with same_name (pack_directory other ++ name ∷ []) place) (plain name kind watched place on)
-      ]
-      | inr old_one ↦ still_known revealed was now other relinks (starts_with same_name (pack_directory other ++ name ∷ []) place) (knew old_one name kind watched place on)
-    ]
-
-    pub folder_revealed : RevealsMore old.folders more tree tree revealed
-    folder_revealed = record {
-      is_tree = fits.is_tree;
-      stays = among_more old.folders folder;
-      reveals = record {
-        shown = λ file one. let s = seen_shown tree (folder ∷ []) [] revealed seen (λ other path none. absurd none) file one in
-            record { folder = s.0; among = own_one s.0 s.1; shows = s.2 };
-        whole = λ path time bytes s. elim (among_either old.folders folder s.folder s.among) [
-          | inl same ↦ inr (seen_whole tree (folder ∷ []) [] revealed seen s.folder (inl (sym same)) path time bytes s.shows)
-          | inr among ↦ inl (record { folder = s.folder; among = among; shows = s.shows })
-        ];
-      };
-      linked = λ other one. own_one other (seen_linked tree (folder ∷ []) [] revealed seen other one);
-      knows = own_knows;
-    }
 
   -- a folder that is watched already
   module _ (among : set.contains old.folders folder ≡ true) where
@@ -228,13 +197,7 @@ module _ (old : Kept) (folder : Path) (tree : Tree) (fits : Fits old tree) where
     same_folders = set.same_set path_order one_place old.folders more same_contains
 
     pub notes_again : Notes old more tree old
-    notes_again = record {
-      folders_are = same_folders;
-      stays = λ path time bytes known. known;
-      whole = λ path time bytes s.
-          ap is_some (fits.whole path time bytes (subst (λ (f : Folders). ShowsInOne f tree path time bytes) (sym same_folders) s));
-      only = λ path time bytes known. inl known;
-    }
+    notes_again = subst (λ (f : Folders). Notes old f tree old) same_folders (still_notes old tree fits)
 
 -- ---- nothing kept
 
@@ -252,14 +215,14 @@ nothing_fits tree is_tree = record {
 -- what is found out is kept
 pub learnt : (kept : Kept) (folders : Folders) (was now : BTreeSet Path) (own contents : Contents) (revealed : Revealed)
     → ◌≡◌ {A = Kept} (record { folders = folders; linked = set.from_list was.keys; contents = own }) kept
-    → ((folder : Path) → is_in now.keys folder ≡ (is_in revealed.linked.items folder || is_in was.keys folder)) → contents ≡ with_files own revealed.files.items
+    → ((folder : Path) → is_in now.keys folder ≡ (is_in revealed.linked.items folder || is_in was.keys folder)) → KeepsFiles own revealed.files.items contents
     → Learns kept revealed (record { folders = folders; linked = set.from_list now.keys; contents = contents })
 learnt kept folders was now own contents revealed view added is = record {
   folders = ap (λ (k : Kept). k.folders) view;
   linked = λ folder.
       is_in_set now.keys folder ∙ added folder
       ∙ ap (λ b. is_in revealed.linked.items folder || b) (sym (is_in_set was.keys folder) ∙ ap (λ (k : Kept). set.contains k.linked folder) view);
-  contents = is ∙ ap (λ (k : Kept). with_files k.contents revealed.files.items) view;
+  contents = subst (λ (k : Kept). KeepsFiles k.contents revealed.files.items contents) view is;
 }
 
 module _ (kept : Kept) (before after : Tree) (fits : Fits kept before) (revealed : Revealed) (r : IsRevealed kept.folders before after revealed) (told : Kept)
@@ -277,7 +240,7 @@ module _ (kept : Kept) (tree : Tree) (fits : Fits kept tree) (folder : Path) (ol
       notes_again kept folder tree fits
       (sym (ap (λ (k : Kept). set.contains k.folders folder) view) ∙ set.contains-from_list path_order old.keys folder ∙ there)
 
-  module _ (new : BTreeSet Path) (added : tree_set.Updates path_cmp old new folder true) (revealed : Revealed) (seen : IsSeen tree (folder ∷ []) [] revealed) (told : Kept)
+  module _ (new : BTreeSet Path) (added : tree_set.Updates path_cmp old new folder true) (revealed : Revealed) (seen : IsSeen tree ((folder, pack_directory folder) ∷ []) revealed) (told : Kept)
       (learns : Learns (record { folders = set.from_list new.keys; linked = linked; contents = contents }) revealed told) where
     its_folders : told.folders ≡ set.insert kept.folders folder
     its_folders = learns.folders ∙ inserted_keys old new folder added ∙ ap (λ (k : Kept). set.insert k.folders folder) view
@@ -285,13 +248,13 @@ module _ (kept : Kept) (tree : Tree) (fits : Fits kept tree) (folder : Path) (ol
     its_links : Relinks kept.linked revealed told.linked
     its_links = subst (λ (k : Kept). Relinks k.linked revealed told.linked) view learns.linked
 
-    its_contents : told.contents ≡ with_files kept.contents revealed.files.items
-    its_contents = learns.contents ∙ ap (λ (k : Kept). with_files k.contents revealed.files.items) view
+    its_contents : KeepsFiles kept.contents revealed.files.items told.contents
+    its_contents = subst (λ (k : Kept). KeepsFiles k.contents revealed.files.items told.contents) view learns.contents
 
     pub watch_notes : Notes kept (set.insert kept.folders folder) tree told
-    watch_notes = more_notes kept (set.insert kept.folders folder) tree tree fits revealed (folder_revealed kept folder tree fits revealed seen) told its_folders its_links its_contents
+    watch_notes = more_notes kept (set.insert kept.folders folder) tree tree fits revealed (folder_revealed kept.folders folder tree fits.is_tree revealed seen) told its_folders its_links its_contents
 
     pub watch_fits : Fits told tree
     watch_fits =
-        more_fits kept (set.insert kept.folders folder) tree tree fits revealed (folder_revealed kept folder tree fits revealed seen) told its_folders its_links its_contents
+        more_fits kept (set.insert kept.folders folder) tree tree fits revealed (folder_revealed kept.folders folder tree fits.is_tree revealed seen) told its_folders its_links its_contents
         (own_agrees kept folder tree fits)

@@ -2,16 +2,10 @@
 pub mod KeepsLaws
 pub mod ReadLaws
 mod ListLemmas
-mod NameLemmas
-mod EntryLemmas
-mod FilesLemmas
 mod OverLemmas
 mod SightLemmas
-mod PlainLemmas
+mod EntryLemmas
+mod FilesLemmas
 mod TouchedLemmas
-mod ContentsLemmas
-mod FolderLemmas
-mod PlacesLemmas
-mod SeenLemmas
-mod RevealLemmas
+mod RevealedLemmas
 mod KeptLemmas

@@ -1,13 +1,16 @@
--- Elements of lists, by cases.
-use Rattle.std.proofs.Common.{◌≡◌, ◌⊎◌, inl, inr, Bool, true, List, [], ◌∷◌, ◌++◌, map, Option, Some, None, sym, ap, ◌∙◌, subst, refl}
-use Rattle.std.specs.List.{list_any, flat_map, filter_map, cons_option}
+-- Elements of lists, by cases, and what is added to them.
+use Rattle.std.proofs.Common.{◌≡◌, ◌⊎◌, inl, inr, Bool, true, false, cond, List, [], ◌∷◌, ◌++◌, map, Option, Some, None, sym, ap, ◌∙◌, subst, refl}
+use Rattle.std.specs.List.{list_any, filter, flat_map, filter_map, cons_option}
 use Rattle.std.proofs.lemmas.Bool.{false≢true, or_left, or_right, or_cases}
 use Rattle.std.proofs.lemmas.List.Concat.{flat_map-cons}
 use Rattle.std.specs.Ordering.{eq_by_cmp}
+use Rattle.std.specs.FinSet as set
 use Rattle.odb_base.specs.Path.{Path, path_cmp}
+use Rattle.odb_base.specs.PathLaws.{path_order}
 use Rattle.odb_disk.proofs.TreeLemmas.{own_path, same_path}
 use Rattle.gix_odb_watch.specs.Kept.{IsIn}
 use Rattle.gix_odb_watch.specs.Revealed.{is_in}
+use Rattle.gix_odb_watch.specs.Touched.{Adds, AddsEach}
 
 pub in_left : {X : Type 0} (xs ys : List X) (x : X) → IsIn xs x → IsIn (xs ++ ys) x
 in_left [] ys x one = absurd one
@@ -58,6 +61,27 @@ in_filter_map f (z ∷ xs) x y (inr more) gives = elim (f z) as (λ o. IsIn (con
   | Some w ↦ inr (in_filter_map f xs x y more gives)
 ]
 
+-- what passes a test
+
+module _ {X : Type 0} (test : X → Bool) where
+  of_by : (y : X) (xs : List X) (x : X) → (IsIn (filter test xs) x → IsIn xs x) → (b : Bool) → IsIn (cond b (y ∷ filter test xs) (filter test xs)) x → IsIn (y ∷ xs) x
+  of_by y xs x again true (inl same) = inl same
+  of_by y xs x again true (inr more) = inr (again more)
+  of_by y xs x again false more = inr (again more)
+
+  pub of_filter : (xs : List X) (x : X) → IsIn (filter test xs) x → IsIn xs x
+  of_filter [] x one = absurd one
+  of_filter (y ∷ xs) x one = of_by y xs x (of_filter xs x) (test y) one
+
+  in_by : (y : X) (xs : List X) (x : X) → IsIn (filter test xs) x → (b : Bool) → IsIn (cond b (y ∷ filter test xs) (filter test xs)) x
+  in_by y xs x one true = inr one
+  in_by y xs x one false = one
+
+  pub in_filter : (xs : List X) (x : X) → IsIn xs x → test x ≡ true → IsIn (filter test xs) x
+  in_filter [] x one passes = absurd one
+  in_filter (y ∷ xs) x (inl same) passes = subst (λ (b : Bool). IsIn (cond b (y ∷ filter test xs) (filter test xs)) x) (sym (ap test same ∙ passes)) (inl same)
+  in_filter (y ∷ xs) x (inr more) passes = in_by y xs x (in_filter xs x more passes) (test y)
+
 -- an element that passes a test
 pub one_passes : {X : Type 0} (test : X → Bool) (xs : List X) → list_any test xs ≡ true → (x : X) × IsIn xs x × (test x ≡ true)
 one_passes test [] any = absurd (false≢true any)
@@ -91,12 +115,29 @@ old_pushed {X = X} xs ys y x is one = subst (λ (l : List X). IsIn l x) (sym is)
 pub last_pushed : {X : Type 0} (xs ys : List X) (y : X) → ys ≡ xs ++ y ∷ [] → IsIn ys y
 last_pushed {X = X} xs ys y is = subst (λ (l : List X). IsIn l y) (sym is) (in_right xs (y ∷ []) y (inl refl))
 
--- an element of a list with more is among these or was one before
-pub in_more : {X : Type 0} (xs more ys : List X) (x : X) → ys ≡ xs ++ more → IsIn ys x → IsIn xs x ⊎ IsIn more x
-in_more {X = X} xs more ys x is one = in_either xs more x (subst (λ (l : List X). IsIn l x) is one)
+-- ---- what is added for each of some things
 
-pub old_more : {X : Type 0} (xs more ys : List X) (x : X) → ys ≡ xs ++ more → IsIn xs x → IsIn ys x
-old_more {X = X} xs more ys x is one = subst (λ (l : List X). IsIn l x) (sym is) (in_left xs more x one)
+pub each_first : {R X : Type 0} (May Must : R → X → Type 0) (xs : List X) → AddsEach May Must [] xs xs
+each_first May Must xs = record { keeps = λ x one. one; only = λ x one. inl one; whole = λ x of. absurd of.1 }
 
-pub new_more : {X : Type 0} (xs more ys : List X) (x : X) → ys ≡ xs ++ more → IsIn more x → IsIn ys x
-new_more {X = X} xs more ys x is one = subst (λ (l : List X). IsIn l x) (sym is) (in_right xs more x one)
+pub each_next : {R X : Type 0} (May Must : R → X → Type 0) (rs : List R) (r : R) (old mid new : List X) → AddsEach May Must rs old mid → Adds (May r) (Must r) mid new
+    → AddsEach May Must (rs ++ r ∷ []) old new
+each_next {R = R} May Must rs r old mid new so adds = record {
+  keeps = λ x one. adds.keeps x (so.keeps x one);
+  only = λ x one. elim (adds.only x one) [
+    | inl before ↦ elim (so.only x before) [ inl was ↦ inl was | inr of ↦ inr (of.0, in_left rs (r ∷ []) of.0 of.1, of.2) ]
+    | inr may ↦ inr (r, in_right rs (r ∷ []) r (inl refl), may)
+  ];
+  whole = λ x of. elim (in_pushed rs (rs ++ r ∷ []) r of.0 refl of.1) [
+    | inl before ↦ adds.keeps x (so.whole x (of.0, before, of.2))
+    | inr same ↦ adds.whole x (subst (λ (s : R). Must s x) (sym same) of.2)
+  ];
+}
+
+-- ---- sets of paths
+
+pub among_keys : (keys : List Path) (path : Path) → IsIn keys path → set.contains (set.from_list {R = path_cmp} keys) path ≡ true
+among_keys keys path one = set.contains-from_list path_order keys path ∙ one_is_in keys path one
+
+pub keys_among : (keys : List Path) (path : Path) → set.contains (set.from_list {R = path_cmp} keys) path ≡ true → IsIn keys path
+keys_among keys path among = is_in_one keys path (sym (set.contains-from_list path_order keys path) ∙ among)

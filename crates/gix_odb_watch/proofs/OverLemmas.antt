@@ -6,7 +6,7 @@ use Rattle.std.specs.Cmp.Lexicographic.{bytes_decides}
 use Rattle.std.specs.Result.{result_ok}
 use Rattle.std.proofs.lemmas.Bool.{false≢true, false_from_ne_true}
 use Rattle.odb_base.specs.Path.{Path, same_name}
-use Rattle.odb_disk.specs.Tree.{IsTree, Tree, node_at, with_node, without}
+use Rattle.odb_disk.specs.Tree.{IsTree, Tree, node_at, with_node}
 use Rattle.odb_disk.specs.Tree.Change.{changed, is_file_place, is_possible_in, least_free, link_node, link_over, longer, put_node, put_over, timed, with_longer, with_time}
 use Rattle.odb_disk.specs.Tree.Follow as following
 use Rattle.odb_disk.specs.Tree.Follow.{Place, followed}
@@ -23,9 +23,9 @@ use Rattle.odb_disk.proofs.TreeLemmas.Changed.{IsTree-changed, made-append, made
 use Rattle.odb_disk.proofs.TreeLemmas.Moved.{begins, moved_at, node_at-with_moved}
 use Rattle.odb_disk.proofs.TreeLemmas.Possible.{possible-append}
 use Rattle.odb_disk.proofs.TreeLemmas.Write.{file_at}
-use Rattle.gix_odb_watch.specs.Over.{IsLaid, content_at, laid_over, moved}
+use Rattle.gix_odb_watch.specs.Over.{IsLaid, content_at, laid_over, longer_over, moved, over_of}
 use Rattle.gix_odb_watch.specs.declared.over.Over.{Over}
-use Rattle.gix_odb_watch.specs.declared.over.Over.TheVariants.{Nothing, At, Moved}
+use Rattle.gix_odb_watch.specs.declared.over.Over.TheVariants.{At, Moved}
 
 abbrev content_of : Option Node → Option Content
 content_of node = option_map (λ (n : Node). n.content) node
@@ -65,75 +65,7 @@ link_content t place target (Some node) = over node.content
     over Dir = refl
     over (Link old) = refl
 
-module _ (t : Tree) (change : Change) (is_tree : IsTree t) (possible : is_possible_in t change ≡ true) where
-  abbrev u : Tree
-  u = changed t change
-
-  laid : (over : Over) → ((path : Path) → content_at u path ≡ laid_over (content_at t) over path) → IsLaid t over u
-  laid over content = record { was_tree = is_tree; is_tree = IsTree-changed t change is_tree possible; content = content }
-
-  -- a node is put
-  put_laid : (place : Path) (node : Node) → u ≡ with_node t place node → (content : Content) → node.content ≡ content → (over : Over) → over ≡ At place (Some content) → IsLaid t over u
-  put_laid place node is content has over same =
-      subst (λ (v : Over). IsLaid t v u) (ap (λ (c : Content). At place (Some c)) has ∙ sym same)
-      (laid (At place (Some node.content))
-      (laid_at t u place (Some node) (ap (λ (v : Tree). node_at v place) is ∙ node_at-put t place node) (λ q apart. ap (λ (v : Tree). node_at v q) is ∙ node_at-put_other t place node q apart)))
-
-  pub file_laid : (place : Path) (time : ℕ) (bytes : List ℕ) → change ≡ PutFile place time bytes → (over : Over) → over ≡ At place (Some (File bytes time)) → IsLaid t over u
-  file_laid place time bytes is over same =
-      put_laid place (put_node t place (File bytes time) (node_at t place)) (ap (changed t) is ∙ made-put_file t place time bytes) (File bytes time)
-      (file_content t place (File bytes time) (node_at t place)) over same
-
-  pub dir_laid : (place : Path) (dev : ℕ) → change ≡ MakeDir place dev → (over : Over) → over ≡ At place (Some Dir) → IsLaid t over u
-  dir_laid place dev is over same = put_laid place (record { dev = dev; ino = least_free t; content = Dir }) (ap (changed t) is ∙ made-make_dir t place dev) Dir refl over same
-
-  pub link_laid : (place target : Path) → change ≡ PutLink place target → (over : Over) → over ≡ At place (Some (Link target)) → IsLaid t over u
-  link_laid place target is over same =
-      put_laid place (link_node t place target (node_at t place)) (ap (changed t) is ∙ made-put_link t place target) (Link target) (link_content t place target (node_at t place)) over same
-
-  -- nothing is there any more
-  none_laid : (place : Path) → node_at u place ≡ None → ((q : Path) → q ≢ place → node_at u q ≡ node_at t q) → (over : Over) → over ≡ At place None → IsLaid t over u
-  none_laid place none others over same = subst (λ (v : Over). IsLaid t v u) (sym same) (laid (At place None) (laid_at t u place None none others))
-
-  pub removed_laid : (place : Path) → change ≡ Remove place → (over : Over) → over ≡ At place None → IsLaid t over u
-  removed_laid place is over same =
-      let made : u ≡ without t place = ap (changed t) is ∙ made-remove t place in
-      none_laid place (ap (λ (v : Tree). node_at v place) made ∙ node_at-taken t place) (λ q apart. ap (λ (v : Tree). node_at v q) made ∙ node_at-taken_other t place q apart) over same
-
-  pub timed_laid : (place : Path) (time : ℕ) → change ≡ SetTime place time → (over : Over) → over ≡ At place (option_map (timed time) (content_at t place)) → IsLaid t over u
-  timed_laid place time is over same = by (node_at t place) refl
-    where
-      made : (o : Option Node) → node_at t place ≡ o → u ≡ with_time t place time o
-      made o at = ap (changed t) is ∙ made-set_time t place time ∙ ap (with_time t place time) at
-
-      told : (o : Option Node) → node_at t place ≡ o → over ≡ At place (option_map (timed time) (content_of o))
-      told o at = same ∙ ap (λ (v : Option Node). At place (option_map (timed time) (content_of v))) at
-
-      by : (o : Option Node) → node_at t place ≡ o → IsLaid t over u
-      by None none = none_laid place (ap (λ (v : Tree). node_at v place) (made None none) ∙ none) (λ q apart. ap (λ (v : Tree). node_at v q) (made None none)) over (told None none)
-      by (Some node) at = put_laid place (record node { content = timed time node.content }) (made (Some node) at) (timed time node.content) refl over (told (Some node) at)
-
-  pub longer_laid : (path : Path) (more : List ℕ) → change ≡ Append path more → (place : Path) → file_spot t path ≡ Ok place → (over : Over)
-      → over ≡ At place (option_map (λ content. longer content more) (content_at t place)) → IsLaid t over u
-  longer_laid path more is place spot over same =
-      let f = file_at t path place spot in
-      put_laid place (record f.node { content = longer f.node.content more }) (ap (changed t) is ∙ made-append t path more ∙ ap (with_longer t more) f.leads)
-      (longer f.node.content more) refl over (same ∙ ap (λ (o : Option Node). At place (option_map (λ content. longer content more) (content_of o))) f.at)
-
-  pub moved_laid : (from to : Path) → change ≡ Rename from to → (over : Over) → over ≡ Moved from to → IsLaid t over u
-  moved_laid from to is over same =
-      subst (λ (v : Over). IsLaid t v u) (sym same)
-      (laid (Moved from to) (λ path.
-      ap (λ (v : Tree). content_at v path) (ap (changed t) is ∙ made-rename t from to) ∙ ap content_of (node_at-with_moved t from to path) ∙ by path (begins path to) (begins path from)))
-    where
-      by : (path : Path) (b c : Bool) → content_of (moved_at b c (node_at t (moved to from path)) (node_at t path))
-          ≡ (if b then content_at t (moved to from path) else (if c then None else content_at t path))
-      by path true c = refl
-      by path false true = refl
-      by path false false = refl
-
--- ---- where an append is made
-
+-- where an append is made
 spot_by : (told : Result Place following.Refusal) → is_file_place told ≡ true → (place : Path) × (and_then file_path (from_followed told) ≡ Ok place)
 spot_by (Ok found) file = (found.path, ap (λ (b : Bool). path_if b) file)
   where
@@ -141,18 +73,74 @@ spot_by (Ok found) file = (found.path, ap (λ (b : Bool). path_if b) file)
     path_if b = if b then Ok found.path else Err writing.WrongKind
 spot_by (Err refusal) file = absurd (false≢true file)
 
-module _ (t : Tree) (path : Path) (more : List ℕ) (possible : is_possible_in t (Append path more) ≡ true) where
-  some_spot : (place : Path) × (file_spot t path ≡ Ok place)
-  unfolding file_spot
-  some_spot = spot_by (followed t true path) (sym (possible-append t path more) ∙ possible)
+pub some_spot : (t : Tree) (path : Path) (more : List ℕ) → is_possible_in t (Append path more) ≡ true → (place : Path) × (file_spot t path ≡ Ok place)
+unfolding file_spot
+some_spot t path more possible = spot_by (followed t true path) (sym (possible-append t path more) ∙ possible)
 
-  pub append_spot : (place : Path) → Some place ≡ result_ok (file_spot t path) → file_spot t path ≡ Ok place
-  append_spot place is = let both : Some place ≡ Some some_spot.0 = is ∙ ap result_ok some_spot.1 in let same : place ≡ some_spot.0 = cc in some_spot.1 ∙ ap Ok (sym same)
+module _ (t : Tree) (is_tree : IsTree t) (change : Change) (possible : is_possible_in t change ≡ true) where
+  abbrev u : Tree
+  u = changed t change
 
-  pub no_spot : None ≡ result_ok (file_spot t path) → ⊥
-  no_spot none = let both : None ≡ Some some_spot.0 = none ∙ ap result_ok some_spot.1 in cc
+  laid : (over : Over) → ((path : Path) → content_at u path ≡ laid_over (content_at t) over path) → IsLaid t over u
+  laid over content = record { was_tree = is_tree; is_tree = IsTree-changed t change is_tree possible; content = content }
 
--- ---- no change
+  -- a node is put
+  put_laid : (place : Path) (node : Node) → u ≡ with_node t place node → (content : Content) → node.content ≡ content → IsLaid t (At place (Some content)) u
+  put_laid place node is content has =
+      subst (λ (c : Content). IsLaid t (At place (Some c)) u) has
+      (laid (At place (Some node.content))
+      (laid_at t u place (Some node) (ap (λ (v : Tree). node_at v place) is ∙ node_at-put t place node) (λ q apart. ap (λ (v : Tree). node_at v q) is ∙ node_at-put_other t place node q apart)))
 
-pub nothing_laid : (t : Tree) → IsTree t → IsLaid t Nothing t
-nothing_laid t is_tree = record { was_tree = is_tree; is_tree = is_tree; content = λ path. refl }
+  -- nothing is there any more
+  none_laid : (place : Path) → node_at u place ≡ None → ((q : Path) → q ≢ place → node_at u q ≡ node_at t q) → IsLaid t (At place None) u
+  none_laid place none others = laid (At place None) (laid_at t u place None none others)
+
+module _ (t : Tree) (is_tree : IsTree t) where
+  time_laid : (place : Path) (time : ℕ) → is_possible_in t (SetTime place time) ≡ true → IsLaid t (over_of t (SetTime place time)) (changed t (SetTime place time))
+  time_laid place time possible = by (node_at t place) refl
+    where
+      made : (o : Option Node) → node_at t place ≡ o → changed t (SetTime place time) ≡ with_time t place time o
+      made o at = made-set_time t place time ∙ ap (with_time t place time) at
+
+      by : (o : Option Node) → node_at t place ≡ o → IsLaid t (At place (option_map (timed time) (content_of (node_at t place)))) (changed t (SetTime place time))
+      by None none =
+          subst (λ (o : Option Node). IsLaid t (At place (option_map (timed time) (content_of o))) (changed t (SetTime place time))) (sym none)
+          (none_laid t is_tree (SetTime place time) possible place (ap (λ (v : Tree). node_at v place) (made None none) ∙ none) (λ q apart. ap (λ (v : Tree). node_at v q) (made None none)))
+      by (Some node) at =
+          subst (λ (o : Option Node). IsLaid t (At place (option_map (timed time) (content_of o))) (changed t (SetTime place time))) (sym at)
+          (put_laid t is_tree (SetTime place time) possible place (record node { content = timed time node.content }) (made (Some node) at) (timed time node.content) refl)
+
+  longer_laid : (path : Path) (more : List ℕ) → is_possible_in t (Append path more) ≡ true → IsLaid t (over_of t (Append path more)) (changed t (Append path more))
+  longer_laid path more possible =
+      let s = some_spot t path more possible in
+      let f = file_at t path s.0 s.1 in
+      subst (λ (v : Over). IsLaid t v (changed t (Append path more)))
+      (ap (λ (o : Option Node). At s.0 (option_map (λ content. longer content more) (content_of o))) (sym f.at) ∙ ap (λ (r : Result Path writing.Refusal). longer_over t more (result_ok r)) (sym s.1))
+      (put_laid t is_tree (Append path more) possible s.0 (record f.node { content = longer f.node.content more }) (made-append t path more ∙ ap (with_longer t more) f.leads)
+      (longer f.node.content more) refl)
+
+  move_laid : (from to : Path) → is_possible_in t (Rename from to) ≡ true → IsLaid t (Moved from to) (changed t (Rename from to))
+  move_laid from to possible = laid t is_tree (Rename from to) possible (Moved from to) (λ path.
+      ap (λ (v : Tree). content_at v path) (made-rename t from to) ∙ ap content_of (node_at-with_moved t from to path) ∙ by path (begins path to) (begins path from))
+    where
+      by : (path : Path) (b c : Bool) → content_of (moved_at b c (node_at t (moved to from path)) (node_at t path))
+          ≡ (if b then content_at t (moved to from path) else (if c then None else content_at t path))
+      by path true c = refl
+      by path false true = refl
+      by path false false = refl
+
+  pub over_laid : (change : Change) → is_possible_in t change ≡ true → IsLaid t (over_of t change) (changed t change)
+  over_laid (PutFile place time bytes) possible =
+      put_laid t is_tree (PutFile place time bytes) possible place (put_node t place (File bytes time) (node_at t place)) (made-put_file t place time bytes) (File bytes time)
+      (file_content t place (File bytes time) (node_at t place))
+  over_laid (MakeDir place dev) possible =
+      put_laid t is_tree (MakeDir place dev) possible place (record { dev = dev; ino = least_free t; content = Dir }) (made-make_dir t place dev) Dir refl
+  over_laid (PutLink place target) possible =
+      put_laid t is_tree (PutLink place target) possible place (link_node t place target (node_at t place)) (made-put_link t place target) (Link target)
+      (link_content t place target (node_at t place))
+  over_laid (Rename from to) possible = move_laid from to possible
+  over_laid (Append path more) possible = longer_laid path more possible
+  over_laid (Remove place) possible =
+      none_laid t is_tree (Remove place) possible place (ap (λ (v : Tree). node_at v place) (made-remove t place) ∙ node_at-taken t place)
+      (λ q apart. ap (λ (v : Tree). node_at v q) (made-remove t place) ∙ node_at-taken_other t place q apart)
+  over_laid (SetTime place time) possible = time_laid place time possible

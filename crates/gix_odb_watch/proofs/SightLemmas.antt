@@ -1,12 +1,12 @@
 -- Where a path leads in the tree after a change, and what a directory has there.
-use Rattle.std.proofs.Common.{◌≡◌, ◌⊎◌, inl, inr, ℕ, ◌<◌, Bool, true, false, List, [], ◌∷◌, ◌++◌, append-nil, append_assoc, Option, Some, None, Result, Ok, Err, if◌then◌else◌, drop, length, refl, sym, ap, ◌∙◌, subst, arith}
+use Rattle.std.proofs.Common.{◌≡◌, ◌⊎◌, inl, inr, ℕ, ◌<◌, Bool, true, false, List, [], ◌∷◌, ◌++◌, map, append-nil, append_assoc, Option, Some, None, Result, Ok, Err, if◌then◌else◌, drop, length, refl, sym, ap, ◌∙◌, subst, arith}
 use lib.Pointwise.{pointwise, pointwise_decides}
-use Rattle.std.specs.Option.{option_map}
+use Rattle.std.specs.Option.{option_map, option_to_list}
 use Rattle.std.specs.Result.{result_ok}
 use Rattle.std.specs.Cmp.Lexicographic.{bytes_decides}
 use Rattle.std.proofs.lemmas.Bool.{false≢true}
-use Rattle.std.proofs.lemmas.List.{append_cancel_left, length-append}
-use Rattle.odb_base.specs.Path.{Name, Path, last_name, parent_of, same_name}
+use Rattle.std.proofs.lemmas.List.{length-append}
+use Rattle.odb_base.specs.Path.{Name, Path, parent_of, same_name}
 use Rattle.odb_base.specs.PathLaws.{goes_beyond, parent_of-nothing, parent_of-push, parent_of-some}
 use Rattle.odb_disk.specs.Tree.{IsTree, Tree, is_directory, node_at}
 use Rattle.odb_disk.specs.Tree.Follow.{Pass, Reached, Missing, Blocked, Place, Refusal, Absent, WrongKind, LinkLoop, at_last, file_of, file_of_place, followed, followed_within, most_links, pass, read_of}
@@ -21,14 +21,11 @@ use Rattle.odb_disk.proofs.TreeLemmas.Moved.{begins, begins-append, begins-more}
 use Rattle.gix_odb_watch.specs.Files.{listed, listed_paths}
 use Rattle.gix_odb_watch.specs.Kept.{IsIn}
 use Rattle.gix_odb_watch.specs.Over.{IsLaid, content_at, laid_over, moved, origin_of, place_put}
-use Rattle.gix_odb_watch.specs.Sight.{AreWatchedIn, HasName, IsFound, named_path, put_path, watched_path}
-use Rattle.gix_odb_watch.specs.Watched.{is_some_kind, watched_kind}
+use Rattle.gix_odb_watch.specs.Sight.{ArePathsIn, HasName, IsFound, put_path}
 use Rattle.gix_odb_watch.specs.declared.over.Over.{Over}
 use Rattle.gix_odb_watch.specs.declared.over.Over.TheVariants.{Nothing, At, Moved}
-use Rattle.gix_odb_watch.specs.declared.watched.WatchedKind.{WatchedKind}
-use Rattle.gix_odb_watch.proofs.EntryLemmas.{by_name, has_entry, inside, next, pass_by}
-use Rattle.gix_odb_watch.proofs.ListLemmas.{in_either, in_flat_map, in_left, in_right, of_flat_map}
-use Rattle.gix_odb_watch.proofs.NameLemmas.{last_name-push}
+use Rattle.gix_odb_watch.proofs.EntryLemmas.{by_name, has_entry, inside, moved-rest, next, pass_by}
+use Rattle.gix_odb_watch.proofs.ListLemmas.{in_either, in_left, in_map, in_right, of_map}
 
 -- ---- what is at a path
 
@@ -64,8 +61,10 @@ module _ (u : Tree) (is_tree : IsTree u) (path : Path) where
     by_directory : (p : Pass) → pass u true [] directory ≡ p → pass u true [] path ≡ by_name u name p
     by_directory p is = ap (pass u true []) whole ∙ pass_by u name [] directory ∙ ap (by_name u name) is
 
-    pub onward_end : (onward : Path) → pass u true [] directory ≡ following.Onward onward → (rest : Path) × (directory ++ rest ≡ path) × (pass u true [] path ≡ following.Onward (onward ++ rest))
-    onward_end onward is = (name ∷ [], sym whole, by_directory (following.Onward onward) is)
+    pub onward_end : (onward : Path) → pass u true [] directory ≡ following.Onward onward → pass u true [] path ≡ following.Onward (moved directory onward path)
+    onward_end onward is =
+        by_directory (following.Onward onward) is
+        ∙ ap following.Onward (sym (ap (moved directory onward) whole ∙ moved-rest directory onward (name ∷ [])))
 
     ends_nowhere : (content : Content) → (inside u name content (next u name directory) ≡ Missing) ⊎ (inside u name content (next u name directory) ≡ Blocked)
     ends_nowhere (File bytes time) = inr refl
@@ -108,34 +107,9 @@ pub refused_read : (u : Tree) (path : Path) (refusal : Refusal) → followed u t
 unfolding read_of
 refused_read u path refusal is = sym (ap (λ (r : Result Place Refusal). result_ok (file_of_place r)) is)
 
--- ---- paths of a directory
-
-module _ (directory : Path) where
-  abbrev path_if : Bool → Name → List Path
-  path_if watched name = if watched then (directory ++ name ∷ []) ∷ [] else []
-
-  watched_one : (name : Name) (kind : WatchedKind) → watched_kind name ≡ Some kind → IsIn (watched_path directory name) (directory ++ name ∷ [])
-  watched_one name kind is = subst (λ (k : Option WatchedKind). IsIn (path_if (is_some_kind k) name) (directory ++ name ∷ [])) (sym is) (inl refl)
-
-  one_named : (name : Name) (path : Path) → IsIn (watched_path directory name) path → (n : Name) × (path ≡ directory ++ n ∷ [])
-  one_named name path one = by (is_some_kind (watched_kind name)) one
-    where
-      by : (b : Bool) → IsIn (path_if b name) path → (n : Name) × (path ≡ directory ++ n ∷ [])
-      by true (inl same) = (name, sym same)
-      by true (inr none) = absurd none
-      by false none = absurd none
-
-  put_named : (o : Option Name) (path : Path) → IsIn (named_path directory o) path → (n : Name) × (path ≡ directory ++ n ∷ [])
-  put_named None path one = absurd one
-  put_named (Some name) path one = one_named name path one
-
-  put_one : (o : Option Path) (path : Path) → IsIn (put_path directory o) path → (n : Name) × (path ≡ directory ++ n ∷ [])
-  put_one None path one = absurd one
-  put_one (Some place) path one = put_named (last_name place) path one
-
 -- ---- what a directory has
 
-module _ (t : Tree) (is_tree : IsTree t) (directory : Path) (name : Name) (kind : WatchedKind) (watched : watched_kind name ≡ Some kind) where
+module _ (t : Tree) (is_tree : IsTree t) (directory : Path) (name : Name) where
   -- what is in a directory before the change is listed there
   was_listed : (place : Path) (content : Content) → Some content ≡ content_at t (place ++ name ∷ []) → IsIn (listed_paths t place directory) (directory ++ name ∷ [])
   was_listed place content is =
@@ -144,14 +118,14 @@ module _ (t : Tree) (is_tree : IsTree t) (directory : Path) (name : Name) (kind 
       let reached = pass_to_other t is_tree place d.node d.at true (λ target link. let both : Dir ≡ Link target = sym d.content ∙ link in cc) in
       let h : HasName t name (followed t true place) =
       record { place = record { path = place; node = d.node }; leads = followed_reached t true place most_links place d.node reached; directory = d.content; node = n.0; stands = n.1 } in
-      in_flat_map (λ (entry : Entry). watched_path directory entry.name) (listed t place) (entry_of n.0 name) (directory ++ name ∷ []) (has_entry t place name h)
-      (watched_one directory name kind watched)
+      in_map (λ (entry : Entry). directory ++ entry.name ∷ []) (listed t place) (entry_of n.0 name) (has_entry t place name h)
 
   -- and what the change puts there has the name of its place
   put_listed : (place last : Path) → last ++ name ∷ [] ≡ place → IsIn (put_path directory (Some place)) (directory ++ name ∷ [])
   put_listed place last is =
       subst (λ (p : Path). IsIn (put_path directory (Some p)) (directory ++ name ∷ [])) is
-      (subst (λ (o : Option Name). IsIn (named_path directory o) (directory ++ name ∷ [])) (sym (last_name-push last name)) (watched_one directory name kind watched))
+      (subst (λ (o : Option Path). IsIn (map (λ (front : Path). moved front directory (last ++ name ∷ [])) (option_to_list o)) (directory ++ name ∷ [])) (sym (parent_of-push last name))
+      (inl (moved-rest last directory (name ∷ []))))
 
   abbrev IsThere : Over → Path → Type 0
   IsThere over place = IsIn (listed_paths t (origin_of over place) directory) (directory ++ name ∷ []) ⊎ IsIn (put_path directory (place_put over)) (directory ++ name ∷ [])
@@ -180,11 +154,9 @@ module _ (t : Tree) (is_tree : IsTree t) (directory : Path) (name : Name) (kind 
     -- below the target it was below the source
     deeper : begins last to ≡ true → moved to from own ≡ moved to from last ++ name ∷ []
     deeper inside =
-        let longer : drop (length to) own ≡ drop (length to) last ++ name ∷ [] =
-        append_cancel_left to (drop (length to) own) (drop (length to) last ++ name ∷ [])
-        (sym (goes_beyond own to (begins-more last to (name ∷ []) inside)) ∙ ap (λ (p : Path). p ++ name ∷ []) (goes_beyond last to inside)
-        ∙ append_assoc to (drop (length to) last) (name ∷ [])) in
-        ap (λ (p : Path). from ++ p) longer ∙ sym (append_assoc from (drop (length to) last) (name ∷ []))
+        let rest = drop (length to) last in
+        ap (moved to from) (ap (λ (p : Path). p ++ name ∷ []) (goes_beyond last to inside) ∙ append_assoc to rest (name ∷ [])) ∙ moved-rest to from (rest ++ name ∷ [])
+        ∙ sym (append_assoc from rest (name ∷ []))
 
     moved_there : Some content ≡ laid_over (content_at t) (Moved from to) own → IsThere (Moved from to) last
     moved_there is = by (begins last to) (begins own to) (begins own from) refl refl is
@@ -204,33 +176,43 @@ module _ (t : Tree) (is_tree : IsTree t) (directory : Path) (name : Name) (kind 
 
 -- ---- the paths that are found
 
-module _ (t u : Tree) (over : Over) (laid : IsLaid t over u) (directory : Path) where
-  abbrev found_paths : Path → List Path
-  found_paths place = listed_paths t (origin_of over place) directory ++ put_path directory (place_put over)
+put_one : (directory : Path) (o : Option Path) (path : Path) → IsIn (put_path directory o) path → (name : Name) × (path ≡ directory ++ name ∷ [])
+put_one directory None path one = absurd one
+put_one directory (Some place) path one = by (parent_of place) refl one
+  where
+    by : (o : Option Path) → parent_of place ≡ o → IsIn (map (λ (front : Path). moved front directory place) (option_to_list o)) path → (name : Name) × (path ≡ directory ++ name ∷ [])
+    by None root none = absurd none
+    by (Some front) parent (inl same) = let s = parent_of-some place front parent in (s.0, sym same ∙ ap (moved front directory) s.1 ∙ moved-rest front directory (s.0 ∷ []))
+    by (Some front) parent (inr none) = absurd none
 
-  only_found : (place path : Path) → IsIn (found_paths place) path → (name : Name) × (path ≡ directory ++ name ∷ [])
-  only_found place path one = elim (in_either (listed_paths t (origin_of over place) directory) (put_path directory (place_put over)) path one) [
-    | inl listed_one ↦
-        let o = of_flat_map (λ (entry : Entry). watched_path directory entry.name) (listed t (origin_of over place)) path listed_one in one_named directory o.0.name path o.2
+module _ (t u : Tree) (over : Over) (laid : IsLaid t over u) (directory place : Path) (node : Node) (leads : followed u true directory ≡ Ok (record { path = place; node = node })) where
+  abbrev listed_there : List Path
+  listed_there = listed_paths t (origin_of over place) directory
+
+  abbrev put_there : List Path
+  put_there = put_path directory (place_put over)
+
+  only_found : (path : Path) → IsIn (listed_there ++ put_there) path → (name : Name) × (path ≡ directory ++ name ∷ [])
+  only_found path one = elim (in_either listed_there put_there path one) [
+    | inl listed_one ↦ let o = of_map (λ (entry : Entry). directory ++ entry.name ∷ []) (listed t (origin_of over place)) path listed_one in (o.0.name, sym o.2)
     | inr put ↦ put_one directory (place_put over) path put
   ]
 
-  all_found : (place : Path) (node : Node) → followed u true directory ≡ Ok (record { path = place; node = node }) → (name : Name) (kind : WatchedKind) → watched_kind name ≡ Some kind
-      → HasName u name (followed u true directory) → IsIn (found_paths place) (directory ++ name ∷ [])
-  all_found place node leads name kind watched h =
+  all_found : (name : Name) → HasName u name (followed u true directory) → IsIn (listed_there ++ put_there) (directory ++ name ∷ [])
+  all_found name h =
       let both : ◌≡◌ {A = Result Place Refusal} (Ok h.place) (Ok (record { path = place; node = node })) = sym h.leads ∙ leads in
       let same : ◌≡◌ {A = Place} h.place (record { path = place; node = node }) = cc in
       let stands : node_at u (place ++ name ∷ []) ≡ Some h.node = ap (λ (p : Place). node_at u (p.path ++ name ∷ [])) (sym same) ∙ h.stands in
-      elim (there t laid.was_tree directory name kind watched over place h.node.content (sym (ap (option_map (λ (n : Node). n.content)) stands) ∙ laid.content (place ++ name ∷ []))) [
-        | inl listed_one ↦ in_left (listed_paths t (origin_of over place) directory) (put_path directory (place_put over)) (directory ++ name ∷ []) listed_one
-        | inr put ↦ in_right (listed_paths t (origin_of over place) directory) (put_path directory (place_put over)) (directory ++ name ∷ []) put
+      elim (there t laid.was_tree directory name over place h.node.content (sym (ap (option_map (λ (n : Node). n.content)) stands) ∙ laid.content (place ++ name ∷ []))) [
+        | inl listed_one ↦ in_left listed_there put_there (directory ++ name ∷ []) listed_one
+        | inr put ↦ in_right listed_there put_there (directory ++ name ∷ []) put
       ]
 
-  pub found_watched : (place : Path) (node : Node) → followed u true directory ≡ Ok (record { path = place; node = node }) → (paths : List Path) → paths ≡ found_paths place → AreWatchedIn u directory paths
-  found_watched place node leads paths are = subst (AreWatchedIn u directory) (sym are) (record { whole = all_found place node leads; only = only_found place })
+  pub found_paths : (paths : List Path) → paths ≡ listed_there ++ put_there → ArePathsIn u directory paths
+  found_paths paths are = subst (ArePathsIn u directory) (sym are) (record { whole = all_found; only = only_found })
 
-pub refused_watched : (u : Tree) (directory : Path) (refusal : Refusal) → followed u true directory ≡ Err refusal → (paths : List Path) → paths ≡ [] → AreWatchedIn u directory paths
-refused_watched u directory refusal is paths none = record {
-  whole = λ name kind watched h. let both : ◌≡◌ {A = Result Place Refusal} (Ok h.place) (Err refusal) = sym h.leads ∙ is in absurd (cc);
+pub refused_paths : (u : Tree) (directory : Path) (refusal : Refusal) → followed u true directory ≡ Err refusal → (paths : List Path) → paths ≡ [] → ArePathsIn u directory paths
+refused_paths u directory refusal is paths none = record {
+  whole = λ name h. let both : ◌≡◌ {A = Result Place Refusal} (Ok h.place) (Err refusal) = sym h.leads ∙ is in absurd (cc);
   only = λ path one. absurd (subst (λ (l : List Path). IsIn l path) none one);
 }

@@ -1,7 +1,6 @@
 -- The files that a tree shows in pack directories, as lists. No public clause cites this.
-use Rattle.std.specs.Prelude.{◌⊎◌, ℕ, Bool, false, not, List, [], ◌∷◌, Option, Some, None, Result, Ok, Err, unwrap_or}
+use Rattle.std.specs.Prelude.{◌≡◌, ◌⊎◌, ◌++◌, ℕ, Bool, false, not, List, [], ◌∷◌, map, Option, Some, None, IsSome, Result, Ok, Err, unwrap_or}
 use Rattle.std.specs.Result.{result_ok}
-use Rattle.std.specs.List.{flat_map}
 use Rattle.std.specs.FinMap as finite
 use Rattle.odb_base.specs.Path.{Path, last_name, same_name}
 use Rattle.odb_disk.specs.Tree.{Tree}
@@ -9,8 +8,7 @@ use Rattle.odb_disk.specs.Tree.Follow.{Refusal, read_of}
 use Rattle.odb_disk.specs.Entries.{opened}
 use Rattle.odb_disk.specs.declared.entry.Entry.{Entry}
 use Rattle.gix_odb_watch.specs.Watched.{counted, named_kind}
-use Rattle.gix_odb_watch.specs.Kept.{Contents, Folders, IsIn, ShowsInOne}
-use Rattle.gix_odb_watch.specs.Sight.{watched_path}
+use Rattle.gix_odb_watch.specs.Kept.{Contents, Folders, IsIn, Key, ShowsInOne}
 use Rattle.gix_odb_watch.specs.declared.watched.WatchedKind.{WatchedKind}
 use Rattle.gix_odb_watch.specs.declared.shown_file.ShownFile.{ShownFile}
 
@@ -28,9 +26,9 @@ file_at tree path = file_read path (named_kind (last_name path)) (read_of tree p
 abbrev pub listed : Tree → Path → List Entry
 listed tree directory = unwrap_or (result_ok (opened tree directory)) []
 
--- the watched paths of a directory at whose names there is something, by another path that leads there
+-- their paths, by another path that leads to the directory
 abbrev pub listed_paths : Tree → (like directory : Path) → List Path
-listed_paths tree like directory = flat_map (λ entry. watched_path directory entry.name) (listed tree like)
+listed_paths tree like directory = map (λ (entry : Entry). directory ++ entry.name ∷ []) (listed tree like)
 
 -- whether other bytes than a file's are kept under its key
 abbrev pub is_other : Option (List ℕ) → List ℕ → Bool
@@ -40,18 +38,12 @@ is_other (Some first) bytes = not (same_name first bytes)
 abbrev pub differs : Contents → ShownFile → Bool
 differs contents file = is_other (finite.get contents file.key) file.bytes
 
--- what is kept after a file: under a key the first bytes stay
-abbrev pub first_kept : Option (List ℕ) → Contents → ShownFile → Contents
-first_kept None contents file = finite.insert contents file.key file.bytes
-first_kept (Some first) contents file = contents
-
-abbrev pub with_file : Contents → ShownFile → Contents
-with_file contents file = first_kept (finite.get contents file.key) contents file
-
--- and after files, one by one
-abbrev pub with_files : Contents → List ShownFile → Contents
-with_files contents [] = contents
-with_files contents (file ∷ files) = with_files (with_file contents file) files
+-- Files were kept: what was kept stays, something is kept under the key of each, and nothing else was added.
+pub record KeepsFiles (old : Contents) (files : List ShownFile) (new : Contents) : Type 0 where
+  pub stays : (key : Key) (bytes : List ℕ) → finite.get old key ≡ Some bytes → finite.get new key ≡ Some bytes
+  pub there : (file : ShownFile) → IsIn files file → IsSome (finite.get new file.key)
+  pub only : (key : Key) (bytes : List ℕ) → finite.get new key ≡ Some bytes
+      → (finite.get old key ≡ Some bytes) ⊎ ((file : ShownFile) × IsIn files file × (file.key ≡ key) × (file.bytes ≡ bytes))
 
 -- The files are what paths of the new folders show in a tree that comes after another one: all that those of the old ones didn't show before.
 pub record Reveals (old new : Folders) (before after : Tree) (files : List ShownFile) : Type 0 where

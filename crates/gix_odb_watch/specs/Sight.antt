@@ -1,17 +1,17 @@
 -- Where a path leads in a tree, and what a directory has. No public clause cites this.
-use Rattle.std.specs.Prelude.{◌≡◌, ◌⊎◌, ◌++◌, true, List, [], ◌∷◌, Option, Some, None, Result, Ok, Err, if◌then◌else◌}
-use Rattle.odb_base.specs.Path.{Name, Path, last_name}
+use Rattle.std.specs.Prelude.{◌≡◌, ◌⊎◌, ◌++◌, true, List, [], ◌∷◌, map, Option, Some, None, Result, Ok, Err}
+use Rattle.std.specs.Option.{option_to_list}
+use Rattle.odb_base.specs.Path.{Name, Path, parent_of}
 use Rattle.odb_disk.specs.Tree.{Tree, node_at}
 use Rattle.odb_disk.specs.Tree.Follow.{Pass, Reached, Missing, Blocked, Place, Refusal, followed}
 use Rattle.odb_disk.specs.Tree.Follow as following
 use Rattle.odb_disk.specs.declared.node.Content.TheVariants.{Dir}
 use Rattle.odb_disk.specs.declared.node.Node.{Node}
-use Rattle.gix_odb_watch.specs.Watched.{is_some_kind, watched_kind}
 use Rattle.gix_odb_watch.specs.Kept.{IsIn}
+use Rattle.gix_odb_watch.specs.Over.{moved}
 use Rattle.gix_odb_watch.specs.declared.sight.End.{End}
 use Rattle.gix_odb_watch.specs.declared.sight.End.TheVariants.{At, Onward, Nowhere}
 use Rattle.gix_odb_watch.specs.declared.sight.Found.{Found}
-use Rattle.gix_odb_watch.specs.declared.watched.WatchedKind.{WatchedKind}
 
 -- a pass along a path ends there
 abbrev pub IsEnd : Path → End → Pass → Type 0
@@ -26,18 +26,10 @@ IsFound told (Some found) = (node : Node) × (told ≡ Ok (record { path = found
 
 -- ---- what a directory has
 
--- the path of a watched name in a directory
-abbrev pub watched_path : (directory : Path) → Name → List Path
-watched_path directory name = if is_some_kind (watched_kind name) then (directory ++ name ∷ []) ∷ [] else []
-
--- that of a place's last name
-abbrev pub named_path : (directory : Path) → Option Name → List Path
-named_path directory None = []
-named_path directory (Some name) = watched_path directory name
-
+-- the path in a directory that has the last name of what a change puts
 abbrev pub put_path : (directory : Path) → Option Path → List Path
 put_path directory None = []
-put_path directory (Some place) = named_path directory (last_name place)
+put_path directory (Some place) = map (λ (front : Path). moved front directory place) (option_to_list (parent_of place))
 
 -- a path leads to a directory that has a name
 pub record HasName (t : Tree) (name : Name) (told : Result Place Refusal) : Type 0 where
@@ -47,7 +39,7 @@ pub record HasName (t : Tree) (name : Name) (told : Result Place Refusal) : Type
   pub node : Node
   pub stands : node_at t (place.path ++ name ∷ []) ≡ Some node
 
--- These are paths of a directory, and among them all with a watched name at which there is something.
-pub record AreWatchedIn (tree : Tree) (directory : Path) (paths : List Path) : Type 0 where
-  pub whole : (name : Name) (kind : WatchedKind) → watched_kind name ≡ Some kind → HasName tree name (followed tree true directory) → IsIn paths (directory ++ name ∷ [])
+-- These are paths of a directory, and among them all at which there is something.
+pub record ArePathsIn (tree : Tree) (directory : Path) (paths : List Path) : Type 0 where
+  pub whole : (name : Name) → HasName tree name (followed tree true directory) → IsIn paths (directory ++ name ∷ [])
   pub only : (path : Path) → IsIn paths path → (name : Name) × (path ≡ directory ++ name ∷ [])

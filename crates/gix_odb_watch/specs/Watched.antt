@@ -1,5 +1,5 @@
 -- Which paths are watched: the indices, the packs and the multi-pack index that are in the `pack` directory of a folder.
-use Rattle.std.specs.Prelude.{◌≡◌, ◌++◌, ◌||◌, ℕ, Bool, true, false, List, [], ◌∷◌, codes, nat_eq, Option, Some, None, Ok, if◌then◌else◌}
+use Rattle.std.specs.Prelude.{◌≡◌, ◌++◌, ◌||◌, ℕ, List, [], ◌∷◌, codes, nat_eq, Option, Some, None, Ok, if◌then◌else◌}
 use Rattle.std.specs.List.{ends_with}
 use Rattle.odb_base.specs.Path.{Name, Path, same_name}
 use Rattle.odb_disk.specs.Tree.{Tree}
@@ -17,19 +17,10 @@ watched_kind name =
     if ends_with nat_eq name (codes ".idx") || ends_with nat_eq name (codes ".pack") then Some PackOrIndex
     else (if same_name name (codes "multi-pack-index") then Some MultiIndex else None)
 
-abbrev pub is_some_kind : Option WatchedKind → Bool
-is_some_kind None = false
-is_some_kind (Some kind) = true
-
 -- the kind of a path's last name, if it has one
 abbrev pub named_kind : Option Name → Option WatchedKind
 named_kind None = None
 named_kind (Some name) = watched_kind name
-
--- whether a path has a last name, and one that is watched
-abbrev pub is_watched_name : Option Name → Bool
-is_watched_name None = false
-is_watched_name (Some name) = is_some_kind (watched_kind name)
 
 -- The time under which a file's bytes count, by the time that the file has. An index or a pack has the same bytes at all times; a
 -- multi-pack index at one time.

@@ -1,8 +1,8 @@
 //! What was shown first, by path and time.
-ghost use Rattle.std.specs.Prelude.{◌≡◌, IfOk, OnOk};
+ghost use Rattle.std.specs.Prelude.{◌≡◌, ◌∷◌, [], OnOk};
 ghost use Rattle.std.specs.List.{list_any};
 ghost use Rattle.std.specs.FinMap as finite;
-ghost use Rattle.gix_odb_watch.specs.Files.{differs, with_file, with_files};
+ghost use Rattle.gix_odb_watch.specs.Files.{KeepsFiles, differs};
 
 use crate::shown_file::ShownFile;
 use odb_base::{ByteList, NoMemory, PathText};
@@ -38,6 +38,7 @@ impl Contents {
     }
 
     /// Returns whether other bytes than a file's are kept under its key.
+    #[tactic(auto, using(crate::proofs::FilesLemmas::differs_absent, crate::proofs::FilesLemmas::differs_there))]
     fn differs(&self, file: &ShownFile) -> bool
         ensures differs { result ≡ differs self.now file.now }
     {
@@ -56,7 +57,7 @@ impl Contents {
 
     /// Keeps what a file shows, unless something is kept under its key.
     fn keep(&mut self, file: ShownFile) -> Result<(), NoMemory>
-        ensures kept { OnOk result (self.new ≡ with_file self.old file) }
+        ensures kept { OnOk result (KeepsFiles self.old (file ∷ []) self.new) }
     {
         let ShownFile { key, bytes } = file;
         if self.bytes.contains_key(&key) {
@@ -67,8 +68,9 @@ impl Contents {
     }
 
     /// Keeps what files show, one by one.
+    #[tactic(auto, using(crate::proofs::FilesLemmas::keeps_none, crate::proofs::FilesLemmas::keeps_next))]
     pub(crate) fn keep_all(&mut self, files: Vec<ShownFile>) -> Result<(), NoMemory>
-        ensures kept { OnOk result (self.new ≡ with_files self.old files.items) }
+        ensures kept { OnOk result (KeepsFiles self.old files.items self.new) }
     {
         for file in files {
             self.keep(file)?;

@@ -4,8 +4,9 @@
 //! ```rust
 //! let mut shown = Shown::new(alloc);
 //! shown.watch(alloc, &folder, disk.tree())?;
-//! if !shown.is_second(alloc, disk.tree(), &change)? {
-//!     shown.note(alloc, disk.tree(), &change)?;
+//! let revealed = shown.revealed(alloc, disk.tree(), &change)?;
+//! if !shown.has_second(&revealed) {
+//!     shown.keep(revealed)?;
 //!     disk.change(alloc, &change)?;
 //! }
 //! ```
@@ -13,7 +14,6 @@
 
 mod contents;
 mod linked;
-mod names;
 mod over;
 mod revealed;
 mod shown;

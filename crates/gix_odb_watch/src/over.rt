@@ -2,12 +2,12 @@
 ghost use Rattle.std.specs.Prelude.{◌≡◌, true, IfOk, Some};
 ghost use Rattle.std.specs.List.{starts_with};
 ghost use Rattle.std.specs.Option.{option_copied, option_map};
+ghost use Rattle.std.specs.Result.{result_ok};
 ghost use Rattle.odb_base.specs.Path.{same_name};
-ghost use Rattle.odb_disk.specs.Tree.{IsTree};
-ghost use Rattle.odb_disk.specs.Tree.Change.{changed, is_possible_in, longer, timed};
-ghost use Rattle.gix_odb_watch.specs.Over.{IsLaid, content_at, laid_over, moved, origin_of, place_put};
+ghost use Rattle.odb_disk.specs.Tree.Change.{longer, timed};
+ghost use Rattle.odb_disk.specs.Tree.Write.{file_spot};
+ghost use Rattle.gix_odb_watch.specs.Over.{content_at, laid_over, longer_over, moved, origin_of, over_of, place_put};
 
-use crate::names::behind;
 use crate::touched::file_spot;
 use odb_base::{ByteList, NoMemory, PathText};
 use odb_disk::{Change, Content};
@@ -24,11 +24,9 @@ pub(crate) enum Over {
     Moved(PathText, PathText),
 }
 
-/// Returns what a possible change lays over a tree.
+/// Returns what a change lays over a tree.
 pub(crate) fn over_of(alloc: Global, tree: &Tree, change: &Change) -> Result<Over, NoMemory>
-    requires is_tree { IsTree tree.now }
-    requires possible { is_possible_in tree.now change.now ≡ true }
-    ensures laid { IfOk result (λ over. IsLaid tree.now over (changed tree.now change.now)) }
+    ensures over { IfOk result (λ over. over ≡ over_of tree.now change.now) }
 {
     match change {
         Change::PutFile { path, time, bytes } => file_at(alloc, path, *time, bytes),
@@ -67,13 +65,11 @@ fn moved_to(alloc: Global, from: &PathText, to: &PathText) -> Result<Over, NoMem
 
 /// Returns what an append lays over: a longer file where the path leads.
 fn longer(alloc: Global, tree: &Tree, path: &PathText, more: &ByteList) -> Result<Over, NoMemory>
-    requires is_tree { IsTree tree.now }
-    requires possible { is_possible_in tree.now (Change.Append path.now more.now) ≡ true }
-    ensures laid { IfOk result (λ over. IsLaid tree.now over (changed tree.now (Change.Append path.now more.now))) }
+    ensures over { IfOk result (λ over. over ≡ longer_over tree.now more.now (result_ok (file_spot tree.now path.now))) }
 {
     match file_spot(alloc, tree, path)? {
         Some(place) => longer_at(alloc, tree, place, more),
-        None => unreachable!("the path leads to a file"),
+        None => Ok(Over::Nothing),
     }
 }
 
@@ -171,7 +167,7 @@ pub(crate) fn put_place<'a>(over: &'a Over) -> Option<&'a PathText>
 }
 
 /// Returns what lies below one path, below another.
-fn moved(
+pub(crate) fn moved(
     alloc: Global,
     from: &PathText,
     to: &PathText,
@@ -180,6 +176,8 @@ fn moved(
     requires behind { starts_with same_name path.now from.now ≡ true }
     ensures moved { IfOk result (λ result. result ≡ moved from.now to.now path.now) }
 {
-    let rest = behind(alloc, path, from)?;
-    to.followed_by(alloc, &rest)
+    match path.strip_prefix(alloc, from)? {
+        Some(rest) => to.followed_by(alloc, &rest),
+        None => unreachable!("the path begins with the other one"),
+    }
 }

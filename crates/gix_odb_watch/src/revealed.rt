@@ -1,14 +1,16 @@
 //! What a change would make watched paths show.
-ghost use Rattle.std.specs.Prelude.{◌≡◌, ◌++◌, [], ◌∷◌, List, map, IfOk, OnOk};
-ghost use Rattle.odb_base.specs.Path.{Path};
+ghost use Rattle.std.specs.Prelude.{◌≡◌, ◌++◌, [], ◌∷◌, map, IfOk, OnOk};
+ghost use Rattle.std.specs.List.{filter, flat_map};
 ghost use Rattle.odb_disk.specs.Tree.{IsTree};
 ghost use Rattle.gix_odb_watch.specs.Files.{file_at};
-ghost use Rattle.gix_odb_watch.specs.Revealed.{AreListed, AreRead, IsSeen, Links, Spot};
+ghost use Rattle.gix_odb_watch.specs.Revealed.{HasUnder, IsSeen, IsUnder, linked_at};
+ghost use Rattle.gix_odb_watch.specs.Touched.{Adds, AddsEach, Spot, is_watched};
+ghost use Rattle.gix_odb_watch.specs.Watched.{pack_directory};
 
 use crate::shown_file::{ShownFile, add_file};
 use crate::sight::Sight;
-use crate::touched::{Touched, add_pair};
-use crate::watched::pack_directory;
+use crate::touched::add_pair;
+use crate::watched::{named_kind, pack_directory};
 use odb_base::{NoMemory, PathText};
 use odb_mem_disk::Tree;
 use std::alloc::Global;
@@ -34,128 +36,111 @@ impl Revealed {
     }
 }
 
-/// Returns what touched folders and paths show.
-pub(crate) fn seen(alloc: Global, sight: &Sight<'_>, touched: Touched) -> Result<Revealed, NoMemory>
-    ensures seen { IfOk result (IsSeen sight.now touched.folders.items touched.named.items) }
+/// Returns what touched paths show.
+pub(crate) fn seen(
+    alloc: Global,
+    sight: &Sight<'_>,
+    touched: Vec<(PathText, PathText)>,
+) -> Result<Revealed, NoMemory>
+    ensures seen { IfOk result (IsSeen sight.now touched.items) }
 {
-    let Touched { folders, mut named } = touched;
-    let mut linked = Vec::new(alloc);
-    list_all(alloc, sight, folders, &mut named, &mut linked)?;
-    let mut revealed = Revealed {
-        files: Vec::new(alloc),
-        linked,
-    };
-    read_all(alloc, sight, named, &mut revealed)?;
+    let mut spots = Vec::new(alloc);
+    list_all(alloc, sight, touched, &mut spots)?;
+    let mut revealed = Revealed::nothing(alloc);
+    read_all(alloc, sight, spots, &mut revealed)?;
     Ok(revealed)
 }
 
 /// Returns what a folder shows in a tree as it is.
 pub(crate) fn seen_now(alloc: Global, folder: &PathText, tree: &Tree) -> Result<Revealed, NoMemory>
     requires is_tree { IsTree tree.now }
-    ensures seen { IfOk result (IsSeen tree.now (folder.now ∷ []) []) }
+    ensures seen { IfOk result (IsSeen tree.now ((folder.now, pack_directory folder.now) ∷ [])) }
 {
-    let mut folders = Vec::new(alloc);
-    folders.push(folder.try_clone(alloc)?)?;
-    let touched = Touched {
-        folders,
-        named: Vec::new(alloc),
-    };
-    seen(alloc, &Sight::now(tree), touched)
+    let mut spots = Vec::new(alloc);
+    add_pair(alloc, folder, pack_directory(alloc, folder)?, &mut spots)?;
+    seen(alloc, &Sight::now(tree), spots)
 }
 
-/// Adds the watched paths of folders at which there is something to those that are to be read.
+/// Adds what is to be read of touched paths: each of them, and the watched paths of pack directories.
+#[tactic(auto, using(crate::proofs::ListLemmas::each_first, crate::proofs::ListLemmas::each_next))]
 fn list_all(
     alloc: Global,
     sight: &Sight<'_>,
-    folders: Vec<PathText>,
+    touched: Vec<(PathText, PathText)>,
     spots: &mut Vec<(PathText, PathText)>,
-    linked: &mut Vec<PathText>,
 ) -> Result<(), NoMemory>
-    requires none { linked.old.items ≡ [] }
-    ensures listed { OnOk result (AreListed sight.now folders.items spots.old.items spots.new.items linked.new.items) }
+    ensures listed { OnOk result (AddsEach IsUnder (HasUnder sight.now) touched.items spots.old.items spots.new.items) }
 {
-    for folder in folders {
-        list(alloc, sight, &folder, spots, linked)?;
+    for (folder, path) in touched {
+        list(alloc, sight, &folder, path, spots)?;
     }
     Ok(())
 }
 
-/// Adds the watched paths of a folder, and the folder to the linked ones where a link leads on from its directory.
+#[tactic(auto, using(crate::proofs::RevealedLemmas::lists_own, crate::proofs::RevealedLemmas::lists_under))]
 fn list(
     alloc: Global,
     sight: &Sight<'_>,
     folder: &PathText,
+    path: PathText,
     spots: &mut Vec<(PathText, PathText)>,
-    linked: &mut Vec<PathText>,
 ) -> Result<(), NoMemory>
-    ensures listed { OnOk result ((folders : List Path) (named : List Spot) → AreListed sight.now folders named spots.old.items linked.old.items → AreListed sight.now (folders ++ folder.now ∷ []) named spots.new.items linked.new.items) }
+    ensures listed { OnOk result (Adds (IsUnder (folder.now, path)) (HasUnder sight.now (folder.now, path)) spots.old.items spots.new.items) }
 {
-    let directory = pack_directory(alloc, folder)?;
-    link_if_led(alloc, sight, folder, &directory, linked)?;
-    let paths = sight.watched_paths(alloc, &directory)?;
-    add_spots(alloc, folder, paths, spots)
+    if named_kind(&path).is_some() {
+        return add_pair(alloc, folder, path, spots);
+    }
+    let paths = sight.paths_in(alloc, &path)?;
+    add_watched(alloc, folder, paths, spots)?;
+    add_pair(alloc, folder, path, spots)
 }
 
-/// Adds paths with their folder.
-fn add_spots(
+/// Adds the watched ones among paths with their folder.
+fn add_watched(
     alloc: Global,
     folder: &PathText,
     paths: Vec<PathText>,
     spots: &mut Vec<(PathText, PathText)>,
 ) -> Result<(), NoMemory>
-    ensures added { OnOk result (spots.new.items ≡ spots.old.items ++ map (λ path. (folder.now, path)) paths.items) }
+    ensures added { OnOk result (spots.new.items ≡ spots.old.items ++ map (λ path. (folder.now, path)) (filter is_watched paths.items)) }
 {
     for path in paths {
-        add_pair(alloc, folder, path, spots)?;
+        if named_kind(&path).is_some() {
+            add_pair(alloc, folder, path, spots)?;
+        }
     }
     Ok(())
 }
 
-/// Adds what paths show, and their folders to the linked ones where a path follows a link.
+/// Adds what paths show, and their folders to the linked ones where a link leads on from a path.
 fn read_all(
     alloc: Global,
     sight: &Sight<'_>,
     spots: Vec<(PathText, PathText)>,
     revealed: &mut Revealed,
 ) -> Result<(), NoMemory>
-    requires none { revealed.old.files.items ≡ [] }
-    ensures read { OnOk result (AreRead sight.now spots.items revealed.old.linked.items revealed.new) }
+    ensures files { OnOk result (revealed.new.files.items ≡ revealed.old.files.items ++ flat_map (λ (spot : Spot). file_at sight.now spot.1) spots.items) }
+    ensures linked { OnOk result (revealed.new.linked.items ≡ revealed.old.linked.items ++ flat_map (linked_at sight.now) spots.items) }
 {
     for (folder, path) in spots {
-        read(alloc, sight, &folder, path, revealed)?;
+        link_if_led(alloc, sight, folder, &path, &mut revealed.linked)?;
+        add_file(alloc, sight, path, &mut revealed.files)?;
     }
     Ok(())
 }
 
-/// Adds what a path of a folder shows, and the folder to the linked ones where the path follows a link.
-fn read(
-    alloc: Global,
-    sight: &Sight<'_>,
-    folder: &PathText,
-    path: PathText,
-    revealed: &mut Revealed,
-) -> Result<(), NoMemory>
-    ensures links { OnOk result (Links sight.now folder.now path revealed.old.linked.items revealed.new.linked.items) }
-    ensures added { OnOk result (revealed.new.files.items ≡ revealed.old.files.items ++ file_at sight.now path) }
-{
-    link_if_led(alloc, sight, folder, &path, &mut revealed.linked)?;
-    add_file(alloc, sight, path, &mut revealed.files)
-}
-
-/// Adds a folder to the linked ones where a link leads on from a path.
+/// Adds the folder of a path to the linked ones where a link leads on from the path.
 fn link_if_led(
     alloc: Global,
     sight: &Sight<'_>,
-    folder: &PathText,
+    folder: PathText,
     path: &PathText,
     linked: &mut Vec<PathText>,
 ) -> Result<(), NoMemory>
-    ensures links { OnOk result (Links sight.now folder.now path.now linked.old.items linked.new.items) }
+    ensures linked { OnOk result (linked.new.items ≡ linked.old.items ++ linked_at sight.now (folder, path.now)) }
 {
-    let led = sight.leads_on(alloc, path)?;
-    if !led {
-        return Ok(());
+    if sight.leads_on(alloc, path)? {
+        linked.push(folder)?;
     }
-    linked.push(folder.try_clone(alloc)?)?;
     Ok(())
 }

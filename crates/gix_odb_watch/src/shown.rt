@@ -65,28 +65,6 @@ impl Shown {
         self.learn(revealed)
     }
 
-    /// Returns whether a watched path would show a second content after a change.
-    pub fn is_second(&self, alloc: Global, tree: &Tree, change: &Change) -> Result<bool, NoMemory>
-        requires fits { Fits self.now tree.now }
-        requires possible { is_possible_in tree.now change.now ≡ true }
-        ensures second { IfOk result (λ second. IsTrue second ↔ IsSecond self.now (changed tree.now change.now)) }
-    {
-        let revealed = self.revealed(alloc, tree, change)?;
-        Ok(self.has_second(&revealed))
-    }
-
-    /// Notes what a change makes watched paths show, by the tree before the change.
-    pub fn note(&mut self, alloc: Global, tree: &Tree, change: &Change) -> Result<(), NoMemory>
-        requires fits { Fits self.old tree.now }
-        requires possible { is_possible_in tree.now change.now ≡ true }
-        requires first { IsSecond self.old (changed tree.now change.now) → ⊥ }
-        ensures notes { OnOk result (Notes self.old self.old.folders (changed tree.now change.now) self.new) }
-        ensures fits { OnOk result (Fits self.new (changed tree.now change.now)) }
-    {
-        let revealed = self.revealed(alloc, tree, change)?;
-        self.keep(revealed)
-    }
-
     /// Returns what a change would make watched paths show, except what they show already.
     pub fn revealed(
         &self,
@@ -99,7 +77,7 @@ impl Shown {
         ensures revealed { IfOk result (IsRevealed self.now.folders tree.now (changed tree.now change.now)) }
     {
         let touched = touched_by(alloc, &self.folders, &self.linked, tree, change)?;
-        if touched.is_nothing() {
+        if touched.is_empty() {
             return Ok(Revealed::nothing(alloc));
         }
         let after = Sight::after(alloc, tree, change)?;
@@ -114,6 +92,7 @@ impl Shown {
     }
 
     /// Keeps what a change made watched paths show, in which there is no second content.
+    #[tactic(auto, using(crate::proofs::KeptLemmas::keep_notes, crate::proofs::KeptLemmas::keep_fits))]
     pub fn keep(&mut self, revealed: Revealed) -> Result<(), NoMemory>
         ensures notes { OnOk result ((before after : TreeValue) → Fits self.old before → IsRevealed self.old.folders before after revealed → Notes self.old self.old.folders after self.new) }
         ensures fits { OnOk result ((before after : TreeValue) → Fits self.old before → IsRevealed self.old.folders before after revealed → (IsSecond self.old after → ⊥) → Fits self.new after) }

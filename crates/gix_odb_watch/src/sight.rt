@@ -2,7 +2,7 @@
 ghost use Rattle.std.specs.Prelude.{◌≡◌, ◌++◌, [], true, None, Some, is_some, IfOk, OnOk};
 ghost use Rattle.std.specs.Option.{option_copied};
 ghost use Rattle.std.specs.Result.{result_ok};
-ghost use Rattle.odb_base.specs.Path.{Path, parent_of};
+ghost use Rattle.odb_base.specs.Path.{Path};
 ghost use Rattle.odb_disk.specs.Tree.{IsTree};
 ghost use Rattle.odb_disk.specs.Tree.Change.{changed, is_possible_in};
 ghost use Rattle.odb_disk.specs.Tree.Follow.{at_last, file_of, followed_within, pass, read_of};
@@ -10,12 +10,11 @@ ghost use Rattle.odb_disk.specs.declared.node.Node.{Node};
 ghost use Rattle.odb_mem_disk.specs.PassCalls.{onward_of};
 ghost use Rattle.gix_odb_watch.specs.Files.{listed_paths};
 ghost use Rattle.gix_odb_watch.specs.Over.{content_at, place_put};
-ghost use Rattle.gix_odb_watch.specs.Sight.{AreWatchedIn, IsEnd, IsFound, put_path};
+ghost use Rattle.gix_odb_watch.specs.Sight.{ArePathsIn, IsEnd, IsFound, put_path};
 
-use crate::names::{behind, behind_directory, joined};
-use crate::over::{Over, content, origin, over_of, put_place};
+use crate::over::{Over, content, moved, origin, over_of, put_place};
 use crate::shown_file::listed;
-use crate::watched::{has_watched_name, watched_kind};
+use crate::watched::joined;
 use odb_base::{ByteList, NoMemory, PathText};
 use odb_disk::{Change, Content};
 use odb_mem_disk::Tree;
@@ -103,6 +102,7 @@ impl<'a> Sight<'a> {
     }
 
     /// Returns the bytes and the time of the file that a path leads to, if it leads to one.
+    #[tactic(auto, using(crate::proofs::SightLemmas::found_read, crate::proofs::SightLemmas::refused_read))]
     pub(crate) fn read(
         &self,
         alloc: Global,
@@ -116,13 +116,13 @@ impl<'a> Sight<'a> {
         }
     }
 
-    /// Returns the paths of a directory at whose names there is something, as far as these are watched, and perhaps more.
-    pub(crate) fn watched_paths(
+    /// Returns the paths of a directory at which there is something, and perhaps more.
+    pub(crate) fn paths_in(
         &self,
         alloc: Global,
         directory: &PathText,
     ) -> Result<Vec<PathText>, NoMemory>
-        ensures watched { IfOk result (λ paths. AreWatchedIn self.now directory.now paths.items) }
+        ensures paths { IfOk result (λ paths. ArePathsIn self.now directory.now paths.items) }
     {
         match self.follow(alloc, directory, MAX_LINKS)? {
             None => Ok(Vec::new(alloc)),
@@ -162,7 +162,9 @@ impl<'a> Sight<'a> {
             None => match path.parent(alloc)? {
                 None => Ok(End::Nowhere),
                 Some(directory) => match self.pass(alloc, &directory)? {
-                    End::Onward(onward) => led_on(alloc, &onward, path, &directory),
+                    End::Onward(onward) => Ok(End::Onward(moved(
+                        alloc, &directory, &onward, path,
+                    )?)),
                     End::At(_) => Ok(End::Nowhere),
                     End::Nowhere => Ok(End::Nowhere),
                 },
@@ -194,20 +196,6 @@ fn end_at<'a>(alloc: Global, content: &'a Content) -> Result<End<'a>, NoMemory>
     }
 }
 
-/// Returns where a link leads that leads on from a directory, for a path in the directory.
-fn led_on<'a>(
-    alloc: Global,
-    onward: &PathText,
-    path: &PathText,
-    directory: &PathText,
-) -> Result<End<'a>, NoMemory>
-    requires parent { parent_of path.now ≡ Some directory.now }
-    ensures end { IfOk result (λ end. (rest : Path) → directory.now ++ rest ≡ path.now → end ≡ End.Onward (onward.now ++ rest)) }
-{
-    let rest = behind(alloc, path, directory)?;
-    Ok(End::Onward(onward.followed_by(alloc, &rest)?))
-}
-
 /// Returns the bytes and the time of a file. Anything else has none.
 fn file_of(alloc: Global, content: &Content) -> Result<Option<(ByteList, u64)>, NoMemory>
     ensures file { IfOk result (λ file. file ≡ result_ok (file_of content.now)) }
@@ -218,7 +206,7 @@ fn file_of(alloc: Global, content: &Content) -> Result<Option<(ByteList, u64)>, 
     }
 }
 
-/// Returns the watched paths of a directory by where it was before the change, and that of what the change puts.
+/// Returns the paths of a directory by where it was before the change, and that of what the change puts.
 fn paths_at(
     alloc: Global,
     tree: &Tree,
@@ -234,7 +222,7 @@ fn paths_at(
     Ok(paths)
 }
 
-/// Adds the watched paths of a directory at whose names there is something, by another path that leads to it.
+/// Adds the paths of a directory at which there is something, by another path that leads to it.
 fn add_listed(
     alloc: Global,
     tree: &Tree,
@@ -246,14 +234,13 @@ fn add_listed(
 {
     let mut entries = listed(alloc, tree, listed_at)?;
     while let Some(entry) = entries.pop() {
-        if watched_kind(entry.name.as_str()).is_some() {
-            paths.push(joined(alloc, directory, &entry.name)?)?;
-        }
+        paths.push(joined(alloc, directory, &entry.name)?)?;
     }
     Ok(())
 }
 
-/// Adds the path of a directory with the last name of what the change puts, if that is watched.
+/// Adds the path of a directory with the last name of what the change puts.
+#[tactic(auto, using(crate::proofs::EntryLemmas::begins_directory))]
 fn add_put(
     alloc: Global,
     over: &Over,
@@ -265,9 +252,9 @@ fn add_put(
     let Some(place) = put_place(over) else {
         return Ok(());
     };
-    let last = behind_directory(alloc, place)?;
-    if has_watched_name(place) {
-        paths.push(directory.followed_by(alloc, &last)?)?;
-    }
+    let Some(front) = place.parent(alloc)? else {
+        return Ok(());
+    };
+    paths.push(moved(alloc, &front, directory, place)?)?;
     Ok(())
 }

@@ -1,13 +1,12 @@
-//! Which watched folders and paths a change touches, by the places that it is made at.
-ghost use Rattle.std.specs.Prelude.{◌≡◌, ◌++◌, ◌∷◌, [], true, IfOk, OnOk, Some};
+//! Which watched paths a change touches, by the places that it is made at.
+ghost use Rattle.std.specs.Prelude.{◌≡◌, ◌++◌, ◌∷◌, [], map, IfOk, OnOk, Some};
 ghost use Rattle.std.specs.Result.{result_ok};
-ghost use Rattle.odb_base.specs.Path.{Path, last_name, parent_of};
+ghost use Rattle.odb_base.specs.Path.{parent_of};
 ghost use Rattle.odb_disk.specs.Tree.Write.{file_spot};
-ghost use Rattle.gix_odb_watch.specs.Kept.{IsIn};
-ghost use Rattle.gix_odb_watch.specs.Touched.{AddsBelow, AddsInside, AddsNamed, AreTouched, TellsFolder, is_folder_of, places_of};
-ghost use Rattle.gix_odb_watch.specs.Watched.{is_watched_name};
+ghost use Rattle.gix_odb_watch.specs.Touched.{Adds, AreTouched, IsAmong, IsInside, IsTouched, TellsFolder, directory_of, is_folder_of, places_of};
+ghost use Rattle.gix_odb_watch.specs.Watched.{pack_directory};
 
-use crate::watched::{has_watched_name, pack_directory};
+use crate::watched::{named_kind, pack_directory};
 use odb_base::{ByteList, NoMemory, PathText};
 use odb_disk::{Change, DiskError};
 use odb_mem_disk::{Tree, end_of};
@@ -16,109 +15,74 @@ use std::collections::BTreeSet;
 use std::collections::btree_set::Range;
 use std::ops::Bound;
 
-/// What a change touches.
-#[derive(Drop)]
-pub(crate) struct Touched {
-    /// The folders that are linked, and those whose pack directory lies at one of the places of the change or below it.
-    pub folders: Vec<PathText>,
-    /// The watched paths among the places, with their folders.
-    pub named: Vec<(PathText, PathText)>,
-}
-
-impl Touched {
-    pub(crate) fn is_nothing(&self) -> bool
-        ensures folders { result ≡ true → self.now.folders.items ≡ [] }
-        ensures named { result ≡ true → self.now.named.items ≡ [] }
-    {
-        self.folders.is_empty() && self.named.is_empty()
-    }
-}
-
+/// Returns what a change touches, each path with its folder: the pack directories of linked folders, those that lie at
+/// one of its places or below it, and the watched paths among its places.
+#[tactic(auto, using(crate::proofs::TouchedLemmas::touched_first, crate::proofs::TouchedLemmas::touched_next))]
 pub(crate) fn touched_by(
     alloc: Global,
     watched: &BTreeSet<PathText>,
     linked: &BTreeSet<PathText>,
     tree: &Tree,
     change: &Change,
-) -> Result<Touched, NoMemory>
-    requires linked { (folder : Path) → IsIn linked.now.keys folder → IsIn watched.now.keys folder }
-    ensures touched { IfOk result (λ touched. AreTouched watched.now.keys linked.now.keys (places_of tree.now change.now) touched.folders.items touched.named.items) }
+) -> Result<Vec<(PathText, PathText)>, NoMemory>
+    ensures touched { IfOk result (λ spots. AreTouched watched.now.keys linked.now.keys (places_of tree.now change.now) spots.items) }
 {
     let places = places_of(alloc, tree, change)?;
-    let mut touched = all_of(alloc, linked)?;
+    let mut spots = Vec::new(alloc);
+    add_inside(alloc, linked, &PathText::root(alloc), &mut spots)?;
     for place in places {
-        add_touched(alloc, watched, &place, &mut touched)?;
+        add_touched(alloc, watched, &place, &mut spots)?;
     }
-    Ok(touched)
-}
-
-/// Returns all folders of a set as touched.
-fn all_of(alloc: Global, set: &BTreeSet<PathText>) -> Result<Touched, NoMemory>
-    ensures folders { IfOk result (λ touched. AddsInside set.now.keys [] [] touched.folders.items) }
-    ensures named { IfOk result (λ touched. touched.named.items ≡ []) }
-{
-    let mut folders = Vec::new(alloc);
-    add_inside(alloc, set, &PathText::root(alloc), &mut folders)?;
-    Ok(Touched {
-        folders,
-        named: Vec::new(alloc),
-    })
+    Ok(spots)
 }
 
 /// Adds what a change at a place touches.
+#[tactic(auto, using(crate::proofs::TouchedLemmas::touched_none))]
 fn add_touched(
     alloc: Global,
     watched: &BTreeSet<PathText>,
     place: &PathText,
-    touched: &mut Touched,
+    spots: &mut Vec<(PathText, PathText)>,
 ) -> Result<(), NoMemory>
-    ensures below { OnOk result (AddsBelow watched.now.keys place.now touched.old.folders.items touched.new.folders.items) }
-    ensures named { OnOk result (AddsNamed watched.now.keys place.now touched.old.named.items touched.new.named.items) }
+    ensures added { OnOk result (Adds (IsAmong watched.now.keys) (IsTouched watched.now.keys place.now) spots.old.items spots.new.items) }
 {
-    add_below(alloc, watched, place, &mut touched.folders)?;
-    add_named(alloc, watched, place, &mut touched.named)
-}
-
-/// Adds the folders whose pack directory lies at a place or below it.
-fn add_below(
-    alloc: Global,
-    watched: &BTreeSet<PathText>,
-    place: &PathText,
-    folders: &mut Vec<PathText>,
-) -> Result<(), NoMemory>
-    ensures added { OnOk result (AddsBelow watched.now.keys place.now folders.old.items folders.new.items) }
-{
-    add_inside(alloc, watched, place, folders)?;
-    match folder_of(alloc, watched, place)? {
+    add_inside(alloc, watched, place, spots)?;
+    let Some(directory) = directory_of(alloc, place)? else {
+        return Ok(());
+    };
+    match folder_of(alloc, watched, &directory)? {
         None => Ok(()),
-        Some(folder) => add_folder(folders, folder),
+        Some(folder) => add_pair(alloc, &folder, place.try_clone(alloc)?, spots),
     }
 }
 
-fn add_folder(folders: &mut Vec<PathText>, folder: PathText) -> Result<(), NoMemory>
-    ensures added { OnOk result (folders.new.items ≡ folders.old.items ++ folder ∷ []) }
+/// Returns the directory of a path whose name is watched, and any other path itself.
+fn directory_of(alloc: Global, path: &PathText) -> Result<Option<PathText>, NoMemory>
+    ensures directory { IfOk result (λ directory. directory ≡ directory_of path.now) }
 {
-    folders.push(folder)?;
-    Ok(())
+    match named_kind(path) {
+        Some(_) => path.parent(alloc),
+        None => Ok(Some(path.try_clone(alloc)?)),
+    }
 }
 
-/// Adds the folders that lie at a place or below it. They follow one another, from the place on.
+/// Adds the pack directories of folders that lie at a place or below it. These follow one another, from the place on.
 fn add_inside(
     alloc: Global,
-    watched: &BTreeSet<PathText>,
+    folders: &BTreeSet<PathText>,
     place: &PathText,
-    folders: &mut Vec<PathText>,
+    spots: &mut Vec<(PathText, PathText)>,
 ) -> Result<(), NoMemory>
-    ensures added { OnOk result (AddsInside watched.now.keys place.now folders.old.items folders.new.items) }
+    ensures added { OnOk result (Adds (IsAmong folders.now.keys) (IsInside folders.now.keys place.now) spots.old.items spots.new.items) }
 {
     match end_of(alloc, place)? {
         None => {
-            let inside = watched.range((Bound::Included(place), Bound::Unbounded));
-            add_each(alloc, inside, folders)
+            let inside = folders.range((Bound::Included(place), Bound::Unbounded));
+            add_each(alloc, inside, spots)
         }
         Some(end) => {
-            let inside = watched.range((Bound::Included(place), Bound::Excluded(&end)));
-            add_each(alloc, inside, folders)
+            let inside = folders.range((Bound::Included(place), Bound::Excluded(&end)));
+            add_each(alloc, inside, spots)
         }
     }
 }
@@ -126,17 +90,18 @@ fn add_inside(
 fn add_each(
     alloc: Global,
     inside: Range<'_, PathText>,
-    folders: &mut Vec<PathText>,
+    spots: &mut Vec<(PathText, PathText)>,
 ) -> Result<(), NoMemory>
-    ensures added { OnOk result (folders.new.items ≡ folders.old.items ++ inside.entry) }
+    ensures added { OnOk result (spots.new.items ≡ spots.old.items ++ map (λ folder. (folder, pack_directory folder)) inside.entry) }
 {
     for folder in inside {
-        folders.push(folder.try_clone(alloc)?)?;
+        add_pair(alloc, folder, pack_directory(alloc, folder)?, spots)?;
     }
     Ok(())
 }
 
 /// Returns the watched folder of which this is the pack directory.
+#[tactic(auto, using(crate::proofs::TouchedLemmas::tells_root))]
 fn folder_of(
     alloc: Global,
     watched: &BTreeSet<PathText>,
@@ -150,6 +115,7 @@ fn folder_of(
     }
 }
 
+#[tactic(auto, using(crate::proofs::TouchedLemmas::tells_none, crate::proofs::TouchedLemmas::tells_own))]
 fn folder_if(
     alloc: Global,
     watched: &BTreeSet<PathText>,
@@ -176,42 +142,6 @@ fn is_folder_of(
 {
     let packs = pack_directory(alloc, folder)?;
     Ok(watched.contains(folder) && packs == *directory)
-}
-
-/// Adds a place with its folder, if it is a watched path.
-fn add_named(
-    alloc: Global,
-    watched: &BTreeSet<PathText>,
-    place: &PathText,
-    named: &mut Vec<(PathText, PathText)>,
-) -> Result<(), NoMemory>
-    ensures added { OnOk result (AddsNamed watched.now.keys place.now named.old.items named.new.items) }
-{
-    if !has_watched_name(place) {
-        return Ok(());
-    }
-    match place.parent(alloc)? {
-        None => Ok(()),
-        Some(directory) => add_named_in(alloc, watched, &directory, place, named),
-    }
-}
-
-/// Adds a watched name in a directory with its folder.
-fn add_named_in(
-    alloc: Global,
-    watched: &BTreeSet<PathText>,
-    directory: &PathText,
-    place: &PathText,
-    named: &mut Vec<(PathText, PathText)>,
-) -> Result<(), NoMemory>
-    requires parent { parent_of place.now ≡ Some directory.now }
-    requires watched { is_watched_name (last_name place.now) ≡ true }
-    ensures added { OnOk result (AddsNamed watched.now.keys place.now named.old.items named.new.items) }
-{
-    match folder_of(alloc, watched, directory)? {
-        None => Ok(()),
-        Some(folder) => add_pair(alloc, &folder, place.try_clone(alloc)?, named),
-    }
 }
 
 /// Adds a path with its folder.

@@ -1,9 +1,9 @@
-//! Which names of a pack directory are watched.
-ghost use Rattle.std.specs.Prelude.{◌≡◌, IfOk};
-ghost use Rattle.odb_base.specs.Path.{last_name};
-ghost use Rattle.gix_odb_watch.specs.Watched.{counted, is_watched_name, named_kind, pack_directory, watched_kind};
+//! Names in directories, and which of a pack directory are watched.
+ghost use Rattle.std.specs.Prelude.{◌≡◌, ◌++◌, ◌∷◌, [], true, IfOk};
+ghost use Rattle.odb_base.specs.Path.{is_name, last_name};
+ghost use Rattle.gix_odb_watch.specs.Watched.{counted, named_kind, pack_directory, watched_kind};
 
-use odb_base::{BadPath, NoMemory, PathText};
+use odb_base::{BadPath, NoMemory, PathName, PathText};
 use std::alloc::Global;
 
 /// What a watched name stands for.
@@ -26,7 +26,23 @@ pub(crate) fn pack_directory(alloc: Global, folder: &PathText) -> Result<PathTex
     }
 }
 
-/// Returns the kind of a name in it that is watched.
+/// Returns the path of a name in a directory.
+pub(crate) fn joined(
+    alloc: Global,
+    directory: &PathText,
+    name: &PathName,
+) -> Result<PathText, NoMemory>
+    requires named { is_name name.now ≡ true }
+    ensures path { IfOk result (λ path. path ≡ directory.now ++ name.now ∷ []) }
+{
+    match directory.join(alloc, name.as_str()) {
+        Ok(path) => Ok(path),
+        Err(BadPath::Malformed) => unreachable!("an entry has a name"),
+        Err(BadPath::NoMemory) => Err(NoMemory),
+    }
+}
+
+/// Returns the kind of a name in a pack directory that is watched.
 pub(crate) fn watched_kind(name: &str) -> Option<WatchedKind>
     ensures kind { result ≡ watched_kind name.now }
 {
@@ -47,16 +63,6 @@ pub(crate) fn named_kind(path: &PathText) -> Option<WatchedKind>
     match path.file_name() {
         Some(name) => watched_kind(name),
         None => None,
-    }
-}
-
-/// Returns whether a path has a last name, and one that is watched.
-pub(crate) fn has_watched_name(path: &PathText) -> bool
-    ensures watched { result ≡ is_watched_name (last_name path.now) }
-{
-    match path.file_name() {
-        Some(name) => watched_kind(name).is_some(),
-        None => false,
     }
 }
 

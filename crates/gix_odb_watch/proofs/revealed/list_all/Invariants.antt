@@ -1,6 +1,7 @@
-use Rattle.gix_odb_watch.specs.Revealed.{AreListed}
+use Rattle.gix_odb_watch.specs.Revealed.{HasUnder, IsUnder}
+use Rattle.gix_odb_watch.specs.Touched.{AddsEach}
 use Rattle.gix_odb_watch.proofs.revealed.list_all.Given as goal
 
--- the folders so far are listed
+-- what is read of those so far is added
 abbrev pub invariant-loop-folder : goal.invariant-loop-folder
-invariant-loop-folder l = AreListed l.sight l.yielded l.fn.spots.items l.spots.items l.linked.items
+invariant-loop-folder l = AddsEach IsUnder (HasUnder l.sight) l.yielded l.fn.spots.items l.spots.items

@@ -2,7 +2,7 @@ use Rattle.std.proofs.Common.{◌++◌, ap, refl}
 use Rattle.std.specs.Ordering.{is_gt}
 use Rattle.std.specs.declared.ops.Bound.TheVariants.{Excluded, Unbounded}
 use Rattle.std.proofs.lemmas.Result.{on_ok_weaker}
-use Rattle.gix_odb_watch.proofs.FolderLemmas.{inside_range, not_past, starts_before}
+use Rattle.gix_odb_watch.proofs.TouchedLemmas.{inside_range, not_past, starts_before}
 use Rattle.gix_odb_watch.proofs.touched.add_inside.Goals as goal
 
 pub range-inside-requires-in-Some : goal.range-inside-requires-in-Some
@@ -13,7 +13,7 @@ returns-in-None c = record {
   added =
       on_ok_weaker c.add_each.result
       (λ added.
-      inside_range c.args.watched.now.keys c.args.place.now c.args.folders.now.items c.add_each.new.folders.items c.range-inside.result Unbounded
+      inside_range c.args.folders.now.keys c.args.place.now c.args.spots.now.items c.add_each.new.spots.items c.range-inside.result Unbounded
       (c.range-inside.ensures.between tt) (λ rest. refl) added)
       c.add_each.ensures.added;
 }
@@ -25,7 +25,7 @@ returns-in-Some c =
       added =
           on_ok_weaker c.add_each-in-Some.result
           (λ added.
-          inside_range c.args.watched.now.keys c.args.place.now c.args.folders.now.items c.add_each-in-Some.new.folders.items c.range-inside-in-Some.result (Excluded c.in-Some.end)
+          inside_range c.args.folders.now.keys c.args.place.now c.args.spots.now.items c.add_each-in-Some.new.spots.items c.range-inside-in-Some.result (Excluded c.in-Some.end)
           (c.range-inside-in-Some.ensures.between tt) (λ rest. not_past (c.args.place.now ++ rest) c.in-Some.end (before rest)) added)
           c.add_each-in-Some.ensures.added;
     }

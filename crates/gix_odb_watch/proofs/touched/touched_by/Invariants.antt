@@ -3,4 +3,4 @@ use Rattle.gix_odb_watch.proofs.touched.touched_by.Given as goal
 
 -- what the places so far touch
 abbrev pub invariant-loop-place : goal.invariant-loop-place
-invariant-loop-place l = AreTouched l.watched.keys l.linked.keys l.yielded l.touched.folders.items l.touched.named.items
+invariant-loop-place l = AreTouched l.watched.keys l.linked.keys l.yielded l.spots.items

@@ -1,8 +1,8 @@
-use Rattle.std.proofs.Common.{◌∙◌, true, [], arith, sym, subst}
+use Rattle.std.proofs.Common.{◌∙◌, ap, arith, sym, subst}
 use Rattle.std.proofs.lemmas.Result.{IfOk-weaker}
-use Rattle.odb_disk.specs.Tree.Follow.{pass}
+use Rattle.odb_disk.specs.Tree.Follow.{Onward}
 use Rattle.gix_odb_watch.specs.Sight.{IsEnd}
-use Rattle.gix_odb_watch.specs.declared.sight.End.{End}
+use Rattle.gix_odb_watch.proofs.EntryLemmas.{begins_directory}
 use Rattle.gix_odb_watch.proofs.SightLemmas.{nowhere_end, onward_end, reached_end, root_end, shorter_directory, there_end}
 use Rattle.gix_odb_watch.proofs.sight.Sight.+pass.Goals as goal
 
@@ -18,16 +18,15 @@ returns-in-None-2 t c = record {
       (sym c.in_ok-parent-in-None.ensures.parent ∙ c.in-None-2.is));
 }
 
-pub returns-in-Onward : goal.returns-in-Onward
-returns-in-Onward t c =
-    let led = onward_end c.args.self.now c.content.ensures.is_tree c.args.path.now (rw c.in-None.is at c.in_ok-content.ensures.content) c.in-Some-2.directory
-    (sym c.in_ok-parent-in-None.ensures.parent ∙ c.in-Some-2.is) c.in-Onward.onward (rw c.in-Onward.is at c.in_ok-onward-in-Some-2.ensures.end) in
-    record {
-      end = IfOk-weaker c.led_on.result _ _ (λ end so. subst (λ (e : End). IsEnd c.args.path.now e (pass c.args.self.now true [] c.args.path.now)) (sym (so led.0 led.1)) led.2) c.led_on.ensures.end;
-    }
+pub moved-requires : goal.moved-requires
+moved-requires t c = record { behind = begins_directory c.args.path.now c.in-Some-2.directory (sym c.in_ok-parent-in-None.ensures.parent ∙ c.in-Some-2.is) }
 
-pub led_on-requires : goal.led_on-requires
-led_on-requires t c = record { parent = sym c.in_ok-parent-in-None.ensures.parent ∙ c.in-Some-2.is }
+pub returns-in-Onward : goal.returns-in-Onward
+returns-in-Onward t c = record {
+  end = onward_end c.args.self.now c.content.ensures.is_tree c.args.path.now (rw c.in-None.is at c.in_ok-content.ensures.content) c.in-Some-2.directory
+      (sym c.in_ok-parent-in-None.ensures.parent ∙ c.in-Some-2.is) c.in-Onward.onward (rw c.in-Onward.is at c.in_ok-onward-in-Some-2.ensures.end)
+      ∙ ap Onward (sym c.in_ok-moved-in-Onward.ensures.moved);
+}
 
 -- the directory has fewer names
 pub pass-requires : goal.pass-requires
