@@ -12,7 +12,7 @@ use std::test::Fail;
 use test_words::{Text, cut};
 
 /// Whether an event can happen.
-fn can_happen(core: &Core, seat: u32, event: &Event) -> bool
+pub fn can_happen(core: &Core, seat: u32, event: &Event) -> bool
     ensures can_happen { result ≡ true → CanHappen (present core.now) seat event.now }
 {
     match event {

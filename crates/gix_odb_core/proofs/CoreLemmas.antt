@@ -10,7 +10,7 @@ use Rattle.gix_odb_core.specs.Core.{IsCore, shape_of}
 use Rattle.gix_odb_core.specs.Possible.{IsComplete, IsPossible, lacks_memory}
 use Rattle.gix_odb_core.specs.Replay.{Appends, CanHappen, IsLegal, IsNeverRefused, IsNext, answer_of, number_behind, replay}
 use Rattle.gix_odb_events.specs.Answers.{Answer}
-use Rattle.gix_odb_core.specs.State.{IsNextState, IsSameState, entries_in, entry_of}
+use Rattle.gix_odb_core.specs.State.{IsNextState, IsRefusedState, IsSameState, entries_in, entry_of}
 use Rattle.gix_odb_core.specs.Steps.{after}
 use Rattle.gix_odb_core.specs.declared.apply.Opening.{Opening}
 use Rattle.gix_odb_events.specs.declared.event.Event.{Event}
@@ -27,12 +27,6 @@ cases_memory (Ok effect) = inr (λ h. cc)
 cases_memory (Err refusals.NoMemory) = inl refl
 cases_memory (Err refusals.GenerationOverflow) = inr (λ h. cc)
 cases_memory (Err (refusals.InsufficientSlots current needed)) = inr (λ h. cc)
-
-has_memory : (answer : Answer) → ¬ (answer ≡ Err refusals.NoMemory) → not (lacks_memory answer) ≡ true
-has_memory (Ok effect) some = refl
-has_memory (Err refusals.NoMemory) some = absurd (some refl)
-has_memory (Err refusals.GenerationOverflow) some = refl
-has_memory (Err (refusals.InsufficientSlots current needed)) some = refl
 
 pub never_refused-other : (happens : Event) (answer : Answer) → ¬ (happens ≡ event.Remove) → IsNeverRefused happens answer
 never_refused-other (event.Register stable) answer other = tt
@@ -53,7 +47,6 @@ module _ (opening : Opening) (old now : State) (core : IsCore (record { opening 
         replayed = same.shape ∙ core.replayed ∙ ap (replay (shape_of opening)) (sym same.entries);
         legal = subst (λ (l : List Entry). IsLegal (shape_of opening) l) (sym same.entries) core.legal;
         possible = subst (λ (l : List Entry). IsPossible (shape_of opening) l) (sym same.entries) core.possible;
-        complete = subst IsComplete (sym same.entries) core.complete;
       }
 
   module _ (seat : ℕ) (happens : Event) (answer : Answer) (next : IsNextState old seat happens answer now) (some : ¬ (answer ≡ Err refusals.NoMemory)) where
@@ -80,12 +73,34 @@ module _ (opening : Opening) (old now : State) (core : IsCore (record { opening 
               (IsLegal-push (shape_of opening) (entries_in old) (entry_of (entries_in old) seat happens answer) core.legal stands);
           possible = subst (λ (l : List Entry). IsPossible (shape_of opening) l) (sym next.entries)
               (possible_journal_grows (entries_in old) (shape_of opening) (entry_of (entries_in old) seat happens answer) core.possible can);
-          complete = subst IsComplete (sym next.entries)
-              (All-push (λ (e : Entry). not (lacks_memory e.answer) ≡ true) (entries_in old) (entry_of (entries_in old) seat happens answer) core.complete (has_memory answer some));
         }
 
     pub appends : Appends (shape_of opening) (entries_in old) (entries_in now) seat happens answer
     appends = (entry_of (entries_in old) seat happens answer, next.entries, stands, refl, refl, refl)
+
+  -- an event that is refused for lack of memory leaves an entry, and nothing else
+  module _ (seat : ℕ) (happens : Event) (refused : IsRefusedState old seat happens now) where
+    abbrev last : Entry
+    last = entry_of (entries_in old) seat happens (Err refusals.NoMemory)
+
+    lacking : IsNext (shape_of opening) (entries_in old) last
+    lacking = record { numbered = refl; answered = inl refl }
+
+    pub unchanged-refused : replay (shape_of opening) (entries_in now) ≡ replay (shape_of opening) (entries_in old)
+    unchanged-refused = ap (replay (shape_of opening)) refused.entries ∙ replay-push (shape_of opening) (entries_in old) last
+
+    pub core-refused : CanHappen (replay (shape_of opening) (entries_in old)) seat happens → IsCore (record { opening = opening; state = now })
+    core-refused can =
+        record {
+          kept = refused.kept;
+          replayed = refused.shape ∙ core.replayed ∙ sym unchanged-refused;
+          legal = subst (λ (l : List Entry). IsLegal (shape_of opening) l) (sym refused.entries) (IsLegal-push (shape_of opening) (entries_in old) last core.legal lacking);
+          possible = subst (λ (l : List Entry). IsPossible (shape_of opening) l) (sym refused.entries)
+              (possible_journal_grows (entries_in old) (shape_of opening) last core.possible can);
+        }
+
+    pub appends-refused : Appends (shape_of opening) (entries_in old) (entries_in now) seat happens (Err refusals.NoMemory)
+    appends-refused = (last, refused.entries, lacking, refl, refl, refl)
 
 -- the answer is that of the replay, unless memory ran out
 pub answer-replayed : (opening : Opening) (old now : State) (core : IsCore (record { opening = opening; state = old })) (seat : ℕ) (happens : Event) (answer : Answer)
@@ -105,6 +120,22 @@ core-after opening old now core seat happens answer can memory next = elim (case
   | inl lacks ↦ core-same opening old now core (memory lacks)
   | inr some ↦ core-next opening old now core seat happens answer (next some) some can
 ]
+
+-- no entry lacks memory after an event, if none did before: one that memory ran out on leaves none
+pub complete-after : (old now : State) (seat : ℕ) (happens : Event) (answer : Answer)
+    → (answer ≡ Err refusals.NoMemory → IsSameState old now) → (¬ (answer ≡ Err refusals.NoMemory) → IsNextState old seat happens answer now)
+    → IsComplete (entries_in old) → IsComplete (entries_in now)
+complete-after old now seat happens answer memory next complete = elim (cases_memory answer) [
+  | inl lacks ↦ subst IsComplete (sym (memory lacks).entries) complete
+  | inr some ↦ subst IsComplete (sym (next some).entries)
+      (All-push (λ (e : Entry). not (lacks_memory e.answer) ≡ true) (entries_in old) (entry_of (entries_in old) seat happens answer) complete (has_memory answer some))
+]
+  where
+    has_memory : (given : Answer) → ¬ (given ≡ Err refusals.NoMemory) → not (lacks_memory given) ≡ true
+    has_memory (Ok effect) some = refl
+    has_memory (Err refusals.NoMemory) some = absurd (some refl)
+    has_memory (Err refusals.GenerationOverflow) some = refl
+    has_memory (Err (refusals.InsufficientSlots current needed)) some = refl
 
 -- ---- the answer to an event, and what it leaves
 
@@ -148,3 +179,32 @@ module _ (opening : Opening) (old now : State) (core : IsCore (record { opening 
       let some : ¬ (answer ≡ Err refusals.NoMemory) = λ lacks. cc in
       overflow-cause (entries_in old) (replay (shape_of opening) (entries_in old)) (number_behind (entries_in old)) seat happens
       (sym (answered opening old now core seat happens answer (next some) some) ∙ h)
+
+-- ---- an event for whose entry there is room
+
+module _ (opening : Opening) (old now : State) (core : IsCore (record { opening = opening; state = old })) (seat : ℕ) (happens : Event) (answer : Answer)
+    (refused : answer ≡ Err refusals.NoMemory → IsRefusedState old seat happens now) (next : ¬ (answer ≡ Err refusals.NoMemory) → IsNextState old seat happens answer now)
+  where
+    pub core-entered : CanHappen (replay (shape_of opening) (entries_in old)) seat happens → IsCore (record { opening = opening; state = now })
+    core-entered can = elim (cases_memory answer) [
+      | inl lacks ↦ core-refused opening old now core seat happens (refused lacks) can
+      | inr some ↦ core-next opening old now core seat happens answer (next some) some can
+    ]
+
+    pub appends-entered : Appends (shape_of opening) (entries_in old) (entries_in now) seat happens answer
+    appends-entered = elim (cases_memory answer) [
+      | inl lacks ↦ subst (λ (a : Answer). Appends (shape_of opening) (entries_in old) (entries_in now) seat happens a) (sym lacks)
+          (appends-refused opening old now core seat happens (refused lacks))
+      | inr some ↦ appends opening old now core seat happens answer (next some) some
+    ]
+
+-- a refused event leaves the shape, though its entry is there
+pub refused-entered : (opening : Opening) (old now : State) (core : IsCore (record { opening = opening; state = old })) (seat : ℕ) (happens : Event) (answer : Answer)
+    → (answer ≡ Err refusals.NoMemory → IsRefusedState old seat happens now) → (¬ (answer ≡ Err refusals.NoMemory) → IsNextState old seat happens answer now)
+    → OnErr answer (replay (shape_of opening) (entries_in now) ≡ replay (shape_of opening) (entries_in old))
+refused-entered opening old now core seat happens (Ok effect) refused next = tt
+refused-entered opening old now core seat happens (Err refusals.NoMemory) refused next = unchanged-refused opening old now core seat happens (refused refl)
+refused-entered opening old now core seat happens (Err refusals.GenerationOverflow) refused next =
+    leaves opening old now core seat happens refusals.GenerationOverflow (λ h. cc) next
+refused-entered opening old now core seat happens (Err (refusals.InsufficientSlots current needed)) refused next =
+    leaves opening old now core seat happens (refusals.InsufficientSlots current needed) (λ h. cc) next

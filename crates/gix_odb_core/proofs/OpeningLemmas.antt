@@ -33,5 +33,5 @@ opening-kept slots folders generation state made shelf few shelf_is shape_is vie
       counted = refreshes_is ∙ ap refreshes_in (sym entries_is);
       numbered = subst (λ (s : Shape). s.list_no ≤ s.state_id) (sym shape) (omega arith);
       countable = subst IsCountable (sym shape) (opening_countable slots folders generation state few);
-      room = omega (arith, ap (length {A = Entry}) entries_is, ap (λ (s : Shape). length s.handles) shape);
+      room = omega (arith, ap (λ (s : Shape). length s.handles) shape);
     }

@@ -1,5 +1,5 @@
 -- One entry more at the end of a journal, and entries that follow others.
-use Rattle.std.proofs.Common.{◌≡◌, zero, suc, ◌+◌, ◌<◌, ◌≤◌, inl, inr, List, [], ◌∷◌, ◌++◌, length, get_or, take, Option, Some, None, Ok, Err}
+use Rattle.std.proofs.Common.{◌≡◌, ℕ, zero, suc, ◌+◌, ◌<◌, ◌≤◌, inl, inr, List, [], ◌∷◌, ◌++◌, length, get_or, take, Option, Some, None, Ok, Err}
 use Rattle.std.proofs.Common.{refl, sym, ap, subst, ◌∙◌, arith, append_assoc, append-nil, length-append, cond, min}
 use Rattle.std.specs.List.{cons_option, slice_get}
 use Rattle.std.specs.Option.{option_to_list}
@@ -10,10 +10,12 @@ use Rattle.std.proofs.Math.ListN.{get_or-append}
 use Rattle.std.proofs.lemmas.List.Elements.{filter_map-append}
 use Rattle.std.proofs.lemmas.List.Sums.{sum_by_push}
 use Rattle.std.proofs.lemmas.Option.{get_or_from_slice_get, slice_get-get_or, slice_get_within}
-use Rattle.gix_odb_core.specs.Replay.{AreNext, IsLegal, IsNext, after_answer, after_entry, is_refresh, number_behind, passed_by, passed_in, refreshes_in, replay}
+use Rattle.gix_odb_core.specs.Replay.{AreNext, IsLegal, IsNext, after_answer, after_entry, is_refresh, answer_of, number_behind, passed_by, passed_in, passed_with, refreshes_in, replay}
 use Rattle.gix_odb_events.specs.Answers.{Answer}
 use Rattle.gix_odb_core.specs.State.{newest}
 use Rattle.gix_odb_core.specs.Steps.{after}
+use Rattle.gix_odb_events.specs.declared.event.Event.{Event}
+use Rattle.gix_odb_events.specs.declared.event.Event.TheVariants as event
 use Rattle.gix_odb_events.specs.declared.event.Refusal.TheVariants as refusals
 use Rattle.gix_odb_core.specs.declared.journal.Entry.{Entry}
 use Rattle.gix_odb_core.specs.declared.shape.Shape.{Shape}
@@ -22,12 +24,33 @@ pub replay-push : (shape : Shape) (entries : List Entry) (entry : Entry) → rep
 replay-push shape [] entry = refl
 replay-push shape (first ∷ entries) entry = replay-push (after_entry shape first) entries entry
 
-pub passed_in-push : (entries : List Entry) (entry : Entry) → passed_in (entries ++ entry ∷ []) ≡ passed_in entries ++ option_to_list (passed_by entry.event)
-passed_in-push entries entry = filter_map-append (λ e. passed_by e.event) entries (entry ∷ []) ∙ ap (λ l. passed_in entries ++ l) (only (passed_by entry.event))
+pub passed_in-push : (entries : List Entry) (entry : Entry) → passed_in (entries ++ entry ∷ []) ≡ passed_in entries ++ option_to_list (passed_with entry.event entry.answer)
+passed_in-push entries entry =
+    filter_map-append (λ e. passed_with e.event e.answer) entries (entry ∷ []) ∙ ap (λ l. passed_in entries ++ l) (only (passed_with entry.event entry.answer))
   where
     only : {Y : Type 0} (o : Option Y) → cons_option o [] ≡ option_to_list o
     only None = refl
     only (Some y) = refl
+
+passes_none : (happens : Event) (answer : Answer) → passed_by happens ≡ None → passed_with happens answer ≡ passed_by happens
+passes_none happens (Ok effect) none = refl
+passes_none happens (Err refusal) none = sym none
+
+-- an event that isn't refused for lack of memory passes its file over, if it has one
+pub passed-answer : (entries : List Entry) (shape : Shape) (number seat : ℕ) (happens : Event)
+    → passed_with happens (answer_of entries shape number seat happens) ≡ passed_by happens
+passed-answer entries shape number seat (event.Register stable) = refl
+passed-answer entries shape number seat event.Upgrade = refl
+passed-answer entries shape number seat event.Remove = refl
+passed-answer entries shape number seat event.Look = refl
+passed-answer entries shape number seat event.Report = refl
+passed-answer entries shape number seat (event.PutIndex slot path file) =
+    passes_none (event.PutIndex slot path file) (answer_of entries shape number seat (event.PutIndex slot path file)) refl
+passed-answer entries shape number seat (event.PutPack pack path file) =
+    passes_none (event.PutPack pack path file) (answer_of entries shape number seat (event.PutPack pack path file)) refl
+passed-answer entries shape number seat (event.PassOver slot path why) = refl
+passed-answer entries shape number seat (event.Publish listing) =
+    passes_none (event.Publish listing) (answer_of entries shape number seat (event.Publish listing)) refl
 
 pub refreshes_in-push : (entries : List Entry) (entry : Entry) → refreshes_in (entries ++ entry ∷ []) ≡ refreshes_in entries + cond (is_refresh entry.answer) 1 0
 refreshes_in-push entries entry = sum_by_push (λ (e : Entry). cond (is_refresh e.answer) 1 0) entries entry

@@ -1,7 +1,7 @@
 -- The invariant of a core's fields. No public clause cites this.
 use Rattle.std.specs.Prelude.{◌≡◌}
 use Rattle.gix_odb_core.specs.History.{History}
-use Rattle.gix_odb_core.specs.Possible.{IsComplete, IsPossible}
+use Rattle.gix_odb_core.specs.Possible.{IsPossible}
 use Rattle.gix_odb_core.specs.Replay.{IsLegal, replay}
 use Rattle.gix_odb_core.specs.State.{IsKept, entries_in}
 use Rattle.gix_odb_core.specs.Steps.{opening_shape}
@@ -15,10 +15,9 @@ shape_of opening = opening_shape opening.slots opening.folders opening.generatio
 abbrev pub history_of : Inside → History
 history_of core = record { opening = shape_of core.opening; entries = entries_in core.state }
 
--- the present shape is what the journal replays to, and the journal is legal; each of its events could happen when it came, and none lacked memory
+-- the present shape is what the journal replays to, and the journal is legal; each of its events could happen when it came
 pub record IsCore (core : Inside) : Type 0 where
   pub kept : IsKept core.state
   pub replayed : core.state.shape ≡ replay (shape_of core.opening) (entries_in core.state)
   pub legal : IsLegal (shape_of core.opening) (entries_in core.state)
   pub possible : IsPossible (shape_of core.opening) (entries_in core.state)
-  pub complete : IsComplete (entries_in core.state)

@@ -17,6 +17,7 @@ pub mod Kept
 pub mod Handles
 pub mod Views
 pub mod Metrics
+pub mod Pages
 pub mod Journal
 pub mod Steps
 pub mod Replay
@@ -26,6 +27,7 @@ pub mod Turn
 pub mod State
 pub mod History
 pub mod Core
+pub mod Ready
 pub mod Remains
 pub mod Causes
 pub mod Possible

@@ -2,15 +2,14 @@
 use Rattle.gix_odb_core.specs.Core.{shape_of}
 use Rattle.gix_odb_core.specs.History.{History}
 use Rattle.gix_odb_core.specs.Journal.{entries_of}
-use Rattle.gix_odb_core.specs.Possible.{IsComplete, IsPossible}
+use Rattle.gix_odb_core.specs.Possible.{IsPossible}
 use Rattle.gix_odb_core.specs.Replay.{IsLegal}
 use Rattle.gix_odb_core.specs.declared.apply.Remains.TheInside.{Inside}
 
 abbrev pub history_left : Inside → History
 history_left remains = record { opening = shape_of remains.opening; entries = entries_of remains.journal }
 
--- the journal is legal; each of its events could happen when it came, and none lacked memory
+-- the journal is legal; each of its events could happen when it came
 pub record IsRemains (remains : Inside) : Type 0 where
   pub legal : IsLegal (shape_of remains.opening) (entries_of remains.journal)
   pub possible : IsPossible (shape_of remains.opening) (entries_of remains.journal)
-  pub complete : IsComplete (entries_of remains.journal)

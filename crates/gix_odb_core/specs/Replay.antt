@@ -33,13 +33,18 @@ is_refresh answer = false
 abbrev pub refreshes_in : List Entry → ℕ
 refreshes_in entries = count_by (λ entry. is_refresh entry.answer) entries
 
--- the file that an entry passed over, if it did
+-- the file that an event passes over, if it does
 abbrev pub passed_by : Event → Option Passed
 passed_by (event.PassOver slot path why) = Some (record { path = path; why = why })
 passed_by other = None
 
+-- the file that was passed over by an event with this answer: none if it was refused
+abbrev pub passed_with : Event → Answer → Option Passed
+passed_with happens (Ok effect) = passed_by happens
+passed_with happens (Err refusal) = None
+
 abbrev pub passed_in : List Entry → List Passed
-passed_in entries = filter_map (λ entry. passed_by entry.event) entries
+passed_in entries = filter_map (λ entry. passed_with entry.event entry.answer) entries
 
 -- the report on a shape, after these entries
 abbrev pub report_of : Shape → List Entry → Report

@@ -1,5 +1,5 @@
 -- The present state of a core beside its journal, and the effect of each part of an event's work. Public clauses cite only `newest`.
-use Rattle.std.specs.Prelude.{◌≡◌, ℕ, ◌+◌, ◌≤◌, ◌++◌, List, [], ◌∷◌, length, min, Option, Some, None, vec_capacity, if◌then◌else◌}
+use Rattle.std.specs.Prelude.{◌≡◌, ℕ, ◌+◌, ◌≤◌, ◌++◌, List, [], ◌∷◌, ◌<◌, length, min, Option, Some, None, Err, if◌then◌else◌}
 use Rattle.std.specs.Option.{option_to_list}
 use Rattle.gix_odb_core.specs.Countable.{IsCountable}
 use Rattle.gix_odb_core.specs.Handles.{without_seat}
@@ -12,6 +12,7 @@ use Rattle.gix_odb_core.specs.Turn.{answer_with, handles_after}
 use Rattle.gix_odb_core.specs.Views.{view_of}
 use Rattle.gix_odb_events.specs.declared.event.Event.{Event}
 use Rattle.gix_odb_events.specs.declared.event.Event.TheVariants as event
+use Rattle.gix_odb_events.specs.declared.event.Refusal.TheVariants as refusals
 use Rattle.gix_odb_core.specs.declared.journal.Entry.{Entry}
 use Rattle.gix_odb_core.specs.declared.journal.Journal.{Journal}
 use Rattle.gix_odb_core.specs.declared.shape.Shelf.{Shelf}
@@ -21,7 +22,7 @@ use Rattle.gix_odb_core.specs.declared.turn.Turn.{Turn}
 use Rattle.gix_odb_events.specs.declared.view.View.{View}
 
 abbrev pub entries_in : State → List Entry
-entries_in state = state.journal.entries.items
+entries_in state = state.journal.entries
 
 -- the number of the newest entry, or 0 if there is none
 abbrev pub newest : List Entry → ℕ
@@ -35,7 +36,7 @@ pub record IsKept (state : State) : Type 0 where
   pub counted : state.refreshes ≡ refreshes_in (entries_in state)
   pub numbered : state.shape.list_no ≤ state.shape.state_id
   pub countable : IsCountable state.shape
-  pub room : length (entries_in state) + length state.shape.handles ≤ vec_capacity state.journal.entries
+  pub room : length state.shape.handles ≤ state.journal.room
 
 -- ---- what the parts of the work do
 
@@ -60,7 +61,7 @@ entries_for other = 1
 
 -- a journal has that room, where `handles` handles are registered before the event
 abbrev pub IsRoomFor : Event → ℕ → Journal → Type 0
-IsRoomFor event handles journal = length journal.entries.items + (handles + entries_for event) ≤ vec_capacity journal.entries
+IsRoomFor event handles journal = handles + entries_for event ≤ journal.room
 
 abbrev pub noted : State → ℕ → Event → State
 noted state seat event =
@@ -96,7 +97,17 @@ pub record IsNextState (old : State) (seat : ℕ) (event : Event) (given : Answe
   pub entries : entries_in now ≡ entries_in old ++ entry_of (entries_in old) seat event given ∷ []
   pub kept : IsKept now
 
--- the state after memory ran out: unchanged but for spare room
+-- the state after an event that was refused for lack of memory, and left an entry: nothing else changes
+pub record IsRefusedState (old : State) (seat : ℕ) (event : Event) (now : State) : Type 0 where
+  pub shape : now.shape ≡ old.shape
+  pub entries : entries_in now ≡ entries_in old ++ entry_of (entries_in old) seat event (Err refusals.NoMemory) ∷ []
+  pub kept : IsKept now
+
+-- there is room for one entry more than those that remove the registered handles
+abbrev pub HasRoom : State → Type 0
+HasRoom state = length state.shape.handles < state.journal.room
+
+-- the state after memory ran out, where no entry is left: unchanged but for spare room
 pub record IsSameState (old now : State) : Type 0 where
   pub shape : now.shape ≡ old.shape
   pub entries : entries_in now ≡ entries_in old

@@ -11,7 +11,7 @@ use std::sync::ledger::Ledger;
 
 /// How a core was made.
 #[derive(Clone, Copy)]
-struct Opening {
+pub(crate) struct Opening {
     slots: u16,
     folders: usize,
     generation: u32,
@@ -23,8 +23,8 @@ struct Opening {
 /// It reads no disk and never waits. Its present shape is what the journal replays to.
 #[derive(Drop)]
 pub struct Core {
-    opening: Opening,
-    state: State,
+    pub(crate) opening: Opening,
+    pub(crate) state: State,
 }
 
 impl Model for Core {
@@ -94,9 +94,11 @@ impl Core {
         ensures replayed { ¬ (result ≡ Err Refusal.NoMemory) → present self.new ≡ after (present self.old) seat event }
         ensures appended { ¬ (result ≡ Err Refusal.NoMemory) → Appends self.old.opening self.old.entries self.new.entries seat event result }
 
-        // A refused event leaves slots, list, counters and handles unchanged; `NoMemory` leaves the journal too.
+        // A refused event leaves slots, list, counters and handles unchanged; `NoMemory` leaves the journal too, so no entry
+        // reports it.
         ensures refused { OnErr result (present self.new ≡ present self.old) }
         ensures memory { result ≡ Err Refusal.NoMemory → self.new ≡ self.old }
+        ensures complete { IsComplete self.old.entries → IsComplete self.new.entries }
         ensures never_refused { IsNeverRefused event result }
 
         // Why it is refused.
@@ -136,13 +138,12 @@ impl Core {
         &self.state.view
     }
 
-    /// What happened to it. It is legal, each event could happen when it came, and none was refused for lack of memory.
+    /// What happened to it. It is legal, and each event could happen when it came.
     pub fn journal(&self) -> &Journal
         ensures entries { entries_of result.now ≡ self.now.entries }
         ensures legal { IsLegal self.now.opening self.now.entries }
         ensures opened { IsOpened self.now.opening }
         ensures possible { IsPossible self.now.opening self.now.entries }
-        ensures complete { IsComplete self.now.entries }
     {
         &self.state.journal
     }
@@ -153,7 +154,6 @@ impl Core {
         ensures legal { IsLegal self.opening self.entries }
         ensures opened { IsOpened self.opening }
         ensures possible { IsPossible self.opening self.entries }
-        ensures complete { IsComplete self.entries }
     {
         let Core { opening: _, state } = self;
         state.into_journal()
@@ -225,7 +225,7 @@ impl Remains {
     ghost use Rattle.std.specs.Prelude.{◌≡◌};
     ghost use Rattle.gix_odb_core.specs.History.{opened};
     ghost use Rattle.gix_odb_core.specs.Journal.{entries_of};
-    ghost use Rattle.gix_odb_core.specs.Possible.{IsComplete, IsOpened, IsPossible};
+    ghost use Rattle.gix_odb_core.specs.Possible.{IsOpened, IsPossible};
     ghost use Rattle.gix_odb_core.specs.Replay.{IsLegal};
 
     /// What remains of a core without slots and folders, to which nothing happened. It takes no memory.
@@ -239,9 +239,7 @@ impl Remains {
                 generation: 0,
                 state: 0,
             },
-            journal: Journal {
-                entries: Vec::new(alloc),
-            },
+            journal: Journal::new(alloc),
         }
     }
 
@@ -252,13 +250,12 @@ impl Remains {
         &self.journal
     }
 
-    /// The journal, moved out. It is legal, each event could happen when it came, and none was refused for lack of memory.
+    /// The journal, moved out. It is legal, and each event could happen when it came.
     pub fn into_journal(self) -> Journal
         ensures entries { entries_of result ≡ self.entries }
         ensures legal { IsLegal self.opening self.entries }
         ensures opened { IsOpened self.opening }
         ensures possible { IsPossible self.opening self.entries }
-        ensures complete { IsComplete self.entries }
     {
         let Remains {
             opening: _,

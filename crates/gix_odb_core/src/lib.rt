@@ -24,6 +24,7 @@ mod plan;
 pub mod publish;
 mod publishing;
 pub mod put;
+mod ready;
 pub mod report;
 mod shape;
 mod slot_table;
@@ -41,5 +42,6 @@ pub use gix_odb_events::{
 pub use index_key::compare_paths_counted;
 pub use journal::{Entry, Journal};
 pub use matched::Matched;
+pub use ready::ReadyCore;
 pub use shape::Shape;
 pub use slot_table::SlotTable;

@@ -1,10 +1,10 @@
 //! The present state of a core, beside its journal.
-ghost use Rattle.std.specs.Prelude.{◌≡◌, ◌+◌, ◌<◌, ◌≤◌, ◌++◌, ◌∷◌, [], IfOk, OnOk, OnErr, length, vec_capacity, vec_len, if◌then◌else◌};
+ghost use Rattle.std.specs.Prelude.{◌≡◌, ◌+◌, ◌<◌, ◌≤◌, ◌++◌, ◌∷◌, [], IfOk, OnOk, OnErr, length, if◌then◌else◌};
 ghost use Rattle.gix_odb_core.specs.Countable.{LeavesFewPacks};
 ghost use Rattle.gix_odb_core.specs.Handles.{IsRegistered};
 ghost use Rattle.gix_odb_core.specs.Replay.{CanHappen, IsNeverRefused, is_refresh, number_behind, report_of};
 ghost use Rattle.gix_odb_core.specs.Steps.{opening_shape};
-ghost use Rattle.gix_odb_core.specs.State.{IsKept, IsNextState, IsPlan, IsRoomFor, IsSameState, entered, entries_for, entries_in, entry_of, noted, removed, settled_with};
+ghost use Rattle.gix_odb_core.specs.State.{HasRoom, IsKept, IsNextState, IsPlan, IsRefusedState, IsRoomFor, IsSameState, entered, entries_for, entries_in, entry_of, noted, removed, settled_with};
 ghost use Rattle.gix_odb_core.specs.Turn.{turn_of};
 ghost use Rattle.gix_odb_events.specs.PackId.{most_slots};
 
@@ -85,7 +85,7 @@ impl State {
     ) -> Result<State, NoMemory>
         requires few { slots ≤ most_slots }
         ensures shape { IfOk result (λ state. state.shape ≡ opening_shape slots folders generation state_id) }
-        ensures entries { IfOk result (λ state. state.journal.entries.items ≡ []) }
+        ensures entries { IfOk result (λ state. state.journal.entries ≡ []) }
         ensures kept { IfOk result IsKept }
     {
         let shelf = Shelf::opening(slots, generation, state_id);
@@ -95,16 +95,14 @@ impl State {
             view,
             passed: PassedList::empty(),
             refreshes: 0,
-            journal: Journal {
-                entries: Vec::new(alloc),
-            },
+            journal: Journal::new(alloc),
         })
     }
 
     /// The report of a core on itself.
     fn report(&self, alloc: Global) -> Result<Shared<Report>, NoMemory>
         requires kept { IsKept self.now }
-        ensures report { IfOk result (λ report. report ≡ report_of self.now.shape self.now.journal.entries.items) }
+        ensures report { IfOk result (λ report. report ≡ report_of self.now.shape self.now.journal.entries) }
     {
         let list = self.shape.list.as_slice();
         let listed = report_listed(alloc, self.shape.slots.list(), list)?;
@@ -120,7 +118,7 @@ impl State {
     /// The turn of an event.
     fn turn(&self, alloc: Global, event: &Event) -> Result<Turn, NoMemory>
         requires kept { IsKept self.now }
-        ensures turn { IfOk result (λ turn. turn ≡ turn_of self.now.journal.entries.items self.now.shape event.now) }
+        ensures turn { IfOk result (λ turn. turn ≡ turn_of self.now.journal.entries self.now.shape event.now) }
         ensures few_packs { IfOk result (λ turn. LeavesFewPacks event.now turn.shelf) }
     {
         match event {
@@ -140,17 +138,16 @@ impl State {
 
     /// The number of the next entry, which stays at its greatest value.
     pub(crate) fn next_number(&self) -> u64
-        ensures number { result ≡ number_behind self.now.journal.entries.items }
+        ensures number { result ≡ number_behind self.now.journal.entries }
     {
-        (self.journal.entries.len() as u64).saturating_add(1)
+        (self.journal.len() as u64).saturating_add(1)
     }
 
-    /// Makes room for the event's entry, and for one more for each handle registered after it. An empty journal gets
-    /// exactly this room, since those of most stores stay short.
+    /// Makes room for the event's entry, and for one more for each handle registered after it.
     fn make_room(&mut self, event: &Event) -> Result<(), NoMemory>
         ensures same { self.new ≡ entered self.old self.new.journal }
-        ensures entries { self.new.journal.entries.items ≡ self.old.journal.entries.items }
-        ensures grows { vec_capacity self.old.journal.entries ≤ vec_capacity self.new.journal.entries }
+        ensures entries { self.new.journal.entries ≡ self.old.journal.entries }
+        ensures grows { self.old.journal.room ≤ self.new.journal.room }
         ensures room { OnOk result (IsRoomFor event.now (length self.old.shape.handles) self.new.journal) }
     {
         let handles = self.shape.handles.len();
@@ -158,12 +155,18 @@ impl State {
             Event::Register { .. } => handles + 2,
             _ => handles + 1,
         };
-        if self.journal.entries.is_empty() {
-            self.journal.entries.reserve_exact(room)?;
-        } else {
-            self.journal.entries.reserve(room)?;
-        }
-        Ok(())
+        self.journal.make_room(room)
+    }
+
+    /// Makes room for one entry more than those that remove the registered handles. If memory runs out, only spare room
+    /// changes.
+    pub(crate) fn make_room_for_one(&mut self) -> Result<(), NoMemory>
+        requires kept { IsKept self.old }
+        ensures same { IsSameState self.old self.new }
+        ensures room { OnOk result (HasRoom self.new) }
+    {
+        let handles = self.shape.handles.len();
+        self.journal.make_room(handles + 1)
     }
 
     /// Records an event's effects on the handles and on files passed over. If memory runs out, nothing changes.
@@ -187,7 +190,7 @@ impl State {
     /// The plan of an event.
     fn plan(&self, alloc: Global, event: &Event) -> Result<Plan, NoMemory>
         requires kept { IsKept self.now }
-        ensures plan { IfOk result (λ plan. IsPlan self.now.view (turn_of self.now.journal.entries.items self.now.shape event.now) (number_behind self.now.journal.entries.items) plan) }
+        ensures plan { IfOk result (λ plan. IsPlan self.now.view (turn_of self.now.journal.entries self.now.shape event.now) (number_behind self.now.journal.entries) plan) }
         ensures few_packs { IfOk result (λ plan. LeavesFewPacks event.now plan.shelf) }
     {
         let turn = self.turn(alloc, event)?;
@@ -223,12 +226,12 @@ impl State {
         requires kept { IsKept self.old }
         requires stays { ¬ (event.now ≡ Event.Remove) }
         requires can_happen { CanHappen self.old.shape seat event.now }
-        ensures plan { IfOk result (λ plan. IsPlan self.old.view (turn_of self.old.journal.entries.items self.old.shape event.now) (number_behind self.old.journal.entries.items) plan) }
+        ensures plan { IfOk result (λ plan. IsPlan self.old.view (turn_of self.old.journal.entries self.old.shape event.now) (number_behind self.old.journal.entries) plan) }
         ensures few_packs { IfOk result (λ plan. LeavesFewPacks event.now plan.shelf) }
         ensures noted { OnOk result (self.new ≡ entered (noted self.old seat event.now) self.new.journal) }
         ensures kept { OnErr result (self.new ≡ entered self.old self.new.journal) }
-        ensures entries { self.new.journal.entries.items ≡ self.old.journal.entries.items }
-        ensures grows { vec_capacity self.old.journal.entries ≤ vec_capacity self.new.journal.entries }
+        ensures entries { self.new.journal.entries ≡ self.old.journal.entries }
+        ensures grows { self.old.journal.room ≤ self.new.journal.room }
         ensures room { OnOk result (IsRoomFor event.now (length self.old.shape.handles) self.new.journal) }
         ensures handles { OnOk result (length self.new.shape.handles + 1 ≤ length self.old.shape.handles + entries_for event.now) }
     {
@@ -239,11 +242,11 @@ impl State {
 
     /// Takes over what an event leaves, and journals it.
     fn settle(&mut self, seat: u32, event: Event, plan: Plan) -> Result<Effect, Refusal>
-        requires room { vec_len self.old.journal.entries < vec_capacity self.old.journal.entries }
-        requires counted { self.old.refreshes ≤ vec_len self.old.journal.entries }
+        requires room { 0 < self.old.journal.room }
+        requires counted { self.old.refreshes ≤ length (entries_in self.old) }
         ensures settled { self.new ≡ entered (settled_with self.old plan) self.new.journal }
         ensures entries { entries_in self.new ≡ entries_in self.old ++ entry_of (entries_in self.old) seat event plan.kept ∷ [] }
-        ensures capacity { vec_capacity self.new.journal.entries ≡ vec_capacity self.old.journal.entries }
+        ensures room { self.new.journal.room + 1 ≡ self.old.journal.room }
         ensures answer { result ≡ plan.given }
     {
         let Plan {
@@ -255,36 +258,53 @@ impl State {
         let number = self.next_number();
         self.shape.settle_by(shelf);
         self.view = view;
-        self.refreshes += refreshes_in(&kept);
-        self.journal.entries.push_reserved(Entry {
+        let refreshes = refreshes_in(&kept);
+        self.journal.push(Entry {
             number,
             seat,
             event,
             answer: kept,
         });
+        self.refreshes += refreshes;
         given
     }
 
     /// Removes a handle, and journals it. There has been room for this entry since the handle was registered.
     fn remove(&mut self, seat: u32) -> Result<Effect, Refusal>
-        requires room { vec_len self.old.journal.entries < vec_capacity self.old.journal.entries }
+        requires room { 0 < self.old.journal.room }
         requires registered { IsRegistered self.old.shape.handles seat }
         ensures handles { length self.new.shape.handles + 1 ≡ length self.old.shape.handles }
         ensures removed { self.new ≡ entered (removed self.old seat) self.new.journal }
         ensures entries { entries_in self.new ≡ entries_in self.old ++ entry_of (entries_in self.old) seat Event.Remove (Ok Effect.Removed) ∷ [] }
-        ensures capacity { vec_capacity self.new.journal.entries ≡ vec_capacity self.old.journal.entries }
+        ensures room { self.new.journal.room + 1 ≡ self.old.journal.room }
         ensures answer { result ≡ Ok Effect.Removed }
     {
         let number = self.next_number();
         self.shape.handles.remove(seat);
         self.view.snapshot.entry = number;
-        self.journal.entries.push_reserved(Entry {
+        self.journal.push(Entry {
             number,
             seat,
             event: Event::Remove,
             answer: Ok(Effect::Removed),
         });
         Ok(Effect::Removed)
+    }
+
+    /// Journals an event that is refused for lack of memory. There is room for its entry.
+    pub(crate) fn refuse(&mut self, seat: u32, event: Event)
+        requires kept { IsKept self.old }
+        requires room { HasRoom self.old }
+        ensures refused { IsRefusedState self.old seat event self.new }
+    {
+        let number = self.next_number();
+        self.view.snapshot.entry = number;
+        self.journal.push(Entry {
+            number,
+            seat,
+            event,
+            answer: Err(Refusal::NoMemory),
+        });
     }
 
     /// Applies an event that is no removal.
@@ -316,5 +336,43 @@ impl State {
             return self.remove(seat);
         }
         self.take_in(alloc, seat, event)
+    }
+
+    /// Applies an event for whose entry there is room: it leaves one also if memory runs out.
+    pub(crate) fn enter(
+        &mut self,
+        alloc: Global,
+        seat: u32,
+        event: Event,
+    ) -> Result<Effect, Refusal>
+        requires kept { IsKept self.old }
+        requires room { HasRoom self.old }
+        requires can_happen { CanHappen self.old.shape seat event }
+        ensures refused { result ≡ Err Refusal.NoMemory → IsRefusedState self.old seat event self.new }
+        ensures next { ¬ (result ≡ Err Refusal.NoMemory) → IsNextState self.old seat event result self.new }
+        ensures never_refused { IsNeverRefused event result }
+    {
+        if let Event::Remove = event {
+            return self.remove(seat);
+        }
+        self.enter_other(alloc, seat, event)
+    }
+
+    /// Applies an event that is no removal, and for whose entry there is room.
+    fn enter_other(&mut self, alloc: Global, seat: u32, event: Event) -> Result<Effect, Refusal>
+        requires kept { IsKept self.old }
+        requires room { HasRoom self.old }
+        requires stays { ¬ (event ≡ Event.Remove) }
+        requires can_happen { CanHappen self.old.shape seat event }
+        ensures refused { result ≡ Err Refusal.NoMemory → IsRefusedState self.old seat event self.new }
+        ensures next { ¬ (result ≡ Err Refusal.NoMemory) → IsNextState self.old seat event result self.new }
+    {
+        match self.prepare(alloc, seat, &event) {
+            Ok(plan) => self.settle(seat, event, plan),
+            Err(_) => {
+                self.refuse(seat, event);
+                Err(Refusal::NoMemory)
+            }
+        }
     }
 }

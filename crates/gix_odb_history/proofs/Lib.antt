@@ -3,3 +3,4 @@ pub mod FailedLemmas
 pub mod WriteAsk
 pub mod RefusedLemmas
 pub mod KeptCoreLemmas
+pub mod TakenLemmas

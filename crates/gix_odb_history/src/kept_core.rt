@@ -3,6 +3,7 @@ ghost use Rattle.std.specs.Prelude.{◌≡◌, IfOk, None, OnOk, Some, false, le
 ghost use Rattle.gix_odb_core.specs.Handles.{IsRegistered, registered};
 ghost use Rattle.gix_odb_core.specs.History.{opened, present};
 ghost use Rattle.gix_odb_core.specs.Journal.{entries_of};
+ghost use Rattle.gix_odb_core.specs.Possible.{IsComplete};
 ghost use Rattle.gix_odb_core.specs.Replay.{CanHappen, number_behind};
 ghost use Rattle.gix_odb_events.specs.Answers.{view_in};
 ghost use Rattle.gix_odb_history.specs.Cores.{answer_behind, entered};
@@ -16,7 +17,8 @@ use std::alloc::Global;
 use std::marker::Model;
 use std::mem::replace;
 
-/// The core of a store as a run keeps it, which contracts see as its history.
+/// The core of a store as a run keeps it, which contracts see as its history. No entry of its journal was refused for lack
+/// of memory: then the run ends.
 ///
 /// It is whole while a handle is registered at it. Once the last one is removed no handle can join any more: a handle
 /// joins by making the core, or as a clone of a registered one. Then it is asked only for its journal.
@@ -48,6 +50,7 @@ impl Model for KeptCore {
 impl KeptCore {
     /// A whole core.
     pub(crate) fn held(core: Box<Core>) -> KeptCore
+        requires complete { IsComplete core.value.entries }
         ensures same { result ≡ core.value }
     {
         KeptCore {
@@ -57,6 +60,7 @@ impl KeptCore {
 
     /// A whole core, or what remains of it if no handle is registered.
     fn kept(core: Box<Core>) -> KeptCore
+        requires complete { IsComplete core.value.entries }
         ensures same { result ≡ core.value }
     {
         if core.handle_count() == 0 {
@@ -69,6 +73,7 @@ impl KeptCore {
     /// What remains of a core without a registered handle.
     fn left(core: Box<Core>) -> KeptCore
         requires none { length (present core.value).handles ≡ 0 }
+        requires complete { IsComplete core.value.entries }
         ensures same { result ≡ core.value }
     {
         KeptCore {
@@ -170,6 +175,7 @@ pub(crate) fn register(alloc: Global, core: &mut Core, seat: u32) -> Result<View
     requires free { registered (present core.old).handles seat ≡ None }
     ensures view { IfOk result (λ view. view_in (answer_behind core.old seat (Event.Register false)) ≡ Some view) }
     ensures entered { OnOk result (core.new ≡ entered core.old seat (Event.Register false) (answer_behind core.old seat (Event.Register false))) }
+    ensures complete { IsComplete core.old.entries → IsComplete core.new.entries }
 {
     match core.apply(alloc, seat, Event::Register { stable: false }) {
         Ok(Effect::Seen(view)) => Ok(view),
@@ -189,6 +195,7 @@ fn answered(
     requires can_happen { CanHappen (present core.old) seat event }
     ensures answer { IfOk result (λ answer. answer ≡ answer_behind core.old seat event) }
     ensures entered { OnOk result (core.new ≡ entered core.old seat event (answer_behind core.old seat event)) }
+    ensures complete { IsComplete core.old.entries → IsComplete core.new.entries }
 {
     match core.apply(alloc, seat, event) {
         Ok(effect) => Ok(Ok(effect)),
@@ -200,6 +207,7 @@ fn answered(
 /// A whole core after a registered handle was removed.
 fn whole_without(alloc: Global, mut core: Box<Core>, seat: u32) -> KeptCore
     requires registered { IsRegistered (present core.value).handles seat }
+    requires complete { IsComplete core.value.entries }
     ensures entered { result ≡ entered core.value seat Event.Remove (answer_behind core.value seat Event.Remove) }
 {
     remove(alloc, &mut core, seat);
@@ -210,6 +218,7 @@ fn whole_without(alloc: Global, mut core: Box<Core>, seat: u32) -> KeptCore
 fn remove(alloc: Global, core: &mut Core, seat: u32)
     requires registered { IsRegistered (present core.old).handles seat }
     ensures entered { core.new ≡ entered core.old seat Event.Remove (answer_behind core.old seat Event.Remove) }
+    ensures complete { IsComplete core.old.entries → IsComplete core.new.entries }
 {
     match core.apply(alloc, seat, Event::Remove) {
         Ok(effect) => drop(effect),
@@ -226,6 +235,7 @@ fn number_after(journal: &Journal) -> u64
 }
 
 fn journal_of_whole(core: Box<Core>) -> Journal
+    requires complete { IsComplete core.value.entries }
     ensures entries { entries_of result ≡ core.value.entries }
     ensures journal { IsJournal core.value }
 {
@@ -233,6 +243,7 @@ fn journal_of_whole(core: Box<Core>) -> Journal
 }
 
 fn journal_of_remains(remains: Remains) -> Journal
+    requires complete { IsComplete remains.entries }
     ensures entries { entries_of result ≡ remains.entries }
     ensures journal { IsJournal remains }
 {

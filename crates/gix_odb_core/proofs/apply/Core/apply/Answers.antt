@@ -1,10 +1,12 @@
 use Rattle.std.proofs.Common.{◌≡◌, subst, sym}
 use Rattle.std.specs.Result.{OnErr}
-use Rattle.gix_odb_core.proofs.CoreLemmas.{at_last-after, core-after, refused-after, replayed-after, too_few-after}
+use Rattle.gix_odb_core.proofs.CoreLemmas.{at_last-after, complete-after, core-after, refused-after, replayed-after, too_few-after}
 use Rattle.gix_odb_core.specs.Causes.{HasTooFewSlots, StandsAtLast}
 use Rattle.gix_odb_core.specs.Core.{history_of}
 use Rattle.gix_odb_core.specs.History.{History, present}
+use Rattle.gix_odb_core.specs.Possible.{IsComplete}
 use Rattle.gix_odb_core.specs.Replay.{CanHappen}
+use Rattle.gix_odb_core.specs.State.{entries_in}
 use Rattle.gix_odb_core.specs.Steps.{after}
 use Rattle.gix_odb_core.proofs.apply.Core.apply.Goals as goal
 
@@ -21,6 +23,11 @@ pub returns-clause-refused : goal.returns-clause-refused
 returns-clause-refused c =
     subst (λ (h : History). OnErr c.apply.result (present (history_of (record { opening = c.self.inside.opening; state = c.apply.new.self })) ≡ present h)) c.self.view_is
     (refused-after c.self.inside.opening c.self.inside.state c.apply.new.self c.self.invariant c.args.seat c.args.event c.apply.result c.apply.ensures.memory c.apply.ensures.next)
+
+pub returns-clause-complete : goal.returns-clause-complete
+returns-clause-complete c =
+    subst (λ (h : History). IsComplete h.entries → IsComplete (entries_in c.apply.new.self)) c.self.view_is
+    (complete-after c.self.inside.state c.apply.new.self c.args.seat c.args.event c.apply.result c.apply.ensures.memory c.apply.ensures.next)
 
 pub returns-clause-never_refused : goal.returns-clause-never_refused
 returns-clause-never_refused c = c.apply.ensures.never_refused

@@ -1,6 +1,6 @@
 use Rattle.std.proofs.Common.{subst}
 use Rattle.gix_odb_core.specs.History.{History}
-use Rattle.gix_odb_core.specs.Possible.{IsComplete, IsOpened, IsPossible}
+use Rattle.gix_odb_core.specs.Possible.{IsOpened, IsPossible}
 use Rattle.gix_odb_core.specs.Replay.{IsLegal}
 use Rattle.gix_odb_core.proofs.OpenedLemmas.{opened-core}
 use Rattle.gix_odb_core.proofs.apply.Core.journal.Goals as goal
@@ -13,6 +13,3 @@ returns-clause-opened c = subst (λ (h : History). IsOpened h.opening) c.self.vi
 
 pub returns-clause-possible : goal.returns-clause-possible
 returns-clause-possible c = subst (λ (h : History). IsPossible h.opening h.entries) c.self.view_is c.self.invariant.possible
-
-pub returns-clause-complete : goal.returns-clause-complete
-returns-clause-complete c = subst (λ (h : History). IsComplete h.entries) c.self.view_is c.self.invariant.complete

@@ -11,7 +11,7 @@ use Rattle.gix_odb_core.proofs.state.State.apply.Goals as goal
 pub returns-in-Remove-clause-next : goal.returns-in-Remove-clause-next
 returns-in-Remove-clause-next c = λ some.
     let can = subst (λ (e : Event). CanHappen c.args.self.now.shape c.args.seat e) c.in-Remove.is c.requires.can_happen in
-    let next = removed-next c.args.self.now c.remove.new.self c.args.seat c.requires.kept can c.remove.ensures.removed c.remove.ensures.entries c.remove.ensures.handles c.remove.ensures.capacity in
+    let next = removed-next c.args.self.now c.remove.new.self c.args.seat c.requires.kept can c.remove.ensures.removed c.remove.ensures.entries c.remove.ensures.handles c.remove.ensures.room in
     subst (λ (e : Event). IsNextState c.args.self.now c.args.seat e c.remove.result c.remove.new.self) (sym c.in-Remove.is)
     (subst (λ (a : Answer). IsNextState c.args.self.now c.args.seat event.Remove a c.remove.new.self) (sym c.remove.ensures.answer) next)
 

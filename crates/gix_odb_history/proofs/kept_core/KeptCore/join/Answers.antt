@@ -2,4 +2,4 @@ use Rattle.gix_odb_history.proofs.KeptCoreLemmas.{whole_if_held}
 use Rattle.gix_odb_history.proofs.kept_core.KeptCore.join.Goals as goal
 
 pub unreachable-requires : goal.unreachable-requires
-unreachable-requires c = whole_if_held c.self.inside.state c.args.self.now _ c.self.view_is c.self.invariant c.in-Left.is c.requires.held
+unreachable-requires c = whole_if_held c.self.inside.state c.args.self.now _ c.self.view_is c.self.invariant.left c.in-Left.is c.requires.held
