@@ -1,5 +1,5 @@
 #!/usr/bin/env python3
-"""Growth and memory of `probe_index` over indices and multi-pack indices of many rows. See README.md."""
+"""Growth and memory of `probe_index` over indices and multi-pack indices of many rows, or of many packs. See README.md."""
 
 import argparse
 import os
@@ -12,28 +12,36 @@ import time
 import fuzz_index
 import indices
 
-SIZES = (10000, 40000, 160000)
+# Rows of an index, rows of the multi-pack index of four packs, and packs of one row in one multi-pack index.
+SIZES = {"index": (10000, 40000, 160000), "multi": (10000, 40000, 160000), "packs": (250, 1000, 4000)}
 ROUNDS = 9
 MOST_GROWTH = 4.4
 MEMORY_FACTOR = 3
 MEMORY_BASE = 16 * 1024 * 1024
 
 
-def make(folder):
-    """Writes an index and a multi-pack index of each size."""
-    for size in SIZES:
-        ids = fuzz_index.names(size, 20, size)
-        with open(os.path.join(folder, "%d.index" % size), "wb") as file:
-            file.write(indices.index([(name, 12 + 100 * number) for number, name in enumerate(ids)], 20))
-        rows = [(name, number % 4, 12 + 100 * number) for number, name in enumerate(ids)]
-        with open(os.path.join(folder, "%d.multi" % size), "wb") as file:
-            file.write(indices.multi_index(["pack-%d.idx" % number for number in range(4)], rows, 20))
-
-
-def asked_of(size):
-    """The first, the middle and the last id, and one that is not there."""
+def bytes_of(form, size):
+    """An index of so many rows, a multi-pack index of four packs with so many rows, or one of so many packs."""
     ids = fuzz_index.names(size, 20, size)
-    return [ids[0], ids[len(ids) // 2], ids[-1], bytes(20)]
+    if form == "index":
+        return indices.index([(name, 12 + 100 * number) for number, name in enumerate(ids)], 20)
+    packs = 4 if form == "multi" else size
+    rows = [(name, number % packs, 12 + 100 * number) for number, name in enumerate(ids)]
+    return indices.multi_index(["pack-%04d.idx" % number for number in range(packs)], rows, 20)
+
+
+def make(folder):
+    """Writes an index or a multi-pack index of each form and size."""
+    for form, sizes in SIZES.items():
+        for size in sizes:
+            with open(os.path.join(folder, "%d.%s" % (size, form)), "wb") as file:
+                file.write(bytes_of(form, size))
+
+
+def asked_of(form, size):
+    """An id of each of the packs; else the first, the middle and the last id, and one that is not there."""
+    ids = fuzz_index.names(size, 20, size)
+    return ids if form == "packs" else [ids[0], ids[len(ids) // 2], ids[-1], bytes(20)]
 
 
 def run(program, path, asked, room=None):
@@ -65,21 +73,22 @@ def least_room(program, path, body, asked, most):
 
 def measured(program, folder, form):
     """Prints a line for each size, and tells whether a bound was missed."""
-    missed, best = False, dict.fromkeys(SIZES, float("inf"))
-    paths = {size: os.path.join(folder, "%d.%s" % (size, form)) for size in SIZES}
-    bodies = {size: open(paths[size], "rb").read() for size in SIZES}
-    asked = {size: asked_of(size) for size in SIZES}
+    sizes = SIZES[form]
+    missed, best = False, dict.fromkeys(sizes, float("inf"))
+    paths = {size: os.path.join(folder, "%d.%s" % (size, form)) for size in sizes}
+    bodies = {size: open(paths[size], "rb").read() for size in sizes}
+    asked = {size: asked_of(form, size) for size in sizes}
     for _ in range(ROUNDS):
-        for size in SIZES:
+        for size in sizes:
             made = run(program, paths[size], asked[size])
             if not is_right(bodies[size], asked[size], made):
-                sys.exit("wrong output at %d rows: status %d, %r" % (size, made[1], made[2]))
+                sys.exit("wrong output of %s at %d rows: status %d" % (form, size, made[1]))
             best[size] = min(best[size], made[0])
     print("%6s rows  seconds  growth  room MiB  allowed" % form)
-    for number, size in enumerate(SIZES):
+    for number, size in enumerate(sizes):
         most = MEMORY_FACTOR * len(bodies[size]) + MEMORY_BASE
         room = least_room(program, paths[size], bodies[size], asked[size], most)
-        growth = best[size] / best[SIZES[number - 1]] if number else None
+        growth = best[size] / best[sizes[number - 1]] if number else None
         missed |= bool(growth and growth > MOST_GROWTH) or room is None
         shown = "%6.2f" % growth if growth else "     -"
         print("%11d  %7.4f  %s  %8s  %7.1f" % (size, best[size], shown, room >> 20 if room else "more", most / 2**20))
@@ -95,7 +104,7 @@ def main():
         sys.exit("no program at %s: build it by `rt run` in crates/probe_index" % words.program)
     with tempfile.TemporaryDirectory() as folder:
         make(folder)
-        results = [measured(words.program, folder, form) for form in ("index", "multi")]
+        results = [measured(words.program, folder, form) for form in SIZES]
     if any(results):
         sys.exit("a bound was missed")
 

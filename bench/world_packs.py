@@ -150,11 +150,27 @@ def each_found(count):
     return joined(setup, count, [found(count - 1), *[found(number * (count // 20)) for number in range(20)]])
 
 
+def of_one_index(count):
+    """So many packs of one object and one multi-pack index of them all, and a find in each pack."""
+    stems = ["pack-%05d" % pack for pack in range(count)]
+    setup = [line for pack, stem in enumerate(stems) for line in put(stem, [pack], 1)]
+    packs = ";".join("%s=%s" % (stem, contents([pack])) for pack, stem in enumerate(stems))
+    return joined([*setup, "put /o/pack/multi-pack-index 1 @midx:" + packs], count, [found(pack) for pack in range(count)])
+
+
+def in_slots(count):
+    """So many slots, and five hundred packs of one object that are loaded one after the other."""
+    setup = [line for pack in range(500) for line in put("pack-%05d" % pack, [pack], 1)]
+    return joined(setup, count, [found(pack) for pack in range(500)])
+
+
 CASES = {
     "objects in one pack": (one_pack, (1000, 4000, 16000)),
     "packs": (many_packs, (20, 80, 320)),
     "indices read by a miss": (missed, (500, 2000, 8000)),
     "indices read by a find": (each_found, (500, 2000, 8000)),
+    "packs of one multi-pack index": (of_one_index, (250, 1000, 4000)),
+    "slots around 500 loaded packs": (in_slots, (1000, 8000, 32000)),
     "handles": (handles, (2000, 8000, 32000)),
     "replacements": (replaced, (200, 800)),
     "changes behind a link": (behind_link, (2000, 8000, 32000)),
