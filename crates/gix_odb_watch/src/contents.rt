@@ -5,15 +5,15 @@ ghost use Rattle.std.specs.FinMap as finite;
 ghost use Rattle.gix_odb_watch.specs.Files.{KeepsFiles, differs};
 
 use crate::shown_file::ShownFile;
-use odb_base::{ByteList, NoMemory, PathText};
+use odb_base::{ByteList, NoMemory, PathText, Shared};
 use std::alloc::Global;
 use std::collections::BTreeMap;
 use std::marker::Model;
 
-/// The first bytes that were shown, by path and time.
+/// The first bytes that were shown, by path and time, shared with what showed them.
 #[derive(Drop)]
 pub(crate) struct Contents {
-    bytes: BTreeMap<(PathText, u64), ByteList>,
+    bytes: BTreeMap<(PathText, u64), Shared<ByteList>>,
 }
 
 impl Model for Contents {
@@ -44,7 +44,7 @@ impl Contents {
     {
         match self.bytes.get(&file.key) {
             None => false,
-            Some(first) => *first != file.bytes,
+            Some(first) => *first.value() != *file.bytes.value(),
         }
     }
 

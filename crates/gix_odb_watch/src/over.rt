@@ -9,7 +9,7 @@ ghost use Rattle.odb_disk.specs.Tree.Write.{file_spot};
 ghost use Rattle.gix_odb_watch.specs.Over.{content_at, laid_over, longer_over, moved, origin_of, over_of, place_put};
 
 use crate::touched::file_spot;
-use odb_base::{ByteList, NoMemory, PathText};
+use odb_base::{ByteList, NoMemory, PathText, Shared};
 use odb_disk::{Change, Content};
 use odb_mem_disk::Tree;
 use std::alloc::Global;
@@ -43,7 +43,7 @@ fn file_at(alloc: Global, path: &PathText, time: u64, bytes: &ByteList) -> Resul
     ensures over { IfOk result (λ over. over ≡ Over.At path.now (Some (Content.File bytes.now time))) }
 {
     let place = path.try_clone(alloc)?;
-    let bytes = bytes.try_clone(alloc)?;
+    let bytes = Shared::copy_of(alloc, bytes)?;
     Ok(Over::At(place, Some(Content::File { bytes, time })))
 }
 
@@ -80,7 +80,7 @@ fn longer_at(alloc: Global, tree: &Tree, place: PathText, more: &ByteList) -> Re
         return Ok(Over::At(place, None));
     };
     let mut copy = node.try_clone(alloc)?;
-    copy.append(more.as_slice())?;
+    copy.append(alloc, more.as_slice())?;
     Ok(Over::At(place, Some(copy.content)))
 }
 

@@ -4,17 +4,17 @@ ghost use Rattle.gix_odb_watch.specs.Files.{file_at, listed};
 
 use crate::sight::Sight;
 use crate::watched::{counted, named_kind};
-use odb_base::{ByteList, NoMemory, PathText};
+use odb_base::{ByteList, NoMemory, PathText, Shared};
 use odb_disk::{DiskError, EntryQueue};
 use odb_mem_disk::Tree;
 use std::alloc::Global;
 
-/// What a watched path shows.
+/// What a watched path shows. It shares its bytes with what showed them.
 #[derive(Drop)]
 pub(crate) struct ShownFile {
     /// The path, and the time under which the bytes count.
     pub key: (PathText, u64),
-    pub bytes: ByteList,
+    pub bytes: Shared<ByteList>,
 }
 
 /// Adds what a tree shows at a path, if its name is watched.

@@ -15,7 +15,7 @@ ghost use Rattle.gix_odb_watch.specs.Sight.{ArePathsIn, IsEnd, IsFound, put_path
 use crate::over::{Over, content, moved, origin, over_of, put_place};
 use crate::shown_file::listed;
 use crate::watched::joined;
-use odb_base::{ByteList, NoMemory, PathText};
+use odb_base::{ByteList, NoMemory, PathText, Shared};
 use odb_disk::{Change, Content};
 use odb_mem_disk::Tree;
 use std::alloc::Global;
@@ -101,18 +101,18 @@ impl<'a> Sight<'a> {
         Ok(matches!(self.pass(alloc, path)?, End::Onward(_)))
     }
 
-    /// Returns the bytes and the time of the file that a path leads to, if it leads to one.
+    /// Returns the bytes, shared, and the time of the file that a path leads to, if it leads to one.
     #[tactic(auto, using(crate::proofs::SightLemmas::found_read, crate::proofs::SightLemmas::refused_read))]
     pub(crate) fn read(
         &self,
         alloc: Global,
         path: &PathText,
-    ) -> Result<Option<(ByteList, u64)>, NoMemory>
+    ) -> Result<Option<(Shared<ByteList>, u64)>, NoMemory>
         ensures read { IfOk result (λ file. file ≡ result_ok (read_of self.now path.now)) }
     {
         match self.follow(alloc, path, MAX_LINKS)? {
             None => Ok(None),
-            Some(found) => file_of(alloc, found.content),
+            Some(found) => file_of(found.content),
         }
     }
 
@@ -196,12 +196,12 @@ fn end_at<'a>(alloc: Global, content: &'a Content) -> Result<End<'a>, NoMemory>
     }
 }
 
-/// Returns the bytes and the time of a file. Anything else has none.
-fn file_of(alloc: Global, content: &Content) -> Result<Option<(ByteList, u64)>, NoMemory>
+/// Returns the bytes of a file, which are shared, and its time. Anything else has none.
+fn file_of(content: &Content) -> Result<Option<(Shared<ByteList>, u64)>, NoMemory>
     ensures file { IfOk result (λ file. file ≡ result_ok (file_of content.now)) }
 {
     match content {
-        Content::File { bytes, time } => Ok(Some((bytes.try_clone(alloc)?, *time))),
+        Content::File { bytes, time } => Ok(Some((bytes.try_clone()?, *time))),
         Content::Dir | Content::Link(_) => Ok(None),
     }
 }

@@ -1,7 +1,7 @@
 //! Values with several owners.
-ghost use Rattle.std.specs.Prelude.{◌≡◌, IfOk};
+ghost use Rattle.std.specs.Prelude.{◌≡◌, ◌++◌, IfOk, OnOk, OnErr};
 
-use crate::NoMemory;
+use crate::{ByteList, NoMemory};
 use std::alloc::Global;
 use std::marker::Model;
 use std::sync::Arc;
@@ -10,7 +10,7 @@ use std::sync::Arc;
 ///
 /// It wraps an `Arc`. To contracts, an `Arc` and its clone differ, since the place in memory is a part of it; here
 /// owners of one value are equal.
-#[derive(Drop)]
+#[derive(Debug, Drop)]
 pub struct Shared<T> {
     owner: Arc<T>,
 }
@@ -47,5 +47,45 @@ impl<T> Shared<T> {
         ensures value { result.now ≡ self.now }
     {
         &self.owner
+    }
+}
+
+impl Shared<ByteList> {
+    /// The first owner of a copy of a list.
+    pub fn copy_of(alloc: Global, list: &ByteList) -> Result<Shared<ByteList>, NoMemory>
+        ensures copy { IfOk result (λ copy. copy ≡ list.now) }
+    {
+        let copy = list.try_clone(alloc)?;
+        Shared::new(alloc, copy)
+    }
+
+    /// A copy of the list.
+    pub fn to_list(&self, alloc: Global) -> Result<ByteList, NoMemory>
+        ensures copy { IfOk result (λ list. list ≡ self.now) }
+    {
+        self.value().try_clone(alloc)
+    }
+
+    /// Adds bytes at the end. If the list has other owners, this one gets a list of its own, and theirs stays as it was.
+    /// On error nothing changes.
+    pub fn extend_from_slice(&mut self, alloc: Global, bytes: &[u8]) -> Result<(), NoMemory>
+        ensures ok { OnOk result (self.new ≡ self.old ++ bytes.now) }
+        ensures err { OnErr result (self.new ≡ self.old) }
+    {
+        match Arc::get_mut(&mut self.owner) {
+            Some(list) => list.extend_from_slice(bytes),
+            None => self.extend_copy(alloc, bytes),
+        }
+    }
+
+    /// Gets a list of its own, with bytes added at the end. On error nothing changes.
+    fn extend_copy(&mut self, alloc: Global, bytes: &[u8]) -> Result<(), NoMemory>
+        ensures ok { OnOk result (self.new ≡ self.old ++ bytes.now) }
+        ensures err { OnErr result (self.new ≡ self.old) }
+    {
+        let mut list = self.to_list(alloc)?;
+        list.extend_from_slice(bytes)?;
+        self.owner = Arc::new(alloc, list)?;
+        Ok(())
     }
 }

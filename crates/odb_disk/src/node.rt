@@ -1,12 +1,13 @@
 //! What is at a path: files, directories and links.
 use crate::meta::{Kind, Meta};
-use odb_base::{ByteList, NoMemory, PathText};
+use odb_base::{ByteList, NoMemory, PathText, Shared};
 use std::alloc::Global;
 
 /// What a node holds.
 #[derive(Debug, Drop)]
 pub enum Content {
-    File { bytes: ByteList, time: u64 },
+    /// The bytes of a file are shared by its copies.
+    File { bytes: Shared<ByteList>, time: u64 },
     Dir,
     Link(PathText),
 }
@@ -22,13 +23,13 @@ pub struct Node {
 impl Content {
     ghost use Rattle.std.specs.Prelude.{◌≡◌, IfOk};
 
-    /// A copy of the contents.
+    /// A copy of the contents, which shares the bytes of a file.
     pub fn try_clone(&self, alloc: Global) -> Result<Content, NoMemory>
         ensures copy { IfOk result (λ content. content ≡ self.now) }
     {
         match self {
             Content::File { bytes, time } => Ok(Content::File {
-                bytes: bytes.try_clone(alloc)?,
+                bytes: bytes.try_clone()?,
                 time: *time,
             }),
             Content::Dir => Ok(Content::Dir),
@@ -50,7 +51,7 @@ impl Node {
         ensures meta { result ≡ meta_of self.now }
     {
         let (kind, len, time) = match &self.content {
-            Content::File { bytes, time } => (Kind::File, bytes.len() as u64, *time),
+            Content::File { bytes, time } => (Kind::File, bytes.value().len() as u64, *time),
             Content::Dir => (Kind::Dir, 0, 0),
             Content::Link(_) => (Kind::Link, 0, 0),
         };
@@ -84,13 +85,13 @@ impl Node {
         matches!(&self.content, Content::Link(_))
     }
 
-    /// Appends bytes to a file. A call that fails changes nothing.
-    pub fn append(&mut self, more: &[u8]) -> Result<(), NoMemory>
+    /// Appends bytes to a file; copies of the node stay as they were. A call that fails changes nothing.
+    pub fn append(&mut self, alloc: Global, more: &[u8]) -> Result<(), NoMemory>
         ensures made { OnOk result (self.new ≡ record self.old { content = longer self.old.content more.now }) }
         ensures kept { OnErr result (self.new ≡ self.old) }
     {
         match &mut self.content {
-            Content::File { bytes, .. } => bytes.extend_from_slice(more),
+            Content::File { bytes, .. } => bytes.extend_from_slice(alloc, more),
             Content::Dir | Content::Link(_) => Ok(()),
         }
     }

@@ -49,6 +49,7 @@ pub(crate) fn put_time(nodes: &mut BTreeMap<PathText, Node>, path: &PathText, ti
 
 /// Appends bytes to the file at a path. On error nothing changes.
 pub(crate) fn append(
+    alloc: Global,
     nodes: &mut BTreeMap<PathText, Node>,
     path: &PathText,
     more: &[u8],
@@ -59,7 +60,7 @@ pub(crate) fn append(
 {
     match nodes.get_mut(path) {
         None => Ok(()),
-        Some(node) => node.append(more),
+        Some(node) => node.append(alloc, more),
     }
 }
 

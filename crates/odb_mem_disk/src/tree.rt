@@ -171,12 +171,12 @@ impl Tree {
     }
 
     /// Appends bytes to the file at a path. On error nothing changes.
-    fn append_at(&mut self, path: &PathText, more: &[u8]) -> Result<(), NoMemory>
+    fn append_at(&mut self, alloc: Global, path: &PathText, more: &[u8]) -> Result<(), NoMemory>
         requires stands { IsSome (node_at self.old path.now) }
         requires file { IfSome (node_at self.old path.now) (λ node. is_file_content node.content ≡ true) }
         ensures made { OnOk result ((node : NodeValue) → node_at self.old path.now ≡ Some node → self.new ≡ with_node self.old path.now (record node { content = longer node.content more.now })) }
         ensures kept { OnErr result (self.new ≡ self.old) }
     {
-        append(&mut self.nodes, path, more)
+        append(alloc, &mut self.nodes, path, more)
     }
 }

@@ -3,6 +3,7 @@ use super::Tree;
 use crate::node_map::{free_number, move_node, put_time, take};
 use crate::node_moves::move_below;
 use crate::{ByteList, NoMemory, PathText};
+use odb_base::Shared;
 use odb_disk::{Change, Content, Impossible};
 use std::alloc::Global;
 
@@ -59,7 +60,7 @@ impl Tree {
         ensures made { OnOk result (self.new ≡ changed self.old (Change.PutFile path.now time bytes.now)) }
         ensures kept { OnErr result (self.new ≡ self.old) }
     {
-        let bytes = bytes.try_clone(alloc)?;
+        let bytes = Shared::copy_of(alloc, bytes)?;
         let content = Content::File { bytes, time };
         if self.stands_file(path) {
             self.put_content(path, content);
@@ -178,7 +179,7 @@ impl Tree {
         ensures kept { OnErr result (self.new ≡ self.old) }
     {
         let place = self.file_led_to(alloc, path)?;
-        self.append_at(&place, bytes)
+        self.append_at(alloc, &place, bytes)
     }
 
     /// Removes what is at a path. On error nothing changes.

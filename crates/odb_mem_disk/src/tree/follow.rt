@@ -39,7 +39,7 @@ impl Tree {
     {
         let node = self.follow(alloc, path, true, MAX_LINKS)?;
         match &node.content {
-            Content::File { bytes, time } => Ok((bytes.try_clone(alloc)?, *time)),
+            Content::File { bytes, time } => Ok((bytes.to_list(alloc)?, *time)),
             Content::Dir | Content::Link(_) => Err(DiskError::WrongKind),
         }
     }
