@@ -46,11 +46,17 @@ fn put_count(text: &mut Text, count: usize) {
 }
 
 fn put_index(text: &mut Text, index: Option<LentIndex<'_>>) {
-    text.comma();
     let Some(index) = index else {
+        text.comma();
         text.put("none");
         return;
     };
+    put_lent_index(text, index);
+}
+
+/// Appends an index: its slot and path, the count of its objects, and its packs.
+pub fn put_lent_index(text: &mut Text, index: LentIndex<'_>) {
+    text.comma();
     text.marked("", index.slot as u64);
     text.marked(":", index.path);
     match index.index {

@@ -5,9 +5,10 @@
 //! a single one and `*COUNT` for a multi-pack index of COUNT objects, and then its packs: `-` is unloaded, `!`
 //! missing, `=COUNT` loaded and `~COUNT` garbage.
 use crate::events::{put_event, word_of_why};
+use crate::lent::put_lent_index;
 use gix_odb_core::{
-    Core, Effect, Entry, KeptList, Listed, LoadedIndex, LoadedRest, Metrics, PackFile,
-    PackFileList, Passed, PassedList, Refusal, Report, Shared, SnapshotIndex, Todo, TodoRest, View,
+    Core, Effect, Entry, KeptList, Listed, LoadedRest, Metrics, PackFile, PackFileList, Passed,
+    PassedList, Refusal, Report, Shared, SnapshotIndex, Todo, TodoRest, View,
 };
 use odb_base::NoMemory;
 use test_words::Text;
@@ -73,7 +74,14 @@ fn put_listed_indices(text: &mut Text, rest: Result<LoadedRest, NoMemory>) {
         return;
     };
     for _ in 0..100 {
-        put_index(text, rest.pop());
+        put_first(text, &rest);
+        rest.pass();
+    }
+}
+
+fn put_first(text: &mut Text, rest: &LoadedRest) {
+    if let Some(index) = rest.first() {
+        put_lent_index(text, index);
     }
 }
 
@@ -88,18 +96,7 @@ fn put_index(text: &mut Text, index: Result<Option<SnapshotIndex>, NoMemory>) {
     let Ok(Some(index)) = index else {
         return;
     };
-    text.comma();
-    text.marked("", u64::from(index.slot));
-    text.marked(":", index.path.value());
-    put_loaded(text, &index.index);
-    put_packs(text, index.packs.value());
-}
-
-fn put_loaded(text: &mut Text, index: &LoadedIndex) {
-    match index {
-        LoadedIndex::Single(file) => text.marked("=", u64::from(file.value().num_objects())),
-        LoadedIndex::Multi(file) => text.marked("*", u64::from(file.value().num_objects())),
-    }
+    put_lent_index(text, index.lent());
 }
 
 /// Appends packs, each after a space.

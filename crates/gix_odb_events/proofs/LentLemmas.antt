@@ -3,7 +3,11 @@ use Rattle.std.proofs.Common.{◌≡◌, ℕ, zero, suc, ◌+◌, ◌-◌, ◌<�
 use Rattle.std.specs.List.{cons_option, enumerate_from, filter_map, slice_get}
 use Rattle.std.specs.Option.{option_len}
 use Rattle.std.proofs.lemmas.Option.{same_Some}
+use Rattle.gix_odb_events.specs.Lent.{lent_index}
+use Rattle.gix_odb_events.specs.Shown.{shown_slot}
 use Rattle.gix_odb_events.specs.Slots.{Slot, slot_at}
+use Rattle.gix_odb_events.specs.declared.lent.LentIndex.{LentIndex}
+use Rattle.gix_odb_events.proofs.ShownLemmas.{shown_by_filled}
 
 module _ {X Y : Type 0} (h : X → Option Y) where
   -- ---- how many items
@@ -87,3 +91,11 @@ slot-at_place slots i within = slot_with_place 0 slots i i (omega arith) within
 pub length-enumerate : (n : ℕ) (slots : List Slot) → length (enumerate_from n slots) ≡ length slots
 length-enumerate n [] = refl
 length-enumerate n (slot ∷ slots) = ap (λ (k : ℕ). suc k) (length-enumerate (n + 1) slots)
+
+-- ---- one slot
+
+-- an index that a slot lends has the slot's number, which is in the same bounds
+pub number_below : (place limit : ℕ) (slot : Slot) (index : LentIndex) → Some (lent_index index) ≡ shown_slot place slot → place < limit → index.slot < limit
+number_below place limit slot index is within =
+    let same : index.slot ≡ place = (shown_by_filled place slot (lent_index index) (sym is)).3 in
+    omega (arith, same, within)

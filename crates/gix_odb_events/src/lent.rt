@@ -1,9 +1,10 @@
 //! Indices that are lent by a list of slots: they take no memory, and no call refuses.
-ghost use Rattle.std.specs.Prelude.{◌≡◌, ◌-◌, ◌==◌, ◌&&◌, Some, if◌then◌else◌, is_some, length, option_map, slice_get};
+ghost use Rattle.std.specs.Prelude.{◌≡◌, ◌<◌, ◌≤◌, ◌^◌, ◌-◌, ◌==◌, ◌&&◌, IfSome, Some, drop, if◌then◌else◌, is_some, length, option_map, slice_get};
 ghost use Rattle.gix_odb_events.specs.Lent.{lent_file, lent_index, lent_todo};
-ghost use Rattle.gix_odb_events.specs.Shown.{kept_at, loaded_index, shown_indices, shown_kept, shown_slot, shown_todo, unloaded_slot};
+ghost use Rattle.gix_odb_events.specs.Shown.{first_of, kept_at, loaded_index, shown_indices, shown_kept, shown_slot, shown_todo, unloaded_slot};
 ghost use Rattle.gix_odb_events.specs.Slots.{slot_at};
 
+use crate::loaded::{LoadedIndex, SnapshotIndex};
 use crate::pack_id::IndexId;
 use crate::slot::{Filled, IndexFile, SlotList};
 use crate::{PackFileList, PlaceList};
@@ -31,6 +32,33 @@ pub struct LentIndex<'a> {
 pub struct LentTodo<'a> {
     pub slot: IndexId,
     pub path: &'a PathText,
+}
+
+impl LoadedIndex {
+    /// The file, lent.
+    fn lent(&self) -> LentFile<'_>
+        ensures lent { lent_file result ≡ self.now }
+    {
+        match self {
+            LoadedIndex::Single(file) => LentFile::Single(file.value()),
+            LoadedIndex::Multi(file) => LentFile::Multi(file.value()),
+        }
+    }
+}
+
+impl SnapshotIndex {
+    /// The index, lent.
+    pub fn lent(&self) -> LentIndex<'_>
+        ensures lent { lent_index result ≡ self.now }
+        ensures slot { result.slot < 2 ^ 16 }
+    {
+        LentIndex {
+            slot: self.slot as usize,
+            path: self.path.value(),
+            index: self.index.lent(),
+            packs: self.packs.value(),
+        }
+    }
 }
 
 /// The file of an index, if its bytes are in memory.
@@ -167,6 +195,25 @@ pub(crate) fn shown_after<'a>(
         left = left_with(there, left);
     }
     None
+}
+
+/// The first loaded index of these slots, and how many of them are passed with it: all if none is loaded.
+#[tactic(auto, using(crate::proofs::LentLemmas::number_below))]
+pub(crate) fn first_shown<'a>(slots: &'a SlotList, places: &[u16]) -> (Option<LentIndex<'a>>, usize)
+    ensures first { option_map lent_index result.0 ≡ first_of (shown_indices slots.now places.now) }
+    ensures slot { IfSome result.0 (λ index. index.slot < 2 ^ 16) }
+    ensures rest { shown_indices slots.now (drop result.1 places.now) ≡ drop 1 (shown_indices slots.now places.now) }
+    ensures within { result.1 ≤ length places.now }
+{
+    let mut gone = 0;
+    while gone < places.len() {
+        let place = places[gone];
+        gone += 1;
+        if let Some(index) = lent_at(slots, place as usize) {
+            return (Some(index), gone);
+        }
+    }
+    (None, gone)
 }
 
 /// How many of these slots are to be loaded.

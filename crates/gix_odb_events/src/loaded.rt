@@ -1,15 +1,15 @@
 //! Indices that are loaded or to be loaded: one of them, and the lists.
-ghost use Rattle.std.specs.Prelude.{◌≡◌, ◌==◌, [], Contains, IfOk, OnErr, OnOk, Some, drop, length, option_map, slice_get};
+ghost use Rattle.std.specs.Prelude.{◌≡◌, ◌<◌, ◌^◌, ◌==◌, [], Contains, IfOk, IfSome, OnErr, OnOk, Some, drop, length, option_map, slice_get};
 ghost use Rattle.std.specs.List.{find};
 ghost use Rattle.gix_odb_events.specs.Lent.{lent_index, lent_todo};
 ghost use Rattle.gix_odb_events.specs.Shown.{first_of, shown_indices, shown_kept, shown_todo};
 
 use crate::lent::{
-    LentIndex, LentTodo, count_kept, count_shown, count_unloaded, kept_after, shown_after,
-    unloaded_after,
+    LentIndex, LentTodo, count_kept, count_shown, count_unloaded, first_shown, kept_after,
+    shown_after, unloaded_after,
 };
 use crate::places::PlaceList;
-use crate::shown::{first_shown, first_unloaded, shown_at};
+use crate::shown::{first_unloaded, shown_at};
 use crate::slot::SlotList;
 use crate::{PackFileList, Shared};
 use gix_pack_read::{index, multi_index};
@@ -283,16 +283,24 @@ impl Model for LoadedRest {
 }
 
 impl LoadedRest {
-    /// Takes the first, if one is left. If memory runs out, it takes none.
-    pub fn pop(&mut self) -> Result<Option<SnapshotIndex>, NoMemory>
-        ensures first { IfOk result (λ first. first ≡ first_of self.old) }
-        ensures rest { OnOk result (self.new ≡ drop 1 self.old) }
-        ensures kept { OnErr result (self.new ≡ self.old) }
+    /// The first, if one is left, lent by the slots. It goes through the listed slots before it.
+    pub fn first(&self) -> Option<LentIndex<'_>>
+        ensures lent { option_map lent_index result ≡ first_of self.now }
+        // A listed slot has a number of 16 bits.
+        ensures slot { IfSome result (λ index. index.slot < 2 ^ 16) }
     {
         let of = self.of.value();
-        let (first, gone) = first_shown(&of.slots, &of.list.as_slice()[self.next..])?;
+        let (first, _) = first_shown(&of.slots, &of.list.as_slice()[self.next..]);
+        first
+    }
+
+    /// Passes the first, if one is left, with the listed slots before it: none of these is gone through again.
+    pub fn pass(&mut self)
+        ensures rest { self.new ≡ drop 1 self.old }
+    {
+        let of = self.of.value();
+        let (_, gone) = first_shown(&of.slots, &of.list.as_slice()[self.next..]);
         self.next += gone;
-        Ok(first)
     }
 }
 

@@ -1,6 +1,6 @@
 //! What is shown of slots: the index of each if its bytes are in memory, and otherwise that it is to be loaded.
 ghost use Rattle.std.specs.Prelude.{◌≡◌, ◌≤◌, IfOk, Some, drop, length};
-ghost use Rattle.gix_odb_events.specs.Shown.{first_of, loaded_index, shown_indices, shown_slot, shown_todo, unloaded_slot};
+ghost use Rattle.gix_odb_events.specs.Shown.{first_of, loaded_index, shown_slot, shown_todo, unloaded_slot};
 ghost use Rattle.gix_odb_events.specs.Slots.{slot_at};
 
 use crate::loaded::{LoadedIndex, SnapshotIndex, Todo};
@@ -71,26 +71,6 @@ fn unloaded_at(slots: &SlotList, place: u16) -> Result<Option<Todo>, NoMemory>
         None => Ok(None),
         Some(filled) => unloaded_filled(place, filled.value()),
     }
-}
-
-/// The first loaded index of a list, and how many of its places were passed by then.
-pub(crate) fn first_shown(
-    slots: &SlotList,
-    places: &[u16],
-) -> Result<(Option<SnapshotIndex>, usize), NoMemory>
-    ensures first { IfOk result (λ found. found.0 ≡ first_of (shown_indices slots.now places.now)) }
-    ensures rest { IfOk result (λ found. shown_indices slots.now (drop found.1 places.now) ≡ drop 1 (shown_indices slots.now places.now)) }
-    ensures within { IfOk result (λ found. found.1 ≤ length places.now) }
-{
-    let mut gone = 0;
-    while gone < places.len() {
-        let place = places[gone];
-        gone += 1;
-        if let Some(index) = shown_at(slots, place)? {
-            return Ok((Some(index), gone));
-        }
-    }
-    Ok((None, gone))
 }
 
 /// The first index of a list that is to be loaded, and how many of its places were passed by then.

@@ -1,5 +1,5 @@
 -- A search among indices, by the first of them and what is left after it.
-use Rattle.std.proofs.Common.{◌≡◌, ◌<◌, List, [], ◌∷◌, drop, length, Option, Some, refl, sym, ap, ◌∙◌, arith}
+use Rattle.std.proofs.Common.{◌≡◌, ◌<◌, List, [], ◌∷◌, drop, length, Some, None, refl, sym, ap, ◌∙◌, arith}
 use Rattle.std.proofs.lemmas.Option.{same_Some}
 use Rattle.gix_odb_events.specs.Shown.{first_of}
 use Rattle.gix_odb_events.specs.declared.loaded.SnapshotIndex.{SnapshotIndex}
@@ -55,11 +55,12 @@ module _ (goal : Goal) (absent : List AbsentFile) (index : SnapshotIndex) where
       left_kept (tried goal absent index) items (rest_behind goal absent items) other
       ∙ ap (λ (own : SnapshotIndex). left_by (tried goal absent own) items (rest_behind goal absent items)) (same_Some index first is)
 
-module _ (goal : Goal) (absent : List AbsentFile) (found : Option SnapshotIndex) (none : (index : SnapshotIndex) → found ≡ Some index → ⊥) where
-  pub search_end : (items : List SnapshotIndex) → found ≡ first_of items → Nowhere ≡ search goal absent items
+module _ (goal : Goal) (absent : List AbsentFile) where
+  -- where no index is left, nothing is found
+  pub search_end : (items : List SnapshotIndex) → None ≡ first_of items → Nowhere ≡ search goal absent items
   search_end [] is = refl
-  search_end (first ∷ items) is = absurd (none first is)
+  search_end (first ∷ items) is = cc is
 
-  pub rest_end : (items : List SnapshotIndex) → found ≡ first_of items → drop 1 items ≡ rest_behind goal absent items
+  pub rest_end : (items : List SnapshotIndex) → None ≡ first_of items → drop 1 items ≡ rest_behind goal absent items
   rest_end [] is = refl
-  rest_end (first ∷ items) is = absurd (none first is)
+  rest_end (first ∷ items) is = cc is

@@ -1,12 +1,13 @@
 //! The search for an object in indices that are loaded.
-ghost use Rattle.std.specs.Prelude.{◌≡◌, [], false, true, IfOk, OnErr, OnOk};
+ghost use Rattle.std.specs.Prelude.{◌≡◌, ◌<◌, ◌^◌, [], false, true, IfOk, OnErr, OnOk};
+ghost use Rattle.gix_odb_events.specs.Lent.{lent_file, lent_index};
 ghost use Rattle.gix_odb_search.specs.Search.{given_or_not, in_pack, place_in, rest_behind, search, tried, with_absent};
 
 use crate::absent::AbsentPacks;
 use crate::goal::{Error, Found, Goal};
 use crate::spot::{Spot, spot_in};
 use gix_object::Want;
-use gix_odb_events::{LoadedIndex, LoadedRest, PackFile, SnapshotIndex};
+use gix_odb_events::{LentFile, LentIndex, LoadedRest, PackFile};
 use odb_base::{NoMemory, PathText};
 use std::alloc::Global;
 
@@ -106,12 +107,12 @@ fn given_or_not(given: Result<Found, Error>) -> Sought
 }
 
 /// Returns the place of a pack as its number has it: only a multi-pack index has several.
-fn place_in(index: &LoadedIndex, spot: Spot) -> Option<u32>
-    ensures place { result ≡ place_in index.now spot }
+fn place_in(index: LentFile<'_>, spot: Spot) -> Option<u32>
+    ensures place { result ≡ place_in (lent_file index.entry) spot }
 {
     match index {
-        LoadedIndex::Single(_) => None,
-        LoadedIndex::Multi(_) => Some(spot.place),
+        LentFile::Single(_) => None,
+        LentFile::Multi(_) => Some(spot.place),
     }
 }
 
@@ -121,21 +122,23 @@ impl Goal {
         &self,
         alloc: Global,
         notes: &Notes,
-        index: &SnapshotIndex,
+        index: LentIndex<'_>,
         spot: Spot,
         pack: &PackFile,
     ) -> Result<Sought, NoMemory>
-        ensures search { IfOk result (λ search. search ≡ in_pack self.now notes.now.absent index.now spot pack.now) }
+        requires slot { index.slot < 2 ^ 16 }
+        ensures search { IfOk result (λ search. search ≡ in_pack self.now notes.now.absent (lent_index index.entry) spot pack.now) }
     {
         if let Some(file) = pack.loaded() {
             return Ok(given_or_not(self.given_by(alloc, file.value(), spot.offset)?));
         }
-        if notes.absent.has(index.slot, pack.path()) {
+        let slot = index.slot as u16;
+        if notes.absent.has(slot, pack.path()) {
             return Ok(Sought::Nowhere);
         }
         Ok(Sought::Wants(WantedPack {
-            slot: index.slot,
-            place: place_in(&index.index, spot),
+            slot,
+            place: place_in(index.index, spot),
             path: pack.path().try_clone(alloc)?,
             offset: spot.offset,
         }))
@@ -146,17 +149,18 @@ impl Goal {
         &self,
         alloc: Global,
         notes: &Notes,
-        index: &SnapshotIndex,
+        index: LentIndex<'_>,
     ) -> Result<Sought, NoMemory>
-        ensures search { IfOk result (λ search. search ≡ tried self.now notes.now.absent index.now) }
+        requires slot { index.slot < 2 ^ 16 }
+        ensures search { IfOk result (λ search. search ≡ tried self.now notes.now.absent (lent_index index.entry)) }
     {
-        let Some(spot) = spot_in(&index.index, &self.id) else {
+        let Some(spot) = spot_in(index.index, &self.id) else {
             return Ok(Sought::Nowhere);
         };
         if self.want == Want::Presence {
             return Ok(Sought::Finds(Found::Presence));
         }
-        match index.packs.value().get(spot.place as usize) {
+        match index.packs.get(spot.place as usize) {
             None => Ok(Sought::Nowhere),
             Some(pack) => self.in_pack(alloc, notes, index, spot, pack),
         }
@@ -172,14 +176,16 @@ impl Goal {
         ensures search { IfOk result (λ found. found ≡ search self.now notes.now.absent indices.old) }
         ensures rest { OnOk result (indices.new ≡ rest_behind self.now notes.now.absent indices.old) }
     {
-        while let Some(index) = indices.pop()? {
-            let found = self.tried(alloc, notes, &index)?;
-            drop(index);
+        while let Some(index) = indices.first() {
+            let found = self.tried(alloc, notes, index)?;
+            indices.pass();
             match found {
                 Sought::Nowhere => {}
                 other => return Ok(other),
             }
         }
+        // No further search goes through what is left, where no slot is loaded.
+        indices.pass();
         Ok(Sought::Nowhere)
     }
 }

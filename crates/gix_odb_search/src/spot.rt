@@ -1,9 +1,10 @@
 //! Where an index says that an object is.
 ghost use Rattle.std.specs.Prelude.{◌≡◌};
+ghost use Rattle.gix_odb_events.specs.Lent.{lent_file};
 ghost use Rattle.gix_odb_search.specs.Spot.{in_multi, in_single, spot_in};
 
 use gix_hash::ObjectId;
-use gix_odb_events::LoadedIndex;
+use gix_odb_events::LentFile;
 use gix_pack_read::{index, multi_index};
 
 /// Where an index says that an object is: the place of its pack among the packs of the index, and the offset there, in bytes.
@@ -45,11 +46,11 @@ fn in_multi(index: &multi_index::File, id: &ObjectId) -> Option<Spot>
 }
 
 /// Returns where an index says that the object of an id is, if it has the id.
-pub(crate) fn spot_in(index: &LoadedIndex, id: &ObjectId) -> Option<Spot>
-    ensures spot { result ≡ spot_in index.now id.now }
+pub(crate) fn spot_in(index: LentFile<'_>, id: &ObjectId) -> Option<Spot>
+    ensures spot { result ≡ spot_in (lent_file index.entry) id.now }
 {
     match index {
-        LoadedIndex::Single(file) => in_single(file.value(), id),
-        LoadedIndex::Multi(file) => in_multi(file.value(), id),
+        LentFile::Single(file) => in_single(file, id),
+        LentFile::Multi(file) => in_multi(file, id),
     }
 }

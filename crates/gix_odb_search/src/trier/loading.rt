@@ -50,7 +50,7 @@ fn index_loaded(
 ) -> Result<Tried, NoMemory>
     ensures sought { IfOk result (λ end. end ≡ at_search goal ahead (tried goal ahead.notes.absent index)) }
 {
-    let found = goal.tried(alloc, &ahead.notes, &index);
+    let found = goal.tried(alloc, &ahead.notes, index.lent());
     drop(index);
     match found {
         Ok(found) => at_search(alloc, goal, ahead, found),
