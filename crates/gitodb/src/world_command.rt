@@ -45,19 +45,19 @@ fn answer_lines(
 ) -> Result<Vec<u8>, NoMemory>
     ensures answered { (script : List ℕ) → Says script disk lines ending → IfOk result (λ out. Answers script out.items ending) }
 {
-    let play = played(alloc, disk, lines)?;
+    let play = played(alloc, disk, &lines)?;
     printed(alloc, &play, ending)
 }
 
 /// The play of lines on a disk.
-fn played(alloc: Global, disk: MemDisk, lines: Sequence<Line>) -> Result<Play, NoMemory>
-    ensures played { IfOk result (IsPlayed disk lines) }
+fn played<'a>(alloc: Global, disk: MemDisk, lines: &'a Sequence<Line>) -> Result<Play<'a>, NoMemory>
+    ensures played { IfOk result (IsPlayed disk lines.now) }
 {
     World::play(alloc, disk, lines.as_slice())
 }
 
 /// The output for a play, and for the ending of its script.
-fn printed(alloc: Global, play: &Play, ending: Ending) -> Result<Vec<u8>, NoMemory>
+fn printed(alloc: Global, play: &Play<'_>, ending: Ending) -> Result<Vec<u8>, NoMemory>
     ensures written { IfOk result (λ out. out.items ≡ printed_at play.now.run.outcomes play.now.last ++ ending_text ending) }
 {
     let mut out = Vec::new(alloc);

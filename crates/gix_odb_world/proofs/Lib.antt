@@ -7,6 +7,7 @@ mod FedLemmas
 mod FolderLemmas
 mod HandleLemmas
 mod DistinctLemmas
+mod StepListLemmas
 pub mod PlayLemmas
 pub mod HistoryLemmas
 pub mod RunSteps

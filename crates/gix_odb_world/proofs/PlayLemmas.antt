@@ -1,5 +1,6 @@
 -- Plays: lines stand for the steps that were made, one line after another.
-use Rattle.std.proofs.Common.{◌≡◌, ◌≢◌, ℕ, ◌+◌, ◌-◌, ◌<◌, List, [], ◌∷◌, ◌++◌, length, map, take, get_or, refl, sym, ◌∙◌, ap, subst, arith}
+use Rattle.std.proofs.Common.{◌≡◌, ◌≢◌, ℕ, ◌+◌, ◌-◌, ◌<◌, List, [], ◌∷◌, ◌++◌, Result, Ok, Err, length, map, take, get_or, refl, sym, ◌∙◌, ap, subst, arith}
+use Rattle.std.specs.Prelude.{OnOk}
 use Rattle.std.specs.List.{AllByRecursion}
 use Rattle.std.proofs.lemmas.List.{append-nil, append_assoc, length-append, length-map, map-append, take_more}
 use Rattle.odb_disk.specs.MemDisk.{Volume}
@@ -85,6 +86,12 @@ makes_one old new begun made step pushed more continues =
         runs = λ first before run. IsRunOf-push first old new before step continues run;
       };
     }
+
+-- a step that was made, where memory did not run out
+pub made_one : {T E : Type 0} (old new : Course) (begun made : List Step) (step : Step) (result : Result T E) → made ≡ begun ++ step ∷ []
+    → OnOk result (HasOneMore old new) → OnOk result (Continues old step new) → OnOk result (MakesOne old new begun made step)
+made_one old new begun made step (Ok value) pushed more continues = makes_one old new begun made step pushed more continues
+made_one old new begun made step (Err error) pushed more continues = tt
 
 -- ---- lines one after another
 

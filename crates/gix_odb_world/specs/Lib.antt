@@ -27,6 +27,7 @@ pub mod Seats
 pub use Rattle.gix_odb_history.specs.Entries
 pub mod RunLaws
 pub mod Headline
+pub mod StepList
 pub mod Play
 pub mod Machine
 pub mod Machines

@@ -16,6 +16,7 @@ mod course;
 mod handle;
 mod opening;
 mod play;
+mod step_list;
 mod turn;
 mod watch;
 mod world;
@@ -27,4 +28,5 @@ pub use gix_odb_calls::{
 };
 pub use gix_odb_history::{Did, JournalList, OutcomeList, Record, RecordList, Run};
 pub use play::Play;
+pub use step_list::StepList;
 pub use world::{World, is_valid};

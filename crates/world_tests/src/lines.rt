@@ -26,15 +26,14 @@ fn lines_of(alloc: Global, rows: &str) -> Result<Vec<Line>, Fail> {
     Ok(lines)
 }
 
-fn played(alloc: Global, rows: &str) -> Result<Play, Fail> {
-    let lines = lines_of(alloc, rows)?;
+fn played<'a>(alloc: Global, lines: &'a [Line]) -> Result<Play<'a>, Fail> {
     let disk = MemDisk::new(alloc)?;
-    Ok(World::play(alloc, disk, &lines)?)
+    Ok(World::play(alloc, disk, lines)?)
 }
 
 /// How many steps were made, and each line's last.
-fn places_shown(alloc: Global, play: &Play) -> Result<String, Fail> {
-    let count = play.run.outcomes.len();
+fn places_shown(alloc: Global, play: &Play<'_>) -> Result<String, Fail> {
+    let count = play.steps.copied(alloc)?.len();
     let last = play.last.as_slice();
     Ok(format!(in alloc; "{count} {last:?}")?)
 }
@@ -58,12 +57,12 @@ const LINE_OUTCOMES: &str = "\
 
 const LINE_PLACES: &str = "19 [0, 1, 3, 4, 11, 12, 13, 17, 18]";
 
-fn check_outcomes(alloc: Global, play: &Play) -> Result<(), Fail> {
+fn check_outcomes(alloc: Global, play: &Play<'_>) -> Result<(), Fail> {
     let found = outcomes_shown(alloc, &play.run.outcomes)?;
     compare("lines", found.as_str(), LINE_OUTCOMES)
 }
 
-fn check_places(alloc: Global, play: &Play) -> Result<(), Fail> {
+fn check_places(alloc: Global, play: &Play<'_>) -> Result<(), Fail> {
     let found = places_shown(alloc, play)?;
     compare("places", found.as_str(), LINE_PLACES)
 }
@@ -71,7 +70,8 @@ fn check_places(alloc: Global, play: &Play) -> Result<(), Fail> {
 // A line whose place is that of its first step, or a turn too many.
 #[test]
 fn plays_lines(rt: HostRuntime) -> Result<(), Fail> {
-    let play = played(rt.alloc(), LINES)?;
+    let lines = lines_of(rt.alloc(), LINES)?;
+    let play = played(rt.alloc(), &lines)?;
     check_outcomes(rt.alloc(), &play)?;
     check_places(rt.alloc(), &play)
 }
