@@ -111,9 +111,12 @@ with_work work None = None
 with_work work (Some handle) = Some (record handle { work = work })
 
 -- a handle on which a call begins
+abbrev pub calling_handle : CallState → Handle → Handle
+calling_handle call handle = record handle { at = stands.Calling call }
+
 abbrev pub with_call : CallState → Option Handle → Option Handle
 with_call call None = None
-with_call call (Some handle) = Some (record handle { at = stands.Calling call })
+with_call call (Some handle) = Some (calling_handle call handle)
 
 -- a handle that ignores replacements, if it is at rest
 abbrev pub ignoring_at : HandleAt → HandleAt

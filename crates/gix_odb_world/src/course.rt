@@ -7,7 +7,7 @@ ghost use Rattle.gix_odb_world.specs.Headline.{IsRun};
 ghost use Rattle.gix_odb_world.specs.World.{Continues, Explains, IsExplained, handle_at};
 ghost use Rattle.gix_odb_world.specs.Table.{HasOneMore, Notes, SetsHandle, phase_of_handle, shared_with};
 
-use crate::handle::{Handle, HandleAt};
+use crate::handle::{BoxedHandle, Handle, HandleAt};
 use crate::opening;
 use crate::watch::watch_store;
 use gix_odb::CallState;
@@ -33,7 +33,7 @@ mod turning;
 #[derive(Drop)]
 pub struct Course {
     disk: MemDisk,
-    handles: BTreeMap<u32, Handle>,
+    handles: BTreeMap<u32, BoxedHandle>,
     cores: Vec<KeptCore>,
     shown: Shown,
     outcomes: OutcomeList,
@@ -181,7 +181,7 @@ impl Course {
             core: 0,
             at: HandleAt::Opening(opening),
         };
-        self.put(number, handle)?;
+        self.put(alloc, number, handle)?;
         self.note(Outcome::Applied, Did::Nothing, None)
     }
 
@@ -199,12 +199,18 @@ impl Course {
             Err(why) => return self.misuse(why),
         };
         let (did, view) = joined(alloc, &mut self.cores, core, number)?;
-        self.put_shared(number, from, view)?;
+        self.put_shared(alloc, number, from, view)?;
         self.note(Outcome::Applied, did, None)
     }
 
     /// Puts a handle under a number, which shares the store of an idle one, with its modes and a snapshot of its own.
-    fn put_shared(&mut self, number: u32, from: u32, view: View) -> Result<(), NoMemory>
+    fn put_shared(
+        &mut self,
+        alloc: Global,
+        number: u32,
+        from: u32,
+        view: View,
+    ) -> Result<(), NoMemory>
         requires idle { why_not_idle (phase_of_handle (handle_at self.old from)) ≡ None }
         ensures sets { OnOk result (SetsHandle self.old self.new number (shared_with view (handle_at self.old from))) }
     {
@@ -215,7 +221,7 @@ impl Course {
             },
             Err(_) => unreachable!("the other handle is idle"),
         };
-        self.put(number, handle)
+        self.put(alloc, number, handle)
     }
 
     /// Closes an idle handle: the core of its store removes it.

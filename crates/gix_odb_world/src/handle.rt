@@ -2,13 +2,15 @@
 ghost use Rattle.std.specs.Prelude.{◌≡◌, IfOk, Some};
 ghost use Rattle.std.specs.Option.{option_map};
 ghost use Rattle.gix_odb_world.specs.Handle.{seen};
-ghost use Rattle.gix_odb_world.specs.Table.{ask_by_handle, ignoring_handle, opened_by};
+ghost use Rattle.gix_odb_world.specs.Table.{ask_by_handle, calling_handle, ignoring_handle, opened_by};
 
 use gix_odb::{CallState, HandleState, OpenState};
 use gix_odb_events::Ask;
 use odb_base::NoMemory;
 use odb_mem_disk::PathText;
 use std::alloc::Global;
+use std::marker::Model;
+use std::mem::replace;
 
 /// A handle of a world.
 #[derive(Drop)]
@@ -16,6 +18,24 @@ pub struct Handle {
     /// The number of the core of its store, among those of the world. It is 0 while the store is opening.
     pub core: usize,
     pub at: HandleAt,
+}
+
+/// A handle on the heap, which contracts see as the handle. So a table of handles moves one word where a turn takes its
+/// handle out and puts it back.
+#[derive(Drop)]
+pub struct BoxedHandle {
+    owner: Box<Handle>,
+}
+
+impl Model for BoxedHandle {
+    ghost use Rattle.gix_odb_world.specs.declared.handle.Handle.{Handle};
+    ghost use Rattle.gix_odb_world.specs.contracts.handle.Handle as handle_type;
+
+    ghost Value = { Handle };
+
+    ghost coded = { handle_type.the_row.coded };
+
+    ghost view = { λ handle. handle.owner.value };
 }
 
 /// What a handle is at.
@@ -57,5 +77,49 @@ impl Handle {
         if let HandleAt::Resting(state) = &mut self.at {
             state.ignore_replacements = true;
         }
+    }
+    /// Begins a call.
+    pub fn begin(&mut self, call: CallState)
+        ensures calling { self.new ≡ calling_handle call self.old }
+    {
+        drop(replace(&mut self.at, HandleAt::Calling(call)));
+    }
+}
+
+impl BoxedHandle {
+    /// Moves a handle to the heap.
+    pub fn new(alloc: Global, handle: Handle) -> Result<BoxedHandle, NoMemory>
+        ensures value { IfOk result (λ boxed. boxed ≡ handle) }
+    {
+        let owner = Box::new(alloc, handle)?;
+        Ok(BoxedHandle { owner })
+    }
+
+    /// Returns the handle, which is lent.
+    pub fn get(&self) -> &Handle
+        ensures value { result.now ≡ self.now }
+    {
+        &self.owner
+    }
+
+    /// Returns the handle itself.
+    pub fn into_inner(self) -> Handle
+        ensures value { result ≡ self }
+    {
+        Box::into_inner(self.owner)
+    }
+
+    /// Begins a call, in place.
+    pub fn begin(&mut self, call: CallState)
+        ensures calling { self.new ≡ calling_handle call self.old }
+    {
+        self.owner.begin(call);
+    }
+
+    /// Makes a handle at rest ignore replacements from now on.
+    pub fn ignore(&mut self)
+        ensures ignoring { self.new ≡ ignoring_handle self.old }
+    {
+        self.owner.ignore();
     }
 }

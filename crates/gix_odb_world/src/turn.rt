@@ -23,7 +23,7 @@ ghost use Rattle.gix_odb_world.specs.Table.{CanHappenAt, CarriesOut, IsToldTo, I
 ghost use Rattle.gix_odb_world.specs.Work.{Calling, Opening};
 ghost use Rattle.gix_odb_world.specs.WorkOrder.{result_in};
 
-use crate::handle::{Handle, HandleAt};
+use crate::handle::{BoxedHandle, Handle, HandleAt};
 use gix_odb::{CallState, HandleState, OpenState};
 use gix_odb_calls::{CallError, Outcome, Reply};
 use gix_odb_events::{Answer, Ask, Event, View};
@@ -60,13 +60,28 @@ pub enum Told {
 #[derive(Drop)]
 pub struct Turned {
     pub outcome: Outcome,
-    pub handle: Option<Handle>,
+    pub handle: Option<BoxedHandle>,
 }
 
 // ---- carrying out
 
 /// Carries out the one thing that the work of a handle asked for, of the disk or of the cores. The handle has a seat there.
 pub fn carried_out(
+    alloc: Global,
+    disk: &mut MemDisk,
+    cores: &mut Vec<KeptCore>,
+    seat: u32,
+    handle: &BoxedHandle,
+    ask: Option<Ask>,
+) -> Result<Carried, NoMemory>
+    requires can_happen { CanHappenAt cores.old.items seat (seen handle.now).state ask }
+    ensures carried { IfOk result (CarriesOut disk.old disk.new cores.old.items cores.new.items (opened_by (seen handle.now).work) ask (told_now (stand cores.old.items (seen handle.now).state.core seat) disk.old ask)) }
+{
+    carried_out_for(alloc, disk, cores, seat, handle.get(), ask)
+}
+
+/// Carries out what the work of a handle asked for.
+fn carried_out_for(
     alloc: Global,
     disk: &mut MemDisk,
     cores: &mut Vec<KeptCore>,
@@ -172,7 +187,16 @@ fn at_new_core(
 // ---- feeding the handle
 
 /// Returns the result of a turn in which a handle is fed this.
-pub fn fed(alloc: Global, handle: Handle, told: Told) -> Result<Turned, NoMemory>
+pub fn fed(alloc: Global, handle: BoxedHandle, told: Told) -> Result<Turned, NoMemory>
+    requires under_way { IsUnderWay (seen handle).work }
+    requires answers { IsToldTo (ask_by_handle (Some (seen handle))) told }
+    ensures turned { IfOk result (TurnsHandle (seen handle) told) }
+{
+    fed_handle(alloc, handle.into_inner(), told)
+}
+
+/// Returns the result of a turn in which a handle that left the heap is fed this.
+fn fed_handle(alloc: Global, handle: Handle, told: Told) -> Result<Turned, NoMemory>
     requires under_way { IsUnderWay (seen handle).work }
     requires answers { IsToldTo (ask_by_handle (Some (seen handle))) told }
     ensures turned { IfOk result (TurnsHandle (seen handle) told) }
@@ -240,12 +264,10 @@ fn opened(
     ensures handle { IfOk result (λ turned. option_map seen turned.handle ≡ Some (record { state = parts_of core (opened_handle opening view); work = None })) }
 {
     let reply = Shared::new(alloc, Reply::Opened { slots })?;
+    let handle = resting(alloc, core, opening.into_state(view))?;
     Ok(Turned {
         outcome: Outcome::Reply(reply),
-        handle: Some(Handle {
-            core,
-            at: HandleAt::Resting(opening.into_state(view)),
-        }),
+        handle: Some(handle),
     })
 }
 
@@ -260,7 +282,7 @@ fn finished_opening(alloc: Global, core: usize, opening: OpenState) -> Result<Tu
             outcome: Outcome::Reply(Shared::new(alloc, reply)?),
             handle: None,
         }),
-        Err(opening) => Ok(going_on(core, HandleAt::Opening(opening))),
+        Err(opening) => going_on(alloc, core, HandleAt::Opening(opening)),
     }
 }
 
@@ -271,19 +293,20 @@ fn finished_call(alloc: Global, core: usize, call: CallState) -> Result<Turned, 
 {
     match call.into_reply() {
         Ok((reply, state)) => replied(alloc, core, state, reply),
-        Err(call) => Ok(going_on(core, HandleAt::Calling(call))),
+        Err(call) => going_on(alloc, core, HandleAt::Calling(call)),
     }
 }
 
 /// Returns the result of a turn after which the work goes on.
-fn going_on(core: usize, at: HandleAt) -> Turned
-    ensures outcome { result.outcome ≡ Outcome.Pending }
-    ensures handle { result.handle ≡ Some (record { core = core; at = at }) }
+fn going_on(alloc: Global, core: usize, at: HandleAt) -> Result<Turned, NoMemory>
+    ensures outcome { IfOk result (λ turned. turned.outcome ≡ Outcome.Pending) }
+    ensures handle { IfOk result (λ turned. turned.handle ≡ Some (record { core = core; at = at })) }
 {
-    Turned {
+    let handle = BoxedHandle::new(alloc, Handle { core, at })?;
+    Ok(Turned {
         outcome: Outcome::Pending,
-        handle: Some(Handle { core, at }),
-    }
+        handle: Some(handle),
+    })
 }
 
 /// Returns the result of a turn that finished a call.
@@ -293,7 +316,7 @@ fn replied(alloc: Global, core: usize, state: HandleState, reply: Reply) -> Resu
 {
     match Shared::new(alloc, reply) {
         Ok(reply) => {
-            let handle = at_rest(core, state, reply.value());
+            let handle = at_rest(alloc, core, state, reply.value())?;
             Ok(Turned {
                 outcome: Outcome::Reply(reply),
                 handle,
@@ -307,14 +330,30 @@ fn replied(alloc: Global, core: usize, state: HandleState, reply: Reply) -> Resu
 }
 
 /// Returns a handle after the reply to its work: none after a refused opening, else one at rest.
-fn at_rest(core: usize, state: HandleState, reply: &Reply) -> Option<Handle>
-    ensures rests { option_map seen result ≡ after_reply None (tables.at_rest (parts_of core state)) reply.now }
+fn at_rest(
+    alloc: Global,
+    core: usize,
+    state: HandleState,
+    reply: &Reply,
+) -> Result<Option<BoxedHandle>, NoMemory>
+    ensures rests { IfOk result (λ rests. option_map seen rests ≡ after_reply None (tables.at_rest (parts_of core state)) reply.now) }
 {
     match reply {
-        Reply::Refused(CallError::Open(_)) => None,
-        _ => Some(Handle {
-            core,
-            at: HandleAt::Resting(state),
-        }),
+        Reply::Refused(CallError::Open(_)) => Ok(None),
+        _ => {
+            let handle = resting(alloc, core, state)?;
+            Ok(Some(handle))
+        }
     }
+}
+
+/// Returns a handle at rest.
+fn resting(alloc: Global, core: usize, state: HandleState) -> Result<BoxedHandle, NoMemory>
+    ensures rests { IfOk result (λ handle. seen handle ≡ record { state = parts_of core state; work = None }) }
+{
+    let handle = Handle {
+        core,
+        at: HandleAt::Resting(state),
+    };
+    BoxedHandle::new(alloc, handle)
 }

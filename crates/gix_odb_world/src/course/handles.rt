@@ -8,11 +8,11 @@ ghost use Rattle.gix_odb_world.specs.World.{handle_at, stored_at};
 ghost use Rattle.gix_odb_world.specs.Table.{PutsHandle, phase_of_handle, with_call, with_ignoring};
 
 use super::Course;
-use crate::handle::{Handle, HandleAt};
+use crate::handle::{BoxedHandle, Handle, HandleAt};
 use gix_odb::{CallState, HandleState};
 use gix_odb_calls::{Call, Why};
 use odb_base::NoMemory;
-use std::mem::replace;
+use std::alloc::Global;
 
 /// A handle at rest: the number of the core of its store, and its state.
 #[derive(Clone, Copy)]
@@ -22,8 +22,16 @@ pub(super) struct Idle<'a> {
 }
 
 impl Course {
-    /// Puts a handle under a number.
-    pub(super) fn put(&mut self, number: u32, handle: Handle) -> Result<(), NoMemory>
+    /// Puts a new handle under a number.
+    pub(super) fn put(&mut self, alloc: Global, number: u32, handle: Handle) -> Result<(), NoMemory>
+        ensures puts { OnOk result (PutsHandle self.old self.new number (Some handle)) }
+    {
+        let boxed = BoxedHandle::new(alloc, handle)?;
+        self.put_back(number, boxed)
+    }
+
+    /// Puts a handle under a number, from where it was on the heap before.
+    fn put_back(&mut self, number: u32, handle: BoxedHandle) -> Result<(), NoMemory>
         ensures puts { OnOk result (PutsHandle self.old self.new number (Some handle)) }
     {
         let old = self.handles.insert(number, handle)?;
@@ -39,7 +47,7 @@ impl Course {
     }
 
     /// Takes a handle at work out of the table. The error says why the number has none; any other handle stays in place.
-    pub(super) fn take_work(&mut self, number: u32) -> Result<Handle, Why>
+    pub(super) fn take_work(&mut self, number: u32) -> Result<BoxedHandle, Why>
         ensures taken { IfOk result (λ handle. stored_at self.old number ≡ Some handle) }
         ensures puts { OnOk result (PutsHandle self.old self.new number None) }
         ensures why { result_err result ≡ reasons.why_not_running (phase_of_handle (handle_at self.old number)) }
@@ -55,12 +63,12 @@ impl Course {
     }
 
     /// Puts a handle, if there is one, under a number that has none.
-    pub(super) fn set(&mut self, number: u32, handle: Option<Handle>) -> Result<(), NoMemory>
+    pub(super) fn set(&mut self, number: u32, handle: Option<BoxedHandle>) -> Result<(), NoMemory>
         requires free { stored_at self.old number ≡ None }
         ensures puts { OnOk result (PutsHandle self.old self.new number handle) }
     {
         match handle {
-            Some(handle) => self.put(number, handle),
+            Some(handle) => self.put_back(number, handle),
             None => Ok(()),
         }
     }
@@ -70,7 +78,7 @@ impl Course {
         ensures puts { PutsHandle self.old self.new number (with_call call (stored_at self.old number)) }
     {
         match self.handles.get_mut(&number) {
-            Some(handle) => drop(replace(&mut handle.at, HandleAt::Calling(call))),
+            Some(handle) => handle.begin(call),
             None => drop(call),
         }
     }
@@ -110,13 +118,16 @@ impl Course {
     {
         match self.handles.get(&number) {
             None => Err(Why::NoHandle),
-            Some(handle) => match &handle.at {
-                HandleAt::Resting(state) => Ok(Idle {
-                    core: handle.core,
-                    state,
-                }),
-                HandleAt::Opening(_) | HandleAt::Calling(_) => Err(Why::Busy),
-            },
+            Some(handle) => {
+                let handle = handle.get();
+                match &handle.at {
+                    HandleAt::Resting(state) => Ok(Idle {
+                        core: handle.core,
+                        state,
+                    }),
+                    HandleAt::Opening(_) | HandleAt::Calling(_) => Err(Why::Busy),
+                }
+            }
         }
     }
 
@@ -154,7 +165,7 @@ impl Course {
     {
         match self.handles.get(&number) {
             None => Some(Why::NoHandle),
-            Some(handle) => match handle.at {
+            Some(handle) => match handle.get().at {
                 HandleAt::Resting(_) => Some(Why::NotRunning),
                 HandleAt::Opening(_) | HandleAt::Calling(_) => None,
             },

@@ -117,12 +117,15 @@ impl Course {
     {
         match self.handles.get(&number) {
             None => Ok(Err(Why::NoHandle)),
-            Some(handle) => match handle.at {
-                HandleAt::Resting(_) => Ok(Err(Why::NotRunning)),
-                HandleAt::Opening(_) | HandleAt::Calling(_) => {
-                    judged_work(alloc, &self.disk, &self.shown, handle)
+            Some(handle) => {
+                let handle = handle.get();
+                match handle.at {
+                    HandleAt::Resting(_) => Ok(Err(Why::NotRunning)),
+                    HandleAt::Opening(_) | HandleAt::Calling(_) => {
+                        judged_work(alloc, &self.disk, &self.shown, handle)
+                    }
                 }
-            },
+            }
         }
     }
 

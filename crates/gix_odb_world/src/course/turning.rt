@@ -9,7 +9,7 @@ ghost use Rattle.gix_odb_world.specs.World.{Continues, IsExplained, handle_at, s
 ghost use Rattle.gix_odb_world.specs.Table.{CanHappenAt, FeedsTurn, HasOneMore, IsReasonNow, IsToldTo, IsUnderWay, KeepsTurn, Settles, TakesTurnOf, ask_by_handle, would_change_now};
 
 use super::Course;
-use crate::handle::Handle;
+use crate::handle::BoxedHandle;
 use crate::turn::{Carried, Turned, carried_out, fed};
 use crate::watch::{Judged, keep};
 use gix_odb_calls::Step;
@@ -57,7 +57,7 @@ impl Course {
         &mut self,
         alloc: Global,
         number: u32,
-        handle: Handle,
+        handle: BoxedHandle,
         judged: Judged,
     ) -> Result<(), NoMemory>
         requires under_way { IsUnderWay (seen handle).work }
@@ -89,7 +89,7 @@ impl Course {
         &mut self,
         alloc: Global,
         number: u32,
-        handle: Handle,
+        handle: BoxedHandle,
         carried: Carried,
         change: ChangeMade,
         revealed: Option<Revealed>,
