@@ -1,12 +1,13 @@
 -- Laws of texts that are split at a byte.
 use Rattle.std.proofs.Common.{◌≡◌, ℕ, ◌+◌, ◌-◌, ◌==◌, ◌<◌, ◌⊎◌, Bool, true, false, not, List, [], ◌∷◌, ◌++◌, length, take}
-use Rattle.std.proofs.Common.{drop, nat_lt, Some, None, if◌then◌else◌, refl, sym, ap, ◌∙◌, inl, inr, eq-eqb, arith}
+use Rattle.std.proofs.Common.{drop, nat_lt, Option, Some, None, if◌then◌else◌, refl, sym, ap, ◌∙◌, inl, inr, eq-eqb, arith}
 use Rattle.std.specs.List.{list_all, position, slice_split, onto_first, join_with_byte, before_first, after_first, position_or_len, AllByRecursion}
 use Rattle.std.proofs.Math.Seq.{take-append_seam, drop-append-add}
 use Rattle.std.proofs.lemmas.Bool.{and_parts, cases_lt, not-true}
 use Rattle.std.proofs.lemmas.List.{take_all, length-drop}
 use Rattle.std.proofs.lemmas.List.Sums.{fails_before_first, position_or_len_is}
 use Rattle.std.proofs.lemmas.List.Quantifiers.{position-Some}
+use Rattle.memchr.specs.Find.{IsFirstByte, is_byte}
 use Rattle.std.proofs.lemmas.List.Splits.{slice_split-cons_yes, slice_split-cons_no, slice_split_none, slice_split_first, length-slice_split}
 
 -- the text lacks the byte
@@ -90,3 +91,27 @@ slice_split-last c bytes h =
       | inl found ↦ cc (h, found_at (position_or_len (λ b. b == c) bytes) (length bytes) found)
       | inr none ↦ slice_split_none (λ b. b == c) bytes (λ k d lt. fails_before_first (λ b. b == c) bytes k d (omega arith))
     ]
+
+-- ---- the first byte, as a search tells it
+
+none_at : (n : ℕ) → (if nat_lt n n then Some n else None) ≡ None
+none_at n = rw (untested n) refl
+  where
+    untested : (n : ℕ) → nat_lt n n ≡ false
+    untested n = grind (arith)
+
+fails : (b : Bool) → ¬ (b ≡ true) → b ≡ false
+fails true h = absurd (h refl)
+fails false h = refl
+
+-- what a search for the first such byte finds is its position
+pub first_byte-position : (c : ℕ) (bytes : List ℕ) (found : Option ℕ) → IsFirstByte (is_byte c) bytes found → found ≡ position (λ b. b == c) bytes
+first_byte-position c bytes None nowhere =
+    let all : position_or_len (λ b. b == c) bytes ≡ length bytes =
+    position_or_len_is (λ b. b == c) bytes (length bytes) 0 (omega arith) (λ k lt. fails _ (nowhere k (omega arith) lt)) (λ h. absurd (omega arith)) in
+    sym (ap (λ n. if nat_lt n (length bytes) then Some n else None) all ∙ none_at (length bytes))
+first_byte-position c bytes (Some k) first =
+    let high = first.0.high in
+    let at : position_or_len (λ b. b == c) bytes ≡ k =
+    position_or_len_is (λ b. b == c) bytes k 0 (omega arith) (λ j lt. fails _ (first.0.before j (omega arith) lt)) (λ _. first.1) in
+    sym (ap (λ n. if nat_lt n (length bytes) then Some n else None) at ∙ found_at k (length bytes) high)

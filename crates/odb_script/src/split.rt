@@ -3,6 +3,7 @@ ghost use Rattle.std.specs.Prelude.{◌≡◌, ◌==◌, ◌<◌, ◌∷◌, [],
 ghost use Rattle.std.specs.List.{slice_split};
 ghost use Rattle.odb_script.specs.Split.{after_colon, after_equals, before_colon, before_equals, fields_of, texts_of};
 
+use memchr::memchr;
 use std::alloc::{AllocError, Global};
 
 /// The fields of a line, which single spaces separate.
@@ -61,5 +62,5 @@ pub fn first_part(bytes: &[u8], separator: u8) -> Option<(&[u8], &[u8])>
 fn first_place(bytes: &[u8], byte: u8) -> Option<usize>
     ensures place { result ≡ position (λ b. b == byte) bytes.now }
 {
-    bytes.iter().position(|other| *other == byte)
+    memchr(byte, bytes)
 }
