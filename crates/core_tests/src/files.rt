@@ -82,12 +82,10 @@ fn multi_of(alloc: Global, packs: &[NamedPack]) -> Result<Shared<multi_index::Fi
 }
 
 /// The multi-pack index of a time: for odd times it has the packs `a` and `b`, otherwise only the pack `b`. That of the time
-/// 100 has two names of one pack, and that of 200 has names whose packs don't rise.
+/// 100 has indices in ascending order whose packs aren't: `a.idx` is below `a.j.idx`, and `a.pack` above `a.j.pack`.
 pub fn multi_file(alloc: Global, time: u64) -> Result<Shared<multi_index::File>, Fail> {
     let names: &[&str] = if time == 100 {
-        &["a", "a.idx", "b.idx"]
-    } else if time == 200 {
-        &["a", "a.b", "b.idx"]
+        &["a.idx", "a.j.idx", "b.idx"]
     } else if time % 2 == 1 {
         &["a.idx", "b.idx"]
     } else {

@@ -131,16 +131,14 @@ const MULTI_INDICES: &[&str] = &[
     "index 1 0 /m 1 | stored #11 5 0.7 [0:/m=1 /m.pack-] [1:/m*1 /b.pack-, 2:/m*2 /a.pack- /b.pack-] []",
 ];
 
-// Two names of one pack, and names whose packs are in another order.
+// Indices in ascending order whose packs are in another order.
 const ODD_NAMES: &[&str] = &[
-    "publish 0 0 /m@100 | published #1 1 0.1 [0:/m*3 /a.pack- /a.pack- /b.pack-] [] []",
-    "pack 0 0.1 /a.pack 3 | stored #2 1 0.2 [0:/m*3 /a.pack=3 /a.pack=3 /b.pack-] [] []",
-    "pack 0 0.0 /a.pack 1 | left #3 1 0.2 [0:/m*3 /a.pack=3 /a.pack=3 /b.pack-] [] []",
-    "pass 0 0 /b.pack absent | seen #4 1 0.2 [0:/m*3 /a.pack=3 /a.pack=3 /b.pack!] [] []",
-    "publish 0 1 /m@200 | published #5 2 0.3 [1:/m*3 /a.pack- /a.b.pack- /b.pack-] [] []",
-    "pack 0 1.1 /a.b.pack 2 | stored #6 2 0.4 [1:/m*3 /a.pack- /a.b.pack=2 /b.pack-] [] []",
-    "pass 0 1 /a.pack absent | seen #7 2 0.4 [1:/m*3 /a.pack! /a.b.pack=2 /b.pack-] [] []",
-    "pack 0 1.0 /a.pack 2 | stored #8 2 0.5 [1:/m*3 /a.pack=2 /a.b.pack=2 /b.pack-] [] []",
+    "publish 0 0 /m@100 | published #1 1 0.1 [0:/m*3 /a.pack- /a.j.pack- /b.pack-] [] []",
+    "pack 0 0.1 /a.j.pack 3 | stored #2 1 0.2 [0:/m*3 /a.pack- /a.j.pack=3 /b.pack-] [] []",
+    "pack 0 0.0 /a.j.pack 1 | left #3 1 0.2 [0:/m*3 /a.pack- /a.j.pack=3 /b.pack-] [] []",
+    "pass 0 0 /a.pack absent | seen #4 1 0.2 [0:/m*3 /a.pack! /a.j.pack=3 /b.pack-] [] []",
+    "pack 0 0.0 /a.pack 2 | stored #5 1 0.3 [0:/m*3 /a.pack=2 /a.j.pack=3 /b.pack-] [] []",
+    "pass 0 0 /b.pack absent | seen #6 1 0.3 [0:/m*3 /a.pack=2 /a.j.pack=3 /b.pack!] [] []",
 ];
 
 const FOLDERS: &[&str] = &[
@@ -290,8 +288,8 @@ fn tables(rt: HostRuntime) -> Result<(), Fail> {
     Ok(())
 }
 
-// Only the first of two packs of one path that is stored, or a pack that isn't found by its path. The second model has no
-// such names.
+// A pack that isn't found by its path: the names of the indices are in ascending order, and the paths of their packs
+// aren't. The second model has no such names.
 #[test]
 fn odd_names(rt: HostRuntime) -> Result<(), Fail> {
     let mut core = core_of(rt.alloc(), (2, 1, 0, 0))?;
