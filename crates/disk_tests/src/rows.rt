@@ -199,7 +199,7 @@ fn check(rt: &HostRuntime, rows: &str) -> Result<(), Fail> {
     Ok(())
 }
 
-/// Checks a row behind further steps, which come to this.
+/// Checks a row after further steps, which give this.
 fn check_behind(rt: &HostRuntime, first: &str, come: &str, row: &str) -> Result<(), Fail> {
     let alloc = rt.alloc();
     let (steps, want) = halves(row);

@@ -1,4 +1,4 @@
-//! Changes in words, and what they come to.
+//! Changes in words, and their results.
 ghost use Rattle.std.specs.Prelude.{OnOk};
 ghost use Rattle.gix_odb_watch.specs.Kept.{Fits};
 
@@ -9,7 +9,7 @@ use std::alloc::Global;
 use std::test::Fail;
 use test_words::{change_of, cut};
 
-/// The words that put so many links, each of which leads to the one before and the first to `/0`, and what they come to.
+/// The words that put so many links, each of which leads to the one before and the first to `/0`, and their result.
 pub(crate) fn chain(alloc: Global, count: u32) -> Result<(String, String), Fail> {
     let mut links = String::new(alloc);
     let mut come = String::new(alloc);
@@ -63,7 +63,7 @@ fn made_by(
     made(alloc, shown, tree, &change)
 }
 
-/// What the changes of a row come to, one after another, on a tree with the root alone.
+/// The result of the changes of a row, one after another, on a tree with the root alone.
 pub(crate) fn made_all(alloc: Global, row: &str) -> Result<String, Fail> {
     let mut shown = Shown::new(alloc);
     let mut tree = Tree::bare(alloc)?;

@@ -1,4 +1,4 @@
--- What an opening asked and was answered, which number of slots that comes to, and why one is refused.
+-- What an opening asked and was answered, the number of slots that follows, and why one is refused.
 use Rattle.std.specs.Prelude.{◌≡◌, ℕ, ◌<◌, true, List, [], ◌∷◌, length, Option}
 use Rattle.odb_base.specs.Path.{Path}
 use Rattle.odb_disk.specs.declared.ask.DiskAnswer.{DiskAnswer}

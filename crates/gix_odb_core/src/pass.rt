@@ -51,7 +51,7 @@ fn is_one_turning_missing(path: &PathText, packs: &PackFileList) -> bool
     false
 }
 
-/// Whether a pack becomes missing. Their paths rise, so only one has the path.
+/// Whether a pack becomes missing. Their paths are in ascending order, so only one has the path.
 fn is_rising_turning_missing(path: &PathText, packs: &PackFileList) -> bool
     requires rising { IsRising packs.now }
     ensures missing { result ≡ list_any (turns_missing path.now) packs.now }

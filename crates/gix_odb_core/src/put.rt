@@ -181,7 +181,8 @@ fn one_with(
     }
 }
 
-/// The packs, each with what was read if it takes it, where at least one does. Their paths rise, so only one has the path.
+/// The packs, each with what was read if it takes it, where at least one does. Their paths are in ascending order, so only one has the
+/// path.
 fn rising_with(
     alloc: Global,
     path: &PathText,

@@ -1,4 +1,4 @@
--- Lists of packs: whether their paths rise, and where one is.
+-- Lists of packs: whether their paths are in ascending order, and where one is.
 use Rattle.std.specs.Prelude.{◌≡◌, ℕ, Bool, true, false, List, [], ◌∷◌, take, slice_get, Option, Some, None, ⊤}
 use Rattle.std.specs.List.{list_any}
 use Rattle.std.specs.Option.{option_map_or}
@@ -17,7 +17,7 @@ IsRising [] = ⊤
 IsRising (pack ∷ []) = ⊤
 IsRising (pack ∷ next ∷ rest) = (path_cmp pack.path next.path ≡ Less) × IsRising (next ∷ rest)
 
--- the paths rise where they are known to
+-- the paths are in ascending order where they are known to be
 abbrev pub IsRisingIf : Bool → List PackFile → Type 0
 IsRisingIf false packs = ⊤
 IsRisingIf true packs = IsRising packs

@@ -13,8 +13,8 @@ use std::marker::Model;
 
 /// The packs of an index, which contracts see as a list. Copies share what they have in common.
 ///
-/// The names in a multi-pack index rise, and so do the paths of its packs, but for odd names. Where they do, each path is
-/// there once, and is found by halves.
+/// The names in a multi-pack index are in ascending order, and so are the paths of its packs, but for odd names: `a.idx` is
+/// below `a.j.idx`, and `a.pack` above `a.j.pack`. Where the paths are, one is found by binary search.
 #[derive(Drop)]
 pub struct PackFileList {
     /// The pack, if there is only one.
@@ -101,7 +101,7 @@ impl PackFileList {
         self.rising
     }
 
-    /// The place of the first pack of a path. Where the paths rise, it is found by halves.
+    /// The place of the first pack of a path, by binary search if it is there and the paths are in ascending order.
     pub fn place_of(&self, path: &PathText) -> Option<usize>
         ensures place { MatchOption result (list_any (has_path path.now) self.now ≡ false) (HasFirst path.now self.now) }
     {
@@ -206,7 +206,7 @@ fn stays_rising(packs: &PackFileList, place: usize, pack: &Shared<PackFile>) -> 
     has_path_at(packs, place, pack.value().path())
 }
 
-/// The place at which a path is, if the paths rise and it is there.
+/// The place at which a path is, if the paths are in ascending order and it is there.
 fn place_by_halves(packs: &PackFileList, path: &PathText) -> usize
     ensures within { result ≤ length packs.now }
 {

@@ -234,7 +234,7 @@ fn fed_opening(
     }
 }
 
-/// What a turn of a call comes to that is told this.
+/// Returns the result of a turn of a call that is fed this.
 fn fed_call(alloc: Global, core: usize, mut call: CallState, told: Told) -> Result<Turned, NoMemory>
     requires answers { IsToldTo (calls.ask_of call.stage) told }
     ensures turned { IfOk result (IsTurned (parts_of core call.handle) (Calling call.stage) told) }
