@@ -68,12 +68,6 @@ def replaced(count):
     return joined(put("pack-0", [0], 0), 4, parts)
 
 
-def behind_link(count):
-    """So many files that other programs put and move in a directory to which the pack path of an open store leads by a link, and then one find."""
-    changes = [(["do put /q/tmp-%d 1 68" % it, "do rename /q/tmp-%d /q/note-%d" % (it, it)], ["applied"] * 2) for it in range(count)]
-    return joined(["mkdir /q", "link /o/pack /q", *put("pack-a", range(10), 1, directory="/q")], 4, [*changes, found(7)], [])
-
-
 def unlisted(count):
     """So many small objects that are written into a store with no pack directory."""
     parts = []
@@ -173,7 +167,6 @@ CASES = {
     "slots around 500 loaded packs": (in_slots, (1000, 8000, 32000)),
     "handles": (handles, (2000, 8000, 32000)),
     "replacements": (replaced, (200, 800)),
-    "changes behind a link": (behind_link, (2000, 8000, 32000)),
     "writes without packs": (unlisted, (2000, 8000)),
     "stores in folders of their own": (own_folders, (500, 2000)),
     "links and directories beside": (beside, (2000, 8000)),
